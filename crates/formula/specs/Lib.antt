@@ -1,0 +1,11 @@
+pub mod Tree
+pub mod View
+pub mod Holds
+pub mod Meaning
+pub mod Admitted
+pub mod Canon
+pub mod Token
+pub mod Syntax
+pub mod Spells
+pub mod Fault
+pub mod Closed

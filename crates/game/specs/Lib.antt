@@ -1,0 +1,3 @@
+pub mod Game
+pub mod Arena
+pub mod Wins

@@ -1,0 +1,4 @@
+// Parity games.
+#![tactic(auto)]
+
+pub mod player;

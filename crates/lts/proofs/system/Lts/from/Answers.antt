@@ -1,0 +1,16 @@
+use Rattle.std.proofs.Common.{◌≡◌, ◌-◌, ◌<◌, subst, sym, refl, take, drop, map, arith}
+use Rattle.lts.specs.Numbered.{Numbered, arrow_of, arrows_from}
+use Rattle.lts.specs.View.{numbered, labels_of}
+use Rattle.lts.proofs.Rows.{row_is}
+use Rattle.lts.proofs.system.Lts.from.Goals as goal
+
+pub returns-clause-arrows : goal.returns-clause-arrows
+returns-clause-arrows c =
+    let i = c.self.inside in
+    let s = c.args.state in
+    let fits : s < i.states = subst (λ (v : Numbered). s < v.system.states) (sym c.self.view_is) c.requires in
+    let us = take (c.index-2.result.now - c.index.result.now) (drop c.index.result.now c.deref.result.now) in
+    subst
+    (λ (v : Numbered). map (arrow_of v.labels) us ≡ arrows_from v.system s)
+    c.self.view_is
+    (row_is (labels_of i) (numbered i).system i.starts.items i.transitions.items _ s _ _ refl (c.self.invariant.rows s fits) c.deref.ensures.value (omega (arith, c.self.invariant.starts)) c.index.ensures c.index-2.ensures)

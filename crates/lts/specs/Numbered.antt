@@ -1,0 +1,36 @@
+-- A system whose labels have numbers.
+use Rattle.std.specs.Prelude.{ℕ, ◌<◌, List, [], length, filter, IsTrue, ◌==◌}
+use Rattle.std.specs.List.{slice_index_or, AllByRecursion}
+use Rattle.std.specs.Ordering.{is_lt}
+use Rattle.lts.specs.Label.{bytes_cmp}
+use Rattle.lts.specs.System.{System, Arrow}
+use Rattle.lts.specs.declared.system.Transition.{Transition}
+
+pub record Numbered : Type 0 where
+  pub system : System
+  pub labels : List (List ℕ)
+
+-- the arrows from a state, in order
+abbrev pub arrows_from : System → ℕ → List Arrow
+arrows_from l s = filter (λ a. a.source == s) l.arrows
+
+-- the label of this number
+abbrev pub label_at : List (List ℕ) → ℕ → List ℕ
+label_at labels k = slice_index_or labels k []
+
+-- the arrow that a transition with a label's number stands for
+abbrev pub arrow_of : List (List ℕ) → Transition → Arrow
+arrow_of labels t = record { source = t.source; label = label_at labels t.label; target = t.target }
+
+-- The labels rise in the order of their bytes, so none stands twice.
+abbrev pub AreAscending : List (List ℕ) → Type 0
+AreAscending labels = (j k : ℕ) → j < k → k < length labels → IsTrue (is_lt (bytes_cmp (label_at labels j) (label_at labels k)))
+
+-- a transition between states of the system, with one of its labels
+pub record IsTransitionOf (l : Numbered) (t : Transition) : Type 0 where
+  pub source : t.source < l.system.states
+  pub label : t.label < length l.labels
+  pub target : t.target < l.system.states
+
+abbrev pub IsInside : Numbered → List Transition → Type 0
+IsInside l transitions = AllByRecursion (IsTransitionOf l) transitions

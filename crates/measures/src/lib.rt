@@ -1,0 +1,2 @@
+// Progress measures of parity games.
+#![tactic(auto)]

@@ -1,0 +1,4 @@
+// The normal form of a formula.
+#![tactic(auto)]
+
+pub mod node;

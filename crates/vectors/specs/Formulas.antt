@@ -1,0 +1,79 @@
+-- Worked examples of formulas, canonical texts and satisfaction of action formulas.
+use Rattle.std.specs.Prelude.{◌≡◌, true, false, [], ◌∷◌, codes, refl}
+use Rattle.formula.specs.Tree.{Action, Anything, Names, Quoted, NotAct, AndAct, Step, Either, Plus, Formula, True, False, Var, Not, Or, Implies, Dia, Mu, Nu}
+use Rattle.formula.specs.Holds.{holds}
+use Rattle.formula.specs.Admitted.{IsAdmitted, is_admitted_in}
+use Rattle.formula.specs.Canon.{canon}
+use Rattle.formula.specs.Token.{Name, Less, Greater, ChoiceSign, PlusSign, TrueWord, Blank, Word}
+use Rattle.formula.specs.Syntax.{Names', Plus', Either', Dia', True'}
+use Rattle.formula.specs.Spells.{Spells}
+
+abbrev pub name_a : Action
+name_a = Names (codes "a" ∷ [])
+
+abbrev pub name_b : Action
+name_b = Names (codes "b" ∷ [])
+
+-- nu X. mu Y. (<a>X || <b>Y)
+abbrev pub often_a : Formula
+often_a = Nu (codes "X") (Mu (codes "Y") (Or (Dia (Step name_a) (Var (codes "X"))) (Dia (Step name_b) (Var (codes "Y")))))
+
+canon_often_a : canon often_a ≡ codes "(nu X. (mu Y. (<a>X || <b>Y)))"
+canon_often_a = refl
+
+admitted_often_a : IsAdmitted often_a
+admitted_often_a = refl
+
+-- <a + + b>true
+abbrev pub plus_or_b : Formula
+plus_or_b = Dia (Either (Plus (Step name_a)) (Step name_b)) True
+
+canon_plus_or_b : canon plus_or_b ≡ codes "<(a+ + b)>true"
+canon_plus_or_b = refl
+
+pub spells_plus_or_b : Spells (codes "<a + + b>true") plus_or_b
+spells_plus_or_b =
+    record {
+      pieces = Word Less ∷ Word (Name (codes "a")) ∷ Blank 32 ∷ Word PlusSign ∷ Blank 32 ∷ Word ChoiceSign ∷ Blank 32 ∷ Word (Name (codes "b")) ∷ Word Greater ∷ Word TrueWord ∷ [];
+      syntax = Dia' (Either' (Plus' (Names' (codes "a") [])) (Names' (codes "b") [])) True';
+      written = record {
+        joined = refl;
+        cut = (tt, refl, (refl, refl, (refl, refl, (tt, refl, (refl, refl, (tt, refl, (refl, refl, (refl, refl, (tt, refl, (tt, refl, tt))))))))));
+        decided = refl;
+        spelled = refl;
+        grammatical = refl;
+      };
+      stands_for = refl;
+    }
+
+-- mu X. !(X => false)
+abbrev pub twice_negated : Formula
+twice_negated = Mu (codes "X") (Not (Implies (Var (codes "X")) False))
+
+canon_twice_negated : canon twice_negated ≡ codes "(mu X. !(X => false))"
+canon_twice_negated = refl
+
+admitted_twice_negated : IsAdmitted twice_negated
+admitted_twice_negated = refl
+
+-- mu X. !X; mu X. Y
+odd : is_admitted_in [] (Mu (codes "X") (Not (Var (codes "X")))) ≡ false
+odd = refl
+
+unbound : is_admitted_in [] (Mu (codes "X") (Var (codes "Y"))) ≡ false
+unbound = refl
+
+multi : holds (Names (codes "a" ∷ codes "b" ∷ [])) (codes "b|a") ≡ true
+multi = refl
+
+one_of_two : holds name_a (codes "b|a") ≡ false
+one_of_two = refl
+
+other_order : holds (Quoted (codes "a|b")) (codes "b|a") ≡ false
+other_order = refl
+
+opaque : (holds (Quoted (codes "r(1)")) (codes "r(1)") ≡ true) × (holds (Names (codes "r" ∷ [])) (codes "r(1)") ≡ false)
+opaque = (refl, refl)
+
+silent : (holds (Names []) (codes "tau") ≡ true) × (holds (AndAct Anything (NotAct (Names []))) (codes "tau") ≡ false)
+silent = (refl, refl)

@@ -1,0 +1,91 @@
+-- Worked examples of arenas and of winning.
+use Rattle.std.specs.Prelude.{◌≡◌, ℕ, ◌⊎◌, Bool, List, [], ◌∷◌, Some, refl}
+use Rattle.std.specs.Prelude.{Contains, max, IsTrue, ◌==◌, ◌||◌, if◌then◌else◌}
+use Rattle.std.proofs.Common.{arith, inl, inr, sym, ap, ap₂, subst, ◌∙◌}
+use Rattle.lts.specs.Path.{IsPath}
+use Rattle.std.proofs.lemmas.Bool.Decides.{nat_tests}
+use Rattle.vectors.specs.Systems.{two_states}
+use Rattle.formula.specs.Tree.{Step, Dia, Box, True, False, Anything}
+use Rattle.vectors.specs.Formulas.{name_a, often_a}
+use Rattle.normal.specs.Nodes.{nodes}
+use Rattle.game.specs.declared.player.Player.{Player}
+use Rattle.game.specs.declared.player.Player.TheVariants.{Even, Odd}
+use Rattle.game.specs.Game.{Game, Vertex, vertex}
+use Rattle.game.specs.Wins.{Edge, Wins, priority_at, greatest_met}
+use Rattle.game.specs.Arena.{arena}
+
+abbrev vertex_at : ℕ → Player → List ℕ → Vertex
+vertex_at p o ss = record { owner = o; priority = p; successors = ss }
+
+-- <a>true on the two-state system
+abbrev pub one_step : Game
+one_step = arena two_states (nodes (Dia (Step name_a) True))
+
+vertices_one_step : one_step.vertices ≡ vertex_at 0 Even (0 ∷ []) ∷ vertex_at 1 Even (1 ∷ []) ∷ vertex_at 0 Even (5 ∷ []) ∷ vertex_at 0 Even (0 ∷ [])
+    ∷ vertex_at 0 Even (1 ∷ []) ∷ vertex_at 0 Even (0 ∷ []) ∷ []
+vertices_one_step = refl
+
+-- [true]false on one state without transitions
+vertices_stuck : (arena (record { states = 1; initial = 0; arrows = [] }) (nodes (Box (Step Anything) False))).vertices
+    ≡ vertex_at 0 Even (0 ∷ []) ∷ vertex_at 1 Even (1 ∷ []) ∷ vertex_at 0 Odd (0 ∷ []) ∷ vertex_at 0 Even (1 ∷ []) ∷ []
+vertices_stuck = refl
+
+-- nu X. mu Y. (<a>X || <b>Y) on the two-state system
+vertices_often_a : (arena two_states (nodes often_a)).vertices
+    ≡ vertex_at 0 Even (0 ∷ []) ∷ vertex_at 1 Even (1 ∷ []) ∷ vertex_at 2 Even (3 ∷ []) ∷ vertex_at 1 Even (4 ∷ []) ∷ vertex_at 0 Even (5 ∷ 7 ∷ [])
+    ∷ vertex_at 0 Even (13 ∷ []) ∷ vertex_at 0 Even (2 ∷ []) ∷ vertex_at 0 Even (1 ∷ []) ∷ vertex_at 0 Even (3 ∷ []) ∷ vertex_at 2 Even (10 ∷ [])
+    ∷ vertex_at 1 Even (11 ∷ []) ∷ vertex_at 0 Even (12 ∷ 14 ∷ []) ∷ vertex_at 0 Even (1 ∷ []) ∷ vertex_at 0 Even (9 ∷ []) ∷ vertex_at 0 Even (8 ∷ [])
+    ∷ vertex_at 0 Even (10 ∷ []) ∷ []
+vertices_often_a = refl
+
+-- Even wins (0,0), vertex 2 of that game, by 2, 5 and 0
+abbrev in_three : ℕ → Bool
+in_three v = v == 0 || (v == 2 || v == 5)
+
+abbrev next_of : ℕ → ℕ
+next_of v = if v == 2 then 5 else 0
+
+three : (v : ℕ) → IsTrue (in_three v) → (v ≡ 0) ⊎ ((v ≡ 2) ⊎ (v ≡ 5))
+three v h = grind (arith, nat_tests)
+
+abbrev edge : ℕ → ℕ → Type 0
+edge = Edge Even one_step next_of
+
+-- at one of the three: Even owns it, its choice is its successor and one of the three, and its priority is 0
+record Fine (u : ℕ) : Type 0 where
+  priority : priority_at (vertex one_step u) ≡ 0
+  own : (v : Vertex) → vertex one_step u ≡ Some v → Contains v.successors (next_of u)
+  stays : (t : ℕ) → edge u t → IsTrue (in_three t)
+
+stays_at : (u : ℕ) (x : Vertex) → vertex one_step u ≡ Some x → x.owner ≡ Even → IsTrue (in_three (next_of u)) → (t : ℕ) → edge u t → IsTrue (in_three t)
+stays_at u x is even h t (v, at, inl (o, q)) = subst (λ y. IsTrue (in_three y)) (sym q) h
+stays_at u x is even h t (v, at, inr (o, c)) = let e : v ≡ x = cc (at, is) in absurd (o (ap (λ (y : Vertex). y.owner) e ∙ even))
+
+fine_0 : Fine 0
+fine_0 = record { priority = refl; own = λ v e. (let q : v ≡ vertex_at 0 Even (0 ∷ []) = cc in subst (λ (x : Vertex). Contains x.successors 0) (sym q) (0, omega arith, refl)); stays = stays_at 0 (vertex_at 0 Even (0 ∷ [])) refl refl refl }
+
+fine_2 : Fine 2
+fine_2 = record { priority = refl; own = λ v e. (let q : v ≡ vertex_at 0 Even (5 ∷ []) = cc in subst (λ (x : Vertex). Contains x.successors 5) (sym q) (0, omega arith, refl)); stays = stays_at 2 (vertex_at 0 Even (5 ∷ [])) refl refl refl }
+
+fine_5 : Fine 5
+fine_5 = record { priority = refl; own = λ v e. (let q : v ≡ vertex_at 0 Even (0 ∷ []) = cc in subst (λ (x : Vertex). Contains x.successors 0) (sym q) (0, omega arith, refl)); stays = stays_at 5 (vertex_at 0 Even (0 ∷ [])) refl refl refl }
+
+fine : (u : ℕ) → IsTrue (in_three u) → Fine u
+fine u h = elim (three u h) [ inl e ↦ subst Fine (sym e) fine_0 | inr w ↦ elim w [ inl e ↦ subst Fine (sym e) fine_2 | inr e ↦ subst Fine (sym e) fine_5 ] ]
+
+met_none : (u : ℕ) (others : List ℕ) (t : ℕ) → IsTrue (in_three u) → IsPath edge u others t → greatest_met one_step others ≡ 0
+met_none u [] t h p = refl
+met_none u (m ∷ others) t h p = let i = (fine u h).stays m p.0 in ap₂ max (fine m i).priority (met_none m others t i p.1)
+
+pub wins_one_step : Wins one_step 2
+wins_one_step = record {
+  set = in_three;
+  choice = next_of;
+  has = refl;
+  strategy = record {
+    inside = λ u h. (let w = three u h in grind arith);
+    own = λ u v h e o. (fine u h).own v e;
+    closed = λ u t h e. (fine u h).stays t e;
+    cycles = λ u others h n p. rw (met_none u others u h p) refl;
+  };
+}

@@ -1,0 +1,42 @@
+-- Worked examples of normal forms.
+use Rattle.std.specs.Prelude.{◌≡◌, ℕ, zero, suc, true, false, [], ◌∷◌, codes, refl}
+use Rattle.formula.specs.Tree.{Anything, Regular, Step, Then, Either, Star, Formula, True, Var, Not, And, Dia, Box, Mu}
+use Rattle.vectors.specs.Formulas.{often_a, plus_or_b, name_a, name_b}
+use Rattle.normal.specs.Tree.{normal_form, Shape, ConstantNode, JunctionNode, ModalityNode, FixpointNode, VariableNode, depth, size, count}
+use Rattle.normal.specs.Nodes.{nodes, Node, greatest}
+
+abbrev node : Shape → ℕ → Node
+node shape p = record { shape = shape; priority = p }
+
+nodes_plus_or_b : nodes plus_or_b ≡ node (JunctionNode true 1 7) 0 ∷ node (ModalityNode true name_a 2) 0 ∷ node (FixpointNode true 3) 1 ∷ node (JunctionNode true 4 5) 0 ∷ node (ConstantNode true) 0
+    ∷ node (ModalityNode true name_a 6) 0 ∷ node (VariableNode 2) 0 ∷ node (ModalityNode true name_b 8) 0 ∷ node (ConstantNode true) 0 ∷ []
+nodes_plus_or_b = refl
+
+nodes_often_a : nodes often_a ≡ node (FixpointNode false 1) 2 ∷ node (FixpointNode true 2) 1 ∷ node (JunctionNode true 3 5) 0 ∷ node (ModalityNode true name_a 4) 0 ∷ node (VariableNode 0) 0
+    ∷ node (ModalityNode true name_b 6) 0 ∷ node (VariableNode 1) 0 ∷ []
+nodes_often_a = refl
+
+depth_often_a : (greatest (normal_form often_a) ≡ 2) × (depth (normal_form often_a) ≡ 2)
+depth_often_a = (refl, refl)
+
+-- !(<a>true && mu X. [b]X)
+negated_nodes : nodes (Not (And (Dia (Step name_a) True) (Mu (codes "X") (Box (Step name_b) (Var (codes "X"))))))
+    ≡ node (JunctionNode true 1 3) 0 ∷ node (ModalityNode false name_a 2) 0 ∷ node (ConstantNode false) 0 ∷ node (FixpointNode false 4) 0 ∷ node (ModalityNode true name_b 5) 0 ∷ node (VariableNode 3) 0 ∷ []
+negated_nodes = refl
+
+-- ten times (a+b), joined by `.`
+abbrev tens : ℕ → Regular
+tens zero = Either (Step name_a) (Step name_b)
+tens (suc n) = Then (Either (Step name_a) (Step name_b)) (tens n)
+
+abbrev many_nodes : Formula
+many_nodes = Dia (Step name_a) (Dia (Step name_a) (Dia (Step name_a) (Dia (tens 9) True)))
+
+count_many_nodes : count many_nodes ≡ 4096
+count_many_nodes = refl
+
+-- [true*]<true*>(<a>true)
+everywhere : (greatest (normal_form (Box (Star (Step Anything)) (Dia (Star (Step Anything)) (Dia (Step name_a) True)))) ≡ 2)
+    × (size (normal_form (Box (Star (Step Anything)) (Dia (Star (Step Anything)) (Dia (Step name_a) True)))) ≡ 10)
+    × (depth (normal_form (Box (Star (Step Anything)) (Dia (Star (Step Anything)) (Dia (Step name_a) True)))) ≡ 2)
+everywhere = (refl, refl, refl)

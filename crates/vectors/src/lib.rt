@@ -1,0 +1,2 @@
+// Worked examples: each definition computed or witnessed on small inputs.
+#![tactic(auto)]
