@@ -19,9 +19,11 @@ pub rank_found : (l : System) (at : ℕ) (f : Norm) (e : Sets) (k s i : ℕ) →
 rank_found l at f e k s i h x = least_found l.states (λ j. sets l (at + 1) f (put e at (iterates true l at f e j)) k s) i h x
 
 module _ (l : System) (look : ℕ → Shape) where
+  -- membership moves along equal numbers
   pub at_true : (X : Sets) (k k' s s' : ℕ) → k ≡ k' → s ≡ s' → X k' s' ≡ true → X k s ≡ true
   at_true X k k' s s' p q x = rw (p, q) x
 
+  -- From a state with a node to whose set it belongs, a move leads to another such.
   pub closed : (P : ℕ → Type 0) (at : ℕ) (f : Norm) (e : Sets) → IsLaid look at f → Binds P at f → ((b : ℕ) → P b → b < at) → (s k t m : ℕ) → IsWithin at f k → s < l.states
       → sets l at f e k s ≡ true → Step l look (choose l at f e) s k t m → sets l at f e m t ≡ true
   closed P at (Constant flag) e laid binds lower s k t m w h x y = absurd (seen l look at k 0 s t m (ConstantNode flag) laid (omega (arith, w.from, w.to)) y).0
@@ -110,6 +112,7 @@ module _ (l : System) (look : ℕ → Shape) where
   chosen_target true at a f e s x = (first_found (sat l (at + 1) f e) (targets l a s) x).0
   chosen_target false at a f e s x = tt
 
+  -- what is chosen at a state with a node to whose set it belongs is a successor
   pub choices : (at : ℕ) (f : Norm) (e : Sets) → IsLaid look at f → (s k : ℕ) → IsWithin at f k → sets l at f e k s ≡ true → IsChoice l (look k) (choose l at f e k s) s
   choices at (Constant flag) e laid s k w x = let i : k ≡ at = omega (arith, w.from, w.to) in of_look at k 0 s (ConstantNode flag) laid i (root_true l at (Constant flag) e k s i x)
   choices at (Junction flag f g) e laid s k w x =

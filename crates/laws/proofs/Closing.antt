@@ -77,5 +77,6 @@ no_names : (P : ℕ → Type 0) (binders : List ℕ → ℕ) → Names P binders
 unfolding IsIn
 no_names P binders name h = absurd h
 
+-- no variable of the normal form is without its binder
 pub normal_closed : (f : Formula) → IsAdmitted f → IsClosed (normal_form f)
 normal_closed f h = to_free (λ b. ⊥) 0 (normal_form f) (binds_norm f true (λ b. ⊥) (λ _. 0) [] (no_names (λ b. ⊥) (λ _. 0)) h 0)

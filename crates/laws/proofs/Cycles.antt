@@ -17,6 +17,7 @@ use Rattle.laws.proofs.Closed.{at_true, rank_found, closed}
 use Rattle.laws.proofs.Paths.{path_into, level, sources, path_map, path_append, all_front, all_back, all_join, IsThrough, avoids_or_not, met, met_front, met_last, met_bound}
 use Rattle.laws.proofs.Spans.{IsHeld, held, bounded}
 
+-- what is not odd is even
 pub even_of : (p : ℕ) → is_odd p ≡ false → p % 2 ≡ 0
 even_of p e = elim (eqb_tells (p % 2) 1) [ inl h ↦ absurd (true≢false (sym h.0 ∙ e)) | inr h ↦ (let n = h.1 in omega arith) ]
 
@@ -31,6 +32,7 @@ module _ (l : System) (look : ℕ → Shape) (prio : ℕ → ℕ) (st nd : ℕ �
     pub there : sets l at f e (nd w) (st w) ≡ true
     pub step : Step l look (choose l at f e) (st v) (nd v) (st w) (nd w)
 
+  -- the priority of a place's node
   abbrev pub number : ℕ → ℕ
   number v = prio (nd v)
 
@@ -121,9 +123,6 @@ module _ (l : System) (look : ℕ → Shape) (prio : ℕ → ℕ) (st nd : ℕ �
           step = subst (λ i. Step l look (choose l (at + 1) f (put e at (iterates true l at f e i))) (st v) (nd v) (st w) (nd w)) x.0.1 x.0.0.step;
         }) u (m ∷ vs) u b.0
 
-  IsGood : List ℕ → Type 0
-  IsGood vs = met number vs % 2 ≡ 0
-
   module _ (P : ℕ → Type 0) (at : ℕ) (f : Norm) (e : Sets) (laid : IsLaid look at (Fixpoint false f)) (binds : Binds P at (Fixpoint false f)) (good : IsEach (IsFitting prio) at (Fixpoint false f)) where
     nu_held : (v w : ℕ) → IsMove at (Fixpoint false f) e v w → (nd v ≡ at) ⊎ ((at < nd v) × IsHeld look prio (nd v))
     nu_held v w x =
@@ -146,6 +145,7 @@ module _ (l : System) (look : ℕ → Shape) (prio : ℕ → ℕ) (st nd : ℕ �
         let same = ap (met number) t.same in
         omega arith
 
+  -- by recursion on the tree: a cycle is an operand's, or one of the body at one iterate of a mu, or passes a nu whose priority is its greatest
   pub cycles : (P : ℕ → Type 0) (at : ℕ) (f : Norm) (e : Sets) → IsLaid look at f → Binds P at f → ((b : ℕ) → P b → b < at) → IsEach (IsFitting prio) at f
       → (u m : ℕ) (vs : List ℕ) → IsPath (IsMove at f e) u (m ∷ vs) u → met number (m ∷ vs) % 2 ≡ 0
   cycles P at (Constant flag) e laid binds lower good u m vs p =

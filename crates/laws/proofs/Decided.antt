@@ -31,12 +31,14 @@ under_least g table v least lt w e = w.2 (top_last (value_at w.0 v) (subst (λ m
 wins_inside : (g : Game) (v : ℕ) → Wins g v → v < length g.vertices
 wins_inside g v w = w.strategy.inside v w.has
 
+-- from a strategy a table, from the table the meaning; from the meaning a strategy
 pub even_wins_where_meant : EvenWinsWhereMeant
 even_wins_where_meant l f ns ok are s k lt within = (
   λ w. let t = wins_table (arena l ns) (place (length ns) s k) w in tables_are_sound l f ns t.0 ok are t.1 s k lt within t.2,
   λ h. let w = meaning_wins l f ns ok are in record { set = w.set; choice = w.choice; has = w.has s k lt h; strategy = w.strategy },
 )
 
+-- the least table is one that is sound, and not above the strategy's
 pub least_table_decides : LeastTableDecides
 least_table_decides l f ns table ok are least s k lt within = (
   λ finite. tables_are_sound l f ns table ok are least.progress s k lt within finite,
@@ -56,20 +58,24 @@ root_satisfies l f ns ok admitted are s lt =
 some_node : (f : Norm) (ns : List Node) → IsNodes f ns → 0 < length ns
 some_node f ns are = let e = count_nodes f ns are in let h = size_some f in omega arith
 
+-- at the root the meaning is that of the formula that went in
 pub even_wins_formula : EvenWinsFormula
 even_wins_formula l f ns ok admitted are s lt =
     let i = even_wins_where_meant l (normal_form f) ns ok are s 0 lt (some_node (normal_form f) ns are) in
     let j = root_satisfies l f ns ok admitted are s lt in
     (λ w. j.0 (i.0 w), λ h. i.1 (j.1 h))
 
+-- the same of the least table
 pub least_table_formula : LeastTableFormula
 least_table_formula l f ns table ok admitted are least s lt =
     let i = least_table_decides l (normal_form f) ns table ok are least s 0 lt (some_node (normal_form f) ns are) in
     let j = root_satisfies l f ns ok admitted are s lt in
     (λ w. j.0 (i.0 w), λ h. i.1 (j.1 h))
 
+-- at the nested priorities
 pub nested_wins : NestedWins
 nested_wins l f ok admitted s lt = even_wins_formula l f (nodes f) ok admitted (nested_is_admissible f admitted) s lt
 
+-- the same of the least table
 pub nested_table_decides : NestedTableDecides
 nested_table_decides l f table ok admitted least s lt = least_table_formula l f (nodes f) table ok admitted (nested_is_admissible f admitted) least s lt

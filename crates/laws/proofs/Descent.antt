@@ -21,6 +21,7 @@ pub record Comparison (A : Type 0) : Type 0 where
   pub finite : (strict : Bool) (p : ℕ) (a b : A) → IsTrue (over strict p a b) → IsTrue (over false 0 a a)
 
 module _ (l : System) (prio : ℕ → ℕ) (A : Type 0) (c : Comparison A) (val : ℕ → ℕ → A) where
+  -- the value is not top
   abbrev pub IsFinite : ℕ → ℕ → Type 0
   IsFinite s k = IsTrue (c.over false 0 (val s k) (val s k))
 
@@ -38,6 +39,7 @@ module _ (l : System) (prio : ℕ → ℕ) (A : Type 0) (c : Comparison A) (val 
   abbrev pub Covers : Sets → ℕ → Norm → A → Type 0
   Covers e at f m = (b : ℕ) → IsFree b at f → (t : ℕ) → t < l.states → IsTrue (c.over false (prio b) (val t b) m) → e b t ≡ true
 
+  -- where the environment covers the value, the tree holds
   abbrev pub IsSound : ℕ → Norm → Type 0
   IsSound at f = (e : Sets) (s : ℕ) → s < l.states → IsFinite s at → Covers e at f (val s at) → sat l at f e s ≡ true
 
@@ -90,6 +92,7 @@ module _ (l : System) (prio : ℕ → ℕ) (A : Type 0) (c : Comparison A) (val 
           (λ is. few_more at s t tl (subst (λ x. IsTrue (c.over x (prio at) (val t at) (val s at))) is (c.trans false flag (prio at) _ _ _ k here)) j (few is))
           (λ b free x xl kx. cover b free x xl (c.trans false false (prio b) _ _ _ kx (c.coarser false (prio at) (prio b) _ _ (fits.1 b free) (c.trans false false (prio at) _ _ _ k weak))))))
 
+  -- by recursion on the tree: where values descend, covered states are in the meaning
   pub sound : (f : Norm) (at : ℕ) → IsEach IsDown at f → IsEach (IsFitting prio) at f → IsSound at f
   sound (Constant flag) at down fits e s lt fin cover = down s lt fin
   sound (Junction flag f g) at down fits e s lt fin cover =

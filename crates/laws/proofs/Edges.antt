@@ -8,14 +8,17 @@ use Rattle.game.specs.Arena.{targets, place, or_else, owner_of, successors_of}
 use Rattle.laws.proofs.Lists.{none_in, only_in, of_two, in_map, of_map}
 use Rattle.laws.proofs.Moves.{IsNext, Moves, IsChoice}
 
+-- a list or else one vertex has some
 pub or_else_some : (xs : List ℕ) (v : ℕ) → (t : ℕ) × (ts : List ℕ) × (or_else xs v ≡ t ∷ ts)
 or_else_some [] v = (v, [], refl)
 or_else_some (x ∷ xs) v = (x, xs, refl)
 
+-- what it has
 pub of_or_else : (xs : List ℕ) (v u : ℕ) → Contains (or_else xs v) u → (u ≡ v) ⊎ Contains xs u
 of_or_else [] v u h = inl (only_in v u h)
 of_or_else (x ∷ xs) v u h = inr h
 
+-- it has what the list has
 pub in_or_else : (xs : List ℕ) (v u : ℕ) → Contains xs u → Contains (or_else xs v) u
 in_or_else [] v u h = absurd (none_in u h)
 in_or_else (x ∷ xs) v u h = h
@@ -37,6 +40,7 @@ at_head x y xs e = (0, omega arith, sym e)
 at_second : (x y z : ℕ) → z ≡ y → Contains (x ∷ y ∷ []) z
 at_second x y z e = (1, omega arith, sym e)
 
+-- at a right choice Even's vertex is a successor
 pub own_of : (l : System) (n : ℕ) (sh : Shape) (c s : ℕ) → IsChoice l sh c s → owner_of sh ≡ Even → Contains (successors_of l n s sh) (to_vertex n sh c s)
 own_of l n (ConstantNode true) c s x o = at_head 0 0 [] refl
 own_of l n (ConstantNode false) c s x o = absurd (true≢false (sym x))
@@ -48,6 +52,7 @@ own_of l n (ModalityNode false act child) c s x o = odd_even o
 own_of l n (FixpointNode flag child) c s x o = at_head (place n s child) (place n s child) [] refl
 own_of l n (VariableNode b) c s x o = at_head (place n s b) (place n s b) [] refl
 
+-- where a move leads, as a vertex
 pub record IsLed (l : System) (n : ℕ) (sh : Shape) (c s t : ℕ) : Type 0 where
   pub state : ℕ
   pub node : ℕ

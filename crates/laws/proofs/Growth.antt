@@ -11,9 +11,11 @@ use Rattle.laws.proofs.Targets.{target_below}
 abbrev pub IsIn : ℕ → (ℕ → Bool) → (ℕ → Bool) → Type 0
 IsIn n p q = (s : ℕ) → s < n → p s ≡ true → q s ≡ true
 
+-- inclusion of environments
 abbrev pub AreIn : ℕ → Sets → Sets → Type 0
 AreIn n e d = (b : ℕ) → IsIn n (e b) (d b)
 
+-- one more set
 pub put_mono : (n : ℕ) (e d : Sets) (b : ℕ) (p q : ℕ → Bool) → AreIn n e d → IsIn n p q → AreIn n (put e b p) (put d b q)
 put_mono n e d b p q ed pq k = elim (k == b) as (λ t. IsIn n (if t then p else e k) (if t then q else d k)) [ true ↦ pq | false ↦ ed k ]
 
@@ -25,6 +27,7 @@ turns_mono n zero F G p FG s h x = x
 turns_mono n (suc i) F G p FG s h x = FG (turns i F p) (turns i G p) (turns_mono n i F G p FG) s h x
 
 module _ (l : System) where
+  -- larger sets for the variables, a larger set for the tree
   pub mono : (at : ℕ) (f : Norm) (e d : Sets) → AreIn l.states e d → IsIn l.states (sat l at f e) (sat l at f d)
   mono at (Constant flag) e d ed s h x = x
   mono at (Junction flag f g) e d ed s h x =
@@ -38,9 +41,11 @@ module _ (l : System) where
       turns_mono l.states l.states (body l at f e) (body l at f d) (from flag) (λ u v uv. mono (at + 1) f (put e at u) (put d at v) (put_mono l.states e d at u v ed uv)) s h x
   mono at (Variable b) e d ed s h x = ed b s h x
 
+  -- a fixpoint's body is monotone
   pub body_mono : (at : ℕ) (f : Norm) (e : Sets) (u v : ℕ → Bool) → IsIn l.states u v → IsIn l.states (body l at f e u) (body l at f e v)
   body_mono at f e u v uv = mono (at + 1) f (put e at u) (put e at v) (put_mono l.states e e at u v (λ b s h x. x) uv)
 
+  -- the same for the set of each node
   pub sets_mono : (at : ℕ) (f : Norm) (e d : Sets) → AreIn l.states e d → AreIn l.states (sets l at f e) (sets l at f d)
   sets_mono at (Constant flag) e d ed = put_mono l.states e d at (λ s. flag) (λ s. flag) ed (λ s h x. x)
   sets_mono at (Junction flag f g) e d ed =

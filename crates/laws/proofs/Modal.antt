@@ -9,10 +9,11 @@ use Rattle.game.specs.Arena.{targets}
 use Rattle.laws.proofs.Flags.{under, under_is, under_under, not_flag, same_test}
 use Rattle.laws.proofs.Targets.{leads_inside, target_leads, leads_target}
 use Rattle.laws.proofs.Sat.{put, turns, sat, from, put_here, put_other, junction_tells, modality_tells}
-use Rattle.laws.proofs.Fixpoints.{IsDecided, IsWithin, in_closed, low_closed}
+use Rattle.laws.proofs.Fixpoints.{IsDecided, IsInside, low_inside, low_closed}
 
 -- ---- environments
 
+-- a number is at most itself
 pub at_most_itself : (n : ℕ) → n ≤ n
 at_most_itself n = omega arith
 
@@ -41,10 +42,12 @@ made l flag step P by lo u F p makes at low v agree s lt =
 
 -- ---- two operands, and binders
 
+-- two operands are the flag where one of them is
 pub two_tells : (l : System) (flag : Bool) (L R : ℕ → Norm) (at : ℕ) (v : ℕ → ℕ → Bool) (s : ℕ) →
     (sat l at (two flag L R at) v s ≡ flag) ↔ ((sat l (at + 1) (L (at + 1)) v s ≡ flag) ⊎ (sat l (at + 1 + size (L (at + 1))) (R (at + 1 + size (L (at + 1)))) v s ≡ flag))
 two_tells l flag L R at v s = junction_tells flag (sat l (at + 1) (L (at + 1)) v s) (sat l (at + 1 + size (L (at + 1))) (R (at + 1 + size (L (at + 1)))) v s)
 
+-- tests and sets go through their turns together
 pub turns_are : (n k : ℕ) (flag : Bool) (G : (ℕ → Bool) → ℕ → Bool) (F : (ℕ → Type 0) → ℕ → Type 0) (p : ℕ → Bool) (P : ℕ → Type 0) →
     ((v : ℕ → Bool) (V : ℕ → Type 0) → ((t : ℕ) → t < n → (v t ≡ flag) ↔ V t) → (t : ℕ) → t < n → (G v t ≡ flag) ↔ F V t) →
     ((t : ℕ) → t < n → (p t ≡ flag) ↔ P t) → (t : ℕ) → t < n → (turns k G p t ≡ flag) ↔ iterate k F P t
@@ -113,7 +116,7 @@ module _ (l : System) (ok : IsSystem l) where
           λ h. i.1 (elim h [ inl k ↦ inl k | inr w ↦ inr (w.0, w.1, (same w.0 (leads_inside l ok r s w.0 lt w.1)).1 w.2) ]),
         )
 
-    wave_grows : (U V : ℕ → Type 0) → IsWithin l.states U V → IsWithin l.states (wave U) (wave V)
+    wave_grows : (U V : ℕ → Type 0) → IsInside l.states U V → IsInside l.states (wave U) (wave V)
     wave_grows U V uv s lt (inl k) = inl k
     wave_grows U V uv s lt (inr w) = inr (w.0, w.1, uv w.0 (leads_inside l ok r s w.0 lt w.1) w.2)
 
@@ -137,7 +140,7 @@ module _ (l : System) (ok : IsSystem l) where
     loop_tells : (s : ℕ) → s < l.states → (sat l at (loop_of flag (modal flag r) F at) v s ≡ flag) ↔ Reaches l flag (Star r) p s
     loop_tells s lt =
         let i = turns_are l.states l.states flag turn wave (from flag) (λ t. ⊥) turn_waves (λ t tl. (λ h. not_flag flag h, λ h. absurd h)) s lt in (
-          λ h. in_closed l.states wave wave_grows (λ s. Reaches l flag (Star r) p s) inward l.states s lt (i.0 h),
+          λ h. low_inside l.states wave wave_grows (λ s. Reaches l flag (Star r) p s) inward l.states s lt (i.0 h),
           λ h. i.1 (along s h.1.0 h.0 lt h.1.1 h.2),
         )
 

@@ -57,6 +57,7 @@ IsChoice l (JunctionNode flag a b) c s = (c ≡ a) ⊎ (c ≡ b)
 IsChoice l (ModalityNode true act child) c s = Contains (targets l act s) c
 IsChoice l _ c s = Unit {0}
 
+-- a move at a state with a node, by the choice
 abbrev pub Step : System → (ℕ → Shape) → (ℕ → ℕ → ℕ) → ℕ → ℕ → ℕ → ℕ → Type 0
 Step l look c s k t m = IsNext (look k) m × Moves l (look k) (c k s) s t m
 
@@ -66,6 +67,7 @@ IsLaid look at f = IsEach (λ k g. look k ≡ shape_at k g) at f
 
 -- ---- where moves lead
 
+-- moves lead to states
 pub moves_below : (l : System) (sh : Shape) (c s t m : ℕ) → s < l.states → Moves l sh c s t m → t < l.states
 moves_below l (ConstantNode flag) c s t m h x = omega arith
 moves_below l (JunctionNode flag a b) c s t m h x = omega (arith, x.0)
@@ -81,6 +83,7 @@ junction_kept true false c left right m h next taken = inr (taken, h)
 junction_kept false b c left right m h (inl e) taken = inl (e, (both b c h).0)
 junction_kept false b c left right m h (inr e) taken = inr (e, (both b c h).1)
 
+-- the first that passes is one that does
 pub first_found : (p : ℕ → Bool) (xs : List ℕ) → modality true p xs ≡ true → Contains xs (first p xs) × (p (first p xs) ≡ true)
 first_found p [] h = cc
 first_found p (x ∷ xs) h = elim (cases (p x)) [
@@ -96,22 +99,27 @@ modality_kept false p xs t h into taken = all_gives p xs t h into
 -- ---- choices by number
 
 module _ (l : System) (look : ℕ → Shape) where
+  -- a move by the shape that stands there
   pub seen : (at k c s t m : ℕ) (sh : Shape) → look at ≡ sh → k ≡ at → IsNext (look k) m × Moves l (look k) c s t m → IsNext sh m × Moves l sh c s t m
   seen at k c s t m sh e h x = subst (λ y. IsNext y m × Moves l y c s t m) (ap look h ∙ e) x
 
+  -- a move by an equal choice
   pub move_choice : (k c d s t m : ℕ) → c ≡ d → IsNext (look k) m × Moves l (look k) c s t m → IsNext (look k) m × Moves l (look k) d s t m
   move_choice k c d s t m e x = subst (λ y. IsNext (look k) m × Moves l (look k) y s t m) e x
 
 module _ (l : System) where
   module _ (flag : Bool) (at : ℕ) (f g : Norm) (e : Sets) (k s : ℕ) where
+    -- at the junction itself the left operand if it holds, else the right one
     pub junction_choice : k ≡ at → choose l at (Junction flag f g) e k s ≡ (if sat l (at + 1) f e s then at + 1 else at + 1 + size f)
     junction_choice i = ap (λ (u : ℕ → ℕ). u s) (put_here (join (at + 1 + size f) (choose l (at + 1) f e) (choose l (at + 1 + size f) g e)) at (λ s. if sat l (at + 1) f e s then at + 1 else at + 1 + size f) k i)
 
+    -- inside the left operand the operand's choice
     pub left_choice : (k ≡ at → ⊥) → k < at + 1 + size f → choose l at (Junction flag f g) e k s ≡ choose l (at + 1) f e k s
     left_choice i b = ap (λ (u : ℕ → ℕ). u s)
         (put_other (join (at + 1 + size f) (choose l (at + 1) f e) (choose l (at + 1 + size f) g e)) at (λ s. if sat l (at + 1) f e s then at + 1 else at + 1 + size f) k i
         ∙ join_left (at + 1 + size f) (choose l (at + 1) f e) (choose l (at + 1 + size f) g e) k b)
 
+    -- inside the right operand the operand's choice
     pub right_choice : (k ≡ at → ⊥) → at + 1 + size f ≤ k → choose l at (Junction flag f g) e k s ≡ choose l (at + 1 + size f) g e k s
     right_choice i b = ap (λ (u : ℕ → ℕ). u s)
         (put_other (join (at + 1 + size f) (choose l (at + 1) f e) (choose l (at + 1 + size f) g e)) at (λ s. if sat l (at + 1) f e s then at + 1 else at + 1 + size f) k i

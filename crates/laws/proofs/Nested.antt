@@ -10,6 +10,7 @@ use Rattle.laws.proofs.Flags.{same_or_not, same_true, other_false}
 use Rattle.laws.proofs.Trees.{each_map, map_preorder, IsSaid, said}
 use Rattle.laws.proofs.Closing.{normal_closed}
 
+-- each node has what its rule says
 pub nodes_follow : NodesFollow
 nodes_follow rule f = (
   map_preorder (λ (node : Node). node.shape) (node_at rule) 0 f,
@@ -47,6 +48,7 @@ nested_fits prio at (Fixpoint flag f) h outer =
     )
 nested_fits prio at (Variable b) h outer = h
 
+-- the normal form's nodes are those of a closed tree with admissible priorities
 pub nested_is_admissible : NestedIsAdmissible
 nested_is_admissible f admitted = record {
   shapes = (nodes_follow nested (normal_form f)).0;

@@ -28,6 +28,7 @@ chosen : {X : Type 0} (c : Bool) (a b x y : X) → a ≡ b → x ≡ y → (if c
 chosen true a b x y e d = e
 chosen false a b x y e d = d
 
+-- a scope negated twice
 pub twice : (name : List ℕ) (scope : Scope) → is_free_to_stand name (negated (negated scope)) ≡ is_free_to_stand name scope
 twice name [] = refl
 twice name (binder ∷ scope) =
@@ -62,6 +63,7 @@ inner_at n scope flag binders at u d b x U own half other false stands =
     let w = half other stands in
     (omega (arith, w.0), λ s lt. subst (λ g. (g s ≡ flag) ↔ d other s) (sym (put_other u at x (binders other) (λ e. omega (arith, w.0)))) (w.1 s lt))
 
+-- the environment below a binder
 pub inner : (n : ℕ) (scope : Scope) (flag : Bool) (binders : List ℕ → ℕ) (at : ℕ) (u : ℕ → ℕ → Bool) (d : Env) (name : List ℕ) (x : ℕ → Bool) (U : ℕ → Type 0) →
     ((s : ℕ) → s < n → (x s ≡ flag) ↔ U s) → Fits n scope flag binders at u d → Fits n ((name, true) ∷ scope) flag (with_binder binders name at) (at + 1) (put u at x) (with_set d name U)
 inner n scope flag binders at u d name x U own fits = (
@@ -108,6 +110,7 @@ module _ (l : System) (ok : IsSystem l) where
         λ h. j.1 (λ t go. (ih flag scope binders at u d p fits t (leads_inside l ok r s t lt go)).1 (h t go)),
       )
 
+  -- by recursion on the formula: the test of its tree is the flag where it holds
   pub normed : (f : Formula) → Normed l f
   normed True flag scope binders at u d p fits s lt = (λ h. tt, λ h. refl)
   normed False flag scope binders at u d p fits s lt = (λ h. not_flag flag h, λ h. absurd h)
@@ -153,6 +156,7 @@ module _ (l : System) (ok : IsSystem l) where
 no_fits : (n : ℕ) → Fits n [] true (λ name. 0) 0 nothing no_sets
 no_fits n = (λ name stands. absurd (true≢false (sym stands)), λ name stands. absurd (true≢false (sym stands)))
 
+-- at the root, with the flag true
 pub normal_form_means : NormalFormMeans
 normal_form_means l f ok admitted s lt =
     let tree = meant l ok 0 (normal_form f) no_sets nothing (nothing_like l.states) s lt in

@@ -20,6 +20,7 @@ put e b x k = if k == b then x else e k
 abbrev pub join : {A : Type 0} → ℕ → (ℕ → A) → (ℕ → A) → ℕ → A
 join n x y k = if nat_lt k n then x k else y k
 
+-- the nth iterate of a map of tests
 abbrev pub turns : ℕ → ((ℕ → Bool) → ℕ → Bool) → (ℕ → Bool) → ℕ → Bool
 turns zero next from = from
 turns (suc n) next from = next (turns n next from)
@@ -67,15 +68,19 @@ nothing b s = false
 
 -- ---- environments
 
+-- at the number itself
 pub put_here : {A : Type 0} (e : ℕ → A) (b : ℕ) (x : A) (k : ℕ) → k ≡ b → put e b x k ≡ x
 put_here e b x k h = if_true (k == b) x (e k) (same_true k b h)
 
+-- at all others
 pub put_other : {A : Type 0} (e : ℕ → A) (b : ℕ) (x : A) (k : ℕ) → (k ≡ b → ⊥) → put e b x k ≡ e k
 put_other e b x k h = if_false (k == b) x (e k) (other_false k b h)
 
+-- below the bound
 pub join_left : {A : Type 0} (n : ℕ) (x y : ℕ → A) (k : ℕ) → k < n → join n x y k ≡ x k
 join_left n x y k h = if_true (nat_lt k n) (x k) (y k) (below_true k n h)
 
+-- from the bound on
 pub join_right : {A : Type 0} (n : ℕ) (x y : ℕ → A) (k : ℕ) → n ≤ k → join n x y k ≡ y k
 join_right n x y k h = if_false (nat_lt k n) (x k) (y k) (above_false k n h)
 
@@ -86,10 +91,12 @@ abbrev pub Joined : Bool → Type 0 → Type 0 → Type 0
 Joined true A B = A ⊎ B
 Joined false A B = A × B
 
+-- operand by operand
 pub joined_map : (flag : Bool) {A B C D : Type 0} → (A → C) → (B → D) → Joined flag A B → Joined flag C D
 joined_map true p q h = elim h [ inl a ↦ inl (p a) | inr b ↦ inr (q b) ]
 joined_map false p q h = (p h.0, q h.1)
 
+-- a junction holds as its flag says
 pub junction_is : (flag b c : Bool) → (junction flag b c ≡ true) ↔ Joined flag (b ≡ true) (c ≡ true)
 junction_is true b c = (either b c, λ h. elim h [ inl e ↦ or_left b c e | inr e ↦ or_right b c e ])
 junction_is false b c = (both b c, λ h. and_true b c h.0 h.1)
@@ -107,6 +114,7 @@ abbrev pub Reached : Bool → (ℕ → Type 0) → (ℕ → Type 0) → Type 0
 Reached true T P = (t : ℕ) × T t × P t
 Reached false T P = (t : ℕ) → T t → P t
 
+-- state by state
 pub reached_map : (flag : Bool) (T P Q : ℕ → Type 0) → ((t : ℕ) → T t → P t → Q t) → Reached flag T P → Reached flag T Q
 reached_map true T P Q h w = (w.0, w.1, h w.0 w.1 w.2)
 reached_map false T P Q h w = λ t k. h t k (w t k)

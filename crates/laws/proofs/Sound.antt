@@ -40,6 +40,7 @@ module _ (l : System) (nodes : List Node) (table : List Measure) (is : IsProgres
   abbrev prio : ℕ → ℕ
   prio = priority_in nodes
 
+  -- the value of a state with a node
   abbrev pub val : ℕ → ℕ → Measure
   val s k = value_at table (place n s k)
 
@@ -76,6 +77,7 @@ module _ (l : System) (nodes : List Node) (table : List Measure) (is : IsProgres
   plain : (at u s : ℕ) → prio at ≡ 0 → IsOver false 0 (place n s at) s at → Reaches game (prio at) (value_at table u) (val s at) → IsOver false 0 u s at
   plain at u s e fin h = reaches_over_at game false 0 (value_at table u) (val s at) refl fin (subst (λ p. Reaches game p (value_at table u) (val s at)) e h)
 
+  -- the value descends at a part
   abbrev pub Down : ℕ → Norm → Type 0
   Down = IsDown l prio Measure (comparison game) val
 
@@ -115,9 +117,11 @@ module _ (l : System) (nodes : List Node) (table : List Measure) (is : IsProgres
       reaches_over_at game flag (prio at) (val s (at + 1)) (val s at) fits.0 fin (one_edge at (shape_at at (Fixpoint flag f)) there s lt (place n s (at + 1)) refl refl)
   part_down at (Variable b) there fits = λ s lt fin. plain at (place n s b) s fits fin (one_edge at (shape_at at (Variable b)) there s lt (place n s b) refl refl)
 
+  -- the values of a progress table descend at each part
   pub down : (f : Norm) → IsNodes f nodes → IsEach Down 0 f
   down f ok = each_both (IsPlaced nodes) (IsFitting prio) Down 0 f part_down (placed f nodes ok) ok.admissible
 
+-- where they descend, a state whose value is finite belongs to the set of the node
 pub tables_are_sound : TablesAreSound
 tables_are_sound l f nodes table ok are is s k lt within not_top =
     let count = count_nodes f nodes are in

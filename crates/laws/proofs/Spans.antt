@@ -32,6 +32,7 @@ module _ (look : ℕ → Shape) (prio : ℕ → ℕ) where
     ];
   }
 
+  -- each node of the tree has a span
   pub held : (at : ℕ) (f : Norm) → IsLaid look at f → IsEach (IsFitting prio) at f → (c : ℕ) → IsWithin at f c → IsHeld look prio c
   held at f laid fits = each_at (λ k g. IsHeld look prio k) (IsHeld look prio) (λ k g h. h) at f
       (each_both (IsLaid look) (IsFitting prio) (λ k g. IsHeld look prio k) at f part_held (each_each (λ k g. look k ≡ shape_at k g) at f laid) fits)

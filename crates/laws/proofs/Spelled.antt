@@ -41,6 +41,7 @@ names_test b c =
 abbrev pub IsLikeSet : ℕ → (ℕ → Type 0) → (ℕ → Bool) → Type 0
 IsLikeSet n U u = (s : ℕ) → s < n → U s ↔ (u s ≡ true)
 
+-- the same for each binder
 abbrev pub AreLike : ℕ → Env → Sets → Type 0
 AreLike n E e = (b : ℕ) → IsLikeSet n (E (binder_name b)) (e b)
 
@@ -54,6 +55,7 @@ iterate_like : (n i : ℕ) (F : (ℕ → Type 0) → ℕ → Type 0) (G : (ℕ �
 iterate_like n zero F G P p step h = h
 iterate_like n (suc i) F G P p step h = step (iterate i F P) (turns i G p) (iterate_like n i F G P p step h)
 
+-- where no variable stands for a set
 pub nothing_like : (n : ℕ) → AreLike n no_sets nothing
 nothing_like n b s h = (λ x. absurd x, λ x. true≢false (sym x))
 

@@ -28,9 +28,11 @@ leads_inside l ok (Plus r) s t h (m, states, first, path) = path_inside (Leads l
 abbrev arrow_test : Action → ℕ → ℕ → Arrow → Bool
 arrow_test a s t arrow = arrow.source == s && arrow.target == t && holds a arrow.label
 
+-- targets are states
 pub target_below : (l : System) (a : Action) (s t : ℕ) → Contains (targets l a s) t → t < l.states
 target_below l a s t h = let i = range_gives 0 l.states t (filter_gives (is_step l a s) (range_with_len 0 l.states) t h).0 in omega arith
 
+-- the step leads to each target
 pub target_leads : (l : System) (a : Action) (s t : ℕ) → Contains (targets l a s) t → Leads l (Step a) s t
 target_leads l a s t h =
     let w = any_gives (arrow_test a s t) l.arrows (filter_gives (is_step l a s) (range_with_len 0 l.states) t h).1 in
@@ -39,6 +41,7 @@ target_leads l a s t h =
     let e : w.0 ≡ record { source = s; label = w.0.label; target = t } = λ i. record { source = (eqb-true w.0.source s u.0) i; label = w.0.label; target = (eqb-true w.0.target t u.1) i } in
     (w.0.label, subst (λ (y : Arrow). Contains l.arrows y) e w.1, v.1)
 
+-- where the step leads is a target
 pub leads_target : (l : System) → IsSystem l → (a : Action) (s t : ℕ) → s < l.states → Leads l (Step a) s t → Contains (targets l a s) t
 leads_target l ok a s t lt x =
     let below = leads_inside l ok (Step a) s t lt x in

@@ -6,6 +6,7 @@ use Rattle.laws.specs.Admissible.{IsEach, IsFree}
 use Rattle.laws.proofs.Flags.{same_or_not, below_or_not}
 use Rattle.laws.proofs.Lists.{get_right}
 
+-- a tree has a node
 pub size_some : (f : Norm) → 1 ≤ size f
 size_some (Constant flag) = omega arith
 size_some (Junction flag f g) = omega arith
@@ -18,14 +19,7 @@ pub record IsWithin (at : ℕ) (f : Norm) (k : ℕ) : Type 0 where
   pub from : at ≤ k
   pub to : k < at + size f
 
--- what holds of each part holds of the tree
-pub each_root : (P : ℕ → Norm → Type 0) (at : ℕ) (f : Norm) → IsEach P at f → P at f
-each_root P at (Constant flag) h = h
-each_root P at (Junction flag f g) h = h.0
-each_root P at (Modality flag a f) h = h.0
-each_root P at (Fixpoint flag f) h = h.0
-each_root P at (Variable b) h = h
-
+-- part by part
 pub each_map : (P Q : ℕ → Norm → Type 0) (at : ℕ) (f : Norm) → ((k : ℕ) (g : Norm) → P k g → Q k g) → IsEach P at f → IsEach Q at f
 each_map P Q at (Constant flag) step h = step at (Constant flag) h
 each_map P Q at (Junction flag f g) step h = (step at (Junction flag f g) h.0, each_map P Q (at + 1) f step h.1, each_map P Q (at + 1 + size f) g step h.2)
@@ -33,6 +27,7 @@ each_map P Q at (Modality flag a f) step h = (step at (Modality flag a f) h.0, e
 each_map P Q at (Fixpoint flag f) step h = (step at (Fixpoint flag f) h.0, each_map P Q (at + 1) f step h.1)
 each_map P Q at (Variable b) step h = step at (Variable b) h
 
+-- part by part from two facts
 pub each_both : (P Q R : ℕ → Norm → Type 0) (at : ℕ) (f : Norm) → ((k : ℕ) (g : Norm) → P k g → Q k g → R k g) → IsEach P at f → IsEach Q at f → IsEach R at f
 each_both P Q R at (Constant flag) step h i = step at (Constant flag) h i
 each_both P Q R at (Junction flag f g) step h i =
@@ -79,6 +74,7 @@ Binds P at (Modality flag a f) = Binds P (at + 1) f
 Binds P at (Fixpoint flag f) = Binds (λ b. (b ≡ at) ⊎ P b) (at + 1) f
 Binds P at (Variable b) = P b
 
+-- of each free variable
 pub to_free : (P : ℕ → Type 0) (at : ℕ) (f : Norm) → Binds P at f → (b : ℕ) → IsFree b at f → P b
 to_free P at (Constant flag) x b h = absurd h
 to_free P at (Junction flag f g) x b (inl h) = to_free P (at + 1) f x.0 b h
@@ -87,6 +83,7 @@ to_free P at (Modality flag a f) x b h = to_free P (at + 1) f x b h
 to_free P at (Fixpoint flag f) x b h = elim (to_free (λ c. (c ≡ at) ⊎ P c) (at + 1) f x b h.1) [ inl e ↦ absurd (h.0 e) | inr p ↦ p ]
 to_free P at (Variable c) x b h = subst P h x
 
+-- from each free variable
 pub from_free : (P : ℕ → Type 0) (at : ℕ) (f : Norm) → ((b : ℕ) → IsFree b at f → P b) → Binds P at f
 from_free P at (Constant flag) x = tt
 from_free P at (Junction flag f g) x = (from_free P (at + 1) f (λ b h. x b (inl h)), from_free P (at + 1 + size f) g (λ b h. x b (inr h)))
@@ -94,11 +91,13 @@ from_free P at (Modality flag a f) x = from_free P (at + 1) f x
 from_free P at (Fixpoint flag f) x = from_free (λ c. (c ≡ at) ⊎ P c) (at + 1) f (λ b h. elim (same_or_not b at) [ inl e ↦ inl e | inr e ↦ inr (x b (e, h)) ])
 from_free P at (Variable c) x = x c refl
 
+-- a weaker condition
 pub binds_map : (P Q : ℕ → Type 0) (at : ℕ) (f : Norm) → ((b : ℕ) → P b → Q b) → Binds P at f → Binds Q at f
 binds_map P Q at f h x = from_free Q at f (λ b free. h b (to_free P at f x b free))
 
 -- ---- lists of the parts
 
+-- as many items as nodes
 pub length_preorder : {A : Type 0} (say : ℕ → Norm → A) (at : ℕ) (f : Norm) → length (preorder say at f) ≡ size f
 length_preorder say at (Constant flag) = refl
 length_preorder say at (Junction flag f g) =
@@ -113,6 +112,7 @@ map_append : {A B : Type 0} (h : A → B) (xs ys : List A) → map h (xs ++ ys) 
 map_append h [] ys = refl
 map_append h (x ∷ xs) ys = ap (λ zs. h x ∷ zs) (map_append h xs ys)
 
+-- a function of what is said
 pub map_preorder : {A B : Type 0} (h : A → B) (say : ℕ → Norm → A) (at : ℕ) (f : Norm) → map h (preorder say at f) ≡ preorder (λ k g. h (say k g)) at f
 map_preorder h say at (Constant flag) = refl
 map_preorder h say at (Junction flag f g) =
@@ -165,5 +165,6 @@ module _ {A : Type 0} (say : ℕ → Norm → A) (all : List A) where
       (first_said pre (say at (Fixpoint flag f)) (preorder say (at + 1) f ++ post) at e h, one_said at f (say at (Fixpoint flag f)) pre post e h (said_on (at + 1) f))
   said_on at (Variable b) pre post e h = first_said pre (say at (Variable b)) post at e h
 
+  -- what is said of a part stands at its number
   pub said : (f : Norm) → all ≡ preorder say 0 f → IsEach IsSaid 0 f
   said f e = said_on 0 f [] [] (e ∙ sym (append-nil (preorder say 0 f))) refl

@@ -16,6 +16,7 @@ use Rattle.laws.proofs.Moves.{IsLaid}
 
 -- ---- nodes by number
 
+-- the shape of a node, if there is one
 abbrev pub shape_or : Option Node → Shape
 shape_or None = ConstantNode true
 shape_or (Some node) = node.shape
@@ -39,13 +40,16 @@ known [] k node shape e d = cc
 known (n ∷ nodes) zero node shape e d = let q : n ≡ node = cc in let r : n.shape ≡ shape = ap (λ (x : Node). x.shape) q ∙ d in λ i. Some (record { shape = r i; priority = n.priority })
 known (n ∷ nodes) (suc k) node shape e d = known nodes k node shape e d
 
+-- each part's node stands at its number
 pub placed : (f : Norm) (nodes : List Node) → IsNodes f nodes → IsEach (IsPlaced nodes) 0 f
 placed f nodes is = each_map (IsSaid shape_at (shapes_of nodes)) (IsPlaced nodes) 0 f
     (λ k g e. let w = map_get (λ (node : Node). node.shape) nodes k (shape_at k g) e in known nodes k w.0 (shape_at k g) w.1 w.2) (said shape_at (shapes_of nodes) f is.shapes)
 
+-- with its shape
 pub laid : (f : Norm) (nodes : List Node) → IsNodes f nodes → IsLaid (shape_in nodes) 0 f
 laid f nodes is = each_map (IsPlaced nodes) (λ k g. shape_in nodes k ≡ shape_at k g) 0 f (λ k g e. ap shape_or e) (placed f nodes is)
 
+-- as many nodes as the tree has
 pub count_nodes : (f : Norm) (nodes : List Node) → IsNodes f nodes → length nodes ≡ size f
 count_nodes f nodes is = sym (length-map nodes (λ (node : Node). node.shape)) ∙ (ap length is.shapes ∙ length_preorder shape_at 0 f)
 
@@ -70,6 +74,7 @@ past_two x y xs zero k e = absurd (omega arith)
 past_two x y xs (suc zero) k e = absurd (omega arith)
 past_two x y xs (suc (suc j)) k e = let h : j ≡ k = omega arith in ap (slice_get xs) h
 
+-- the vertex of a state with a node
 pub vertex_is : (l : System) (nodes : List Node) (s k : ℕ) (node : Node) → s < l.states → slice_get nodes k ≡ Some node → vertex (arena l nodes) (place (length nodes) s k) ≡ Some (vertex_of l (length nodes) s node)
 vertex_is l nodes s k node h e =
     past_two (record { owner = Even; priority = 0; successors = 0 ∷ [] }) (record { owner = Even; priority = 1; successors = 1 ∷ [] }) (rows l nodes (range_with_len 0 l.states)) (place (length nodes) s k) (s * length nodes + k) refl

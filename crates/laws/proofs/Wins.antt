@@ -27,9 +27,11 @@ use Rattle.laws.proofs.Vertices.{shape_in, node_in, laid, count_nodes, vertex_is
 use Rattle.laws.proofs.Edges.{to_vertex, own_of, IsLed, led}
 use Rattle.laws.proofs.Spelled.{node_within, sets_mean}
 
+-- the state of a vertex
 abbrev pub st : ℕ → ℕ → ℕ
 st n u = (u - 2) / n
 
+-- the node of a vertex
 abbrev pub nd : ℕ → ℕ → ℕ
 nd n u = (u - 2) % n
 
