@@ -1,0 +1,2 @@
+pub mod RegularUnique
+pub mod Unambiguous
