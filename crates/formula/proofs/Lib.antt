@@ -1,2 +1,3 @@
 pub mod RegularUnique
 pub mod Unambiguous
+pub mod Pieces

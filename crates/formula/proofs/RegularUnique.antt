@@ -2,7 +2,6 @@
 use Rattle.std.proofs.Common.{◌≡◌, ℕ, zero, suc, ◌+◌, ◌<◌, ◌≤◌, ◌⊎◌, Bool, true, false, not, ◌&&◌, cond, List, [], ◌∷◌, ◌++◌, Option, Some, None, option_map, refl, sym, ap, ◌∙◌, subst, arith, append_assoc, inl, inr}
 use Rattle.std.specs.Prelude.{nat_le, nat_lt, ◌==◌, if◌then◌else◌}
 use Rattle.std.proofs.lemmas.Bool.{leb-true, ltb-true, lt-ltb, ne_eqb, eq-eqb, and_parts, true≢false, cases_eq}
-use Rattle.std.proofs.Math.Option.{some-injective}
 use Rattle.formula.specs.Token.{Token, Name, Reserved, Atom, TrueWord, FalseWord, MuWord, NuWord, TauWord, ImpliesSign, OrSign, AndSign, Bar, NotSign, Less, Greater, OpenBox, CloseBox, Open, Close, Dot, ChoiceSign, PlusSign, StarSign}
 use Rattle.formula.specs.Syntax.{RegSyntax, Anything', Nothing', Tau', Names', Quoted', Parens', Not', And', Or', Implies', Star', Plus', Then', Either', reg_form, reg_fits, reg_tokens, more_names}
 
@@ -289,16 +288,15 @@ finds (Either' r s) h =
 pub reg_found : (r : RegSyntax) (k n : ℕ) (m : List Token) → reg_fits r ≡ true → reg_form r ≤ k → reg_size r ≤ n → reg_stops k m ≡ true → reg_read n k (reg_tokens r ++ m) ≡ Some (r, m)
 reg_found r k n m fit low size stop = inner r (finds r fit).0 k n m low size stop
 
-pub found_once : {A : Type 0} (a b : A) (m n : List Token) → Some (a, m) ≡ Some (b, n) → (a ≡ b) × (m ≡ n)
-found_once a b m n e =
-    let x : A × List Token = (a, m) in
-    let y : A × List Token = (b, n) in
-    let p = some-injective x y e in
-    (ap (λ (q : A × List Token). q.0) p, ap (λ (q : A × List Token). q.1) p)
+pub some_once : {A : Type 0} (x y : A) → Some x ≡ Some y → x ≡ y
+some_once x y e = cc
+
+pub found_once : {A : Type 0} (x y : A × List Token) → Some x ≡ Some y → (x.0 ≡ y.0) × (x.1 ≡ y.1)
+found_once x y e = let p = some_once x y e in (ap (λ q. q.0) p, ap (λ q. q.1) p)
 
 -- Two regular formulas of one form at the front of the same tokens, each followed by a token that cannot go on, are one.
 pub one_regular : (k : ℕ) (r s : RegSyntax) (m n : List Token) → reg_fits r ≡ true → reg_fits s ≡ true → reg_form r ≤ k → reg_form s ≤ k → reg_stops k m ≡ true → reg_stops k n ≡ true
     → reg_tokens r ++ m ≡ reg_tokens s ++ n → (r ≡ s) × (m ≡ n)
 one_regular k r s m n fr fs lr ls sm sn e =
     let size : ℕ = reg_size r + reg_size s in
-    found_once r s m n (sym (reg_found r k size m fr lr (omega arith) sm) ∙ (ap (reg_read size k) e ∙ reg_found s k size n fs ls (omega arith) sn))
+    found_once (r, m) (s, n) (sym (reg_found r k size m fr lr (omega arith) sm) ∙ (ap (reg_read size k) e ∙ reg_found s k size n fs ls (omega arith) sn))

@@ -234,7 +234,7 @@ pub one_tree : (k : ℕ) (f g : Syntax) (m n : List Token) → fits f ≡ true �
     → binder_stops (ends_in_binder f) m ≡ true → binder_stops (ends_in_binder g) n ≡ true → tokens f ++ m ≡ tokens g ++ n → (f ≡ g) × (m ≡ n)
 one_tree k f g m n ff fg lf lg sm sn bm bn e =
     let both : ℕ = size f + size g in
-    found_once f g m n (sym (inner f (reads f ff) k both m lf (omega arith) sm bm) ∙ (ap (read both k) e ∙ inner g (reads g fg) k both n lg (omega arith) sn bn))
+    found_once (f, m) (g, n) (sym (inner f (reads f ff) k both m lf (omega arith) sm bm) ∙ (ap (read both k) e ∙ inner g (reads g fg) k both n lg (omega arith) sn bn))
 
 -- Tokens have one tree at most.
 pub one_syntax : (f g : Syntax) → fits f ≡ true → fits g ≡ true → tokens f ≡ tokens g → f ≡ g
