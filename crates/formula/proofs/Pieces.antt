@@ -1,12 +1,12 @@
 -- A text is cut into tokens in one way: the first piece and what follows it are found again from the text.
-use Rattle.std.proofs.Common.{◌≡◌, ◌≢◌, ℕ, zero, suc, ◌+◌, ◌<◌, ◌≤◌, ◌⊎◌, Bool, true, false, not, ◌&&◌, ◌||◌, cond, List, [], ◌∷◌, ◌++◌, Option, Some, None, map, length, refl, sym, ap, ◌∙◌, subst, arith, append_assoc, append-nil, inl, inr}
-use Rattle.std.specs.Prelude.{nat_le, nat_lt, ◌==◌, if◌then◌else◌, codes}
+use Rattle.std.proofs.Common.{◌≡◌, ℕ, Bool, true, false, not, ◌&&◌, ◌||◌, List, [], ◌∷◌, ◌++◌, map, length, refl, sym, ap, ◌∙◌, subst, append_assoc, append-nil, inl, inr}
+use Rattle.std.specs.Prelude.{nat_le, ◌==◌, if◌then◌else◌, codes}
 use Rattle.std.specs.List.{list_all, list_any, AllByRecursion}
 use Rattle.std.specs.Str.{bytes_eq}
 use Rattle.std.proofs.lemmas.Bool.{eqb-true, and_parts, or_cases, not-true, and_from}
 use Rattle.std.proofs.lemmas.Slice.Eq.{bytes_eq-Decides}
 use Rattle.lts.specs.Text.{is_name, is_name_byte, is_letter, is_digit}
-use Rattle.lts.specs.Label.{is_label, is_label_byte}
+use Rattle.lts.specs.Label.{is_label_byte}
 use Rattle.formula.specs.Token.{Token, Name, Reserved, Atom, TrueWord, FalseWord, MuWord, NuWord, TauWord, ImpliesSign, OrSign, AndSign, Bar, NotSign, Less, Greater, OpenBox, CloseBox, Open, Close, Dot, ChoiceSign, PlusSign, StarSign, spelling, words, reserved_words, is_free_name, IsToken, Piece, Blank, Comment, Word, piece_text, IsPiece, begins, token_ends, piece_ends, text_of, Cuts, tokens_of, is_after_postfix, sign_is_decided, is_decided}
 
 -- the longest front whose bytes pass, and the rest
@@ -103,10 +103,10 @@ name_found (b ∷ bytes) m h k =
     let all : list_all is_name_byte (b ∷ bytes) ≡ true = and_from (is_name_byte b) (list_all is_name_byte bytes) (letter_goes_on b p.0) p.1 in
     let text : List ℕ = bytes ++ m in
     ap (λ c. if c then (Word (word_of (front is_name_byte (b ∷ text))), rest is_name_byte (b ∷ text))
-        else if b == 34 then (Word (Atom (front unquoted text)), after_one (rest unquoted text))
-        else if b == 37 then (Comment (front on_line text), rest on_line text)
-        else if b == 32 || b == 9 || b == 13 || b == 10 then (Blank b, text)
-        else sign_cut b text) p.0
+    else if b == 34 then (Word (Atom (front unquoted text)), after_one (rest unquoted text))
+    else if b == 37 then (Comment (front on_line text), rest on_line text)
+    else if b == 32 || b == 9 || b == 13 || b == 10 then (Blank b, text)
+    else sign_cut b text) p.0
     ∙ (λ i. (Word (word_of (front_is is_name_byte (b ∷ bytes) m all k i)), rest_is is_name_byte (b ∷ bytes) m all k i))
 
 either_true : (a b : Bool) (P : Type 0) → (a || b) ≡ true → (a ≡ true → P) → (b ≡ true → P) → P

@@ -1,8 +1,8 @@
 -- A regular formula's tree is found again from its tokens, so tokens have one tree at most.
-use Rattle.std.proofs.Common.{◌≡◌, ℕ, zero, suc, ◌+◌, ◌<◌, ◌≤◌, ◌⊎◌, Bool, true, false, not, ◌&&◌, cond, List, [], ◌∷◌, ◌++◌, Option, Some, None, option_map, refl, sym, ap, ◌∙◌, subst, arith, append_assoc, inl, inr}
+use Rattle.std.proofs.Common.{◌≡◌, ℕ, zero, suc, ◌+◌, ◌<◌, ◌≤◌, Bool, true, false, ◌&&◌, List, [], ◌∷◌, ◌++◌, Option, Some, None, option_map, refl, sym, ap, ◌∙◌, subst, arith, append_assoc, inl, inr}
 use Rattle.std.specs.Prelude.{nat_le, nat_lt, ◌==◌, if◌then◌else◌}
-use Rattle.std.proofs.lemmas.Bool.{leb-true, ltb-true, lt-ltb, ne_eqb, eq-eqb, and_parts, true≢false, cases_eq}
-use Rattle.formula.specs.Token.{Token, Name, Reserved, Atom, TrueWord, FalseWord, MuWord, NuWord, TauWord, ImpliesSign, OrSign, AndSign, Bar, NotSign, Less, Greater, OpenBox, CloseBox, Open, Close, Dot, ChoiceSign, PlusSign, StarSign}
+use Rattle.std.proofs.lemmas.Bool.{leb-true, ltb-true, lt-ltb, ne_eqb, eq-eqb, and_parts, cases_eq}
+use Rattle.formula.specs.Token.{Token, Name, Atom, TrueWord, FalseWord, TauWord, ImpliesSign, OrSign, AndSign, Bar, NotSign, Open, Close, Dot, ChoiceSign, PlusSign, StarSign}
 use Rattle.formula.specs.Syntax.{RegSyntax, Anything', Nothing', Tau', Names', Quoted', Parens', Not', And', Or', Implies', Star', Plus', Then', Either', reg_form, reg_fits, reg_tokens, more_names}
 
 -- the least form that can go on with this token
@@ -132,8 +132,8 @@ lifted read ts m r j (suc (suc k)) le e h =
     elim (cases_eq (suc j) (suc (suc k))) [
       | inl same ↦ subst (λ i. levels read i ts ≡ Some (r, m)) same e
       | inr other ↦
-        let below : levels read (suc k) ts ≡ Some (r, m) = lifted read ts m r j (suc k) (omega arith) e (stops_below (suc k) (suc (suc k)) m (omega arith) h) in
-        ap (after (suc (suc k)) read) below ∙ settled (suc (suc k)) read r m h
+          let below : levels read (suc k) ts ≡ Some (r, m) = lifted read ts m r j (suc k) (omega arith) e (stops_below (suc k) (suc (suc k)) m (omega arith) h) in
+          ap (after (suc (suc k)) read) below ∙ settled (suc (suc k)) read r m h
     ]
 
 -- the same of an atom or a negation

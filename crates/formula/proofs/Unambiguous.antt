@@ -1,10 +1,10 @@
 -- A formula's tree is found again from its tokens, so tokens have one tree at most.
-use Rattle.std.proofs.Common.{◌≡◌, ℕ, zero, suc, ◌+◌, ◌<◌, ◌≤◌, ◌⊎◌, Bool, true, false, not, ◌&&◌, cond, List, [], ◌∷◌, ◌++◌, Option, Some, None, option_map, refl, sym, ap, ◌∙◌, subst, arith, append_assoc, append-nil, inl, inr}
+use Rattle.std.proofs.Common.{◌≡◌, ℕ, zero, suc, ◌+◌, ◌≤◌, Bool, true, false, not, ◌&&◌, List, [], ◌∷◌, ◌++◌, Some, None, refl, sym, ap, ◌∙◌, subst, arith, append_assoc, append-nil, inl, inr}
 use Rattle.std.specs.Prelude.{nat_le, nat_lt, ◌==◌, if◌then◌else◌}
-use Rattle.std.proofs.lemmas.Bool.{leb-true, ltb-true, lt-ltb, ne_eqb, eq-eqb, and_parts, not-true, true≢false, cases_eq}
-use Rattle.formula.specs.Token.{Token, Name, Reserved, Atom, TrueWord, FalseWord, MuWord, NuWord, TauWord, ImpliesSign, OrSign, AndSign, Bar, NotSign, Less, Greater, OpenBox, CloseBox, Open, Close, Dot, ChoiceSign, PlusSign, StarSign}
-use Rattle.formula.specs.Syntax.{RegSyntax, reg_form, reg_fits, reg_tokens, Syntax, True', False', Var', Group', Neg', Both', OneOf', If', Dia', Box', Mu', Nu', form, ends_in_binder, left_fits, fits, tokens}
-use Rattle.formula.proofs.RegularUnique.{Found, RegReader, within, reg_level, reg_size, reg_read, reg_found, some_size, any_form, found_once}
+use Rattle.std.proofs.lemmas.Bool.{leb-true, ltb-true, lt-ltb, ne_eqb, eq-eqb, and_parts, not-true, cases_eq}
+use Rattle.formula.specs.Token.{Token, Name, TrueWord, FalseWord, MuWord, NuWord, ImpliesSign, OrSign, AndSign, NotSign, Less, Greater, OpenBox, CloseBox, Open, Close, Dot}
+use Rattle.formula.specs.Syntax.{RegSyntax, reg_fits, reg_tokens, Syntax, True', False', Var', Group', Neg', Both', OneOf', If', Dia', Box', Mu', Nu', form, ends_in_binder, left_fits, fits, tokens}
+use Rattle.formula.proofs.RegularUnique.{Found, RegReader, within, reg_level, reg_size, reg_read, reg_found, any_form, found_once}
 
 -- the least form that can go on with this token
 abbrev pub level : Token → ℕ
@@ -124,8 +124,8 @@ lifted regular read ts m f j (suc k) le e h =
     elim (cases_eq j (suc k)) [
       | inl same ↦ subst (λ i. levels regular read i ts ≡ Some (f, m)) same e
       | inr other ↦
-        let below : levels regular read k ts ≡ Some (f, m) = lifted regular read ts m f j k (omega arith) e (stops_below k (suc k) m (omega arith) h) in
-        ap (after (suc k) read) below ∙ settled (suc k) read f m h
+          let below : levels regular read k ts ≡ Some (f, m) = lifted regular read ts m f j k (omega arith) e (stops_below k (suc k) m (omega arith) h) in
+          ap (after (suc k) read) below ∙ settled (suc k) read f m h
     ]
 
 -- the tree is found, as each form that it has
