@@ -1,0 +1,4 @@
+pub mod RegularUnique
+pub mod Unambiguous
+pub mod Pieces
+pub mod OneText
