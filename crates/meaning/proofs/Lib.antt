@@ -1,0 +1,5 @@
+pub mod Marked
+pub mod Arrows
+pub mod Regulars
+pub mod Iterated
+pub mod Growth
