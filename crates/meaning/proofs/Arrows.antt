@@ -1,19 +1,16 @@
 -- The arrows so far, and all of them.
-use Rattle.std.proofs.Common.{◌≡◌, ℕ, zero, suc, ◌+◌, ◌<◌, ◌↔◌, Bool, true, false, ◌&&◌, ◌||◌, List, [], ◌∷◌, length, take, get_or, nat_eq, refl, subst, sym, ap, ◌∙◌, inl, inr, arith}
-use Rattle.std.specs.Prelude.{slice_index_or, slice_get, slice_set, IsTrue, Contains, Some}
+use Rattle.std.proofs.Common.{◌≡◌, ℕ, zero, suc, ◌+◌, ◌<◌, ◌↔◌, Bool, true, false, ◌&&◌, ◌||◌, List, [], ◌∷◌, length, map, nat_eq, refl, subst, sym, ap, ◌∙◌, inl, inr, arith}
+use Rattle.std.specs.Prelude.{slice_index_or, slice_set, IsTrue, Contains}
 use Rattle.std.specs.List.{list_any}
 use Rattle.std.proofs.lemmas.Bool.{eqb-true, eq-eqb}
 use Rattle.std.proofs.lemmas.Bool.Decides.{eqb_tells}
 use Rattle.std.proofs.lemmas.List.{get_or-set_other, get_or-set_same}
-use Rattle.std.proofs.lemmas.List.Folds.{list_any_more}
 use Rattle.std.proofs.Math.Bool.{or-false}
 use Rattle.lts.specs.System.{Arrow, System}
 use Rattle.formula.specs.Tree.{Action, Step}
 use Rattle.formula.specs.Holds.{holds}
 use Rattle.formula.specs.Meaning.{Leads, marked}
-
-abbrev pub at : List Bool → ℕ → Bool
-at ms s = slice_index_or ms s false
+use Rattle.meaning.proofs.Marked.{at}
 
 -- the arrow leads from s by the action into the set
 abbrev pub enters : Action → List Bool → ℕ → Arrow → Bool
@@ -47,12 +44,6 @@ or_true : (b : Bool) → (b || true) ≡ true
 or_true true = refl
 or_true false = refl
 
--- within the list it doesn't matter what stands past its end
-pub any_default : (ms : List Bool) (i : ℕ) (d e : Bool) → i < length ms → get_or ms i d ≡ get_or ms i e
-any_default [] i d e h = absurd (omega arith)
-any_default (m ∷ ms) zero d e h = refl
-any_default (m ∷ ms) (suc i) d e h = any_default ms i d e (omega arith)
-
 gives_any : (p : Arrow → Bool) (arrows : List Arrow) (a : Arrow) → Contains arrows a → p a ≡ true → list_any p arrows ≡ true
 gives_any p [] a (k, h, q) i = absurd (omega arith)
 gives_any p (x ∷ xs) a (zero, h, q) i = ap (λ b. b || list_any p xs) (ap p q ∙ i)
@@ -73,11 +64,7 @@ enters_leads l act marks s = (λ e. there (any_gives (enters act marks s) l.arro
         gives_any (enters act marks s) l.arrows (record { source = s; label = label; target = t }) arrow
         (ap (λ b. b && (holds act label && at marks t)) (eq-eqb s s refl) ∙ ap (λ b. b && at marks t) it ∙ m)
 
-got : (a : Arrow) (xs : List Arrow) (k : ℕ) → slice_get xs k ≡ Some a → get_or xs k a ≡ a
-got a [] k q = cc
-got a (x ∷ xs) zero q = cc
-got a (x ∷ xs) (suc k) q = got a xs k q
-
--- after one more arrow
-pub enters_more : (act : Action) (marks : List Bool) (s : ℕ) (arrows : List Arrow) (i : ℕ) (a : Arrow) → i < length arrows → slice_get arrows i ≡ Some a → list_any (enters act marks s) (take (i + 1) arrows) ≡ (list_any (enters act marks s) (take i arrows) || enters act marks s a)
-enters_more act marks s arrows i a h e = list_any_more (enters act marks s) arrows i a h ∙ ap (λ x. list_any (enters act marks s) (take i arrows) || enters act marks s x) (got a arrows i e)
+-- the test of a list whose elements are mapped
+pub any_of_map : {X Y : Type 0} (p : Y → Bool) (f : X → Y) (xs : List X) → list_any (λ x. p (f x)) xs ≡ list_any p (map f xs)
+any_of_map p f [] = refl
+any_of_map p f (x ∷ xs) = ap (λ b. p (f x) || b) (any_of_map p f xs)

@@ -1,4 +1,7 @@
+pub mod Each
+pub mod Behind
 pub mod Marked
+pub mod Mixed
 pub mod Arrows
 pub mod Regulars
 pub mod Iterated

@@ -1,10 +1,18 @@
 -- Marks of all states, of the others, of both and of either.
 use Rattle.std.proofs.Common.{◌≡◌, ℕ, zero, suc, ◌<◌, ◌⊎◌, ◌↔◌, Bool, true, false, not, ◌&&◌, ◌||◌, List, [], ◌∷◌, length, map, replicate, refl, subst, sym, ap, ◌∙◌, inl, inr, arith}
 use Rattle.std.specs.Prelude.{zip, slice_index_or, IsTrue}
+use mathlib.Core.Bool.{beq}
+use lib.Pointwise.{pointwise}
 use Rattle.formula.specs.Meaning.{Marks}
 
 abbrev pub at : List Bool → ℕ → Bool
 at ms s = slice_index_or ms s false
+
+-- within the list it doesn't matter what stands past its end
+pub any_default : (ms : List Bool) (i : ℕ) (d e : Bool) → i < length ms → slice_index_or ms i d ≡ slice_index_or ms i e
+any_default [] i d e h = absurd (omega arith)
+any_default (m ∷ ms) zero d e h = refl
+any_default (m ∷ ms) (suc i) d e h = any_default ms i d e (omega arith)
 
 at_all : (n : ℕ) (b : Bool) (s : ℕ) → s < n → at (replicate n b) s ≡ b
 at_all zero b s h = absurd (omega arith)
@@ -94,3 +102,13 @@ marks_implies n ms ns P Q m k =
     decide : (s : ℕ) → s < n → (P s → Q s) → (b : Bool) → at ms s ≡ b → (P s → ⊥) ⊎ Q s
     decide s h f true e = inr (f ((m.exact s h).0 e))
     decide s h f false e = inl (λ p. false_is_none (sym e ∙ (m.exact s h).1 p))
+
+-- equal as the program tells it
+pub equal_marks : (ms ns : List Bool) → pointwise beq ms ns ≡ true → ms ≡ ns
+equal_marks [] [] e = refl
+equal_marks [] (n ∷ ns) e = cc
+equal_marks (m ∷ ms) [] e = cc
+equal_marks (true ∷ ms) (true ∷ ns) e = ap (λ zs. true ∷ zs) (equal_marks ms ns e)
+equal_marks (true ∷ ms) (false ∷ ns) e = cc
+equal_marks (false ∷ ms) (true ∷ ns) e = cc
+equal_marks (false ∷ ms) (false ∷ ns) e = ap (λ zs. false ∷ zs) (equal_marks ms ns e)

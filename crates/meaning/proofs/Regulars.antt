@@ -2,13 +2,10 @@
 use Rattle.std.proofs.Common.{◌≡◌, ℕ, ◌<◌, ◌⊎◌, ◌↔◌, Bool, true, false, not, List, map, inl, inr, refl, sym, ap, ◌∙◌, arith}
 use Rattle.lts.specs.System.{System, IsSystem}
 use Rattle.formula.specs.Tree.{Regular, Then, Either, Star, Plus}
-use Rattle.formula.specs.Meaning.{Leads, marked, Marks}
+use Rattle.formula.specs.Meaning.{Leads, Marks}
+use Rattle.meaning.specs.Into.{Into}
 use Rattle.formula.proofs.Inside.{leads_inside}
 use Rattle.meaning.proofs.Marked.{at, at_not, false_is_none, marks_same, marks_not}
-
--- what leads by r into the set of marks
-abbrev pub Into : System → Regular → List Bool → ℕ → Type 0
-Into l r marks s = (t : ℕ) × Leads l r s t × marked marks t
 
 pub into_then : (l : System) → IsSystem l → (r q : Regular) (marks middle found : List Bool) → Marks l.states middle (Into l q marks) → Marks l.states found (Into l r middle) → Marks l.states found (Into l (Then r q) marks)
 into_then l ok r q marks middle found m f = marks_same l.states found (Into l r middle) (Into l (Then r q) marks) f (λ s h. (there s h, back s h))
