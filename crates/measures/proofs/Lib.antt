@@ -9,6 +9,9 @@ pub mod Distinct
 pub mod Rests
 pub mod Visits
 pub mod Components
+pub mod Carry
+pub mod Greatest
+pub mod Bests
 pub mod StrategyTable
 pub mod LeastDecides
 pub mod NotBoth

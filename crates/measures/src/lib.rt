@@ -1,4 +1,7 @@
 // Progress measures of parity games.
 #![tactic(auto)]
 
+mod bounds;
 pub mod law;
+pub mod measure;
+pub mod progs;
