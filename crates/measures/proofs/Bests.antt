@@ -35,7 +35,7 @@ vertex_tells {X = X} f g v y x at e = some_same (f x) y (ap (option_map f) (sym 
 pub prog_at_top : (g : Game) (v : ℕ) (m r : Measure) → v < length g.vertices → m ≡ Top → r ≡ Top → IsProgAt g v m r
 prog_at_top g v m r h e d = let x = vertex_here g v h in (x.0, x.1, subst (λ n. IsProg g x.0.priority n r) (sym e) (subst (IsProg g x.0.priority Top) (sym d) (top_prog g x.0.priority)))
 
-counts_back : (m : Measure) → m ≢ Top → Counts (counts_of m) ≡ m
+pub counts_back : (m : Measure) → m ≢ Top → Counts (counts_of m) ≡ m
 counts_back Top n = absurd (n refl)
 counts_back (Counts c) n = refl
 

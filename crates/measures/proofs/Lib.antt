@@ -12,6 +12,7 @@ pub mod Components
 pub mod Carry
 pub mod Greatest
 pub mod Bests
+pub mod Stored
 pub mod StrategyTable
 pub mod LeastDecides
 pub mod NotBoth

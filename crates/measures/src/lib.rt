@@ -5,3 +5,4 @@ mod bounds;
 pub mod law;
 pub mod measure;
 pub mod progs;
+mod rows;
