@@ -5,7 +5,8 @@ use Rattle.lts.specs.System.{System}
 use Rattle.normal.specs.Tree.{Shape, ConstantNode, JunctionNode, ModalityNode, FixpointNode, VariableNode}
 use Rattle.game.specs.declared.player.Player.TheVariants.{Even, Odd}
 use Rattle.game.specs.Arena.{targets, place, or_else, owner_of, successors_of}
-use Rattle.laws.proofs.Lists.{none_in, only_in, of_two, in_map, of_map}
+use Rattle.measures.proofs.Lists.{contains_none}
+use Rattle.laws.proofs.Lists.{only_in, of_two, in_map, of_map}
 use Rattle.laws.proofs.Moves.{IsNext, Moves, IsChoice}
 
 -- a list or else one vertex has some
@@ -20,7 +21,7 @@ of_or_else (x ∷ xs) v u h = inr h
 
 -- it has what the list has
 pub in_or_else : (xs : List ℕ) (v u : ℕ) → Contains xs u → Contains (or_else xs v) u
-in_or_else [] v u h = absurd (none_in u h)
+in_or_else [] v u h = absurd (contains_none u h)
 in_or_else (x ∷ xs) v u h = h
 
 -- the vertex that Even chooses at a vertex of this shape

@@ -1,50 +1,29 @@
 -- What lists have.
 use Rattle.std.proofs.Common.{◌≡◌, ℕ, zero, suc, ◌+◌, ◌<◌, ◌≤◌, ◌⊎◌, Bool, true, List, [], ◌∷◌, ◌++◌, length, map, refl, sym, ◌∙◌, ap, subst, inl, inr, arith}
 use Rattle.std.specs.Prelude.{Contains, Some, filter, slice_get}
-use Rattle.std.specs.List.{AllByRecursion, list_any, list_all, range_with_len}
+use Rattle.std.specs.List.{list_any, list_all, range_with_len}
+use Rattle.measures.proofs.Lists.{contains_cases, contains_first, contains_later, contains_none}
 use Rattle.laws.proofs.Flags.{cases, both, and_true, either, or_left, or_right}
-
--- the first
-pub here : {X : Type 0} (x : X) (xs : List X) → Contains (x ∷ xs) x
-here x xs = (0, omega arith, refl)
-
--- one of the others
-pub there : {X : Type 0} (y x : X) (xs : List X) → Contains xs x → Contains (y ∷ xs) x
-there y x xs (k, h, e) = (suc k, omega arith, e)
-
--- the empty list has none
-pub none_in : {X : Type 0} (x : X) → Contains [] x → ⊥
-none_in x (k, h, e) = omega arith
-
--- the first or one of the others
-pub in_cons : {X : Type 0} (y : X) (xs : List X) (x : X) → Contains (y ∷ xs) x → (y ≡ x) ⊎ Contains xs x
-in_cons y xs x (zero, h, e) = inl e
-in_cons y xs x (suc k, h, e) = inr (k, omega arith, e)
 
 -- what a list of one has
 pub only_in : {X : Type 0} (y x : X) → Contains (y ∷ []) x → x ≡ y
-only_in y x h = elim (in_cons y [] x h) [ inl e ↦ sym e | inr k ↦ absurd (none_in x k) ]
+only_in y x h = elim (contains_cases y x [] h) [ inl e ↦ sym e | inr k ↦ absurd (contains_none x k) ]
 
 -- what a list of two has
 pub of_two : {X : Type 0} (u v x : X) → Contains (u ∷ v ∷ []) x → (x ≡ u) ⊎ (x ≡ v)
-of_two u v x h = elim (in_cons u (v ∷ []) x h) [ inl e ↦ inl (sym e) | inr k ↦ inr (only_in v x k) ]
+of_two u v x h = elim (contains_cases u x (v ∷ []) h) [ inl e ↦ inl (sym e) | inr k ↦ inr (only_in v x k) ]
 
 -- what a mapped list has
 pub in_map : {X Y : Type 0} (f : X → Y) (xs : List X) (x : X) → Contains xs x → Contains (map f xs) (f x)
-in_map f [] x h = absurd (none_in x h)
+in_map f [] x h = absurd (contains_none x h)
 in_map f (a ∷ xs) x (zero, h, e) = (0, omega arith, ap f e)
-in_map f (a ∷ xs) x (suc k, h, e) = there (f a) (f x) (map f xs) (in_map f xs x (k, omega arith, e))
+in_map f (a ∷ xs) x (suc k, h, e) = contains_later (f a) (f x) (map f xs) (in_map f xs x (k, omega arith, e))
 
 -- where it comes from
 pub of_map : {X Y : Type 0} (f : X → Y) (xs : List X) (y : Y) → Contains (map f xs) y → (x : X) × Contains xs x × (f x ≡ y)
-of_map f [] y h = absurd (none_in y h)
-of_map f (a ∷ xs) y (zero, h, e) = (a, here a xs, e)
-of_map f (a ∷ xs) y (suc k, h, e) = let w = of_map f xs y (k, omega arith, e) in (w.0, there a w.0 xs w.1, w.2)
-
--- what all have, one has
-pub each_has : {X : Type 0} (P : X → Type 0) (xs : List X) → AllByRecursion P xs → (x : X) → Contains xs x → P x
-each_has P [] all x h = absurd (none_in x h)
-each_has P (y ∷ xs) all x h = elim (in_cons y xs x h) [ inl e ↦ subst P e all.0 | inr k ↦ each_has P xs all.1 x k ]
+of_map f [] y h = absurd (contains_none y h)
+of_map f (a ∷ xs) y (zero, h, e) = (a, contains_first a xs, e)
+of_map f (a ∷ xs) y (suc k, h, e) = let w = of_map f xs y (k, omega arith, e) in (w.0, contains_later a w.0 xs w.1, w.2)
 
 -- ---- tests of lists
 
@@ -52,60 +31,60 @@ each_has P (y ∷ xs) all x h = elim (in_cons y xs x h) [ inl e ↦ subst P e al
 pub any_gives : {X : Type 0} (p : X → Bool) (xs : List X) → list_any p xs ≡ true → (x : X) × Contains xs x × (p x ≡ true)
 any_gives p [] h = cc
 any_gives p (x ∷ xs) h = elim (either (p x) (list_any p xs) h) [
-  | inl e ↦ (x, here x xs, e)
-  | inr e ↦ (let w = any_gives p xs e in (w.0, there x w.0 xs w.1, w.2))
+  | inl e ↦ (x, contains_first x xs, e)
+  | inr e ↦ (let w = any_gives p xs e in (w.0, contains_later x w.0 xs w.1, w.2))
 ]
 
 -- where one passes some does
 pub gives_any : {X : Type 0} (p : X → Bool) (xs : List X) (x : X) → Contains xs x → p x ≡ true → list_any p xs ≡ true
-gives_any p [] x h k = absurd (none_in x h)
-gives_any p (y ∷ xs) x h k = elim (in_cons y xs x h) [
+gives_any p [] x h k = absurd (contains_none x h)
+gives_any p (y ∷ xs) x h k = elim (contains_cases y x xs h) [
   | inl e ↦ or_left (p y) (list_any p xs) (ap p e ∙ k)
   | inr m ↦ or_right (p y) (list_any p xs) (gives_any p xs x m k)
 ]
 
 -- all pass
 pub all_gives : {X : Type 0} (p : X → Bool) (xs : List X) (x : X) → list_all p xs ≡ true → Contains xs x → p x ≡ true
-all_gives p [] x all h = absurd (none_in x h)
+all_gives p [] x all h = absurd (contains_none x h)
 all_gives p (y ∷ xs) x all h =
     let w = both (p y) (list_all p xs) all in
-    elim (in_cons y xs x h) [ inl e ↦ ap p (sym e) ∙ w.0 | inr m ↦ all_gives p xs x w.1 m ]
+    elim (contains_cases y x xs h) [ inl e ↦ ap p (sym e) ∙ w.0 | inr m ↦ all_gives p xs x w.1 m ]
 
 -- where each passes all do
 pub gives_all : {X : Type 0} (p : X → Bool) (xs : List X) → ((x : X) → Contains xs x → p x ≡ true) → list_all p xs ≡ true
 gives_all p [] h = refl
-gives_all p (x ∷ xs) h = and_true (p x) (list_all p xs) (h x (here x xs)) (gives_all p xs (λ y k. h y (there x y xs k)))
+gives_all p (x ∷ xs) h = and_true (p x) (list_all p xs) (h x (contains_first x xs)) (gives_all p xs (λ y k. h y (contains_later x y xs k)))
 
 -- what a filtered list has
 pub filter_gives : (p : ℕ → Bool) (xs : List ℕ) (x : ℕ) → Contains (filter p xs) x → Contains xs x × (p x ≡ true)
-filter_gives p [] x h = absurd (none_in x h)
+filter_gives p [] x h = absurd (contains_none x h)
 filter_gives p (y ∷ xs) x h = elim (cases (p y)) [
-  | inl e ↦ elim (in_cons y (filter p xs) x (rw e at h)) [
-    | inl q ↦ (subst (λ z. Contains (y ∷ xs) z) q (here y xs), subst (λ z. p z ≡ true) q e)
-    | inr k ↦ (let w = filter_gives p xs x k in (there y x xs w.0, w.1))
+  | inl e ↦ elim (contains_cases y x (filter p xs) (rw e at h)) [
+    | inl q ↦ (subst (λ z. Contains (y ∷ xs) z) q (contains_first y xs), subst (λ z. p z ≡ true) q e)
+    | inr k ↦ (let w = filter_gives p xs x k in (contains_later y x xs w.0, w.1))
   ]
-  | inr e ↦ (let w = filter_gives p xs x (rw e at h) in (there y x xs w.0, w.1))
+  | inr e ↦ (let w = filter_gives p xs x (rw e at h) in (contains_later y x xs w.0, w.1))
 ]
 
 -- it has what passes
 pub gives_filter : (p : ℕ → Bool) (xs : List ℕ) (x : ℕ) → Contains xs x → p x ≡ true → Contains (filter p xs) x
-gives_filter p [] x h t = absurd (none_in x h)
+gives_filter p [] x h t = absurd (contains_none x h)
 gives_filter p (y ∷ xs) x (zero, h, e) t = let q : p y ≡ true = ap p e ∙ t in rw q (0, omega arith, e)
 gives_filter p (y ∷ xs) x (suc k, h, e) t =
     let w = gives_filter p xs x (k, omega arith, e) t in
-    elim (cases (p y)) [ inl q ↦ rw q (there y x (filter p xs) w) | inr q ↦ rw q w ]
+    elim (cases (p y)) [ inl q ↦ rw q (contains_later y x (filter p xs) w) | inr q ↦ rw q w ]
 
 -- what a range has
 pub range_gives : (a n x : ℕ) → Contains (range_with_len a n) x → x < a + n
-range_gives a zero x h = absurd (none_in x h)
-range_gives a (suc n) x h = elim (in_cons a (range_with_len (a + 1) n) x h) [ inl e ↦ omega arith | inr k ↦ omega (arith, range_gives (a + 1) n x k) ]
+range_gives a zero x h = absurd (contains_none x h)
+range_gives a (suc n) x h = elim (contains_cases a x (range_with_len (a + 1) n) h) [ inl e ↦ omega arith | inr k ↦ omega (arith, range_gives (a + 1) n x k) ]
 
 -- it has what is between
 pub gives_range : (a n x : ℕ) → a ≤ x → x < a + n → Contains (range_with_len a n) x
 gives_range a zero x h k = absurd (omega arith)
 gives_range a (suc n) x h k = elim (same_or_more a x h) [
-  | inl e ↦ subst (λ z. Contains (a ∷ range_with_len (a + 1) n) z) e (here a (range_with_len (a + 1) n))
-  | inr m ↦ there a x (range_with_len (a + 1) n) (gives_range (a + 1) n x m (omega arith))
+  | inl e ↦ subst (λ z. Contains (a ∷ range_with_len (a + 1) n) z) e (contains_first a (range_with_len (a + 1) n))
+  | inr m ↦ contains_later a x (range_with_len (a + 1) n) (gives_range (a + 1) n x m (omega arith))
 ]
   where
     same_or_more : (a x : ℕ) → a ≤ x → (a ≡ x) ⊎ (a + 1 ≤ x)

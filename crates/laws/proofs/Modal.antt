@@ -7,7 +7,8 @@ use Rattle.formula.specs.Meaning.{Leads, iterate}
 use Rattle.normal.specs.Tree.{Norm, Variable, size, two, loop_of, modal}
 use Rattle.game.specs.Arena.{targets}
 use Rattle.laws.proofs.Flags.{under, under_is, under_under, not_flag, same_test}
-use Rattle.laws.proofs.Targets.{leads_inside, target_leads, leads_target}
+use Rattle.formula.proofs.Inside.{leads_inside}
+use Rattle.laws.proofs.Targets.{target_leads, leads_target}
 use Rattle.laws.proofs.Sat.{put, turns, sat, from, put_here, put_other, junction_tells, modality_tells}
 use Rattle.laws.proofs.Fixpoints.{IsDecided, IsInside, low_inside, low_closed}
 

@@ -4,9 +4,10 @@ use Rattle.std.specs.Prelude.{Contains, if◌then◌else◌}
 use Rattle.lts.specs.System.{System}
 use Rattle.normal.specs.Tree.{Norm, Constant, Junction, Modality, Fixpoint, Variable, size, Shape, ConstantNode, JunctionNode, ModalityNode, FixpointNode, VariableNode, shape_at}
 use Rattle.game.specs.Arena.{targets}
+use Rattle.measures.proofs.Lists.{contains_first, contains_later}
 use Rattle.laws.specs.Admissible.{IsEach}
 use Rattle.laws.proofs.Flags.{cases, both, same_or_not, below_or_not}
-use Rattle.laws.proofs.Lists.{here, there, all_gives}
+use Rattle.laws.proofs.Lists.{all_gives}
 use Rattle.laws.proofs.Targets.{target_below}
 use Rattle.laws.proofs.Sat.{Sets, put, join, junction, modality, sat, iterates, sets, put_here, put_other, join_left, join_right}
 use Rattle.laws.proofs.Settled.{least}
@@ -87,8 +88,8 @@ junction_kept false b c left right m h (inr e) taken = inr (e, (both b c h).1)
 pub first_found : (p : ℕ → Bool) (xs : List ℕ) → modality true p xs ≡ true → Contains xs (first p xs) × (p (first p xs) ≡ true)
 first_found p [] h = cc
 first_found p (x ∷ xs) h = elim (cases (p x)) [
-  | inl e ↦ rw e (here x xs, e)
-  | inr e ↦ let i = first_found p xs (rw e at h) in rw e (there x (first p xs) xs i.0, i.1)
+  | inl e ↦ rw e (contains_first x xs, e)
+  | inr e ↦ let i = first_found p xs (rw e at h) in rw e (contains_later x (first p xs) xs i.0, i.1)
 ]
 
 -- a move from a modality that holds leads to where its operand holds

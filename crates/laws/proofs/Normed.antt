@@ -9,7 +9,7 @@ use Rattle.formula.specs.Meaning.{Leads, Env, no_sets, with_set, mean}
 use Rattle.normal.specs.Tree.{size, two, modal, with_binder, norm, normal_form}
 use Rattle.laws.specs.Laws.{NormalFormMeans}
 use Rattle.laws.proofs.Flags.{both, not_flag, not_not, either_flag, opposite, same_test, both_of, all_of}
-use Rattle.laws.proofs.Targets.{leads_inside}
+use Rattle.formula.proofs.Inside.{leads_inside}
 use Rattle.laws.proofs.Sat.{put, sat, from, nothing, put_here, put_other}
 use Rattle.laws.proofs.Modal.{at_most_itself, Agree, Makes, two_tells, turns_are, modal_means}
 use Rattle.laws.proofs.Spelled.{nothing_like, meant}

@@ -5,8 +5,9 @@ use Rattle.std.specs.List.{list_any, list_all}
 use Rattle.lts.specs.System.{System}
 use Rattle.normal.specs.Tree.{Norm, Constant, Junction, Modality, Fixpoint, Variable, size}
 use Rattle.game.specs.Arena.{targets}
+use Rattle.measures.proofs.Lists.{contains_cases, contains_first, contains_later, contains_none}
 use Rattle.laws.proofs.Flags.{both, and_true, either, or_left, or_right, if_true, if_false, same_true, other_false, below_true, above_false}
-use Rattle.laws.proofs.Lists.{here, there, in_cons, none_in, any_gives, gives_any, all_gives, gives_all}
+use Rattle.laws.proofs.Lists.{any_gives, gives_any, all_gives, gives_all}
 
 -- a set of states for each number
 abbrev pub Sets : Type 0
@@ -126,13 +127,13 @@ modality_is false p ts = (λ h t k. all_gives p ts t h k, λ h. gives_all p ts h
 some_fails : (p : ℕ → Bool) (xs : List ℕ) → list_all p xs ≡ false → (x : ℕ) × Contains xs x × (p x ≡ false)
 some_fails p [] h = absurd (true≢false h)
 some_fails p (x ∷ xs) h = elim ((junction_tells false (p x) (list_all p xs)).0 h) [
-  | inl e ↦ (x, here x xs, e)
-  | inr k ↦ (let w = some_fails p xs k in (w.0, there x w.0 xs w.1, w.2))
+  | inl e ↦ (x, contains_first x xs, e)
+  | inr k ↦ (let w = some_fails p xs k in (w.0, contains_later x w.0 xs w.1, w.2))
 ]
 
 fails_some : (p : ℕ → Bool) (xs : List ℕ) (x : ℕ) → Contains xs x → p x ≡ false → list_all p xs ≡ false
-fails_some p [] x h k = absurd (none_in x h)
-fails_some p (y ∷ xs) x h k = elim (in_cons y xs x h) [
+fails_some p [] x h k = absurd (contains_none x h)
+fails_some p (y ∷ xs) x h k = elim (contains_cases y x xs h) [
   | inl e ↦ (junction_tells false (p y) (list_all p xs)).1 (inl (ap p e ∙ k))
   | inr m ↦ (junction_tells false (p y) (list_all p xs)).1 (inr (fails_some p xs x m k))
 ]

@@ -9,9 +9,10 @@ use Rattle.game.specs.Game.{Game}
 use Rattle.game.specs.Arena.{targets, place, owner_of, vertex_of, successors_of, arena}
 use Rattle.measures.specs.Measure.{Measure, Top, Counts, Reaches}
 use Rattle.measures.specs.Progress.{IsProgress, value_at}
+use Rattle.measures.proofs.Lists.{contains_first, contains_later}
 use Rattle.laws.specs.Admissible.{IsEach, IsFitting, IsNodes, priority_in}
 use Rattle.laws.specs.Laws.{TablesAreSound}
-use Rattle.laws.proofs.Lists.{here, there, only_in, of_two, in_map, of_map}
+use Rattle.laws.proofs.Lists.{only_in, of_two, in_map, of_map}
 use Rattle.laws.proofs.Sat.{nothing}
 use Rattle.laws.proofs.Trees.{each_both}
 use Rattle.laws.proofs.Descent.{IsDown, everywhere}
@@ -21,10 +22,10 @@ use Rattle.laws.proofs.Edges.{or_else_some, of_or_else, in_or_else}
 use Rattle.laws.proofs.Spelled.{sets_mean}
 
 first_of : {X : Type 0} (x y : X) → Contains (x ∷ y ∷ []) x
-first_of x y = here x (y ∷ [])
+first_of x y = contains_first x (y ∷ [])
 
 second_of : {X : Type 0} (x y : X) → Contains (x ∷ y ∷ []) y
-second_of x y = there x y (y ∷ []) (here y [])
+second_of x y = contains_later x y (y ∷ []) (contains_first y [])
 
 -- a list that begins
 some_of : {X : Type 0} (xs : List X) (x : X) (rest : List X) → xs ≡ x ∷ rest → 1 ≤ length xs
@@ -85,37 +86,37 @@ module _ (l : System) (nodes : List Node) (table : List Measure) (is : IsProgres
   not_lost at u s e h = lost (finite game false 0 (value_at table 1) (val s at) (subst (λ x. IsOver false 0 x s at) e h))
 
   part_down : (at : ℕ) (f : Norm) → IsPlaced nodes at f → IsFitting prio at f → Down at f
-  part_down at (Constant true) there fits = λ s lt fin. refl
-  part_down at (Constant false) there fits = λ s lt fin.
-      absurd (not_lost at 1 s refl (plain at 1 s fits fin (one_edge at (shape_at at (Constant false)) there s lt 1 refl refl)))
-  part_down at (Junction true f g) there fits = λ s lt fin.
-      let w = some_edge at (shape_at at (Junction true f g)) there s lt (omega arith) refl in
+  part_down at (Constant true) stands fits = λ s lt fin. refl
+  part_down at (Constant false) stands fits = λ s lt fin.
+      absurd (not_lost at 1 s refl (plain at 1 s fits fin (one_edge at (shape_at at (Constant false)) stands s lt 1 refl refl)))
+  part_down at (Junction true f g) stands fits = λ s lt fin.
+      let w = some_edge at (shape_at at (Junction true f g)) stands s lt (omega arith) refl in
       let h = plain at w.0 s fits fin w.2 in
       elim (of_two (place n s (at + 1)) (place n s (at + 1 + size f)) w.0 w.1) [
         | inl e ↦ inl (subst (λ u. IsOver false 0 u s at) e h)
         | inr e ↦ inr (subst (λ u. IsOver false 0 u s at) e h)
       ]
-  part_down at (Junction false f g) there fits = λ s lt fin.
+  part_down at (Junction false f g) stands fits = λ s lt fin.
       let left : ℕ = place n s (at + 1) in
       let right : ℕ = place n s (at + 1 + size f) in
-      let each = each_edge at (shape_at at (Junction false f g)) there s lt (omega arith) refl in
+      let each = each_edge at (shape_at at (Junction false f g)) stands s lt (omega arith) refl in
       (plain at left s fits fin (each left (first_of left right)), plain at right s fits fin (each right (second_of left right)))
-  part_down at (Modality true a f) there fits = λ s lt fin.
+  part_down at (Modality true a f) stands fits = λ s lt fin.
       let some = or_else_some (map (λ t. place n t (at + 1)) (targets l a s)) 1 in
-      let w = some_edge at (shape_at at (Modality true a f)) there s lt (some_of (successors_of l n s (shape_at at (Modality true a f))) some.0 some.1 some.2) refl in
+      let w = some_edge at (shape_at at (Modality true a f)) stands s lt (some_of (successors_of l n s (shape_at at (Modality true a f))) some.0 some.1 some.2) refl in
       let h = plain at w.0 s fits fin w.2 in
       elim (of_or_else (map (λ t. place n t (at + 1)) (targets l a s)) 1 w.0 w.1) [
         | inl e ↦ absurd (not_lost at w.0 s e h)
         | inr k ↦ (let m = of_map (λ t. place n t (at + 1)) (targets l a s) w.0 k in (m.0, m.1, subst (λ u. IsOver false 0 u s at) (sym m.2) h))
       ]
-  part_down at (Modality false a f) there fits = λ s lt fin.
+  part_down at (Modality false a f) stands fits = λ s lt fin.
       let some = or_else_some (map (λ t. place n t (at + 1)) (targets l a s)) 0 in
-      let each = each_edge at (shape_at at (Modality false a f)) there s lt (some_of (successors_of l n s (shape_at at (Modality false a f))) some.0 some.1 some.2) refl in
+      let each = each_edge at (shape_at at (Modality false a f)) stands s lt (some_of (successors_of l n s (shape_at at (Modality false a f))) some.0 some.1 some.2) refl in
       λ t into. plain at (place n t (at + 1)) s fits fin
       (each (place n t (at + 1)) (in_or_else (map (λ t. place n t (at + 1)) (targets l a s)) 0 (place n t (at + 1)) (in_map (λ t. place n t (at + 1)) (targets l a s) t into)))
-  part_down at (Fixpoint flag f) there fits = λ s lt fin.
-      reaches_over_at game flag (prio at) (val s (at + 1)) (val s at) fits.0 fin (one_edge at (shape_at at (Fixpoint flag f)) there s lt (place n s (at + 1)) refl refl)
-  part_down at (Variable b) there fits = λ s lt fin. plain at (place n s b) s fits fin (one_edge at (shape_at at (Variable b)) there s lt (place n s b) refl refl)
+  part_down at (Fixpoint flag f) stands fits = λ s lt fin.
+      reaches_over_at game flag (prio at) (val s (at + 1)) (val s at) fits.0 fin (one_edge at (shape_at at (Fixpoint flag f)) stands s lt (place n s (at + 1)) refl refl)
+  part_down at (Variable b) stands fits = λ s lt fin. plain at (place n s b) s fits fin (one_edge at (shape_at at (Variable b)) stands s lt (place n s b) refl refl)
 
   -- the values of a progress table descend at each part
   pub down : (f : Norm) → IsNodes f nodes → IsEach Down 0 f

@@ -11,7 +11,8 @@ use Rattle.normal.specs.Tree.{Norm, Constant, Junction, Modality, Fixpoint, Vari
 use Rattle.game.specs.Arena.{targets}
 use Rattle.laws.specs.NodeMeaning.{tree_mean, node_mean}
 use Rattle.laws.proofs.Flags.{cases, same_or_not, below_or_not}
-use Rattle.laws.proofs.Targets.{leads_inside, target_below, target_leads, leads_target}
+use Rattle.formula.proofs.Inside.{leads_inside}
+use Rattle.laws.proofs.Targets.{target_below, target_leads, leads_target}
 use Rattle.laws.proofs.Sat.{Sets, put, turns, sat, body, from, sets, nothing, Joined, joined_map, junction_is, Reached, modality_is}
 use Rattle.laws.proofs.Trees.{IsWithin, size_some}
 use Rattle.laws.proofs.NodeSets.{set_at, at_set, root_true, true_root, left_sets, right_sets, one_sets}

@@ -1,29 +1,16 @@
 -- The targets of a step.
-use Rattle.std.proofs.Common.{◌≡◌, ℕ, ◌<◌, Bool, ◌&&◌, List, [], ◌∷◌, refl, subst, inl, inr, arith}
+use Rattle.std.proofs.Common.{◌≡◌, ℕ, ◌<◌, Bool, ◌&&◌, refl, subst, arith}
 use Rattle.std.specs.Prelude.{Contains, ◌==◌}
 use Rattle.std.specs.List.{range_with_len}
 use Rattle.std.proofs.lemmas.Bool.{eqb-true}
-use Rattle.lts.specs.Path.{IsPath}
-use Rattle.lts.specs.System.{Arrow, System, IsArrow, IsSystem}
-use Rattle.formula.specs.Tree.{Action, Regular, Step, Then, Either, Star, Plus}
+use Rattle.lts.specs.System.{Arrow, System, IsSystem}
+use Rattle.formula.specs.Tree.{Action, Step}
 use Rattle.formula.specs.Holds.{holds}
 use Rattle.formula.specs.Meaning.{Leads}
+use Rattle.formula.proofs.Inside.{leads_inside}
 use Rattle.game.specs.Arena.{is_step, targets}
 use Rattle.laws.proofs.Flags.{both, and_true, same_true}
-use Rattle.laws.proofs.Lists.{each_has, any_gives, gives_any, filter_gives, gives_filter, range_gives, gives_range}
-
-path_inside : (R : ℕ → ℕ → Type 0) (n : ℕ) → ((s t : ℕ) → s < n → R s t → t < n) → (s : ℕ) (states : List ℕ) (t : ℕ) → s < n → IsPath R s states t → t < n
-path_inside R n step s [] t h p = subst (λ x. x < n) p h
-path_inside R n step s (m ∷ states) t h p = path_inside R n step m states t (step s m h p.0) p.1
-
--- from a state one comes to states alone
-pub leads_inside : (l : System) → IsSystem l → (r : Regular) (s t : ℕ) → s < l.states → Leads l r s t → t < l.states
-leads_inside l ok (Step a) s t h (label, arrow, it) = (each_has (IsArrow l.states) l.arrows ok.arrows (record { source = s; label = label; target = t }) arrow).target
-leads_inside l ok (Then r q) s t h (m, first, second) = leads_inside l ok q m t (leads_inside l ok r s m h first) second
-leads_inside l ok (Either r q) s t h (inl one) = leads_inside l ok r s t h one
-leads_inside l ok (Either r q) s t h (inr one) = leads_inside l ok q s t h one
-leads_inside l ok (Star r) s t h (states, path) = path_inside (Leads l r) l.states (leads_inside l ok r) s states t h path
-leads_inside l ok (Plus r) s t h (m, states, first, path) = path_inside (Leads l r) l.states (leads_inside l ok r) m states t (leads_inside l ok r s m h first) path
+use Rattle.laws.proofs.Lists.{any_gives, gives_any, filter_gives, gives_filter, range_gives, gives_range}
 
 abbrev arrow_test : Action → ℕ → ℕ → Arrow → Bool
 arrow_test a s t arrow = arrow.source == s && arrow.target == t && holds a arrow.label
