@@ -2,5 +2,11 @@ pub mod RegularUnique
 pub mod Unambiguous
 pub mod Pieces
 pub mod OneText
+pub mod Counted
+pub mod Fixpoints
 pub mod Inside
+pub mod Entering
 pub mod Same
+pub mod Grown
+pub mod Decided
+pub mod Binders

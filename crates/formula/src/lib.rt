@@ -5,4 +5,5 @@ pub mod closed;
 pub mod error;
 pub mod label;
 pub mod law;
+pub mod meaning_law;
 pub mod tree;
