@@ -24,3 +24,4 @@ pub mod Descent
 pub mod Compared
 pub mod Sound
 pub mod Decided
+pub mod Inner
