@@ -6,3 +6,4 @@ pub mod Ascending
 pub mod Canonical
 pub mod CanonicalText
 pub mod Spellable
+pub mod Printing
