@@ -4,3 +4,8 @@ pub mod Pieces
 pub mod OneText
 pub mod Inside
 pub mod Same
+pub mod Ascending
+pub mod Canonical
+pub mod CanonicalText
+pub mod Spellable
+pub mod Printing
