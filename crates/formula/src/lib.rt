@@ -6,6 +6,7 @@ pub mod error;
 pub mod label;
 pub mod law;
 pub mod printer;
+pub mod meaning_law;
 pub mod tree;
 
 pub use label::holds;
