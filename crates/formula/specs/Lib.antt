@@ -9,3 +9,4 @@ pub mod Syntax
 pub mod Spells
 pub mod Fault
 pub mod Closed
+pub mod Laws

@@ -4,4 +4,5 @@
 pub mod closed;
 pub mod error;
 pub mod label;
+pub mod law;
 pub mod tree;
