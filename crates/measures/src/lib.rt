@@ -1,4 +1,9 @@
 // Progress measures of parity games.
 #![tactic(auto)]
 
+mod bounds;
 pub mod law;
+pub mod measure;
+pub mod progs;
+mod rows;
+pub mod table;
