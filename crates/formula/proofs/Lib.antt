@@ -7,6 +7,11 @@ pub mod Fixpoints
 pub mod Inside
 pub mod Entering
 pub mod Same
+pub mod Ascending
+pub mod Canonical
+pub mod CanonicalText
+pub mod Spellable
+pub mod Printing
 pub mod Grown
 pub mod Decided
 pub mod Binders

@@ -5,5 +5,9 @@ pub mod closed;
 pub mod error;
 pub mod label;
 pub mod law;
+pub mod printer;
 pub mod meaning_law;
 pub mod tree;
+
+pub use label::holds;
+pub use printer::print;

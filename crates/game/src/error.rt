@@ -15,6 +15,11 @@ pub enum BuildError {
 }
 
 impl From<AllocError> for BuildError {
+    ghost use Rattle.std.specs.Prelude.{◌≡◌};
+    ghost use Rattle.game.specs.declared.error.BuildError.TheVariants.{Memory};
+
+    ghost from_gives = { λ error result. result ≡ Memory };
+
     fn from(error: AllocError) -> Self {
         let _ = error;
         BuildError::Memory

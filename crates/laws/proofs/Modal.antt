@@ -76,7 +76,8 @@ module _ (l : System) (ok : IsSystem l) where
         λ h. i.1 (h.0, h.1, (second lo u F p makes lo (at_most_itself lo) u (λ b h. refl) h.0 (leads_inside l ok r s h.0 lt h.1)).1 h.2),
       )
 
-  either_means : (flag : Bool) (r q : Regular) → MeansBy l flag (modal flag r) (Reaches l flag r) → MeansBy l flag (modal flag q) (Reaches l flag q) → MeansBy l flag (modal flag (Either r q)) (Reaches l flag (Either r q))
+  either_means : (flag : Bool) (r q : Regular) → MeansBy l flag (modal flag r) (Reaches l flag r) → MeansBy l flag (modal flag q) (Reaches l flag q)
+      → MeansBy l flag (modal flag (Either r q)) (Reaches l flag (Either r q))
   either_means flag r q first second lo u F p makes at low v agree s lt =
       let i = two_tells l flag (modal flag r F) (modal flag q F) at v s in
       let j = first lo u F p makes (at + 1) (omega arith) v agree s lt in

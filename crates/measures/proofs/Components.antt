@@ -48,7 +48,7 @@ none_kept q (suc n) h = by (none_kept q n (omega arith)) (is_odd (suc n))
     by e false = e
 
 -- of the numbers up to n every other one is odd
-odd_down_long : (n : ℕ) → length (odd_down n) ≡ (n + 1) / 2
+pub odd_down_long : (n : ℕ) → length (odd_down n) ≡ (n + 1) / 2
 odd_down_long zero = refl
 odd_down_long (suc n) = by (odd_down_long n) (odd_or_even (suc n))
   where

@@ -13,6 +13,7 @@ pub mod Carry
 pub mod Greatest
 pub mod Bests
 pub mod Stored
+pub mod Plain
 pub mod StrategyTable
 pub mod LeastDecides
 pub mod NotBoth

@@ -1,6 +1,6 @@
 -- Measures that are stored in one list of counts.
-use Rattle.std.proofs.Common.{◌≡◌, ◌≢◌, ℕ, zero, suc, ◌+◌, ◌*◌, ◌<◌, ◌≤◌, Bool, true, false, List, [], ◌∷◌, ◌++◌, length, take, drop, refl, sym, ap, ap₂, subst, ◌∙◌, arith, slice_index_or, slice_set, mul-le-mul_right, length-append, append_assoc, length-take-le, length-drop}
-use Rattle.std.proofs.lemmas.List.{take-append-le, drop-append-le}
+use Rattle.std.proofs.Common.{◌≡◌, ◌≢◌, ℕ, zero, suc, ◌+◌, ◌*◌, ◌<◌, ◌≤◌, Bool, true, false, List, [], ◌∷◌, ◌++◌, length, take, drop, refl, sym, ap, ap₂, subst, ◌∙◌, arith, slice_index_or, slice_set, mul-le-mul_right, length-append, append_assoc, length-take-le, length-drop, replicate}
+use Rattle.std.proofs.lemmas.List.{length-replicate, replicate-append-replicate}
 use Rattle.std.proofs.Math.Seq.{take-add, take-append_seam, drop-append_seam}
 use Rattle.measures.specs.Measure.{Measure, Top, Counts}
 use Rattle.measures.specs.Progress.{value_at}
@@ -114,3 +114,15 @@ module _ (w : ℕ) (tops : List Bool) (cs : List ℕ) (now : Rows) (is : rows w 
     where
       has_width : (k : ℕ) (d : List ℕ) → HasWidth k (Counts d) → length d ≡ k
       has_width k d h = h
+
+-- nothing but zeros
+pub rows_zeros : (n w : ℕ) → rows_of w (replicate n false) (replicate (n * w) 0) ≡ replicate n (Counts (replicate w 0))
+rows_zeros zero w = refl
+rows_zeros (suc n) w =
+    let more : suc n * w ≡ w + n * w = omega arith in
+    let list : replicate (suc n * w) 0 ≡ replicate w 0 ++ replicate (n * w) 0 = ap (λ k. replicate {A = ℕ} k 0) more ∙ sym (replicate-append-replicate w (n * w) 0) in
+    let long : length (replicate {A = ℕ} w 0) ≡ w = length-replicate w 0 in
+    let front : take w (replicate w 0 ++ replicate (n * w) 0) ≡ replicate w 0 = ap (λ k. take k (replicate w 0 ++ replicate (n * w) 0)) (sym long) ∙ take-append_seam (replicate w 0) (replicate (n * w) 0) in
+    let rest : drop w (replicate w 0 ++ replicate (n * w) 0) ≡ replicate (n * w) 0 = ap (λ k. drop k (replicate w 0 ++ replicate (n * w) 0)) (sym long) ∙ drop-append_seam (replicate w 0) (replicate (n * w) 0) in
+    ap (λ xs. rows_of w (false ∷ replicate n false) xs) list
+    ∙ (ap₂ (λ xs ys. Counts xs ∷ rows_of w (replicate n false) ys) front rest ∙ ap (λ ms. Counts (replicate w 0) ∷ ms) (rows_zeros n w))

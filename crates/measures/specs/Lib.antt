@@ -4,3 +4,4 @@ pub mod Lifting
 pub mod Laws
 pub mod View
 pub mod Progs
+pub mod Tables

@@ -6,3 +6,4 @@ pub mod law;
 pub mod measure;
 pub mod progs;
 mod rows;
+pub mod table;

@@ -1,11 +1,12 @@
 // The measures of many vertices, in one list of counts.
 
-ghost use Rattle.std.specs.Prelude.{◌≡◌, ◌<◌, ◌≤◌, ◌+◌, ◌*◌, ◌++◌, drop, length, slice_set, take};
-ghost use Rattle.measures.specs.Measure.{Top, measure_cmp};
+ghost use Rattle.std.specs.Prelude.{◌≡◌, ◌<◌, ◌≤◌, ◌+◌, ◌*◌, ◌++◌, drop, length, replicate, slice_set, take, IfOk};
+ghost use Rattle.measures.specs.Measure.{Counts, measure_cmp};
 ghost use Rattle.measures.specs.Progress.{value_at};
 ghost use Rattle.measures.specs.View.{HasWidth, Rows, is_top_of, measure_of};
 
 use crate::measure::{COMPONENTS, Measure, compare};
+use game::graph::MOST_VERTICES;
 use std::alloc::{AllocError, Global};
 use std::cmp::Ordering;
 use std::marker::Model;
@@ -30,6 +31,20 @@ impl Model for Rows {
 }
 
 impl Rows {
+    /// So many measures whose counts are zero.
+    pub(crate) fn zeros(alloc: Global, length: usize, width: usize) -> Result<Self, AllocError>
+        requires vertices { length ≤ MOST_VERTICES }
+        requires width { width ≤ COMPONENTS }
+        ensures width { IfOk result (λ r. r.width ≡ width) }
+        ensures zeros { IfOk result (λ r. r.values ≡ replicate length (Counts (replicate width 0))) }
+    {
+        Ok(Rows {
+            width,
+            tops: vec![in alloc; false; length]?,
+            counts: vec![in alloc; 0; length * width]?,
+        })
+    }
+
     pub(crate) fn is_top(&self, v: usize) -> bool
         requires { v < length self.now.values }
         ensures { result ≡ is_top_of (value_at self.now.values v) }
@@ -44,6 +59,41 @@ impl Rows {
         ensures width { length result.now ≡ self.now.width }
     {
         row(self.counts.as_slice(), self.width, v)
+    }
+
+    /// A copy of a measure.
+    pub(crate) fn value(&self, v: usize) -> Measure
+        requires vertex { v < length self.now.values }
+        requires few { self.now.width ≤ COMPONENTS }
+        ensures { result ≡ value_at self.now.values v }
+    {
+        if self.is_top(v) {
+            Measure::top()
+        } else {
+            Measure::of_counts(self.counts(v))
+        }
+    }
+
+    /// Compares the measures of two places.
+    pub(crate) fn compare(&self, v: usize, u: usize) -> Ordering
+        requires first { v < length self.now.values }
+        requires second { u < length self.now.values }
+        ensures { result ≡ measure_cmp (value_at self.now.values v) (value_at self.now.values u) }
+    {
+        compare(
+            self.is_top(v),
+            self.counts(v),
+            self.is_top(u),
+            self.counts(u),
+        )
+    }
+
+    /// Compares the measure of a place with another.
+    pub(crate) fn compare_with(&self, v: usize, m: &Measure) -> Ordering
+        requires { v < length self.now.values }
+        ensures { result ≡ measure_cmp (value_at self.now.values v) m.now }
+    {
+        compare(self.is_top(v), self.counts(v), m.is_top(), m.counts())
     }
 
     /// Puts a measure in the place of another.

@@ -3,3 +3,7 @@ pub mod Nodes
 pub mod Form
 pub mod View
 pub mod Normal
+pub mod Part
+pub mod Writes
+pub mod Refused
+pub mod Laws

@@ -4,10 +4,8 @@ ghost use Rattle.std.specs.Prelude.{◌≡◌, ◌<◌, ◌≤◌, length, vec_l
 ghost use Rattle.normal.specs.Form.{AreNumbered, AreNumbered-prop, IsForm};
 ghost use Rattle.normal.specs.View.{node_of, nodes_of};
 
+use crate::count::MOST_NODES;
 use crate::node::Node;
-
-/// How many nodes a normal form has at most.
-pub const MOST_NODES: usize = 4096;
 
 /// The greatest priority that a node may have.
 pub const GREATEST_PRIORITY: u32 = 31;
@@ -24,6 +22,15 @@ pub struct Normal {
 
 impl Normal {
     ghost use Rattle.normal.specs.Normal.{normal_nodes, normal_depth};
+
+    // The normal form of these nodes.
+    pub(crate) fn of(nodes: Vec<Node>, depth: u32) -> Self
+        requires { IsForm (nodes_of nodes.items) }
+        ensures nodes { normal_nodes result ≡ nodes_of nodes.items }
+        ensures depth { normal_depth result ≡ depth }
+    {
+        Normal { nodes, depth }
+    }
 
     /// What holds of every normal form.
     pub fn known(&self)
