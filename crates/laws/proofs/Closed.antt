@@ -81,7 +81,8 @@ module _ (l : System) (look : ℕ → Shape) where
       ]
     where
       -- inside a mu the state's own iterate is closed, and the fixpoint has it; inside a nu the fixpoint is
-      inside : (flag : Bool) → IsLaid look at (Fixpoint flag f) → Binds P at (Fixpoint flag f) → IsWithin (at + 1) f k → sets l at (Fixpoint flag f) e k s ≡ true → Step l look (choose l at (Fixpoint flag f) e) s k t m
+      inside : (flag : Bool) → IsLaid look at (Fixpoint flag f) → Binds P at (Fixpoint flag f) → IsWithin (at + 1) f k → sets l at (Fixpoint flag f) e k s ≡ true
+          → Step l look (choose l at (Fixpoint flag f) e) s k t m
           → ((d : Sets) → sets l (at + 1) f d k s ≡ true → Step l look (choose l (at + 1) f d) s k t m → sets l (at + 1) f d m t ≡ true) → sets l at (Fixpoint flag f) e m t ≡ true
       inside true laid binds v x y body_closed =
           let r : ℕ = rank l at f e k s in
@@ -108,7 +109,8 @@ module _ (l : System) (look : ℕ → Shape) where
   one_of_two true x y = inl refl
   one_of_two false x y = inr refl
 
-  chosen_target : (flag : Bool) (at : ℕ) (a : Action) (f : Norm) (e : Sets) (s : ℕ) → sat l at (Modality flag a f) e s ≡ true → IsChoice l (ModalityNode flag a (at + 1)) (first (sat l (at + 1) f e) (targets l a s)) s
+  chosen_target : (flag : Bool) (at : ℕ) (a : Action) (f : Norm) (e : Sets) (s : ℕ) → sat l at (Modality flag a f) e s ≡ true
+      → IsChoice l (ModalityNode flag a (at + 1)) (first (sat l (at + 1) f e) (targets l a s)) s
   chosen_target true at a f e s x = (first_found (sat l (at + 1) f e) (targets l a s) x).0
   chosen_target false at a f e s x = tt
 

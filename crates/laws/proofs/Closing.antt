@@ -46,7 +46,8 @@ binds_modal flag (Plus r) P f x at = binds_modal flag r P (loop_of flag (modal f
 abbrev Names : (ℕ → Type 0) → (List ℕ → ℕ) → Scope → Type 0
 Names P binders scope = (name : List ℕ) → IsIn name scope → P (binders name)
 
-inner_names : (P : ℕ → Type 0) (binders : List ℕ → ℕ) (scope : Scope) (name : List ℕ) (at : ℕ) → Names P binders scope → Names (λ b. (b ≡ at) ⊎ P b) (with_binder binders name at) ((name, true) ∷ scope)
+inner_names : (P : ℕ → Type 0) (binders : List ℕ → ℕ) (scope : Scope) (name : List ℕ) (at : ℕ) → Names P binders scope
+    → Names (λ b. (b ≡ at) ⊎ P b) (with_binder binders name at) ((name, true) ∷ scope)
 unfolding IsIn
 inner_names P binders scope name at x other (inl e) = inl (if_true (bytes_eq other name) at (binders other) e)
 inner_names P binders scope name at x other (inr i) = elim (cases (bytes_eq other name)) [
@@ -54,7 +55,8 @@ inner_names P binders scope name at x other (inr i) = elim (cases (bytes_eq othe
   | inr e ↦ inr (subst P (sym (if_false (bytes_eq other name) at (binders other) e)) (x other i))
 ]
 
-binds_norm : (f : Formula) (flag : Bool) (P : ℕ → Type 0) (binders : List ℕ → ℕ) (scope : Scope) → Names P binders scope → is_admitted_in scope f ≡ true → (at : ℕ) → Binds P at (norm flag binders f at)
+binds_norm : (f : Formula) (flag : Bool) (P : ℕ → Type 0) (binders : List ℕ → ℕ) (scope : Scope) → Names P binders scope → is_admitted_in scope f ≡ true → (at : ℕ)
+    → Binds P at (norm flag binders f at)
 binds_norm True flag P binders scope x h at = tt
 binds_norm False flag P binders scope x h at = tt
 binds_norm (Var name) flag P binders scope x h at = x name (stands_in name scope h)

@@ -62,7 +62,8 @@ module _ (l : System) (look : ℕ → Shape) (prio : ℕ → ℕ) (st nd : ℕ �
   rank_at at f e v = rank l at f e (nd v) (st v)
 
   module _ (P : ℕ → Type 0) (at : ℕ) (f : Norm) (e : Sets) (laid : IsLaid look at (Fixpoint true f)) (binds : Binds P at (Fixpoint true f)) (lower : (b : ℕ) → P b → b < at) where
-    found_at : (v : ℕ) → sets l at (Fixpoint true f) e (nd v) (st v) ≡ true → (sets l (at + 1) f (put e at (iterates true l at f e (rank_at at f e v))) (nd v) (st v) ≡ true) × (rank_at at f e v ≤ l.states)
+    found_at : (v : ℕ) → sets l at (Fixpoint true f) e (nd v) (st v) ≡ true
+        → (sets l (at + 1) f (put e at (iterates true l at f e (rank_at at f e v))) (nd v) (st v) ≡ true) × (rank_at at f e v ≤ l.states)
     found_at v x = rank_found l at f e (nd v) (st v) l.states (omega arith) x
 
     deeper : (b : ℕ) → (b ≡ at) ⊎ P b → b < at + 1
@@ -107,7 +108,8 @@ module _ (l : System) (look : ℕ → Shape) (prio : ℕ → ℕ) (st nd : ℕ �
     level_not r v w x i = let a = mu_root v w i x.0 in omega (arith, x.1, x.2)
 
     -- A cycle is one of the body's, at one iterate.
-    pub mu_level : (u m : ℕ) (vs : List ℕ) → IsPath (IsMove at (Fixpoint true f) e) u (m ∷ vs) u → IsPath (IsMove (at + 1) f (put e at (iterates true l at f e (rank_at at f e u)))) u (m ∷ vs) u
+    pub mu_level : (u m : ℕ) (vs : List ℕ) → IsPath (IsMove at (Fixpoint true f) e) u (m ∷ vs) u
+        → IsPath (IsMove (at + 1) f (put e at (iterates true l at f e (rank_at at f e u)))) u (m ∷ vs) u
     mu_level u m vs p =
         let r : ℕ = rank_at at f e u in
         let a = level (rank_at at f e) (IsMove at (Fixpoint true f) e) mu_falls u u (m ∷ vs) (omega arith) p in

@@ -49,7 +49,8 @@ least_table_decides l f ns table ok are least s k lt within = (
 )
 
 -- the meaning of the root is the formula's
-root_satisfies : (l : System) (f : Formula) (ns : List Node) → IsSystem l → IsAdmitted f → IsNodes (normal_form f) ns → (s : ℕ) → s < l.states → node_mean l 0 (normal_form f) no_sets 0 s ↔ Satisfies l f s
+root_satisfies : (l : System) (f : Formula) (ns : List Node) → IsSystem l → IsAdmitted f → IsNodes (normal_form f) ns → (s : ℕ) → s < l.states
+    → node_mean l 0 (normal_form f) no_sets 0 s ↔ Satisfies l f s
 root_satisfies l f ns ok admitted are s lt =
     let i = root_means l (normal_form f) ok s lt in
     let j = normal_form_means l f ok admitted s lt in

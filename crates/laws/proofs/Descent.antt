@@ -8,7 +8,7 @@ use Rattle.laws.specs.Admissible.{IsFree, IsEach, IsFitting}
 use Rattle.laws.proofs.Flags.{same_or_not, below_or_not}
 use Rattle.laws.proofs.Targets.{target_below}
 use Rattle.laws.proofs.Sat.{Sets, put, sat, iterates, sets, put_here, put_other, Joined, joined_map, junction_is, Reached, reached_map, modality_is}
-use Rattle.laws.proofs.Counted.{how_many, less, less_than}
+use Rattle.formula.proofs.Counted.{how_many, less, less_than}
 use Rattle.laws.proofs.Trees.{IsWithin}
 use Rattle.laws.proofs.NodeSets.{at_set, true_root, left_sets, right_sets, one_sets}
 
@@ -123,11 +123,13 @@ module _ (l : System) (prio : ℕ → ℕ) (A : Type 0) (c : Comparison A) (val 
     | inr i ↦ ap (λ (u : ℕ → Bool). u t) (put_other e at set b i) ∙ fills b i free t tl fin
   ]
 
-  filled_root : (f : Norm) (at : ℕ) → IsEach IsDown at f → IsEach (IsFitting prio) at f → (e : Sets) → Fills e at f → (s k : ℕ) → s < l.states → k ≡ at → IsFinite s k → sets l at f e k s ≡ true
+  filled_root : (f : Norm) (at : ℕ) → IsEach IsDown at f → IsEach (IsFitting prio) at f → (e : Sets) → Fills e at f → (s k : ℕ) → s < l.states → k ≡ at
+      → IsFinite s k → sets l at f e k s ≡ true
   filled_root f at down fits e fills s k lt i fin = true_root l at f e k s i (filled f at down fits e fills s lt (subst (λ x. IsFinite s x) i fin))
 
   -- at every node
-  pub everywhere : (f : Norm) (at : ℕ) → IsEach IsDown at f → IsEach (IsFitting prio) at f → (e : Sets) → Fills e at f → (s k : ℕ) → s < l.states → IsWithin at f k → IsFinite s k → sets l at f e k s ≡ true
+  pub everywhere : (f : Norm) (at : ℕ) → IsEach IsDown at f → IsEach (IsFitting prio) at f → (e : Sets) → Fills e at f → (s k : ℕ) → s < l.states → IsWithin at f k
+      → IsFinite s k → sets l at f e k s ≡ true
   everywhere (Constant flag) at down fits e fills s k lt w fin = filled_root (Constant flag) at down fits e fills s k lt (omega (arith, w.from, w.to)) fin
   everywhere (Junction flag f g) at down fits e fills s k lt w fin =
       elim (same_or_not k at) as (λ _. sets l at (Junction flag f g) e k s ≡ true) [

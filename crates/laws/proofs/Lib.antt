@@ -4,7 +4,6 @@ pub mod Sat
 pub mod Trees
 pub mod Targets
 pub mod Counted
-pub mod Fixpoints
 pub mod Growth
 pub mod Settled
 pub mod NodeSets
@@ -25,3 +24,4 @@ pub mod Descent
 pub mod Compared
 pub mod Sound
 pub mod Decided
+pub mod Inner

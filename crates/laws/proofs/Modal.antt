@@ -7,10 +7,10 @@ use Rattle.formula.specs.Meaning.{Leads, iterate}
 use Rattle.normal.specs.Tree.{Norm, Variable, size, two, loop_of, modal}
 use Rattle.game.specs.Arena.{targets}
 use Rattle.laws.proofs.Flags.{under, under_is, under_under, not_flag, same_test}
+use Rattle.formula.proofs.Fixpoints.{IsDecided, IsWithin, in_closed, low_closed}
 use Rattle.formula.proofs.Inside.{leads_inside}
 use Rattle.laws.proofs.Targets.{target_leads, leads_target}
 use Rattle.laws.proofs.Sat.{put, turns, sat, from, put_here, put_other, junction_tells, modality_tells}
-use Rattle.laws.proofs.Fixpoints.{IsDecided, IsInside, low_inside, low_closed}
 
 -- ---- environments
 
@@ -76,7 +76,8 @@ module _ (l : System) (ok : IsSystem l) where
         λ h. i.1 (h.0, h.1, (second lo u F p makes lo (at_most_itself lo) u (λ b h. refl) h.0 (leads_inside l ok r s h.0 lt h.1)).1 h.2),
       )
 
-  either_means : (flag : Bool) (r q : Regular) → MeansBy l flag (modal flag r) (Reaches l flag r) → MeansBy l flag (modal flag q) (Reaches l flag q) → MeansBy l flag (modal flag (Either r q)) (Reaches l flag (Either r q))
+  either_means : (flag : Bool) (r q : Regular) → MeansBy l flag (modal flag r) (Reaches l flag r) → MeansBy l flag (modal flag q) (Reaches l flag q)
+      → MeansBy l flag (modal flag (Either r q)) (Reaches l flag (Either r q))
   either_means flag r q first second lo u F p makes at low v agree s lt =
       let i = two_tells l flag (modal flag r F) (modal flag q F) at v s in
       let j = first lo u F p makes (at + 1) (omega arith) v agree s lt in
@@ -117,7 +118,7 @@ module _ (l : System) (ok : IsSystem l) where
           λ h. i.1 (elim h [ inl k ↦ inl k | inr w ↦ inr (w.0, w.1, (same w.0 (leads_inside l ok r s w.0 lt w.1)).1 w.2) ]),
         )
 
-    wave_grows : (U V : ℕ → Type 0) → IsInside l.states U V → IsInside l.states (wave U) (wave V)
+    wave_grows : (U V : ℕ → Type 0) → IsWithin l.states U V → IsWithin l.states (wave U) (wave V)
     wave_grows U V uv s lt (inl k) = inl k
     wave_grows U V uv s lt (inr w) = inr (w.0, w.1, uv w.0 (leads_inside l ok r s w.0 lt w.1) w.2)
 
@@ -141,7 +142,7 @@ module _ (l : System) (ok : IsSystem l) where
     loop_tells : (s : ℕ) → s < l.states → (sat l at (loop_of flag (modal flag r) F at) v s ≡ flag) ↔ Reaches l flag (Star r) p s
     loop_tells s lt =
         let i = turns_are l.states l.states flag turn wave (from flag) (λ t. ⊥) turn_waves (λ t tl. (λ h. not_flag flag h, λ h. absurd h)) s lt in (
-          λ h. low_inside l.states wave wave_grows (λ s. Reaches l flag (Star r) p s) inward l.states s lt (i.0 h),
+          λ h. in_closed l.states wave wave_grows (λ s. Reaches l flag (Star r) p s) inward l.states s lt (i.0 h),
           λ h. i.1 (along s h.1.0 h.0 lt h.1.1 h.2),
         )
 

@@ -129,7 +129,8 @@ module _ (l : System) where
 -- ---- steps stay
 
 module _ (look : ℕ → Shape) where
-  wider : (P Q : ℕ → Type 0) (at : ℕ) (f : Norm) (b : ℕ) (g : Norm) (m : ℕ) → at ≤ b → b + size g ≤ at + size f → ((x : ℕ) → P x → IsWithin at f x ⊎ Q x) → IsWithin b g m ⊎ P m → IsWithin at f m ⊎ Q m
+  wider : (P Q : ℕ → Type 0) (at : ℕ) (f : Norm) (b : ℕ) (g : Norm) (m : ℕ) → at ≤ b → b + size g ≤ at + size f → ((x : ℕ) → P x → IsWithin at f x ⊎ Q x)
+      → IsWithin b g m ⊎ P m → IsWithin at f m ⊎ Q m
   wider P Q at f b g m lo hi pq (inl w) = inl (record { from = omega (arith, w.from); to = omega (arith, w.to) })
   wider P Q at f b g m lo hi pq (inr p) = pq m p
 

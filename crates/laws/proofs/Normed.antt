@@ -34,7 +34,8 @@ twice name [] = refl
 twice name (binder ∷ scope) =
     chosen (bytes_eq name binder.0) (not (not binder.1)) binder.1 (is_free_to_stand name (negated (negated scope))) (is_free_to_stand name scope) (not_not binder.1) (twice name scope)
 
-turned : (n : ℕ) (scope : Scope) (flag : Bool) (binders : List ℕ → ℕ) (at : ℕ) (u : ℕ → ℕ → Bool) (d : Env) → Fits n scope flag binders at u d → Fits n (negated scope) (not flag) binders at u d
+turned : (n : ℕ) (scope : Scope) (flag : Bool) (binders : List ℕ → ℕ) (at : ℕ) (u : ℕ → ℕ → Bool) (d : Env) → Fits n scope flag binders at u d
+    → Fits n (negated scope) (not flag) binders at u d
 turned n scope flag binders at u d fits = (
   fits.1,
   λ name stands.
@@ -42,12 +43,14 @@ turned n scope flag binders at u d fits = (
       (w.0, λ s lt. subst (λ x. (u (binders name) s ≡ x) ↔ d name s) (sym (not_not flag)) (w.1 s lt)),
 )
 
-wider_half : (n : ℕ) (scope : Scope) (flag : Bool) (binders : List ℕ → ℕ) (at : ℕ) (u : ℕ → ℕ → Bool) (d : Env) (place : ℕ) (v : ℕ → ℕ → Bool) → at ≤ place → Agree at u v → Half n scope flag binders at u d → Half n scope flag binders place v d
+wider_half : (n : ℕ) (scope : Scope) (flag : Bool) (binders : List ℕ → ℕ) (at : ℕ) (u : ℕ → ℕ → Bool) (d : Env) (place : ℕ) (v : ℕ → ℕ → Bool) → at ≤ place
+    → Agree at u v → Half n scope flag binders at u d → Half n scope flag binders place v d
 wider_half n scope flag binders at u d place v low agree half name stands =
     let w = half name stands in
     (omega (arith, w.0), λ s lt. subst (λ g. (g s ≡ flag) ↔ d name s) (sym (agree (binders name) w.0)) (w.1 s lt))
 
-wider : (n : ℕ) (scope : Scope) (flag : Bool) (binders : List ℕ → ℕ) (at : ℕ) (u : ℕ → ℕ → Bool) (d : Env) (place : ℕ) (v : ℕ → ℕ → Bool) → at ≤ place → Agree at u v → Fits n scope flag binders at u d → Fits n scope flag binders place v d
+wider : (n : ℕ) (scope : Scope) (flag : Bool) (binders : List ℕ → ℕ) (at : ℕ) (u : ℕ → ℕ → Bool) (d : Env) (place : ℕ) (v : ℕ → ℕ → Bool) → at ≤ place
+    → Agree at u v → Fits n scope flag binders at u d → Fits n scope flag binders place v d
 wider n scope flag binders at u d place v low agree fits = (
   wider_half n scope flag binders at u d place v low agree fits.0,
   wider_half n (negated scope) (not flag) binders at u d place v low agree fits.1,
@@ -89,7 +92,8 @@ module _ (l : System) (ok : IsSystem l) where
         (wider l.states scope flag binders at u d (at + 1 + size (norm own binders f (at + 1))) u (omega arith) (λ b h. refl) more) s lt,
   )
 
-  makes_norm : (f : Formula) → Normed l f → (flag : Bool) (scope : Scope) (binders : List ℕ → ℕ) (at : ℕ) (u : ℕ → ℕ → Bool) (d : Env) → IsTrue (is_admitted_in scope f) → Fits l.states scope flag binders at u d →
+  makes_norm : (f : Formula) → Normed l f → (flag : Bool) (scope : Scope) (binders : List ℕ → ℕ) (at : ℕ) (u : ℕ → ℕ → Bool) (d : Env)
+      → IsTrue (is_admitted_in scope f) → Fits l.states scope flag binders at u d →
       Makes l at u (norm flag binders f) (sat l at (norm flag binders f at) u)
   makes_norm f ih flag scope binders at u d p fits place low v agree s lt =
       same_test flag (sat l place (norm flag binders f place) v s) (sat l at (norm flag binders f at) u s) (mean l f d s)

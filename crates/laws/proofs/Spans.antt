@@ -40,7 +40,8 @@ module _ (look : ℕ → Shape) (prio : ℕ → ℕ) where
   -- places have a node each
   module _ (nd : ℕ → ℕ) (R : ℕ → ℕ → Type 0) (next : (v w : ℕ) → R v w → IsNext (look (nd v)) (nd w)) where
     -- a walk to b from within c's subtree, which b is outside of
-    walk : (b c : ℕ) → b < c → (x : IsHeld look prio c) (v : ℕ) (vs : List ℕ) (t : ℕ) → c ≤ nd v → nd v < c + x.span → nd t ≡ b → AllByRecursion (λ y. prio (nd y) ≤ prio b) vs → IsPath R v vs t → prio c ≤ prio b
+    walk : (b c : ℕ) → b < c → (x : IsHeld look prio c) (v : ℕ) (vs : List ℕ) (t : ℕ) → c ≤ nd v → nd v < c + x.span → nd t ≡ b
+        → AllByRecursion (λ y. prio (nd y) ≤ prio b) vs → IsPath R v vs t → prio c ≤ prio b
     walk b c h x v [] t lo hi e a p = let q = ap nd p in absurd (omega arith)
     walk b c h x v (m ∷ vs) t lo hi e a p =
         elim (x.leaves (nd v) (nd m) lo hi (next v m p.0)) [
@@ -49,7 +50,8 @@ module _ (look : ℕ → Shape) (prio : ℕ → ℕ) where
         ]
 
     -- On the way to b no priority is above b's.
-    pub bounded : (b : ℕ) → ((v w : ℕ) → R v w → (nd v ≡ b) ⊎ ((b < nd v) × IsHeld look prio (nd v))) → (v : ℕ) (vs : List ℕ) (t : ℕ) → nd t ≡ b → IsPath R v vs t → AllByRecursion (λ y. prio (nd y) ≤ prio b) vs × (prio (nd v) ≤ prio b)
+    pub bounded : (b : ℕ) → ((v w : ℕ) → R v w → (nd v ≡ b) ⊎ ((b < nd v) × IsHeld look prio (nd v))) → (v : ℕ) (vs : List ℕ) (t : ℕ) → nd t ≡ b → IsPath R v vs t
+        → AllByRecursion (λ y. prio (nd y) ≤ prio b) vs × (prio (nd v) ≤ prio b)
     bounded b each v [] t e p = let q = ap nd p in let r = ap prio (q ∙ e) in (tt, omega arith)
     bounded b each v (m ∷ vs) t e p =
         let i = bounded b each m vs t e p.1 in (

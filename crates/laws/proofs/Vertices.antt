@@ -35,7 +35,8 @@ node_in [] k h = absurd (omega arith)
 node_in (n ∷ nodes) zero h = (n, refl, refl, refl)
 node_in (n ∷ nodes) (suc k) h = node_in nodes k (omega arith)
 
-known : (nodes : List Node) (k : ℕ) (node : Node) (shape : Shape) → slice_get nodes k ≡ Some node → node.shape ≡ shape → slice_get nodes k ≡ Some (record { shape = shape; priority = priority_in nodes k })
+known : (nodes : List Node) (k : ℕ) (node : Node) (shape : Shape) → slice_get nodes k ≡ Some node → node.shape ≡ shape
+    → slice_get nodes k ≡ Some (record { shape = shape; priority = priority_in nodes k })
 known [] k node shape e d = cc
 known (n ∷ nodes) zero node shape e d = let q : n ≡ node = cc in let r : n.shape ≡ shape = ap (λ (x : Node). x.shape) q ∙ d in λ i. Some (record { shape = r i; priority = n.priority })
 known (n ∷ nodes) (suc k) node shape e d = known nodes k node shape e d
@@ -75,7 +76,8 @@ past_two x y xs (suc zero) k e = absurd (omega arith)
 past_two x y xs (suc (suc j)) k e = let h : j ≡ k = omega arith in ap (slice_get xs) h
 
 -- the vertex of a state with a node
-pub vertex_is : (l : System) (nodes : List Node) (s k : ℕ) (node : Node) → s < l.states → slice_get nodes k ≡ Some node → vertex (arena l nodes) (place (length nodes) s k) ≡ Some (vertex_of l (length nodes) s node)
+pub vertex_is : (l : System) (nodes : List Node) (s k : ℕ) (node : Node) → s < l.states → slice_get nodes k ≡ Some node
+    → vertex (arena l nodes) (place (length nodes) s k) ≡ Some (vertex_of l (length nodes) s node)
 vertex_is l nodes s k node h e =
     past_two (record { owner = Even; priority = 0; successors = 0 ∷ [] }) (record { owner = Even; priority = 1; successors = 1 ∷ [] }) (rows l nodes (range_with_len 0 l.states)) (place (length nodes) s k) (s * length nodes + k) refl
     ∙ get_row l nodes (range_with_len 0 l.states) s (s * length nodes + k) s k node (let q : 0 + s ≡ s = omega arith in get_range 0 l.states s h ∙ ap Some q) e refl

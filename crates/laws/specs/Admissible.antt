@@ -33,6 +33,12 @@ IsFitting prio at f = prio at ≡ 0
 abbrev pub IsAdmissible : (ℕ → ℕ) → Norm → Type 0
 IsAdmissible prio f = IsEach (IsFitting prio) 0 f
 
+-- The same from the binder's side: 0 at what binds nothing; odd at mu and even at nu, and at least that of each part inside in which the binder's
+-- variable is free.
+abbrev pub IsAboveInner : (ℕ → ℕ) → ℕ → Norm → Type 0
+IsAboveInner prio at (Fixpoint flag f) = (is_odd (prio at) ≡ flag) × IsEach (λ c g. IsFree at c g → prio c ≤ prio at) (at + 1) f
+IsAboveInner prio at f = prio at ≡ 0
+
 abbrev pub priority_or : Option Node → ℕ
 priority_or None = 0
 priority_or (Some node) = node.priority

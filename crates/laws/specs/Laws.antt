@@ -11,7 +11,7 @@ use Rattle.game.specs.Arena.{place, arena}
 use Rattle.game.specs.Wins.{IsStrategy, Wins}
 use Rattle.measures.specs.Measure.{Measure, Top}
 use Rattle.measures.specs.Progress.{IsProgress, IsLeastTable, value_at}
-use Rattle.laws.specs.Admissible.{IsEach, IsNodes, priority_in, shapes_of}
+use Rattle.laws.specs.Admissible.{IsAboveInner, IsAdmissible, IsClosed, IsEach, IsNodes, priority_in, shapes_of}
 use Rattle.laws.specs.NodeMeaning.{node_mean}
 
 -- The normal form of an admitted formula holds where the formula does.
@@ -21,6 +21,10 @@ NormalFormMeans = (l : System) (f : Formula) → IsSystem l → IsAdmitted f →
 -- The nested rule's priorities are admissible, and the normal form of an admitted formula is closed.
 abbrev pub NestedIsAdmissible : Type 0
 NestedIsAdmissible = (f : Formula) → IsAdmitted f → IsNodes (normal_form f) (nodes f)
+
+-- Of a closed tree priorities are admissible exactly where each binder is above those inside it in which its variable is free.
+abbrev pub AdmissibleFromInside : Type 0
+AdmissibleFromInside = (f : Norm) (prio : ℕ → ℕ) → IsClosed f → IsAdmissible prio f ↔ IsEach (IsAboveInner prio) 0 f
 
 -- Each node by a rule has its part's shape, and the rule's priority.
 abbrev pub NodesFollow : Type 0

@@ -2,6 +2,7 @@
 #![tactic(auto)]
 
 ghost use Rattle.laws.specs.Laws.{
+  AdmissibleFromInside,
   EvenWinsFormula,
   EvenWinsWhereMeant,
   LeastTableDecides,
@@ -24,6 +25,11 @@ pub fn normal_form_means()
 /// Each node by a rule of priorities has its part's shape and the rule's priority: with this a rule is shown to be admissible.
 pub fn nodes_follow()
     ensures { NodesFollow }
+{}
+
+/// Priorities are admissible exactly where each binder's is at least that of each binder inside it in whose subformula its variable is free.
+pub fn admissible_from_inside()
+    ensures { AdmissibleFromInside }
 {}
 
 /// The nested rule gives admissible priorities, and an admitted formula's normal form is closed.
