@@ -5,8 +5,8 @@ pub mod closed;
 pub mod error;
 pub mod label;
 pub mod law;
-pub mod printer;
 pub mod meaning_law;
+pub mod printer;
 pub mod tree;
 
 pub use label::holds;

@@ -40,10 +40,10 @@ none_is [] (suc j) = let e : 0 ≡ 0 - suc j = omega arith in ap (λ n. replicat
 none_is (p ∷ ps) zero = let e : suc (length ps - 0) ≡ suc (length ps) - 0 = omega arith in ap (λ xs. 0 ∷ xs) (none_is ps 0) ∙ ap (λ n. replicate n 0) e
 none_is (p ∷ ps) (suc j) = let e : length ps - j ≡ suc (length ps) - suc j = omega arith in none_is ps j ∙ ap (λ n. replicate n 0) e
 
-even_is : (p : ℕ) → p % 2 ≡ 0 → is_odd p ≡ false
+pub even_is : (p : ℕ) → p % 2 ≡ 0 → is_odd p ≡ false
 even_is p e = elim (odd_or_even p) [ inl w ↦ (let odd = w.1 in absurd (omega arith)) | inr w ↦ w.0 ]
 
-odd_is : (p : ℕ) → p % 2 ≢ 0 → is_odd p ≡ true
+pub odd_is : (p : ℕ) → p % 2 ≢ 0 → is_odd p ≡ true
 odd_is p n = elim (odd_or_even p) [ inl w ↦ w.0 | inr w ↦ absurd (n w.1) ]
 
 module _ (g : Game) (p : ℕ) (c limits : List ℕ) (k : ℕ) (is : bounds g ≡ limits) (measure : IsMeasure g (Counts c)) (kept_at : k ≡ length limits - p / 2) where

@@ -14,6 +14,8 @@ pub mod Greatest
 pub mod Bests
 pub mod Stored
 pub mod Plain
+pub mod Reaching
+pub mod Settling
 pub mod StrategyTable
 pub mod LeastDecides
 pub mod NotBoth

@@ -1,10 +1,10 @@
 -- Tables whose values are at most those of every progress table.
-use Rattle.std.proofs.Common.{◌≡◌, ◌≢◌, ℕ, suc, ◌+◌, ◌-◌, ◌/◌, ◌<◌, ◌≤◌, Bool, true, false, List, length, map, replicate, refl, sym, ap, subst, ◌∙◌, inl, inr, arith, Some, if◌then◌else◌, slice_set, slice_index_or}
+use Rattle.std.proofs.Common.{◌≡◌, ◌≢◌, ℕ, ◌+◌, ◌-◌, ◌<◌, ◌≤◌, Bool, true, false, List, length, replicate, sym, ap, subst, ◌∙◌, inl, inr, arith, if◌then◌else◌, slice_set}
 use Rattle.std.proofs.lemmas.Bool.Decides.{eqb_tells}
 use Rattle.std.proofs.lemmas.List.{ext_get_or, get_or-set_other, get_or-set_same, get_or-replicate, length-map, length-replicate, length-set}
 use Rattle.std.proofs.lemmas.Slice.Zip.{AllZip-long}
-use Rattle.game.specs.Game.{Game, IsGame, count, greatest, vertex}
-use Rattle.measures.specs.Measure.{Measure, Top, Counts, components, IsAtMost, IsMeasure}
+use Rattle.game.specs.Game.{Game, IsGame, count, greatest}
+use Rattle.measures.specs.Measure.{Measure, Top, Counts, components, IsMeasure}
 use Rattle.measures.specs.Progress.{IsProgress, opening, opening_value, value_at, zeros}
 use Rattle.measures.specs.Progs.{bounds}
 use Rattle.measures.specs.Tables.{IsOpening, IsPlain, IsSettled, IsStored, LiesBelow, Table}

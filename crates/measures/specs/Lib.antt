@@ -5,3 +5,4 @@ pub mod Laws
 pub mod View
 pub mod Progs
 pub mod Tables
+pub mod Settling

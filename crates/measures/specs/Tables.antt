@@ -1,7 +1,7 @@
 -- Tables of measures that are at most those of every progress table.
-use Rattle.std.specs.Prelude.{◌≡◌, ◌<◌, ℕ, Bool, List, Some, if◌then◌else◌, length, map}
+use Rattle.std.specs.Prelude.{◌≡◌, ◌<◌, ℕ, Bool, List, Some, if◌then◌else◌, length}
 use Rattle.game.specs.Game.{Game, IsGame, Vertex, vertex}
-use Rattle.measures.specs.Measure.{IsMeasure, Measure, Top, components}
+use Rattle.measures.specs.Measure.{IsMeasure, Measure, Top}
 use Rattle.measures.specs.Progress.{IsLeastTable, IsUnder, opening_value, value_at, zeros}
 use Rattle.measures.specs.Progs.{bounds}
 

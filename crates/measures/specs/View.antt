@@ -1,6 +1,8 @@
 -- How measures are stored.
-use Rattle.std.specs.Prelude.{◌≡◌, ℕ, Bool, true, false, List, [], ◌∷◌, drop, length, take, if◌then◌else◌}
-use Rattle.measures.specs.Measure.{Measure, Top, Counts}
+use Rattle.std.specs.Prelude.{◌≡◌, ◌↔◌, IsTrue, ℕ, Bool, true, false, List, [], ◌∷◌, drop, length, take, if◌then◌else◌}
+use Rattle.game.specs.Game.{Game}
+use Rattle.measures.specs.Measure.{Measure, Top, Counts, Reaches, components}
+use Rattle.measures.specs.Progress.{value_at}
 
 -- a mark for top, beside counts that then say nothing
 abbrev pub measure_of : Bool → List ℕ → Measure
@@ -29,3 +31,7 @@ pub record Rows : Type 0 where
 abbrev pub HasWidth : ℕ → Measure → Type 0
 HasWidth width Top = Unit {0}
 HasWidth width (Counts counts) = length counts ≡ width
+
+-- in each game with so many components the value of one place reaches that of the other, at this priority
+abbrev pub ReachesAt : Rows → ℕ → ℕ → ℕ → Bool → Type 0
+ReachesAt r p next v result = (g : Game) → length (components g) ≡ r.width → (IsTrue result ↔ Reaches g p (value_at r.values next) (value_at r.values v))

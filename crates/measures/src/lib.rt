@@ -6,4 +6,5 @@ pub mod law;
 pub mod measure;
 pub mod progs;
 mod rows;
+pub mod settle;
 pub mod table;

@@ -1,12 +1,15 @@
 // The measures of many vertices, in one list of counts.
 
-ghost use Rattle.std.specs.Prelude.{◌≡◌, ◌<◌, ◌≤◌, ◌+◌, ◌*◌, ◌++◌, drop, length, replicate, slice_set, take, IfOk};
+ghost use Rattle.std.specs.Prelude.{◌≡◌, ◌<◌, ◌≤◌, ◌+◌, ◌*◌, ◌++◌, drop, length, map, replicate, slice_set, take, IfOk};
 ghost use Rattle.measures.specs.Measure.{Counts, measure_cmp};
-ghost use Rattle.measures.specs.Progress.{value_at};
-ghost use Rattle.measures.specs.View.{HasWidth, Rows, is_top_of, measure_of};
+ghost use Rattle.measures.specs.Progress.{IsBestFor, value_at};
+ghost use Rattle.std.specs.List.{AllByRecursion};
+ghost use Rattle.measures.specs.View.{HasWidth, ReachesAt, Rows, is_top_of, measure_of};
 
 use crate::measure::{COMPONENTS, Measure, compare};
+use crate::progs::is_better;
 use game::graph::MOST_VERTICES;
+use game::player::Player;
 use std::alloc::{AllocError, Global};
 use std::cmp::Ordering;
 use std::marker::Model;
@@ -94,6 +97,43 @@ impl Rows {
         ensures { result ≡ measure_cmp (value_at self.now.values v) m.now }
     {
         compare(self.is_top(v), self.counts(v), m.is_top(), m.counts())
+    }
+
+    /// Whether the measure of a place is enough where its play goes on at the other, at a vertex of this priority.
+    pub(crate) fn reaches(&self, v: usize, next: usize, priority: u8) -> bool
+        requires place { v < length self.now.values }
+        requires next { next < length self.now.values }
+        ensures { ReachesAt self.now priority next v result }
+    {
+        if self.is_top(v) {
+            return true;
+        }
+        if self.is_top(next) {
+            return false;
+        }
+        let kept = self.width.saturating_sub(priority as usize / 2);
+        let order = self.counts(next)[..kept].cmp(&self.counts(v)[..kept]);
+        if priority % 2 == 0 {
+            order.is_le()
+        } else {
+            order.is_lt()
+        }
+    }
+
+    /// The place with whose measure a player goes on, of some.
+    pub(crate) fn best(&self, player: Player, places: &[u32]) -> u32
+        requires some { 0 < length places.now }
+        requires inside { AllByRecursion (λ t. t < length self.now.values) places.now }
+        ensures inside { result < length self.now.values }
+        ensures best { IsBestFor player (map (value_at self.now.values) places.now) (value_at self.now.values result) }
+    {
+        let mut best = places[0];
+        for k in 1..places.len() {
+            if is_better(player, self.compare(places[k] as usize, best as usize)) {
+                best = places[k];
+            }
+        }
+        best
     }
 
     /// Puts a measure in the place of another.

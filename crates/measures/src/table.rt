@@ -1,12 +1,15 @@
 // Tables of measures.
 
-ghost use Rattle.std.specs.Prelude.{◌≡◌, ◌<◌, length, slice_set, IfOk};
+ghost use Rattle.std.specs.Prelude.{◌≡◌, ◌<◌, ◌↔◌, IsTrue, length, slice_set, IfOk};
 ghost use Rattle.game.specs.Game.{IsGame};
+ghost use Rattle.measures.specs.Measure.{IsProg, Top};
 ghost use Rattle.measures.specs.Progress.{IsProgress, greater_of, opening as opening_of, value_at};
+ghost use Rattle.measures.specs.Settling.{IsStill, LiftsAt};
 ghost use Rattle.measures.specs.Tables.{IsOpening, IsPlain, IsSettled, LiesBelow};
 
 use crate::bounds::bounds;
 use crate::measure::Measure;
+use crate::progs::prog_of;
 use crate::rows::Rows;
 use arrayvec::ArrayVec;
 use game::graph::Game;
@@ -78,6 +81,14 @@ impl PlainTable {
         self.rows.value(v as usize)
     }
 
+    /// Whether the measure of a vertex is top. It copies nothing.
+    pub fn is_top(&self, v: u32) -> bool
+        requires { v < length self.now.game.vertices }
+        ensures { IsTrue result ↔ (value_at self.now.values v ≡ Top) }
+    {
+        self.rows.is_top(v as usize)
+    }
+
     /// Leaves the greater of the old measure and the new.
     pub fn raise(&mut self, v: u32, m: &Measure)
         requires vertex { v < length self.old.game.vertices }
@@ -88,6 +99,46 @@ impl PlainTable {
         if self.rows.compare_with(v as usize, m).is_lt() {
             self.rows.set(v as usize, m);
         }
+    }
+
+    /// Whether no lift raises a vertex.
+    pub(crate) fn is_still(&self, game: &Game, v: u32) -> bool
+        requires same { self.now.game ≡ game.now }
+        requires vertex { v < length game.now.vertices }
+        ensures { IsTrue result ↔ IsStill game.now self.now.values v }
+    {
+        let best = self.rows.best(game.owner(v), game.successors(v));
+        self.rows
+            .reaches(v as usize, best as usize, game.priority(v))
+    }
+
+    // What a vertex of this priority asks for where its play goes on at another vertex.
+    fn prog_of(&self, priority: u8, next: usize) -> Measure
+        requires { next < length self.now.values }
+        ensures { IsProg self.now.game priority (value_at self.now.values next) result }
+    {
+        if self.rows.is_top(next) {
+            Measure::top()
+        } else {
+            prog_of(self.bounds.as_slice(), priority, self.rows.counts(next))
+        }
+    }
+
+    /// Raises a vertex to its lift. The answer says whether it rose.
+    pub(crate) fn lift_at(&mut self, game: &Game, v: u32) -> bool
+        requires same { self.old.game ≡ game.now }
+        requires vertex { v < length game.now.vertices }
+        ensures game { self.new.game ≡ game.now }
+        ensures lifts { LiftsAt game.now v self.old.values self.new.values result }
+    {
+        let priority = game.priority(v);
+        let best = self.rows.best(game.owner(v), game.successors(v)) as usize;
+        if self.rows.reaches(v as usize, best, priority) {
+            return false;
+        }
+        let risen = self.prog_of(priority, best);
+        self.rows.set(v as usize, &risen);
+        true
     }
 
     /// The table again, where it is a progress table: no other one is less.
@@ -117,6 +168,15 @@ impl Model for Settled {
 }
 
 impl Settled {
+    /// Whether the measure of a vertex is top.
+    pub fn is_top(&self, v: u32) -> bool
+        requires { v < length self.now.game.vertices }
+        ensures value { IsTrue result ↔ (value_at self.now.values v ≡ Top) }
+        ensures settled { IsSettled self.now }
+    {
+        self.table.is_top(v)
+    }
+
     /// What holds of every settled table.
     pub fn known(&self)
         ensures { IsSettled self.now }

@@ -1,6 +1,6 @@
-use Rattle.std.proofs.Common.{◌≡◌, ◌∙◌, ◌+◌, ◌<◌, ap, arith, length, subst, sym, true, false}
+use Rattle.std.proofs.Common.{◌∙◌, ◌+◌, ◌<◌, ap, arith, length, subst, sym}
 use Rattle.game.specs.Game.{Game}
-use Rattle.measures.specs.Tables.{IsOpening, IsStored}
+use Rattle.measures.specs.Tables.{IsStored}
 use Rattle.measures.specs.View.{Rows}
 use Rattle.measures.proofs.Plain.{IsOpened, opened_first, opened_left, opened_top, opened_whole, opening_plain}
 use Rattle.measures.proofs.table.opening.Goals as goal

@@ -1,4 +1,4 @@
-use Rattle.std.proofs.Common.{ap, length, subst, sym, ◌<◌}
+use Rattle.std.proofs.Common.{length, subst, sym, ◌<◌}
 use Rattle.measures.specs.Tables.{LiesBelow, Table}
 use Rattle.measures.proofs.Plain.{set_stored}
 use Rattle.measures.proofs.table.PlainTable.raise.Goals as goal
