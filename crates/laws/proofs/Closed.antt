@@ -120,27 +120,33 @@ module _ (l : System) (look : ℕ → Shape) where
   choices at (Junction flag f g) e laid s k w x =
       elim (same_or_not k at) as (λ _. IsChoice l (look k) (choose l at (Junction flag f g) e k s) s) [
         | inl i ↦ other_choice k (choose l at (Junction flag f g) e k s) (if sat l (at + 1) f e s then at + 1 else at + 1 + size f) s (junction_choice l flag at f g e k s i)
-            (of_look at k (if sat l (at + 1) f e s then at + 1 else at + 1 + size f) s (JunctionNode flag (at + 1) (at + 1 + size f)) laid.0 i (one_of_two (sat l (at + 1) f e s) (at + 1) (at + 1 + size f)))
+            (of_look at k (if sat l (at + 1) f e s then at + 1 else at + 1 + size f) s (JunctionNode flag (at + 1) (at + 1 + size f)) laid.0 i
+            (one_of_two (sat l (at + 1) f e s) (at + 1) (at + 1 + size f)))
         | inr i ↦ elim (below_or_not k (at + 1 + size f)) as (λ _. IsChoice l (look k) (choose l at (Junction flag f g) e k s) s) [
           | inl b ↦ other_choice k (choose l at (Junction flag f g) e k s) (choose l (at + 1) f e k s) s (left_choice l flag at f g e k s i b)
-              (choices (at + 1) f e laid.1 s k (record { from = omega (arith, w.from); to = b }) (set_at (sets l at (Junction flag f g) e) (sets l (at + 1) f e) k s (left_sets l at f g e (sat l at (Junction flag f g) e) k i b) x))
+              (choices (at + 1) f e laid.1 s k (record { from = omega (arith, w.from); to = b })
+              (set_at (sets l at (Junction flag f g) e) (sets l (at + 1) f e) k s (left_sets l at f g e (sat l at (Junction flag f g) e) k i b) x))
           | inr b ↦ other_choice k (choose l at (Junction flag f g) e k s) (choose l (at + 1 + size f) g e k s) s (right_choice l flag at f g e k s i b)
-              (choices (at + 1 + size f) g e laid.2 s k (record { from = b; to = omega (arith, w.to) }) (set_at (sets l at (Junction flag f g) e) (sets l (at + 1 + size f) g e) k s (right_sets l at f g e (sat l at (Junction flag f g) e) k b) x))
+              (choices (at + 1 + size f) g e laid.2 s k (record { from = b; to = omega (arith, w.to) })
+              (set_at (sets l at (Junction flag f g) e) (sets l (at + 1 + size f) g e) k s (right_sets l at f g e (sat l at (Junction flag f g) e) k b) x))
         ]
       ]
   choices at (Modality flag a f) e laid s k w x =
       elim (same_or_not k at) as (λ _. IsChoice l (look k) (choose l at (Modality flag a f) e k s) s) [
         | inl i ↦ other_choice k (choose l at (Modality flag a f) e k s) (first (sat l (at + 1) f e) (targets l a s)) s
             (ap (λ (u : ℕ → ℕ). u s) (put_here (choose l (at + 1) f e) at (λ s. first (sat l (at + 1) f e) (targets l a s)) k i))
-            (of_look at k (first (sat l (at + 1) f e) (targets l a s)) s (ModalityNode flag a (at + 1)) laid.0 i (chosen_target flag at a f e s (root_true l at (Modality flag a f) e k s i x)))
+            (of_look at k (first (sat l (at + 1) f e) (targets l a s)) s (ModalityNode flag a (at + 1)) laid.0 i
+            (chosen_target flag at a f e s (root_true l at (Modality flag a f) e k s i x)))
         | inr i ↦ other_choice k (choose l at (Modality flag a f) e k s) (choose l (at + 1) f e k s) s
             (ap (λ (u : ℕ → ℕ). u s) (put_other (choose l (at + 1) f e) at (λ s. first (sat l (at + 1) f e) (targets l a s)) k i))
-            (choices (at + 1) f e laid.1 s k (record { from = omega (arith, w.from); to = omega (arith, w.to) }) (set_at (sets l at (Modality flag a f) e) (sets l (at + 1) f e) k s (one_sets l at f e (sat l at (Modality flag a f) e) k i) x))
+            (choices (at + 1) f e laid.1 s k (record { from = omega (arith, w.from); to = omega (arith, w.to) })
+            (set_at (sets l at (Modality flag a f) e) (sets l (at + 1) f e) k s (one_sets l at f e (sat l at (Modality flag a f) e) k i) x))
       ]
   choices at (Fixpoint true f) e laid s k w x =
       elim (same_or_not k at) as (λ _. IsChoice l (look k) (choose l at (Fixpoint true f) e k s) s) [
         | inl i ↦ of_look at k (choose l at (Fixpoint true f) e k s) s (FixpointNode true (at + 1)) laid.0 i tt
-        | inr i ↦ choices (at + 1) f (put e at (iterates true l at f e (rank l at f e k s))) laid.1 s k (record { from = omega (arith, w.from); to = omega (arith, w.to) }) (rank_found l at f e k s l.states (omega arith) x).0
+        | inr i ↦ choices (at + 1) f (put e at (iterates true l at f e (rank l at f e k s))) laid.1 s k
+            (record { from = omega (arith, w.from); to = omega (arith, w.to) }) (rank_found l at f e k s l.states (omega arith) x).0
       ]
   choices at (Fixpoint false f) e laid s k w x =
       elim (same_or_not k at) as (λ _. IsChoice l (look k) (choose l at (Fixpoint false f) e k s) s) [

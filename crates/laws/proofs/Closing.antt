@@ -33,7 +33,8 @@ binds_two P flag left right at x y = (x (at + 1), y (at + 1 + size (left (at + 1
 binds_loop : (P : ℕ → Type 0) (flag : Bool) (step : (ℕ → Norm) → ℕ → Norm) (f : ℕ → Norm) (at : ℕ)
     → ((Q : ℕ → Type 0) (g : ℕ → Norm) → ((k : ℕ) → Binds Q k (g k)) → (k : ℕ) → Binds Q k (step g k)) → ((k : ℕ) → Binds P k (f k)) → Binds P at (loop_of flag step f at)
 binds_loop P flag step f at each x =
-    binds_two (λ b. (b ≡ at) ⊎ P b) flag f (step (λ _. Variable at)) (at + 1) (λ k. binds_map P (λ b. (b ≡ at) ⊎ P b) k (f k) (λ b p. inr p) (x k)) (each (λ b. (b ≡ at) ⊎ P b) (λ _. Variable at) (λ k. inl refl))
+    binds_two (λ b. (b ≡ at) ⊎ P b) flag f (step (λ _. Variable at)) (at + 1) (λ k. binds_map P (λ b. (b ≡ at) ⊎ P b) k (f k) (λ b p. inr p) (x k))
+    (each (λ b. (b ≡ at) ⊎ P b) (λ _. Variable at) (λ k. inl refl))
 
 binds_modal : (flag : Bool) (r : Regular) (P : ℕ → Type 0) (f : ℕ → Norm) → ((k : ℕ) → Binds P k (f k)) → (at : ℕ) → Binds P at (modal flag r f at)
 binds_modal flag (Step a) P f x at = x (at + 1)
@@ -69,11 +70,14 @@ binds_norm (Or f g) flag P binders scope x h at =
     binds_two P flag (norm flag binders f) (norm flag binders g) at (binds_norm f flag P binders scope x w.0) (binds_norm g flag P binders scope x w.1)
 binds_norm (Implies f g) flag P binders scope x h at =
     let w = both (is_admitted_in (negated scope) f) (is_admitted_in scope g) h in
-    binds_two P flag (norm (not flag) binders f) (norm flag binders g) at (binds_norm f (not flag) P binders (negated scope) (λ name i. x name (negated_in name scope i)) w.0) (binds_norm g flag P binders scope x w.1)
+    binds_two P flag (norm (not flag) binders f) (norm flag binders g) at (binds_norm f (not flag) P binders (negated scope)
+    (λ name i. x name (negated_in name scope i)) w.0) (binds_norm g flag P binders scope x w.1)
 binds_norm (Dia r f) flag P binders scope x h at = binds_modal flag r P (norm flag binders f) (binds_norm f flag P binders scope x h) at
 binds_norm (Box r f) flag P binders scope x h at = binds_modal (not flag) r P (norm flag binders f) (binds_norm f flag P binders scope x h) at
-binds_norm (Mu name f) flag P binders scope x h at = binds_norm f flag (λ b. (b ≡ at) ⊎ P b) (with_binder binders name at) ((name, true) ∷ scope) (inner_names P binders scope name at x) h (at + 1)
-binds_norm (Nu name f) flag P binders scope x h at = binds_norm f flag (λ b. (b ≡ at) ⊎ P b) (with_binder binders name at) ((name, true) ∷ scope) (inner_names P binders scope name at x) h (at + 1)
+binds_norm (Mu name f) flag P binders scope x h at = binds_norm f flag (λ b. (b ≡ at) ⊎ P b) (with_binder binders name at) ((name, true) ∷ scope)
+    (inner_names P binders scope name at x) h (at + 1)
+binds_norm (Nu name f) flag P binders scope x h at = binds_norm f flag (λ b. (b ≡ at) ⊎ P b) (with_binder binders name at) ((name, true) ∷ scope)
+    (inner_names P binders scope name at x) h (at + 1)
 
 no_names : (P : ℕ → Type 0) (binders : List ℕ → ℕ) → Names P binders []
 unfolding IsIn

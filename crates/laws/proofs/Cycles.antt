@@ -94,7 +94,8 @@ module _ (l : System) (look : ℕ → Shape) (prio : ℕ → ℕ) (st nd : ℕ �
         let b = before r (st v) y in
         let z = seen l look at (nd v) (choose l at (Fixpoint true f) e (nd v) (st v)) (st v) (st w) (nd w) (FixpointNode true (at + 1)) laid.0 i x.step in
         let t : sets l (at + 1) f (put e at (iterates true l at f e b.0)) (nd w) (st w) ≡ true =
-        at_true l look (sets l (at + 1) f (put e at (iterates true l at f e b.0))) (nd w) (at + 1) (st w) (st v) z.0 z.1 (true_root l (at + 1) f (put e at (iterates true l at f e b.0)) (at + 1) (st v) refl b.2) in
+        at_true l look (sets l (at + 1) f (put e at (iterates true l at f e b.0))) (nd w) (at + 1) (st w) (st v) z.0 z.1
+        (true_root l (at + 1) f (put e at (iterates true l at f e b.0)) (at + 1) (st v) refl b.2) in
         let g = rank_found l at f e (nd w) (st w) b.0 (omega (arith, q.1, b.1)) t in
         omega (arith, g.1, b.1)
 
@@ -139,7 +140,8 @@ module _ (l : System) (look : ℕ → Shape) (prio : ℕ → ℕ) (st nd : ℕ �
     nu_through u vs t =
         let p = path_append (IsMove at (Fixpoint false f) e) t.place t.after u (t.start ∷ t.before) t.place t.on t.to in
         let b = (bounded look prio nd (IsMove at (Fixpoint false f) e) (λ v w x. x.step.0) at nu_held t.place (t.after ++ (t.start ∷ t.before)) t.place t.is p).0 in
-        let a = all_join (λ v. number v ≤ prio at) (t.start ∷ t.before) t.after (all_back (λ v. number v ≤ prio at) t.after (t.start ∷ t.before) b) (all_front (λ v. number v ≤ prio at) t.after (t.start ∷ t.before) b) in
+        let a = all_join (λ v. number v ≤ prio at) (t.start ∷ t.before) t.after (all_back (λ v. number v ≤ prio at) t.after (t.start ∷ t.before) b)
+        (all_front (λ v. number v ≤ prio at) t.after (t.start ∷ t.before) b) in
         let hi = met_bound number (prio at) ((t.start ∷ t.before) ++ t.after) a in
         let lo = met_last number (IsMove at (Fixpoint false f) e) u t.start t.before t.place t.to in
         let more = met_front number (t.start ∷ t.before) t.after in
@@ -160,11 +162,19 @@ module _ (l : System) (look : ℕ → Shape) (prio : ℕ → ℕ) (st nd : ℕ �
       let left = inner at (Junction flag f g) e (at + 1) f e
       (λ k w. left_sets l at f g e (sat l at (Junction flag f g) e) k (λ q. omega (arith, w.from)) (omega (arith, w.to)))
       (λ k s w. left_choice l flag at f g e k s (λ q. omega (arith, w.from)) (omega (arith, w.to)))
-      (λ v w a x. elim (stay look P (at + 1) f laid.1 binds.0 (nd v) (nd w) a x.step.0) [ inl q ↦ q | inr q ↦ (let n = lower (nd w) q in let lo = x.to.from in absurd (omega arith)) ]) in
+      (λ v w a x. elim (stay look P (at + 1) f laid.1 binds.0 (nd v) (nd w) a x.step.0) [
+        | inl q ↦ q
+        | inr q ↦
+            (let n = lower (nd w) q in let lo = x.to.from in absurd (omega arith))
+      ]) in
       let right = inner at (Junction flag f g) e (at + 1 + size f) g e
       (λ k w. right_sets l at f g e (sat l at (Junction flag f g) e) k w.from)
       (λ k s w. right_choice l flag at f g e k s (λ q. omega (arith, w.from)) w.from)
-      (λ v w a x. elim (stay look P (at + 1 + size f) g laid.2 binds.1 (nd v) (nd w) a x.step.0) [ inl q ↦ q | inr q ↦ (let n = lower (nd w) q in let lo = x.to.from in absurd (omega arith)) ]) in
+      (λ v w a x. elim (stay look P (at + 1 + size f) g laid.2 binds.1 (nd v) (nd w) a x.step.0) [
+        | inl q ↦ q
+        | inr q ↦
+            (let n = lower (nd w) q in let lo = x.to.from in absurd (omega arith))
+      ]) in
       let lo = p.0.from.from in let hi = p.0.from.to in let sf = size_some f in let sg = size_some g in
       elim (same_or_not (nd u) at) as (λ _. met number (m ∷ vs) % 2 ≡ 0) [
         | inl i ↦ (
@@ -175,7 +185,8 @@ module _ (l : System) (look : ℕ → Shape) (prio : ℕ → ℕ) (st nd : ℕ �
             ])
         | inr i ↦ elim (below_or_not (nd u) (at + 1 + size f)) as (λ _. met number (m ∷ vs) % 2 ≡ 0) [
           | inl b ↦ cycles P (at + 1) f e laid.1 binds.0 (λ b q. let n = lower b q in omega arith) good.1 u m vs (left u (m ∷ vs) u (record { from = omega arith; to = b }) p).0
-          | inr b ↦ cycles P (at + 1 + size f) g e laid.2 binds.1 (λ b q. let n = lower b q in omega arith) good.2 u m vs (right u (m ∷ vs) u (record { from = b; to = omega arith }) p).0
+          | inr b ↦ cycles P (at + 1 + size f) g e laid.2 binds.1 (λ b q. let n = lower b q in omega arith) good.2 u m vs
+              (right u (m ∷ vs) u (record { from = b; to = omega arith }) p).0
         ]
       ]
   cycles P at (Modality flag a f) e laid binds lower good u m vs p =
@@ -192,13 +203,16 @@ module _ (l : System) (look : ℕ → Shape) (prio : ℕ → ℕ) (st nd : ℕ �
         | inr i ↦ cycles P (at + 1) f e laid.1 binds (λ b q. let n = lower b q in omega arith) good.1 u m vs (in_body u (m ∷ vs) u (record { from = omega arith; to = omega arith }) p).0
       ]
   cycles P at (Fixpoint true f) e laid binds lower good u m vs p =
-      cycles (λ b. (b ≡ at) ⊎ P b) (at + 1) f (put e at (iterates true l at f e (rank_at at f e u))) laid.1 binds (deeper P at f e laid binds lower) good.1 u m vs (mu_level P at f e laid binds lower u m vs p)
+      cycles (λ b. (b ≡ at) ⊎ P b) (at + 1) f (put e at (iterates true l at f e (rank_at at f e u))) laid.1 binds (deeper P at f e laid binds lower) good.1 u m vs
+      (mu_level P at f e laid binds lower u m vs p)
   cycles P at (Fixpoint false f) e laid binds lower good u m vs p =
-      let done : IsThrough (IsMove at (Fixpoint false f) e) nd at u (m ∷ vs) u → met number (m ∷ vs) % 2 ≡ 0 = λ t. ap (λ n. n % 2) (nu_through P at f e laid binds good u (m ∷ vs) t) ∙ even_of (prio at) good.0.0 in
+      let done : IsThrough (IsMove at (Fixpoint false f) e) nd at u (m ∷ vs) u → met number (m ∷ vs) % 2 ≡ 0 = λ t. ap (λ n. n % 2)
+      (nu_through P at f e laid binds good u (m ∷ vs) t) ∙ even_of (prio at) good.0.0 in
       elim (same_or_not (nd u) at) as (λ _. met number (m ∷ vs) % 2 ≡ 0) [
         | inl i ↦ done (record { place = u; start = m; before = vs; after = []; is = i; to = p; on = refl; same = sym (append-nil (m ∷ vs)) })
         | inr i ↦ elim (avoids_or_not (IsMove at (Fixpoint false f) e) nd at u (m ∷ vs) u p) as (λ _. met number (m ∷ vs) % 2 ≡ 0) [
-          | inl q ↦ cycles (λ b. (b ≡ at) ⊎ P b) (at + 1) f (put e at (sat l at (Fixpoint false f) e)) laid.1 binds (λ b x. elim x [ inl y ↦ omega arith | inr y ↦ (let n = lower b y in omega arith) ]) good.1 u m vs
+          | inl q ↦ cycles (λ b. (b ≡ at) ⊎ P b) (at + 1) f (put e at (sat l at (Fixpoint false f) e)) laid.1 binds
+              (λ b x. elim x [ inl y ↦ omega arith | inr y ↦ (let n = lower b y in omega arith) ]) good.1 u m vs
               (path_into (λ v. nd v ≡ at → ⊥) (λ v w. IsMove at (Fixpoint false f) e v w × (nd w ≡ at → ⊥)) (IsMove (at + 1) f (put e at (sat l at (Fixpoint false f) e)))
               (λ v w n x. (
                 x.1,

@@ -74,7 +74,8 @@ module _ (l : System) (prio : ℕ → ℕ) (A : Type 0) (c : Comparison A) (val 
 
   -- At a mu the states of lower value are fewer with each turn; at a nu each number of turns will do.
   fixpoint_sound : (flag : Bool) (f : Norm) (at : ℕ) → IsDown at (Fixpoint flag f) → IsFitting prio at (Fixpoint flag f) → IsSound (at + 1) f → IsSound at (Fixpoint flag f)
-  fixpoint_sound flag f at down fits inside e s lt fin cover = go l.states s lt fin (λ is. less_than l.states (λ t. c.over true (prio at) (val t at) (val s at)) s lt (c.not_itself (prio at) (val s at))) cover
+  fixpoint_sound flag f at down fits inside e s lt fin cover = go l.states s lt fin
+      (λ is. less_than l.states (λ t. c.over true (prio at) (val t at) (val s at)) s lt (c.not_itself (prio at) (val s at))) cover
     where
       start : (kind : Bool) (n : ℕ) → (kind ≡ true → n < 0) → not kind ≡ true
       start true n few = let h = few refl in absurd (omega arith)
@@ -90,7 +91,8 @@ module _ (l : System) (prio : ℕ → ℕ) (A : Type 0) (c : Comparison A) (val 
           (λ t tl k.
           go j t tl (c.finite false (prio at) _ _ k)
           (λ is. few_more at s t tl (subst (λ x. IsTrue (c.over x (prio at) (val t at) (val s at))) is (c.trans false flag (prio at) _ _ _ k here)) j (few is))
-          (λ b free x xl kx. cover b free x xl (c.trans false false (prio b) _ _ _ kx (c.coarser false (prio at) (prio b) _ _ (fits.1 b free) (c.trans false false (prio at) _ _ _ k weak))))))
+          (λ b free x xl kx. cover b free x xl (c.trans false false (prio b) _ _ _ kx
+          (c.coarser false (prio at) (prio b) _ _ (fits.1 b free) (c.trans false false (prio at) _ _ _ k weak))))))
 
   -- by recursion on the tree: where values descend, covered states are in the meaning
   pub sound : (f : Norm) (at : ℕ) → IsEach IsDown at f → IsEach (IsFitting prio) at f → IsSound at f

@@ -35,7 +35,8 @@ module _ (l : System) where
       (joined_map flag (mono (at + 1) f e d ed s h) (mono (at + 1 + size f) g e d ed s h) ((junction_is flag (sat l (at + 1) f e s) (sat l (at + 1 + size f) g e s)).0 x))
   mono at (Modality flag a f) e d ed s h x =
       (modality_is flag (sat l (at + 1) f d) (targets l a s)).1
-      (reached_map flag (λ t. Contains (targets l a s) t) (λ t. sat l (at + 1) f e t ≡ true) (λ t. sat l (at + 1) f d t ≡ true) (λ t k. mono (at + 1) f e d ed t (target_below l a s t k))
+      (reached_map flag (λ t. Contains (targets l a s) t) (λ t. sat l (at + 1) f e t ≡ true) (λ t. sat l (at + 1) f d t ≡ true)
+      (λ t k. mono (at + 1) f e d ed t (target_below l a s t k))
       ((modality_is flag (sat l (at + 1) f e) (targets l a s)).0 x))
   mono at (Fixpoint flag f) e d ed s h x =
       turns_mono l.states l.states (body l at f e) (body l at f d) (from flag) (λ u v uv. mono (at + 1) f (put e at u) (put d at v) (put_mono l.states e d at u v ed uv)) s h x
@@ -51,10 +52,12 @@ module _ (l : System) where
   sets_mono at (Junction flag f g) e d ed =
       put_mono l.states (join (at + 1 + size f) (sets l (at + 1) f e) (sets l (at + 1 + size f) g e)) (join (at + 1 + size f) (sets l (at + 1) f d) (sets l (at + 1 + size f) g d)) at
       (sat l at (Junction flag f g) e) (sat l at (Junction flag f g) d)
-      (join_mono l.states (at + 1 + size f) (sets l (at + 1) f e) (sets l (at + 1) f d) (sets l (at + 1 + size f) g e) (sets l (at + 1 + size f) g d) (sets_mono (at + 1) f e d ed) (sets_mono (at + 1 + size f) g e d ed))
+      (join_mono l.states (at + 1 + size f) (sets l (at + 1) f e) (sets l (at + 1) f d) (sets l (at + 1 + size f) g e) (sets l (at + 1 + size f) g d)
+      (sets_mono (at + 1) f e d ed) (sets_mono (at + 1 + size f) g e d ed))
       (mono at (Junction flag f g) e d ed)
   sets_mono at (Modality flag a f) e d ed =
-      put_mono l.states (sets l (at + 1) f e) (sets l (at + 1) f d) at (sat l at (Modality flag a f) e) (sat l at (Modality flag a f) d) (sets_mono (at + 1) f e d ed) (mono at (Modality flag a f) e d ed)
+      put_mono l.states (sets l (at + 1) f e) (sets l (at + 1) f d) at (sat l at (Modality flag a f) e) (sat l at (Modality flag a f) d) (sets_mono (at + 1) f e d ed)
+      (mono at (Modality flag a f) e d ed)
   sets_mono at (Fixpoint flag f) e d ed =
       sets_mono (at + 1) f (put e at (sat l at (Fixpoint flag f) e)) (put d at (sat l at (Fixpoint flag f) d))
       (put_mono l.states e d at (sat l at (Fixpoint flag f) e) (sat l at (Fixpoint flag f) d) ed (mono at (Fixpoint flag f) e d ed))

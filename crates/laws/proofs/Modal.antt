@@ -157,5 +157,6 @@ module _ (l : System) (ok : IsSystem l) where
   modal_means (Either r q) flag lo u F p makes at low v agree s lt = either_means flag r q (modal_means r flag) (modal_means q flag) lo u F p makes at low v agree s lt
   modal_means (Star r) flag lo u F p makes at low v agree s lt = loop_means flag r (modal_means r flag) lo u F p makes at low v agree s lt
   modal_means (Plus r) flag lo u F p makes at low v agree s lt =
-      let i = after_means flag r (loop_of flag (modal flag r)) (Reaches l flag (Star r)) (modal_means r flag) (loop_means flag r (modal_means r flag)) lo u F p makes at low v agree s lt in
+      let i = after_means flag r (loop_of flag (modal flag r)) (Reaches l flag (Star r)) (modal_means r flag)
+      (loop_means flag r (modal_means r flag)) lo u F p makes at low v agree s lt in
       (λ h. let w = i.0 h in (w.2.0, (w.0, w.2.1.0, w.1, w.2.1.1), w.2.2), λ h. i.1 (h.1.0, h.1.2, (h.0, (h.1.1, h.1.3), h.2)))

@@ -26,7 +26,8 @@ rank l at f e k s = least l.states (λ i. sets l (at + 1) f (put e at (iterates 
 -- operand holds; and inside a mu what one chooses with the iterate of the rank. (At nodes of Odd nobody asks.)
 abbrev pub choose : System → ℕ → Norm → Sets → ℕ → ℕ → ℕ
 choose l at (Constant flag) e = λ k s. 0
-choose l at (Junction flag f g) e = put (join (at + 1 + size f) (choose l (at + 1) f e) (choose l (at + 1 + size f) g e)) at (λ s. if sat l (at + 1) f e s then at + 1 else at + 1 + size f)
+choose l at (Junction flag f g) e = put (join (at + 1 + size f) (choose l (at + 1) f e) (choose l (at + 1 + size f) g e)) at
+    (λ s. if sat l (at + 1) f e s then at + 1 else at + 1 + size f)
 choose l at (Modality flag a f) e = put (choose l (at + 1) f e) at (λ s. first (sat l (at + 1) f e) (targets l a s))
 choose l at (Fixpoint true f) e = λ k s. choose l (at + 1) f (put e at (iterates true l at f e (rank l at f e k s))) k s
 choose l at (Fixpoint false f) e = choose l (at + 1) f (put e at (sat l at (Fixpoint false f) e))
@@ -112,7 +113,8 @@ module _ (l : System) where
   module _ (flag : Bool) (at : ℕ) (f g : Norm) (e : Sets) (k s : ℕ) where
     -- at the junction itself the left operand if it holds, else the right one
     pub junction_choice : k ≡ at → choose l at (Junction flag f g) e k s ≡ (if sat l (at + 1) f e s then at + 1 else at + 1 + size f)
-    junction_choice i = ap (λ (u : ℕ → ℕ). u s) (put_here (join (at + 1 + size f) (choose l (at + 1) f e) (choose l (at + 1 + size f) g e)) at (λ s. if sat l (at + 1) f e s then at + 1 else at + 1 + size f) k i)
+    junction_choice i = ap (λ (u : ℕ → ℕ). u s) (put_here (join (at + 1 + size f) (choose l (at + 1) f e) (choose l (at + 1 + size f) g e)) at
+        (λ s. if sat l (at + 1) f e s then at + 1 else at + 1 + size f) k i)
 
     -- inside the left operand the operand's choice
     pub left_choice : (k ≡ at → ⊥) → k < at + 1 + size f → choose l at (Junction flag f g) e k s ≡ choose l (at + 1) f e k s
@@ -143,23 +145,31 @@ module _ (look : ℕ → Shape) where
   stay P at (Junction flag f g) laid binds k m w x =
       let p = size_some f in let q = size_some g in
       elim (same_or_not k at) as (λ _. IsWithin at (Junction flag f g) m ⊎ P m) [
-        | inl e ↦ elim (at_look at k m (JunctionNode flag (at + 1) (at + 1 + size f)) laid.0 e x) [ inl y ↦ inl (record { from = omega arith; to = omega arith }) | inr y ↦ inl (record { from = omega arith; to = omega arith }) ]
+        | inl e ↦ elim (at_look at k m (JunctionNode flag (at + 1) (at + 1 + size f)) laid.0 e x) [
+          | inl y ↦ inl
+              (record { from = omega arith; to = omega arith })
+          | inr y ↦ inl (record { from = omega arith; to = omega arith })
+        ]
         | inr e ↦ elim (below_or_not k (at + 1 + size f)) as (λ _. IsWithin at (Junction flag f g) m ⊎ P m) [
-          | inl b ↦ wider P P at (Junction flag f g) (at + 1) f m (omega arith) (omega arith) (λ x p. inr p) (stay P (at + 1) f laid.1 binds.0 k m (record { from = omega (arith, w.from); to = b }) x)
-          | inr b ↦ wider P P at (Junction flag f g) (at + 1 + size f) g m (omega arith) (omega arith) (λ x p. inr p) (stay P (at + 1 + size f) g laid.2 binds.1 k m (record { from = b; to = omega (arith, w.to) }) x)
+          | inl b ↦ wider P P at (Junction flag f g) (at + 1) f m (omega arith) (omega arith) (λ x p. inr p)
+              (stay P (at + 1) f laid.1 binds.0 k m (record { from = omega (arith, w.from); to = b }) x)
+          | inr b ↦ wider P P at (Junction flag f g) (at + 1 + size f) g m (omega arith) (omega arith) (λ x p. inr p)
+              (stay P (at + 1 + size f) g laid.2 binds.1 k m (record { from = b; to = omega (arith, w.to) }) x)
         ]
       ]
   stay P at (Modality flag a f) laid binds k m w x =
       let p = size_some f in
       elim (same_or_not k at) as (λ _. IsWithin at (Modality flag a f) m ⊎ P m) [
         | inl e ↦ (let y : m ≡ at + 1 = at_look at k m (ModalityNode flag a (at + 1)) laid.0 e x in inl (record { from = omega arith; to = omega arith }))
-        | inr e ↦ wider P P at (Modality flag a f) (at + 1) f m (omega arith) (omega arith) (λ x p. inr p) (stay P (at + 1) f laid.1 binds k m (record { from = omega (arith, w.from); to = omega (arith, w.to) }) x)
+        | inr e ↦ wider P P at (Modality flag a f) (at + 1) f m (omega arith) (omega arith) (λ x p. inr p)
+            (stay P (at + 1) f laid.1 binds k m (record { from = omega (arith, w.from); to = omega (arith, w.to) }) x)
       ]
   stay P at (Fixpoint flag f) laid binds k m w x =
       let p = size_some f in
       elim (same_or_not k at) as (λ _. IsWithin at (Fixpoint flag f) m ⊎ P m) [
         | inl e ↦ (let y : m ≡ at + 1 = at_look at k m (FixpointNode flag (at + 1)) laid.0 e x in inl (record { from = omega arith; to = omega arith }))
-        | inr e ↦ wider (λ b. (b ≡ at) ⊎ P b) P at (Fixpoint flag f) (at + 1) f m (omega arith) (omega arith) (λ x v. elim v [ inl q ↦ inl (record { from = omega arith; to = omega arith }) | inr q ↦ inr q ])
+        | inr e ↦ wider (λ b. (b ≡ at) ⊎ P b) P at (Fixpoint flag f) (at + 1) f m (omega arith) (omega arith)
+            (λ x v. elim v [ inl q ↦ inl (record { from = omega arith; to = omega arith }) | inr q ↦ inr q ])
             (stay (λ b. (b ≡ at) ⊎ P b) (at + 1) f laid.1 binds k m (record { from = omega (arith, w.from); to = omega (arith, w.to) }) x)
       ]
   stay P at (Variable b) laid binds k m w x = let y : m ≡ b = at_look at k m (VariableNode b) laid (omega (arith, w.from, w.to)) x in inr (subst P (sym y) binds)

@@ -14,7 +14,8 @@ use Rattle.laws.proofs.Closing.{normal_closed}
 pub nodes_follow : NodesFollow
 nodes_follow rule f = (
   map_preorder (λ (node : Node). node.shape) (node_at rule) 0 f,
-  each_map (IsSaid (node_at rule) (nodes_by rule 0 f)) (λ k g. priority_in (nodes_by rule 0 f) k ≡ rule k g) 0 f (λ k g e. ap priority_or e) (said (node_at rule) (nodes_by rule 0 f) f refl),
+  each_map (IsSaid (node_at rule) (nodes_by rule 0 f)) (λ k g. priority_in (nodes_by rule 0 f) k ≡ rule k g) 0 f (λ k g e. ap priority_or e)
+      (said (node_at rule) (nodes_by rule 0 f) f refl),
 )
 
 parity_is : (flag : Bool) (n : ℕ) → is_odd (parity_from flag n) ≡ flag
@@ -53,5 +54,6 @@ pub nested_is_admissible : NestedIsAdmissible
 nested_is_admissible f admitted = record {
   shapes = (nodes_follow nested (normal_form f)).0;
   closed = normal_closed f admitted;
-  admissible = nested_fits (priority_in (nodes_by nested 0 (normal_form f))) 0 (normal_form f) (nodes_follow nested (normal_form f)).1 (λ b free. absurd (normal_closed f admitted b free));
+  admissible = nested_fits (priority_in (nodes_by nested 0 (normal_form f))) 0 (normal_form f) (nodes_follow nested (normal_form f)).1
+      (λ b free. absurd (normal_closed f admitted b free));
 }

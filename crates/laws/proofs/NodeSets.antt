@@ -50,11 +50,13 @@ module _ (l : System) where
 
     -- in the left operand the operand's sets
     pub left_sets : (k : ℕ) → (k ≡ at → ⊥) → k < at + 1 + size f → two_sets k ≡ sets l (at + 1) f e k
-    left_sets k h b = put_other (join (at + 1 + size f) (sets l (at + 1) f e) (sets l (at + 1 + size f) g e)) at X k h ∙ join_left (at + 1 + size f) (sets l (at + 1) f e) (sets l (at + 1 + size f) g e) k b
+    left_sets k h b = put_other (join (at + 1 + size f) (sets l (at + 1) f e) (sets l (at + 1 + size f) g e)) at X k h ∙ join_left (at + 1 + size f)
+        (sets l (at + 1) f e) (sets l (at + 1 + size f) g e) k b
 
     -- in the right operand the operand's sets
     pub right_sets : (k : ℕ) → at + 1 + size f ≤ k → two_sets k ≡ sets l (at + 1 + size f) g e k
-    right_sets k b = put_other (join (at + 1 + size f) (sets l (at + 1) f e) (sets l (at + 1 + size f) g e)) at X k (λ q. omega arith) ∙ join_right (at + 1 + size f) (sets l (at + 1) f e) (sets l (at + 1 + size f) g e) k b
+    right_sets k b = put_other (join (at + 1 + size f) (sets l (at + 1) f e) (sets l (at + 1 + size f) g e)) at X k (λ q. omega arith) ∙ join_right (at + 1 + size f)
+        (sets l (at + 1) f e) (sets l (at + 1 + size f) g e) k b
 
     lower_sets : (k : ℕ) → k < at → two_sets k ≡ sets l (at + 1 + size f) g e k
     lower_sets k h = left_sets k (λ q. omega arith) (omega arith) ∙ (sets_low (at + 1) f e k (omega arith) ∙ sym (sets_low (at + 1 + size f) g e k (omega arith)))

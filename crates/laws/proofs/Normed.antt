@@ -68,7 +68,8 @@ inner_at n scope flag binders at u d b x U own half other false stands =
 
 -- the environment below a binder
 pub inner : (n : ℕ) (scope : Scope) (flag : Bool) (binders : List ℕ → ℕ) (at : ℕ) (u : ℕ → ℕ → Bool) (d : Env) (name : List ℕ) (x : ℕ → Bool) (U : ℕ → Type 0) →
-    ((s : ℕ) → s < n → (x s ≡ flag) ↔ U s) → Fits n scope flag binders at u d → Fits n ((name, true) ∷ scope) flag (with_binder binders name at) (at + 1) (put u at x) (with_set d name U)
+    ((s : ℕ) → s < n → (x s ≡ flag) ↔ U s) → Fits n scope flag binders at u d → Fits n ((name, true) ∷ scope) flag (with_binder binders name at) (at + 1) (put u at x)
+    (with_set d name U)
 inner n scope flag binders at u d name x U own fits = (
   λ other stands. inner_at n scope flag binders at u d true x U (λ yes. own) fits.0 other (bytes_eq other name) stands,
   λ other stands. inner_at n (negated scope) (not flag) binders at u d false x U (λ no. absurd (true≢false (sym no))) fits.1 other (bytes_eq other name) stands,
@@ -101,14 +102,16 @@ module _ (l : System) (ok : IsSystem l) where
 
   dia_normed : (r : Regular) (f : Formula) → Normed l f → Normed l (Dia r f)
   dia_normed r f ih flag scope binders at u d p fits s lt =
-      let i = modal_means l ok r flag at u (norm flag binders f) (sat l at (norm flag binders f at) u) (makes_norm f ih flag scope binders at u d p fits) at (at_most_itself at) u (λ b h. refl) s lt in (
+      let i = modal_means l ok r flag at u (norm flag binders f) (sat l at (norm flag binders f at) u) (makes_norm f ih flag scope binders at u d p fits) at
+      (at_most_itself at) u (λ b h. refl) s lt in (
         λ h. let w = i.0 h in (w.0, w.1, (ih flag scope binders at u d p fits w.0 (leads_inside l ok r s w.0 lt w.1)).0 w.2),
         λ h. i.1 (h.0, h.1, (ih flag scope binders at u d p fits h.0 (leads_inside l ok r s h.0 lt h.1)).1 h.2),
       )
 
   box_normed : (r : Regular) (f : Formula) → Normed l f → Normed l (Box r f)
   box_normed r f ih flag scope binders at u d p fits s lt =
-      let i = modal_means l ok r (not flag) at u (norm flag binders f) (sat l at (norm flag binders f at) u) (makes_norm f ih flag scope binders at u d p fits) at (at_most_itself at) u (λ b h. refl) s lt in
+      let i = modal_means l ok r (not flag) at u (norm flag binders f) (sat l at (norm flag binders f at) u) (makes_norm f ih flag scope binders at u d p fits) at
+      (at_most_itself at) u (λ b h. refl) s lt in
       let j = all_of flag (sat l at (modal (not flag) r (norm flag binders f) at) u s) (Leads l r s) (sat l at (norm flag binders f at) u) i in (
         λ h t go. (ih flag scope binders at u d p fits t (leads_inside l ok r s t lt go)).0 (j.0 h t go),
         λ h. j.1 (λ t go. (ih flag scope binders at u d p fits t (leads_inside l ok r s t lt go)).1 (h t go)),
@@ -127,7 +130,8 @@ module _ (l : System) (ok : IsSystem l) where
   normed (And f g) flag scope binders at u d p fits s lt =
       let w = both (is_admitted_in scope f) (is_admitted_in scope g) p in
       let o = operands f g flag flag scope scope binders at u d (normed f) (normed g) w.0 w.1 fits fits s lt in
-      let i = both_of flag (sat l at (two (not flag) (norm flag binders f) (norm flag binders g) at) u s) _ _ (two_tells l (not flag) (norm flag binders f) (norm flag binders g) at u s) in (
+      let i = both_of flag (sat l at (two (not flag) (norm flag binders f) (norm flag binders g) at) u s) _ _
+      (two_tells l (not flag) (norm flag binders f) (norm flag binders g) at u s) in (
         λ h. let k = i.0 h in (o.0.0 k.0, o.1.0 k.1),
         λ h. i.1 (o.0.1 h.0, o.1.1 h.1),
       )
@@ -148,12 +152,16 @@ module _ (l : System) (ok : IsSystem l) where
   normed (Dia r f) flag scope binders at u d p fits s lt = dia_normed r f (normed f) flag scope binders at u d p fits s lt
   normed (Box r f) flag scope binders at u d p fits s lt = box_normed r f (normed f) flag scope binders at u d p fits s lt
   normed (Mu name f) flag scope binders at u d p fits s lt =
-      turns_are l.states l.states flag (λ set. sat l (at + 1) (norm flag (with_binder binders name at) f (at + 1)) (put u at set)) (λ set. mean l f (with_set d name set)) (from flag) (λ t. ⊥)
-      (λ x U same. normed f flag ((name, true) ∷ scope) (with_binder binders name at) (at + 1) (put u at x) (with_set d name U) p (inner l.states scope flag binders at u d name x U same fits))
+      turns_are l.states l.states flag (λ set. sat l (at + 1) (norm flag (with_binder binders name at) f (at + 1)) (put u at set))
+      (λ set. mean l f (with_set d name set)) (from flag) (λ t. ⊥)
+      (λ x U same. normed f flag ((name, true) ∷ scope) (with_binder binders name at) (at + 1) (put u at x) (with_set d name U) p
+      (inner l.states scope flag binders at u d name x U same fits))
       (λ t tl. (λ h. not_flag flag h, λ h. absurd h)) s lt
   normed (Nu name f) flag scope binders at u d p fits s lt =
-      turns_are l.states l.states flag (λ set. sat l (at + 1) (norm flag (with_binder binders name at) f (at + 1)) (put u at set)) (λ set. mean l f (with_set d name set)) (from (not flag)) (λ t. Unit {0})
-      (λ x U same. normed f flag ((name, true) ∷ scope) (with_binder binders name at) (at + 1) (put u at x) (with_set d name U) p (inner l.states scope flag binders at u d name x U same fits))
+      turns_are l.states l.states flag (λ set. sat l (at + 1) (norm flag (with_binder binders name at) f (at + 1)) (put u at set))
+      (λ set. mean l f (with_set d name set)) (from (not flag)) (λ t. Unit {0})
+      (λ x U same. normed f flag ((name, true) ∷ scope) (with_binder binders name at) (at + 1) (put u at x) (with_set d name U) p
+      (inner l.states scope flag binders at u d name x U same fits))
       (λ t tl. (λ h. tt, λ h. not_not flag)) s lt
 
 -- at the root no name may stand

@@ -54,7 +54,8 @@ module _ (l : System) (nodes : List Node) (table : List Measure) (is : IsProgres
   lost fin =
       let w = even_descends game table is 1 (record { owner = Even; priority = 1; successors = 1 ∷ [] }) refl (omega arith) refl in
       let e : w.0 ≡ 1 = only_in 1 w.0 w.1 in
-      not_itself game 1 (value_at table 1) (reaches_over_at game true 1 (value_at table 1) (value_at table 1) refl fin (subst (λ u. Reaches game 1 (value_at table u) (value_at table 1)) e w.2))
+      not_itself game 1 (value_at table 1) (reaches_over_at game true 1 (value_at table 1) (value_at table 1) refl fin
+      (subst (λ u. Reaches game 1 (value_at table u) (value_at table 1)) e w.2))
 
   module _ (at : ℕ) (shape : Shape) (placed_at : slice_get nodes at ≡ Some (record { shape = shape; priority = prio at })) (s : ℕ) (lt : s < l.states) where
     abbrev IsSome : Type 0
@@ -62,11 +63,13 @@ module _ (l : System) (nodes : List Node) (table : List Measure) (is : IsProgres
 
     some_edge : IsSome → owner_of shape ≡ Even → (u : ℕ) × Contains (successors_of l n s shape) u × Reaches game (prio at) (value_at table u) (val s at)
     some_edge some even =
-        even_descends game table is (place n s at) (vertex_of l n s (record { shape = shape; priority = prio at })) (vertex_is l nodes s at (record { shape = shape; priority = prio at }) lt placed_at) some even
+        even_descends game table is (place n s at) (vertex_of l n s (record { shape = shape; priority = prio at }))
+        (vertex_is l nodes s at (record { shape = shape; priority = prio at }) lt placed_at) some even
 
     each_edge : IsSome → owner_of shape ≡ Odd → (u : ℕ) → Contains (successors_of l n s shape) u → Reaches game (prio at) (value_at table u) (val s at)
     each_edge some odd =
-        odd_descends game table is (place n s at) (vertex_of l n s (record { shape = shape; priority = prio at })) (vertex_is l nodes s at (record { shape = shape; priority = prio at }) lt placed_at) some odd
+        odd_descends game table is (place n s at) (vertex_of l n s (record { shape = shape; priority = prio at }))
+        (vertex_is l nodes s at (record { shape = shape; priority = prio at }) lt placed_at) some odd
 
     -- the only successor
     one_edge : (u : ℕ) → successors_of l n s shape ≡ u ∷ [] → owner_of shape ≡ Even → Reaches game (prio at) (value_at table u) (val s at)

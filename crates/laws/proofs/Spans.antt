@@ -26,10 +26,11 @@ module _ (look : ℕ → Shape) (prio : ℕ → ℕ) where
   part_held at f laid fits = record {
     span = size f;
     has = size_some f;
-    leaves = λ k m lo hi next. elim (stay look (λ b. prio at ≤ prio b) at f laid (from_free (λ b. prio at ≤ prio b) at f (fits_outer prio at f fits)) k m (record { from = lo; to = hi }) next) [
-      | inl w ↦ inl (w.from, w.to)
-      | inr p ↦ inr p
-    ];
+    leaves = λ k m lo hi next. elim (stay look (λ b. prio at ≤ prio b) at f laid (from_free (λ b. prio at ≤ prio b) at f (fits_outer prio at f fits)) k m
+        (record { from = lo; to = hi }) next) [
+          | inl w ↦ inl (w.from, w.to)
+          | inr p ↦ inr p
+        ];
   }
 
   -- each node of the tree has a span

@@ -142,11 +142,13 @@ module _ (l : System) (ok : IsSystem l) where
       (to_sets (at + 1) f E e like k s h x)
   to_sets at (Junction flag f g) E e like k s h (inr (inr x)) =
       let w = node_within l (at + 1 + size f) g E k s x in
-      at_set (sets l at (Junction flag f g) e) (sets l (at + 1 + size f) g e) k s (right_sets l at f g e (sat l at (Junction flag f g) e) k w.from) (to_sets (at + 1 + size f) g E e like k s h x)
+      at_set (sets l at (Junction flag f g) e) (sets l (at + 1 + size f) g e) k s (right_sets l at f g e (sat l at (Junction flag f g) e) k w.from)
+      (to_sets (at + 1 + size f) g E e like k s h x)
   to_sets at (Modality flag a f) E e like k s h (inl x) = root_to at (Modality flag a f) E e like k s h x
   to_sets at (Modality flag a f) E e like k s h (inr x) =
       let w = node_within l (at + 1) f E k s x in
-      at_set (sets l at (Modality flag a f) e) (sets l (at + 1) f e) k s (one_sets l at f e (sat l at (Modality flag a f) e) k (λ q. omega (arith, w.from))) (to_sets (at + 1) f E e like k s h x)
+      at_set (sets l at (Modality flag a f) e) (sets l (at + 1) f e) k s (one_sets l at f e (sat l at (Modality flag a f) e) k (λ q. omega (arith, w.from)))
+      (to_sets (at + 1) f E e like k s h x)
   to_sets at (Fixpoint flag f) E e like k s h (inl x) = root_to at (Fixpoint flag f) E e like k s h x
   to_sets at (Fixpoint flag f) E e like k s h (inr x) =
       to_sets (at + 1) f (with_set E (binder_name at) (tree_mean l at (Fixpoint flag f) E)) (put e at (sat l at (Fixpoint flag f) e)) (inside_like at (Fixpoint flag f) E e like) k s h x
@@ -173,7 +175,8 @@ module _ (l : System) (ok : IsSystem l) where
   from_sets at (Fixpoint flag f) E e like k s h w x =
       elim (same_or_not k at) as (λ _. node_mean l at (Fixpoint flag f) E k s) [
         | inl i ↦ inl (to_root at (Fixpoint flag f) E e like k s h i x)
-        | inr i ↦ inr (from_sets (at + 1) f (with_set E (binder_name at) (tree_mean l at (Fixpoint flag f) E)) (put e at (sat l at (Fixpoint flag f) e)) (inside_like at (Fixpoint flag f) E e like) k s h
+        | inr i ↦ inr (from_sets (at + 1) f (with_set E (binder_name at) (tree_mean l at (Fixpoint flag f) E)) (put e at (sat l at (Fixpoint flag f) e))
+            (inside_like at (Fixpoint flag f) E e like) k s h
             (record { from = omega (arith, w.from); to = omega (arith, w.to) }) x)
       ]
   from_sets at (Variable b) E e like k s h w x = to_root at (Variable b) E e like k s h (omega (arith, w.from, w.to)) x

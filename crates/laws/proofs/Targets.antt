@@ -25,7 +25,12 @@ target_leads l a s t h =
     let w = any_gives (arrow_test a s t) l.arrows (filter_gives (is_step l a s) (range_with_len 0 l.states) t h).1 in
     let v = both (w.0.source == s && w.0.target == t) (holds a w.0.label) w.2 in
     let u = both (w.0.source == s) (w.0.target == t) v.0 in
-    let e : w.0 ≡ record { source = s; label = w.0.label; target = t } = λ i. record { source = (eqb-true w.0.source s u.0) i; label = w.0.label; target = (eqb-true w.0.target t u.1) i } in
+    let e : w.0 ≡ record { source = s; label = w.0.label; target = t } = λ i. record {
+      source = (eqb-true w.0.source s u.0) i;
+      label = w.0.label;
+      target =
+          (eqb-true w.0.target t u.1) i;
+    } in
     (w.0.label, subst (λ (y : Arrow). Contains l.arrows y) e w.1, v.1)
 
 -- where the step leads is a target

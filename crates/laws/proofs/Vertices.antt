@@ -79,5 +79,6 @@ past_two x y xs (suc (suc j)) k e = let h : j ≡ k = omega arith in ap (slice_g
 pub vertex_is : (l : System) (nodes : List Node) (s k : ℕ) (node : Node) → s < l.states → slice_get nodes k ≡ Some node
     → vertex (arena l nodes) (place (length nodes) s k) ≡ Some (vertex_of l (length nodes) s node)
 vertex_is l nodes s k node h e =
-    past_two (record { owner = Even; priority = 0; successors = 0 ∷ [] }) (record { owner = Even; priority = 1; successors = 1 ∷ [] }) (rows l nodes (range_with_len 0 l.states)) (place (length nodes) s k) (s * length nodes + k) refl
+    past_two (record { owner = Even; priority = 0; successors = 0 ∷ [] }) (record { owner = Even; priority = 1; successors = 1 ∷ [] })
+    (rows l nodes (range_with_len 0 l.states)) (place (length nodes) s k) (s * length nodes + k) refl
     ∙ get_row l nodes (range_with_len 0 l.states) s (s * length nodes + k) s k node (let q : 0 + s ≡ s = omega arith in get_range 0 l.states s h ∙ ap Some q) e refl

@@ -148,7 +148,8 @@ module _ (l : System) (f : Norm) (nodes : List Node) (ok : IsNodes f nodes) wher
   is_choice u x = choices l look 0 f nothing (laid f nodes ok) (st n u) (nd n u) (within (nd n u) (node_below u)) x.holds
 
   choice_at : (u : ℕ) → IsSeat u → choice u ≡ to_vertex n (look (nd n u)) (chosen u) (st n u)
-  choice_at u x = if_false (u == 0) 0 (to_vertex n (look (nd n u)) (chosen u) (st n u)) (elim (eqb_tells u 0) [ inl e ↦ absurd (let q = e.1 in let t = x.two in omega arith) | inr e ↦ e.0 ])
+  choice_at u x = if_false (u == 0) 0 (to_vertex n (look (nd n u)) (chosen u) (st n u))
+      (elim (eqb_tells u 0) [ inl e ↦ absurd (let q = e.1 in let t = x.two in omega arith) | inr e ↦ e.0 ])
 
   edge_at : (u t : ℕ) → IsSeat u → Edge Even g choice u t → (t ≡ 0) ⊎ IsLed l n (look (nd n u)) (chosen u) (st n u) t
   edge_at u t x (v, is, how) =
@@ -169,7 +170,8 @@ module _ (l : System) (f : Norm) (nodes : List Node) (ok : IsNodes f nodes) wher
       let to : IsWithin 0 f y.node = elim (stay look (λ b. ⊥) 0 f (laid f nodes ok) free (nd n u) y.node w y.next) [ inl a ↦ a | inr a ↦ absurd a ] in
       let below : y.node < n = let e = many in let h = to.to in omega arith in
       let state : y.state < l.states = moves_below l (look (nd n u)) (chosen u) (st n u) y.state y.node x.state y.moves in
-      let there : Holds y.state y.node = closed l look (λ b. ⊥) 0 f nothing (laid f nodes ok) free (λ b z. absurd z) (st n u) (nd n u) y.state y.node w x.state x.holds (y.next, y.moves) in
+      let there : Holds y.state y.node = closed l look (λ b. ⊥) 0 f nothing (laid f nodes ok) free (λ b z. absurd z) (st n u) (nd n u) y.state y.node w x.state x.holds
+      (y.next, y.moves) in
       let s : st n t ≡ y.state = ap (st n) y.is ∙ st_place n y.state y.node below in
       let k : nd n t ≡ y.node = ap (nd n) y.is ∙ nd_place n y.state y.node below in
       let z : IsSeat t = subst IsSeat (sym y.is) (seat y.state y.node state below there) in (
@@ -191,7 +193,8 @@ module _ (l : System) (f : Norm) (nodes : List Node) (ok : IsNodes f nodes) wher
   zero_edge : (u t : ℕ) → u ≡ 0 → Edge Even g choice u t → t ≡ 0
   zero_edge u t e (v, is, inl o) = o.1 ∙ ap choice e
   zero_edge u t e (v, is, inr o) =
-      let q : v ≡ record { owner = Even; priority = 0; successors = 0 ∷ [] } = some_same v (record { owner = Even; priority = 0; successors = 0 ∷ [] }) (vertex g u) is (ap (vertex g) e) in
+      let q : v ≡ record { owner = Even; priority = 0; successors = 0 ∷ [] } = some_same v (record { owner = Even; priority = 0; successors = 0 ∷ [] }) (vertex g u) is
+      (ap (vertex g) e) in
       absurd (o.0 (ap (λ (y : Vertex). y.owner) q))
 
   zeros : (u : ℕ) (vs : List ℕ) (t : ℕ) → u ≡ 0 → IsPath (Edge Even g choice) u vs t → greatest_met g vs ≡ 0
@@ -234,7 +237,8 @@ module _ (l : System) (f : Norm) (nodes : List Node) (ok : IsNodes f nodes) wher
     ];
     own = λ u v h is o. elim (in_set u h) [
       | inl e ↦ (
-          let q : v ≡ record { owner = Even; priority = 0; successors = 0 ∷ [] } = some_same v (record { owner = Even; priority = 0; successors = 0 ∷ [] }) (vertex g u) is (ap (vertex g) e) in
+          let q : v ≡ record { owner = Even; priority = 0; successors = 0 ∷ [] } = some_same v (record { owner = Even; priority = 0; successors = 0 ∷ [] })
+          (vertex g u) is (ap (vertex g) e) in
           subst (λ (y : Vertex). Contains y.successors (choice u)) (sym q) (0, omega arith, sym (ap choice e)))
       | inr x ↦ (
           let a = at_seat u x in
@@ -267,6 +271,12 @@ meaning_wins l f nodes system ok =
         | inl z ↦ inl z
         | inr x ↦ (
             let b = node_below l f nodes ok u in
-            inr (st (length nodes) u, nd (length nodes) u, x.state, place_of (length nodes) u x.two, (sets_mean l f system (st (length nodes) u) (nd (length nodes) u) x.state (omega arith)).1 x.holds))
+            inr (
+              st (length nodes) u,
+              nd (length nodes) u,
+              x.state,
+              place_of (length nodes) u x.two,
+              (sets_mean l f system (st (length nodes) u) (nd (length nodes) u) x.state (omega arith)).1 x.holds,
+            ))
       ];
     }
