@@ -2,8 +2,16 @@ pub mod RegularUnique
 pub mod Unambiguous
 pub mod Pieces
 pub mod OneText
+pub mod Counted
+pub mod Fixpoints
+pub mod Inside
+pub mod Entering
+pub mod Same
 pub mod Ascending
 pub mod Canonical
 pub mod CanonicalText
 pub mod Spellable
 pub mod Printing
+pub mod Grown
+pub mod Decided
+pub mod Binders

@@ -10,3 +10,4 @@ pub mod Spells
 pub mod Fault
 pub mod Closed
 pub mod Laws
+pub mod FixpointLaws

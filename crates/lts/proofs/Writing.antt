@@ -1,5 +1,6 @@
 -- Pieces that are written one after another are one text.
-use Rattle.std.proofs.Common.{ℕ, List, [], ◌++◌, Option, Result, Ok, Err, refl, sym, ap, ◌∙◌, append_assoc}
+use Rattle.std.proofs.Common.{◌≡◌, subst, true≢false, ℕ, List, [], ◌++◌, Option, Result, Ok, Err, refl, sym, ap, ◌∙◌, append_assoc}
+use Rattle.std.specs.Result.{IsErr}
 use Rattle.std.specs.Io.KnownBytes.{Appends}
 use Rattle.std.proofs.KnownBytes.{Appends-nil, Appends-trans}
 use Rattle.lts.specs.Wrote.{Wrote, WroteFront}
@@ -34,3 +35,15 @@ WroteFront-after a b c piece next h k = record {
 pub Wrote-after : {T E : Type 0} → (a b c : Option (List ℕ)) (piece next : List ℕ) (r : Result T E) → Appends a b piece → Wrote b c r next → Wrote a c r (piece ++ next)
 Wrote-after a b c piece next (Ok x) h k = Appends-trans a b c piece next h k
 Wrote-after a b c piece next (Err e) h k = WroteFront-after a b c piece next h k
+
+-- a call that failed and wrote a beginning
+pub Wrote-err : {T E : Type 0} → (a b : Option (List ℕ)) (r : Result T E) (text : List ℕ) → IsErr r → WroteFront a b text → Wrote a b r text
+Wrote-err a b (Ok x) text h w = absurd (true≢false (sym h))
+Wrote-err a b (Err e) text h w = w
+
+-- the same of an equal text
+pub Wrote-as : {T E : Type 0} → (a b : Option (List ℕ)) (r : Result T E) (text same : List ℕ) → text ≡ same → Wrote a b r text → Wrote a b r same
+Wrote-as a b r text same e h = subst (λ t. Wrote a b r t) e h
+
+-- for the exits of a function that writes one piece after another
+pub ruleset writing = (Wrote-err, Wrote-after, WroteFront-more, WroteFront-after)

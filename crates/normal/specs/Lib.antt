@@ -1,3 +1,9 @@
 pub mod Tree
 pub mod Nodes
+pub mod Form
 pub mod View
+pub mod Normal
+pub mod Part
+pub mod Writes
+pub mod Refused
+pub mod Laws

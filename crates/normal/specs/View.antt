@@ -1,5 +1,5 @@
 -- What the nodes of the program stand for.
-use Rattle.std.specs.Prelude.{ℕ, true, false, List, map}
+use Rattle.std.specs.Prelude.{true, false, List, map}
 use Rattle.formula.specs.View.{action_of}
 use Rattle.normal.specs.Tree.{Shape, ConstantNode, JunctionNode, ModalityNode, FixpointNode, VariableNode}
 use Rattle.normal.specs.Nodes as model

@@ -1,4 +1,12 @@
 // The normal form of a formula.
 #![tactic(auto)]
 
+pub mod action;
+pub mod count;
+pub mod error;
+pub mod form;
+pub mod law;
+pub mod make;
 pub mod node;
+pub mod part;
+pub mod write;

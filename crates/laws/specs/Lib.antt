@@ -1,0 +1,3 @@
+pub mod Admissible
+pub mod NodeMeaning
+pub mod Laws

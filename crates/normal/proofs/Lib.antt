@@ -1,0 +1,5 @@
+pub mod Counts
+pub mod Costs
+pub mod Writing
+pub mod Depth
+pub mod Numbers

@@ -1,0 +1,49 @@
+// Copies of action formulas.
+
+ghost use Rattle.std.specs.Prelude.{◌≡◌, IfOk, map};
+ghost use Rattle.formula.specs.View.{action_of};
+
+use formula::tree::Act;
+use std::alloc::{AllocError, Global};
+
+// A copy of a list of names.
+fn copied_names(alloc: Global, names: &[Vec<u8>]) -> Result<Vec<Vec<u8>>, AllocError>
+    ensures { IfOk result (λ copy. map (λ name. name.items) copy.items ≡ map (λ name. name.items) names.now) }
+{
+    let mut copy = Vec::new(alloc);
+    for name in names {
+        copy.push(Vec::from_slice(alloc, name)?)?;
+    }
+    Ok(copy)
+}
+
+/// A copy of an action formula.
+pub fn copied(alloc: Global, action: &Act) -> Result<Act, AllocError>
+    ensures { IfOk result (λ copy. action_of copy ≡ action_of action.now) }
+{
+    match action {
+        Act::True => Ok(Act::True),
+        Act::False => Ok(Act::False),
+        Act::Names(names) => Ok(Act::Names(copied_names(alloc, names)?)),
+        Act::Quoted(bytes) => Ok(Act::Quoted(Vec::from_slice(alloc, bytes)?)),
+        Act::Not(operand) => {
+            let operand = copied(alloc, operand)?;
+            Ok(Act::Not(Box::new(alloc, operand)?))
+        }
+        Act::And(left, right) => {
+            let left = copied(alloc, left)?;
+            let right = copied(alloc, right)?;
+            Ok(Act::And(Box::new(alloc, left)?, Box::new(alloc, right)?))
+        }
+        Act::Or(left, right) => {
+            let left = copied(alloc, left)?;
+            let right = copied(alloc, right)?;
+            Ok(Act::Or(Box::new(alloc, left)?, Box::new(alloc, right)?))
+        }
+        Act::Implies(left, right) => {
+            let left = copied(alloc, left)?;
+            let right = copied(alloc, right)?;
+            Ok(Act::Implies(Box::new(alloc, left)?, Box::new(alloc, right)?))
+        }
+    }
+}

@@ -1,0 +1,74 @@
+// How many nodes a formula's normal form has, found without making any.
+
+ghost use Rattle.std.specs.Prelude.{◌≡◌, ◌<◌, ◌≤◌, MatchOption};
+ghost use Rattle.formula.specs.View.{regular_of, formula_of};
+ghost use Rattle.normal.specs.Tree.{count as count_of, modal_count as modal_count_of};
+
+use formula::tree::{Reg, State};
+
+/// How many nodes a normal form has at most.
+pub const MOST_NODES: usize = 4096;
+
+// The number, where it is within the limit.
+fn within(number: u32) -> Option<u32>
+    ensures { MatchOption result (4096 < number) (λ n. (n ≡ number) × (n ≤ 4096)) }
+{
+    if number as usize <= MOST_NODES {
+        Some(number)
+    } else {
+        None
+    }
+}
+
+/// How many nodes the normal form has, or nothing where there are more than the limit allows. It stops where the limit is passed.
+#[tactic(auto, using(crate::proofs::Counts::modal_count_grows))]
+pub fn count(formula: &State) -> Option<u32>
+    ensures { MatchOption result (4096 < count_of (formula_of formula.now)) (λ n. (n ≡ count_of (formula_of formula.now)) × (n ≤ 4096)) }
+{
+    match formula {
+        State::True | State::False | State::Var(_) => Some(1),
+        State::Not(f) => count(f),
+        State::And(f, g) | State::Or(f, g) | State::Implies(f, g) => {
+            let left = count(f)?;
+            let right = count(g)?;
+            within(1 + left + right)
+        }
+        State::Dia(r, f) | State::Box(r, f) => {
+            let operand = count(f)?;
+            modal_count(r, operand)
+        }
+        State::Mu(_, f) | State::Nu(_, f) => {
+            let operand = count(f)?;
+            within(1 + operand)
+        }
+    }
+}
+
+// The same for a modality, whose operand has so many nodes.
+#[tactic(auto, using(crate::proofs::Counts::modal_count_grows))]
+fn modal_count(regular: &Reg, operand: u32) -> Option<u32>
+    requires { operand ≤ 4096 }
+    ensures { MatchOption result (4096 < modal_count_of (regular_of regular.now) operand) (λ n. (n ≡ modal_count_of (regular_of regular.now) operand) × (n ≤ 4096)) }
+{
+    match regular {
+        Reg::Act(_) => within(1 + operand),
+        Reg::Seq(r, s) => {
+            let rest = modal_count(s, operand)?;
+            modal_count(r, rest)
+        }
+        Reg::Choice(r, s) => {
+            let left = modal_count(r, operand)?;
+            let right = modal_count(s, operand)?;
+            within(1 + left + right)
+        }
+        Reg::Star(r) => {
+            let step = modal_count(r, 1)?;
+            within(2 + operand + step)
+        }
+        Reg::Plus(r) => {
+            let step = modal_count(r, 1)?;
+            let rest = within(2 + operand + step)?;
+            modal_count(r, rest)
+        }
+    }
+}

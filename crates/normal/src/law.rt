@@ -1,0 +1,13 @@
+// What holds of all normal forms.
+
+ghost use Rattle.normal.specs.Laws.{PriorityWithinDepth, CountIsSize};
+
+/// The greatest priority is at most the depth.
+pub fn priority_within_depth()
+    ensures { PriorityWithinDepth }
+{}
+
+/// A formula's normal form has as many nodes as are counted without making it.
+pub fn count_is_size()
+    ensures { CountIsSize }
+{}
