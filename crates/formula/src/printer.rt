@@ -197,3 +197,82 @@ fn put_quoted<W: Write>(bytes: &[u8], writer: &mut W) -> Result<(), WriteFault>
     put(writer, bytes)?;
     put(writer, b"\"")
 }
+
+#[cfg(test)]
+mod tests {
+    use super::*;
+    use std::alloc::{AllocError, Global};
+    use std::test::Fail;
+
+    fn named(alloc: Global, name: &[u8]) -> Result<Act, AllocError> {
+        Ok(Act::Names(vec![in alloc; name.to_vec(alloc)?]?))
+    }
+
+    fn after(alloc: Global, name: &[u8], operand: State) -> Result<State, AllocError> {
+        Ok(State::Dia(Reg::Act(named(alloc, name)?), Box::new(alloc, operand)?))
+    }
+
+    // nu X. mu Y. (<a>X || <b>Y)
+    fn often(alloc: Global) -> Result<State, AllocError> {
+        let left = after(alloc, b"a", State::Var(b"X".to_vec(alloc)?))?;
+        let right = after(alloc, b"b", State::Var(b"Y".to_vec(alloc)?))?;
+        let either = State::Or(Box::new(alloc, left)?, Box::new(alloc, right)?);
+        let inner = State::Mu(b"Y".to_vec(alloc)?, Box::new(alloc, either)?);
+        Ok(State::Nu(b"X".to_vec(alloc)?, Box::new(alloc, inner)?))
+    }
+
+    // <a + + b>true
+    fn repeated_or_b(alloc: Global) -> Result<State, AllocError> {
+        let repeated = Reg::Plus(Box::new(alloc, Reg::Act(named(alloc, b"a")?))?);
+        let other = Reg::Act(named(alloc, b"b")?);
+        let either = Reg::Choice(Box::new(alloc, repeated)?, Box::new(alloc, other)?);
+        Ok(State::Dia(either, Box::new(alloc, State::True)?))
+    }
+
+    // mu X. !(X => false)
+    fn twice_negated(alloc: Global) -> Result<State, AllocError> {
+        let variable = State::Var(b"X".to_vec(alloc)?);
+        let implied = State::Implies(Box::new(alloc, variable)?, Box::new(alloc, State::False)?);
+        let body = State::Not(Box::new(alloc, implied)?);
+        Ok(State::Mu(b"X".to_vec(alloc)?, Box::new(alloc, body)?))
+    }
+
+    // [("r(1)" . (a|b && !tau))*]false
+    fn boxed(alloc: Global) -> Result<State, AllocError> {
+        let both = Act::Names(vec![in alloc; b"a".to_vec(alloc)?, b"b".to_vec(alloc)?]?);
+        let silent = Act::Names(Vec::new(alloc));
+        let loud = Act::Not(Box::new(alloc, silent)?);
+        let second = Reg::Act(Act::And(Box::new(alloc, both)?, Box::new(alloc, loud)?));
+        let first = Reg::Act(Act::Quoted(b"r(1)".to_vec(alloc)?));
+        let steps = Reg::Seq(Box::new(alloc, first)?, Box::new(alloc, second)?);
+        let repeated = Reg::Star(Box::new(alloc, steps)?);
+        Ok(State::Box(repeated, Box::new(alloc, State::False)?))
+    }
+
+    #[test]
+    fn writes_canonical_texts(rt: HostRuntime) -> Result<(), Fail> {
+        let alloc = rt.alloc();
+        let rows = [
+            (often(alloc)?, "(nu X. (mu Y. (<a>X || <b>Y)))"),
+            (repeated_or_b(alloc)?, "<(a+ + b)>true"),
+            (twice_negated(alloc)?, "(mu X. !(X => false))"),
+            (boxed(alloc)?, "[(\"r(1)\" . (a|b && !tau))*]false"),
+        ];
+        for (formula, text) in &rows {
+            let mut written = Vec::new(alloc);
+            put_state(formula, &mut written)?;
+            assert_eq!(rt; written.as_slice(), text.as_bytes());
+        }
+        Ok(())
+    }
+
+    #[test]
+    fn stops_where_the_writer_is_full(rt: HostRuntime) -> Result<(), Fail> {
+        let mut taken = [0; 10];
+        let mut writer = taken.as_mut_slice();
+        let result = put_state(&often(rt.alloc())?, &mut writer);
+        assert_eq!(rt; result, Err(WriteFault));
+        assert_eq!(rt; taken.as_slice(), b"(nu X. (mu".as_slice());
+        Ok(())
+    }
+}
