@@ -9,3 +9,6 @@ pub mod Syntax
 pub mod Spells
 pub mod Fault
 pub mod Closed
+pub mod Written
+pub mod Read
+pub mod Cutting

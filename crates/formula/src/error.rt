@@ -1,5 +1,6 @@
 // Why a text gave no formula.
 
+use std::alloc::AllocError;
 use thiserror::Error;
 
 /// What is wrong with a text that spells no admitted formula within the limits. It is shown as its code.
@@ -40,4 +41,11 @@ pub enum FormulaError {
     /// A growth was refused.
     #[error("F9")]
     Memory,
+}
+
+impl From<AllocError> for FormulaError {
+    fn from(error: AllocError) -> Self {
+        let _ = error;
+        FormulaError::Memory
+    }
 }

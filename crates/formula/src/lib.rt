@@ -4,4 +4,19 @@
 pub mod closed;
 pub mod error;
 pub mod label;
+mod lexer;
+mod meant;
+mod operands;
+pub mod reader;
+mod regular;
+mod room;
+mod scope;
+mod state;
+mod token;
 pub mod tree;
+mod written;
+
+pub use reader::parse;
+
+#[cfg(test)]
+mod tests;

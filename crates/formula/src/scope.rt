@@ -1,0 +1,69 @@
+// Finds the variables that may not stand where they do. Places are numbers of tokens.
+
+use crate::error::FormulaFault;
+use crate::written::{Connective, WrittenRegular, WrittenState};
+
+/// The binders around a place, the innermost first.
+#[derive(Clone, Copy)]
+pub enum Scope<'a> {
+    Empty,
+    /// A name, the parity of the negations around its binder, and the binders around that.
+    Binder(&'a [u8], bool, &'a Scope<'a>),
+}
+
+/// A variable that may not stand at its place.
+#[derive(Clone, Copy)]
+pub struct Misplaced {
+    pub place: usize,
+    pub fault: FormulaFault,
+}
+
+/// What is wrong with a variable under negations of this parity.
+fn variable_fault(name: &[u8], scope: &Scope, parity: bool) -> Option<FormulaFault> {
+    match scope {
+        Scope::Empty => Some(FormulaFault::Unbound),
+        Scope::Binder(bound, binder_parity, outer) => {
+            if name != *bound {
+                variable_fault(name, outer, parity)
+            } else if *binder_parity == parity {
+                None
+            } else {
+                Some(FormulaFault::OddNegations)
+            }
+        }
+    }
+}
+
+/// How many tokens a regular formula has.
+fn token_count(regular: &WrittenRegular) -> usize {
+    match regular {
+        WrittenRegular::True | WrittenRegular::False | WrittenRegular::Tau | WrittenRegular::Quoted(_) => 1,
+        WrittenRegular::Names(_, others) => 1 + 2 * others.len(),
+        WrittenRegular::Parens(inner) => token_count(inner) + 2,
+        WrittenRegular::Not(inner) | WrittenRegular::Repeated(_, inner) => token_count(inner) + 1,
+        WrittenRegular::Joined(_, left, right) => token_count(left) + 1 + token_count(right),
+    }
+}
+
+/// The place after a formula that begins at this place, or its first variable that may not stand where it does.
+pub fn variables(state: &WrittenState, scope: &Scope, parity: bool, at: usize) -> Result<usize, Misplaced> {
+    match state {
+        WrittenState::True | WrittenState::False => Ok(at + 1),
+        WrittenState::Var(name) => match variable_fault(name, scope, parity) {
+            None => Ok(at + 1),
+            Some(fault) => Err(Misplaced { place: at, fault }),
+        },
+        WrittenState::Group(inner) => Ok(variables(inner, scope, parity, at + 1)? + 1),
+        WrittenState::Not(inner) => variables(inner, scope, !parity, at + 1),
+        WrittenState::Joined(sign, left, right) => {
+            let left_parity = match sign {
+                Connective::Implies => !parity,
+                Connective::And | Connective::Or => parity,
+            };
+            let place = variables(left, scope, left_parity, at)?;
+            variables(right, scope, parity, place + 1)
+        }
+        WrittenState::Modal(_, regular, inner) => variables(inner, scope, parity, at + token_count(regular) + 2),
+        WrittenState::Bind(_, name, inner) => variables(inner, &Scope::Binder(name, parity, scope), parity, at + 3),
+    }
+}
