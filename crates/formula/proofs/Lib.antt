@@ -3,3 +3,9 @@ pub mod States
 pub mod Cuts
 pub mod Gaps
 pub mod Lexed
+pub mod RegularUnique
+pub mod Unambiguous
+pub mod Pieces
+pub mod OneText
+pub mod Inside
+pub mod Same

@@ -12,3 +12,4 @@ pub mod Closed
 pub mod Written
 pub mod Read
 pub mod Cutting
+pub mod Laws

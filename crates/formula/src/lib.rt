@@ -13,6 +13,7 @@ mod room;
 mod scope;
 mod state;
 mod token;
+pub mod law;
 pub mod tree;
 mod written;
 

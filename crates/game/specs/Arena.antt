@@ -1,5 +1,5 @@
 -- The parity game of a system and a normal form.
-use Rattle.std.specs.Prelude.{ℕ, ◌+◌, ◌*◌, Bool, true, false, ◌&&◌, List, [], ◌∷◌, ◌++◌, length, map, filter, Some, ◌==◌, if◌then◌else◌}
+use Rattle.std.specs.Prelude.{ℕ, ◌+◌, ◌*◌, ◌<◌, Option, MatchOption, option_map, Bool, false, ◌&&◌, List, [], ◌∷◌, ◌++◌, length, map, filter, Some, ◌==◌, if◌then◌else◌}
 use Rattle.std.specs.List.{list_any, range_with_len}
 use Rattle.lts.specs.System.{System}
 use Rattle.formula.specs.Tree.{Action}
@@ -21,6 +21,14 @@ targets l a s = filter (is_step l a s) (range_with_len 0 l.states)
 -- the vertex of state s with node k of K
 abbrev pub place : ℕ → ℕ → ℕ → ℕ
 place nodes s k = 2 + (s * nodes + k)
+
+-- a state and a node of the numbers by which the game's vertices are named
+abbrev pub AreNames : Game → ℕ → ℕ → Type 0
+AreNames g s k = MatchOption g.named ⊥ (λ n. (s < n.0) × (k < n.1))
+
+-- the vertex of these names
+abbrev pub place_in : Game → ℕ → ℕ → Option ℕ
+place_in g s k = option_map (λ n. place n.1 s k) g.named
 
 -- these vertices, or else this one
 abbrev pub or_else : List ℕ → ℕ → List ℕ

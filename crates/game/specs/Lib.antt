@@ -1,3 +1,5 @@
 pub mod Game
 pub mod Arena
 pub mod Wins
+pub mod Rises
+pub mod View

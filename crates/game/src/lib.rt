@@ -1,4 +1,7 @@
 // Parity games.
 #![tactic(auto)]
 
+pub mod error;
+pub mod graph;
+pub mod name;
 pub mod player;

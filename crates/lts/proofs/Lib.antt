@@ -1,2 +1,3 @@
 mod Unique
 pub mod Rows
+pub mod Writing

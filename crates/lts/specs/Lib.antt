@@ -6,3 +6,4 @@ pub mod Numbered
 pub mod View
 pub mod Aut
 pub mod Laws
+pub mod Wrote

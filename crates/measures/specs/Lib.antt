@@ -1,2 +1,4 @@
 pub mod Measure
 pub mod Progress
+pub mod Lifting
+pub mod Laws

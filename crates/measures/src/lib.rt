@@ -1,2 +1,4 @@
 // Progress measures of parity games.
 #![tactic(auto)]
+
+pub mod law;

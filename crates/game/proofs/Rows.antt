@@ -1,0 +1,78 @@
+-- The vertices of stored rows.
+use Rattle.std.proofs.Common.{◌≡◌, ◌==◌, ◌+◌, ◌≤◌, ◌<◌, ℕ, false, List, [], ◌∷◌, ◌++◌, length, take, drop, slice_index, cond, ap, sym, ◌∙◌, refl, arith, length-drop, length-append}
+use Rattle.std.specs.Prelude.{count_by, if◌then◌else◌}
+use Rattle.std.specs.List.{AllByRecursion, sum_by}
+use Rattle.std.proofs.lemmas.List.{take-append-le, drop-append-le, map-append}
+use Rattle.std.proofs.Math.Seq.{drop-append_seam}
+use Rattle.std.proofs.lemmas.List.Sums.{sum_by-append, sum_by-cons}
+use Rattle.std.proofs.lemmas.Bool.{ne_eqb}
+use Rattle.game.specs.Game.{Vertex, IsVertex}
+use Rattle.game.specs.View.{vertex_of_row, vertices_of, AreStored}
+use Rattle.game.specs.declared.graph.Row.{Row}
+
+-- what holds of each of the first and of one more holds of each
+pub all_more : {X : Type 0} (P : X → Type 0) (xs : List X) (x : X) → AllByRecursion P xs → P x → AllByRecursion P (xs ++ x ∷ [])
+all_more P [] x h k = (k, tt)
+all_more P (y ∷ xs) x h k = (h.0, all_more P xs x h.1 k)
+
+-- what follows from the one follows of each from the other
+pub all_from : {X : Type 0} (P Q : X → Type 0) → ((x : X) → P x → Q x) → (xs : List X) → AllByRecursion P xs → AllByRecursion Q xs
+all_from P Q f [] h = tt
+all_from P Q f (x ∷ xs) h = (f x h.0, all_from P Q f xs h.1)
+
+-- A row's vertex stays as it is where the list of successors grows.
+row_same : (xs ys : List ℕ) (r : Row) → r.start + r.count ≤ length xs → vertex_of_row (xs ++ ys) r ≡ vertex_of_row xs r
+row_same xs ys r h =
+    let e : take r.count (drop r.start (xs ++ ys)) ≡ take r.count (drop r.start xs) =
+    ap (take r.count) (drop-append-le r.start xs ys (omega arith)) ∙ take-append-le r.count (drop r.start xs) ys (omega (arith, length-drop r.start xs)) in
+    λ i. record { owner = r.owner; priority = r.priority; successors = e i }
+
+-- The list of successors may grow.
+pub rows_same : (rows : List Row) (xs ys : List ℕ) → AllByRecursion (λ r. r.start + r.count ≤ length xs) rows → vertices_of rows (xs ++ ys) ≡ vertices_of rows xs
+rows_same [] xs ys h = refl
+rows_same (r ∷ rows) xs ys h = λ i. row_same xs ys r h.0 i ∷ rows_same rows xs ys h.1 i
+
+-- Growing the list of successors alone changes no vertex.
+pub stored_longer : (rows : List Row) (xs ys counts : List ℕ) → AreStored rows xs counts → AreStored rows (xs ++ ys) counts
+stored_longer rows xs ys counts h =
+    record {
+      within = all_from _ _ (λ r k. omega (arith, k, length-append xs ys)) rows h.within;
+      counted = λ p k. h.counted p k ∙ sym (ap (count_by (λ v. v.priority == p)) (rows_same rows xs ys h.within));
+    }
+
+-- One row more, whose successors come last, is one vertex more.
+pub vertices_more : (rows : List Row) (r : Row) (xs ys : List ℕ) → AllByRecursion (λ r. r.start + r.count ≤ length xs) rows → r.start ≡ length xs → r.count ≡ length ys
+    → vertices_of (rows ++ r ∷ []) (xs ++ ys) ≡ vertices_of rows xs ++ record { owner = r.owner; priority = r.priority; successors = ys } ∷ []
+vertices_more rows r xs ys h start count =
+    let e : take r.count (drop r.start (xs ++ ys)) ≡ ys =
+    (λ i. take (count i) (drop (start i) (xs ++ ys))) ∙ (ap (take (length ys)) (drop-append_seam xs ys) ∙ all_of ys) in
+    map-append (vertex_of_row (xs ++ ys)) rows (r ∷ [])
+    ∙ (λ i. rows_same rows xs ys h i ++ record { owner = r.owner; priority = r.priority; successors = e i } ∷ [])
+  where
+    all_of : (ys : List ℕ) → take (length ys) ys ≡ ys
+    all_of [] = refl
+    all_of (y ∷ ys) = ap (λ zs. y ∷ zs) (all_of ys)
+
+-- .. and the counts are right where this priority's is one more.
+pub stored_more : (rows : List Row) (r : Row) (xs ys counts after : List ℕ) → AreStored rows xs counts → r.start ≡ length xs → r.count ≡ length ys
+    → ((p : ℕ) → p ≤ 32 → slice_index after p ≡ slice_index counts p + (if r.priority == p then 1 else 0)) → AreStored (rows ++ r ∷ []) (xs ++ ys) after
+stored_more rows r xs ys counts after h start count counted =
+    record {
+      within = all_more _ rows r (stored_longer rows xs ys counts h).within (omega (arith, length-append xs ys));
+      counted = λ p k. counted p k ∙ (ap (λ n. n + cond (r.priority == p) 1 0) (h.counted p k) ∙ sym (more p));
+    }
+  where
+    one : (p : ℕ) → sum_by (λ (v : Vertex). cond (v.priority == p) 1 0) (record { owner = r.owner; priority = r.priority; successors = ys } ∷ []) ≡ cond (r.priority == p) 1 0
+    one p = omega arith
+
+    more : (p : ℕ) → count_by (λ v. v.priority == p) (vertices_of (rows ++ r ∷ []) (xs ++ ys)) ≡ count_by (λ v. v.priority == p) (vertices_of rows xs) + cond (r.priority == p) 1 0
+    more p =
+        ap (count_by (λ v. v.priority == p)) (vertices_more rows r xs ys h.within start count)
+        ∙ (sum_by-append (λ (v : Vertex). cond (v.priority == p) 1 0) (vertices_of rows xs) (record { owner = r.owner; priority = r.priority; successors = ys } ∷ []) ∙ ap (λ n. count_by (λ v. v.priority == p) (vertices_of rows xs) + n) (one p))
+
+-- No vertex has a priority above the greatest.
+pub count_past : (n p : ℕ) (vs : List Vertex) → 32 < p → AllByRecursion (IsVertex n) vs → count_by (λ v. v.priority == p) vs ≡ 0
+count_past n p [] h k = refl
+count_past n p (v ∷ vs) h k =
+    let other : (v.priority == p) ≡ false = ne_eqb v.priority p (λ e. omega (arith, k.0.priority, e)) in
+    sum_by-cons (λ (x : Vertex). cond (x.priority == p) 1 0) v vs ∙ rw (other, count_past n p vs h k.1)

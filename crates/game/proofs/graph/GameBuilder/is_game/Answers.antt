@@ -1,0 +1,31 @@
+use Rattle.std.proofs.Common.{◌≡◌, ◌≤◌, true, false, length, drop, sym, ap, ◌∙◌, arith, rules, true≢false}
+use Rattle.std.proofs.lemmas.Grind.{common_steps}
+use Rattle.std.specs.List.{list_all}
+use Rattle.std.proofs.lemmas.List.{length-map}
+use Rattle.game.specs.View.{vertex_of_row}
+use Rattle.game.proofs.Tests.{is_fit, tested, game_from, game_to}
+use Rattle.game.proofs.graph.GameBuilder.is_game.Goals as goal
+use Rattle.game.proofs.graph.GameBuilder.is_game.Goals.{then-from-ge-PRIORITIES-via-then-from-ge-PRIORITIES, then-from-ge-PRIORITIES-via-else-from-ge-PRIORITIES+then-is_empty, then-from-ge-PRIORITIES-via-else-from-ge-PRIORITIES+else-is_empty+then-not-is_ascending}
+
+pub returns-then-from-ge-PRIORITIES : goal.returns-then-from-ge-PRIORITIES
+returns-then-from-ge-PRIORITIES c =
+    let i = c.self.inside in
+    let fails : list_all (is_fit c.len-limit.result i.successors.items) (drop c.loop-row.row-index i.rows.items) ≡ false =
+    elim c.then-from-ge-PRIORITIES.branch [
+      | then-from-ge-PRIORITIES-via-then-from-ge-PRIORITIES w ↦ grind (arith, common_steps)
+      | then-from-ge-PRIORITIES-via-else-from-ge-PRIORITIES+then-is_empty w ↦ grind (arith, common_steps)
+      | then-from-ge-PRIORITIES-via-else-from-ge-PRIORITIES+else-is_empty+then-not-is_ascending w ↦ grind (arith, common_steps)
+    ]
+    in
+    let count : c.len-limit.result ≡ length i.rows.items = search rules in
+    let test = tested c.len-limit.result i.successors.items i.rows.items c.args.self.now false count c.self.view_is (sym c.loop-row.invariant ∙ fails) in
+    (λ e. absurd (true≢false (sym e)), λ g. sym test ∙ game_to c.args.self.now g)
+
+pub returns : goal.returns
+returns c =
+    let i = c.self.inside in
+    let passes : list_all (is_fit c.len-limit.result i.successors.items) (drop c.loop-row.row-index i.rows.items) ≡ true = grind (arith, common_steps) in
+    let count : c.len-limit.result ≡ length i.rows.items = search rules in
+    let test = tested c.len-limit.result i.successors.items i.rows.items c.args.self.now true count c.self.view_is (sym c.loop-row.invariant ∙ passes) in
+    let few : length c.args.self.now ≤ 16777216 = omega (arith, c.self.invariant.limit, length-map i.rows.items (vertex_of_row i.successors.items), ap length c.self.view_is) in
+    (λ e. game_from c.args.self.now few test, λ g. search rules)

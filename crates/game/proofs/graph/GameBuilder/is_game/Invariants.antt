@@ -1,0 +1,7 @@
+use Rattle.std.proofs.Common.{◌≡◌, drop}
+use Rattle.std.specs.List.{list_all}
+use Rattle.game.proofs.Tests.{is_fit}
+use Rattle.game.proofs.graph.GameBuilder.is_game.Given as goal
+
+abbrev pub invariant-loop-row : goal.invariant-loop-row
+invariant-loop-row l = list_all (is_fit l.limit l.self-inside.successors.items) (drop l.row-index l.self-inside.rows.items) ≡ list_all (is_fit l.limit l.self-inside.successors.items) l.self-inside.rows.items

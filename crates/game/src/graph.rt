@@ -1,0 +1,240 @@
+// Parity games, stored as one list of successors.
+
+ghost use Rattle.std.specs.Prelude.{◌≡◌, ◌==◌, ◌↔◌, ◌<◌, ◌≤◌, ◌+◌, ◌++◌, ◌∷◌, [], ℕ, None, length, slice_index, option_map, if◌then◌else◌, IsTrue, IsSome, IfSome, OnOk, OnErr};
+ghost use Rattle.std.specs.List.{AllByRecursion};
+ghost use Rattle.game.specs.Game.{IsGame, IsVertex, vertex, count as count_of};
+ghost use Rattle.game.specs.Arena.{AreNames, place_in};
+ghost use Rattle.game.specs.Rises.{rises};
+
+use crate::player::Player;
+use std::alloc::{AllocError, Global};
+use std::marker::Model;
+
+// One more than the greatest priority of a game.
+const PRIORITIES: usize = 33;
+
+/// How many vertices a game has at most.
+pub const MOST_VERTICES: usize = 16_777_216;
+
+// What is stored of a vertex. Its successors are `count` many from `start` on.
+#[derive(Clone, Copy)]
+struct Row {
+    start: usize,
+    count: u32,
+    owner: Player,
+    priority: u8,
+}
+
+/// A parity game, whose vertices are the numbers from 0 on.
+#[derive(Drop)]
+pub struct Game {
+    rows: Vec<Row>,
+    successors: Vec<u32>,
+    counts: [u32; PRIORITIES],
+    named: Option<(u32, u32)>,
+}
+
+impl Model for Game {
+    ghost use Rattle.game.specs.Game.{Game};
+
+    ghost Value = { Game };
+
+    ghost use Rattle.game.specs.View.{game_of, IsStoredGame};
+
+    ghost view = { game_of };
+
+    ghost invariant = { IsStoredGame };
+}
+
+impl Game {
+    /// What holds of every game.
+    pub fn known(&self)
+        ensures { IsGame self.now }
+    {
+        let _ = &self.rows;
+    }
+
+    /// How many vertices there are.
+    pub fn vertices(&self) -> u32
+        ensures { result ≡ length self.now.vertices }
+    {
+        self.rows.len() as u32
+    }
+
+    pub fn priority(&self, v: u32) -> u8
+        requires { v < length self.now.vertices }
+        ensures { option_map (λ x. x.priority) (vertex self.now v) ≡ Some result }
+    {
+        self.rows[v as usize].priority
+    }
+
+    pub fn owner(&self, v: u32) -> Player
+        requires { v < length self.now.vertices }
+        ensures { option_map (λ x. x.owner) (vertex self.now v) ≡ Some result }
+    {
+        self.rows[v as usize].owner
+    }
+
+    /// The successors of a vertex, ascending.
+    pub fn successors(&self, v: u32) -> &[u32]
+        requires { v < length self.now.vertices }
+        ensures { option_map (λ x. x.successors) (vertex self.now v) ≡ Some result.now }
+    {
+        let row = self.rows[v as usize];
+        &self.successors[row.start..row.start + row.count as usize]
+    }
+
+    /// How many vertices have this priority. It takes no look at the vertices.
+    pub fn count(&self, priority: u32) -> u32
+        ensures { result ≡ count_of self.now priority }
+    {
+        self.counts.get(priority as usize).copied().unwrap_or(0)
+    }
+
+    /// The vertex of a state with a node, in a game of states with nodes.
+    pub fn vertex_of(&self, state: u32, node: u32) -> u32
+        requires { AreNames self.now state node }
+        ensures { place_in self.now state node ≡ Some result }
+    {
+        match self.named {
+            Some((_, nodes)) => 2 + (state * nodes + node),
+            None => unreachable!(),
+        }
+    }
+}
+
+// One more vertex of this priority.
+fn count_one(counts: &mut [u32; PRIORITIES], priority: u8)
+    requires { slice_index counts.old priority < MOST_VERTICES }
+    ensures { (p : ℕ) → p ≤ 32 → slice_index counts.new p ≡ slice_index counts.old p + (if priority == p then 1 else 0) }
+{
+    let place = usize::from(priority);
+    if place < PRIORITIES {
+        counts[place] += 1;
+    }
+}
+
+// Whether the numbers rise and are below the limit.
+fn is_ascending(limit: usize, numbers: &[u32]) -> bool
+    ensures { result ≡ rises limit 0 numbers.now }
+{
+    let mut least = 0;
+    for number in numbers {
+        let number = *number as usize;
+        if number < least || number >= limit {
+            return false;
+        }
+        least = number + 1;
+    }
+    true
+}
+
+/// A game that is being made, one vertex after another.
+#[derive(Drop)]
+pub struct GameBuilder {
+    rows: Vec<Row>,
+    successors: Vec<u32>,
+    counts: [u32; PRIORITIES],
+}
+
+impl Model for GameBuilder {
+    ghost use Rattle.std.specs.Prelude.{List};
+    ghost use Rattle.game.specs.Game.{Vertex};
+
+    ghost Value = { List Vertex };
+
+    ghost use Rattle.game.specs.View.{vertices_in, IsStoredBuilder};
+
+    ghost view = { vertices_in };
+
+    ghost invariant = { IsStoredBuilder };
+}
+
+impl GameBuilder {
+    /// No vertex yet.
+    pub fn new(alloc: Global) -> Self
+        ensures { result ≡ [] }
+    {
+        GameBuilder {
+            rows: Vec::new(alloc),
+            successors: Vec::new(alloc),
+            counts: [0; PRIORITIES],
+        }
+    }
+
+    /// How many vertices there are so far.
+    pub fn vertices(&self) -> usize
+        ensures count { result ≡ length self.now }
+        ensures limit { result ≤ MOST_VERTICES }
+    {
+        self.rows.len()
+    }
+
+    /// One more vertex. What makes a game of vertices is tested at the end.
+    pub fn push(
+        &mut self,
+        owner: Player,
+        priority: u8,
+        successors: &[u32],
+    ) -> Result<(), AllocError>
+        requires room { length self.old < MOST_VERTICES }
+        requires few { length successors.now ≤ MOST_VERTICES }
+        ensures ok { OnOk result (self.new ≡ self.old ++ record { owner = owner; priority = priority; successors = successors.now } ∷ []) }
+        ensures err { OnErr result (self.new ≡ self.old) }
+    {
+        let start = self.successors.len();
+        self.successors.extend_from_slice(successors)?;
+        let count = successors.len() as u32;
+        self.rows.push(Row {
+            start,
+            count,
+            owner,
+            priority,
+        })?;
+        count_one(&mut self.counts, priority);
+        Ok(())
+    }
+
+    /// The game of these vertices, where they make one: each successor is one of them.
+    pub fn finish(self) -> Option<Game>
+        ensures variant { IsSome result ↔ IsGame record { vertices = self; named = None } }
+        ensures game { IfSome result (λ g. g ≡ record { vertices = self; named = None }) }
+    {
+        if self.is_game() {
+            Some(self.into_game(None))
+        } else {
+            None
+        }
+    }
+
+    /// Whether these vertices make a game: each has successors, all of them vertices, and its priority is within the limit.
+    pub fn is_game(&self) -> bool
+        ensures { IsTrue result ↔ IsGame record { vertices = self.now; named = None } }
+    {
+        let limit = self.rows.len();
+        for row in &self.rows {
+            let successors = &self.successors[row.start..row.start + row.count as usize];
+            if usize::from(row.priority) >= PRIORITIES
+                || successors.is_empty()
+                || !is_ascending(limit, successors)
+            {
+                return false;
+            }
+        }
+        true
+    }
+
+    /// The game of these vertices, which are named by numbers of states and of nodes or not at all.
+    pub fn into_game(self, named: Option<(u32, u32)>) -> Game
+        requires { IsGame record { vertices = self; named = named } }
+        ensures { result ≡ record { vertices = self; named = named } }
+    {
+        let counts = self.counts;
+        Game {
+            rows: self.rows,
+            successors: self.successors,
+            counts,
+            named,
+        }
+    }
+}

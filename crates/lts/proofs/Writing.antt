@@ -1,0 +1,49 @@
+-- Pieces that are written one after another are one text.
+use Rattle.std.proofs.Common.{◌≡◌, subst, true≢false, ℕ, List, [], ◌++◌, Option, Result, Ok, Err, refl, sym, ap, ◌∙◌, append_assoc}
+use Rattle.std.specs.Result.{IsErr}
+use Rattle.std.specs.Io.KnownBytes.{Appends}
+use Rattle.std.proofs.KnownBytes.{Appends-nil, Appends-trans}
+use Rattle.lts.specs.Wrote.{Wrote, WroteFront}
+
+-- nothing is a beginning of every text
+pub WroteFront-nothing : (a : Option (List ℕ)) (text : List ℕ) → WroteFront a a text
+WroteFront-nothing a text = record { front = []; back = text; whole = refl; appended = Appends-nil a }
+
+-- what was written before a fault that wrote nothing
+pub WroteFront-of : (a b : Option (List ℕ)) (done rest : List ℕ) → Appends a b done → WroteFront a b (done ++ rest)
+WroteFront-of a b done rest h = record { front = done; back = rest; whole = refl; appended = h }
+
+-- a beginning of a piece is a beginning of the pieces that begin with it
+pub WroteFront-more : (a b : Option (List ℕ)) (piece more : List ℕ) → WroteFront a b piece → WroteFront a b (piece ++ more)
+WroteFront-more a b piece more h = record {
+  front = h.front;
+  back = h.back ++ more;
+  whole = ap (λ l. l ++ more) h.whole ∙ append_assoc h.front h.back more;
+  appended = h.appended;
+}
+
+-- a whole piece, and then a beginning of the next
+pub WroteFront-after : (a b c : Option (List ℕ)) (piece next : List ℕ) → Appends a b piece → WroteFront b c next → WroteFront a c (piece ++ next)
+WroteFront-after a b c piece next h k = record {
+  front = piece ++ k.front;
+  back = k.back;
+  whole = ap (λ l. piece ++ l) k.whole ∙ sym (append_assoc piece k.front k.back);
+  appended = Appends-trans a b c piece k.front h k.appended;
+}
+
+-- a whole piece, and then what a call wrote
+pub Wrote-after : {T E : Type 0} → (a b c : Option (List ℕ)) (piece next : List ℕ) (r : Result T E) → Appends a b piece → Wrote b c r next → Wrote a c r (piece ++ next)
+Wrote-after a b c piece next (Ok x) h k = Appends-trans a b c piece next h k
+Wrote-after a b c piece next (Err e) h k = WroteFront-after a b c piece next h k
+
+-- a call that failed and wrote a beginning
+pub Wrote-err : {T E : Type 0} → (a b : Option (List ℕ)) (r : Result T E) (text : List ℕ) → IsErr r → WroteFront a b text → Wrote a b r text
+Wrote-err a b (Ok x) text h w = absurd (true≢false (sym h))
+Wrote-err a b (Err e) text h w = w
+
+-- the same of an equal text
+pub Wrote-as : {T E : Type 0} → (a b : Option (List ℕ)) (r : Result T E) (text same : List ℕ) → text ≡ same → Wrote a b r text → Wrote a b r same
+Wrote-as a b r text same e h = subst (λ t. Wrote a b r t) e h
+
+-- for the exits of a function that writes one piece after another
+pub ruleset writing = (Wrote-err, Wrote-after, WroteFront-more, WroteFront-after)

@@ -1,0 +1,114 @@
+-- Marks of all states, of the others, of both and of either.
+use Rattle.std.proofs.Common.{◌≡◌, ℕ, zero, suc, ◌<◌, ◌⊎◌, ◌↔◌, Bool, true, false, not, ◌&&◌, ◌||◌, List, [], ◌∷◌, length, map, replicate, refl, subst, sym, ap, ◌∙◌, inl, inr, arith}
+use Rattle.std.specs.Prelude.{zip, slice_index_or, IsTrue}
+use mathlib.Core.Bool.{beq}
+use lib.Pointwise.{pointwise}
+use Rattle.formula.specs.Meaning.{Marks}
+
+abbrev pub at : List Bool → ℕ → Bool
+at ms s = slice_index_or ms s false
+
+-- within the list it doesn't matter what stands past its end
+pub any_default : (ms : List Bool) (i : ℕ) (d e : Bool) → i < length ms → slice_index_or ms i d ≡ slice_index_or ms i e
+any_default [] i d e h = absurd (omega arith)
+any_default (m ∷ ms) zero d e h = refl
+any_default (m ∷ ms) (suc i) d e h = any_default ms i d e (omega arith)
+
+at_all : (n : ℕ) (b : Bool) (s : ℕ) → s < n → at (replicate n b) s ≡ b
+at_all zero b s h = absurd (omega arith)
+at_all (suc n) b zero h = refl
+at_all (suc n) b (suc s) h = at_all n b s (omega arith)
+
+pub at_not : (ms : List Bool) (s : ℕ) → s < length ms → at (map not ms) s ≡ not (at ms s)
+at_not [] s h = absurd (omega arith)
+at_not (m ∷ ms) zero h = refl
+at_not (m ∷ ms) (suc s) h = at_not ms s (omega arith)
+
+pub at_zip : (f : Bool × Bool → Bool) (ms ns : List Bool) (s : ℕ) → s < length ms → length ms ≡ length ns → at (map f (zip ms ns)) s ≡ f (at ms s, at ns s)
+at_zip f [] ns s h e = absurd (omega arith)
+at_zip f (m ∷ ms) [] s h e = absurd (omega arith)
+at_zip f (m ∷ ms) (n ∷ ns) zero h e = refl
+at_zip f (m ∷ ms) (n ∷ ns) (suc s) h e = at_zip f ms ns s (omega arith) (omega arith)
+
+length_not : (ms : List Bool) → length (map not ms) ≡ length ms
+length_not [] = refl
+length_not (m ∷ ms) = ap suc (length_not ms)
+
+pub length_zip : (f : Bool × Bool → Bool) (ms ns : List Bool) → length ms ≡ length ns → length (map f (zip ms ns)) ≡ length ms
+length_zip f [] [] e = refl
+length_zip f [] (n ∷ ns) e = refl
+length_zip f (m ∷ ms) [] e = absurd (omega arith)
+length_zip f (m ∷ ms) (n ∷ ns) e = ap suc (length_zip f ms ns (omega arith))
+
+length_all : (n : ℕ) (b : Bool) → length (replicate n b) ≡ n
+length_all zero b = refl
+length_all (suc n) b = ap suc (length_all n b)
+
+pub false_is_none : IsTrue false → ⊥
+false_is_none e = cc
+
+-- what the tests say
+of_not : (b : Bool) (P : Type 0) → IsTrue b ↔ P → IsTrue (not b) ↔ (P → ⊥)
+of_not true P h = (λ e. absurd (false_is_none e), λ no. absurd (no (h.0 refl)))
+of_not false P h = (λ _ p. false_is_none (h.1 p), λ _. refl)
+
+of_and : (b c : Bool) (P Q : Type 0) → IsTrue b ↔ P → IsTrue c ↔ Q → IsTrue (b && c) ↔ (P × Q)
+of_and true c P Q h k = (λ e. (h.0 refl, k.0 e), λ x. k.1 x.1)
+of_and false c P Q h k = (λ e. absurd (false_is_none e), λ x. absurd (false_is_none (h.1 x.0)))
+
+of_or : (b c : Bool) (P Q : Type 0) → IsTrue b ↔ P → IsTrue c ↔ Q → IsTrue (b || c) ↔ (P ⊎ Q)
+of_or true c P Q h k = (λ _. inl (h.0 refl), λ _. refl)
+of_or false c P Q h k = (λ e. inr (k.0 e), λ x. elim x [ inl p ↦ absurd (false_is_none (h.1 p)) | inr q ↦ k.1 q ])
+
+pub of_implies : (b c : Bool) (P Q : Type 0) → IsTrue b ↔ P → IsTrue c ↔ Q → IsTrue (not b || c) ↔ (P → Q)
+of_implies true c P Q h k = (λ e _. k.0 e, λ f. k.1 (f (h.0 refl)))
+of_implies false c P Q h k = (λ _ p. absurd (false_is_none (h.1 p)), λ _. refl)
+
+pub marks_all : (n : ℕ) → Marks n (replicate n true) (λ s. Unit {0})
+marks_all n = record { count = length_all n true; exact = λ s h. (λ _. tt, λ _. at_all n true s h) }
+
+pub marks_none : (n : ℕ) → Marks n (replicate n false) (λ s. ⊥)
+marks_none n = record { count = length_all n false; exact = λ s h. (λ e. false_is_none (sym (at_all n false s h) ∙ e), λ no. absurd no) }
+
+pub marks_not : (n : ℕ) (ms : List Bool) (P : ℕ → Type 0) → Marks n ms P → Marks n (map not ms) (λ s. P s → ⊥)
+marks_not n ms P m = record {
+  count = length_not ms ∙ m.count;
+  exact = λ s h. subst (λ b. IsTrue b ↔ (P s → ⊥)) (sym (at_not ms s (omega (arith, m.count)))) (of_not (at ms s) (P s) (m.exact s h));
+}
+
+pub marks_and : (n : ℕ) (ms ns : List Bool) (P Q : ℕ → Type 0) → Marks n ms P → Marks n ns Q → Marks n (map (λ p. p.0 && p.1) (zip ms ns)) (λ s. P s × Q s)
+marks_and n ms ns P Q m k = record {
+  count = length_zip (λ p. p.0 && p.1) ms ns (omega (arith, m.count, k.count)) ∙ m.count;
+  exact = λ s h. subst (λ b. IsTrue b ↔ (P s × Q s)) (sym (at_zip (λ p. p.0 && p.1) ms ns s (omega (arith, m.count)) (omega (arith, m.count, k.count))))
+      (of_and (at ms s) (at ns s) (P s) (Q s) (m.exact s h) (k.exact s h));
+}
+
+pub marks_or : (n : ℕ) (ms ns : List Bool) (P Q : ℕ → Type 0) → Marks n ms P → Marks n ns Q → Marks n (map (λ p. p.0 || p.1) (zip ms ns)) (λ s. P s ⊎ Q s)
+marks_or n ms ns P Q m k = record {
+  count = length_zip (λ p. p.0 || p.1) ms ns (omega (arith, m.count, k.count)) ∙ m.count;
+  exact = λ s h. subst (λ b. IsTrue b ↔ (P s ⊎ Q s)) (sym (at_zip (λ p. p.0 || p.1) ms ns s (omega (arith, m.count)) (omega (arith, m.count, k.count))))
+      (of_or (at ms s) (at ns s) (P s) (Q s) (m.exact s h) (k.exact s h));
+}
+
+-- the same marks serve for a set with the same states
+pub marks_same : (n : ℕ) (ms : List Bool) (P Q : ℕ → Type 0) → Marks n ms P → ((s : ℕ) → s < n → P s ↔ Q s) → Marks n ms Q
+marks_same n ms P Q m same = record { count = m.count; exact = λ s h. (λ e. (same s h).0 ((m.exact s h).0 e), λ q. (m.exact s h).1 ((same s h).1 q)) }
+
+pub marks_implies : (n : ℕ) (ms ns : List Bool) (P Q : ℕ → Type 0) → Marks n ms P → Marks n ns Q → Marks n (map (λ p. p.0 || p.1) (zip (map not ms) ns)) (λ s. P s → Q s)
+marks_implies n ms ns P Q m k =
+    marks_same n _ _ _ (marks_or n (map not ms) ns (λ s. P s → ⊥) Q (marks_not n ms P m) k)
+    (λ s h. (λ x. elim x [ inl none ↦ λ p. absurd (none p) | inr q ↦ λ _. q ], λ f. decide s h f (at ms s) refl))
+  where
+    decide : (s : ℕ) → s < n → (P s → Q s) → (b : Bool) → at ms s ≡ b → (P s → ⊥) ⊎ Q s
+    decide s h f true e = inr (f ((m.exact s h).0 e))
+    decide s h f false e = inl (λ p. false_is_none (sym e ∙ (m.exact s h).1 p))
+
+-- equal as the program tells it
+pub equal_marks : (ms ns : List Bool) → pointwise beq ms ns ≡ true → ms ≡ ns
+equal_marks [] [] e = refl
+equal_marks [] (n ∷ ns) e = cc
+equal_marks (m ∷ ms) [] e = cc
+equal_marks (true ∷ ms) (true ∷ ns) e = ap (λ zs. true ∷ zs) (equal_marks ms ns e)
+equal_marks (true ∷ ms) (false ∷ ns) e = cc
+equal_marks (false ∷ ms) (true ∷ ns) e = cc
+equal_marks (false ∷ ms) (false ∷ ns) e = ap (λ zs. false ∷ zs) (equal_marks ms ns e)

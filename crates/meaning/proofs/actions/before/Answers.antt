@@ -1,0 +1,71 @@
+use Rattle.std.proofs.Common.{◌≡◌, ℕ, ◌<◌, ◌↔◌, Bool, false, List, ◌&&◌, ◌||◌, length, take, get_or, arith, refl, ap, ap₂, sym, ◌∙◌, subst}
+use Rattle.std.specs.Prelude.{IsTrue, slice_set}
+use Rattle.std.specs.List.{list_any}
+use Rattle.std.proofs.Math.ListN.{length-set}
+use Rattle.std.proofs.Math.Seq.{take-length}
+use Rattle.std.proofs.lemmas.List.Folds.{list_any_more}
+use Rattle.lts.specs.System.{Arrow}
+use Rattle.lts.specs.declared.system.Transition.{Transition}
+use Rattle.lts.specs.Numbered.{Numbered, IsTransitionOf, IsInside, label_at, arrow_of}
+use Rattle.formula.specs.View.{action_of}
+use Rattle.formula.specs.Holds.{holds}
+use Rattle.formula.specs.Tree.{Step}
+use Rattle.meaning.specs.Into.{Into}
+use Rattle.meaning.proofs.Each.{each_at}
+use Rattle.meaning.proofs.Marked.{at, any_default}
+use Rattle.meaning.proofs.Arrows.{one_more, enters, enters_leads, any_of_map}
+use Rattle.meaning.proofs.actions.before.Goals as goal
+
+abbrev none : Transition
+none = record { source = 0; label = 0; target = 0 }
+
+-- the transition at the index
+inside : (l : Numbered) (steps : List Transition) (i : ℕ) → IsInside l steps → i < length steps → IsTransitionOf l (get_or steps i none)
+inside l steps i all lt = each_at (IsTransitionOf l) steps i none all lt
+
+pub enters-leads-requires-clause-label : goal.enters-leads-requires-clause-label
+enters-leads-requires-clause-label c =
+    let steps = c.all-source-items.result.now in
+    let i = c.loop-source.source-index in
+    let step = inside c.args.lts.now steps i c.all-source-items.ensures.inside c.loop-source-test.true in
+    λ fits. omega (arith, ap length c.deref.ensures.value, c.in_ok-chosen.ensures.count (get_or steps i none).label step.label fits)
+
+pub loop-source-preserved : goal.loop-source-preserved
+loop-source-preserved c =
+    let l = c.args.lts.now in
+    let act = action_of c.args.action.now in
+    let steps = c.all-source-items.result.now in
+    let i = c.loop-source.source-index in
+    let step = get_or steps i none in
+    let ok = inside l steps i c.all-source-items.ensures.inside c.loop-source-test.true in
+    let found = c.loop-source.found.items in
+    let within : step.source < length found = omega (arith, ok.source, c.loop-source.invariant.count) in
+    let leads : Bool = holds act (label_at l.labels step.label) && at c.args.marks.now step.target in
+    let chosen : step.label < length c.in_ok-chosen.chosen.items = c.in_ok-chosen.ensures.count step.label ok.label c.enters-leads.ensures.fits in
+    let same : (c.index-had.result.now || c.enters-leads.result) ≡ (at found step.source || leads) =
+    ap₂ (λ a b. a || b)
+    (c.index-had.ensures ∙ any_default found step.source c.index-had.result.now false within)
+    (c.enters-leads.ensures.value ∙ ap₂ (λ a b. at a step.label && b) c.deref.ensures.value refl ∙ ap (λ a. a && at c.args.marks.now step.target) (c.in_ok-chosen.ensures.each step.label chosen)) in
+    record {
+      count = simp length-set c.loop-source.invariant.count;
+      each = λ s h.
+          ap (λ b. at (slice_set found step.source b) s) same
+          ∙ (one_more found step.source s _ leads within (c.loop-source.invariant.each s h)
+          ∙ sym (list_any_more (λ (t : Transition). enters act c.args.marks.now s (arrow_of l.labels t)) steps i none c.loop-source-test.true));
+    }
+
+pub returns : goal.returns
+returns c = record {
+  count = c.loop-source.invariant.count;
+  exact = λ s h.
+      let l = c.args.lts.now in
+      let p : Arrow → Bool = enters (action_of c.args.action.now) c.args.marks.now s in
+      let f : Transition → Arrow = arrow_of l.labels in
+      let steps = c.all-source-items.result.now in
+      let done : c.loop-source.source-index ≡ length steps = omega arith in
+      let all : at c.loop-source.found.items s ≡ list_any p l.system.arrows =
+      c.loop-source.invariant.each s h ∙ ap (λ k. list_any (λ t. p (f t)) (take k steps)) done ∙ ap (list_any (λ t. p (f t))) (take-length steps)
+      ∙ any_of_map p f steps ∙ ap (list_any p) c.all-source-items.ensures.arrows in
+      subst (λ b. IsTrue b ↔ Into l.system (Step (action_of c.args.action.now)) c.args.marks.now s) (sym all)
+      (enters_leads l.system (action_of c.args.action.now) c.args.marks.now s);
+}

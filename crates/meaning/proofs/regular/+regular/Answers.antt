@@ -1,0 +1,132 @@
+use Rattle.std.proofs.Common.{◌≡◌, ◌<◌, ◌≤◌, arith, length, Bool, ◌||◌, zip, map, ap, ap₂, sym, ◌∙◌, subst, IfOk}
+use Rattle.std.proofs.lemmas.Result.{IfOk-weaker}
+use Rattle.formula.specs.View.{regular_of}
+use Rattle.formula.specs.Tree.{Regular, Then, Either, Star, Plus}
+use Rattle.formula.specs.Meaning.{Marks, marked}
+use Rattle.meaning.specs.Into.{Into}
+use Rattle.meaning.specs.Signs.{without_signs, has_star}
+use Rattle.meaning.proofs.Behind.{height, no_higher, into_any, into_starred, into_unstarred}
+use Rattle.meaning.proofs.Regulars.{into_then, into_either}
+use Rattle.meaning.proofs.Growth.{unmarked, joined, is_within, fewer, sound_more, base_more, reached_all, reached_some}
+use Rattle.meaning.proofs.Marked.{marks_same, marks_or, length_zip}
+use Rattle.meaning.proofs.regular.+regular.Goals as goal
+use Rattle.meaning.proofs.regular.+regular.Goals.{leading-then-has_star, leading-else-has_star}
+
+pub leading-reaching-requires : goal.leading-reaching-requires
+leading-reaching-requires t c =
+    let r = regular_of c.deref-in-Star.result.now in
+    let is : regular_of c.args.regular.now ≡ Star r = ap regular_of c.in-Star.is ∙ sym (ap (λ a. Star (regular_of a)) c.deref-in-Star.ensures) in
+    let lower : height (regular_of c.without_signs_behind.result.now) ≤ height r = subst (λ q. height q ≤ height r) (sym c.without_signs_behind.ensures) (no_higher r) in
+    (omega (arith, ap height is, lower, c.decreases), (c.requires.system, c.requires.count))
+
+pub leading-reaching-requires-in-Plus : goal.leading-reaching-requires-in-Plus
+leading-reaching-requires-in-Plus t c =
+    let r = regular_of c.deref-in-Plus.result.now in
+    let is : regular_of c.args.regular.now ≡ Plus r = ap regular_of c.in-Plus.is ∙ sym (ap (λ a. Plus (regular_of a)) c.deref-in-Plus.ensures) in
+    let lower : height (regular_of c.without_signs_behind-in-Plus.result.now) ≤ height r = subst (λ q. height q ≤ height r) (sym c.without_signs_behind-in-Plus.ensures) (no_higher r) in
+    (omega (arith, ap height is, lower, c.decreases), (c.requires.system, c.requires.count))
+
+pub leading-returns-in_ok-middle-in-Seq : goal.leading-returns-in_ok-middle-in-Seq
+leading-returns-in_ok-middle-in-Seq t c =
+    let l = c.args.lts.now.system in
+    let is : regular_of c.args.regular.now ≡ Then (regular_of c.deref-in-Seq.result.now) (regular_of c.deref.result.now) =
+    ap regular_of c.in-Seq.is ∙ sym (ap₂ (λ a b. Then (regular_of a) (regular_of b)) c.deref-in-Seq.ensures c.deref.ensures) in
+    subst (λ (r : Regular). IfOk c.leading-in-Seq.result (λ found. Marks l.states found.items (Into l r c.args.marks.now))) (sym is)
+    (IfOk-weaker c.leading-in-Seq.result _ _
+    (λ found f. into_then l c.requires.system (regular_of c.deref-in-Seq.result.now) (regular_of c.deref.result.now) c.args.marks.now c.in_ok-middle-in-Seq.middle.items found.items
+    c.in_ok-middle-in-Seq.ensures (subst (λ ms. Marks l.states found.items (Into l (regular_of c.deref-in-Seq.result.now) ms)) c.deref-in-Seq-2.ensures.value f))
+    c.leading-in-Seq.ensures)
+
+pub leading-returns-in_ok-other-in-Choice : goal.leading-returns-in_ok-other-in-Choice
+leading-returns-in_ok-other-in-Choice t c =
+    let l = c.args.lts.now.system in
+    let r = regular_of c.deref-in-Choice.result.now in
+    let q = regular_of c.deref-in-Choice-2.result.now in
+    let ms = c.args.marks.now in
+    let one = c.in_ok-one-in-Choice.one.items in
+    let is : regular_of c.args.regular.now ≡ Either r q =
+    ap regular_of c.in-Choice.is ∙ sym (ap₂ (λ a b. Either (regular_of a) (regular_of b)) c.deref-in-Choice.ensures c.deref-in-Choice-2.ensures) in
+    let joins : c.union.result.items ≡ joined one c.in_ok-other-in-Choice.other.items = c.union.ensures ∙ ap (joined one) c.deref-in-Choice-3.ensures.value in
+    subst (λ (x : Regular). Marks l.states c.union.result.items (Into l x ms)) (sym is)
+    (subst (λ items. Marks l.states items (Into l (Either r q) ms)) (sym joins)
+    (marks_same l.states _ _ _
+    (marks_or l.states one c.in_ok-other-in-Choice.other.items (Into l r ms) (Into l q ms) c.in_ok-one-in-Choice.ensures c.in_ok-other-in-Choice.ensures)
+    (λ s h. into_either l r q ms s)))
+
+pub leading-returns-in_ok-reach-in-Star : goal.leading-returns-in_ok-reach-in-Star
+leading-returns-in_ok-reach-in-Star t c =
+    let l = c.args.lts.now.system in
+    let r = regular_of c.deref-in-Star.result.now in
+    let ms = c.args.marks.now in
+    let any = c.in_ok-reach-in-Star.reach.any.items in
+    let is : regular_of c.args.regular.now ≡ Star r = ap regular_of c.in-Star.is ∙ sym (ap (λ a. Star (regular_of a)) c.deref-in-Star.ensures) in
+    subst (λ (x : Regular). Marks l.states any (Into l x ms)) (sym is)
+    (marks_same l.states any (Into l (Star (without_signs r)) ms) (Into l (Star r) ms)
+    (subst (λ x. Marks l.states any (Into l (Star x) ms)) c.without_signs_behind.ensures c.in_ok-reach-in-Star.ensures.any)
+    (λ s h. into_any l r ms s))
+
+pub leading-returns-after-has_star : goal.leading-returns-after-has_star
+leading-returns-after-has_star t c =
+    let l = c.args.lts.now.system in
+    let r = regular_of c.deref-in-Plus.result.now in
+    let ms = c.args.marks.now in
+    let reach = c.in_ok-reach-in-Plus.reach in
+    let is : regular_of c.args.regular.now ≡ Plus r = ap regular_of c.in-Plus.is ∙ sym (ap (λ a. Plus (regular_of a)) c.deref-in-Plus.ensures) in
+    let starred : c.has_star.result ≡ has_star r = c.has_star.ensures ∙ ap (λ x. has_star (regular_of x)) (c.deref-in-Plus-2.ensures ∙ sym c.deref-in-Plus.ensures) in
+    subst (λ (x : Regular). Marks l.states c.if-has_star.result.items (Into l x ms)) (sym is)
+    (elim c.if-has_star.branch [
+      | leading-then-has_star w ↦
+          subst (λ items. Marks l.states items (Into l (Plus r) ms)) (sym (ap (λ v. v.items) w.result-is))
+          (marks_same l.states reach.any.items (Into l (Star (without_signs r)) ms) (Into l (Plus r) ms)
+          (subst (λ x. Marks l.states reach.any.items (Into l (Star x) ms)) c.without_signs_behind-in-Plus.ensures c.in_ok-reach-in-Plus.ensures.any)
+          (λ s h. into_starred l r ms s (sym starred ∙ w.if-has_star.true)))
+      | leading-else-has_star w ↦
+          subst (λ items. Marks l.states items (Into l (Plus r) ms)) (sym (ap (λ v. v.items) w.result-is))
+          (marks_same l.states reach.some.items (Into l (Plus (without_signs r)) ms) (Into l (Plus r) ms)
+          (subst (λ x. Marks l.states reach.some.items (Into l (Plus x) ms)) c.without_signs_behind-in-Plus.ensures c.in_ok-reach-in-Plus.ensures.some)
+          (λ s h. into_unstarred l r ms s (sym starred ∙ w.if-has_star.false)))
+    ])
+
+pub reaching-returns-then-is_within-clause-any : goal.reaching-returns-then-is_within-clause-any
+reaching-returns-then-is_within-clause-any t c =
+    let l = c.args.lts.now.system in
+    let r = regular_of c.args.step.now in
+    let found = c.loop-any.any.items in
+    let more = c.in_ok-some.some.items in
+    let m : Marks l.states more (Into l r found) = subst (λ x. Marks l.states more (Into l r x)) c.deref.ensures.value c.in_ok-some.ensures in
+    let within : c.is_within.result ≡ is_within more found = c.is_within.ensures ∙ ap₂ (λ a b. is_within a b) c.deref-in-loop-any.ensures.value c.deref-in-loop-any-2.ensures.value in
+    reached_all l c.requires.system r c.args.marks.now found more c.loop-any.invariant.count m c.loop-any.invariant.sound c.loop-any.invariant.base (sym within ∙ c.if-is_within.true)
+
+pub reaching-returns-then-is_within-clause-some : goal.reaching-returns-then-is_within-clause-some
+reaching-returns-then-is_within-clause-some t c =
+    let l = c.args.lts.now.system in
+    let r = regular_of c.args.step.now in
+    let found = c.loop-any.any.items in
+    let more = c.in_ok-some.some.items in
+    let m : Marks l.states more (Into l r found) = subst (λ x. Marks l.states more (Into l r x)) c.deref.ensures.value c.in_ok-some.ensures in
+    let within : c.is_within.result ≡ is_within more found = c.is_within.ensures ∙ ap₂ (λ a b. is_within a b) c.deref-in-loop-any.ensures.value c.deref-in-loop-any-2.ensures.value in
+    reached_some l c.requires.system r c.args.marks.now found more c.loop-any.invariant.count m
+    (reached_all l c.requires.system r c.args.marks.now found more c.loop-any.invariant.count m c.loop-any.invariant.sound c.loop-any.invariant.base (sym within ∙ c.if-is_within.true))
+
+pub reaching-loop-any-smaller : goal.reaching-loop-any-smaller
+reaching-loop-any-smaller t c =
+    let found = c.loop-any.any.items in
+    let more = c.in_ok-some.some.items in
+    let within : c.is_within.result ≡ is_within more found = c.is_within.ensures ∙ ap₂ (λ a b. is_within a b) c.deref-in-loop-any.ensures.value c.deref-in-loop-any-2.ensures.value in
+    let joins : c.union-any.result.items ≡ joined found more = c.union-any.ensures ∙ ap (joined found) c.deref-in-loop-any-3.ensures.value in
+    subst (λ x. unmarked x < unmarked found) (sym joins)
+    (fewer found more (omega (arith, c.loop-any.invariant.count, c.in_ok-some.ensures.count)) (sym within ∙ c.if-is_within.false))
+
+pub reaching-loop-any-preserved : goal.reaching-loop-any-preserved
+reaching-loop-any-preserved t c =
+    let l = c.args.lts.now.system in
+    let r = regular_of c.args.step.now in
+    let found = c.loop-any.any.items in
+    let more = c.in_ok-some.some.items in
+    let m : Marks l.states more (Into l r found) = subst (λ x. Marks l.states more (Into l r x)) c.deref.ensures.value c.in_ok-some.ensures in
+    let joins : c.union-any.result.items ≡ joined found more = c.union-any.ensures ∙ ap (joined found) c.deref-in-loop-any-3.ensures.value in
+    record {
+      count = ap length joins ∙ (length_zip (λ p. p.0 || p.1) found more (omega (arith, c.loop-any.invariant.count, c.in_ok-some.ensures.count)) ∙ c.loop-any.invariant.count);
+      sound = λ s h k. sound_more l c.requires.system r c.args.marks.now found more c.loop-any.invariant.count m c.loop-any.invariant.sound s h (subst (λ x. marked x s) joins k);
+      base = λ s h k. subst (λ x. marked x s) (sym joins) (base_more l c.requires.system r c.args.marks.now found more c.loop-any.invariant.count m c.loop-any.invariant.base s h k);
+    }

@@ -1,0 +1,119 @@
+// A slow evaluator over sets of states.
+
+ghost use Rattle.std.specs.Prelude.{◌≡◌, IfOk, IsTrue};
+ghost use Rattle.formula.specs.View.{formula_of};
+ghost use Rattle.formula.specs.Closed.{closed_formula};
+ghost use Rattle.formula.specs.Meaning.{Satisfies, mean, Marks, iterate, with_set};
+ghost use Rattle.meaning.specs.Scope.{sets_of, FitsScope};
+
+use crate::regular::leading;
+use crate::scope::Scope;
+use crate::sets::{all, complement, intersection, union};
+use formula::closed::Closed;
+use formula::tree::State;
+use lts::error::Memory;
+use lts::system::Lts;
+use std::alloc::{AllocError, Global};
+
+/// The set of a variable, none if the scope has none.
+fn set_of(
+    alloc: Global,
+    scope: &Scope,
+    name: &Vec<u8>,
+    count: usize,
+) -> Result<Vec<bool>, AllocError>
+    requires { FitsScope count scope.now }
+    ensures { IfOk result (λ marks. Marks count marks.items (sets_of scope.now name.now.items)) }
+{
+    match scope {
+        Scope::Empty => all(alloc, count, false),
+        Scope::More(other, marks, outer) => {
+            if name.as_slice() == other.as_slice() {
+                marks.to_vec(alloc)
+            } else {
+                set_of(alloc, outer, name, count)
+            }
+        }
+    }
+}
+
+/// The nth iterate, for n states, of the map of sets that a binder's formula is: the first that repeats.
+#[cycle(plain)]
+fn iterated<'x>(
+    alloc: Global,
+    lts: &Lts,
+    name: &'x Vec<u8>,
+    body: &'x State,
+    scope: &'x Scope<'x>,
+    from: bool,
+) -> Result<Vec<bool>, AllocError>
+    requires { FitsScope lts.now.system.states scope.now }
+    ensures { IfOk result (λ marks. Marks lts.now.system.states marks.items (iterate lts.now.system.states (λ set. mean lts.now.system (formula_of body.now) (with_set (sets_of scope.now) name.now.items set)) (λ s. IsTrue from))) }
+{
+    let count = lts.states();
+    let mut set = all(alloc, count as usize, from)?;
+    for turn in 0..count {
+        let next = marks_of(alloc, lts, body, &Scope::More(&*name, &set, &*scope))?;
+        if next == set {
+            return Ok(set);
+        }
+        set = next;
+    }
+    Ok(set)
+}
+
+/// The states at which the formula holds, where the scope has the sets of its variables.
+#[cycle(plain)]
+fn marks_of<'x>(
+    alloc: Global,
+    lts: &Lts,
+    formula: &'x State,
+    scope: &'x Scope<'x>,
+) -> Result<Vec<bool>, AllocError>
+    requires { FitsScope lts.now.system.states scope.now }
+    ensures { IfOk result (λ marks. Marks lts.now.system.states marks.items (mean lts.now.system (formula_of formula.now) (sets_of scope.now))) }
+{
+    let count = lts.states() as usize;
+    match formula {
+        State::True => all(alloc, count, true),
+        State::False => all(alloc, count, false),
+        State::Var(name) => set_of(alloc, scope, name, count),
+        State::Not(operand) => {
+            let marks = marks_of(alloc, lts, operand, scope)?;
+            Ok(complement(marks))
+        }
+        State::And(left, right) => {
+            let one = marks_of(alloc, lts, left, scope)?;
+            let other = marks_of(alloc, lts, right, scope)?;
+            Ok(intersection(one, &other))
+        }
+        State::Or(left, right) => {
+            let one = marks_of(alloc, lts, left, scope)?;
+            let other = marks_of(alloc, lts, right, scope)?;
+            Ok(union(one, &other))
+        }
+        State::Implies(left, right) => {
+            let one = marks_of(alloc, lts, left, scope)?;
+            let other = marks_of(alloc, lts, right, scope)?;
+            Ok(union(complement(one), &other))
+        }
+        State::Dia(regular, operand) => {
+            let marks = marks_of(alloc, lts, operand, scope)?;
+            leading(alloc, lts, regular, &marks)
+        }
+        State::Box(regular, operand) => {
+            let marks = marks_of(alloc, lts, operand, scope)?;
+            let found = leading(alloc, lts, regular, &complement(marks))?;
+            Ok(complement(found))
+        }
+        State::Mu(name, body) => iterated(alloc, lts, name, body, scope, false),
+        State::Nu(name, body) => iterated(alloc, lts, name, body, scope, true),
+    }
+}
+
+/// A mark for each state, true where the formula holds, by sets of states alone (Kozen 1983).
+pub fn plain_states(alloc: Global, lts: &Lts, formula: &Closed) -> Result<Vec<bool>, Memory>
+    ensures meaning { IfOk result (λ marks. Marks lts.now.system.states marks.items (Satisfies lts.now.system (closed_formula formula.now))) }
+{
+    Ok(marks_of(alloc, lts, formula.tree(), &Scope::Empty)?)
+}

@@ -1,0 +1,78 @@
+// Where a regular formula leads.
+
+ghost use Rattle.std.specs.Prelude.{◌≡◌, length, IfOk};
+ghost use Rattle.lts.specs.System.{IsSystem};
+ghost use Rattle.formula.specs.Tree.{Star, Plus};
+ghost use Rattle.formula.specs.View.{regular_of};
+ghost use Rattle.formula.specs.Meaning.{Marks};
+ghost use Rattle.meaning.specs.Into.{Into};
+
+use crate::actions::before;
+use crate::sets::{is_within, union};
+use crate::signs::{has_star, without_signs_behind};
+use formula::tree::Reg;
+use lts::system::Lts;
+use std::alloc::{AllocError, Global};
+
+/// The states from which steps lead into a set: any number of them, and at least one.
+#[derive(Drop)]
+struct Reach {
+    any: Vec<bool>,
+    some: Vec<bool>,
+}
+
+/// The states from which steps of a regular formula lead into the set. It ends once one more step adds no state.
+#[cycle(regular)]
+fn reaching(alloc: Global, lts: &Lts, step: &Reg, marks: &[bool]) -> Result<Reach, AllocError>
+    requires system { IsSystem lts.now.system }
+    requires count { length marks.now ≡ lts.now.system.states }
+    ensures any { IfOk result (λ reach. Marks lts.now.system.states reach.any.items (Into lts.now.system (Star (regular_of step.now)) marks.now)) }
+    ensures some { IfOk result (λ reach. Marks lts.now.system.states reach.some.items (Into lts.now.system (Plus (regular_of step.now)) marks.now)) }
+{
+    let mut any = marks.to_vec(alloc)?;
+    loop {
+        let some = leading(alloc, lts, step, &any)?;
+        if is_within(&some, &any) {
+            return Ok(Reach { any, some });
+        }
+        any = union(any, &some);
+    }
+}
+
+/// The states from which the regular formula leads into the set.
+#[cycle(regular)]
+pub fn leading(
+    alloc: Global,
+    lts: &Lts,
+    regular: &Reg,
+    marks: &[bool],
+) -> Result<Vec<bool>, AllocError>
+    requires system { IsSystem lts.now.system }
+    requires count { length marks.now ≡ lts.now.system.states }
+    ensures { IfOk result (λ found. Marks lts.now.system.states found.items (Into lts.now.system (regular_of regular.now) marks.now)) }
+{
+    match regular {
+        Reg::Act(action) => before(alloc, lts, action, marks),
+        Reg::Seq(first, second) => {
+            let middle = leading(alloc, lts, second, marks)?;
+            leading(alloc, lts, first, &middle)
+        }
+        Reg::Choice(left, right) => {
+            let one = leading(alloc, lts, left, marks)?;
+            let other = leading(alloc, lts, right, marks)?;
+            Ok(union(one, &other))
+        }
+        Reg::Star(step) => {
+            let reach = reaching(alloc, lts, without_signs_behind(step), marks)?;
+            Ok(reach.any)
+        }
+        Reg::Plus(step) => {
+            let reach = reaching(alloc, lts, without_signs_behind(step), marks)?;
+            Ok(if has_star(step) {
+                reach.any
+            } else {
+                reach.some
+            })
+        }
+    }
+}

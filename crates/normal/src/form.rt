@@ -1,0 +1,70 @@
+// Normal forms.
+
+ghost use Rattle.std.specs.Prelude.{◌≡◌, ◌<◌, ◌≤◌, length, vec_len, slice_get, option_map};
+ghost use Rattle.normal.specs.Form.{AreNumbered, AreNumbered-prop, IsForm};
+ghost use Rattle.normal.specs.View.{node_of, nodes_of};
+
+use crate::node::Node;
+
+/// How many nodes a normal form has at most.
+pub const MOST_NODES: usize = 4096;
+
+/// The greatest priority that a node may have.
+pub const GREATEST_PRIORITY: u32 = 31;
+
+/// A normal form: its nodes in preorder, each known by its number, and how deep its binders alternate.
+#[derive(Drop)]
+pub struct Normal {
+    nodes: Vec<Node>,
+    depth: u32,
+    ghost some: { 1 ≤ vec_len nodes },
+    ghost limit: { vec_len nodes ≤ 4096 },
+    ghost numbered: { AreNumbered (nodes_of nodes.items) } by { AreNumbered-prop (nodes_of nodes.items) },
+}
+
+impl Normal {
+    ghost use Rattle.normal.specs.Normal.{normal_nodes, normal_depth};
+
+    /// What holds of every normal form.
+    pub fn known(&self)
+        ensures { IsForm (normal_nodes self.now) }
+    {
+        let _ = &self.nodes;
+    }
+
+    /// The nodes in preorder.
+    pub fn nodes(&self) -> &[Node]
+        ensures { nodes_of result.now ≡ normal_nodes self.now }
+    {
+        &self.nodes
+    }
+
+    /// How many nodes there are.
+    pub fn count(&self) -> u32
+        ensures count { result ≡ length (normal_nodes self.now) }
+        ensures limit { result ≤ MOST_NODES }
+    {
+        self.nodes.len() as u32
+    }
+
+    pub fn node(&self, k: u32) -> &Node
+        requires { k < length (normal_nodes self.now) }
+        ensures { slice_get (normal_nodes self.now) k ≡ Some (node_of result.now) }
+    {
+        &self.nodes[k as usize]
+    }
+
+    pub fn priority(&self, k: u32) -> u32
+        requires { k < length (normal_nodes self.now) }
+        ensures { option_map (λ node. node.priority) (slice_get (normal_nodes self.now) k) ≡ Some result }
+    {
+        self.nodes[k as usize].priority
+    }
+
+    /// The length of the longest chain of nested binders whose kinds alternate.
+    pub fn depth(&self) -> u32
+        ensures { result ≡ normal_depth self.now }
+    {
+        self.depth
+    }
+}
