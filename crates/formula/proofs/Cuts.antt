@@ -92,10 +92,10 @@ pub named-front : (text : List ℕ) (n : ℕ) (t : Token) → 0 < length text �
 named-front [] n t some letter run named free = absurd (omega arith)
 named-front (x ∷ xs) zero t some letter run named free = absurd (true≢false (sym (letter_named x letter) ∙ run.ends))
 named-front (x ∷ xs) (suc n) t some letter run named free = record {
-      front = word-front t (suc n) (x ∷ xs) (sym named.spelled) run.within (named.valid (all_true _ _ letter (and_true _ _ run.passes)) free)
-        (let e : token_ends t (drop n xs) ≡ true = named.ends (drop n xs) ∙ not_false _ run.ends in e);
-      some = omega arith;
-    }
+  front = word-front t (suc n) (x ∷ xs) (sym named.spelled) run.within (named.valid (all_true _ _ letter (and_true _ _ run.passes)) free)
+      (let e : token_ends t (drop n xs) ≡ true = named.ends (drop n xs) ∙ not_false _ run.ends in e);
+  some = omega arith;
+}
 
 pub atom-front : (text : List ℕ) (n : ℕ) → 0 < length text → get_or text 0 0 ≡ 34 → Run is_label_byte (drop 1 text) n → 0 < n → n ≤ 4096
     → n < length (drop 1 text) → get_or (drop 1 text) n 0 ≡ 34 → IsFirst (Atom (take n (drop 1 text))) (n + 2) text
@@ -104,7 +104,7 @@ atom-front (x ∷ xs) n some quote run few many inside closed =
     let two : n + 2 ≡ suc (n + 1) = omega arith in
     let l : length (take n xs) ≡ n = length-take-le n xs run.within in
     let bytes : take (n + 2) (x ∷ xs) ≡ spelling (Atom (take n xs))
-        = ap (λ k. take k (x ∷ xs)) two ∙ ap (λ t. x ∷ t) (take_more xs n 0 inside ∙ ap (λ b. take n xs ++ b ∷ []) closed) ∙ ap (λ b. b ∷ (take n xs ++ 34 ∷ [])) quote in
+    = ap (λ k. take k (x ∷ xs)) two ∙ ap (λ t. x ∷ t) (take_more xs n 0 inside ∙ ap (λ b. take n xs ++ b ∷ []) closed) ∙ ap (λ b. b ∷ (take n xs ++ 34 ∷ [])) quote in
     record {
       front = word-front (Atom (take n xs)) (n + 2) (x ∷ xs) bytes (omega arith) (all_true _ _ (all_true _ _ (le_true 1 (length (take n xs)) (omega arith)) (le_true (length (take n xs)) 4096 (omega arith))) run.passes) refl;
       some = omega arith;

@@ -12,10 +12,10 @@ gap-none text = record { pieces = []; front = record { joined = refl; within = o
 
 gap-more : (n m : ℕ) (text : List ℕ) (p : Piece) → IsGap n text → IsFront (p ∷ []) m (drop n text) → tokens_of (p ∷ []) ≡ [] → IsGap (n + m) text
 gap-more n m text p g f e = record {
-      pieces = g.pieces ++ p ∷ [];
-      front = front-append g.pieces (p ∷ []) n m text g.front f;
-      wordless = tokens_of-append g.pieces (p ∷ []) ∙ ap (λ ts. ts ++ tokens_of (p ∷ [])) g.wordless ∙ e;
-    }
+  pieces = g.pieces ++ p ∷ [];
+  front = front-append g.pieces (p ∷ []) n m text g.front f;
+  wordless = tokens_of-append g.pieces (p ∷ []) ∙ ap (λ ts. ts ++ tokens_of (p ∷ [])) g.wordless ∙ e;
+}
 
 blank-front : (x : ℕ) (xs : List ℕ) → IsTrue (x == 32 || x == 9 || x == 13 || x == 10) → IsFront (Blank x ∷ []) 1 (x ∷ xs)
 blank-front x xs h = record { joined = refl; within = omega arith; cut = (h, refl, tt) }

@@ -123,12 +123,12 @@ heads_first t u ts n text f a free =
 
 pub cut-none : (text : List ℕ) (n : ℕ) (placed : List Placed) → placed ≡ [] → IsGap n text → IsCut text n placed
 cut-none text n placed none g = record {
-      pieces = g.pieces;
-      front = g.front;
-      spelled = g.wordless ∙ ap words (sym none);
-      places = offsets-none 0 g.pieces g.wordless ∙ ap (λ ps. map (λ p. p.offset) ps) (sym none);
-      decided = λ ts decided heads. subst (λ (us : List Token). IsTrue (is_decided (us ++ ts))) (sym g.wordless) decided;
-    }
+  pieces = g.pieces;
+  front = g.front;
+  spelled = g.wordless ∙ ap words (sym none);
+  places = offsets-none 0 g.pieces g.wordless ∙ ap (λ ps. map (λ p. p.offset) ps) (sym none);
+  decided = λ ts decided heads. subst (λ (us : List Token). IsTrue (is_decided (us ++ ts))) (sym g.wordless) decided;
+}
 
 -- one more token, and the blanks and comments after it
 pub cut-more : (text : List ℕ) (at : ℕ) (placed placed' : List Placed) (t : Token) (p : Placed) (n gap : ℕ) → IsCut text at placed → IsFirst t n (drop at text) → IsGap gap (drop (at + n) text)
@@ -153,14 +153,14 @@ cut-more text at placed placed' t p n gap c f g d place e =
       front = front-append pieces g.pieces (at + n) gap text front g.front;
       spelled = all_words ∙ sym (ap words e ∙ map-append f_token placed (p ∷ []));
       places = offsets-append 0 pieces g.pieces ∙ ap (λ os. offsets_from 0 pieces ++ os) (offsets-none (0 + length (text_of pieces)) g.pieces g.wordless) ∙ append-nil (offsets_from 0 pieces) ∙ offsets_so
-        ∙ sym (ap (λ ps. map f_offset ps) e ∙ map-append f_offset placed (p ∷ []));
+          ∙ sym (ap (λ ps. map f_offset ps) e ∙ map-append f_offset placed (p ∷ []));
       decided = λ ts decided heads.
-        let after : is_after_postfix ts ≡ is_postfix_before (slice_get text next) = heads_tell ts (drop next text) heads ∙ ap is_postfix_before (get-drop next text) in
-        let mine : IsTrue (is_decided (u ∷ ts)) = all_true _ _ (decided-is t u (slice_get text next) ts d after) decided in
-        let theirs : IsTrue (is_decided (tokens_of c.pieces ++ (u ∷ ts))) = c.decided (u ∷ ts) mine (heads_first t u ts n (drop at text) f a free) in
-        let same : tokens_of c.pieces ++ (u ∷ ts) ≡ tokens_of (pieces ++ g.pieces) ++ ts
-            = ap (λ us. us ++ (u ∷ ts)) c.spelled ∙ sym (append_assoc (words placed) (u ∷ []) ts) ∙ ap (λ us. us ++ ts) (sym all_words) in
-        subst (λ (us : List Token). IsTrue (is_decided us)) same theirs;
+          let after : is_after_postfix ts ≡ is_postfix_before (slice_get text next) = heads_tell ts (drop next text) heads ∙ ap is_postfix_before (get-drop next text) in
+          let mine : IsTrue (is_decided (u ∷ ts)) = all_true _ _ (decided-is t u (slice_get text next) ts d after) decided in
+          let theirs : IsTrue (is_decided (tokens_of c.pieces ++ (u ∷ ts))) = c.decided (u ∷ ts) mine (heads_first t u ts n (drop at text) f a free) in
+          let same : tokens_of c.pieces ++ (u ∷ ts) ≡ tokens_of (pieces ++ g.pieces) ++ ts
+          = ap (λ us. us ++ (u ∷ ts)) c.spelled ∙ sym (append_assoc (words placed) (u ∷ []) ts) ∙ ap (λ us. us ++ ts) (sym all_words) in
+          subst (λ (us : List Token). IsTrue (is_decided us)) same theirs;
     }
 
 pub cut-all : (text : List ℕ) (at : ℕ) (placed : List Placed) → IsCut text at placed → length text ≤ at → IsLexed text placed

@@ -9,3 +9,7 @@ pub mod Pieces
 pub mod OneText
 pub mod Inside
 pub mod Same
+pub mod Faults
+pub mod Scopes
+pub mod Sorting
+pub mod Sense

@@ -104,8 +104,7 @@ more_names-push (other ∷ names) name more = ap (λ ts. Bar ∷ Name other ∷ 
 pub words-next : (ts : List Placed) (n : ℕ) (t : Token) (more : List Token) → words (drop n ts) ≡ t ∷ more → (n < length ts) × (words (drop (n + 1) ts) ≡ more)
 words-next ts n t more e =
     let f : Placed → Token = λ p. token_of p.token in
-    let l : length ts - n ≡ suc (length more) = sym (length-drop n ts) ∙ sym (length-map (drop n ts) f) ∙ ap length e in
-    (
+    let l : length ts - n ≡ suc (length more) = sym (length-drop n ts) ∙ sym (length-map (drop n ts) f) ∙ ap length e in (
       omega arith,
       ap words (sym (drop-drop 1 n ts)) ∙ sym (drop-map f 1 (drop n ts)) ∙ ap (drop 1) e,
     )

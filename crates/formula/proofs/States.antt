@@ -125,9 +125,9 @@ pub modal-eaten : (mark : Brackets) (inside : ReadRegular) (f : ReadState) (x : 
 modal-eaten mark inside f x start after e eaten closed eaten' =
     ap (λ ts. ts ++ words f.rest.now) (ap tokens e ∙ modal-tokens mark _ _)
     ∙ ap (λ ts. opening mark ∷ ts) (append_assoc (reg_tokens (reg_syntax inside.syntax)) (closing mark ∷ tokens (state_syntax f.syntax)) (words f.rest.now)
-      ∙ ap (λ ts. reg_tokens (reg_syntax inside.syntax) ++ (closing mark ∷ ts)) eaten'
-      ∙ ap (λ ts. reg_tokens (reg_syntax inside.syntax) ++ ts) (sym closed)
-      ∙ eaten)
+    ∙ ap (λ ts. reg_tokens (reg_syntax inside.syntax) ++ (closing mark ∷ ts)) eaten'
+    ∙ ap (λ ts. reg_tokens (reg_syntax inside.syntax) ++ ts) (sym closed)
+    ∙ eaten)
 
 pub modal-is : (level depth inside : ℕ) (mark : Brackets) (r : ReadRegular) (f s : ReadState) → state_syntax s.syntax ≡ modal mark (reg_syntax r.syntax) (state_syntax f.syntax)
     → s.rest.now ≡ f.rest.now → s.height ≡ max r.height f.height + 1 → IsRegular level depth inside r → IsState 0 depth inside f → IsState 0 (depth + 1) inside s

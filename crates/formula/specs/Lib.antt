@@ -13,3 +13,4 @@ pub mod Written
 pub mod Read
 pub mod Cutting
 pub mod Laws
+pub mod Checked

@@ -1,8 +1,11 @@
 -- What a parser has read, and how far what follows lets it go on.
 use Rattle.std.specs.Prelude.{◌≡◌, ◌≢◌, ℕ, ◌+◌, ◌<◌, ◌≤◌, Bool, true, false, List, [], ◌∷◌, ◌++◌, map, max, length, IsTrue, ◌==◌, ◌||◌, Option, Some, None}
 use Rattle.formula.specs.Token.{Token, ImpliesSign, OrSign, AndSign, Bar, Dot, ChoiceSign, PlusSign, StarSign}
-use Rattle.formula.specs.Syntax.{RegSyntax, reg_tokens, reg_fits, reg_form, reg_nesting, reg_parens, Syntax, tokens, fits, form, nesting, parens, ends_in_binder}
+use Rattle.formula.specs.Syntax.{RegSyntax, reg_tokens, reg_fits, reg_form, reg_nesting, reg_parens, Syntax, tokens, fits, form, nesting, parens, ends_in_binder, is_within_limits}
 use Rattle.formula.specs.Written.{words, reg_syntax, state_syntax, infixed, repeated, infix_token, repeat_token, joined, connective_token}
+use Rattle.formula.specs.declared.error.FormulaFault.{FormulaFault}
+use Rattle.formula.specs.declared.error.FormulaError.{FormulaError}
+use Rattle.formula.specs.declared.error.FormulaError.TheVariants as refused
 use Rattle.formula.specs.declared.written.Infix.{Infix}
 use Rattle.formula.specs.declared.written.Repeat.{Repeat}
 use Rattle.formula.specs.declared.written.WrittenRegular.{WrittenRegular}
@@ -97,3 +100,14 @@ IsConnective token None = (more : List Token) → state_row (token ∷ more) ≡
 abbrev pub IsFormulaOf : Token → Option WrittenState → Type 0
 IsFormulaOf token (Some s) = (tokens (state_syntax s) ≡ token ∷ []) × (form (state_syntax s) ≡ 0) × (nesting (state_syntax s) ≡ 0) × (parens (state_syntax s) ≡ 0) × IsTrue (fits (state_syntax s)) × (ends_in_binder (state_syntax s) ≡ false)
 IsFormulaOf token None = Unit {0}
+
+-- these tokens are the formula, which is of the grammar and within the limits
+pub record IsWhole (s : Syntax) (ts : List Token) : Type 0 where
+  pub spelled : tokens s ≡ ts
+  pub grammatical : IsTrue (fits s)
+  pub within : IsTrue (is_within_limits s)
+
+-- the refusal with this fault at this place
+abbrev pub IsRefusal : FormulaFault → Option ℕ → FormulaError → Type 0
+IsRefusal fault place (refused.Fault other offset) = (other ≡ fault) × (place ≡ Some offset)
+IsRefusal fault place refused.Memory = ⊥

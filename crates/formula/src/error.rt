@@ -1,6 +1,9 @@
 // Why a text gave no formula.
 
-use std::alloc::AllocError;
+ghost use Rattle.std.specs.Prelude.{◌≡◌};
+ghost use Rattle.formula.specs.declared.error.FormulaError.TheVariants.{Memory};
+
+use std::alloc::AllocFailed;
 use thiserror::Error;
 
 /// What is wrong with a text that spells no admitted formula within the limits. It is shown as its code.
@@ -43,8 +46,10 @@ pub enum FormulaError {
     Memory,
 }
 
-impl From<AllocError> for FormulaError {
-    fn from(error: AllocError) -> Self {
+impl<T: Drop> From<AllocFailed<T>> for FormulaError {
+    ghost from_gives = { λ _ e. e ≡ Memory };
+
+    fn from(error: AllocFailed<T>) -> Self {
         let _ = error;
         FormulaError::Memory
     }

@@ -9,10 +9,9 @@ ghost use Rattle.formula.specs.Token.{ChoiceSign, PlusSign, reserved_words};
 ghost use Rattle.formula.specs.Written.{token_of};
 ghost use Rattle.formula.specs.Cutting.{IsGap, IsFirst, IsSingle, IsDouble, IsNamed, IsCut, IsLexed, IsDecidedBy, is_postfix_before};
 
-use std::alloc::{AllocError, Global};
-
 use crate::error::{FormulaError, FormulaFault};
 use crate::token::{Placed, Token};
+use std::alloc::Global;
 
 /// The longest quoted atom, in bytes between its quotes.
 const LONGEST_ATOM: usize = 4096;
@@ -89,7 +88,12 @@ fn is_same(name: &[u8], word: &[u8]) -> bool
 fn is_reserved(name: &[u8]) -> bool
     ensures { result ≡ list_any (bytes_eq name.now) reserved_words }
 {
-    is_same(name, b"forall") || is_same(name, b"exists") || is_same(name, b"val") || is_same(name, b"delay") || is_same(name, b"yaled") || is_same(name, b"nil")
+    is_same(name, b"forall")
+        || is_same(name, b"exists")
+        || is_same(name, b"val")
+        || is_same(name, b"delay")
+        || is_same(name, b"yaled")
+        || is_same(name, b"nil")
 }
 
 /// The word or the name that these bytes are.
@@ -246,7 +250,7 @@ pub fn tokens<'a>(alloc: Global, text: &'a [u8]) -> Result<Vec<Placed<'a>>, Form
         let end = at + len;
         let next = end + gap_len(&text[end..]);
         let token = decided(token, byte_at(text, next));
-        tokens.push(Placed { token, offset: at }).map_err(AllocError::from)?;
+        tokens.push(Placed { token, offset: at })?;
         at = next;
     }
     Ok(tokens)

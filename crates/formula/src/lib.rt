@@ -4,6 +4,7 @@
 pub mod closed;
 pub mod error;
 pub mod label;
+pub mod law;
 mod lexer;
 mod meant;
 mod operands;
@@ -13,7 +14,6 @@ mod room;
 mod scope;
 mod state;
 mod token;
-pub mod law;
 pub mod tree;
 mod written;
 

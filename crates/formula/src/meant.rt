@@ -1,14 +1,21 @@
 // Makes the formula that is written, without its parentheses.
 
-use std::alloc::{AllocError, Global};
+ghost use Rattle.std.specs.Prelude.{◌≡◌, ◌∷◌, map, Some, IsSome, MatchResult};
+ghost use Rattle.lts.specs.Label.{multiset as multiset_of};
+ghost use Rattle.formula.specs.Syntax.{action_meant, regular_meant, meant};
+ghost use Rattle.formula.specs.View.{action_of, regular_of, formula_of};
+ghost use Rattle.formula.specs.Written.{reg_syntax, state_syntax};
 
 use crate::error::FormulaError;
 use crate::room::boxed;
 use crate::tree::{Act, Reg, State};
 use crate::written::{Binder, Brackets, Connective, Infix, Repeat, WrittenRegular, WrittenState};
+use std::alloc::Global;
 
 /// The bytes, copied.
-fn copied(alloc: Global, bytes: &[u8]) -> Result<Vec<u8>, FormulaError> {
+fn copied(alloc: Global, bytes: &[u8]) -> Result<Vec<u8>, FormulaError>
+    ensures { MatchResult result (λ copy. copy.items ≡ bytes.now) (λ e. e ≡ FormulaError.Memory) }
+{
     match bytes.to_vec(alloc) {
         Ok(copy) => Ok(copy),
         Err(_) => Err(FormulaError::Memory),
@@ -16,18 +23,25 @@ fn copied(alloc: Global, bytes: &[u8]) -> Result<Vec<u8>, FormulaError> {
 }
 
 /// The multiset of these names, ascending.
-fn multiset(alloc: Global, first: &[u8], others: &[&[u8]]) -> Result<Vec<Vec<u8>>, FormulaError> {
+fn multiset(alloc: Global, first: &[u8], others: &[&[u8]]) -> Result<Vec<Vec<u8>>, FormulaError>
+    ensures { MatchResult result
+        (λ names. map (λ name. name.items) names.items ≡ multiset_of (first.now ∷ map (λ name. name.now) others.now))
+        (λ e. e ≡ FormulaError.Memory) }
+{
     let mut names = Vec::new(alloc);
-    names.push(copied(alloc, first)?).map_err(AllocError::from)?;
+    names.push(copied(alloc, first)?)?;
     for name in others {
-        names.push(copied(alloc, name)?).map_err(AllocError::from)?;
+        names.push(copied(alloc, name)?)?;
     }
     names.sort_unstable();
     Ok(names)
 }
 
 /// The action formula that is written, of one that counts as an action formula throughout.
-fn action(alloc: Global, written: &WrittenRegular) -> Result<Act, FormulaError> {
+fn action(alloc: Global, written: &WrittenRegular) -> Result<Act, FormulaError>
+    requires { IsSome (action_meant (reg_syntax written.now)) }
+    ensures { MatchResult result (λ a. action_meant (reg_syntax written.now) ≡ Some (action_of a)) (λ e. e ≡ FormulaError.Memory) }
+{
     match written {
         WrittenRegular::True => Ok(Act::True),
         WrittenRegular::False => Ok(Act::False),
@@ -51,7 +65,10 @@ fn action(alloc: Global, written: &WrittenRegular) -> Result<Act, FormulaError> 
 }
 
 /// The regular formula that is written.
-fn regular(alloc: Global, written: &WrittenRegular) -> Result<Reg, FormulaError> {
+fn regular(alloc: Global, written: &WrittenRegular) -> Result<Reg, FormulaError>
+    requires { IsSome (regular_meant (reg_syntax written.now)) }
+    ensures { MatchResult result (λ r. regular_meant (reg_syntax written.now) ≡ Some (regular_of r)) (λ e. e ≡ FormulaError.Memory) }
+{
     match written {
         WrittenRegular::Parens(inner) => regular(alloc, inner),
         WrittenRegular::Repeated(repeat, inner) => {
@@ -74,7 +91,10 @@ fn regular(alloc: Global, written: &WrittenRegular) -> Result<Reg, FormulaError>
 }
 
 /// The state formula that is written, of one each of whose operands inside modalities may stand there.
-pub fn state(alloc: Global, written: &WrittenState) -> Result<State, FormulaError> {
+pub fn state(alloc: Global, written: &WrittenState) -> Result<State, FormulaError>
+    requires { IsSome (meant (state_syntax written.now)) }
+    ensures { MatchResult result (λ f. meant (state_syntax written.now) ≡ Some (formula_of f)) (λ e. e ≡ FormulaError.Memory) }
+{
     match written {
         WrittenState::True => Ok(State::True),
         WrittenState::False => Ok(State::False),

@@ -6,8 +6,6 @@ ghost use Rattle.formula.specs.Syntax.{reg_tokens, more_names};
 ghost use Rattle.formula.specs.Written.{token_of, words, reg_syntax, infix_token, infix_row, infixed, repeat_token, repeated as with_repeat};
 ghost use Rattle.formula.specs.Read.{regular_tokens, IsRegular, IsRepeated, IsJoined, IsSuffix, IsWordOf, MatchBar, reg_row};
 
-use std::alloc::AllocError;
-
 use crate::error::FormulaError;
 use crate::room::{Room, boxed};
 use crate::token::{Placed, Token};
@@ -50,23 +48,45 @@ fn suffix_of(token: Token<'_>) -> Option<Suffix>
 }
 
 /// The formula under a postfix sign, with the tokens after the sign.
-fn repeated<'a>(room: Room, left: ReadRegular<'a>, repeat: Repeat, rest: &'a [Placed<'a>]) -> Result<ReadRegular<'a>, FormulaError>
+fn repeated<'a>(
+    room: Room,
+    left: ReadRegular<'a>,
+    repeat: Repeat,
+    rest: &'a [Placed<'a>],
+) -> Result<ReadRegular<'a>, FormulaError>
     requires { left.height < room.depth }
     ensures { MatchResult result (λ r. IsRepeated left.entry repeat r × (r.rest.now ≡ rest.now)) (λ e. e ≡ FormulaError.Memory) }
 {
     let syntax = WrittenRegular::Repeated(repeat, boxed(room.alloc, left.syntax)?);
-    Ok(ReadRegular { syntax, height: left.height + 1, rest })
+    Ok(ReadRegular {
+        syntax,
+        height: left.height + 1,
+        rest,
+    })
 }
 
 /// The formula of two with a sign between them.
-fn joined<'a>(room: Room, left: ReadRegular<'a>, sign: Infix, right: ReadRegular<'a>) -> Result<ReadRegular<'a>, FormulaError>
+fn joined<'a>(
+    room: Room,
+    left: ReadRegular<'a>,
+    sign: Infix,
+    right: ReadRegular<'a>,
+) -> Result<ReadRegular<'a>, FormulaError>
     requires left { left.height < room.depth }
     requires right { right.height < room.depth }
     ensures { MatchResult result (λ r. IsJoined left.entry sign right.entry r × (r.rest.now ≡ right.entry.rest.now)) (λ e. e ≡ FormulaError.Memory) }
 {
     let height = left.height.max(right.height) + 1;
-    let syntax = WrittenRegular::Joined(sign, boxed(room.alloc, left.syntax)?, boxed(room.alloc, right.syntax)?);
-    Ok(ReadRegular { syntax, height, rest: right.rest })
+    let syntax = WrittenRegular::Joined(
+        sign,
+        boxed(room.alloc, left.syntax)?,
+        boxed(room.alloc, right.syntax)?,
+    );
+    Ok(ReadRegular {
+        syntax,
+        height,
+        rest: right.rest,
+    })
 }
 
 /// An atom that is one token.
@@ -87,17 +107,36 @@ pub fn after_close<'a>(room: Room, rest: &'a [Placed<'a>]) -> Result<&'a [Placed
     ensures { IfOk result (λ after. words rest.now ≡ Close ∷ words after.now) }
 {
     match rest.split_first() {
-        Some((Placed { token: Token::Close, .. }, after)) => Ok(after),
+        Some(
+            (
+                Placed {
+                    token: Token::Close,
+                    ..
+                },
+                after,
+            ),
+        ) => Ok(after),
         _ => Err(room.unexpected(rest)),
     }
 }
 
 /// The name that has to stand first, and the tokens after it.
-pub fn name_first<'a>(room: Room, rest: &'a [Placed<'a>]) -> Result<(&'a [u8], &'a [Placed<'a>]), FormulaError>
+pub fn name_first<'a>(
+    room: Room,
+    rest: &'a [Placed<'a>],
+) -> Result<(&'a [u8], &'a [Placed<'a>]), FormulaError>
     ensures { IfOk result (λ (name, after). words rest.now ≡ Name name.now ∷ words after.now) }
 {
     match rest.split_first() {
-        Some((Placed { token: Token::Name(name), .. }, after)) => Ok((name, after)),
+        Some(
+            (
+                Placed {
+                    token: Token::Name(name),
+                    ..
+                },
+                after,
+            ),
+        ) => Ok((name, after)),
         _ => Err(room.unexpected(rest)),
     }
 }
@@ -106,13 +145,22 @@ fn is_bar_first(tokens: &[Placed<'_>]) -> bool
     ensures { MatchBar (words tokens.now) result }
 {
     match tokens.first() {
-        Some(Placed { token: Token::Bar, .. }) => true,
+        Some(
+            Placed {
+                token: Token::Bar,
+                ..
+            },
+        ) => true,
         _ => false,
     }
 }
 
 /// Names joined by bars, of which the first is given.
-fn names<'a>(room: Room, first: &'a [u8], tokens: &'a [Placed<'a>]) -> Result<ReadRegular<'a>, FormulaError>
+fn names<'a>(
+    room: Room,
+    first: &'a [u8],
+    tokens: &'a [Placed<'a>],
+) -> Result<ReadRegular<'a>, FormulaError>
     ensures eaten { IfOk result (λ r. regular_tokens r ≡ Name first.now ∷ words tokens.now) }
     ensures sound { IfOk result (λ r. IsRegular 0 room.depth room.parens r) }
     ensures whole { IfOk result (λ r. 0 < reg_row (words r.rest.now)) }
@@ -122,11 +170,15 @@ fn names<'a>(room: Room, first: &'a [u8], tokens: &'a [Placed<'a>]) -> Result<Re
     let mut at = 0;
     'names: while is_bar_first(&tokens[at..]) {
         let (name, _) = name_first(room, &tokens[at + 1..])?;
-        others.push(name).map_err(AllocError::from)?;
+        others.push(name)?;
         at += 2;
     }
     let syntax = WrittenRegular::Names(first, others);
-    Ok(ReadRegular { syntax, height: 0, rest: &tokens[at..] })
+    Ok(ReadRegular {
+        syntax,
+        height: 0,
+        rest: &tokens[at..],
+    })
 }
 
 /// What stands after an opening parenthesis, up to the closing one.
@@ -136,10 +188,18 @@ fn parens<'a>(room: Room, tokens: &'a [Placed<'a>]) -> Result<ReadRegular<'a>, F
     ensures sound { IfOk result (λ r. IsRegular 0 room.depth (room.parens + 1) r) }
     ensures shorter { IfOk result (λ r. length r.rest.now < length tokens.now) }
 {
-    let ReadRegular { syntax, height, rest } = regular(room, ANY_REGULAR, tokens)?;
+    let ReadRegular {
+        syntax,
+        height,
+        rest,
+    } = regular(room, ANY_REGULAR, tokens)?;
     let rest = after_close(room, rest)?;
     let syntax = WrittenRegular::Parens(boxed(room.alloc, syntax)?);
-    Ok(ReadRegular { syntax, height, rest })
+    Ok(ReadRegular {
+        syntax,
+        height,
+        rest,
+    })
 }
 
 /// What stands after a `!`.
@@ -150,9 +210,17 @@ fn negated<'a>(room: Room, tokens: &'a [Placed<'a>]) -> Result<ReadRegular<'a>, 
     ensures sound { IfOk result (λ r. IsRegular 1 (room.depth + 1) room.parens r) }
     ensures shorter { IfOk result (λ r. length r.rest.now < length tokens.now) }
 {
-    let ReadRegular { syntax, height, rest } = negation(room, tokens)?;
+    let ReadRegular {
+        syntax,
+        height,
+        rest,
+    } = negation(room, tokens)?;
     let syntax = WrittenRegular::Not(boxed(room.alloc, syntax)?);
-    Ok(ReadRegular { syntax, height: height + 1, rest })
+    Ok(ReadRegular {
+        syntax,
+        height: height + 1,
+        rest,
+    })
 }
 
 /// A negation or an atom.
@@ -170,7 +238,11 @@ fn negation<'a>(room: Room, tokens: &'a [Placed<'a>]) -> Result<ReadRegular<'a>,
         Token::Open => parens(room.inside(first)?, rest),
         Token::Name(name) => names(room, name, rest),
         token => match word(token) {
-            Some(syntax) => Ok(ReadRegular { syntax, height: 0, rest }),
+            Some(syntax) => Ok(ReadRegular {
+                syntax,
+                height: 0,
+                rest,
+            }),
             None => Err(room.unexpected(tokens)),
         },
     }
@@ -178,7 +250,11 @@ fn negation<'a>(room: Room, tokens: &'a [Placed<'a>]) -> Result<ReadRegular<'a>,
 
 /// The longest formula of this row of the grammar's table at the front of the tokens.
 #[cycle(regular)]
-pub fn regular<'a>(room: Room, level: u8, tokens: &'a [Placed<'a>]) -> Result<ReadRegular<'a>, FormulaError>
+pub fn regular<'a>(
+    room: Room,
+    level: u8,
+    tokens: &'a [Placed<'a>],
+) -> Result<ReadRegular<'a>, FormulaError>
     requires { 1 ≤ level }
     ensures eaten { IfOk result (λ r. regular_tokens r ≡ words tokens.now) }
     ensures sound { IfOk result (λ r. IsRegular level room.depth room.parens r) }
@@ -189,7 +265,11 @@ pub fn regular<'a>(room: Room, level: u8, tokens: &'a [Placed<'a>]) -> Result<Re
 
 /// The longest formula of this row that begins with this one.
 #[cycle(regular)]
-fn extended<'a>(room: Room, level: u8, left: ReadRegular<'a>) -> Result<ReadRegular<'a>, FormulaError>
+fn extended<'a>(
+    room: Room,
+    level: u8,
+    left: ReadRegular<'a>,
+) -> Result<ReadRegular<'a>, FormulaError>
     requires { IsRegular level room.depth room.parens left }
     ensures eaten { IfOk result (λ r. regular_tokens r ≡ regular_tokens left.entry) }
     ensures sound { IfOk result (λ r. IsRegular level room.depth room.parens r) }

@@ -3,10 +3,9 @@
 ghost use Rattle.std.specs.Prelude.{◌≡◌, ◌+◌, ◌-◌, ◌<◌, ◌≤◌, MatchResult, List, []};
 ghost use Rattle.formula.specs.declared.error.FormulaFault.TheVariants.{TooLarge, Unexpected, Unfinished};
 
-use std::alloc::Global;
-
 use crate::error::{FormulaError, FormulaFault};
 use crate::token::Placed;
+use std::alloc::Global;
 
 /// The allocator, how deep formulas may still nest, how many parentheses may still open, and the length of the text.
 #[derive(Clone, Copy)]
@@ -21,10 +20,7 @@ pub struct Room {
 pub fn boxed<T: Drop>(alloc: Global, value: T) -> Result<Box<T>, FormulaError>
     ensures { MatchResult result (λ held. held.value ≡ value) (λ e. e ≡ FormulaError.Memory) }
 {
-    match Box::new(alloc, value) {
-        Ok(held) => Ok(held),
-        Err(_) => Err(FormulaError::Memory),
-    }
+    Ok(Box::new(alloc, value)?)
 }
 
 impl Room {
@@ -37,7 +33,12 @@ impl Room {
         if self.depth <= height {
             return Err(too_large(sign));
         }
-        Ok(Room { alloc: self.alloc, depth: self.depth - 1, parens: self.parens, end: self.end })
+        Ok(Room {
+            alloc: self.alloc,
+            depth: self.depth - 1,
+            parens: self.parens,
+            end: self.end,
+        })
     }
 
     /// The room inside one more parenthesis; the parenthesis is refused where there is none.
@@ -49,14 +50,25 @@ impl Room {
         if self.parens == 0 {
             return Err(too_large(paren));
         }
-        Ok(Room { alloc: self.alloc, depth: self.depth, parens: self.parens - 1, end: self.end })
+        Ok(Room {
+            alloc: self.alloc,
+            depth: self.depth,
+            parens: self.parens - 1,
+            end: self.end,
+        })
     }
 
     /// The refusal of the first of these tokens, or of the end where there is none.
     pub fn unexpected(self, rest: &[Placed<'_>]) -> FormulaError {
         match rest.first() {
-            Some(placed) => FormulaError::Fault { fault: FormulaFault::Unexpected, offset: placed.offset },
-            None => FormulaError::Fault { fault: FormulaFault::Unfinished, offset: self.end },
+            Some(placed) => FormulaError::Fault {
+                fault: FormulaFault::Unexpected,
+                offset: placed.offset,
+            },
+            None => FormulaError::Fault {
+                fault: FormulaFault::Unfinished,
+                offset: self.end,
+            },
         }
     }
 }
@@ -64,5 +76,8 @@ impl Room {
 fn too_large(placed: &Placed<'_>) -> FormulaError
     ensures { result ≡ FormulaError.Fault TooLarge placed.now.offset }
 {
-    FormulaError::Fault { fault: FormulaFault::TooLarge, offset: placed.offset }
+    FormulaError::Fault {
+        fault: FormulaFault::TooLarge,
+        offset: placed.offset,
+    }
 }

@@ -1,14 +1,20 @@
 // Finds the variables that may not stand where they do. Places are numbers of tokens.
 
+ghost use Rattle.std.specs.Prelude.{◌≡◌, ℕ, ◌+◌, ◌<◌, ◌^◌, List, [], ◌∷◌, length, MatchOption};
+ghost use Rattle.formula.specs.Syntax.{tokens, reg_tokens};
+ghost use Rattle.formula.specs.Fault.{variable_fault as fault_of, variable_faults};
+ghost use Rattle.formula.specs.Written.{reg_syntax, state_syntax};
+ghost use Rattle.formula.specs.Checked.{AreChecked, scope_of, left_parity};
+
 use crate::error::FormulaFault;
 use crate::written::{Connective, WrittenRegular, WrittenState};
 
 /// The binders around a place, the innermost first.
 #[derive(Clone, Copy)]
-pub enum Scope<'a> {
+pub enum Binders<'a> {
     Empty,
     /// A name, the parity of the negations around its binder, and the binders around that.
-    Binder(&'a [u8], bool, &'a Scope<'a>),
+    Binder(&'a [u8], bool, &'a Binders<'a>),
 }
 
 /// A variable that may not stand at its place.
@@ -19,10 +25,14 @@ pub struct Misplaced {
 }
 
 /// What is wrong with a variable under negations of this parity.
-fn variable_fault(name: &[u8], scope: &Scope, parity: bool) -> Option<FormulaFault> {
+fn variable_fault(name: &[u8], scope: &Binders, parity: bool) -> Option<FormulaFault>
+    ensures { MatchOption result
+        ((at : ℕ) → fault_of name.now (scope_of scope.now parity) at ≡ [])
+        (λ fault. (at : ℕ) → fault_of name.now (scope_of scope.now parity) at ≡ (at, fault) ∷ []) }
+{
     match scope {
-        Scope::Empty => Some(FormulaFault::Unbound),
-        Scope::Binder(bound, binder_parity, outer) => {
+        Binders::Empty => Some(FormulaFault::Unbound),
+        Binders::Binder(bound, binder_parity, outer) => {
             if name != *bound {
                 variable_fault(name, outer, parity)
             } else if *binder_parity == parity {
@@ -34,10 +44,26 @@ fn variable_fault(name: &[u8], scope: &Scope, parity: bool) -> Option<FormulaFau
     }
 }
 
+/// The parity of the negations around the left side of a sign.
+fn parity_left_of(sign: Connective, parity: bool) -> bool
+    ensures { result ≡ left_parity sign parity }
+{
+    match sign {
+        Connective::Implies => !parity,
+        Connective::And | Connective::Or => parity,
+    }
+}
+
 /// How many tokens a regular formula has.
-fn token_count(regular: &WrittenRegular) -> usize {
+fn token_count(regular: &WrittenRegular) -> usize
+    requires { length (reg_tokens (reg_syntax regular.now)) < 2 ^ 64 }
+    ensures { result ≡ length (reg_tokens (reg_syntax regular.now)) }
+{
     match regular {
-        WrittenRegular::True | WrittenRegular::False | WrittenRegular::Tau | WrittenRegular::Quoted(_) => 1,
+        WrittenRegular::True
+        | WrittenRegular::False
+        | WrittenRegular::Tau
+        | WrittenRegular::Quoted(_) => 1,
         WrittenRegular::Names(_, others) => 1 + 2 * others.len(),
         WrittenRegular::Parens(inner) => token_count(inner) + 2,
         WrittenRegular::Not(inner) | WrittenRegular::Repeated(_, inner) => token_count(inner) + 1,
@@ -46,7 +72,15 @@ fn token_count(regular: &WrittenRegular) -> usize {
 }
 
 /// The place after a formula that begins at this place, or its first variable that may not stand where it does.
-pub fn variables(state: &WrittenState, scope: &Scope, parity: bool, at: usize) -> Result<usize, Misplaced> {
+pub fn variables(
+    state: &WrittenState,
+    scope: &Binders,
+    parity: bool,
+    at: usize,
+) -> Result<usize, Misplaced>
+    requires { at + length (tokens (state_syntax state.now)) < 2 ^ 64 }
+    ensures { AreChecked (variable_faults (scope_of scope.now parity) at (state_syntax state.now)) at (length (tokens (state_syntax state.now))) result }
+{
     match state {
         WrittenState::True | WrittenState::False => Ok(at + 1),
         WrittenState::Var(name) => match variable_fault(name, scope, parity) {
@@ -56,14 +90,20 @@ pub fn variables(state: &WrittenState, scope: &Scope, parity: bool, at: usize) -
         WrittenState::Group(inner) => Ok(variables(inner, scope, parity, at + 1)? + 1),
         WrittenState::Not(inner) => variables(inner, scope, !parity, at + 1),
         WrittenState::Joined(sign, left, right) => {
-            let left_parity = match sign {
-                Connective::Implies => !parity,
-                Connective::And | Connective::Or => parity,
-            };
-            let place = variables(left, scope, left_parity, at)?;
+            let place = variables(left, scope, parity_left_of(*sign, parity), at)?;
             variables(right, scope, parity, place + 1)
         }
-        WrittenState::Modal(_, regular, inner) => variables(inner, scope, parity, at + token_count(regular) + 2),
-        WrittenState::Bind(_, name, inner) => variables(inner, &Scope::Binder(name, parity, scope), parity, at + 3),
+        WrittenState::Modal(_, regular, inner) => variables(
+            inner,
+            scope,
+            parity,
+            at + token_count(regular) + 2,
+        ),
+        WrittenState::Bind(_, name, inner) => variables(
+            inner,
+            &Binders::Binder(name, parity, scope),
+            parity,
+            at + 3,
+        ),
     }
 }

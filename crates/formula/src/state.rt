@@ -50,18 +50,52 @@ fn after_dot<'a>(room: Room, rest: &'a [Placed<'a>]) -> Result<&'a [Placed<'a>],
     ensures { IfOk result (λ after. words rest.now ≡ Dot ∷ words after.now) }
 {
     match rest.split_first() {
-        Some((Placed { token: Token::Dot, .. }, after)) => Ok(after),
+        Some(
+            (
+                Placed {
+                    token: Token::Dot,
+                    ..
+                },
+                after,
+            ),
+        ) => Ok(after),
         _ => Err(room.unexpected(rest)),
     }
 }
 
 /// The tokens after the bracket that closes a modality, which has to stand first.
-fn after_bracket<'a>(room: Room, brackets: Brackets, rest: &'a [Placed<'a>]) -> Result<&'a [Placed<'a>], FormulaError>
+fn after_bracket<'a>(
+    room: Room,
+    brackets: Brackets,
+    rest: &'a [Placed<'a>],
+) -> Result<&'a [Placed<'a>], FormulaError>
     ensures { IfOk result (λ after. words rest.now ≡ closing brackets ∷ words after.now) }
 {
     match (brackets, rest.split_first()) {
-        (Brackets::Diamond, Some((Placed { token: Token::Greater, .. }, after))) => Ok(after),
-        (Brackets::Box, Some((Placed { token: Token::CloseBox, .. }, after))) => Ok(after),
+        (
+            Brackets::Diamond,
+            Some(
+                (
+                    Placed {
+                        token: Token::Greater,
+                        ..
+                    },
+                    after,
+                ),
+            ),
+        ) => Ok(after),
+        (
+            Brackets::Box,
+            Some(
+                (
+                    Placed {
+                        token: Token::CloseBox,
+                        ..
+                    },
+                    after,
+                ),
+            ),
+        ) => Ok(after),
         _ => Err(room.unexpected(rest)),
     }
 }
@@ -73,10 +107,18 @@ fn group<'a>(room: Room, tokens: &'a [Placed<'a>]) -> Result<ReadState<'a>, Form
     ensures sound { IfOk result (λ s. IsState 0 room.depth (room.parens + 1) s) }
     ensures shorter { IfOk result (λ s. length s.rest.now < length tokens.now) }
 {
-    let ReadState { syntax, height, rest } = state(room, ANY_STATE, tokens)?;
+    let ReadState {
+        syntax,
+        height,
+        rest,
+    } = state(room, ANY_STATE, tokens)?;
     let rest = after_close(room, rest)?;
     let syntax = WrittenState::Group(boxed(room.alloc, syntax)?);
-    Ok(ReadState { syntax, height, rest })
+    Ok(ReadState {
+        syntax,
+        height,
+        rest,
+    })
 }
 
 /// What stands after a `!`.
@@ -87,14 +129,26 @@ fn negated<'a>(room: Room, tokens: &'a [Placed<'a>]) -> Result<ReadState<'a>, Fo
     ensures sound { IfOk result (λ s. IsState 0 (room.depth + 1) room.parens s) }
     ensures shorter { IfOk result (λ s. length s.rest.now < length tokens.now) }
 {
-    let ReadState { syntax, height, rest } = unary(room, tokens)?;
+    let ReadState {
+        syntax,
+        height,
+        rest,
+    } = unary(room, tokens)?;
     let syntax = WrittenState::Not(boxed(room.alloc, syntax)?);
-    Ok(ReadState { syntax, height: height + 1, rest })
+    Ok(ReadState {
+        syntax,
+        height: height + 1,
+        rest,
+    })
 }
 
 /// What stands after the bracket that opens a modality.
 #[cycle(state)]
-fn modal<'a>(room: Room, brackets: Brackets, tokens: &'a [Placed<'a>]) -> Result<ReadState<'a>, FormulaError>
+fn modal<'a>(
+    room: Room,
+    brackets: Brackets,
+    tokens: &'a [Placed<'a>],
+) -> Result<ReadState<'a>, FormulaError>
     requires { room.depth + 1 < 2 ^ 64 }
     ensures eaten { IfOk result (λ s. state_tokens s ≡ opening brackets ∷ words tokens.now) }
     ensures sound { IfOk result (λ s. IsState 0 (room.depth + 1) room.parens s) }
@@ -102,15 +156,27 @@ fn modal<'a>(room: Room, brackets: Brackets, tokens: &'a [Placed<'a>]) -> Result
 {
     let inside = regular(room, ANY_REGULAR, tokens)?;
     let tokens = after_bracket(room, brackets, inside.rest)?;
-    let ReadState { syntax, height, rest } = unary(room, tokens)?;
+    let ReadState {
+        syntax,
+        height,
+        rest,
+    } = unary(room, tokens)?;
     let height = inside.height.max(height) + 1;
     let syntax = WrittenState::Modal(brackets, inside.syntax, boxed(room.alloc, syntax)?);
-    Ok(ReadState { syntax, height, rest })
+    Ok(ReadState {
+        syntax,
+        height,
+        rest,
+    })
 }
 
 /// What stands after the word of a binder.
 #[cycle(state)]
-fn bound<'a>(room: Room, binder: Binder, tokens: &'a [Placed<'a>]) -> Result<ReadState<'a>, FormulaError>
+fn bound<'a>(
+    room: Room,
+    binder: Binder,
+    tokens: &'a [Placed<'a>],
+) -> Result<ReadState<'a>, FormulaError>
     requires { room.depth + 1 < 2 ^ 64 }
     ensures eaten { IfOk result (λ s. state_tokens s ≡ binder_token binder ∷ words tokens.now) }
     ensures sound { IfOk result (λ s. IsState 0 (room.depth + 1) room.parens s) }
@@ -118,9 +184,17 @@ fn bound<'a>(room: Room, binder: Binder, tokens: &'a [Placed<'a>]) -> Result<Rea
 {
     let (name, tokens) = name_first(room, tokens)?;
     let tokens = after_dot(room, tokens)?;
-    let ReadState { syntax, height, rest } = state(room, ANY_STATE, tokens)?;
+    let ReadState {
+        syntax,
+        height,
+        rest,
+    } = state(room, ANY_STATE, tokens)?;
     let syntax = WrittenState::Bind(binder, name, boxed(room.alloc, syntax)?);
-    Ok(ReadState { syntax, height: height + 1, rest })
+    Ok(ReadState {
+        syntax,
+        height: height + 1,
+        rest,
+    })
 }
 
 /// A unary formula.
@@ -141,7 +215,11 @@ fn unary<'a>(room: Room, tokens: &'a [Placed<'a>]) -> Result<ReadState<'a>, Form
         Token::NuWord => bound(room.below(first, 0)?, Binder::Nu, rest),
         Token::Open => group(room.inside(first)?, rest),
         token => match word(token) {
-            Some(syntax) => Ok(ReadState { syntax, height: 0, rest }),
+            Some(syntax) => Ok(ReadState {
+                syntax,
+                height: 0,
+                rest,
+            }),
             None => Err(room.unexpected(tokens)),
         },
     }
@@ -149,7 +227,11 @@ fn unary<'a>(room: Room, tokens: &'a [Placed<'a>]) -> Result<ReadState<'a>, Form
 
 /// The longest formula of this row of the grammar's table at the front of the tokens.
 #[cycle(state)]
-pub fn state<'a>(room: Room, level: u8, tokens: &'a [Placed<'a>]) -> Result<ReadState<'a>, FormulaError>
+pub fn state<'a>(
+    room: Room,
+    level: u8,
+    tokens: &'a [Placed<'a>],
+) -> Result<ReadState<'a>, FormulaError>
     requires { level ≤ 3 }
     ensures eaten { IfOk result (λ s. state_tokens s ≡ words tokens.now) }
     ensures sound { IfOk result (λ s. IsState level room.depth room.parens s) }
@@ -184,12 +266,25 @@ fn extended<'a>(room: Room, level: u8, left: ReadState<'a>) -> Result<ReadState<
 }
 
 /// The formula of two with a sign between them.
-fn joined<'a>(room: Room, left: ReadState<'a>, sign: Connective, right: ReadState<'a>) -> Result<ReadState<'a>, FormulaError>
+fn joined<'a>(
+    room: Room,
+    left: ReadState<'a>,
+    sign: Connective,
+    right: ReadState<'a>,
+) -> Result<ReadState<'a>, FormulaError>
     requires left { left.height < room.depth }
     requires right { right.height < room.depth }
     ensures { MatchResult result (λ s. IsStateJoined left.entry sign right.entry s × (s.rest.now ≡ right.entry.rest.now)) (λ e. e ≡ FormulaError.Memory) }
 {
     let height = left.height.max(right.height) + 1;
-    let syntax = WrittenState::Joined(sign, boxed(room.alloc, left.syntax)?, boxed(room.alloc, right.syntax)?);
-    Ok(ReadState { syntax, height, rest: right.rest })
+    let syntax = WrittenState::Joined(
+        sign,
+        boxed(room.alloc, left.syntax)?,
+        boxed(room.alloc, right.syntax)?,
+    );
+    Ok(ReadState {
+        syntax,
+        height,
+        rest: right.rest,
+    })
 }

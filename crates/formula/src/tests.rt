@@ -1,10 +1,9 @@
 // The worked examples of texts and refusals.
 
-use std::alloc::Global;
-use std::test::Fail;
-
 use crate::error::FormulaError;
 use crate::reader::parse;
+use std::alloc::Global;
+use std::test::Fail;
 
 /// The refusal of a text as it is shown, or `ok`.
 fn refusal(alloc: Global, text: &[u8]) -> Result<String, Fail> {
@@ -45,7 +44,11 @@ fn refusals(rt: HostRuntime) -> Result<(), Fail> {
         ("<+>true", "F2 at offset 1"),
     ];
     for (text, shown) in rows {
-        assert_eq!(rt; refusal(rt.alloc(), text.as_bytes())?.as_str(), shown, "{text}");
+        assert_eq!(rt;
+            refusal(rt.alloc(), text.as_bytes())?.as_str(),
+            shown,
+            "{text}"
+        );
     }
     Ok(())
 }
@@ -54,15 +57,36 @@ fn refusals(rt: HostRuntime) -> Result<(), Fail> {
 fn limits(rt: HostRuntime) -> Result<(), Fail> {
     let rows = [
         (repeated(rt.alloc(), b"!", 256, b"true")?, "ok"),
-        (repeated(rt.alloc(), b"!", 257, b"true")?, "F8 at offset 256"),
-        (repeated(rt.alloc(), b"!", 253, b"<a*.b+c>true")?, "F8 at offset 258"),
-        (repeated(rt.alloc(), b"(", 1024, b"true")?, "F3 at offset 1028"),
-        (repeated(rt.alloc(), b"(", 1025, b"true")?, "F8 at offset 1024"),
-        (repeated(rt.alloc(), b"(", 1048576, b"")?, "F8 at offset 1024"),
-        (repeated(rt.alloc(), b"!", 1048576, b"")?, "F8 at offset 256"),
+        (
+            repeated(rt.alloc(), b"!", 257, b"true")?,
+            "F8 at offset 256",
+        ),
+        (
+            repeated(rt.alloc(), b"!", 253, b"<a*.b+c>true")?,
+            "F8 at offset 258",
+        ),
+        (
+            repeated(rt.alloc(), b"(", 1024, b"true")?,
+            "F3 at offset 1028",
+        ),
+        (
+            repeated(rt.alloc(), b"(", 1025, b"true")?,
+            "F8 at offset 1024",
+        ),
+        (
+            repeated(rt.alloc(), b"(", 1048576, b"")?,
+            "F8 at offset 1024",
+        ),
+        (
+            repeated(rt.alloc(), b"!", 1048576, b"")?,
+            "F8 at offset 256",
+        ),
         (repeated(rt.alloc(), b"<", 1048576, b"")?, "F2 at offset 1"),
         (repeated(rt.alloc(), b" ", 1048572, b"true")?, "ok"),
-        (repeated(rt.alloc(), b" ", 1048573, b"true")?, "F8 at offset 1048576"),
+        (
+            repeated(rt.alloc(), b" ", 1048573, b"true")?,
+            "F8 at offset 1048576",
+        ),
     ];
     for (text, shown) in &rows {
         assert_eq!(rt; refusal(rt.alloc(), text)?.as_str(), *shown);

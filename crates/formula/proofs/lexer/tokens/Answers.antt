@@ -20,7 +20,7 @@ tokens-preserved c =
     let gap : IsGap c.gap_len.result (drop (c.tokens.at + n) text) = rw take_rest at c.gap_len.ensures in
     let p : Placed = record { token = c.decided-token.result; offset = c.tokens.at } in
     let decided : IsDecidedBy t (slice_get text (c.tokens.at + n + c.gap_len.result)) (token_of p.token)
-        = subst (λ (o : Option ℕ). IsDecidedBy t o (token_of c.decided-token.result)) c.byte_at.ensures c.decided-token.ensures in
+    = subst (λ (o : Option ℕ). IsDecidedBy t o (token_of c.decided-token.result)) c.byte_at.ensures c.decided-token.ensures in
     let pushed : c.push.new.self.items ≡ c.tokens.tokens.items ++ p ∷ [] = grind (arith, common_steps) in
     cut-more text c.tokens.at c.tokens.tokens.items c.push.new.self.items t p n c.gap_len.result c.tokens.invariant first gap decided refl pushed
 

@@ -15,9 +15,8 @@ extended-extended-requires t c =
     let Q : ℕ → Type 0 = λ row. IsState row c.in_ok-below-in-Some-connective.below.depth c.in_ok-below-in-Some-connective.below.parens right in
     let R : ℕ → Type 0 = λ row. row < state_row (words right.rest.now) in
     let is : IsState (connective_row sign) (c.args.room.depth - 1) c.args.room.parens right
-        = subst P c.in_ok-below-in-Some-connective.ensures.1 (subst Q c.level-in-Some-connective.ensures c.in_ok-right-in-Some-connective.ensures.sound) in
-    let stops : connective_row sign < state_row (words right.rest.now) = subst R c.level-in-Some-connective.ensures c.in_ok-right-in-Some-connective.ensures.stops in
-    (
+    = subst P c.in_ok-below-in-Some-connective.ensures.1 (subst Q c.level-in-Some-connective.ensures c.in_ok-right-in-Some-connective.ensures.sound) in
+    let stops : connective_row sign < state_row (words right.rest.now) = subst R c.level-in-Some-connective.ensures c.in_ok-right-in-Some-connective.ensures.stops in (
       search rules,
       (
         c.requires.level,
@@ -29,7 +28,7 @@ pub extended-returns-in_ok-longer-in-Some-connective-clause-eaten :
     goal.extended-returns-in_ok-longer-in-Some-connective-clause-eaten
 extended-returns-in_ok-longer-in-Some-connective-clause-eaten t c =
     let e : state_tokens c.in_ok-longer-in-Some-connective.longer ≡ state_tokens c.args.left
-        = state-joined-eaten c.args.left c.in_ok-right-in-Some-connective.right c.in_ok-longer-in-Some-connective.longer c.in-Some-connective.sign c.in-Some.first.now c.in-Some.rest.now c.in_ok-longer-in-Some-connective.ensures.0 c.in_ok-longer-in-Some-connective.ensures.1 c.in-Some.ensures.cases.0 c.in-Some-connective.ensures c.in_ok-right-in-Some-connective.ensures.eaten in
+    = state-joined-eaten c.args.left c.in_ok-right-in-Some-connective.right c.in_ok-longer-in-Some-connective.longer c.in-Some-connective.sign c.in-Some.first.now c.in-Some.rest.now c.in_ok-longer-in-Some-connective.ensures.0 c.in_ok-longer-in-Some-connective.ensures.1 c.in-Some.ensures.cases.0 c.in-Some-connective.ensures c.in_ok-right-in-Some-connective.ensures.eaten in
     let P : List Token → Type 0 = λ ts. IfOk c.extended.result (λ s. state_tokens s ≡ ts) in
     subst P e c.extended.ensures.eaten
 
