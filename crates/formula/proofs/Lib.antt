@@ -1,3 +1,8 @@
+pub mod Regulars
+pub mod States
+pub mod Cuts
+pub mod Gaps
+pub mod Lexed
 pub mod RegularUnique
 pub mod Unambiguous
 pub mod Pieces
@@ -15,3 +20,7 @@ pub mod Printing
 pub mod Grown
 pub mod Decided
 pub mod Binders
+pub mod Faults
+pub mod Scopes
+pub mod Sorting
+pub mod Sense

@@ -11,3 +11,19 @@ pub mod tree;
 
 pub use label::holds;
 pub use printer::print;
+
+mod lexer;
+mod meant;
+mod operands;
+pub mod reader;
+mod regular;
+mod room;
+mod scope;
+mod state;
+mod token;
+mod written;
+
+pub use reader::parse;
+
+#[cfg(test)]
+mod tests;
