@@ -1,9 +1,12 @@
 pub mod Each
 pub mod Behind
+pub mod Chains
+pub mod Indexing
 pub mod Marked
 pub mod Mixed
 pub mod Arrows
 pub mod Regulars
 pub mod Iterated
 pub mod Growth
+pub mod Setting
 pub mod Extremes

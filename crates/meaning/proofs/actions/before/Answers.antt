@@ -1,4 +1,4 @@
-use Rattle.std.proofs.Common.{◌≡◌, ℕ, ◌<◌, ◌↔◌, Bool, false, List, ◌&&◌, ◌||◌, length, take, get_or, arith, refl, ap, ap₂, sym, ◌∙◌, subst}
+use Rattle.std.proofs.Common.{◌≡◌, ℕ, ◌<◌, ◌↔◌, Bool, false, List, ◌&&◌, ◌||◌, length, take, get_or, arith, ap, ap₂, sym, ◌∙◌, subst}
 use Rattle.std.specs.Prelude.{IsTrue, slice_set}
 use Rattle.std.specs.List.{list_any}
 use Rattle.std.proofs.Math.ListN.{length-set}
@@ -24,8 +24,8 @@ none = record { source = 0; label = 0; target = 0 }
 inside : (l : Numbered) (steps : List Transition) (i : ℕ) → IsInside l steps → i < length steps → IsTransitionOf l (get_or steps i none)
 inside l steps i all lt = each_at (IsTransitionOf l) steps i none all lt
 
-pub enters-leads-requires-clause-label : goal.enters-leads-requires-clause-label
-enters-leads-requires-clause-label c =
+pub is_chosen-requires : goal.is_chosen-requires
+is_chosen-requires c =
     let steps = c.all-source-items.result.now in
     let i = c.loop-source.source-index in
     let step = inside c.args.lts.now steps i c.all-source-items.ensures.inside c.loop-source-test.true in
@@ -42,11 +42,11 @@ loop-source-preserved c =
     let found = c.loop-source.found.items in
     let within : step.source < length found = omega (arith, ok.source, c.loop-source.invariant.count) in
     let leads : Bool = holds act (label_at l.labels step.label) && at c.args.marks.now step.target in
-    let chosen : step.label < length c.in_ok-chosen.chosen.items = c.in_ok-chosen.ensures.count step.label ok.label c.enters-leads.ensures.fits in
-    let same : (c.index-had.result.now || c.enters-leads.result) ≡ (at found step.source || leads) =
+    let chosen : step.label < length c.in_ok-chosen.chosen.items = c.in_ok-chosen.ensures.count step.label ok.label c.is_chosen.ensures.fits in
+    let same : (c.index-had.result.now || c.is_chosen.result && at c.args.marks.now step.target) ≡ (at found step.source || leads) =
     ap₂ (λ a b. a || b)
     (c.index-had.ensures ∙ any_default found step.source c.index-had.result.now false within)
-    (c.enters-leads.ensures.value ∙ ap₂ (λ a b. at a step.label && b) c.deref.ensures.value refl ∙ ap (λ a. a && at c.args.marks.now step.target) (c.in_ok-chosen.ensures.each step.label chosen)) in
+    (ap (λ a. a && at c.args.marks.now step.target) (c.is_chosen.ensures.value ∙ (ap (λ ms. at ms step.label) c.deref.ensures.value ∙ c.in_ok-chosen.ensures.each step.label chosen))) in
     record {
       count = simp length-set c.loop-source.invariant.count;
       each = λ s h.

@@ -3,11 +3,12 @@ use Rattle.std.proofs.lemmas.Result.{IfOk-weaker}
 use Rattle.formula.specs.View.{regular_of}
 use Rattle.formula.specs.Tree.{Regular, Then, Either, Star, Plus}
 use Rattle.formula.specs.Meaning.{Marks, marked}
+use Rattle.meaning.specs.Arrivals.{unmarked}
 use Rattle.meaning.specs.Into.{Into}
 use Rattle.meaning.specs.Signs.{without_signs, has_star}
 use Rattle.meaning.proofs.Behind.{height, no_higher, into_any, into_starred, into_unstarred}
 use Rattle.meaning.proofs.Regulars.{into_then, into_either}
-use Rattle.meaning.proofs.Growth.{unmarked, joined, is_within, fewer, sound_more, base_more, reached_all, reached_some}
+use Rattle.meaning.proofs.Growth.{joined, is_within, fewer, sound_more, base_more, reached_all, reached_some}
 use Rattle.meaning.proofs.Marked.{marks_same, marks_or, length_zip}
 use Rattle.meaning.proofs.regular.+regular.Goals as goal
 use Rattle.meaning.proofs.regular.+regular.Goals.{leading-then-has_star, leading-else-has_star}

@@ -4,7 +4,7 @@ use Rattle.formula.specs.Tree.{Star}
 use Rattle.formula.specs.Meaning.{marked}
 use Rattle.meaning.specs.Into.{Into}
 use Rattle.meaning.proofs.Behind.{height}
-use Rattle.meaning.proofs.Growth.{unmarked}
+use Rattle.meaning.specs.Arrivals.{unmarked}
 use Rattle.meaning.proofs.regular.+regular.Given as goal
 
 -- what was found leads into the set, and the set was found
