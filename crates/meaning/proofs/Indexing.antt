@@ -1,5 +1,5 @@
 -- One more step in the chains.
-use Rattle.std.proofs.Common.{◌≡◌, ℕ, zero, suc, ◌+◌, ◌<◌, ◌≤◌, ◌⊎◌, ◌↔◌, Bool, true, false, ◌&&◌, ◌||◌, List, [], ◌∷◌, ◌++◌, length, length-append, nat_eq, refl, sym, ◌∙◌, ap, ap₂, subst, inl, inr, arith, true≢false}
+use Rattle.std.proofs.Common.{◌≡◌, ℕ, suc, ◌<◌, ◌≤◌, ◌⊎◌, ◌↔◌, Bool, true, false, ◌&&◌, ◌||◌, List, [], ◌∷◌, ◌++◌, length, length-append, nat_eq, refl, sym, ◌∙◌, ap, ap₂, subst, inl, inr, arith, true≢false}
 use Rattle.std.specs.Prelude.{IsTrue, slice_set, slice_index_or}
 use Rattle.std.proofs.Math.ListN.{length-set}
 use Rattle.std.proofs.Math.Bool.{or-false}
@@ -7,7 +7,7 @@ use Rattle.std.proofs.lemmas.Bool.{eqb-true, eq-eqb}
 use Rattle.std.proofs.lemmas.Bool.Decides.{eqb_tells}
 use Rattle.std.proofs.lemmas.List.{get_or-set_other, get_or-set_same}
 use Rattle.meaning.specs.declared.arrivals.Arrival.{Arrival}
-use Rattle.meaning.specs.Arrivals.{nowhere, arrival_at, IsOneOf, HasRoom}
+use Rattle.meaning.specs.Arrivals.{arrival_at, IsOneOf, HasRoom}
 use Rattle.meaning.proofs.Chains.{first_or_earlier, first, later, on, back, new_one, same_below}
 
 last_or_less : (i n : ℕ) → i < suc n → (i < n) ⊎ (i ≡ n)

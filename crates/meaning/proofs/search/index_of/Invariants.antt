@@ -1,4 +1,4 @@
-use Rattle.std.proofs.Common.{ℕ, ◌≡◌, ◌<◌, ◌↔◌, length, take, nat_eq}
+use Rattle.std.proofs.Common.{ℕ, ◌<◌, ◌↔◌, take, nat_eq}
 use Rattle.std.specs.Prelude.{IsTrue, slice_index_or}
 use Rattle.std.specs.List.{list_any}
 use Rattle.lts.specs.Numbered.{arrow_of}

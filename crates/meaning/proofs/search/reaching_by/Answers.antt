@@ -5,10 +5,9 @@ use Rattle.std.proofs.lemmas.List.Elements.{Contains-append_cases, Contains-appe
 use Rattle.lts.specs.Path.{IsPath}
 use Rattle.lts.specs.System.{System, IsSystem}
 use Rattle.formula.specs.View.{action_of}
-use Rattle.formula.specs.Tree.{Action, Step, Star}
-use Rattle.formula.specs.Meaning.{Leads, Marks, marked}
+use Rattle.formula.specs.Tree.{Action, Step}
+use Rattle.formula.specs.Meaning.{Leads, marked}
 use Rattle.formula.proofs.Inside.{leads_inside}
-use Rattle.meaning.specs.Into.{Into}
 use Rattle.meaning.proofs.search.reaching_by.Goals as goal
 
 no_more : (o : Option ℕ) (P : Type 0) (Q : ℕ → Type 0) → MatchOption o P Q → ((x : ℕ) → o ≡ Some x → ⊥) → P

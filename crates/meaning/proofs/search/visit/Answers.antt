@@ -1,10 +1,10 @@
-use Rattle.std.proofs.Common.{◌≡◌, ℕ, zero, suc, ◌+◌, ◌-◌, ◌*◌, ◌<◌, ◌≤◌, ◌⊎◌, Bool, true, false, List, [], ◌∷◌, ◌++◌, length, length-append, refl, sym, ◌∙◌, ap, subst, inl, inr, arith}
+use Rattle.std.proofs.Common.{◌≡◌, ℕ, zero, suc, ◌-◌, ◌<◌, ◌≤◌, ◌⊎◌, true, false, List, [], ◌∷◌, ◌++◌, length, length-append, sym, ◌∙◌, ap, subst, inl, inr, arith}
 use Rattle.std.specs.Prelude.{slice_set, slice_index_or, All, Contains}
 use Rattle.std.proofs.Math.ListN.{length-set}
 use Rattle.std.proofs.lemmas.List.Elements.{All-push, Contains-append_cases, Contains-append_left, Contains-append_right}
 use Rattle.formula.specs.Meaning.{marked}
 use Rattle.meaning.specs.declared.arrivals.Arrival.{Arrival}
-use Rattle.meaning.specs.Arrivals.{nowhere, arrival_at, IsSource, IsOneOf, unmarked}
+use Rattle.meaning.specs.Arrivals.{nowhere, arrival_at, IsSource, IsOneOf}
 use Rattle.meaning.proofs.Marked.{at}
 use Rattle.meaning.proofs.Chains.{none_there, first_or_earlier, first, later}
 use Rattle.meaning.proofs.Setting.{default_free, set_keeps, set_there, set_adds, one_fewer}
