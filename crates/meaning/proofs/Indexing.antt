@@ -8,10 +8,8 @@ use Rattle.std.proofs.lemmas.Bool.Decides.{eqb_tells}
 use Rattle.std.proofs.lemmas.List.{get_or-set_other, get_or-set_same}
 use Rattle.meaning.specs.declared.arrivals.Arrival.{Arrival}
 use Rattle.meaning.specs.Arrivals.{arrival_at, IsOneOf, HasRoom}
+use Rattle.meaning.proofs.Elements.{last_or_less}
 use Rattle.meaning.proofs.Chains.{first_or_earlier, first, later, on, back, new_one, same_below}
-
-last_or_less : (i n : ℕ) → i < suc n → (i < n) ⊎ (i ≡ n)
-last_or_less i n lt = grind arith
 
 module _ (n : ℕ) (last : List ℕ) (all : List Arrival) (room : HasRoom n last all) (source target : ℕ) (from : source < n) (into : target < n) (a : Arrival) (begins : a.source ≡ source) (before : a.earlier ≡ slice_index_or last target 0) where
   abbrev all' : List Arrival

@@ -1,4 +1,5 @@
 pub mod Each
+pub mod Elements
 pub mod Behind
 pub mod Chains
 pub mod Indexing

@@ -8,12 +8,6 @@ use Rattle.formula.specs.Meaning.{Marks}
 abbrev pub at : List Bool → ℕ → Bool
 at ms s = slice_index_or ms s false
 
--- within the list it doesn't matter what stands past its end
-pub any_default : (ms : List Bool) (i : ℕ) (d e : Bool) → i < length ms → slice_index_or ms i d ≡ slice_index_or ms i e
-any_default [] i d e h = absurd (omega arith)
-any_default (m ∷ ms) zero d e h = refl
-any_default (m ∷ ms) (suc i) d e h = any_default ms i d e (omega arith)
-
 at_all : (n : ℕ) (b : Bool) (s : ℕ) → s < n → at (replicate n b) s ≡ b
 at_all zero b s h = absurd (omega arith)
 at_all (suc n) b zero h = refl

@@ -6,7 +6,7 @@ use Rattle.std.proofs.lemmas.Bool.{eqb-true, eq-eqb}
 use Rattle.std.proofs.lemmas.List.Folds.{list_any_more}
 use Rattle.lts.specs.System.{Arrow}
 use Rattle.lts.specs.declared.system.Transition.{Transition}
-use Rattle.lts.specs.Numbered.{Numbered, IsTransitionOf, IsInside, label_at, arrow_of}
+use Rattle.lts.specs.Numbered.{label_at, arrow_of}
 use Rattle.formula.specs.View.{action_of}
 use Rattle.formula.specs.Holds.{holds}
 use Rattle.formula.specs.Tree.{Step}
@@ -14,20 +14,13 @@ use Rattle.formula.specs.Meaning.{Leads}
 use Rattle.formula.proofs.Entering.{enters, enters_leads}
 use Rattle.meaning.specs.declared.arrivals.Arrival.{Arrival}
 use Rattle.meaning.specs.Arrivals.{IsOneOf, HasRoom}
-use Rattle.meaning.proofs.Each.{each_at}
+use Rattle.meaning.proofs.Each.{none, inside}
 use Rattle.meaning.proofs.Marked.{at}
 use Rattle.meaning.proofs.Arrows.{any_of_map}
 use Rattle.meaning.proofs.Setting.{default_free}
 use Rattle.meaning.proofs.Indexing.{room_more, steps_more, told_chosen, told_other}
 use Rattle.meaning.proofs.search.index_of.Goals as goal
 use Rattle.meaning.proofs.search.index_of.Goals.{then-is_chosen+in_ok-push, else-is_chosen}
-
-abbrev none : Transition
-none = record { source = 0; label = 0; target = 0 }
-
--- the transition at the index
-inside : (l : Numbered) (steps : List Transition) (i : ℕ) → IsInside l steps → i < length steps → IsTransitionOf l (get_or steps i none)
-inside l steps i all lt = each_at (IsTransitionOf l) steps i none all lt
 
 both : {A B C : Type 0} → A ↔ B → B ↔ C → A ↔ C
 both f g = (λ a. g.0 (f.0 a), λ c. f.1 (g.1 c))

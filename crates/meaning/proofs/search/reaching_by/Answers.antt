@@ -8,15 +8,12 @@ use Rattle.formula.specs.View.{action_of}
 use Rattle.formula.specs.Tree.{Action, Step}
 use Rattle.formula.specs.Meaning.{Leads, marked}
 use Rattle.formula.proofs.Inside.{leads_inside}
+use Rattle.meaning.proofs.Elements.{only_one}
 use Rattle.meaning.proofs.search.reaching_by.Goals as goal
 
 no_more : (o : Option ℕ) (P : Type 0) (Q : ℕ → Type 0) → MatchOption o P Q → ((x : ℕ) → o ≡ Some x → ⊥) → P
 no_more None P Q h none = h
 no_more (Some x) P Q h none = absurd (none x refl)
-
-only_one : (x s : ℕ) → Contains (x ∷ []) s → x ≡ s
-only_one x s (zero, lt, e) = e
-only_one x s (suc k, lt, e) = absurd (omega arith)
 
 -- the popped state, or one that still waits
 waited : (before after : List ℕ) (o : Option ℕ) (state : ℕ) → before ≡ after ++ option_to_list o → o ≡ Some state → (t : ℕ) → Contains before t → Contains after t ⊎ (state ≡ t)

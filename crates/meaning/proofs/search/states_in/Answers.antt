@@ -2,15 +2,9 @@ use Rattle.std.proofs.Common.{◌≡◌, ℕ, zero, suc, ◌+◌, ◌<◌, ◌�
 use Rattle.std.specs.Prelude.{All, Contains}
 use Rattle.std.proofs.lemmas.List.Elements.{All-push, Contains-append_cases, Contains-append_left, Contains-append_right}
 use Rattle.formula.specs.Meaning.{marked}
+use Rattle.meaning.proofs.Elements.{only_one, last_or_less}
 use Rattle.meaning.proofs.search.states_in.Goals as goal
 use Rattle.meaning.proofs.search.states_in.Goals.{then-mark+in_ok-push, else-mark}
-
-only_one : (x s : ℕ) → Contains (x ∷ []) s → x ≡ s
-only_one x s (zero, lt, e) = e
-only_one x s (suc k, lt, e) = absurd (omega arith)
-
-last_or_less : (t n : ℕ) → t < n + 1 → (t < n) ⊎ (n ≡ t)
-last_or_less t n lt = grind arith
 
 pub loop-state-preserved : goal.loop-state-preserved
 loop-state-preserved c =
@@ -27,9 +21,9 @@ loop-state-preserved c =
               | inl k ↦ now.only t k
               | inr k ↦ subst (marked marks) (only_one state t k) w.if-mark.true
             ];
-            every = λ t lt m. subst (λ xs. Contains xs t) (sym pushed) (elim (last_or_less t state lt) [
+            every = λ t lt m. subst (λ xs. Contains xs t) (sym pushed) (elim (last_or_less t state (omega arith)) [
               | inl less ↦ Contains-append_left states (state ∷ []) t (now.every t less m)
-              | inr e ↦ Contains-append_right states (state ∷ []) t (0, omega arith, e)
+              | inr e ↦ Contains-append_right states (state ∷ []) t (0, omega arith, sym e)
             ]);
             few = omega (arith, now.few, ap length pushed, length-append states (state ∷ []));
           }
@@ -38,9 +32,9 @@ loop-state-preserved c =
           record {
             inside = subst (All (λ t. t < length marks)) (sym kept) now.inside;
             only = λ t h. now.only t (subst (λ xs. Contains xs t) kept h);
-            every = λ t lt m. subst (λ xs. Contains xs t) (sym kept) (elim (last_or_less t state lt) [
+            every = λ t lt m. subst (λ xs. Contains xs t) (sym kept) (elim (last_or_less t state (omega arith)) [
               | inl less ↦ now.every t less m
-              | inr e ↦ absurd (true≢false (sym (subst (marked marks) (sym e) m) ∙ w.if-mark.false))
+              | inr e ↦ absurd (true≢false (sym (subst (marked marks) e m) ∙ w.if-mark.false))
             ]);
             few = omega (arith, now.few, ap length kept);
           }

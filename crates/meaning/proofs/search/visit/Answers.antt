@@ -8,6 +8,7 @@ use Rattle.meaning.specs.Arrivals.{nowhere, arrival_at, IsSource, IsOneOf}
 use Rattle.meaning.proofs.Marked.{at}
 use Rattle.meaning.proofs.Chains.{none_there, first_or_earlier, first, later}
 use Rattle.meaning.proofs.Setting.{default_free, set_keeps, set_there, set_adds, one_fewer}
+use Rattle.meaning.proofs.Elements.{only_one}
 use Rattle.meaning.proofs.search.visit.Goals as goal
 
 -- the step of this number, plus 1
@@ -28,10 +29,6 @@ from_step all next s a is some le h =
       | inl same ↦ first all k s (omega arith) (ap (λ (b : Arrival). b.source) (sym e) ∙ same)
       | inr more ↦ later all k s (subst (λ (b : Arrival). IsOneOf all b.earlier s) e more)
     ])
-
-only_one : (x s : ℕ) → Contains (x ∷ []) s → x ≡ s
-only_one x s (zero, lt, e) = e
-only_one x s (suc k, lt, e) = absurd (omega arith)
 
 pub loop-next-preserved-in_ok-push : goal.loop-next-preserved-in_ok-push
 loop-next-preserved-in_ok-push c =
