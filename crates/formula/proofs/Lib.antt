@@ -1,3 +1,4 @@
+pub mod Telling
 pub mod Counted
 pub mod Fixpoints
 pub mod Inside

@@ -1,5 +1,5 @@
 -- Lists of one element, and indices up to one more.
-use Rattle.std.proofs.Common.{◌≡◌, ℕ, zero, suc, ◌<◌, ◌⊎◌, List, [], ◌∷◌, arith}
+use Rattle.std.proofs.Common.{◌≡◌, ℕ, zero, suc, ◌<◌, ◌⊎◌, [], ◌∷◌, arith}
 use Rattle.std.specs.Prelude.{Contains}
 
 pub only_one : (x s : ℕ) → Contains (x ∷ []) s → x ≡ s

@@ -1,4 +1,4 @@
-use Rattle.std.proofs.Common.{◌≡◌, ℕ, suc, ◌<◌, ◌↔◌, Bool, ◌||◌, List, [], ◌∷◌, ◌++◌, length, length-append, take, get_or, nat_eq, refl, sym, ◌∙◌, ap, subst, arith}
+use Rattle.std.proofs.Common.{◌≡◌, suc, ◌<◌, ◌↔◌, Bool, ◌||◌, [], ◌∷◌, ◌++◌, length, length-append, take, get_or, nat_eq, refl, sym, ◌∙◌, ap, subst, arith}
 use Rattle.std.specs.Prelude.{IsTrue, slice_set, slice_index_or}
 use Rattle.std.specs.List.{list_any}
 use Rattle.std.proofs.Math.Seq.{take-length}
