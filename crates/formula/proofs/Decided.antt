@@ -1,5 +1,5 @@
 -- Over sets that tests tell, the meaning of a formula is a set that a test tells.
-use Rattle.std.proofs.Common.{ℕ, zero, suc, ◌<◌, ◌⊎◌, ◌↔◌, Bool, true, false, not, ◌&&◌, ◌||◌, List, [], ◌∷◌, refl, sym, subst, inl, inr, true≢false}
+use Rattle.std.proofs.Common.{ℕ, zero, suc, ◌<◌, ◌⊎◌, ◌↔◌, Bool, true, false, not, ◌&&◌, ◌||◌, List, [], ◌∷◌, refl, sym, subst, inl, inr}
 use Rattle.std.specs.Prelude.{IsTrue, MatchBool}
 use Rattle.std.specs.List.{list_any}
 use Rattle.std.specs.Str.{bytes_eq}
@@ -7,29 +7,10 @@ use Rattle.lts.specs.Path.{IsPath}
 use Rattle.lts.specs.System.{System, IsSystem}
 use Rattle.formula.specs.Tree.{Action, Regular, Step, Then, Either, Star, Plus, Formula, True, False, Var, Not, And, Or, Implies, Dia, Box, Mu, Nu}
 use Rattle.formula.specs.Meaning.{Leads, Env, with_set, iterate, mean}
+use Rattle.formula.proofs.Telling.{false_is_none, of_not, of_and, of_or, of_implies}
 use Rattle.formula.proofs.Inside.{leads_inside}
 use Rattle.formula.proofs.Entering.{enters, enters_leads}
 use Rattle.formula.proofs.Fixpoints.{IsDecided, IsWithin, in_closed, low, low_closed}
-
-none : IsTrue false → ⊥
-none e = true≢false (sym e)
-
--- what the tests say
-of_not : (b : Bool) (P : Type 0) → IsTrue b ↔ P → IsTrue (not b) ↔ (P → ⊥)
-of_not true P h = (λ e. absurd (none e), λ no. absurd (no (h.0 refl)))
-of_not false P h = (λ _ p. none (h.1 p), λ _. refl)
-
-of_and : (b c : Bool) (P Q : Type 0) → IsTrue b ↔ P → IsTrue c ↔ Q → IsTrue (b && c) ↔ (P × Q)
-of_and true c P Q h k = (λ e. (h.0 refl, k.0 e), λ x. k.1 x.1)
-of_and false c P Q h k = (λ e. absurd (none e), λ x. absurd (none (h.1 x.0)))
-
-of_or : (b c : Bool) (P Q : Type 0) → IsTrue b ↔ P → IsTrue c ↔ Q → IsTrue (b || c) ↔ (P ⊎ Q)
-of_or true c P Q h k = (λ _. inl (h.0 refl), λ _. refl)
-of_or false c P Q h k = (λ e. inr (k.0 e), λ x. elim x [ inl p ↦ absurd (none (h.1 p)) | inr q ↦ k.1 q ])
-
-of_implies : (b c : Bool) (P Q : Type 0) → IsTrue b ↔ P → IsTrue c ↔ Q → IsTrue (not b || c) ↔ (P → Q)
-of_implies true c P Q h k = (λ e _. k.0 e, λ f. k.1 (f (h.0 refl)))
-of_implies false c P Q h k = (λ _ p. absurd (none (h.1 p)), λ _. refl)
 
 -- from all marked: none is unmarked
 of_all : (b : Bool) (P : Type 0) → IsTrue b ↔ P → (IsTrue (not b) → ⊥) → P
@@ -37,8 +18,8 @@ of_all true P h never = h.0 refl
 of_all false P h never = absurd (never refl)
 
 none_of : (b : Bool) → IsTrue (not b) → IsTrue b → ⊥
-none_of true out into = none out
-none_of false out into = none into
+none_of true out into = false_is_none out
+none_of false out into = false_is_none into
 
 module _ (n : ℕ) where
   not_decided : (P : ℕ → Type 0) → IsDecided n P → IsDecided n (λ s. P s → ⊥)
@@ -130,7 +111,7 @@ module _ (l : System) (ok : IsSystem l) where
 
   pub mean_decided : (f : Formula) (e : Env) → Told e → IsDecided l.states (mean l f e)
   mean_decided True e told = (λ s. true, λ s lt. (λ _. tt, λ _. refl))
-  mean_decided False e told = (λ s. false, λ s lt. (none, λ no. absurd no))
+  mean_decided False e told = (λ s. false, λ s lt. (false_is_none, λ no. absurd no))
   mean_decided (Var name) e told = told name
   mean_decided (Not f) e told = not_decided l.states (mean l f e) (mean_decided f e told)
   mean_decided (And f g) e told = and_decided l.states (mean l f e) (mean l g e) (mean_decided f e told) (mean_decided g e told)
@@ -144,5 +125,5 @@ module _ (l : System) (ok : IsSystem l) where
         λ all w. w.2 (all w.0 w.1),
       ))
       (not_decided l.states (IntoSet l r (λ t. mean l f e t → ⊥)) (into_decided r (λ t. mean l f e t → ⊥) (not_decided l.states (mean l f e) (mean_decided f e told))))
-  mean_decided (Mu name f) e told = iterates_told l.states l.states (λ t. ⊥) (λ s. false, λ s lt. (none, λ no. absurd no)) (λ set. mean l f (with_set e name set)) (λ U u. mean_decided f (with_set e name U) (with_told e name U u told))
+  mean_decided (Mu name f) e told = iterates_told l.states l.states (λ t. ⊥) (λ s. false, λ s lt. (false_is_none, λ no. absurd no)) (λ set. mean l f (with_set e name set)) (λ U u. mean_decided f (with_set e name U) (with_told e name U u told))
   mean_decided (Nu name f) e told = iterates_told l.states l.states (λ t. Unit {0}) (λ s. true, λ s lt. (λ _. tt, λ _. refl)) (λ set. mean l f (with_set e name set)) (λ U u. mean_decided f (with_set e name U) (with_told e name U u told))

@@ -7,10 +7,7 @@ use Rattle.lts.specs.System.{Arrow, System}
 use Rattle.formula.specs.Tree.{Action, Step}
 use Rattle.formula.specs.Holds.{holds}
 use Rattle.formula.specs.Meaning.{Leads}
-
-both_true : (b c : Bool) → (b && c) ≡ true → (b ≡ true) × (c ≡ true)
-both_true true c e = (refl, e)
-both_true false c e = cc
+use Rattle.formula.proofs.Telling.{and_split}
 
 any_gives : (p : Arrow → Bool) (arrows : List Arrow) → list_any p arrows ≡ true → (a : Arrow) × Contains arrows a × (p a ≡ true)
 any_gives p [] e = cc
@@ -42,8 +39,8 @@ enters_leads l act u s = (λ e. there (any_gives (enters act u s) l.arrows e), b
   where
     there : ((a : Arrow) × Contains l.arrows a × (enters act u s a ≡ true)) → (t : ℕ) × Leads l (Step act) s t × IsTrue (u t)
     there (a, has, e) =
-        let one = both_true (nat_eq a.source s) (holds act a.label && u a.target) e in
-        let two = both_true (holds act a.label) (u a.target) one.1 in
+        let one = and_split (nat_eq a.source s) (holds act a.label && u a.target) e in
+        let two = and_split (holds act a.label) (u a.target) one.1 in
         (a.target, (a.label, subst (λ x. Contains l.arrows (record { source = x; label = a.label; target = a.target })) (eqb-true a.source s one.0) has, two.0), two.1)
 
     back : ((t : ℕ) × Leads l (Step act) s t × IsTrue (u t)) → IsTrue (list_any (enters act u s) l.arrows)

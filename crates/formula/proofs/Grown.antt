@@ -1,17 +1,14 @@
 -- The meaning of an admitted formula grows with the sets of its variables.
-use Rattle.std.proofs.Common.{◌≡◌, ℕ, zero, suc, ◌<◌, Bool, true, false, not, ◌&&◌, List, [], ◌∷◌, refl, sym, ◌∙◌, inl, inr, true≢false}
+use Rattle.std.proofs.Common.{◌≡◌, ℕ, zero, suc, ◌<◌, Bool, true, false, not, List, [], ◌∷◌, refl, sym, ◌∙◌, inl, inr, true≢false}
 use Rattle.std.specs.Prelude.{IsTrue, MatchBool, if◌then◌else◌}
 use Rattle.std.specs.Str.{bytes_eq}
 use Rattle.lts.specs.System.{System, IsSystem}
 use Rattle.formula.specs.Tree.{Formula, True, False, Var, Not, And, Or, Implies, Dia, Box, Mu, Nu}
 use Rattle.formula.specs.Admitted.{Scope, negated, is_free_to_stand, is_admitted_in}
 use Rattle.formula.specs.Meaning.{Env, with_set, iterate, mean}
+use Rattle.formula.proofs.Telling.{and_split}
 use Rattle.formula.proofs.Inside.{leads_inside}
 use Rattle.formula.proofs.Fixpoints.{IsWithin}
-
-and_split : (b c : Bool) → IsTrue (b && c) → IsTrue b × IsTrue c
-and_split true c h = (refl, h)
-and_split false c h = absurd (true≢false (sym h))
 
 -- a name may stand below two negations where it may stand below none
 twice : (name : List ℕ) (scope : Scope) → is_free_to_stand name (negated (negated scope)) ≡ is_free_to_stand name scope

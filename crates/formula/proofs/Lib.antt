@@ -7,6 +7,7 @@ pub mod RegularUnique
 pub mod Unambiguous
 pub mod Pieces
 pub mod OneText
+pub mod Telling
 pub mod Counted
 pub mod Fixpoints
 pub mod Inside

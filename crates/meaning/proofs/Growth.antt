@@ -1,5 +1,5 @@
 -- Marks that grow until nothing changes.
-use Rattle.std.proofs.Common.{◌≡◌, ℕ, zero, suc, ◌<◌, ◌≤◌, ◌⊎◌, Bool, true, false, not, ◌||◌, List, [], ◌∷◌, length, map, cond, refl, sym, ap, ◌∙◌, subst, inl, inr, arith}
+use Rattle.std.proofs.Common.{◌≡◌, ℕ, zero, suc, ◌<◌, ◌≤◌, ◌⊎◌, Bool, true, false, not, ◌||◌, List, [], ◌∷◌, length, map, refl, sym, ap, ◌∙◌, subst, inl, inr, arith}
 use Rattle.std.specs.Prelude.{zip}
 use Rattle.std.specs.List.{list_all}
 use Rattle.lts.specs.Path.{IsPath}
@@ -8,12 +8,9 @@ use Rattle.formula.specs.Tree.{Regular, Star, Plus}
 use Rattle.formula.specs.Meaning.{Leads, marked, Marks}
 use Rattle.formula.proofs.Inside.{leads_inside}
 use Rattle.meaning.proofs.Marked.{at, at_zip}
+use Rattle.meaning.specs.Arrivals.{unmarked}
 use Rattle.meaning.specs.Into.{Into}
 use Rattle.meaning.proofs.Regulars.{into_plus}
-
-abbrev pub unmarked : List Bool → ℕ
-unmarked [] = 0
-unmarked (m ∷ ms) = cond m (unmarked ms) (suc (unmarked ms))
 
 -- the marks of either
 abbrev pub joined : List Bool → List Bool → List Bool

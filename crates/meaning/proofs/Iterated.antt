@@ -5,7 +5,8 @@ use Rattle.lts.specs.System.{System, IsSystem}
 use Rattle.formula.specs.Tree.{Formula}
 use Rattle.formula.specs.Meaning.{Env, with_set, iterate, mean, marked, Marks}
 use Rattle.formula.proofs.Same.{Same, with_same, mean_same}
-use Rattle.meaning.proofs.Marked.{marks_same, false_is_none}
+use Rattle.formula.proofs.Telling.{false_is_none}
+use Rattle.meaning.proofs.Marked.{marks_same}
 
 module _ (l : System) (ok : IsSystem l) (name : List ℕ) (f : Formula) (e : Env) where
   abbrev pub next : (ℕ → Type 0) → ℕ → Type 0

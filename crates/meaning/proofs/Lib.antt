@@ -1,9 +1,13 @@
 pub mod Each
+pub mod Elements
 pub mod Behind
+pub mod Chains
+pub mod Indexing
 pub mod Marked
 pub mod Mixed
 pub mod Arrows
 pub mod Regulars
 pub mod Iterated
 pub mod Growth
+pub mod Setting
 pub mod Extremes

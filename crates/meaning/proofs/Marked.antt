@@ -4,15 +4,10 @@ use Rattle.std.specs.Prelude.{zip, slice_index_or, IsTrue}
 use mathlib.Core.Bool.{beq}
 use lib.Pointwise.{pointwise}
 use Rattle.formula.specs.Meaning.{Marks}
+use Rattle.formula.proofs.Telling.{false_is_none, of_not, of_and, of_or}
 
 abbrev pub at : List Bool → ℕ → Bool
 at ms s = slice_index_or ms s false
-
--- within the list it doesn't matter what stands past its end
-pub any_default : (ms : List Bool) (i : ℕ) (d e : Bool) → i < length ms → slice_index_or ms i d ≡ slice_index_or ms i e
-any_default [] i d e h = absurd (omega arith)
-any_default (m ∷ ms) zero d e h = refl
-any_default (m ∷ ms) (suc i) d e h = any_default ms i d e (omega arith)
 
 at_all : (n : ℕ) (b : Bool) (s : ℕ) → s < n → at (replicate n b) s ≡ b
 at_all zero b s h = absurd (omega arith)
@@ -43,26 +38,6 @@ length_zip f (m ∷ ms) (n ∷ ns) e = ap suc (length_zip f ms ns (omega arith))
 length_all : (n : ℕ) (b : Bool) → length (replicate n b) ≡ n
 length_all zero b = refl
 length_all (suc n) b = ap suc (length_all n b)
-
-pub false_is_none : IsTrue false → ⊥
-false_is_none e = cc
-
--- what the tests say
-of_not : (b : Bool) (P : Type 0) → IsTrue b ↔ P → IsTrue (not b) ↔ (P → ⊥)
-of_not true P h = (λ e. absurd (false_is_none e), λ no. absurd (no (h.0 refl)))
-of_not false P h = (λ _ p. false_is_none (h.1 p), λ _. refl)
-
-of_and : (b c : Bool) (P Q : Type 0) → IsTrue b ↔ P → IsTrue c ↔ Q → IsTrue (b && c) ↔ (P × Q)
-of_and true c P Q h k = (λ e. (h.0 refl, k.0 e), λ x. k.1 x.1)
-of_and false c P Q h k = (λ e. absurd (false_is_none e), λ x. absurd (false_is_none (h.1 x.0)))
-
-of_or : (b c : Bool) (P Q : Type 0) → IsTrue b ↔ P → IsTrue c ↔ Q → IsTrue (b || c) ↔ (P ⊎ Q)
-of_or true c P Q h k = (λ _. inl (h.0 refl), λ _. refl)
-of_or false c P Q h k = (λ e. inr (k.0 e), λ x. elim x [ inl p ↦ absurd (false_is_none (h.1 p)) | inr q ↦ k.1 q ])
-
-pub of_implies : (b c : Bool) (P Q : Type 0) → IsTrue b ↔ P → IsTrue c ↔ Q → IsTrue (not b || c) ↔ (P → Q)
-of_implies true c P Q h k = (λ e _. k.0 e, λ f. k.1 (f (h.0 refl)))
-of_implies false c P Q h k = (λ _ p. absurd (false_is_none (h.1 p)), λ _. refl)
 
 pub marks_all : (n : ℕ) → Marks n (replicate n true) (λ s. Unit {0})
 marks_all n = record { count = length_all n true; exact = λ s h. (λ _. tt, λ _. at_all n true s h) }

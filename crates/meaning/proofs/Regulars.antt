@@ -5,7 +5,8 @@ use Rattle.formula.specs.Tree.{Regular, Then, Either, Star, Plus}
 use Rattle.formula.specs.Meaning.{Leads, Marks}
 use Rattle.meaning.specs.Into.{Into}
 use Rattle.formula.proofs.Inside.{leads_inside}
-use Rattle.meaning.proofs.Marked.{at, at_not, false_is_none, marks_same, marks_not}
+use Rattle.formula.proofs.Telling.{false_is_none}
+use Rattle.meaning.proofs.Marked.{at, at_not, marks_same, marks_not}
 
 pub into_then : (l : System) → IsSystem l → (r q : Regular) (marks middle found : List Bool) → Marks l.states middle (Into l q marks) → Marks l.states found (Into l r middle) → Marks l.states found (Into l (Then r q) marks)
 into_then l ok r q marks middle found m f = marks_same l.states found (Into l r middle) (Into l (Then r q) marks) f (λ s h. (there s h, back s h))

@@ -1,6 +1,6 @@
 // Steps by an action formula.
 
-ghost use Rattle.std.specs.Prelude.{◌≡◌, ℕ, ◌<◌, ◌^◌, ◌&&◌, length, slice_index_or, false, IfOk};
+ghost use Rattle.std.specs.Prelude.{◌≡◌, ℕ, ◌<◌, ◌^◌, length, slice_index_or, false, IfOk};
 ghost use Rattle.lts.specs.Numbered.{label_at};
 ghost use Rattle.formula.specs.Tree.{Step};
 ghost use Rattle.formula.specs.View.{action_of};
@@ -15,7 +15,7 @@ use lts::system::{Lts, Transition};
 use std::alloc::{AllocError, Global};
 
 /// Whether the action formula holds of each label, by the label's number.
-fn chosen_labels(alloc: Global, lts: &Lts, action: &Act) -> Result<Vec<bool>, AllocError>
+pub fn chosen_labels(alloc: Global, lts: &Lts, action: &Act) -> Result<Vec<bool>, AllocError>
     ensures count { IfOk result (λ chosen. (k : ℕ) → k < length lts.now.labels → k < 2 ^ 32 → k < length chosen.items) }
     ensures each { IfOk result (λ chosen. (k : ℕ) → k < length chosen.items → slice_index_or chosen.items k false ≡ holds_of (action_of action.now) (label_at lts.now.labels k)) }
 {
@@ -30,15 +30,14 @@ fn chosen_labels(alloc: Global, lts: &Lts, action: &Act) -> Result<Vec<bool>, Al
     Ok(chosen)
 }
 
-/// Whether the label is chosen and the target is in the set.
-fn enters(chosen: &[bool], label: u32, marks: &[bool], target: u32) -> bool
-    requires label { label < 2 ^ 32 → label < length chosen.now }
-    requires target { target < length marks.now }
-    ensures value { result ≡ (slice_index_or chosen.now label false && slice_index_or marks.now target false) }
+/// Whether the label of this number is chosen.
+pub fn is_chosen(chosen: &[bool], label: u32) -> bool
+    requires { label < 2 ^ 32 → label < length chosen.now }
+    ensures value { result ≡ slice_index_or chosen.now label false }
     // The number of a label fits its type, so it is among the decided ones.
     ensures fits { label < 2 ^ 32 }
 {
-    chosen[label as usize] & marks[target as usize]
+    chosen[label as usize]
 }
 
 /// The states from which a step of the action leads into the set.
@@ -58,7 +57,7 @@ pub fn before(
         label,
         target,
     } in lts.all() {
-        let leads = enters(&chosen, label, marks, target);
+        let leads = is_chosen(&chosen, label) & marks[target as usize];
         let had = found[source as usize];
         found[source as usize] = had | leads;
     }

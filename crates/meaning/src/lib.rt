@@ -2,8 +2,10 @@
 #![tactic(auto)]
 
 mod actions;
+mod arrivals;
 pub mod plain;
 mod regular;
 mod scope;
+mod search;
 mod sets;
 mod signs;

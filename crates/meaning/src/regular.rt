@@ -8,6 +8,7 @@ ghost use Rattle.formula.specs.Meaning.{Marks};
 ghost use Rattle.meaning.specs.Into.{Into};
 
 use crate::actions::before;
+use crate::search::reaching_by;
 use crate::sets::{is_within, union};
 use crate::signs::{has_star, without_signs_behind};
 use formula::tree::Reg;
@@ -39,6 +40,40 @@ fn reaching(alloc: Global, lts: &Lts, step: &Reg, marks: &[bool]) -> Result<Reac
     }
 }
 
+/// The states from which any number of steps of a regular formula lead into the set.
+#[cycle(regular)]
+fn any_number(alloc: Global, lts: &Lts, step: &Reg, marks: &[bool]) -> Result<Vec<bool>, AllocError>
+    requires system { IsSystem lts.now.system }
+    requires count { length marks.now ≡ lts.now.system.states }
+    ensures { IfOk result (λ found. Marks lts.now.system.states found.items (Into lts.now.system (Star (regular_of step.now)) marks.now)) }
+{
+    if let Reg::Act(action) = step {
+        return reaching_by(alloc, lts, action, marks);
+    }
+    let reach = reaching(alloc, lts, step, marks)?;
+    Ok(reach.any)
+}
+
+/// The states from which at least one step of a regular formula leads into the set.
+#[cycle(regular)]
+fn at_least_one(
+    alloc: Global,
+    lts: &Lts,
+    step: &Reg,
+    marks: &[bool],
+) -> Result<Vec<bool>, AllocError>
+    requires system { IsSystem lts.now.system }
+    requires count { length marks.now ≡ lts.now.system.states }
+    ensures { IfOk result (λ found. Marks lts.now.system.states found.items (Into lts.now.system (Plus (regular_of step.now)) marks.now)) }
+{
+    if let Reg::Act(action) = step {
+        let any = reaching_by(alloc, lts, action, marks)?;
+        return before(alloc, lts, action, &any);
+    }
+    let reach = reaching(alloc, lts, step, marks)?;
+    Ok(reach.some)
+}
+
 /// The states from which the regular formula leads into the set.
 #[cycle(regular)]
 pub fn leading(
@@ -62,17 +97,13 @@ pub fn leading(
             let other = leading(alloc, lts, right, marks)?;
             Ok(union(one, &other))
         }
-        Reg::Star(step) => {
-            let reach = reaching(alloc, lts, without_signs_behind(step), marks)?;
-            Ok(reach.any)
-        }
+        Reg::Star(step) => any_number(alloc, lts, without_signs_behind(step), marks),
         Reg::Plus(step) => {
-            let reach = reaching(alloc, lts, without_signs_behind(step), marks)?;
-            Ok(if has_star(step) {
-                reach.any
+            if has_star(step) {
+                any_number(alloc, lts, without_signs_behind(step), marks)
             } else {
-                reach.some
-            })
+                at_least_one(alloc, lts, without_signs_behind(step), marks)
+            }
         }
     }
 }

@@ -1,4 +1,4 @@
-use Rattle.std.proofs.Common.{◌≡◌, ℕ, ◌<◌, ◌↔◌, Bool, false, List, ◌&&◌, ◌||◌, length, take, get_or, arith, refl, ap, ap₂, sym, ◌∙◌, subst}
+use Rattle.std.proofs.Common.{◌≡◌, ◌<◌, ◌↔◌, Bool, false, ◌&&◌, ◌||◌, length, take, get_or, arith, ap, ap₂, sym, ◌∙◌, subst}
 use Rattle.std.specs.Prelude.{IsTrue, slice_set}
 use Rattle.std.specs.List.{list_any}
 use Rattle.std.proofs.Math.ListN.{length-set}
@@ -6,26 +6,20 @@ use Rattle.std.proofs.Math.Seq.{take-length}
 use Rattle.std.proofs.lemmas.List.Folds.{list_any_more}
 use Rattle.lts.specs.System.{Arrow}
 use Rattle.lts.specs.declared.system.Transition.{Transition}
-use Rattle.lts.specs.Numbered.{Numbered, IsTransitionOf, IsInside, label_at, arrow_of}
+use Rattle.lts.specs.Numbered.{label_at, arrow_of}
 use Rattle.formula.specs.View.{action_of}
 use Rattle.formula.specs.Holds.{holds}
 use Rattle.formula.specs.Tree.{Step}
 use Rattle.meaning.specs.Into.{Into}
-use Rattle.meaning.proofs.Each.{each_at}
-use Rattle.meaning.proofs.Marked.{at, any_default}
+use Rattle.meaning.proofs.Each.{none, inside}
+use Rattle.meaning.proofs.Marked.{at}
+use Rattle.meaning.proofs.Setting.{default_free}
 use Rattle.formula.proofs.Entering.{enters, enters_leads}
 use Rattle.meaning.proofs.Arrows.{one_more, any_of_map}
 use Rattle.meaning.proofs.actions.before.Goals as goal
 
-abbrev none : Transition
-none = record { source = 0; label = 0; target = 0 }
-
--- the transition at the index
-inside : (l : Numbered) (steps : List Transition) (i : ℕ) → IsInside l steps → i < length steps → IsTransitionOf l (get_or steps i none)
-inside l steps i all lt = each_at (IsTransitionOf l) steps i none all lt
-
-pub enters-leads-requires-clause-label : goal.enters-leads-requires-clause-label
-enters-leads-requires-clause-label c =
+pub is_chosen-requires : goal.is_chosen-requires
+is_chosen-requires c =
     let steps = c.all-source-items.result.now in
     let i = c.loop-source.source-index in
     let step = inside c.args.lts.now steps i c.all-source-items.ensures.inside c.loop-source-test.true in
@@ -42,11 +36,11 @@ loop-source-preserved c =
     let found = c.loop-source.found.items in
     let within : step.source < length found = omega (arith, ok.source, c.loop-source.invariant.count) in
     let leads : Bool = holds act (label_at l.labels step.label) && at c.args.marks.now step.target in
-    let chosen : step.label < length c.in_ok-chosen.chosen.items = c.in_ok-chosen.ensures.count step.label ok.label c.enters-leads.ensures.fits in
-    let same : (c.index-had.result.now || c.enters-leads.result) ≡ (at found step.source || leads) =
+    let chosen : step.label < length c.in_ok-chosen.chosen.items = c.in_ok-chosen.ensures.count step.label ok.label c.is_chosen.ensures.fits in
+    let same : (c.index-had.result.now || c.is_chosen.result && at c.args.marks.now step.target) ≡ (at found step.source || leads) =
     ap₂ (λ a b. a || b)
-    (c.index-had.ensures ∙ any_default found step.source c.index-had.result.now false within)
-    (c.enters-leads.ensures.value ∙ ap₂ (λ a b. at a step.label && b) c.deref.ensures.value refl ∙ ap (λ a. a && at c.args.marks.now step.target) (c.in_ok-chosen.ensures.each step.label chosen)) in
+    (c.index-had.ensures ∙ default_free found step.source c.index-had.result.now false within)
+    (ap (λ a. a && at c.args.marks.now step.target) (c.is_chosen.ensures.value ∙ (ap (λ ms. at ms step.label) c.deref.ensures.value ∙ c.in_ok-chosen.ensures.each step.label chosen))) in
     record {
       count = simp length-set c.loop-source.invariant.count;
       each = λ s h.

@@ -1,30 +1,16 @@
 use Rattle.std.proofs.Common.{◌≡◌, ◌<◌, ◌≤◌, arith, length, ◌||◌, ap, ap₂, sym, ◌∙◌, subst, IfOk}
 use Rattle.std.proofs.lemmas.Result.{IfOk-weaker}
-use Rattle.formula.specs.View.{regular_of}
-use Rattle.formula.specs.Tree.{Regular, Then, Either, Star, Plus}
+use Rattle.formula.specs.View.{action_of, regular_of}
+use Rattle.formula.specs.Tree.{Regular, Step, Then, Either, Star, Plus}
 use Rattle.formula.specs.Meaning.{Marks, marked}
+use Rattle.meaning.specs.Arrivals.{unmarked}
 use Rattle.meaning.specs.Into.{Into}
 use Rattle.meaning.specs.Signs.{without_signs, has_star}
 use Rattle.meaning.proofs.Behind.{height, no_higher, into_any, into_starred, into_unstarred}
-use Rattle.meaning.proofs.Regulars.{into_then, into_either}
-use Rattle.meaning.proofs.Growth.{unmarked, joined, is_within, fewer, sound_more, base_more, reached_all, reached_some}
+use Rattle.meaning.proofs.Regulars.{into_then, into_either, into_plus}
+use Rattle.meaning.proofs.Growth.{joined, is_within, fewer, sound_more, base_more, reached_all, reached_some}
 use Rattle.meaning.proofs.Marked.{marks_same, marks_or, length_zip}
 use Rattle.meaning.proofs.regular.+regular.Goals as goal
-use Rattle.meaning.proofs.regular.+regular.Goals.{leading-then-has_star, leading-else-has_star}
-
-pub leading-reaching-requires : goal.leading-reaching-requires
-leading-reaching-requires t c =
-    let r = regular_of c.deref-in-Star.result.now in
-    let is : regular_of c.args.regular.now ≡ Star r = ap regular_of c.in-Star.is ∙ sym (ap (λ a. Star (regular_of a)) c.deref-in-Star.ensures) in
-    let lower : height (regular_of c.without_signs_behind.result.now) ≤ height r = subst (λ q. height q ≤ height r) (sym c.without_signs_behind.ensures) (no_higher r) in
-    (omega (arith, ap height is, lower, c.decreases), (c.requires.system, c.requires.count))
-
-pub leading-reaching-requires-in-Plus : goal.leading-reaching-requires-in-Plus
-leading-reaching-requires-in-Plus t c =
-    let r = regular_of c.deref-in-Plus.result.now in
-    let is : regular_of c.args.regular.now ≡ Plus r = ap regular_of c.in-Plus.is ∙ sym (ap (λ a. Plus (regular_of a)) c.deref-in-Plus.ensures) in
-    let lower : height (regular_of c.without_signs_behind-in-Plus.result.now) ≤ height r = subst (λ q. height q ≤ height r) (sym c.without_signs_behind-in-Plus.ensures) (no_higher r) in
-    (omega (arith, ap height is, lower, c.decreases), (c.requires.system, c.requires.count))
 
 pub leading-returns-in_ok-middle-in-Seq : goal.leading-returns-in_ok-middle-in-Seq
 leading-returns-in_ok-middle-in-Seq t c =
@@ -52,40 +38,6 @@ leading-returns-in_ok-other-in-Choice t c =
     (marks_same l.states _ _ _
     (marks_or l.states one c.in_ok-other-in-Choice.other.items (Into l r ms) (Into l q ms) c.in_ok-one-in-Choice.ensures c.in_ok-other-in-Choice.ensures)
     (λ s h. into_either l r q ms s)))
-
-pub leading-returns-in_ok-reach-in-Star : goal.leading-returns-in_ok-reach-in-Star
-leading-returns-in_ok-reach-in-Star t c =
-    let l = c.args.lts.now.system in
-    let r = regular_of c.deref-in-Star.result.now in
-    let ms = c.args.marks.now in
-    let any = c.in_ok-reach-in-Star.reach.any.items in
-    let is : regular_of c.args.regular.now ≡ Star r = ap regular_of c.in-Star.is ∙ sym (ap (λ a. Star (regular_of a)) c.deref-in-Star.ensures) in
-    subst (λ (x : Regular). Marks l.states any (Into l x ms)) (sym is)
-    (marks_same l.states any (Into l (Star (without_signs r)) ms) (Into l (Star r) ms)
-    (subst (λ x. Marks l.states any (Into l (Star x) ms)) c.without_signs_behind.ensures c.in_ok-reach-in-Star.ensures.any)
-    (λ s h. into_any l r ms s))
-
-pub leading-returns-after-has_star : goal.leading-returns-after-has_star
-leading-returns-after-has_star t c =
-    let l = c.args.lts.now.system in
-    let r = regular_of c.deref-in-Plus.result.now in
-    let ms = c.args.marks.now in
-    let reach = c.in_ok-reach-in-Plus.reach in
-    let is : regular_of c.args.regular.now ≡ Plus r = ap regular_of c.in-Plus.is ∙ sym (ap (λ a. Plus (regular_of a)) c.deref-in-Plus.ensures) in
-    let starred : c.has_star.result ≡ has_star r = c.has_star.ensures ∙ ap (λ x. has_star (regular_of x)) (c.deref-in-Plus-2.ensures ∙ sym c.deref-in-Plus.ensures) in
-    subst (λ (x : Regular). Marks l.states c.if-has_star.result.items (Into l x ms)) (sym is)
-    (elim c.if-has_star.branch [
-      | leading-then-has_star w ↦
-          subst (λ items. Marks l.states items (Into l (Plus r) ms)) (sym (ap (λ v. v.items) w.result-is))
-          (marks_same l.states reach.any.items (Into l (Star (without_signs r)) ms) (Into l (Plus r) ms)
-          (subst (λ x. Marks l.states reach.any.items (Into l (Star x) ms)) c.without_signs_behind-in-Plus.ensures c.in_ok-reach-in-Plus.ensures.any)
-          (λ s h. into_starred l r ms s (sym starred ∙ w.if-has_star.true)))
-      | leading-else-has_star w ↦
-          subst (λ items. Marks l.states items (Into l (Plus r) ms)) (sym (ap (λ v. v.items) w.result-is))
-          (marks_same l.states reach.some.items (Into l (Plus (without_signs r)) ms) (Into l (Plus r) ms)
-          (subst (λ x. Marks l.states reach.some.items (Into l (Plus x) ms)) c.without_signs_behind-in-Plus.ensures c.in_ok-reach-in-Plus.ensures.some)
-          (λ s h. into_unstarred l r ms s (sym starred ∙ w.if-has_star.false)))
-    ])
 
 pub reaching-returns-then-is_within-clause-any : goal.reaching-returns-then-is_within-clause-any
 reaching-returns-then-is_within-clause-any t c =
@@ -130,3 +82,74 @@ reaching-loop-any-preserved t c =
       sound = λ s h k. sound_more l c.requires.system r c.args.marks.now found more c.loop-any.invariant.count m c.loop-any.invariant.sound s h (subst (λ x. marked x s) joins k);
       base = λ s h k. subst (λ x. marked x s) (sym joins) (base_more l c.requires.system r c.args.marks.now found more c.loop-any.invariant.count m c.loop-any.invariant.base s h k);
     }
+
+pub at_least_one-returns-in-Act : goal.at_least_one-returns-in-Act
+at_least_one-returns-in-Act t c =
+    let l = c.args.lts.now.system in
+    let r : Regular = Step (action_of c.in-Act.action) in
+    let ms = c.args.marks.now in
+    let any = c.in_ok-any.any.items in
+    let is : regular_of c.args.step.now ≡ r = ap regular_of c.in-Act.is in
+    subst (λ (x : Regular). IfOk c.before-in-Act.result (λ found. Marks l.states found.items (Into l (Plus x) ms))) (sym is)
+    (IfOk-weaker c.before-in-Act.result (λ found. Marks l.states found.items (Into l r c.deref.result.now)) _
+    (λ found f. into_plus l c.requires.system r ms any found.items c.in_ok-any.ensures (subst (λ x. Marks l.states found.items (Into l r x)) c.deref.ensures.value f))
+    c.before-in-Act.ensures)
+
+pub leading-any_number-requires : goal.leading-any_number-requires
+leading-any_number-requires t c =
+    let r = regular_of c.deref-in-Star.result.now in
+    let is : regular_of c.args.regular.now ≡ Star r = ap regular_of c.in-Star.is ∙ sym (ap (λ a. Star (regular_of a)) c.deref-in-Star.ensures) in
+    let lower : height (regular_of c.without_signs_behind.result.now) ≤ height r = subst (λ q. height q ≤ height r) (sym c.without_signs_behind.ensures) (no_higher r) in
+    (omega (arith, ap height is, lower, c.decreases), (c.requires.system, c.requires.count))
+
+pub leading-any_number-requires-then-has_star : goal.leading-any_number-requires-then-has_star
+leading-any_number-requires-then-has_star t c =
+    let r = regular_of c.deref-then-has_star.result.now in
+    let is : regular_of c.args.regular.now ≡ Plus r = ap regular_of c.in-Plus.is ∙ sym (ap (λ a. Plus (regular_of a)) c.deref-then-has_star.ensures) in
+    let lower : height (regular_of c.without_signs_behind-then-has_star.result.now) ≤ height r = subst (λ q. height q ≤ height r) (sym c.without_signs_behind-then-has_star.ensures) (no_higher r) in
+    (omega (arith, ap height is, lower, c.decreases), (c.requires.system, c.requires.count))
+
+pub leading-at_least_one-requires : goal.leading-at_least_one-requires
+leading-at_least_one-requires t c =
+    let r = regular_of c.deref-else-has_star.result.now in
+    let is : regular_of c.args.regular.now ≡ Plus r = ap regular_of c.in-Plus.is ∙ sym (ap (λ a. Plus (regular_of a)) c.deref-else-has_star.ensures) in
+    let lower : height (regular_of c.without_signs_behind-else-has_star.result.now) ≤ height r = subst (λ q. height q ≤ height r) (sym c.without_signs_behind-else-has_star.ensures) (no_higher r) in
+    (omega (arith, ap height is, lower, c.decreases), (c.requires.system, c.requires.count))
+
+pub leading-returns-in-Star : goal.leading-returns-in-Star
+leading-returns-in-Star t c =
+    let l = c.args.lts.now.system in
+    let r = regular_of c.deref-in-Star.result.now in
+    let ms = c.args.marks.now in
+    let is : regular_of c.args.regular.now ≡ Star r = ap regular_of c.in-Star.is ∙ sym (ap (λ a. Star (regular_of a)) c.deref-in-Star.ensures) in
+    subst (λ (x : Regular). IfOk c.any_number.result (λ found. Marks l.states found.items (Into l x ms))) (sym is)
+    (IfOk-weaker c.any_number.result (λ found. Marks l.states found.items (Into l (Star (regular_of c.without_signs_behind.result.now)) ms)) _
+    (λ found f. marks_same l.states found.items (Into l (Star (without_signs r)) ms) (Into l (Star r) ms) (subst (λ x. Marks l.states found.items (Into l (Star x) ms)) c.without_signs_behind.ensures f)
+    (λ s h. into_any l r ms s))
+    c.any_number.ensures)
+
+pub leading-returns-then-has_star : goal.leading-returns-then-has_star
+leading-returns-then-has_star t c =
+    let l = c.args.lts.now.system in
+    let r = regular_of c.deref-then-has_star.result.now in
+    let ms = c.args.marks.now in
+    let is : regular_of c.args.regular.now ≡ Plus r = ap regular_of c.in-Plus.is ∙ sym (ap (λ a. Plus (regular_of a)) c.deref-then-has_star.ensures) in
+    let starred : c.has_star.result ≡ has_star r = c.has_star.ensures ∙ ap (λ x. has_star (regular_of x)) (c.deref-in-Plus.ensures ∙ sym c.deref-then-has_star.ensures) in
+    subst (λ (x : Regular). IfOk c.any_number-then-has_star.result (λ found. Marks l.states found.items (Into l x ms))) (sym is)
+    (IfOk-weaker c.any_number-then-has_star.result (λ found. Marks l.states found.items (Into l (Star (regular_of c.without_signs_behind-then-has_star.result.now)) ms)) _
+    (λ found f. marks_same l.states found.items (Into l (Star (without_signs r)) ms) (Into l (Plus r) ms) (subst (λ x. Marks l.states found.items (Into l (Star x) ms)) c.without_signs_behind-then-has_star.ensures f)
+    (λ s h. into_starred l r ms s (sym starred ∙ c.if-has_star.true)))
+    c.any_number-then-has_star.ensures)
+
+pub leading-returns-else-has_star : goal.leading-returns-else-has_star
+leading-returns-else-has_star t c =
+    let l = c.args.lts.now.system in
+    let r = regular_of c.deref-else-has_star.result.now in
+    let ms = c.args.marks.now in
+    let is : regular_of c.args.regular.now ≡ Plus r = ap regular_of c.in-Plus.is ∙ sym (ap (λ a. Plus (regular_of a)) c.deref-else-has_star.ensures) in
+    let starred : c.has_star.result ≡ has_star r = c.has_star.ensures ∙ ap (λ x. has_star (regular_of x)) (c.deref-in-Plus.ensures ∙ sym c.deref-else-has_star.ensures) in
+    subst (λ (x : Regular). IfOk c.at_least_one.result (λ found. Marks l.states found.items (Into l x ms))) (sym is)
+    (IfOk-weaker c.at_least_one.result (λ found. Marks l.states found.items (Into l (Plus (regular_of c.without_signs_behind-else-has_star.result.now)) ms)) _
+    (λ found f. marks_same l.states found.items (Into l (Plus (without_signs r)) ms) (Into l (Plus r) ms) (subst (λ x. Marks l.states found.items (Into l (Plus x) ms)) c.without_signs_behind-else-has_star.ensures f)
+    (λ s h. into_unstarred l r ms s (sym starred ∙ c.if-has_star.false)))
+    c.at_least_one.ensures)

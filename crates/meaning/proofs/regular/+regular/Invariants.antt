@@ -4,7 +4,7 @@ use Rattle.formula.specs.Tree.{Star}
 use Rattle.formula.specs.Meaning.{marked}
 use Rattle.meaning.specs.Into.{Into}
 use Rattle.meaning.proofs.Behind.{height}
-use Rattle.meaning.proofs.Growth.{unmarked}
+use Rattle.meaning.specs.Arrivals.{unmarked}
 use Rattle.meaning.proofs.regular.+regular.Given as goal
 
 -- what was found leads into the set, and the set was found
@@ -18,9 +18,15 @@ invariant-reaching-loop-any l = record {
 abbrev pub decreases-reaching-loop-any : goal.decreases-reaching-loop-any
 decreases-reaching-loop-any l = unmarked l.any.items
 
--- a regular formula falls by its height, and `reaching` at the same one comes before `leading`
+-- A regular formula falls by its height. At the same one, `reaching` comes before `leading`, and those that call it before it.
 abbrev pub decreases-leading : goal.decreases-leading
-decreases-leading l = 2 * height (regular_of l.regular.now)
+decreases-leading l = 3 * height (regular_of l.regular.now)
 
 abbrev pub decreases-reaching : goal.decreases-reaching
-decreases-reaching l = 2 * height (regular_of l.step.now) + 1
+decreases-reaching l = 3 * height (regular_of l.step.now) + 1
+
+abbrev pub decreases-any_number : goal.decreases-any_number
+decreases-any_number l = 3 * height (regular_of l.step.now) + 2
+
+abbrev pub decreases-at_least_one : goal.decreases-at_least_one
+decreases-at_least_one l = 3 * height (regular_of l.step.now) + 2

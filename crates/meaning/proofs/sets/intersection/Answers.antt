@@ -1,6 +1,6 @@
 use Rattle.std.proofs.Common.{◌≡◌, ◌<◌, Bool, false, ◌&&◌, length, arith, ◌∙◌, ap, add-one}
 use Rattle.std.specs.Prelude.{slice_set, slice_index_or}
-use Rattle.meaning.proofs.Marked.{any_default}
+use Rattle.meaning.proofs.Setting.{default_free}
 use Rattle.meaning.proofs.Mixed.{mixed, length-mixed, mixed_more, mixed_all}
 use Rattle.meaning.proofs.sets.intersection.Goals as goal
 
@@ -13,7 +13,7 @@ loop-state-preserved c =
     let same = c.loop-state.invariant in
     let within : i < length c.loop-state.marks.items = omega (arith, ap length same, length-mixed f i xs ys) in
     let read : c.index_mut.result.now ≡ slice_index_or (mixed f i xs ys) i false =
-    c.index_mut.ensures.value ∙ (any_default c.loop-state.marks.items i c.index_mut.result.now false within ∙ ap (λ ms. slice_index_or ms i false) same) in
+    c.index_mut.ensures.value ∙ (default_free c.loop-state.marks.items i c.index_mut.result.now false within ∙ ap (λ ms. slice_index_or ms i false) same) in
     rw add-one
     (ap (λ b. slice_set c.loop-state.marks.items i (b && slice_index_or ys i false)) read
     ∙ ap (λ ms. slice_set ms i (f (slice_index_or (mixed f i xs ys) i false, slice_index_or ys i false))) same
