@@ -1,8 +1,17 @@
 -- What holds of all texts of formulas.
-use Rattle.std.specs.Prelude.{◌≡◌, ℕ, List}
+use Rattle.std.specs.Prelude.{◌≡◌, ℕ, ◌≤◌, List, length}
 use Rattle.formula.specs.Tree.{Formula}
-use Rattle.formula.specs.Spells.{Spells}
+use Rattle.formula.specs.Canon.{canon}
+use Rattle.formula.specs.Spells.{Spells, SpellsWithin}
 
 -- A text spells at most one formula.
 abbrev pub OneFormula : Type 0
 OneFormula = (text : List ℕ) (f g : Formula) → Spells text f → Spells text g → f ≡ g
+
+-- The canonical text of a formula that some text spells is a text of that formula.
+abbrev pub CanonSpells : Type 0
+CanonSpells = (text : List ℕ) (f : Formula) → Spells text f → Spells (canon f) f
+
+-- So it is within the limits, where it has at most 1,048,576 bytes: it nests like every text of the formula, and opens no more parentheses.
+abbrev pub CanonSpellsWithin : Type 0
+CanonSpellsWithin = (text : List ℕ) (f : Formula) → SpellsWithin text f → length (canon f) ≤ 1048576 → SpellsWithin (canon f) f

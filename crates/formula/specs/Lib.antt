@@ -9,4 +9,9 @@ pub mod Syntax
 pub mod Spells
 pub mod Fault
 pub mod Closed
+pub mod Written
+pub mod Read
+pub mod Cutting
 pub mod Laws
+pub mod FixpointLaws
+pub mod Checked

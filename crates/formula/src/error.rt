@@ -1,5 +1,9 @@
 // Why a text gave no formula.
 
+ghost use Rattle.std.specs.Prelude.{◌≡◌};
+ghost use Rattle.formula.specs.declared.error.FormulaError.TheVariants.{Memory};
+
+use std::alloc::AllocFailed;
 use thiserror::Error;
 
 /// What is wrong with a text that spells no admitted formula within the limits. It is shown as its code.
@@ -40,4 +44,13 @@ pub enum FormulaError {
     /// A growth was refused.
     #[error("F9")]
     Memory,
+}
+
+impl<T: Drop> From<AllocFailed<T>> for FormulaError {
+    ghost from_gives = { λ _ e. e ≡ Memory };
+
+    fn from(error: AllocFailed<T>) -> Self {
+        let _ = error;
+        FormulaError::Memory
+    }
 }

@@ -1,8 +1,19 @@
 // What holds of all texts of formulas.
 
-ghost use Rattle.formula.specs.Laws.{OneFormula};
+ghost use Rattle.formula.specs.Laws.{OneFormula, CanonSpells, CanonSpellsWithin};
 
 /// A text spells at most one formula: the grammar is unambiguous.
 pub fn one_formula()
     ensures { OneFormula }
+{}
+
+/// The canonical text of a formula that some text spells is a text of that formula.
+pub fn canon_spells()
+    ensures { CanonSpells }
+{}
+
+/// The canonical text of a formula that some text spells within the limits is a text of it within the limits, where it
+/// is not too long. So `parse` reads the formula that was printed from it, memory aside.
+pub fn canon_spells_within()
+    ensures { CanonSpellsWithin }
 {}

@@ -5,4 +5,25 @@ pub mod closed;
 pub mod error;
 pub mod label;
 pub mod law;
+pub mod meaning_law;
+pub mod printer;
 pub mod tree;
+
+pub use label::holds;
+pub use printer::print;
+
+mod lexer;
+mod meant;
+mod operands;
+pub mod reader;
+mod regular;
+mod room;
+mod scope;
+mod state;
+mod token;
+mod written;
+
+pub use reader::parse;
+
+#[cfg(test)]
+mod tests;

@@ -1,125 +1,86 @@
--- The values of a progress table of an arena do not rise along its edges.
-use Rattle.std.proofs.Common.{◌≡◌, ℕ, ◌+◌, ◌<◌, ◌⊎◌, List, [], ◌∷◌, length, map, refl, sym, subst, inl, inr, true, false}
-use Rattle.std.specs.Prelude.{IsTrue, Contains, Some, slice_get}
+-- Where the edges of an arena lead, Even choosing.
+use Rattle.std.proofs.Common.{◌≡◌, ℕ, ◌⊎◌, true, false, List, [], ◌∷◌, map, refl, sym, ap, inl, inr, arith, true≢false}
+use Rattle.std.specs.Prelude.{Contains, ◌≢◌}
+use Rattle.lts.specs.System.{System}
+use Rattle.normal.specs.Tree.{Shape, ConstantNode, JunctionNode, ModalityNode, FixpointNode, VariableNode}
 use Rattle.game.specs.declared.player.Player.TheVariants.{Even, Odd}
-use Rattle.lts.specs.System.{System, IsSystem}
-use Rattle.formula.specs.Tree.{Step}
-use Rattle.formula.specs.Meaning.{Leads}
-use Rattle.normal.specs.Tree.{Norm, Constant, Junction, Modality, Fixpoint, Variable, size, Shape, shape_at}
-use Rattle.normal.specs.Nodes.{Node}
-use Rattle.game.specs.Arena.{targets, place, vertex_of, successors_of, arena}
-use Rattle.measures.specs.Measure.{Measure, Reaches}
-use Rattle.measures.specs.Progress.{IsProgress, value_at}
-use Rattle.laws.specs.Trees.{IsAdmissible}
-use Rattle.laws.proofs.Descent.{Descends}
-use Rattle.laws.proofs.Compared.{comparison, upto_at, reaches_even, reaches_odd, strict, finite}
-use Rattle.laws.proofs.Progs.{descends_even, descends_odd, in_map, of_map}
-use Rattle.laws.proofs.Places.{vertex_at, IsPlaced, only_in, of_two, first_in, second_in, or_else_some, of_or_else, in_or_else, target_leads, leads_target, leads_inside}
+use Rattle.game.specs.Arena.{targets, place, or_else, owner_of, successors_of}
+use Rattle.measures.proofs.Lists.{contains_none}
+use Rattle.laws.proofs.Lists.{only_in, of_two, in_map, of_map}
+use Rattle.laws.proofs.Moves.{IsNext, Moves, IsChoice}
 
-module _ (l : System) (ok : IsSystem l) (prio : ℕ → ℕ) (ns : List Node) (table : List Measure) (settles : IsProgress (arena l ns) table) where
-  abbrev pub val : ℕ → ℕ → Measure
-  val s k = value_at table (place (length ns) s k)
+-- a list or else one vertex has some
+pub or_else_some : (xs : List ℕ) (v : ℕ) → (t : ℕ) × (ts : List ℕ) × (or_else xs v ≡ t ∷ ts)
+or_else_some [] v = (v, [], refl)
+or_else_some (x ∷ xs) v = (x, xs, refl)
 
-  -- the false sink is lost
-  lost : IsTrue (upto_at (arena l ns) 0 (value_at table 1) (value_at table 1)) → ⊥
-  lost fin =
-      let w = descends_even (arena l ns) table settles 1 (record { owner = Even; priority = 1; successors = 1 ∷ [] }) refl 1 [] refl refl in
-      let e : w.0 ≡ 1 = only_in 1 w.0 w.1 in
-      strict (arena l ns) 1 (value_at table 1) (reaches_odd (arena l ns) 1 (value_at table 1) (value_at table 1) refl fin (subst (λ u. Reaches (arena l ns) 1 (value_at table u) (value_at table 1)) e w.2))
+-- what it has
+pub of_or_else : (xs : List ℕ) (v u : ℕ) → Contains (or_else xs v) u → (u ≡ v) ⊎ Contains xs u
+of_or_else [] v u h = inl (only_in v u h)
+of_or_else (x ∷ xs) v u h = inr h
 
-  abbrev node : Shape → ℕ → Node
-  node shape at = record { shape = shape; priority = prio at }
+-- it has what the list has
+pub in_or_else : (xs : List ℕ) (v u : ℕ) → Contains xs u → Contains (or_else xs v) u
+in_or_else [] v u h = absurd (contains_none u h)
+in_or_else (x ∷ xs) v u h = h
 
-  -- Even's node: some successor
-  some_edge : (at : ℕ) (shape : Shape) → slice_get ns at ≡ Some (node shape at) → (s : ℕ) → s < l.states → (t : ℕ) (ts : List ℕ) → successors_of l (length ns) s shape ≡ t ∷ ts →
-      (vertex_of l (length ns) s (node shape at)).owner ≡ Even →
-      (u : ℕ) × Contains (successors_of l (length ns) s shape) u × Reaches (arena l ns) (prio at) (value_at table u) (val s at)
-  some_edge at shape is s lt t ts some even =
-      descends_even (arena l ns) table settles (place (length ns) s at) (vertex_of l (length ns) s (node shape at)) (vertex_at l ns s at (node shape at) lt is) t ts some even
+-- the vertex that Even chooses at a vertex of this shape
+abbrev pub to_vertex : ℕ → Shape → ℕ → ℕ → ℕ
+to_vertex n (ConstantNode flag) c s = 0
+to_vertex n (JunctionNode flag a b) c s = place n s c
+to_vertex n (ModalityNode flag act child) c s = place n c child
+to_vertex n (FixpointNode flag child) c s = place n s child
+to_vertex n (VariableNode b) c s = place n s b
 
-  each_edge : (at : ℕ) (shape : Shape) → slice_get ns at ≡ Some (node shape at) → (s : ℕ) → s < l.states → (t : ℕ) (ts : List ℕ) → successors_of l (length ns) s shape ≡ t ∷ ts →
-      (vertex_of l (length ns) s (node shape at)).owner ≡ Odd →
-      (u : ℕ) → Contains (successors_of l (length ns) s shape) u → Reaches (arena l ns) (prio at) (value_at table u) (val s at)
-  each_edge at shape is s lt t ts some odd =
-      descends_odd (arena l ns) table settles (place (length ns) s at) (vertex_of l (length ns) s (node shape at)) (vertex_at l ns s at (node shape at) lt is) t ts some odd
+odd_even : {X : Type 0} → Odd ≡ Even → X
+odd_even e = cc
 
-  -- at what is no binder
-  plain : (at : ℕ) → prio at ≡ 0 → (m r : Measure) → IsTrue (upto_at (arena l ns) 0 r r) → Reaches (arena l ns) (prio at) m r → IsTrue (upto_at (arena l ns) 0 m r)
-  plain at e m r fin h = reaches_even (arena l ns) 0 m r refl fin (subst (λ p. Reaches (arena l ns) p m r) e h)
+at_head : (x y : ℕ) (xs : List ℕ) → y ≡ x → Contains (x ∷ xs) y
+at_head x y xs e = (0, omega arith, sym e)
 
-  abbrev pub Down : ℕ → Norm → Type 0
-  Down = Descends l prio Measure (comparison (arena l ns)) val
+at_second : (x y z : ℕ) → z ≡ y → Contains (x ∷ y ∷ []) z
+at_second x y z e = (1, omega arith, sym e)
 
-  -- the only successor
-  one_edge : (at child : ℕ) (shape : Shape) → slice_get ns at ≡ Some (node shape at) → (s : ℕ) → s < l.states → successors_of l (length ns) s shape ≡ place (length ns) s child ∷ [] →
-      (vertex_of l (length ns) s (node shape at)).owner ≡ Even → Reaches (arena l ns) (prio at) (val s child) (val s at)
-  one_edge at child shape is s lt some even =
-      let w = some_edge at shape is s lt (place (length ns) s child) [] some even in
-      subst (λ u. Reaches (arena l ns) (prio at) (value_at table u) (val s at)) (only_in (place (length ns) s child) w.0 (subst (λ us. Contains us w.0) some w.1)) w.2
+-- at a right choice Even's vertex is a successor
+pub own_of : (l : System) (n : ℕ) (sh : Shape) (c s : ℕ) → IsChoice l sh c s → owner_of sh ≡ Even → Contains (successors_of l n s sh) (to_vertex n sh c s)
+own_of l n (ConstantNode true) c s x o = at_head 0 0 [] refl
+own_of l n (ConstantNode false) c s x o = absurd (true≢false (sym x))
+own_of l n (JunctionNode false a b) c s x o = odd_even o
+own_of l n (JunctionNode true a b) c s (inl e) o = at_head (place n s a) (place n s c) (place n s b ∷ []) (ap (place n s) e)
+own_of l n (JunctionNode true a b) c s (inr e) o = at_second (place n s a) (place n s b) (place n s c) (ap (place n s) e)
+own_of l n (ModalityNode true act child) c s x o = in_or_else (map (λ t. place n t child) (targets l act s)) 1 (place n c child) (in_map (λ t. place n t child) (targets l act s) c x)
+own_of l n (ModalityNode false act child) c s x o = odd_even o
+own_of l n (FixpointNode flag child) c s x o = at_head (place n s child) (place n s child) [] refl
+own_of l n (VariableNode b) c s x o = at_head (place n s b) (place n s b) [] refl
 
-  pub down : (f : Norm) (at : ℕ) → IsAdmissible prio at f → IsPlaced prio ns at f → Down at f
-  down (Constant true) at adm is = tt
-  down (Constant false) at adm is =
-      λ s lt fin. let w = some_edge at (shape_at at (Constant false)) is s lt 1 [] refl refl in
-      let h : IsTrue (upto_at (arena l ns) 0 (value_at table w.0) (val s at)) = plain at adm (value_at table w.0) (val s at) fin w.2 in
-      lost (finite (arena l ns) 0 (value_at table 1) (val s at) (subst (λ u. IsTrue (upto_at (arena l ns) 0 (value_at table u) (val s at))) (only_in 1 w.0 w.1) h))
-  down (Junction false f g) at adm is = (
-    λ s lt fin. (
-      plain at adm.0 (val s (at + 1)) (val s at) fin
-          (each_edge at (shape_at at (Junction false f g)) is.0 s lt (place (length ns) s (at + 1)) (place (length ns) s (at + 1 + size f) ∷ []) refl refl (place (length ns) s (at + 1)) (first_in _ _)),
-      plain at adm.0 (val s (at + 1 + size f)) (val s at) fin
-          (each_edge at (shape_at at (Junction false f g)) is.0 s lt (place (length ns) s (at + 1)) (place (length ns) s (at + 1 + size f) ∷ []) refl refl (place (length ns) s (at + 1 + size f)) (second_in _ _)),
-    ),
-    down f (at + 1) adm.1 is.1,
-    down g (at + 1 + size f) adm.2 is.2,
-  )
-  down (Junction true f g) at adm is = (λ s lt fin. either s lt fin, down f (at + 1) adm.1 is.1, down g (at + 1 + size f) adm.2 is.2)
-    where
-      either : (s : ℕ) → s < l.states → IsTrue (upto_at (arena l ns) 0 (val s at) (val s at)) →
-          IsTrue (upto_at (arena l ns) 0 (val s (at + 1)) (val s at)) ⊎ IsTrue (upto_at (arena l ns) 0 (val s (at + 1 + size f)) (val s at))
-      either s lt fin =
-          let w = some_edge at (shape_at at (Junction true f g)) is.0 s lt (place (length ns) s (at + 1)) (place (length ns) s (at + 1 + size f) ∷ []) refl refl in
-          let h : IsTrue (upto_at (arena l ns) 0 (value_at table w.0) (val s at)) = plain at adm.0 (value_at table w.0) (val s at) fin w.2 in
-          elim (of_two (place (length ns) s (at + 1)) (place (length ns) s (at + 1 + size f)) w.0 w.1) [
-            | inl e ↦ inl (subst (λ u. IsTrue (upto_at (arena l ns) 0 (value_at table u) (val s at))) e h)
-            | inr e ↦ inr (subst (λ u. IsTrue (upto_at (arena l ns) 0 (value_at table u) (val s at))) e h)
-          ]
-  down (Modality true a f) at adm is = (λ s lt fin. step s lt fin, down f (at + 1) adm.1 is.1)
-    where
-      step : (s : ℕ) → s < l.states → IsTrue (upto_at (arena l ns) 0 (val s at) (val s at)) →
-          (t : ℕ) × (t < l.states) × Leads l (Step a) s t × IsTrue (upto_at (arena l ns) 0 (val t (at + 1)) (val s at))
-      step s lt fin =
-          let some = or_else_some (map (λ t. place (length ns) t (at + 1)) (targets l a s)) 1 in
-          let w = some_edge at (shape_at at (Modality true a f)) is.0 s lt some.0 some.1 some.2 refl in
-          let h : IsTrue (upto_at (arena l ns) 0 (value_at table w.0) (val s at)) = plain at adm.0 (value_at table w.0) (val s at) fin w.2 in
-          elim (of_or_else (map (λ t. place (length ns) t (at + 1)) (targets l a s)) 1 w.0 w.1) [
-            | inl e ↦ absurd (lost (finite (arena l ns) 0 (value_at table 1) (val s at) (subst (λ u. IsTrue (upto_at (arena l ns) 0 (value_at table u) (val s at))) e h)))
-            | inr k ↦ found s w.0 h (of_map (λ t. place (length ns) t (at + 1)) (targets l a s) w.0 k)
-          ]
-        where
-          found : (s u : ℕ) → IsTrue (upto_at (arena l ns) 0 (value_at table u) (val s at)) → ((t : ℕ) × Contains (targets l a s) t × (place (length ns) t (at + 1) ≡ u)) →
-              (t : ℕ) × (t < l.states) × Leads l (Step a) s t × IsTrue (upto_at (arena l ns) 0 (val t (at + 1)) (val s at))
-          found s u h (t, k, e) =
-              let there = target_leads l a s t k in
-              (t, there.0, there.1, subst (λ u. IsTrue (upto_at (arena l ns) 0 (value_at table u) (val s at))) (sym e) h)
-  down (Modality false a f) at adm is = (λ s lt fin t leads. step s lt fin t leads, down f (at + 1) adm.1 is.1)
-    where
-      step : (s : ℕ) → s < l.states → IsTrue (upto_at (arena l ns) 0 (val s at) (val s at)) → (t : ℕ) → Leads l (Step a) s t →
-          (t < l.states) × IsTrue (upto_at (arena l ns) 0 (val t (at + 1)) (val s at))
-      step s lt fin t leads =
-          let some = or_else_some (map (λ t. place (length ns) t (at + 1)) (targets l a s)) 0 in (
-            leads_inside l ok a s t leads,
-            plain at adm.0 (val t (at + 1)) (val s at) fin
-                (each_edge at (shape_at at (Modality false a f)) is.0 s lt some.0 some.1 some.2 refl (place (length ns) t (at + 1))
-                (in_or_else (map (λ t. place (length ns) t (at + 1)) (targets l a s)) 0 (place (length ns) t (at + 1))
-                (in_map (λ t. place (length ns) t (at + 1)) (targets l a s) t (leads_target l ok a s t leads)))),
-          )
-  down (Fixpoint true f) at adm is = (
-    λ s lt fin. reaches_odd (arena l ns) (prio at) (val s (at + 1)) (val s at) adm.0 fin (one_edge at (at + 1) (shape_at at (Fixpoint true f)) is.0 s lt refl refl),
-    down f (at + 1) adm.2 is.1,
-  )
-  down (Fixpoint false f) at adm is = (
-    λ s lt fin. reaches_even (arena l ns) (prio at) (val s (at + 1)) (val s at) adm.0 fin (one_edge at (at + 1) (shape_at at (Fixpoint false f)) is.0 s lt refl refl),
-    down f (at + 1) adm.2 is.1,
-  )
-  down (Variable b) at adm is = λ s lt fin. plain at adm (val s b) (val s at) fin (one_edge at b (shape_at at (Variable b)) is s lt refl refl)
+-- where a move leads, as a vertex
+pub record IsLed (l : System) (n : ℕ) (sh : Shape) (c s t : ℕ) : Type 0 where
+  pub state : ℕ
+  pub node : ℕ
+  pub is : t ≡ place n state node
+  pub next : IsNext sh node
+  pub moves : Moves l sh c s state node
+
+-- an edge at a vertex of this shape leads to the true sink, or as a move does
+pub led : (l : System) (n : ℕ) (sh : Shape) (c s t : ℕ) → IsChoice l sh c s → ((owner_of sh ≡ Even) × (t ≡ to_vertex n sh c s)) ⊎ ((owner_of sh ≢ Even) × Contains (successors_of l n s sh) t)
+    → (t ≡ 0) ⊎ IsLed l n sh c s t
+led l n (ConstantNode flag) c s t x (inl o) = inl o.1
+led l n (ConstantNode flag) c s t x (inr o) = absurd (o.0 refl)
+led l n (JunctionNode false a b) c s t x (inl o) = odd_even o.0
+led l n (JunctionNode false a b) c s t x (inr o) = elim (of_two (place n s a) (place n s b) t o.1) [
+  | inl e ↦ inr (record { state = s; node = a; is = e; next = inl refl; moves = (refl, tt) })
+  | inr e ↦ inr (record { state = s; node = b; is = e; next = inr refl; moves = (refl, tt) })
+]
+led l n (JunctionNode true a b) c s t x (inl o) = inr (record { state = s; node = c; is = o.1; next = x; moves = (refl, refl) })
+led l n (JunctionNode true a b) c s t x (inr o) = absurd (o.0 refl)
+led l n (ModalityNode true act child) c s t x (inl o) = inr (record { state = c; node = child; is = o.1; next = refl; moves = (x, refl) })
+led l n (ModalityNode true act child) c s t x (inr o) = absurd (o.0 refl)
+led l n (ModalityNode false act child) c s t x (inl o) = odd_even o.0
+led l n (ModalityNode false act child) c s t x (inr o) = elim (of_or_else (map (λ t. place n t child) (targets l act s)) 0 t o.1) [
+  | inl e ↦ inl e
+  | inr i ↦ (let m = of_map (λ t. place n t child) (targets l act s) t i in inr (record { state = m.0; node = child; is = sym m.2; next = refl; moves = (m.1, tt) }))
+]
+led l n (FixpointNode flag child) c s t x (inl o) = inr (record { state = s; node = child; is = o.1; next = refl; moves = refl })
+led l n (FixpointNode flag child) c s t x (inr o) = absurd (o.0 refl)
+led l n (VariableNode b) c s t x (inl o) = inr (record { state = s; node = b; is = o.1; next = refl; moves = refl })
+led l n (VariableNode b) c s t x (inr o) = absurd (o.0 refl)

@@ -1,31 +1,20 @@
 -- `modal flag r F` tells which states r leads from into what F makes.
-use Rattle.std.proofs.Common.{◌≡◌, ◌≢◌, ℕ, zero, suc, ◌+◌, ◌<◌, ◌≤◌, ◌⊎◌, ◌↔◌, Bool, true, false, not, List, [], ◌∷◌, refl, sym, ◌∙◌, ap, subst, inl, inr, arith, true≢false}
-use Rattle.std.specs.Prelude.{Contains, if◌then◌else◌}
-use Rattle.std.specs.List.{list_all}
+use Rattle.std.proofs.Common.{◌≡◌, ℕ, zero, suc, ◌+◌, ◌<◌, ◌≤◌, ◌⊎◌, ◌↔◌, Bool, List, [], ◌∷◌, refl, sym, ◌∙◌, ap, subst, inl, inr, arith}
 use Rattle.lts.specs.Path.{IsPath}
 use Rattle.lts.specs.System.{System, IsSystem}
 use Rattle.formula.specs.Tree.{Action, Regular, Step, Then, Either, Star, Plus}
 use Rattle.formula.specs.Meaning.{Leads, iterate}
-use Rattle.normal.specs.Tree.{Norm, Variable, size, Modality, Fixpoint, two, loop_of, modal}
+use Rattle.normal.specs.Tree.{Norm, Variable, size, two, loop_of, modal}
 use Rattle.game.specs.Arena.{targets}
-use Rattle.laws.specs.Sat.{put, turns, sat}
-use Rattle.laws.proofs.Flags.{under, under_is, under_under, not_flag, same_test, some_true, some_false}
-use Rattle.laws.proofs.Steps.{eq_cases, in_cons, none_in, here, there, target_leads, leads_target}
-use Rattle.laws.proofs.Inside.{leads_inside}
-use Rattle.laws.proofs.Bridge.{some_passes, passes_some}
-use Rattle.laws.proofs.Fixpoints.{IsDecided, IsWithin, in_closed, low_closed}
+use Rattle.laws.proofs.Flags.{under, under_is, under_under, not_flag, same_test}
+use Rattle.formula.proofs.Fixpoints.{IsDecided, IsWithin, in_closed, low_closed}
+use Rattle.formula.proofs.Inside.{leads_inside}
+use Rattle.laws.proofs.Targets.{target_leads, leads_target}
+use Rattle.laws.proofs.Sat.{put, turns, sat, from, put_here, put_other, junction_tells, modality_tells}
 
 -- ---- environments
 
-pub put_other : (u : ℕ → ℕ → Bool) (at : ℕ) (v : ℕ → Bool) (k : ℕ) → k ≢ at → put u at v k ≡ u k
-put_other u at v k out = elim (eq_cases k at) [ inl w ↦ absurd (out w.1) | inr w ↦ ap (λ r. if r then v else u k) w.0 ]
-
-pub put_same : (u : ℕ → ℕ → Bool) (at : ℕ) (v : ℕ → Bool) (k : ℕ) → k ≡ at → put u at v k ≡ v
-put_same u at v k same = elim (eq_cases k at) [ inl w ↦ ap (λ r. if r then v else u k) w.0 | inr w ↦ absurd (w.1 same) ]
-
-pub below_differs : (k at : ℕ) → k < at → k ≢ at
-below_differs k at h = omega arith
-
+-- a number is at most itself
 pub at_most_itself : (n : ℕ) → n ≤ n
 at_most_itself n = omega arith
 
@@ -54,16 +43,12 @@ made l flag step P by lo u F p makes at low v agree s lt =
 
 -- ---- two operands, and binders
 
+-- two operands are the flag where one of them is
 pub two_tells : (l : System) (flag : Bool) (L R : ℕ → Norm) (at : ℕ) (v : ℕ → ℕ → Bool) (s : ℕ) →
     (sat l at (two flag L R at) v s ≡ flag) ↔ ((sat l (at + 1) (L (at + 1)) v s ≡ flag) ⊎ (sat l (at + 1 + size (L (at + 1))) (R (at + 1 + size (L (at + 1)))) v s ≡ flag))
-two_tells l true L R at v s = some_true (sat l (at + 1) (L (at + 1)) v s) (sat l (at + 1 + size (L (at + 1))) (R (at + 1 + size (L (at + 1)))) v s)
-two_tells l false L R at v s = some_false (sat l (at + 1) (L (at + 1)) v s) (sat l (at + 1 + size (L (at + 1))) (R (at + 1 + size (L (at + 1)))) v s)
+two_tells l flag L R at v s = junction_tells flag (sat l (at + 1) (L (at + 1)) v s) (sat l (at + 1 + size (L (at + 1))) (R (at + 1 + size (L (at + 1)))) v s)
 
-pub bound_turns : (l : System) (flag : Bool) (f : Norm) (at : ℕ) (v : ℕ → ℕ → Bool) (s : ℕ) →
-    sat l at (Fixpoint flag f) v s ≡ turns l.states (λ set. sat l (at + 1) f (put v at set)) (λ t. not flag) s
-bound_turns l true f at v s = refl
-bound_turns l false f at v s = refl
-
+-- tests and sets go through their turns together
 pub turns_are : (n k : ℕ) (flag : Bool) (G : (ℕ → Bool) → ℕ → Bool) (F : (ℕ → Type 0) → ℕ → Type 0) (p : ℕ → Bool) (P : ℕ → Type 0) →
     ((v : ℕ → Bool) (V : ℕ → Type 0) → ((t : ℕ) → t < n → (v t ≡ flag) ↔ V t) → (t : ℕ) → t < n → (G v t ≡ flag) ↔ F V t) →
     ((t : ℕ) → t < n → (p t ≡ flag) ↔ P t) → (t : ℕ) → t < n → (turns k G p t ≡ flag) ↔ iterate k F P t
@@ -72,36 +57,14 @@ turns_are n (suc k) flag G F p P step from t lt = step (turns k G p) (iterate k 
 
 -- ---- a step
 
-some_fails : (p : ℕ → Bool) (xs : List ℕ) → list_all p xs ≡ false → (x : ℕ) × Contains xs x × (p x ≡ false)
-some_fails p [] h = absurd (true≢false h)
-some_fails p (x ∷ xs) h = elim ((some_false (p x) (list_all p xs)).0 h) [ inl e ↦ (x, here x xs, e) | inr k ↦ later (some_fails p xs k) ]
-  where
-    later : ((y : ℕ) × Contains xs y × (p y ≡ false)) → (y : ℕ) × Contains (x ∷ xs) y × (p y ≡ false)
-    later w = (w.0, there x w.0 xs w.1, w.2)
-
-fails_some : (p : ℕ → Bool) (xs : List ℕ) (x : ℕ) → Contains xs x → p x ≡ false → list_all p xs ≡ false
-fails_some p [] x h k = absurd (none_in x h)
-fails_some p (y ∷ xs) x h k = elim (in_cons y xs x h) [
-  | inl e ↦ (some_false (p y) (list_all p xs)).1 (inl (ap p e ∙ k))
-  | inr m ↦ (some_false (p y) (list_all p xs)).1 (inr (fails_some p xs x m k))
-]
-
 module _ (l : System) (ok : IsSystem l) where
-  step_tells : (flag : Bool) (a : Action) (f : Norm) (at : ℕ) (v : ℕ → ℕ → Bool) (s : ℕ) → (sat l at (Modality flag a f) v s ≡ flag) ↔ Reaches l flag (Step a) (sat l (at + 1) f v) s
-  step_tells true a f at v s = (
-    λ h. let w = some_passes (sat l (at + 1) f v) (targets l a s) h in (w.0, (target_leads l a s w.0 w.1).1, w.2),
-    λ h. passes_some (sat l (at + 1) f v) (targets l a s) h.0 (leads_target l ok a s h.0 h.1) h.2,
-  )
-  step_tells false a f at v s = (
-    λ h. let w = some_fails (sat l (at + 1) f v) (targets l a s) h in (w.0, (target_leads l a s w.0 w.1).1, w.2),
-    λ h. fails_some (sat l (at + 1) f v) (targets l a s) h.0 (leads_target l ok a s h.0 h.1) h.2,
-  )
-
   step_means : (flag : Bool) (a : Action) → MeansBy l flag (modal flag (Step a)) (Reaches l flag (Step a))
   step_means flag a lo u F p makes at low v agree s lt =
-      let i = step_tells flag a (F (at + 1)) at v s in
-      let same : (t : ℕ) → Leads l (Step a) s t → sat l (at + 1) (F (at + 1)) v t ≡ p t = λ t go. makes (at + 1) (omega arith) v agree t (leads_inside l ok (Step a) s t lt go) in
-      (λ h. let w = i.0 h in (w.0, w.1, sym (same w.0 w.1) ∙ w.2), λ h. i.1 (h.0, h.1, same h.0 h.1 ∙ h.2))
+      let i = modality_tells flag (sat l (at + 1) (F (at + 1)) v) (targets l a s) in
+      let same : (t : ℕ) → Leads l (Step a) s t → sat l (at + 1) (F (at + 1)) v t ≡ p t = λ t go. makes (at + 1) (omega arith) v agree t (leads_inside l ok (Step a) s t lt go) in (
+        λ h. let w = i.0 h in let go = target_leads l a s w.0 w.1 in (w.0, go, sym (same w.0 go) ∙ w.2),
+        λ h. i.1 (h.0, leads_target l ok a s h.0 lt h.1, same h.0 h.1 ∙ h.2),
+      )
 
   -- ---- one regular formula after another step
 
@@ -113,7 +76,8 @@ module _ (l : System) (ok : IsSystem l) where
         λ h. i.1 (h.0, h.1, (second lo u F p makes lo (at_most_itself lo) u (λ b h. refl) h.0 (leads_inside l ok r s h.0 lt h.1)).1 h.2),
       )
 
-  either_means : (flag : Bool) (r q : Regular) → MeansBy l flag (modal flag r) (Reaches l flag r) → MeansBy l flag (modal flag q) (Reaches l flag q) → MeansBy l flag (modal flag (Either r q)) (Reaches l flag (Either r q))
+  either_means : (flag : Bool) (r q : Regular) → MeansBy l flag (modal flag r) (Reaches l flag r) → MeansBy l flag (modal flag q) (Reaches l flag q)
+      → MeansBy l flag (modal flag (Either r q)) (Reaches l flag (Either r q))
   either_means flag r q first second lo u F p makes at low v agree s lt =
       let i = two_tells l flag (modal flag r F) (modal flag q F) at v s in
       let j = first lo u F p makes (at + 1) (omega arith) v agree s lt in
@@ -133,10 +97,10 @@ module _ (l : System) (ok : IsSystem l) where
     wave U s = (p s ≡ flag) ⊎ ((t : ℕ) × Leads l r s t × U t)
 
     var_makes : (x : ℕ → Bool) → Makes l (at + 1) (put v at x) (λ _. Variable at) x
-    var_makes x place above w same s lt = ap (λ g. g s) (same at (omega arith) ∙ put_same v at x at refl)
+    var_makes x place above w same s lt = ap (λ g. g s) (same at (omega arith) ∙ put_here v at x at refl)
 
     still : (x : ℕ → Bool) → Agree lo u (put v at x)
-    still x b h = put_other v at x b (omega arith) ∙ agree b h
+    still x b h = put_other v at x b (λ e. omega arith) ∙ agree b h
 
     turn_tells : (x : ℕ → Bool) (s : ℕ) → s < l.states → (turn x s ≡ flag) ↔ ((p s ≡ flag) ⊎ Reaches l flag r x s)
     turn_tells x s lt =
@@ -177,10 +141,9 @@ module _ (l : System) (ok : IsSystem l) where
 
     loop_tells : (s : ℕ) → s < l.states → (sat l at (loop_of flag (modal flag r) F at) v s ≡ flag) ↔ Reaches l flag (Star r) p s
     loop_tells s lt =
-        let e = bound_turns l flag (two flag F (modal flag r (λ _. Variable at)) (at + 1)) at v s in
-        let i = turns_are l.states l.states flag turn wave (λ t. not flag) (λ t. ⊥) turn_waves (λ t tl. (λ h. not_flag flag h, λ h. absurd h)) s lt in (
-          λ h. in_closed l.states wave wave_grows (λ s. Reaches l flag (Star r) p s) inward l.states s lt (i.0 (sym e ∙ h)),
-          λ h. e ∙ i.1 (along s h.1.0 h.0 lt h.1.1 h.2),
+        let i = turns_are l.states l.states flag turn wave (from flag) (λ t. ⊥) turn_waves (λ t tl. (λ h. not_flag flag h, λ h. absurd h)) s lt in (
+          λ h. in_closed l.states wave wave_grows (λ s. Reaches l flag (Star r) p s) inward l.states s lt (i.0 h),
+          λ h. i.1 (along s h.1.0 h.0 lt h.1.1 h.2),
         )
 
   loop_means : (flag : Bool) (r : Regular) → MeansBy l flag (modal flag r) (Reaches l flag r) → MeansBy l flag (loop_of flag (modal flag r)) (Reaches l flag (Star r))
@@ -194,5 +157,6 @@ module _ (l : System) (ok : IsSystem l) where
   modal_means (Either r q) flag lo u F p makes at low v agree s lt = either_means flag r q (modal_means r flag) (modal_means q flag) lo u F p makes at low v agree s lt
   modal_means (Star r) flag lo u F p makes at low v agree s lt = loop_means flag r (modal_means r flag) lo u F p makes at low v agree s lt
   modal_means (Plus r) flag lo u F p makes at low v agree s lt =
-      let i = after_means flag r (loop_of flag (modal flag r)) (Reaches l flag (Star r)) (modal_means r flag) (loop_means flag r (modal_means r flag)) lo u F p makes at low v agree s lt in
+      let i = after_means flag r (loop_of flag (modal flag r)) (Reaches l flag (Star r)) (modal_means r flag)
+      (loop_means flag r (modal_means r flag)) lo u F p makes at low v agree s lt in
       (λ h. let w = i.0 h in (w.2.0, (w.0, w.2.1.0, w.1, w.2.1.1), w.2.2), λ h. i.1 (h.1.0, h.1.2, (h.0, (h.1.1, h.1.3), h.2)))

@@ -1,32 +1,37 @@
--- Even wins where the normal form holds.
-use Rattle.std.proofs.Common.{◌≡◌, ℕ, ◌+◌, ◌<◌, ◌≤◌, ◌⊎◌, Bool, true, ◌&&◌, ◌||◌, List, [], ◌∷◌, length, refl, sym, ap, ap₂, ◌∙◌, subst, inl, inr, true≢false, arith, false}
+-- Even wins where the nodes' sets hold.
+use Rattle.std.proofs.Common.{◌≡◌, ℕ, ◌+◌, ◌<◌, ◌≤◌, ◌⊎◌, Bool, true, ◌&&◌, ◌||◌, List, [], ◌∷◌, length, refl, sym, ap, ap₂, ◌∙◌, subst, inl, inr, arith}
 use Rattle.std.specs.Prelude.{Contains, Option, Some, ◌*◌, ◌/◌, ◌%◌, ◌-◌, ◌≢◌, max, IsTrue, nat_le, nat_lt, ◌==◌, if◌then◌else◌}
 use Rattle.std.proofs.lemmas.Nat.{div-add-mod', div-mul-add}
 use Rattle.std.proofs.lemmas.Bool.{lt-ltb, ltb-true, eqb-true}
-use Rattle.std.proofs.lemmas.Bool.Decides.{eqb_tells, leb_tells}
+use Rattle.std.proofs.lemmas.Bool.Decides.{eqb_tells}
 use Rattle.std.proofs.lemmas.Option.{slice_get_within}
 use Rattle.lts.specs.System.{System}
 use Rattle.lts.specs.Path.{IsPath}
+use Rattle.formula.specs.Meaning.{no_sets}
 use Rattle.normal.specs.Tree.{Norm, size, Shape}
 use Rattle.normal.specs.Nodes.{Node}
 use Rattle.game.specs.declared.player.Player.TheVariants.{Even}
 use Rattle.game.specs.Game.{Vertex, vertex, Game}
 use Rattle.game.specs.Arena.{place, arena, owner_of, successors_of, vertex_of}
 use Rattle.game.specs.Wins.{Edge, IsStrategy, greatest_met, priority_at}
-use Rattle.laws.specs.Sat.{sets, choose, IsNext, Moves, IsChoice}
-use Rattle.laws.specs.Law.{shape_in, priority_in, nothing, IsNodes, Holds, Complete}
-use Rattle.laws.proofs.Mono.{both, and_true, either, or_right, if_false}
-use Rattle.laws.proofs.Moves.{IsWithin, size_some, stay}
-use Rattle.laws.proofs.Closed.{closed, moves_below}
+use Rattle.laws.specs.Admissible.{IsNodes, priority_in}
+use Rattle.laws.specs.Laws.{MeaningWins}
+use Rattle.laws.proofs.Flags.{both, and_true, either, or_right, if_false, le_true, true_le}
+use Rattle.laws.proofs.Sat.{sets, nothing}
+use Rattle.laws.proofs.Trees.{IsWithin, size_some, Binds, from_free}
+use Rattle.laws.proofs.Moves.{choose, IsNext, Moves, IsChoice, moves_below, stay}
+use Rattle.laws.proofs.Closed.{closed, choices}
 use Rattle.laws.proofs.Paths.{path_into, met}
 use Rattle.laws.proofs.Cycles.{IsMove, cycles}
-use Rattle.laws.proofs.Choices.{choices}
-use Rattle.laws.proofs.Table.{laid, length_nodes, node_in}
-use Rattle.laws.proofs.Vertices.{vertex_is, to_vertex, own_of, IsLed, led}
+use Rattle.laws.proofs.Vertices.{shape_in, node_in, laid, count_nodes, vertex_is}
+use Rattle.laws.proofs.Edges.{to_vertex, own_of, IsLed, led}
+use Rattle.laws.proofs.Spelled.{node_within, sets_mean}
 
+-- the state of a vertex
 abbrev pub st : ℕ → ℕ → ℕ
 st n u = (u - 2) / n
 
+-- the node of a vertex
 abbrev pub nd : ℕ → ℕ → ℕ
 nd n u = (u - 2) % n
 
@@ -43,12 +48,6 @@ nd_place n s k h =
     let r = ap (λ x. x * n) (div-mul-add s n k h) in
     let w : (s * n + k) % n ≡ k = omega arith in
     ap (λ x. x % n) e ∙ w
-
-le_true : (a b : ℕ) → a ≤ b → nat_le a b ≡ true
-le_true a b h = elim (leb_tells a b) [ inl x ↦ x.0 | inr x ↦ absurd (let y = x.1 in omega arith) ]
-
-true_le : (a b : ℕ) → nat_le a b ≡ true → a ≤ b
-true_le a b h = elim (leb_tells a b) [ inl x ↦ x.1 | inr x ↦ absurd (true≢false (sym h ∙ x.0)) ]
 
 is_zero : (u : ℕ) → (u == 0) ≡ true → u ≡ 0
 is_zero u h = eqb-true u 0 h
@@ -77,11 +76,18 @@ module _ (l : System) (f : Norm) (nodes : List Node) (ok : IsNodes f nodes) wher
   abbrev chosen : ℕ → ℕ
   chosen u = choose l 0 f nothing (nd n u) (st n u)
 
+  -- the state belongs to the set of the node
+  abbrev Holds : ℕ → ℕ → Type 0
+  Holds s k = sets l 0 f nothing k s ≡ true
+
+  free : Binds (λ b. ⊥) 0 f
+  free = from_free (λ b. ⊥) 0 f ok.closed
+
   -- a state with a node, to whose set it belongs
   record IsSeat (u : ℕ) : Type 0 where
     two : 2 ≤ u
     state : st n u < l.states
-    holds : Holds l f (st n u) (nd n u)
+    holds : Holds (st n u) (nd n u)
 
   abbrev set : ℕ → Bool
   set u = (u == 0) || (nat_le 2 u && (nat_lt (st n u) l.states && sets l 0 f nothing (nd n u) (st n u)))
@@ -90,7 +96,7 @@ module _ (l : System) (f : Norm) (nodes : List Node) (ok : IsNodes f nodes) wher
   choice u = if u == 0 then 0 else to_vertex n (look (nd n u)) (chosen u) (st n u)
 
   many : n ≡ size f
-  many = length_nodes nodes f ok.shapes
+  many = count_nodes f nodes ok
 
   some : 1 ≤ n
   some = let e = many in let h = size_some f in omega arith
@@ -119,11 +125,11 @@ module _ (l : System) (f : Norm) (nodes : List Node) (ok : IsNodes f nodes) wher
   zero_in : (u : ℕ) → u ≡ 0 → IsTrue (set u)
   zero_in u e = subst (λ x. IsTrue (set x)) (sym e) refl
 
-  seat : (s k : ℕ) → s < l.states → k < n → Holds l f s k → IsSeat (place n s k)
+  seat : (s k : ℕ) → s < l.states → k < n → Holds s k → IsSeat (place n s k)
   seat s k hs hk x = record {
     two = omega arith;
     state = subst (λ y. y < l.states) (sym (st_place n s k hk)) hs;
-    holds = subst (λ y. Holds l f y (nd n (place n s k))) (sym (st_place n s k hk)) (subst (λ y. Holds l f s y) (sym (nd_place n s k hk)) x);
+    holds = subst (λ y. Holds y (nd n (place n s k))) (sym (st_place n s k hk)) (subst (λ y. Holds s y) (sym (nd_place n s k hk)) x);
   }
 
   -- the vertex at a seat
@@ -139,10 +145,11 @@ module _ (l : System) (f : Norm) (nodes : List Node) (ok : IsNodes f nodes) wher
       record { node = k.0; shape = k.2; priority = k.3; vertex_at = ap (vertex g) (place_of n u x.two) ∙ vertex_is l nodes (st n u) (nd n u) k.0 x.state k.1 }
 
   is_choice : (u : ℕ) → IsSeat u → IsChoice l (look (nd n u)) (chosen u) (st n u)
-  is_choice u x = choices l look 0 f nothing (laid nodes f ok.shapes) (st n u) (nd n u) (within (nd n u) (node_below u)) x.holds
+  is_choice u x = choices l look 0 f nothing (laid f nodes ok) (st n u) (nd n u) (within (nd n u) (node_below u)) x.holds
 
   choice_at : (u : ℕ) → IsSeat u → choice u ≡ to_vertex n (look (nd n u)) (chosen u) (st n u)
-  choice_at u x = if_false (u == 0) 0 (to_vertex n (look (nd n u)) (chosen u) (st n u)) (elim (eqb_tells u 0) [ inl e ↦ absurd (let q = e.1 in let t = x.two in omega arith) | inr e ↦ e.0 ])
+  choice_at u x = if_false (u == 0) 0 (to_vertex n (look (nd n u)) (chosen u) (st n u))
+      (elim (eqb_tells u 0) [ inl e ↦ absurd (let q = e.1 in let t = x.two in omega arith) | inr e ↦ e.0 ])
 
   edge_at : (u t : ℕ) → IsSeat u → Edge Even g choice u t → (t ≡ 0) ⊎ IsLed l n (look (nd n u)) (chosen u) (st n u) t
   edge_at u t x (v, is, how) =
@@ -160,10 +167,11 @@ module _ (l : System) (f : Norm) (nodes : List Node) (ok : IsNodes f nodes) wher
   move_at : (u t : ℕ) → IsSeat u → IsLed l n (look (nd n u)) (chosen u) (st n u) t → IsSeat t × Move u t
   move_at u t x y =
       let w = within (nd n u) (node_below u) in
-      let to : IsWithin 0 f y.node = elim (stay look (λ b. ⊥) 0 f (laid nodes f ok.shapes) ok.bound (nd n u) y.node w y.next) [ inl a ↦ a | inr a ↦ absurd a ] in
+      let to : IsWithin 0 f y.node = elim (stay look (λ b. ⊥) 0 f (laid f nodes ok) free (nd n u) y.node w y.next) [ inl a ↦ a | inr a ↦ absurd a ] in
       let below : y.node < n = let e = many in let h = to.to in omega arith in
       let state : y.state < l.states = moves_below l (look (nd n u)) (chosen u) (st n u) y.state y.node x.state y.moves in
-      let there : Holds l f y.state y.node = closed l look (λ b. ⊥) 0 f nothing (laid nodes f ok.shapes) ok.bound (λ b z. absurd z) (st n u) (nd n u) y.state y.node w x.state x.holds (y.next, y.moves) in
+      let there : Holds y.state y.node = closed l look (λ b. ⊥) 0 f nothing (laid f nodes ok) free (λ b z. absurd z) (st n u) (nd n u) y.state y.node w x.state x.holds
+      (y.next, y.moves) in
       let s : st n t ≡ y.state = ap (st n) y.is ∙ st_place n y.state y.node below in
       let k : nd n t ≡ y.node = ap (nd n) y.is ∙ nd_place n y.state y.node below in
       let z : IsSeat t = subst IsSeat (sym y.is) (seat y.state y.node state below there) in (
@@ -185,7 +193,8 @@ module _ (l : System) (f : Norm) (nodes : List Node) (ok : IsNodes f nodes) wher
   zero_edge : (u t : ℕ) → u ≡ 0 → Edge Even g choice u t → t ≡ 0
   zero_edge u t e (v, is, inl o) = o.1 ∙ ap choice e
   zero_edge u t e (v, is, inr o) =
-      let q : v ≡ record { owner = Even; priority = 0; successors = 0 ∷ [] } = some_same v (record { owner = Even; priority = 0; successors = 0 ∷ [] }) (vertex g u) is (ap (vertex g) e) in
+      let q : v ≡ record { owner = Even; priority = 0; successors = 0 ∷ [] } = some_same v (record { owner = Even; priority = 0; successors = 0 ∷ [] }) (vertex g u) is
+      (ap (vertex g) e) in
       absurd (o.0 (ap (λ (y : Vertex). y.owner) q))
 
   zeros : (u : ℕ) (vs : List ℕ) (t : ℕ) → u ≡ 0 → IsPath (Edge Even g choice) u vs t → greatest_met g vs ≡ 0
@@ -217,7 +226,7 @@ module _ (l : System) (f : Norm) (nodes : List Node) (ok : IsNodes f nodes) wher
             let b = path_into IsSeat (λ v w. Edge Even g choice v w × (w ≡ 0 → ⊥)) (λ v w. Move v w × IsSeat w)
             (λ v w y z. elim (edge_at v w y z.0) [ inl e ↦ absurd (z.1 e) | inr d ↦ (let r = move_at v w y d in (r.0, (r.1, r.0))) ]) u (m ∷ vs) u x a in
             ap (λ x. x % 2) (met_same u (m ∷ vs) u b.0)
-            ∙ cycles l look prio (st n) (nd n) (λ b. ⊥) 0 f nothing (laid nodes f ok.shapes) ok.bound (λ b z. absurd z) ok.admissible u m vs (move_only u (m ∷ vs) u b.0))
+            ∙ cycles l look prio (st n) (nd n) (λ b. ⊥) 0 f nothing (laid f nodes ok) free (λ b z. absurd z) ok.admissible u m vs (move_only u (m ∷ vs) u b.0))
       ]
 
   strategy : IsStrategy Even g set choice
@@ -228,7 +237,8 @@ module _ (l : System) (f : Norm) (nodes : List Node) (ok : IsNodes f nodes) wher
     ];
     own = λ u v h is o. elim (in_set u h) [
       | inl e ↦ (
-          let q : v ≡ record { owner = Even; priority = 0; successors = 0 ∷ [] } = some_same v (record { owner = Even; priority = 0; successors = 0 ∷ [] }) (vertex g u) is (ap (vertex g) e) in
+          let q : v ≡ record { owner = Even; priority = 0; successors = 0 ∷ [] } = some_same v (record { owner = Even; priority = 0; successors = 0 ∷ [] })
+          (vertex g u) is (ap (vertex g) e) in
           subst (λ (y : Vertex). Contains y.successors (choice u)) (sym q) (0, omega arith, sym (ap choice e)))
       | inr x ↦ (
           let a = at_seat u x in
@@ -245,14 +255,28 @@ module _ (l : System) (f : Norm) (nodes : List Node) (ok : IsNodes f nodes) wher
     cycles = λ u vs h more p. cycle u vs h more p;
   }
 
-pub complete : Complete
-complete l f nodes ok = record {
-  set = set l f nodes ok;
-  choice = choice l f nodes ok;
-  strategy = strategy l f nodes ok;
-  has = λ s k hs hk x. set_in l f nodes ok (place (length nodes) s k) (seat l f nodes ok s k hs hk x);
-  only = λ u h. elim (in_set l f nodes ok u h) [
-    | inl e ↦ inl e
-    | inr x ↦ inr (st (length nodes) u, nd (length nodes) u, x.state, node_below l f nodes ok u, place_of (length nodes) u x.two, x.holds)
-  ];
-}
+-- at the meanings of the nodes
+pub meaning_wins : MeaningWins
+meaning_wins l f nodes system ok =
+    let e = count_nodes f nodes ok in
+    record {
+      set = set l f nodes ok;
+      choice = choice l f nodes ok;
+      strategy = strategy l f nodes ok;
+      has = λ s k h x.
+          let i = node_within l 0 f no_sets k s x in
+          let to = i.to in
+          set_in l f nodes ok (place (length nodes) s k) (seat l f nodes ok s k h (omega arith) ((sets_mean l f system s k h (omega arith)).0 x));
+      only = λ u h. elim (in_set l f nodes ok u h) [
+        | inl z ↦ inl z
+        | inr x ↦ (
+            let b = node_below l f nodes ok u in
+            inr (
+              st (length nodes) u,
+              nd (length nodes) u,
+              x.state,
+              place_of (length nodes) u x.two,
+              (sets_mean l f system (st (length nodes) u) (nd (length nodes) u) x.state (omega arith)).1 x.holds,
+            ))
+      ];
+    }

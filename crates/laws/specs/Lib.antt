@@ -1,5 +1,3 @@
-pub mod Sat
-pub mod Trees
-pub mod Law
-pub mod Soundness
-pub mod NormalForm
+pub mod Admissible
+pub mod NodeMeaning
+pub mod Laws

@@ -1,26 +1,66 @@
-// The laws that join systems, formulas, games and measures.
+// The law that joins systems, formulas, parity games and progress measures.
 #![tactic(auto)]
 
-ghost use Rattle.laws.specs.Law.{NestedIsAdmissible, NodesWin};
-ghost use Rattle.laws.specs.NormalForm.{NormalFormMeans};
-ghost use Rattle.laws.specs.Soundness.{NodesAreSound};
+ghost use Rattle.laws.specs.Laws.{
+  AdmissibleFromInside,
+  EvenWinsFormula,
+  EvenWinsWhereMeant,
+  LeastTableDecides,
+  LeastTableFormula,
+  MeaningWins,
+  NestedIsAdmissible,
+  NestedTableDecides,
+  NestedWins,
+  NodesFollow,
+  NormalFormMeans,
+  TablesAreSound,
+};
 
-/// The normal form means what the formula means.
+/// The normal form of an admitted formula holds at the states where the formula does (Kozen 1983, Results on the propositional mu-calculus,
+/// has the equations behind it).
 pub fn normal_form_means()
     ensures { NormalFormMeans }
 {}
 
-/// The nested rule gives admissible priorities.
+/// Each node by a rule of priorities has its part's shape and the rule's priority: with this a rule is shown to be admissible.
+pub fn nodes_follow()
+    ensures { NodesFollow }
+{}
+
+/// Priorities are admissible exactly where each binder's is at least that of each binder inside it in whose subformula its variable is free.
+pub fn admissible_from_inside()
+    ensures { AdmissibleFromInside }
+{}
+
+/// The nested rule gives admissible priorities, and an admitted formula's normal form is closed.
 pub fn nested_is_admissible()
     ensures { NestedIsAdmissible }
 {}
 
-/// Where a progress table is not top the state is in the meaning of the node.
+/// Where the value of a progress table isn't top, least or not, the state is in the meaning of the node.
 pub fn tables_are_sound()
-    ensures { NodesAreSound }
+    ensures { TablesAreSound }
 {}
 
-/// Even wins where the state is in the meaning of the node.
-pub fn even_wins()
-    ensures { NodesWin }
+/// By one choice Even wins at each state with each node in whose meaning the state is, and nowhere else but at the true sink.
+pub fn meaning_wins()
+    ensures { MeaningWins }
+{}
+
+/// Even wins exactly where the state is in the meaning of the node: for every admissible assignment of priorities.
+pub fn even_wins_where_meant()
+    ensures node { EvenWinsWhereMeant }
+    ensures root { EvenWinsFormula }
+{}
+
+/// The least progress table isn't top exactly where the state is in the meaning of the node: for every admissible assignment of priorities.
+pub fn least_table_decides()
+    ensures node { LeastTableDecides }
+    ensures root { LeastTableFormula }
+{}
+
+/// With the nested priorities the game decides the formula: by its winner at the root, and by the least progress table's value there.
+pub fn formula_is_decided()
+    ensures least { NestedTableDecides }
+    ensures wins { NestedWins }
 {}

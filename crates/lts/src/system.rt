@@ -48,7 +48,8 @@ impl Lts {
 
     /// The state in which the system begins.
     pub fn initial(&self) -> u32
-        ensures { result ≡ self.now.system.initial }
+        ensures value { result ≡ self.now.system.initial }
+        ensures inside { result < self.now.system.states }
     {
         self.initial
     }

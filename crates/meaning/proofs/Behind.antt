@@ -1,5 +1,5 @@
 -- What the signs behind a regular formula come to.
-use Rattle.std.proofs.Common.{◌≡◌, ℕ, ◌+◌, ◌≤◌, ◌<◌, ◌↔◌, Bool, true, false, List, [], ◌∷◌, ◌++◌, max, subst, sym, arith}
+use Rattle.std.proofs.Common.{◌≡◌, ℕ, ◌+◌, ◌≤◌, ◌↔◌, Bool, true, false, List, [], ◌∷◌, ◌++◌, max, subst, sym, arith}
 use Rattle.std.specs.Prelude.{MatchBool}
 use Rattle.lts.specs.Path.{IsPath}
 use Rattle.lts.specs.System.{System}

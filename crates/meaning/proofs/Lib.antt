@@ -6,3 +6,4 @@ pub mod Arrows
 pub mod Regulars
 pub mod Iterated
 pub mod Growth
+pub mod Extremes

@@ -1,3 +1,4 @@
+pub mod Extreme
 pub mod Into
 pub mod Scope
 pub mod Signs

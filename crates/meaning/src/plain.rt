@@ -1,9 +1,12 @@
 // A slow evaluator over sets of states.
 
-ghost use Rattle.std.specs.Prelude.{◌≡◌, IfOk, IsTrue};
+ghost use Rattle.std.specs.Prelude.{◌≡◌, ℕ, List, IfOk, IsTrue};
+ghost use Rattle.lts.specs.System.{IsSystem};
+ghost use Rattle.formula.specs.Tree.{Formula, Mu, Nu};
 ghost use Rattle.formula.specs.View.{formula_of};
 ghost use Rattle.formula.specs.Closed.{closed_formula};
 ghost use Rattle.formula.specs.Meaning.{Satisfies, mean, Marks, iterate, with_set};
+ghost use Rattle.meaning.specs.Extreme.{IsLeast, IsGreatest};
 ghost use Rattle.meaning.specs.Scope.{sets_of, FitsScope};
 
 use crate::regular::leading;
@@ -71,7 +74,8 @@ fn marks_of<'x>(
     scope: &'x Scope<'x>,
 ) -> Result<Vec<bool>, AllocError>
     requires { FitsScope lts.now.system.states scope.now }
-    ensures { IfOk result (λ marks. Marks lts.now.system.states marks.items (mean lts.now.system (formula_of formula.now) (sets_of scope.now))) }
+    ensures marks { IfOk result (λ marks. Marks lts.now.system.states marks.items (mean lts.now.system (formula_of formula.now) (sets_of scope.now))) }
+    ensures known { IsSystem lts.now.system }
 {
     let count = lts.states() as usize;
     match formula {
@@ -114,6 +118,8 @@ fn marks_of<'x>(
 /// A mark for each state, true where the formula holds, by sets of states alone (Kozen 1983).
 pub fn plain_states(alloc: Global, lts: &Lts, formula: &Closed) -> Result<Vec<bool>, Memory>
     ensures meaning { IfOk result (λ marks. Marks lts.now.system.states marks.items (Satisfies lts.now.system (closed_formula formula.now))) }
+    ensures least { IfOk result (λ marks. (name : List ℕ) (f : Formula) → closed_formula formula.now ≡ Mu name f → IsLeast lts.now.system name f marks.items) }
+    ensures greatest { IfOk result (λ marks. (name : List ℕ) (f : Formula) → closed_formula formula.now ≡ Nu name f → IsGreatest lts.now.system name f marks.items) }
 {
     Ok(marks_of(alloc, lts, formula.tree(), &Scope::Empty)?)
 }

@@ -1,10 +1,10 @@
 -- The components, and measures that have a count for each of them.
-use Rattle.std.proofs.Common.{◌≡◌, ℕ, zero, suc, ◌<◌, ◌≤◌, ◌⊎◌, Bool, true, false, List, [], ◌∷◌, map, refl, sym, ap, subst, ◌∙◌, inl, inr, arith, true≢false, if◌then◌else◌, count_by, None, nat_le}
+use Rattle.std.proofs.Common.{append_assoc, ◌++◌, ◌≡◌, ℕ, zero, suc, ◌+◌, ◌-◌, ◌/◌, ◌%◌, length, ◌<◌, ◌≤◌, ◌⊎◌, Bool, true, false, List, [], ◌∷◌, map, refl, sym, ap, subst, ◌∙◌, inl, inr, arith, true≢false, if◌then◌else◌, count_by, None, nat_le}
 use Rattle.std.specs.List.{AllByRecursion}
 use Rattle.std.proofs.lemmas.Bool.Decides.{leb_tells}
 use Rattle.game.specs.Game.{Vertex, Game, vertex, greatest, greatest_of}
 use Rattle.game.specs.Wins.{priority_at}
-use Rattle.measures.specs.Measure.{is_odd, odd_down}
+use Rattle.measures.specs.Measure.{components, is_odd, kept, odd_down}
 use Rattle.measures.proofs.Lists.{count_yes, count_no}
 use Rattle.measures.proofs.Order.{Over}
 use Rattle.measures.proofs.Cycles.{priority, odd_or_even}
@@ -19,6 +19,16 @@ odd_down_odd (suc n) = by (odd_down_odd n) (is_odd (suc n)) refl
     by : AllOdd (odd_down n) → (b : Bool) → is_odd (suc n) ≡ b → AllOdd (if b then suc n ∷ odd_down n else odd_down n)
     by h true e = (e, h)
     by h false e = h
+
+-- an odd number comes first, and the smaller ones follow
+pub map_odd_down : (f : ℕ → ℕ) (n p : ℕ) (xs ys : List ℕ) → p ≡ suc n → n % 2 ≡ 0 → xs ++ map f (odd_down p) ≡ ys → (xs ++ f (n + 1) ∷ []) ++ map f (odd_down n) ≡ ys
+map_odd_down f n p xs ys e even whole = elim (odd_or_even (suc n)) [
+  | inl w ↦ (
+      let one : suc n ≡ n + 1 = omega arith in
+      let down : odd_down p ≡ (n + 1) ∷ odd_down n = ap odd_down e ∙ (ap (λ b. if b then suc n ∷ odd_down n else odd_down n) w.0 ∙ ap (λ k. k ∷ odd_down n) one) in
+      append_assoc xs (f (n + 1) ∷ []) (map f (odd_down n)) ∙ (ap (λ ps. xs ++ map f ps) (sym down) ∙ whole))
+  | inr w ↦ (let m = w.1 in absurd (omega arith))
+]
 
 abbrev kept_down : ℕ → ℕ → ℕ
 kept_down q n = count_by (λ r. nat_le q r) (odd_down n)
@@ -36,6 +46,30 @@ none_kept q (suc n) h = by (none_kept q n (omega arith)) (is_odd (suc n))
     by : kept_down q n ≡ 0 → (b : Bool) → count_by (λ r. nat_le q r) (if b then suc n ∷ odd_down n else odd_down n) ≡ 0
     by e true = count_no (λ r. nat_le q r) (suc n) (odd_down n) (le_no q (suc n) h) ∙ e
     by e false = e
+
+-- of the numbers up to n every other one is odd
+pub odd_down_long : (n : ℕ) → length (odd_down n) ≡ (n + 1) / 2
+odd_down_long zero = refl
+odd_down_long (suc n) = by (odd_down_long n) (odd_or_even (suc n))
+  where
+    by : length (odd_down n) ≡ (n + 1) / 2 → ((is_odd (suc n) ≡ true) × (suc n % 2 ≡ 1)) ⊎ ((is_odd (suc n) ≡ false) × (suc n % 2 ≡ 0)) → length (odd_down (suc n)) ≡ (suc n + 1) / 2
+    by e (inl w) = let odd = w.1 in rw w.0 (omega arith)
+    by e (inr w) = let even = w.1 in rw w.0 (omega arith)
+
+kept_down_is : (q n : ℕ) → kept_down q n ≡ (n + 1) / 2 - q / 2
+kept_down_is q zero = let half : (0 + 1) / 2 ≡ 0 = omega arith in omega (arith, half)
+kept_down_is q (suc n) = by (kept_down_is q n) (odd_or_even (suc n))
+  where
+    by : kept_down q n ≡ (n + 1) / 2 - q / 2 → ((is_odd (suc n) ≡ true) × (suc n % 2 ≡ 1)) ⊎ ((is_odd (suc n) ≡ false) × (suc n % 2 ≡ 0)) → kept_down q (suc n) ≡ (suc n + 1) / 2 - q / 2
+    by e (inl w) = elim (leb_tells q (suc n)) [
+      | inl y ↦ (let odd = w.1 in let low = y.1 in rw w.0 (count_yes (λ r. nat_le q r) (suc n) (odd_down n) y.0 ∙ omega arith))
+      | inr y ↦ (let odd = w.1 in let high = y.1 in rw w.0 (count_no (λ r. nat_le q r) (suc n) (odd_down n) y.0 ∙ omega arith))
+    ]
+    by e (inr w) = let even = w.1 in rw w.0 (omega arith)
+
+-- how many components stand at or above a priority
+pub kept_is : (g : Game) (p : ℕ) → kept g p ≡ length (components g) - p / 2
+kept_is g p = let e = kept_down_is p (greatest g) in let l = odd_down_long (greatest g) in omega arith
 
 module _ (q : ℕ) (f h : ℕ → ℕ) (more : (p : ℕ) → is_odd p ≡ true → q ≤ p → f p ≤ h p) (still : is_odd q ≡ true → f q < h q) where
   abbrev Down : List ℕ → Type 0

@@ -21,6 +21,7 @@ pub dual_game : (g : Game) → IsGame g → greatest g ≤ 31 → IsGame (dual g
 dual_game g game l = record {
   limit = (let a = game.limit in omega (arith, a, long_dual g));
   vertices = turned_all (length g.vertices) (length (dual g).vertices) g.vertices (sym (long_dual g)) game.vertices l;
+  named = λ states nodes e. absurd cc;
 }
 
 top_or : (m : Measure) → (m ≡ Top) ⊎ (m ≢ Top)

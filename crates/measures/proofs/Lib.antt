@@ -9,6 +9,13 @@ pub mod Distinct
 pub mod Rests
 pub mod Visits
 pub mod Components
+pub mod Carry
+pub mod Greatest
+pub mod Bests
+pub mod Stored
+pub mod Plain
+pub mod Reaching
+pub mod Settling
 pub mod StrategyTable
 pub mod LeastDecides
 pub mod NotBoth

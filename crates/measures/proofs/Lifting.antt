@@ -5,11 +5,11 @@ use Rattle.std.proofs.lemmas.List.{ext_get_or}
 use Rattle.game.specs.Game.{Game, IsGame}
 use Rattle.measures.specs.Measure.{Measure, Top, IsMeasure, IsAtMost}
 use Rattle.measures.specs.Progress.{IsLeastTable, IsProgress, IsTable, opening, value_at}
-use Rattle.measures.specs.Lifting.{IsLifted, AreLifts, AreRises, height, rank}
+use Rattle.measures.specs.Lifting.{sum_of, IsLifted, AreLifts, AreRises, height, rank}
 use Rattle.measures.proofs.Lists.{all_from}
 use Rattle.measures.proofs.Measures.{at_most_itself}
 use Rattle.measures.proofs.Lifts.{value_measure}
-use Rattle.measures.proofs.Rests.{total, total_bounded, total_same}
+use Rattle.measures.proofs.Rests.{total_bounded, total_same}
 use Rattle.measures.proofs.Monotone.{LiesUnder, lift_measure, lift_rises, lift_under}
 use Rattle.measures.proofs.Ranks.{rank_bounded, rank_more, rank_same}
 use Rattle.measures.proofs.Opening.{opening_table, opening_under}
@@ -41,9 +41,6 @@ lifted_table g table new is l = (l.long ∙ is.0, all_from (IsMeasure g) new Top
       | inl w ↦ subst (λ u. IsMeasure g (value_at new u)) (sym w.1) (lift_measure g table is l.at (value_at new l.at) l.lift)
       | inr w ↦ subst (IsMeasure g) (sym (l.others v w.1)) (value_measure g table is.1 v)
     ]
-
-abbrev pub sum_of : Game → List Measure → ℕ
-sum_of g table = total (λ v. rank g (value_at table v)) (length g.vertices)
 
 -- a lift that changes the table raises the sum of its ranks
 pub sum_rises : (g : Game) (table new : List Measure) → IsTable g table → IsLifted g table new → table ≢ new → sum_of g table < sum_of g new

@@ -99,3 +99,13 @@ all_map P f (x ∷ xs) h = (h x, all_map P f xs h)
 pub zip_from : {X Y : Type 0} (R : Y → X → Type 0) (P : X → Type 0) (f : X → Y) (ps : List X) → AllByRecursion P ps → ((p : X) → P p → R (f p) p) → AllZip R (map f ps) ps
 zip_from R P f [] h make = tt
 zip_from R P f (p ∷ ps) h make = (make p h.0, zip_from R P f ps h.1 make)
+
+pub all_or_inside : {X : Type 0} (P : X → Type 0) (xs : List X) (i : ℕ) (d : X) → AllByRecursion P xs → i < length xs → P (slice_index_or xs i d)
+all_or_inside P [] i d h l = absurd (omega arith)
+all_or_inside P (y ∷ ys) zero d h l = h.0
+all_or_inside P (y ∷ ys) (suc i) d h l = all_or_inside P ys i d h.1 (omega arith)
+
+pub index-map : {X Y : Type 0} (f : X → Y) (xs : List X) (i : ℕ) (d : X) (e : Y) → i < length xs → slice_index_or (map f xs) i e ≡ f (slice_index_or xs i d)
+index-map f [] i d e l = absurd (omega arith)
+index-map f (x ∷ xs) zero d e l = refl
+index-map f (x ∷ xs) (suc i) d e l = index-map f xs i d e (omega arith)

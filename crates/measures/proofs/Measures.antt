@@ -83,20 +83,27 @@ own_greater own best h = by (is_lt (measure_cmp own best)) refl
     by true e = absurd (not_below own best e h)
     by false e = rw e refl
 
+-- the greater of two is the second where the first is less
+pub greater_taken : (own best : Measure) → IsBelow own best → best ≡ greater_of own best
+greater_taken own best h = ap (λ b. if b then best else own) (sym h)
+
+pub greater_left : (own best : Measure) → (IsBelow own best → ⊥) → own ≡ greater_of own best
+greater_left own best n = elim (at_most_or_below own best) [ inl b ↦ absurd (n b) | inr a ↦ sym (own_greater own best a) ]
+
 -- ------------------------------------------------------------------ the least list of counts that is over another
 
 abbrev pub Bounded : (ℕ → ℕ) → List ℕ → List ℕ → Type 0
 Bounded f ps c = AllZip (λ k p. k ≤ f p) c ps
 
-record IsLeastOver (f : ℕ → ℕ) (ps : List ℕ) (s : Bool) (k : ℕ) (c d : List ℕ) : Type 0 where
-  bounded : Bounded f ps d
-  over : Over s k c d
-  least : (x : List ℕ) → Bounded f ps x → Over s k c x → Over false (length ps) d x
+pub record IsLeastOver (f : ℕ → ℕ) (ps : List ℕ) (s : Bool) (k : ℕ) (c d : List ℕ) : Type 0 where
+  pub bounded : Bounded f ps d
+  pub over : Over s k c d
+  pub least : (x : List ℕ) → Bounded f ps x → Over s k c x → Over false (length ps) d x
 
-abbrev NoneOver : (ℕ → ℕ) → List ℕ → Bool → ℕ → List ℕ → Type 0
+abbrev pub NoneOver : (ℕ → ℕ) → List ℕ → Bool → ℕ → List ℕ → Type 0
 NoneOver f ps s k c = (x : List ℕ) → Bounded f ps x → Over s k c x → ⊥
 
-abbrev none : List ℕ → List ℕ
+abbrev pub none : List ℕ → List ℕ
 none ps = map (λ p. 0) ps
 
 pub none_bounded : (f : ℕ → ℕ) (ps : List ℕ) → Bounded f ps (none ps)
@@ -111,7 +118,7 @@ none_least f (p ∷ ps) (zero ∷ ys) h = inr (refl, none_least f ps ys h.1)
 none_least f (p ∷ ps) (suc y ∷ ys) h = inl (omega arith)
 
 -- the rest can't be over: the first count rises, and the rest is nothing
-raised : (f : ℕ → ℕ) (p : ℕ) (ps : List ℕ) (s : Bool) (k y : ℕ) (ys : List ℕ) → suc y ≤ f p → NoneOver f ps s k ys → IsLeastOver f (p ∷ ps) s (suc k) (y ∷ ys) (suc y ∷ none ps)
+pub raised : (f : ℕ → ℕ) (p : ℕ) (ps : List ℕ) (s : Bool) (k y : ℕ) (ys : List ℕ) → suc y ≤ f p → NoneOver f ps s k ys → IsLeastOver f (p ∷ ps) s (suc k) (y ∷ ys) (suc y ∷ none ps)
 raised f p ps s k y ys h never = record { bounded = (h, none_bounded f ps); over = inl (omega arith); least = least }
   where
     least : (x : List ℕ) → Bounded f (p ∷ ps) x → Over s (suc k) (y ∷ ys) x → Over false (suc (length ps)) (suc y ∷ none ps) x
@@ -123,7 +130,7 @@ raised f p ps s k y ys h never = record { bounded = (h, none_bounded f ps); over
     least (z ∷ zs) b (inr o) = absurd (never zs b.1 o.1)
 
 -- the rest is over by itself
-deeper : (f : ℕ → ℕ) (p : ℕ) (ps : List ℕ) (s : Bool) (k y : ℕ) (ys ds : List ℕ) → y ≤ f p → IsLeastOver f ps s k ys ds → IsLeastOver f (p ∷ ps) s (suc k) (y ∷ ys) (y ∷ ds)
+pub deeper : (f : ℕ → ℕ) (p : ℕ) (ps : List ℕ) (s : Bool) (k y : ℕ) (ys ds : List ℕ) → y ≤ f p → IsLeastOver f ps s k ys ds → IsLeastOver f (p ∷ ps) s (suc k) (y ∷ ys) (y ∷ ds)
 deeper f p ps s k y ys ds h is = record { bounded = (h, is.bounded); over = inr (refl, is.over); least = least }
   where
     least : (x : List ℕ) → Bounded f (p ∷ ps) x → Over s (suc k) (y ∷ ys) x → Over false (suc (length ps)) (y ∷ ds) x
@@ -131,12 +138,12 @@ deeper f p ps s k y ys ds h is = record { bounded = (h, is.bounded); over = inr 
     least (z ∷ zs) b (inl o) = inl o
     least (z ∷ zs) b (inr o) = inr (o.0, is.least zs b.1 o.1)
 
-full : (f : ℕ → ℕ) (p : ℕ) (ps : List ℕ) (s : Bool) (k y : ℕ) (ys : List ℕ) → f p ≤ y → NoneOver f ps s k ys → NoneOver f (p ∷ ps) s (suc k) (y ∷ ys)
+pub full : (f : ℕ → ℕ) (p : ℕ) (ps : List ℕ) (s : Bool) (k y : ℕ) (ys : List ℕ) → f p ≤ y → NoneOver f ps s k ys → NoneOver f (p ∷ ps) s (suc k) (y ∷ ys)
 full f p ps s k y ys h never [] b o = b
 full f p ps s k y ys h never (z ∷ zs) b (inl o) = omega (arith, b.0)
 full f p ps s k y ys h never (z ∷ zs) b (inr o) = never zs b.1 o.1
 
-no_counts : (f : ℕ → ℕ) (k : ℕ) → NoneOver f [] true (suc k) []
+pub no_counts : (f : ℕ → ℕ) (k : ℕ) → NoneOver f [] true (suc k) []
 no_counts f k [] b o = true≢false o
 no_counts f k (z ∷ zs) b o = b
 
@@ -196,26 +203,36 @@ reaches_down g p (Counts c) (Counts e) (Counts d) h i = reaches_over g p c d (ov
 pub prog_more : (g : Game) (p : ℕ) (m n r s : Measure) → IsAtMost m n → IsProg g p m r → IsProg g p n s → IsAtMost r s
 prog_more g p m n r s h i j = i.least s j.measure (reaches_down g p m n s h j.reaches)
 
-pub prog : (g : Game) (p : ℕ) (m : Measure) → IsMeasure g m → (r : Measure) × IsProg g p m r
-prog g p Top h = (Top, record { measure = tt; reaches = tt; least = least })
+-- the least counts that are over these are their prog
+pub least_prog : (g : Game) (p : ℕ) (c d : List ℕ) → IsLeastOver (count g) (components g) (is_odd p) (kept g p) c d → IsProg g p (Counts c) (Counts d)
+least_prog g p c d is = record { measure = is.bounded; reaches = reaches_over g p c d is.over; least = least }
+  where
+    least : (x : Measure) → IsMeasure g x → Reaches g p (Counts c) x → IsAtMost (Counts d) x
+    least Top b r = refl
+    least (Counts e) b r =
+        whole_to false (length (components g)) d e (omega (arith, AllZip-long (λ k q. k ≤ count g q) d (components g) is.bounded))
+        (omega (arith, AllZip-long (λ k q. k ≤ count g q) e (components g) b)) (is.least e b (over_reaches g p c e r))
+
+-- where no counts are over these, top is
+pub none_prog : (g : Game) (p : ℕ) (c : List ℕ) → NoneOver (count g) (components g) (is_odd p) (kept g p) c → IsProg g p (Counts c) Top
+none_prog g p c never = record { measure = tt; reaches = tt; least = least }
+  where
+    least : (x : Measure) → IsMeasure g x → Reaches g p (Counts c) x → IsAtMost Top x
+    least Top b r = refl
+    least (Counts d) b r = absurd (never d b (over_reaches g p c d r))
+
+-- what is above all is the prog of top
+pub top_prog : (g : Game) (p : ℕ) → IsProg g p Top Top
+top_prog g p = record { measure = tt; reaches = tt; least = least }
   where
     least : (x : Measure) → IsMeasure g x → Reaches g p Top x → IsAtMost Top x
     least Top b r = refl
     least (Counts d) b r = absurd r
+
+-- each measure has one
+pub prog : (g : Game) (p : ℕ) (m : Measure) → IsMeasure g m → (r : Measure) × IsProg g p m r
+prog g p Top h = (Top, top_prog g p)
 prog g p (Counts c) h = elim (next (count g) (components g) (is_odd p) (kept g p) c h) [
-  | inl w ↦ (Counts w.0, some w.0 w.1)
-  | inr never ↦ (Top, record { measure = tt; reaches = tt; least = top never })
+  | inl w ↦ (Counts w.0, least_prog g p c w.0 w.1)
+  | inr never ↦ (Top, none_prog g p c never)
 ]
-  where
-    top : NoneOver (count g) (components g) (is_odd p) (kept g p) c → (x : Measure) → IsMeasure g x → Reaches g p (Counts c) x → IsAtMost Top x
-    top never Top b r = refl
-    top never (Counts d) b r = absurd (never d b (over_reaches g p c d r))
-
-    least : (d : List ℕ) → IsLeastOver (count g) (components g) (is_odd p) (kept g p) c d → (x : Measure) → IsMeasure g x → Reaches g p (Counts c) x → IsAtMost (Counts d) x
-    least d is Top b r = refl
-    least d is (Counts e) b r =
-        whole_to false (length (components g)) d e (omega (arith, AllZip-long (λ k q. k ≤ count g q) d (components g) is.bounded))
-        (omega (arith, AllZip-long (λ k q. k ≤ count g q) e (components g) b)) (is.least e b (over_reaches g p c e r))
-
-    some : (d : List ℕ) → IsLeastOver (count g) (components g) (is_odd p) (kept g p) c d → IsProg g p (Counts c) (Counts d)
-    some d is = record { measure = is.bounded; reaches = reaches_over g p c d is.over; least = least d is }

@@ -9,7 +9,8 @@ use Rattle.game.specs.Game.{Vertex, Game, vertex, IsVertex, IsGame, opponent}
 use Rattle.game.specs.Wins.{Edge, IsOf, WinsBy, greatest_met}
 use Rattle.measures.proofs.Lists.{all_contained, all_got}
 use Rattle.measures.proofs.Searches.{both, both_hold, either_way, find_below, find_in}
-use Rattle.measures.proofs.Rests.{total, total_same}
+use Rattle.measures.specs.Lifting.{total}
+use Rattle.measures.proofs.Rests.{total_same}
 use Rattle.measures.proofs.Cycles.{last_met, priority}
 use Rattle.measures.proofs.NotBoth.{path_weaker}
 

@@ -42,7 +42,7 @@ opening_all g v (x ∷ xs) = (opening_measure g v x, opening_all g (v + 1) xs)
 pub opening_table : (g : Game) → IsTable g (opening g)
 opening_table g = (opening_long g 0 g.vertices, opening_all g 0 g.vertices)
 
-opening_at : (g : Game) (n : ℕ) (xs : List Vertex) (i : ℕ) (x : Vertex) → slice_get xs i ≡ Some x → slice_index_or (opening_from g n xs) i Top ≡ opening_value g (n + i) x
+pub opening_at : (g : Game) (n : ℕ) (xs : List Vertex) (i : ℕ) (x : Vertex) → slice_get xs i ≡ Some x → slice_index_or (opening_from g n xs) i Top ≡ opening_value g (n + i) x
 opening_at g n [] i x e = absurd cc
 opening_at g n (y ∷ ys) zero x e = let q : y ≡ x = cc in let m : n ≡ n + 0 = omega arith in ap (opening_value g n) q ∙ ap (λ k. opening_value g k x) m
 opening_at g n (y ∷ ys) (suc i) x e = let m : (n + 1) + i ≡ n + suc i = omega arith in opening_at g (n + 1) ys i x e ∙ ap (λ k. opening_value g k x) m

@@ -13,7 +13,8 @@ use Rattle.formula.specs.Tree.{Step}
 use Rattle.meaning.specs.Into.{Into}
 use Rattle.meaning.proofs.Each.{each_at}
 use Rattle.meaning.proofs.Marked.{at, any_default}
-use Rattle.meaning.proofs.Arrows.{one_more, enters, enters_leads, any_of_map}
+use Rattle.formula.proofs.Entering.{enters, enters_leads}
+use Rattle.meaning.proofs.Arrows.{one_more, any_of_map}
 use Rattle.meaning.proofs.actions.before.Goals as goal
 
 abbrev none : Transition
@@ -51,7 +52,7 @@ loop-source-preserved c =
       each = λ s h.
           ap (λ b. at (slice_set found step.source b) s) same
           ∙ (one_more found step.source s _ leads within (c.loop-source.invariant.each s h)
-          ∙ sym (list_any_more (λ (t : Transition). enters act c.args.marks.now s (arrow_of l.labels t)) steps i none c.loop-source-test.true));
+          ∙ sym (list_any_more (λ (t : Transition). enters act (at c.args.marks.now) s (arrow_of l.labels t)) steps i none c.loop-source-test.true));
     }
 
 pub returns : goal.returns
@@ -59,7 +60,7 @@ returns c = record {
   count = c.loop-source.invariant.count;
   exact = λ s h.
       let l = c.args.lts.now in
-      let p : Arrow → Bool = enters (action_of c.args.action.now) c.args.marks.now s in
+      let p : Arrow → Bool = enters (action_of c.args.action.now) (at c.args.marks.now) s in
       let f : Transition → Arrow = arrow_of l.labels in
       let steps = c.all-source-items.result.now in
       let done : c.loop-source.source-index ≡ length steps = omega arith in
@@ -67,5 +68,5 @@ returns c = record {
       c.loop-source.invariant.each s h ∙ ap (λ k. list_any (λ t. p (f t)) (take k steps)) done ∙ ap (list_any (λ t. p (f t))) (take-length steps)
       ∙ any_of_map p f steps ∙ ap (list_any p) c.all-source-items.ensures.arrows in
       subst (λ b. IsTrue b ↔ Into l.system (Step (action_of c.args.action.now)) c.args.marks.now s) (sym all)
-      (enters_leads l.system (action_of c.args.action.now) c.args.marks.now s);
+      (enters_leads l.system (action_of c.args.action.now) (at c.args.marks.now) s);
 }

@@ -1,4 +1,4 @@
-use Rattle.std.proofs.Common.{◌≡◌, ◌≤◌, Bool, List, not, ◌&&◌, ◌||◌, map, zip, ap, ap₂, sym, ◌∙◌, subst, arith, IfOk, IsTrue, true, false}
+use Rattle.std.proofs.Common.{◌≡◌, Bool, not, ◌&&◌, ◌||◌, map, zip, ap, ap₂, sym, ◌∙◌, subst, arith, IfOk, IsTrue, true, false}
 use Rattle.std.proofs.lemmas.Result.{IfOk-weaker}
 use Rattle.formula.specs.View.{formula_of, regular_of}
 use Rattle.formula.specs.Tree.{Formula, And, Or, Implies, Dia, Box, Mu, Nu}
@@ -10,8 +10,8 @@ use Rattle.meaning.proofs.Regulars.{into_box, into_dia}
 use Rattle.meaning.proofs.Iterated.{turn_marks, repeats_marks, least_marks, greatest_marks}
 use Rattle.meaning.proofs.plain.+plain.Goals as goal
 
-pub marks_of-returns-in_ok-other-in-And : goal.marks_of-returns-in_ok-other-in-And
-marks_of-returns-in_ok-other-in-And t c =
+pub marks_of-returns-in_ok-other-in-And-clause-marks : goal.marks_of-returns-in_ok-other-in-And-clause-marks
+marks_of-returns-in_ok-other-in-And-clause-marks t c =
     let l = c.args.lts.now.system in
     let e = sets_of c.args.scope.now in
     let f = formula_of c.deref-in-And.result.now in
@@ -24,10 +24,10 @@ marks_of-returns-in_ok-other-in-And t c =
     c.intersection.ensures ∙ ap (λ ms. map (λ (p : Bool × Bool). p.0 && p.1) (zip one ms)) c.deref-in-And-3.ensures.value in
     subst (λ (x : Formula). Marks l.states c.intersection.result.items (mean l x e)) (sym is)
     (subst (λ items. Marks l.states items (mean l (And f g) e)) (sym found)
-    (marks_and l.states one other (mean l f e) (mean l g e) c.in_ok-one-in-And.ensures c.in_ok-other-in-And.ensures))
+    (marks_and l.states one other (mean l f e) (mean l g e) c.in_ok-one-in-And.ensures.marks c.in_ok-other-in-And.ensures.marks))
 
-pub marks_of-returns-in_ok-other-in-Or : goal.marks_of-returns-in_ok-other-in-Or
-marks_of-returns-in_ok-other-in-Or t c =
+pub marks_of-returns-in_ok-other-in-Or-clause-marks : goal.marks_of-returns-in_ok-other-in-Or-clause-marks
+marks_of-returns-in_ok-other-in-Or-clause-marks t c =
     let l = c.args.lts.now.system in
     let e = sets_of c.args.scope.now in
     let f = formula_of c.deref-in-Or.result.now in
@@ -40,10 +40,10 @@ marks_of-returns-in_ok-other-in-Or t c =
     c.union.ensures ∙ ap (λ ms. map (λ (p : Bool × Bool). p.0 || p.1) (zip one ms)) c.deref-in-Or-3.ensures.value in
     subst (λ (x : Formula). Marks l.states c.union.result.items (mean l x e)) (sym is)
     (subst (λ items. Marks l.states items (mean l (Or f g) e)) (sym found)
-    (marks_or l.states one other (mean l f e) (mean l g e) c.in_ok-one-in-Or.ensures c.in_ok-other-in-Or.ensures))
+    (marks_or l.states one other (mean l f e) (mean l g e) c.in_ok-one-in-Or.ensures.marks c.in_ok-other-in-Or.ensures.marks))
 
-pub marks_of-returns-in_ok-other-in-Implies : goal.marks_of-returns-in_ok-other-in-Implies
-marks_of-returns-in_ok-other-in-Implies t c =
+pub marks_of-returns-in_ok-other-in-Implies-clause-marks : goal.marks_of-returns-in_ok-other-in-Implies-clause-marks
+marks_of-returns-in_ok-other-in-Implies-clause-marks t c =
     let l = c.args.lts.now.system in
     let e = sets_of c.args.scope.now in
     let f = formula_of c.deref-in-Implies.result.now in
@@ -56,10 +56,10 @@ marks_of-returns-in_ok-other-in-Implies t c =
     c.union-in-Implies.ensures ∙ ap₂ (λ ns ms. map (λ (p : Bool × Bool). p.0 || p.1) (zip ns ms)) c.complement-in-Implies.ensures c.deref-in-Implies-3.ensures.value in
     subst (λ (x : Formula). Marks l.states c.union-in-Implies.result.items (mean l x e)) (sym is)
     (subst (λ items. Marks l.states items (mean l (Implies f g) e)) (sym found)
-    (marks_implies l.states one other (mean l f e) (mean l g e) c.in_ok-one-in-Implies.ensures c.in_ok-other-in-Implies.ensures))
+    (marks_implies l.states one other (mean l f e) (mean l g e) c.in_ok-one-in-Implies.ensures.marks c.in_ok-other-in-Implies.ensures.marks))
 
-pub marks_of-returns-in_ok-marks-in-Dia : goal.marks_of-returns-in_ok-marks-in-Dia
-marks_of-returns-in_ok-marks-in-Dia t c =
+pub marks_of-returns-in_ok-marks-in-Dia-clause-marks : goal.marks_of-returns-in_ok-marks-in-Dia-clause-marks
+marks_of-returns-in_ok-marks-in-Dia-clause-marks t c =
     let l = c.args.lts.now.system in
     let e = sets_of c.args.scope.now in
     let r = regular_of c.in-Dia.regular in
@@ -67,12 +67,12 @@ marks_of-returns-in_ok-marks-in-Dia t c =
     let is : formula_of c.args.formula.now ≡ Dia r f = ap formula_of c.in-Dia.is ∙ sym (ap (λ a. Dia r (formula_of a)) c.deref-in-Dia.ensures) in
     subst (λ (f : Formula). IfOk c.leading.result (λ marks. Marks l.states marks.items (mean l f e))) (sym is)
     (IfOk-weaker c.leading.result (λ found. Marks l.states found.items (Into l r c.deref-in-Dia-2.result.now)) _
-    (λ marks q. into_dia l c.states-count.ensures.known r c.in_ok-marks-in-Dia.marks.items marks.items (mean l f e) c.in_ok-marks-in-Dia.ensures
+    (λ marks q. into_dia l c.states-count.ensures.known r c.in_ok-marks-in-Dia.marks.items marks.items (mean l f e) c.in_ok-marks-in-Dia.ensures.marks
     (subst (λ ms. Marks l.states marks.items (Into l r ms)) c.deref-in-Dia-2.ensures.value q))
     c.leading.ensures)
 
-pub marks_of-returns-in_ok-found-in-Box : goal.marks_of-returns-in_ok-found-in-Box
-marks_of-returns-in_ok-found-in-Box t c =
+pub marks_of-returns-in_ok-found-in-Box-clause-marks : goal.marks_of-returns-in_ok-found-in-Box-clause-marks
+marks_of-returns-in_ok-found-in-Box-clause-marks t c =
     let l = c.args.lts.now.system in
     let e = sets_of c.args.scope.now in
     let r = regular_of c.in-Box.regular in
@@ -83,11 +83,11 @@ marks_of-returns-in_ok-found-in-Box t c =
     let turned : c.deref-in-Box-2.result.now ≡ map not marks = c.deref-in-Box-2.ensures.value ∙ c.complement-in-Box.ensures in
     subst (λ (x : Formula). Marks l.states c.complement-in-Box-2.result.items (mean l x e)) (sym is)
     (subst (λ items. Marks l.states items (mean l (Box r f) e)) (sym c.complement-in-Box-2.ensures)
-    (into_box l c.states-count.ensures.known r marks found (mean l f e) c.in_ok-marks-in-Box.ensures
+    (into_box l c.states-count.ensures.known r marks found (mean l f e) c.in_ok-marks-in-Box.ensures.marks
     (subst (λ ms. Marks l.states found (Into l r ms)) turned c.in_ok-found-in-Box.ensures)))
 
-pub marks_of-returns-in-Mu : goal.marks_of-returns-in-Mu
-marks_of-returns-in-Mu t c =
+pub marks_of-returns-in-Mu-clause-marks : goal.marks_of-returns-in-Mu-clause-marks
+marks_of-returns-in-Mu-clause-marks t c =
     let l = c.args.lts.now.system in
     let e = sets_of c.args.scope.now in
     let f = formula_of c.deref-in-Mu.result.now in
@@ -98,8 +98,8 @@ marks_of-returns-in-Mu t c =
     (λ marks q. least_marks l c.states-count.ensures.known name f e marks.items q)
     c.iterated.ensures)
 
-pub marks_of-returns-in-Nu : goal.marks_of-returns-in-Nu
-marks_of-returns-in-Nu t c =
+pub marks_of-returns-in-Nu-clause-marks : goal.marks_of-returns-in-Nu-clause-marks
+marks_of-returns-in-Nu-clause-marks t c =
     let l = c.args.lts.now.system in
     let e = sets_of c.args.scope.now in
     let f = formula_of c.deref-in-Nu.result.now in
@@ -118,7 +118,7 @@ iterated-loop-turn-preserved t c =
     let name = c.args.name.now.items in
     let set = c.loop-turn.set.items in
     let next : Marks l.states c.in_ok-next.next.items (mean l f (with_set e name (marked set))) =
-    subst (λ ms. Marks l.states c.in_ok-next.next.items (mean l f (with_set e name (marked ms)))) c.deref.ensures.value c.in_ok-next.ensures in
+    subst (λ ms. Marks l.states c.in_ok-next.next.items (mean l f (with_set e name (marked ms)))) c.deref.ensures.value c.in_ok-next.ensures.marks in
     turn_marks l c.states-count.ensures.known name f e c.loop-turn.turn (λ s. IsTrue c.args.from) set c.in_ok-next.next.items c.loop-turn.invariant next
 
 pub iterated-returns-then-eq : goal.iterated-returns-then-eq
@@ -129,7 +129,7 @@ iterated-returns-then-eq t c =
     let name = c.args.name.now.items in
     let set = c.loop-turn.set.items in
     let next : Marks l.states c.in_ok-next.next.items (mean l f (with_set e name (marked set))) =
-    subst (λ ms. Marks l.states c.in_ok-next.next.items (mean l f (with_set e name (marked ms)))) c.deref.ensures.value c.in_ok-next.ensures in
+    subst (λ ms. Marks l.states c.in_ok-next.next.items (mean l f (with_set e name (marked ms)))) c.deref.ensures.value c.in_ok-next.ensures.marks in
     let same : c.in_ok-next.next.items ≡ set = equal_marks c.in_ok-next.next.items set (sym c.eq.ensures ∙ c.if-eq.true) in
     repeats_marks l c.states-count.ensures.known name f e c.loop-turn.turn l.states (λ s. IsTrue c.args.from) set (omega arith) c.loop-turn.invariant
     (subst (λ ms. Marks l.states ms (mean l f (with_set e name (marked set)))) same next)

@@ -1,4 +1,4 @@
-use Rattle.std.proofs.Common.{◌≡◌, ◌<◌, ◌≤◌, arith, length, Bool, ◌||◌, zip, map, ap, ap₂, sym, ◌∙◌, subst, IfOk}
+use Rattle.std.proofs.Common.{◌≡◌, ◌<◌, ◌≤◌, arith, length, ◌||◌, ap, ap₂, sym, ◌∙◌, subst, IfOk}
 use Rattle.std.proofs.lemmas.Result.{IfOk-weaker}
 use Rattle.formula.specs.View.{regular_of}
 use Rattle.formula.specs.Tree.{Regular, Then, Either, Star, Plus}

@@ -1,4 +1,4 @@
-use Rattle.std.proofs.Common.{arith, ◌∙◌, sym, not, false, ap}
+use Rattle.std.proofs.Common.{arith, not, false}
 use Rattle.std.proofs.lemmas.List.Edits.{map_over_more}
 use Rattle.meaning.proofs.Marked.{any_default}
 use Rattle.meaning.proofs.sets.complement.Goals as goal

@@ -1,4 +1,4 @@
-use Rattle.std.proofs.Common.{◌≡◌, ◌<◌, Bool, false, ◌||◌, ◌&&◌, length, arith, ◌∙◌, sym, ap, add-one}
+use Rattle.std.proofs.Common.{◌≡◌, ◌<◌, Bool, false, ◌||◌, length, arith, ◌∙◌, ap, add-one}
 use Rattle.std.specs.Prelude.{slice_set, slice_index_or}
 use Rattle.meaning.proofs.Marked.{any_default}
 use Rattle.meaning.proofs.Mixed.{mixed, length-mixed, mixed_more, mixed_all}

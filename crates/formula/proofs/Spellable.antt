@@ -1,0 +1,268 @@
+-- What a text spells is spellable, and as deep as its canonical text.
+use Rattle.std.proofs.Common.{◌≡◌, ℕ, ◌+◌, ◌≤◌, true, List, [], ◌∷◌, ◌++◌, length, Option, Some, None, option_map, max, refl, sym, ap, ◌∙◌, subst, arith}
+use Rattle.std.specs.Prelude.{nat_le, IfSome}
+use Rattle.std.specs.List.{AllByRecursion}
+use Rattle.std.proofs.lemmas.Bool.{leb-true, le-leb, and_parts, and_from}
+use Rattle.lts.specs.Label.{multiset}
+use Rattle.formula.specs.Tree.{Action, Anything, Nothing, Names, Quoted, NotAct, AndAct, OrAct, ImpliesAct, Regular, Step, Then, Either, Star, Plus, Formula, True, False, Var, Not, And, Or, Implies, Dia, Box, Mu, Nu}
+use Rattle.formula.specs.Canon.{canon}
+use Rattle.formula.specs.Token.{Token, Name, ImpliesSign, OrSign, AndSign, Greater, CloseBox, Close, Dot, ChoiceSign, PlusSign, StarSign, is_free_name, IsToken, Piece, Blank, Comment, Word, Cuts, tokens_of}
+use Rattle.formula.specs.Syntax.{RegSyntax, Anything', Nothing', Tau', Names', Quoted', Parens', Not', And', Or', Implies', Star', Plus', Then', Either', reg_tokens, more_names, option_two, action_meant, regular_meant, reg_nesting, reg_parens, Syntax, True', False', Var', Group', Neg', Both', OneOf', If', Dia', Box', Mu', Nu', tokens, meant, nesting, parens}
+use Rattle.formula.specs.Spells.{Spells, SpellsWithin}
+use Rattle.formula.proofs.Ascending.{multiset_again, multiset_all}
+use Rattle.formula.proofs.Canonical.{IsSpellableAction, IsSpellableRegular, IsSpellable, canon_action, canon_regular, canon_syntax}
+use Rattle.formula.proofs.CanonicalText.{formula_again, canon_is_written, canon_spelled}
+
+-- What holds of each token of a text that is cut.
+
+abbrev AreTokens : List Token → Type 0
+AreTokens ts = AllByRecursion IsToken ts
+
+cut_tokens : (ps : List Piece) (m : List ℕ) → Cuts ps m → AreTokens (tokens_of ps)
+cut_tokens [] m c = tt
+cut_tokens (Blank byte ∷ ps) m c = cut_tokens ps m c.2
+cut_tokens (Comment bytes ∷ ps) m c = cut_tokens ps m c.2
+cut_tokens (Word t ∷ ps) m c = (c.0, cut_tokens ps m c.2)
+
+both_sides : (ts us : List Token) → AreTokens (ts ++ us) → AreTokens ts × AreTokens us
+both_sides [] us all = (tt, all)
+both_sides (t ∷ ts) us all = let r = both_sides ts us all.1 in ((all.0, r.0), r.1)
+
+-- What an operator makes of what its operands mean.
+
+of_one : {A B : Type 0} (f : A → B) (o : Option A) (P : A → Type 0) (Q : B → Type 0) → ((a : A) → P a → Q (f a)) → IfSome o P → IfSome (option_map f o) Q
+of_one f None P Q g h = h
+of_one f (Some a) P Q g h = g a h
+
+of_two : {A B C : Type 0} (f : A → B → C) (o : Option A) (p : Option B) (P : A → Type 0) (Q : B → Type 0) (R : C → Type 0) → ((a : A) (b : B) → P a → Q b → R (f a b))
+    → IfSome o P → IfSome p Q → IfSome (option_two f o p) R
+of_two f None p P Q R g h k = tt
+of_two f (Some a) None P Q R g h k = tt
+of_two f (Some a) (Some b) P Q R g h k = g a b h k
+
+names_free : (names : List (List ℕ)) → AreTokens (more_names names) → AllByRecursion (λ x. is_free_name x ≡ true) names
+names_free [] all = tt
+names_free (x ∷ names) all = (all.1.0, names_free names all.1.1)
+
+names_spellable : (x : List ℕ) (names : List (List ℕ)) → AreTokens (Name x ∷ more_names names) → IsSpellableAction (Names (multiset (x ∷ names)))
+names_spellable x names all = (multiset_all (λ x. is_free_name x ≡ true) (x ∷ names) (all.0, names_free names all.1), multiset_again (x ∷ names))
+
+-- of a sign between operands
+sides : (ts us : List Token) (t : Token) → AreTokens (ts ++ t ∷ us) → AreTokens ts × AreTokens us
+sides ts us t all = let r = both_sides ts (t ∷ us) all in (r.0, r.1.1)
+
+action_spellable : (r : RegSyntax) → AreTokens (reg_tokens r) → IfSome (action_meant r) IsSpellableAction
+action_spellable Anything' all = tt
+action_spellable Nothing' all = tt
+action_spellable Tau' all = (tt, refl)
+action_spellable (Names' x names) all = names_spellable x names all
+action_spellable (Quoted' bytes) all = all.0
+action_spellable (Parens' r) all = action_spellable r (both_sides (reg_tokens r) (Close ∷ []) all.1).0
+action_spellable (Not' r) all = of_one NotAct (action_meant r) IsSpellableAction IsSpellableAction (λ a h. h) (action_spellable r all.1)
+action_spellable (And' r s) all =
+    let x = sides (reg_tokens r) (reg_tokens s) AndSign all in
+    of_two AndAct (action_meant r) (action_meant s) IsSpellableAction IsSpellableAction IsSpellableAction (λ a b h k. (h, k)) (action_spellable r x.0) (action_spellable s x.1)
+action_spellable (Or' r s) all =
+    let x = sides (reg_tokens r) (reg_tokens s) OrSign all in
+    of_two OrAct (action_meant r) (action_meant s) IsSpellableAction IsSpellableAction IsSpellableAction (λ a b h k. (h, k)) (action_spellable r x.0) (action_spellable s x.1)
+action_spellable (Implies' r s) all =
+    let x = sides (reg_tokens r) (reg_tokens s) ImpliesSign all in
+    of_two ImpliesAct (action_meant r) (action_meant s) IsSpellableAction IsSpellableAction IsSpellableAction (λ a b h k. (h, k)) (action_spellable r x.0) (action_spellable s x.1)
+action_spellable (Star' r) all = tt
+action_spellable (Plus' r) all = tt
+action_spellable (Then' r s) all = tt
+action_spellable (Either' r s) all = tt
+
+regular_spellable : (r : RegSyntax) → AreTokens (reg_tokens r) → IfSome (regular_meant r) IsSpellableRegular
+regular_spellable Anything' all = tt
+regular_spellable Nothing' all = tt
+regular_spellable Tau' all = (tt, refl)
+regular_spellable (Names' x names) all = names_spellable x names all
+regular_spellable (Quoted' bytes) all = all.0
+regular_spellable (Parens' r) all = regular_spellable r (both_sides (reg_tokens r) (Close ∷ []) all.1).0
+regular_spellable (Not' r) all = of_one (λ a. Step (NotAct a)) (action_meant r) IsSpellableAction IsSpellableRegular (λ a h. h) (action_spellable r all.1)
+regular_spellable (And' r s) all =
+    let x = sides (reg_tokens r) (reg_tokens s) AndSign all in
+    of_two (λ a b. Step (AndAct a b)) (action_meant r) (action_meant s) IsSpellableAction IsSpellableAction IsSpellableRegular (λ a b h k. (h, k)) (action_spellable r x.0) (action_spellable s x.1)
+regular_spellable (Or' r s) all =
+    let x = sides (reg_tokens r) (reg_tokens s) OrSign all in
+    of_two (λ a b. Step (OrAct a b)) (action_meant r) (action_meant s) IsSpellableAction IsSpellableAction IsSpellableRegular (λ a b h k. (h, k)) (action_spellable r x.0) (action_spellable s x.1)
+regular_spellable (Implies' r s) all =
+    let x = sides (reg_tokens r) (reg_tokens s) ImpliesSign all in
+    of_two (λ a b. Step (ImpliesAct a b)) (action_meant r) (action_meant s) IsSpellableAction IsSpellableAction IsSpellableRegular (λ a b h k. (h, k)) (action_spellable r x.0) (action_spellable s x.1)
+regular_spellable (Star' r) all = of_one Star (regular_meant r) IsSpellableRegular IsSpellableRegular (λ r h. h) (regular_spellable r (both_sides (reg_tokens r) (StarSign ∷ []) all).0)
+regular_spellable (Plus' r) all = of_one Plus (regular_meant r) IsSpellableRegular IsSpellableRegular (λ r h. h) (regular_spellable r (both_sides (reg_tokens r) (PlusSign ∷ []) all).0)
+regular_spellable (Then' r s) all =
+    let x = sides (reg_tokens r) (reg_tokens s) Dot all in
+    of_two Then (regular_meant r) (regular_meant s) IsSpellableRegular IsSpellableRegular IsSpellableRegular (λ a b h k. (h, k)) (regular_spellable r x.0) (regular_spellable s x.1)
+regular_spellable (Either' r s) all =
+    let x = sides (reg_tokens r) (reg_tokens s) ChoiceSign all in
+    of_two Either (regular_meant r) (regular_meant s) IsSpellableRegular IsSpellableRegular IsSpellableRegular (λ a b h k. (h, k)) (regular_spellable r x.0) (regular_spellable s x.1)
+
+formula_spellable : (s : Syntax) → AreTokens (tokens s) → IfSome (meant s) IsSpellable
+formula_spellable True' all = tt
+formula_spellable False' all = tt
+formula_spellable (Var' name) all = all.0
+formula_spellable (Group' f) all = formula_spellable f (both_sides (tokens f) (Close ∷ []) all.1).0
+formula_spellable (Neg' f) all = of_one Not (meant f) IsSpellable IsSpellable (λ f h. h) (formula_spellable f all.1)
+formula_spellable (Both' f g) all =
+    let x = sides (tokens f) (tokens g) AndSign all in
+    of_two And (meant f) (meant g) IsSpellable IsSpellable IsSpellable (λ f g h k. (h, k)) (formula_spellable f x.0) (formula_spellable g x.1)
+formula_spellable (OneOf' f g) all =
+    let x = sides (tokens f) (tokens g) OrSign all in
+    of_two Or (meant f) (meant g) IsSpellable IsSpellable IsSpellable (λ f g h k. (h, k)) (formula_spellable f x.0) (formula_spellable g x.1)
+formula_spellable (If' f g) all =
+    let x = sides (tokens f) (tokens g) ImpliesSign all in
+    of_two Implies (meant f) (meant g) IsSpellable IsSpellable IsSpellable (λ f g h k. (h, k)) (formula_spellable f x.0) (formula_spellable g x.1)
+formula_spellable (Dia' r f) all =
+    let x = sides (reg_tokens r) (tokens f) Greater all.1 in
+    of_two Dia (regular_meant r) (meant f) IsSpellableRegular IsSpellable IsSpellable (λ r f h k. (h, k)) (regular_spellable r x.0) (formula_spellable f x.1)
+formula_spellable (Box' r f) all =
+    let x = sides (reg_tokens r) (tokens f) CloseBox all.1 in
+    of_two Box (regular_meant r) (meant f) IsSpellableRegular IsSpellable IsSpellable (λ r f h k. (h, k)) (regular_spellable r x.0) (formula_spellable f x.1)
+formula_spellable (Mu' name f) all = of_one (Mu name) (meant f) IsSpellable IsSpellable (λ f h. (all.1.0, h)) (formula_spellable f all.1.1.1)
+formula_spellable (Nu' name f) all = of_one (Nu name) (meant f) IsSpellable IsSpellable (λ f h. (all.1.0, h)) (formula_spellable f all.1.1.1)
+
+pub tree_spellable : (s : Syntax) (f : Formula) → AreTokens (tokens s) → meant s ≡ Some f → IsSpellable f
+tree_spellable s f all e = subst (λ o. IfSome o IsSpellable) e (formula_spellable s all)
+
+-- How deep the operators of a formula stand in one another.
+
+abbrev action_depth : Action → ℕ
+action_depth (NotAct a) = 1 + action_depth a
+action_depth (AndAct a b) = 1 + max (action_depth a) (action_depth b)
+action_depth (OrAct a b) = 1 + max (action_depth a) (action_depth b)
+action_depth (ImpliesAct a b) = 1 + max (action_depth a) (action_depth b)
+action_depth _ = 0
+
+abbrev regular_depth : Regular → ℕ
+regular_depth (Step a) = action_depth a
+regular_depth (Then r s) = 1 + max (regular_depth r) (regular_depth s)
+regular_depth (Either r s) = 1 + max (regular_depth r) (regular_depth s)
+regular_depth (Star r) = 1 + regular_depth r
+regular_depth (Plus r) = 1 + regular_depth r
+
+abbrev formula_depth : Formula → ℕ
+formula_depth (Not f) = 1 + formula_depth f
+formula_depth (And f g) = 1 + max (formula_depth f) (formula_depth g)
+formula_depth (Or f g) = 1 + max (formula_depth f) (formula_depth g)
+formula_depth (Implies f g) = 1 + max (formula_depth f) (formula_depth g)
+formula_depth (Dia r f) = 1 + max (regular_depth r) (formula_depth f)
+formula_depth (Box r f) = 1 + max (regular_depth r) (formula_depth f)
+formula_depth (Mu name f) = 1 + formula_depth f
+formula_depth (Nu name f) = 1 + formula_depth f
+formula_depth _ = 0
+
+abbrev IsActionDepth : ℕ → Action → Type 0
+IsActionDepth n a = n ≡ action_depth a
+
+abbrev IsRegularDepth : ℕ → Regular → Type 0
+IsRegularDepth n r = n ≡ regular_depth r
+
+abbrev IsDepth : ℕ → Formula → Type 0
+IsDepth n f = n ≡ formula_depth f
+
+action_nests : (r : RegSyntax) → IfSome (action_meant r) (IsActionDepth (reg_nesting r))
+action_nests Anything' = refl
+action_nests Nothing' = refl
+action_nests Tau' = refl
+action_nests (Names' x names) = refl
+action_nests (Quoted' bytes) = refl
+action_nests (Parens' r) = action_nests r
+action_nests (Not' r) = of_one NotAct (action_meant r) (IsActionDepth (reg_nesting r)) (IsActionDepth (1 + reg_nesting r)) (λ a h. ap (λ k. 1 + k) h) (action_nests r)
+action_nests (And' r s) = of_two AndAct (action_meant r) (action_meant s) (IsActionDepth (reg_nesting r)) (IsActionDepth (reg_nesting s)) (IsActionDepth (1 + max (reg_nesting r) (reg_nesting s))) (λ a b h k i. 1 + max (h i) (k i)) (action_nests r) (action_nests s)
+action_nests (Or' r s) = of_two OrAct (action_meant r) (action_meant s) (IsActionDepth (reg_nesting r)) (IsActionDepth (reg_nesting s)) (IsActionDepth (1 + max (reg_nesting r) (reg_nesting s))) (λ a b h k i. 1 + max (h i) (k i)) (action_nests r) (action_nests s)
+action_nests (Implies' r s) = of_two ImpliesAct (action_meant r) (action_meant s) (IsActionDepth (reg_nesting r)) (IsActionDepth (reg_nesting s)) (IsActionDepth (1 + max (reg_nesting r) (reg_nesting s))) (λ a b h k i. 1 + max (h i) (k i)) (action_nests r) (action_nests s)
+action_nests (Star' r) = tt
+action_nests (Plus' r) = tt
+action_nests (Then' r s) = tt
+action_nests (Either' r s) = tt
+
+regular_nests : (r : RegSyntax) → IfSome (regular_meant r) (IsRegularDepth (reg_nesting r))
+regular_nests Anything' = refl
+regular_nests Nothing' = refl
+regular_nests Tau' = refl
+regular_nests (Names' x names) = refl
+regular_nests (Quoted' bytes) = refl
+regular_nests (Parens' r) = regular_nests r
+regular_nests (Not' r) = of_one (λ a. Step (NotAct a)) (action_meant r) (IsActionDepth (reg_nesting r)) (IsRegularDepth (1 + reg_nesting r)) (λ a h. ap (λ k. 1 + k) h) (action_nests r)
+regular_nests (And' r s) = of_two (λ a b. Step (AndAct a b)) (action_meant r) (action_meant s) (IsActionDepth (reg_nesting r)) (IsActionDepth (reg_nesting s)) (IsRegularDepth (1 + max (reg_nesting r) (reg_nesting s))) (λ a b h k i. 1 + max (h i) (k i)) (action_nests r) (action_nests s)
+regular_nests (Or' r s) = of_two (λ a b. Step (OrAct a b)) (action_meant r) (action_meant s) (IsActionDepth (reg_nesting r)) (IsActionDepth (reg_nesting s)) (IsRegularDepth (1 + max (reg_nesting r) (reg_nesting s))) (λ a b h k i. 1 + max (h i) (k i)) (action_nests r) (action_nests s)
+regular_nests (Implies' r s) = of_two (λ a b. Step (ImpliesAct a b)) (action_meant r) (action_meant s) (IsActionDepth (reg_nesting r)) (IsActionDepth (reg_nesting s)) (IsRegularDepth (1 + max (reg_nesting r) (reg_nesting s))) (λ a b h k i. 1 + max (h i) (k i)) (action_nests r) (action_nests s)
+regular_nests (Star' r) = of_one Star (regular_meant r) (IsRegularDepth (reg_nesting r)) (IsRegularDepth (1 + reg_nesting r)) (λ a h. ap (λ k. 1 + k) h) (regular_nests r)
+regular_nests (Plus' r) = of_one Plus (regular_meant r) (IsRegularDepth (reg_nesting r)) (IsRegularDepth (1 + reg_nesting r)) (λ a h. ap (λ k. 1 + k) h) (regular_nests r)
+regular_nests (Then' r s) = of_two Then (regular_meant r) (regular_meant s) (IsRegularDepth (reg_nesting r)) (IsRegularDepth (reg_nesting s)) (IsRegularDepth (1 + max (reg_nesting r) (reg_nesting s))) (λ a b h k i. 1 + max (h i) (k i)) (regular_nests r) (regular_nests s)
+regular_nests (Either' r s) = of_two Either (regular_meant r) (regular_meant s) (IsRegularDepth (reg_nesting r)) (IsRegularDepth (reg_nesting s)) (IsRegularDepth (1 + max (reg_nesting r) (reg_nesting s))) (λ a b h k i. 1 + max (h i) (k i)) (regular_nests r) (regular_nests s)
+
+formula_nests : (s : Syntax) → IfSome (meant s) (IsDepth (nesting s))
+formula_nests True' = refl
+formula_nests False' = refl
+formula_nests (Var' name) = refl
+formula_nests (Group' f) = formula_nests f
+formula_nests (Neg' f) = of_one Not (meant f) (IsDepth (nesting f)) (IsDepth (1 + nesting f)) (λ a h. ap (λ k. 1 + k) h) (formula_nests f)
+formula_nests (Both' f g) = of_two And (meant f) (meant g) (IsDepth (nesting f)) (IsDepth (nesting g)) (IsDepth (1 + max (nesting f) (nesting g))) (λ a b h k i. 1 + max (h i) (k i)) (formula_nests f) (formula_nests g)
+formula_nests (OneOf' f g) = of_two Or (meant f) (meant g) (IsDepth (nesting f)) (IsDepth (nesting g)) (IsDepth (1 + max (nesting f) (nesting g))) (λ a b h k i. 1 + max (h i) (k i)) (formula_nests f) (formula_nests g)
+formula_nests (If' f g) = of_two Implies (meant f) (meant g) (IsDepth (nesting f)) (IsDepth (nesting g)) (IsDepth (1 + max (nesting f) (nesting g))) (λ a b h k i. 1 + max (h i) (k i)) (formula_nests f) (formula_nests g)
+formula_nests (Dia' r f) = of_two Dia (regular_meant r) (meant f) (IsRegularDepth (reg_nesting r)) (IsDepth (nesting f)) (IsDepth (1 + max (reg_nesting r) (nesting f))) (λ a b h k i. 1 + max (h i) (k i)) (regular_nests r) (formula_nests f)
+formula_nests (Box' r f) = of_two Box (regular_meant r) (meant f) (IsRegularDepth (reg_nesting r)) (IsDepth (nesting f)) (IsDepth (1 + max (reg_nesting r) (nesting f))) (λ a b h k i. 1 + max (h i) (k i)) (regular_nests r) (formula_nests f)
+formula_nests (Mu' name f) = of_one (Mu name) (meant f) (IsDepth (nesting f)) (IsDepth (1 + nesting f)) (λ a h. ap (λ k. 1 + k) h) (formula_nests f)
+formula_nests (Nu' name f) = of_one (Nu name) (meant f) (IsDepth (nesting f)) (IsDepth (1 + nesting f)) (λ a h. ap (λ k. 1 + k) h) (formula_nests f)
+
+-- Trees that mean one formula nest alike, whatever their parentheses.
+pub same_nesting : (s t : Syntax) (f : Formula) → meant s ≡ Some f → meant t ≡ Some f → nesting s ≡ nesting t
+same_nesting s t f a b = subst (λ o. IfSome o (IsDepth (nesting s))) a (formula_nests s) ∙ sym (subst (λ o. IfSome o (IsDepth (nesting t))) b (formula_nests t))
+
+-- The canonical tree opens no more parentheses than its operators nest.
+
+action_parens : (a : Action) → reg_parens (canon_action a) ≤ reg_nesting (canon_action a)
+action_parens Anything = omega arith
+action_parens Nothing = omega arith
+action_parens (Names []) = omega arith
+action_parens (Names (x ∷ names)) = omega arith
+action_parens (Quoted bytes) = omega arith
+action_parens (NotAct a) = omega (arith, action_parens a)
+action_parens (AndAct a b) = omega (arith, action_parens a, action_parens b)
+action_parens (OrAct a b) = omega (arith, action_parens a, action_parens b)
+action_parens (ImpliesAct a b) = omega (arith, action_parens a, action_parens b)
+
+regular_parens : (r : Regular) → reg_parens (canon_regular r) ≤ reg_nesting (canon_regular r)
+regular_parens (Step a) = action_parens a
+regular_parens (Then r s) = omega (arith, regular_parens r, regular_parens s)
+regular_parens (Either r s) = omega (arith, regular_parens r, regular_parens s)
+regular_parens (Star r) = omega (arith, regular_parens r)
+regular_parens (Plus r) = omega (arith, regular_parens r)
+
+formula_parens : (f : Formula) → parens (canon_syntax f) ≤ nesting (canon_syntax f)
+formula_parens True = omega arith
+formula_parens False = omega arith
+formula_parens (Var name) = omega arith
+formula_parens (Not f) = omega (arith, formula_parens f)
+formula_parens (And f g) = omega (arith, formula_parens f, formula_parens g)
+formula_parens (Or f g) = omega (arith, formula_parens f, formula_parens g)
+formula_parens (Implies f g) = omega (arith, formula_parens f, formula_parens g)
+formula_parens (Dia r f) = omega (arith, regular_parens r, formula_parens f)
+formula_parens (Box r f) = omega (arith, regular_parens r, formula_parens f)
+formula_parens (Mu name f) = omega (arith, formula_parens f)
+formula_parens (Nu name f) = omega (arith, formula_parens f)
+
+-- what a text spells is spellable
+pub spelled_spellable : (text : List ℕ) (f : Formula) → Spells text f → IsSpellable f
+spelled_spellable text f a =
+    tree_spellable a.syntax f (subst AreTokens a.written.spelled (cut_tokens a.pieces [] a.written.cut)) a.stands_for
+
+pub canon_spells : (text : List ℕ) (f : Formula) → Spells text f → Spells (canon f) f
+canon_spells text f a = canon_spelled f (spelled_spellable text f a)
+
+pub canon_within : (text : List ℕ) (f : Formula) → SpellsWithin text f → length (canon f) ≤ 1048576 → SpellsWithin (canon f) f
+canon_within text f a short =
+    let s = spelled_spellable text f (record { pieces = a.pieces; syntax = a.syntax; written = a.written; stands_for = a.stands_for }) in
+    let limits = and_parts (nat_le (nesting a.syntax) 256) (nat_le (parens a.syntax) 1024) a.within in
+    let nest : nesting (canon_syntax f) ≤ 256 = omega (arith, same_nesting a.syntax (canon_syntax f) f a.stands_for (formula_again f s), leb-true (nesting a.syntax) 256 limits.0) in
+    record {
+      pieces = _;
+      syntax = canon_syntax f;
+      written = canon_is_written f s;
+      stands_for = formula_again f s;
+      within = and_from _ _ (le-leb (nesting (canon_syntax f)) 256 nest) (le-leb (parens (canon_syntax f)) 1024 (omega (arith, formula_parens f)));
+      short = short;
+    }

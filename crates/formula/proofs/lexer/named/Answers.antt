@@ -1,0 +1,16 @@
+use Rattle.std.proofs.Common.{rules, ◌≡◌, ℕ, Bool, false, subst, sym, ◌∙◌, take}
+use Rattle.std.specs.List.{list_any}
+use Rattle.std.specs.Str.{bytes_eq}
+use Rattle.lts.specs.Text.{is_name_byte}
+use Rattle.formula.specs.Token.{reserved_words}
+use Rattle.formula.specs.Written.{token_of}
+use Rattle.formula.proofs.Cuts.{named-front, run-of, Run}
+use Rattle.formula.proofs.lexer.named.Goals as goal
+
+pub returns : goal.returns
+returns c =
+    let text = c.args.text.now in
+    let n = c.name_len-len.result in
+    let run : Run is_name_byte text n = subst (λ (k : ℕ). Run is_name_byte text k) (sym c.name_len-len.ensures) (run-of is_name_byte text) in
+    let free : list_any (bytes_eq (take n text)) reserved_words ≡ false = sym c.if-is_reserved.ensures in
+    named-front text n (token_of c.word.result) c.requires.some c.requires.letter run c.word.ensures free

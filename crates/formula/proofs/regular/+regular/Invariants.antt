@@ -1,0 +1,18 @@
+-- Each call has fewer tokens, or as many and is nearer to their first.
+use Rattle.std.proofs.Common.{◌+◌, ◌*◌, length}
+use Rattle.formula.proofs.regular.+regular.Given as goal
+
+abbrev pub decreases-extended : goal.decreases-extended
+decreases-extended l = 4 * length l.left.rest.now
+
+abbrev pub decreases-negated : goal.decreases-negated
+decreases-negated l = 4 * length l.tokens.now + 1
+
+abbrev pub decreases-negation : goal.decreases-negation
+decreases-negation l = 4 * length l.tokens.now
+
+abbrev pub decreases-parens : goal.decreases-parens
+decreases-parens l = 4 * length l.tokens.now + 2
+
+abbrev pub decreases-regular : goal.decreases-regular
+decreases-regular l = 4 * length l.tokens.now + 1

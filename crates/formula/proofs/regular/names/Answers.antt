@@ -1,0 +1,16 @@
+use Rattle.std.proofs.Common.{rules, ◌≡◌, ◌+◌, ◌++◌, ◌∷◌, [], List, ℕ, length, map, arith, ◌∙◌, ap, sym, drop, Bool, true}
+use Rattle.std.proofs.lemmas.List.{map-append, take_rest}
+use Rattle.std.proofs.lemmas.Grind.{common_steps}
+use Rattle.formula.specs.Syntax.{more_names}
+use Rattle.formula.specs.Written.{words}
+use Rattle.formula.specs.Read.{MatchBar}
+use Rattle.formula.proofs.Regulars.{names-more}
+use Rattle.formula.proofs.regular.names.Goals as goal
+
+pub names-preserved : goal.names-preserved
+names-preserved c =
+    let ts = c.args.tokens.now in
+    let bar : MatchBar (words (drop c.names.at ts)) true = rw take_rest at c.names-test.ensures in
+    let p = names-more ts c.names.at (map (λ name. name.now) c.names.others.items) c.in_ok-name.name.now c.in_ok-name.field-0-1.now c.names.invariant.1 bar (rw take_rest at c.in_ok-name.ensures) in
+    let e : map (λ name. name.now) c.push.new.self.items ≡ map (λ name. name.now) c.names.others.items ++ c.in_ok-name.name.now ∷ [] = grind (arith, common_steps, map-append) in
+    (p.0, p.1 ∙ ap (λ names. more_names names ++ words (drop (c.names.at + 2) ts)) (sym e))

@@ -1,0 +1,113 @@
+-- What a parser has read, and how far what follows lets it go on.
+use Rattle.std.specs.Prelude.{◌≡◌, ◌≢◌, ℕ, ◌+◌, ◌<◌, ◌≤◌, Bool, true, false, List, [], ◌∷◌, ◌++◌, map, max, length, IsTrue, ◌==◌, ◌||◌, Option, Some, None}
+use Rattle.formula.specs.Token.{Token, ImpliesSign, OrSign, AndSign, Bar, Dot, ChoiceSign, PlusSign, StarSign}
+use Rattle.formula.specs.Syntax.{RegSyntax, reg_tokens, reg_fits, reg_form, reg_nesting, reg_parens, Syntax, tokens, fits, form, nesting, parens, ends_in_binder, is_within_limits}
+use Rattle.formula.specs.Written.{words, reg_syntax, state_syntax, infixed, repeated, infix_token, repeat_token, joined, connective_token}
+use Rattle.formula.specs.declared.error.FormulaFault.{FormulaFault}
+use Rattle.formula.specs.declared.error.FormulaError.{FormulaError}
+use Rattle.formula.specs.declared.error.FormulaError.TheVariants as refused
+use Rattle.formula.specs.declared.written.Infix.{Infix}
+use Rattle.formula.specs.declared.written.Repeat.{Repeat}
+use Rattle.formula.specs.declared.written.WrittenRegular.{WrittenRegular}
+use Rattle.formula.specs.declared.written.Connective.{Connective}
+use Rattle.formula.specs.declared.written.WrittenState.{WrittenState}
+use Rattle.formula.specs.declared.regular.Suffix.{Suffix}
+use Rattle.formula.specs.declared.regular.Suffix.TheVariants as suffix
+use Rattle.formula.specs.declared.regular.ReadRegular.{ReadRegular}
+use Rattle.formula.specs.declared.state.ReadState.{ReadState}
+
+-- the row of the grammar's table that the first token would make of a regular formula before it; 8 where it can't go on
+abbrev pub reg_row : List Token → ℕ
+reg_row (Bar ∷ more) = 0
+reg_row (AndSign ∷ more) = 2
+reg_row (OrSign ∷ more) = 3
+reg_row (ImpliesSign ∷ more) = 4
+reg_row (StarSign ∷ more) = 5
+reg_row (PlusSign ∷ more) = 5
+reg_row (Dot ∷ more) = 6
+reg_row (ChoiceSign ∷ more) = 7
+reg_row _ = 8
+
+-- the same of a state formula; 4 where it can't go on
+abbrev pub state_row : List Token → ℕ
+state_row (AndSign ∷ more) = 1
+state_row (OrSign ∷ more) = 2
+state_row (ImpliesSign ∷ more) = 3
+state_row _ = 4
+
+-- the tokens of what was read, and those after it
+abbrev pub regular_tokens : ReadRegular → List Token
+regular_tokens r = reg_tokens (reg_syntax r.syntax) ++ words r.rest.now
+
+-- a regular formula of this row, of this height, within these limits
+pub record IsRegular (level depth inside : ℕ) (r : ReadRegular) : Type 0 where
+  pub grammatical : IsTrue (reg_fits (reg_syntax r.syntax))
+  pub row : reg_form (reg_syntax r.syntax) ≤ level
+  pub height : r.height ≡ reg_nesting (reg_syntax r.syntax)
+  pub low : r.height ≤ depth
+  pub narrow : reg_parens (reg_syntax r.syntax) ≤ inside
+
+abbrev pub state_tokens : ReadState → List Token
+state_tokens s = tokens (state_syntax s.syntax) ++ words s.rest.now
+
+-- A state formula of this row, of this height, within these limits. A binder at its end reaches as far as possible.
+pub record IsState (level depth inside : ℕ) (s : ReadState) : Type 0 where
+  pub grammatical : IsTrue (fits (state_syntax s.syntax))
+  pub row : form (state_syntax s.syntax) ≤ level
+  pub height : s.height ≡ nesting (state_syntax s.syntax)
+  pub low : s.height ≤ depth
+  pub narrow : parens (state_syntax s.syntax) ≤ inside
+  pub reaches : ends_in_binder (state_syntax s.syntax) ≡ true → 3 < state_row (words s.rest.now)
+  pub ended : form (state_syntax s.syntax) < state_row (words s.rest.now)
+
+-- what was read, under a postfix sign
+pub record IsRepeated (left : ReadRegular) (sign : Repeat) (r : ReadRegular) : Type 0 where
+  pub syntax : reg_syntax r.syntax ≡ repeated sign (reg_syntax left.syntax)
+  pub height : r.height ≡ left.height + 1
+
+-- what was read, with a sign between
+pub record IsJoined (left : ReadRegular) (sign : Infix) (right r : ReadRegular) : Type 0 where
+  pub syntax : reg_syntax r.syntax ≡ infixed sign (reg_syntax left.syntax) (reg_syntax right.syntax)
+  pub height : r.height ≡ max left.height right.height + 1
+
+-- how the token goes on after a regular formula
+abbrev pub IsSuffix : Token → Option Suffix → Type 0
+IsSuffix token (Some (suffix.Infix sign)) = token ≡ infix_token sign
+IsSuffix token (Some (suffix.Repeat sign)) = token ≡ repeat_token sign
+IsSuffix token None = (more : List Token) → IsTrue (reg_row (token ∷ more) == 0 || reg_row (token ∷ more) == 8)
+
+-- the atom that is this one token
+abbrev pub IsWordOf : Token → Option WrittenRegular → Type 0
+IsWordOf token (Some r) = (reg_tokens (reg_syntax r) ≡ token ∷ []) × (reg_form (reg_syntax r) ≡ 0) × (reg_nesting (reg_syntax r) ≡ 0) × (reg_parens (reg_syntax r) ≡ 0) × IsTrue (reg_fits (reg_syntax r))
+IsWordOf token None = Unit {0}
+
+-- whether a bar stands first
+abbrev pub MatchBar : List Token → Bool → Type 0
+MatchBar (Bar ∷ more) bar = bar ≡ true
+MatchBar more bar = (bar ≡ false) × (0 < reg_row more)
+
+-- what was read, with a sign between
+pub record IsStateJoined (left : ReadState) (sign : Connective) (right s : ReadState) : Type 0 where
+  pub syntax : state_syntax s.syntax ≡ joined sign (state_syntax left.syntax) (state_syntax right.syntax)
+  pub height : s.height ≡ max left.height right.height + 1
+
+-- how the token goes on after a state formula
+abbrev pub IsConnective : Token → Option Connective → Type 0
+IsConnective token (Some sign) = token ≡ connective_token sign
+IsConnective token None = (more : List Token) → state_row (token ∷ more) ≡ 4
+
+-- the formula that is this one token
+abbrev pub IsFormulaOf : Token → Option WrittenState → Type 0
+IsFormulaOf token (Some s) = (tokens (state_syntax s) ≡ token ∷ []) × (form (state_syntax s) ≡ 0) × (nesting (state_syntax s) ≡ 0) × (parens (state_syntax s) ≡ 0) × IsTrue (fits (state_syntax s)) × (ends_in_binder (state_syntax s) ≡ false)
+IsFormulaOf token None = Unit {0}
+
+-- these tokens are the formula, which is of the grammar and within the limits
+pub record IsWhole (s : Syntax) (ts : List Token) : Type 0 where
+  pub spelled : tokens s ≡ ts
+  pub grammatical : IsTrue (fits s)
+  pub within : IsTrue (is_within_limits s)
+
+-- the refusal with this fault at this place
+abbrev pub IsRefusal : FormulaFault → Option ℕ → FormulaError → Type 0
+IsRefusal fault place (refused.Fault other offset) = (other ≡ fault) × (place ≡ Some offset)
+IsRefusal fault place refused.Memory = ⊥

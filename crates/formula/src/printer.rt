@@ -1,0 +1,278 @@
+// The canonical text of a formula.
+
+ghost use Rattle.std.specs.Prelude.{◌++◌, codes, map};
+ghost use Rattle.lts.specs.Wrote.{Wrote};
+ghost use Rattle.formula.specs.View.{action_of, regular_of, formula_of};
+ghost use Rattle.formula.specs.Closed.{closed_formula};
+ghost use Rattle.formula.specs.Canon.{action_text, regular_text, canon, names_text};
+
+use crate::closed::Closed;
+use crate::tree::{Act, Reg, State};
+use lts::{WriteFault, put};
+use std::io::Write;
+
+/// Writes the formula's canonical text, without an end of line and without memory. Each operator between two operands and
+/// each binder has parentheses, the outermost too: `(nu X. (mu Y. (<a>X || <b>Y)))`.
+///
+/// # Errors
+/// After a fault the writer holds a beginning of the text.
+pub fn print<W: Write>(formula: &Closed, writer: &mut W) -> Result<(), WriteFault>
+    ensures wrote { Wrote (W.contents writer.old) (W.contents writer.new) result
+        (canon (closed_formula formula.now)) }
+{
+    put_state(formula.tree(), writer)
+}
+
+#[cycle(state_text)]
+fn put_state<W: Write>(formula: &State, writer: &mut W) -> Result<(), WriteFault>
+    ensures wrote { Wrote (W.contents writer.old) (W.contents writer.new) result
+        (canon (formula_of formula.now)) }
+{
+    match formula {
+        State::True => put(writer, b"true"),
+        State::False => put(writer, b"false"),
+        State::Var(name) => put(writer, name),
+        State::Not(operand) => {
+            put(writer, b"!")?;
+            put_state(operand, writer)
+        }
+        State::And(left, right) => put_pair(left, b" && ", right, writer),
+        State::Or(left, right) => put_pair(left, b" || ", right, writer),
+        State::Implies(left, right) => put_pair(left, b" => ", right, writer),
+        State::Dia(regular, operand) => {
+            put_modality(b"<", regular, b">", writer)?;
+            put_state(operand, writer)
+        }
+        State::Box(regular, operand) => {
+            put_modality(b"[", regular, b"]", writer)?;
+            put_state(operand, writer)
+        }
+        State::Mu(name, body) => put_binder(b"(mu ", name, body, writer),
+        State::Nu(name, body) => put_binder(b"(nu ", name, body, writer),
+    }
+}
+
+#[cycle(state_text)]
+fn put_pair<W: Write>(
+    left: &State,
+    sign: &[u8],
+    right: &State,
+    writer: &mut W,
+) -> Result<(), WriteFault>
+    ensures wrote { Wrote (W.contents writer.old) (W.contents writer.new) result
+        (codes "(" ++ (canon (formula_of left.now) ++ (sign.now ++ (canon (formula_of right.now) ++ codes ")")))) }
+{
+    put(writer, b"(")?;
+    put_state(left, writer)?;
+    put(writer, sign)?;
+    put_state(right, writer)?;
+    put(writer, b")")
+}
+
+#[cycle(state_text)]
+fn put_binder<W: Write>(
+    opening: &[u8],
+    name: &[u8],
+    body: &State,
+    writer: &mut W,
+) -> Result<(), WriteFault>
+    ensures wrote { Wrote (W.contents writer.old) (W.contents writer.new) result
+        (opening.now ++ (name.now ++ (codes ". " ++ (canon (formula_of body.now) ++ codes ")")))) }
+{
+    put(writer, opening)?;
+    put(writer, name)?;
+    put(writer, b". ")?;
+    put_state(body, writer)?;
+    put(writer, b")")
+}
+
+fn put_modality<W: Write>(
+    opening: &[u8],
+    regular: &Reg,
+    closing: &[u8],
+    writer: &mut W,
+) -> Result<(), WriteFault>
+    ensures wrote { Wrote (W.contents writer.old) (W.contents writer.new) result
+        (opening.now ++ (regular_text (regular_of regular.now) ++ closing.now)) }
+{
+    put(writer, opening)?;
+    put_regular(regular, writer)?;
+    put(writer, closing)
+}
+
+#[cycle(regular_text)]
+fn put_regular<W: Write>(regular: &Reg, writer: &mut W) -> Result<(), WriteFault>
+    ensures wrote { Wrote (W.contents writer.old) (W.contents writer.new) result
+        (regular_text (regular_of regular.now)) }
+{
+    match regular {
+        Reg::Act(action) => put_action(action, writer),
+        Reg::Seq(first, second) => put_regular_pair(first, b" . ", second, writer),
+        Reg::Choice(left, right) => put_regular_pair(left, b" + ", right, writer),
+        Reg::Star(operand) => {
+            put_regular(operand, writer)?;
+            put(writer, b"*")
+        }
+        Reg::Plus(operand) => {
+            put_regular(operand, writer)?;
+            put(writer, b"+")
+        }
+    }
+}
+
+#[cycle(regular_text)]
+fn put_regular_pair<W: Write>(
+    left: &Reg,
+    sign: &[u8],
+    right: &Reg,
+    writer: &mut W,
+) -> Result<(), WriteFault>
+    ensures wrote { Wrote (W.contents writer.old) (W.contents writer.new) result
+        (codes "(" ++ (regular_text (regular_of left.now) ++ (sign.now ++ (regular_text (regular_of right.now) ++ codes ")")))) }
+{
+    put(writer, b"(")?;
+    put_regular(left, writer)?;
+    put(writer, sign)?;
+    put_regular(right, writer)?;
+    put(writer, b")")
+}
+
+#[cycle(action_text)]
+fn put_action<W: Write>(action: &Act, writer: &mut W) -> Result<(), WriteFault>
+    ensures wrote { Wrote (W.contents writer.old) (W.contents writer.new) result
+        (action_text (action_of action.now)) }
+{
+    match action {
+        Act::True => put(writer, b"true"),
+        Act::False => put(writer, b"false"),
+        Act::Names(names) => put_names(names, writer),
+        Act::Quoted(bytes) => put_quoted(bytes, writer),
+        Act::Not(operand) => {
+            put(writer, b"!")?;
+            put_action(operand, writer)
+        }
+        Act::And(left, right) => put_action_pair(left, b" && ", right, writer),
+        Act::Or(left, right) => put_action_pair(left, b" || ", right, writer),
+        Act::Implies(left, right) => put_action_pair(left, b" => ", right, writer),
+    }
+}
+
+#[cycle(action_text)]
+fn put_action_pair<W: Write>(
+    left: &Act,
+    sign: &[u8],
+    right: &Act,
+    writer: &mut W,
+) -> Result<(), WriteFault>
+    ensures wrote { Wrote (W.contents writer.old) (W.contents writer.new) result
+        (codes "(" ++ (action_text (action_of left.now) ++ (sign.now ++ (action_text (action_of right.now) ++ codes ")")))) }
+{
+    put(writer, b"(")?;
+    put_action(left, writer)?;
+    put(writer, sign)?;
+    put_action(right, writer)?;
+    put(writer, b")")
+}
+
+fn put_names<W: Write>(names: &[Vec<u8>], writer: &mut W) -> Result<(), WriteFault>
+    ensures wrote { Wrote (W.contents writer.old) (W.contents writer.new) result
+        (names_text (map (λ name. name.items) names.now)) }
+{
+    let Some((first, others)) = names.split_first() else {
+        return put(writer, b"tau");
+    };
+    put(writer, first)?;
+    for name in others {
+        put(writer, b"|")?;
+        put(writer, name)?;
+    }
+    Ok(())
+}
+
+fn put_quoted<W: Write>(bytes: &[u8], writer: &mut W) -> Result<(), WriteFault>
+    ensures wrote { Wrote (W.contents writer.old) (W.contents writer.new) result
+        (codes "\"" ++ (bytes.now ++ codes "\"")) }
+{
+    put(writer, b"\"")?;
+    put(writer, bytes)?;
+    put(writer, b"\"")
+}
+
+#[cfg(test)]
+mod tests {
+    use super::*;
+    use std::alloc::{AllocError, Global};
+    use std::test::Fail;
+
+    fn named(alloc: Global, name: &[u8]) -> Result<Act, AllocError> {
+        Ok(Act::Names(vec![in alloc; name.to_vec(alloc)?]?))
+    }
+
+    fn after(alloc: Global, name: &[u8], operand: State) -> Result<State, AllocError> {
+        Ok(State::Dia(Reg::Act(named(alloc, name)?), Box::new(alloc, operand)?))
+    }
+
+    // nu X. mu Y. (<a>X || <b>Y)
+    fn often(alloc: Global) -> Result<State, AllocError> {
+        let left = after(alloc, b"a", State::Var(b"X".to_vec(alloc)?))?;
+        let right = after(alloc, b"b", State::Var(b"Y".to_vec(alloc)?))?;
+        let either = State::Or(Box::new(alloc, left)?, Box::new(alloc, right)?);
+        let inner = State::Mu(b"Y".to_vec(alloc)?, Box::new(alloc, either)?);
+        Ok(State::Nu(b"X".to_vec(alloc)?, Box::new(alloc, inner)?))
+    }
+
+    // <a + + b>true
+    fn repeated_or_b(alloc: Global) -> Result<State, AllocError> {
+        let repeated = Reg::Plus(Box::new(alloc, Reg::Act(named(alloc, b"a")?))?);
+        let other = Reg::Act(named(alloc, b"b")?);
+        let either = Reg::Choice(Box::new(alloc, repeated)?, Box::new(alloc, other)?);
+        Ok(State::Dia(either, Box::new(alloc, State::True)?))
+    }
+
+    // mu X. !(X => false)
+    fn twice_negated(alloc: Global) -> Result<State, AllocError> {
+        let variable = State::Var(b"X".to_vec(alloc)?);
+        let implied = State::Implies(Box::new(alloc, variable)?, Box::new(alloc, State::False)?);
+        let body = State::Not(Box::new(alloc, implied)?);
+        Ok(State::Mu(b"X".to_vec(alloc)?, Box::new(alloc, body)?))
+    }
+
+    // [("r(1)" . (a|b && !tau))*]false
+    fn boxed(alloc: Global) -> Result<State, AllocError> {
+        let both = Act::Names(vec![in alloc; b"a".to_vec(alloc)?, b"b".to_vec(alloc)?]?);
+        let silent = Act::Names(Vec::new(alloc));
+        let loud = Act::Not(Box::new(alloc, silent)?);
+        let second = Reg::Act(Act::And(Box::new(alloc, both)?, Box::new(alloc, loud)?));
+        let first = Reg::Act(Act::Quoted(b"r(1)".to_vec(alloc)?));
+        let steps = Reg::Seq(Box::new(alloc, first)?, Box::new(alloc, second)?);
+        let repeated = Reg::Star(Box::new(alloc, steps)?);
+        Ok(State::Box(repeated, Box::new(alloc, State::False)?))
+    }
+
+    #[test]
+    fn writes_canonical_texts(rt: HostRuntime) -> Result<(), Fail> {
+        let alloc = rt.alloc();
+        let rows = [
+            (often(alloc)?, "(nu X. (mu Y. (<a>X || <b>Y)))"),
+            (repeated_or_b(alloc)?, "<(a+ + b)>true"),
+            (twice_negated(alloc)?, "(mu X. !(X => false))"),
+            (boxed(alloc)?, "[(\"r(1)\" . (a|b && !tau))*]false"),
+        ];
+        for (formula, text) in &rows {
+            let mut written = Vec::new(alloc);
+            put_state(formula, &mut written)?;
+            assert_eq!(rt; written.as_slice(), text.as_bytes());
+        }
+        Ok(())
+    }
+
+    #[test]
+    fn stops_where_the_writer_is_full(rt: HostRuntime) -> Result<(), Fail> {
+        let mut taken = [0; 10];
+        let mut writer = taken.as_mut_slice();
+        let result = put_state(&often(rt.alloc())?, &mut writer);
+        assert_eq!(rt; result, Err(WriteFault));
+        assert_eq!(rt; taken.as_slice(), b"(nu X. (mu".as_slice());
+        Ok(())
+    }
+}

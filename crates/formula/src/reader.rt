@@ -1,0 +1,81 @@
+// Reads formulas.
+
+ghost use Rattle.std.specs.Prelude.{◌≡◌, ℕ, ◌<◌, length, map, IfOk, slice_get};
+ghost use Rattle.formula.specs.Written.{words, state_syntax};
+ghost use Rattle.formula.specs.Read.{IsWhole, IsRefusal};
+ghost use Rattle.formula.specs.Spells.{SpellsWithin};
+ghost use Rattle.formula.specs.Closed.{closed_formula};
+
+use crate::closed::Closed;
+use crate::error::{FormulaError, FormulaFault};
+use crate::lexer::tokens;
+use crate::meant;
+use crate::operands::state_operands;
+use crate::room::Room;
+use crate::scope::{Binders, variables};
+use crate::state::{ANY_STATE, state};
+use crate::token::Placed;
+use crate::written::WrittenState;
+use std::alloc::Global;
+
+/// The longest text of a formula, in bytes.
+pub const LONGEST_TEXT: usize = 1_048_576;
+
+/// How deep a formula may nest.
+pub const DEEPEST: usize = 256;
+
+/// How many parentheses may be open at once.
+pub const MOST_PARENS: usize = 1_024;
+
+/// The formula that the tokens are, as it is written.
+fn written<'a>(
+    alloc: Global,
+    end: usize,
+    tokens: &'a [Placed<'a>],
+) -> Result<WrittenState<'a>, FormulaError>
+    ensures { IfOk result (λ written. IsWhole (state_syntax written) (words tokens.now)) }
+{
+    let room = Room {
+        alloc,
+        depth: DEEPEST,
+        parens: MOST_PARENS,
+        end,
+    };
+    let whole = state(room, ANY_STATE, tokens)?;
+    if !whole.rest.is_empty() {
+        return Err(room.unexpected(whole.rest));
+    }
+    Ok(whole.syntax)
+}
+
+/// The refusal of the token with this number.
+fn refusal(tokens: &[Placed<'_>], place: usize, fault: FormulaFault) -> FormulaError
+    requires { place < length tokens.now }
+    ensures { IsRefusal fault (slice_get (map (λ p. p.offset) tokens.now) place) result }
+{
+    FormulaError::Fault {
+        fault,
+        offset: tokens[place].offset,
+    }
+}
+
+/// The formula of a text, in the syntax of mCRL2's mcf without data.
+pub fn parse(alloc: Global, text: &[u8]) -> Result<Closed, FormulaError>
+    ensures { IfOk result (λ f. SpellsWithin text.now (closed_formula f)) }
+{
+    if text.len() > LONGEST_TEXT {
+        return Err(FormulaError::Fault {
+            fault: FormulaFault::TooLarge,
+            offset: LONGEST_TEXT,
+        });
+    }
+    let tokens = tokens(alloc, text)?;
+    let written = written(alloc, text.len(), &tokens)?;
+    if let Err(place) = state_operands(&written, 0) {
+        return Err(refusal(&tokens, place, FormulaFault::NotAnAction));
+    }
+    if let Err(found) = variables(&written, &Binders::Empty, true, 0) {
+        return Err(refusal(&tokens, found.place, found.fault));
+    }
+    Ok(Closed::new(meant::state(alloc, &written)?))
+}

@@ -1,0 +1,11 @@
+use Rattle.std.proofs.Common.{length, subst, sym, ◌<◌}
+use Rattle.measures.specs.Tables.{LiesBelow, Table}
+use Rattle.measures.proofs.Plain.{set_stored}
+use Rattle.measures.proofs.table.PlainTable.raise.Goals as goal
+
+pub invariant_of-self : goal.invariant_of-self
+invariant_of-self c =
+    let i = c.self.inside in
+    let inside = subst (λ (t : Table). c.args.v < length t.game.vertices) (sym c.self.view_is) c.requires.vertex in
+    let below = subst (λ (t : Table). LiesBelow t.game c.args.v c.args.m.now) (sym c.self.view_is) c.requires.below in
+    set_stored i.of.value i.bounds.items i.rows c.set.new.self c.args.v c.args.m.now c.self.invariant inside below c.set.ensures

@@ -1,0 +1,76 @@
+// Lifting to the least progress table.
+
+ghost use Rattle.std.specs.Prelude.{◌≡◌, ◌<◌, ◌≤◌, ◌*◌, ◌↔◌, IsTrue, IfOk, length};
+ghost use Rattle.game.specs.Wins.{Wins};
+ghost use Rattle.measures.specs.Lifting.{height, sum_of};
+ghost use Rattle.measures.specs.Progress.{IsLeastTable, IsProgress};
+ghost use Rattle.measures.specs.Settling.{Sweeps};
+
+use crate::table::{PlainTable, Settled, opening};
+use game::graph::Game;
+use lts::error::Memory;
+use std::alloc::Global;
+
+// Lifts each vertex once. The answer says whether one rose.
+fn sweep(game: &Game, table: &mut PlainTable) -> bool
+    requires { table.old.game ≡ game.now }
+    ensures game { table.new.game ≡ game.now }
+    ensures sweeps { Sweeps game.now table.old.values table.new.values result }
+    ensures limit { sum_of game.now table.new.values ≤ length game.now.vertices * height game.now }
+{
+    let mut rose = false;
+    for v in (0..game.vertices()).rev() {
+        if table.lift_at(game, v) {
+            rose = true;
+        }
+    }
+    table.known();
+    rose
+}
+
+/// Leaves the least progress table. It takes no memory.
+pub fn settle(game: &Game, table: &mut PlainTable)
+    requires { table.old.game ≡ game.now }
+    ensures game { table.new.game ≡ game.now }
+    ensures least { IsLeastTable game.now table.new.values }
+{
+    loop {
+        let rose = sweep(game, table);
+        if !rose {
+            table.known();
+            return;
+        }
+    }
+}
+
+/// Whether no lift raises a vertex of the table.
+pub fn is_settled(game: &Game, table: &PlainTable) -> bool
+    requires { table.now.game ≡ game.now }
+    ensures { IsTrue result ↔ IsProgress game.now table.now.values }
+{
+    table.known();
+    for v in 0..game.vertices() {
+        if !table.is_still(game, v) {
+            return false;
+        }
+    }
+    true
+}
+
+/// The least progress table of a game, on one thread.
+pub fn solve_one(alloc: Global, game: &Game) -> Result<Settled, Memory>
+    ensures game { IfOk result (λ s. s.game ≡ game.now) }
+    ensures least { IfOk result (λ s. IsLeastTable game.now s.values) }
+{
+    let mut table = opening(alloc, game)?;
+    settle(game, &mut table);
+    Ok(table.into_settled())
+}
+
+/// Whether Even wins a vertex.
+pub fn even_wins(settled: &Settled, v: u32) -> bool
+    requires { v < length settled.now.game.vertices }
+    ensures { IsTrue result ↔ Wins settled.now.game v }
+{
+    !settled.is_top(v)
+}

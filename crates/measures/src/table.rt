@@ -1,0 +1,195 @@
+// Tables of measures.
+
+ghost use Rattle.std.specs.Prelude.{◌≡◌, ◌<◌, ◌↔◌, IsTrue, length, slice_set, IfOk};
+ghost use Rattle.game.specs.Game.{IsGame};
+ghost use Rattle.measures.specs.Measure.{IsProg, Top};
+ghost use Rattle.measures.specs.Progress.{IsProgress, greater_of, opening as opening_of, value_at};
+ghost use Rattle.measures.specs.Settling.{IsStill, LiftsAt};
+ghost use Rattle.measures.specs.Tables.{IsOpening, IsPlain, IsSettled, LiesBelow};
+
+use crate::bounds::bounds;
+use crate::measure::Measure;
+use crate::progs::prog_of;
+use crate::rows::Rows;
+use arrayvec::ArrayVec;
+use game::graph::Game;
+use lts::error::Memory;
+use std::alloc::Global;
+use std::marker::Model;
+use std::snapshot::Snapshot;
+
+/// A measure for each vertex of a game, none of them above that of any progress table.
+#[derive(Drop)]
+pub struct PlainTable {
+    rows: Rows,
+    bounds: ArrayVec<u32, 16>,
+    of: Snapshot<Game>,
+}
+
+impl Model for PlainTable {
+    ghost use Rattle.measures.specs.Tables.{IsStored, Table};
+
+    ghost Value = { Table };
+
+    ghost view = { λ t. record { game = t.of.value; values = t.rows.values } };
+
+    ghost invariant = { λ t. IsStored record { game = t.of.value; values = t.rows.values } t.bounds.items t.rows.width };
+}
+
+// Whether a vertex is Odd's for ever: its priority is odd, and its only successor is itself.
+fn turns_odd(game: &Game, v: u32) -> bool
+    requires { v < length game.now.vertices }
+    ensures { IsOpening game.now v result }
+{
+    game.priority(v) % 2 == 1 && game.successors(v) == [v].as_slice()
+}
+
+/// The table that lifting begins with: top at a vertex of odd priority whose only successor is itself, and else zeros.
+pub fn opening(alloc: Global, game: &Game) -> Result<PlainTable, Memory>
+    ensures game { IfOk result (λ t. t.game ≡ game.now) }
+    ensures values { IfOk result (λ t. t.values ≡ opening_of game.now) }
+{
+    game.known();
+    let bounds = bounds(game);
+    let mut rows = Rows::zeros(alloc, game.vertices() as usize, bounds.len())?;
+    for v in 0..game.vertices() {
+        if turns_odd(game, v) {
+            rows.set(v as usize, &Measure::top());
+        }
+    }
+    Ok(PlainTable {
+        rows,
+        bounds,
+        of: Snapshot::of(game),
+    })
+}
+
+impl PlainTable {
+    /// What holds of every table.
+    pub fn known(&self)
+        ensures { IsPlain self.now }
+    {
+        let _ = &self.rows;
+    }
+
+    /// The measure of a vertex.
+    pub fn value(&self, v: u32) -> Measure
+        requires { v < length self.now.game.vertices }
+        ensures value { result ≡ value_at self.now.values v }
+        ensures below { LiesBelow self.now.game v result }
+    {
+        self.rows.value(v as usize)
+    }
+
+    /// Whether the measure of a vertex is top. It copies nothing.
+    pub fn is_top(&self, v: u32) -> bool
+        requires { v < length self.now.game.vertices }
+        ensures { IsTrue result ↔ (value_at self.now.values v ≡ Top) }
+    {
+        self.rows.is_top(v as usize)
+    }
+
+    /// Leaves the greater of the old measure and the new.
+    pub fn raise(&mut self, v: u32, m: &Measure)
+        requires vertex { v < length self.old.game.vertices }
+        requires below { LiesBelow self.old.game v m.now }
+        ensures game { self.new.game ≡ self.old.game }
+        ensures values { self.new.values ≡ slice_set self.old.values v (greater_of (value_at self.old.values v) m.now) }
+    {
+        if self.rows.compare_with(v as usize, m).is_lt() {
+            self.rows.set(v as usize, m);
+        }
+    }
+
+    /// Whether no lift raises a vertex.
+    pub(crate) fn is_still(&self, game: &Game, v: u32) -> bool
+        requires same { self.now.game ≡ game.now }
+        requires vertex { v < length game.now.vertices }
+        ensures { IsTrue result ↔ IsStill game.now self.now.values v }
+    {
+        let best = self.rows.best(game.owner(v), game.successors(v));
+        self.rows
+            .reaches(v as usize, best as usize, game.priority(v))
+    }
+
+    // What a vertex of this priority asks for where its play goes on at another vertex.
+    fn prog_of(&self, priority: u8, next: usize) -> Measure
+        requires { next < length self.now.values }
+        ensures { IsProg self.now.game priority (value_at self.now.values next) result }
+    {
+        if self.rows.is_top(next) {
+            Measure::top()
+        } else {
+            prog_of(self.bounds.as_slice(), priority, self.rows.counts(next))
+        }
+    }
+
+    /// Raises a vertex to its lift. The answer says whether it rose.
+    pub(crate) fn lift_at(&mut self, game: &Game, v: u32) -> bool
+        requires same { self.old.game ≡ game.now }
+        requires vertex { v < length game.now.vertices }
+        ensures game { self.new.game ≡ game.now }
+        ensures lifts { LiftsAt game.now v self.old.values self.new.values result }
+    {
+        let priority = game.priority(v);
+        let best = self.rows.best(game.owner(v), game.successors(v)) as usize;
+        if self.rows.reaches(v as usize, best, priority) {
+            return false;
+        }
+        let risen = self.prog_of(priority, best);
+        self.rows.set(v as usize, &risen);
+        true
+    }
+
+    /// The table again, where it is a progress table: no other one is less.
+    pub fn into_settled(self) -> Settled
+        requires { IsProgress self.game self.values }
+        ensures { result ≡ self }
+    {
+        self.known();
+        Settled { table: self }
+    }
+}
+
+/// The least progress table of a game.
+#[derive(Drop)]
+pub struct Settled {
+    table: PlainTable,
+}
+
+impl Model for Settled {
+    ghost use Rattle.measures.specs.Tables.{IsSettled, Table};
+
+    ghost Value = { Table };
+
+    ghost view = { λ s. s.table };
+
+    ghost invariant = { λ s. IsSettled s.table };
+}
+
+impl Settled {
+    /// Whether the measure of a vertex is top.
+    pub fn is_top(&self, v: u32) -> bool
+        requires { v < length self.now.game.vertices }
+        ensures value { IsTrue result ↔ (value_at self.now.values v ≡ Top) }
+        ensures settled { IsSettled self.now }
+    {
+        self.table.is_top(v)
+    }
+
+    /// What holds of every settled table.
+    pub fn known(&self)
+        ensures { IsSettled self.now }
+    {
+        let _ = &self.table;
+    }
+
+    /// The measure of a vertex.
+    pub fn value(&self, v: u32) -> Measure
+        requires { v < length self.now.game.vertices }
+        ensures value { result ≡ value_at self.now.values v }
+        ensures least { IsSettled self.now }
+    {
+        self.table.value(v)
+    }
+}
