@@ -1,2 +1,4 @@
 pub mod Rows
 pub mod Tests
+pub mod Steps
+pub mod Arenas

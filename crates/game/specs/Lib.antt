@@ -3,3 +3,5 @@ pub mod Arena
 pub mod Wins
 pub mod Rises
 pub mod View
+pub mod Steps
+pub mod Refused

@@ -1,6 +1,7 @@
 // Parity games.
 #![tactic(auto)]
 
+pub mod build;
 pub mod error;
 pub mod graph;
 pub mod name;

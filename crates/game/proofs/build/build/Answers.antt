@@ -1,0 +1,39 @@
+use Rattle.std.proofs.Common.{◌≡◌, ◌+◌, ◌*◌, ◌≤◌, ◌++◌, ◌∷◌, [], ℕ, List, Some, length, subst, sym, ap, ◌∙◌, arith}
+use Rattle.std.specs.List.{range_with_len}
+use Rattle.normal.specs.Normal.{normal_nodes}
+use Rattle.game.specs.Game.{Vertex, IsGame}
+use Rattle.game.specs.Arena.{arena, rows}
+use Rattle.game.specs.declared.player.Player.TheVariants.{Even}
+use Rattle.game.proofs.Arenas.{rows_more, rows_fit, arena_is_game}
+use Rattle.game.proofs.build.build.Goals as goal
+
+abbrev sinks : List Vertex
+sinks = record { owner = Even; priority = 0; successors = 0 ∷ [] } ∷ record { owner = Even; priority = 1; successors = 1 ∷ [] } ∷ []
+
+-- what the two sinks make
+two_sinks : (none one two : List Vertex) → none ≡ [] → one ≡ none ++ record { owner = Even; priority = 0; successors = 0 ∷ [] } ∷ [] → two ≡ one ++ record { owner = Even; priority = 1; successors = 1 ∷ [] } ∷ [] → two ≡ sinks
+two_sinks none one two e f g = g ∙ ap (λ xs. xs ++ record { owner = Even; priority = 1; successors = 1 ∷ [] } ∷ []) (f ∙ ap (λ xs. xs ++ record { owner = Even; priority = 0; successors = 0 ∷ [] } ∷ []) e)
+
+-- the product of equal numbers
+within : (a b c d : ℕ) → a ≡ c → b ≡ d → 2 + a * b ≤ 16777216 → 2 + c * d ≤ 16777216
+within a b c d e f h = subst (λ n. n ≤ 16777216) (λ i. 2 + e i * f i) h
+
+pub push_state-requires-clause-room : goal.push_state-requires-clause-room
+push_state-requires-clause-room c =
+    let nodes = normal_nodes c.args.form.now in
+    let begun = two_sinks c.new-builder.result c.push.new.self c.push-2.new.self c.new-builder.ensures c.in_ok-push.ensures.ok c.in_ok-push-2.ensures.ok in
+    let few = within c.states-states.result c.count-nodes.result c.args.lts.now.system.states (length nodes) c.states-states.ensures.count c.count-nodes.ensures.count (omega (arith, c.if-states-nodes.false)) in
+    rows_fit c.args.lts.now.system nodes c.loop-state.state c.push-2.new.self c.loop-state.builder (ap length begun) c.loop-state.invariant (omega (arith, c.states-states.ensures.count)) few
+
+pub loop-state-preserved : goal.loop-state-preserved
+loop-state-preserved c = rows_more c.args.lts.now.system (normal_nodes c.args.form.now) c.loop-state.state c.push-2.new.self c.loop-state.builder c.push_state.new.builder c.loop-state.invariant c.in_ok-push_state.ensures
+
+pub into_game-requires : goal.into_game-requires
+into_game-requires c =
+    let l = c.args.lts.now.system in
+    let nodes = normal_nodes c.args.form.now in
+    let begun = two_sinks c.new-builder.result c.push.new.self c.push-2.new.self c.new-builder.ensures c.in_ok-push.ensures.ok c.in_ok-push-2.ensures.ok in
+    let few = within c.states-states.result c.count-nodes.result l.states (length nodes) c.states-states.ensures.count c.count-nodes.ensures.count (omega (arith, c.if-states-nodes.false)) in
+    let ended : c.loop-state.state ≡ l.states = omega (arith, c.states-states.ensures.count) in
+    let all : c.loop-state.builder ≡ (arena l nodes).vertices = c.loop-state.invariant ∙ (λ i. begun i ++ rows l nodes (range_with_len 0 (ended i))) in
+    subst IsGame (λ i. record { vertices = sym all i; named = Some (sym c.states-states.ensures.count i, sym c.count-nodes.ensures.count i) }) (arena_is_game l nodes c.known.ensures few)

@@ -1,0 +1,30 @@
+use Rattle.std.proofs.Common.{◌≡◌, Bool, List, [], Vec, Global, length, map, slice_index_or, subst, sym, ap, ◌∙◌, arith}
+use Rattle.std.proofs.lemmas.List.{get_or-map}
+use Rattle.lts.specs.declared.system.Transition.{Transition}
+use Rattle.normal.specs.View.{node_of}
+use Rattle.normal.specs.Normal.{normal_nodes}
+use Rattle.game.specs.Arena.{vertex_of}
+use Rattle.game.specs.Steps.{IsSetFor, IsRowOf, picks, is_in, vertex_by}
+use Rattle.game.proofs.Steps.{vertex_is}
+use Rattle.game.proofs.Arenas.{vertices_more}
+use Rattle.game.proofs.build.push_state.Goals as goal
+
+pub loop-number-preserved : goal.loop-number-preserved
+loop-number-preserved c =
+    let l = c.args.lts.now in
+    let nodes = normal_nodes c.args.form.now in
+    let i = c.loop-number.number in
+    let node = node_of c.node.result.now in
+    let set = c.as_slice-set.result.now in
+    let there : slice_index_or (map (λ (s : Vec Bool Global). s.items) c.args.sets.now) i [] ≡ set =
+    get_or-map (λ (s : Vec Bool Global). s.items) c.args.sets.now i c.index-sets-number.result [] (omega (arith, c.loop-number-test.true, c.requires.count, c.count-nodes.ensures.count))
+    ∙ (ap (λ (s : Vec Bool Global). s.items) (sym c.index-sets-number.is) ∙ sym c.as_slice-set.ensures.value)
+    in
+    let passes : IsSetFor l.labels node.shape set = subst (IsSetFor l.labels node.shape) there (c.requires.sets i node c.node.ensures) in
+    let row = c.deref.result.now in
+    let of_state = subst (λ (ts : List Transition). IsRowOf l c.args.state ts) (sym c.deref.ensures.value) c.in_ok-by_target.ensures in
+    let count : c.count-nodes.result ≡ length nodes = c.count-nodes.ensures.count in
+    let is : vertex_by c.count-nodes.result c.args.state (picks (is_in set) 0 row) node ≡ vertex_of l.system (length nodes) c.args.state node =
+    ap (λ n. vertex_by n c.args.state (picks (is_in set) 0 row) node) count ∙ vertex_is l (length nodes) c.args.state set row node of_state passes
+    in
+    vertices_more (vertex_of l.system (length nodes) c.args.state) nodes i node _ c.args.builder.now c.loop-number.builder c.push_node.new.builder c.node.ensures c.loop-number.invariant c.in_ok-push_node.ensures is

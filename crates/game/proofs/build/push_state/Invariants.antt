@@ -1,0 +1,7 @@
+use Rattle.std.proofs.Common.{◌≡◌, ◌++◌, length, map, take}
+use Rattle.normal.specs.Normal.{normal_nodes}
+use Rattle.game.specs.Arena.{vertex_of}
+use Rattle.game.proofs.build.push_state.Given as goal
+
+abbrev pub invariant-loop-number : goal.invariant-loop-number
+invariant-loop-number l = l.builder ≡ l.initial.builder ++ map (vertex_of l.lts.system (length (normal_nodes l.form)) l.state) (take l.number (normal_nodes l.form))

@@ -1,0 +1,12 @@
+use Rattle.std.proofs.Common.{◌≡◌, ◌<◌, ℕ, [], Some, vec_len, map, slice_index_or}
+use Rattle.std.specs.Prelude.{slice_get}
+use Rattle.normal.specs.Nodes.{Node}
+use Rattle.normal.specs.Normal.{normal_nodes}
+use Rattle.game.specs.Steps.{IsSetFor}
+use Rattle.game.proofs.build.sets.Given as goal
+
+abbrev pub invariant-loop-node : goal.invariant-loop-node
+invariant-loop-node l = record {
+  count : vec_len l.sets ≡ l.node-index;
+  each : (k : ℕ) (node : Node) → k < l.node-index → slice_get (normal_nodes l.form) k ≡ Some node → IsSetFor l.lts.labels node.shape (slice_index_or (map (λ set. set.items) l.sets.items) k []);
+}

@@ -1,0 +1,199 @@
+// The parity game of a system and a normal form.
+
+ghost use Rattle.std.specs.Prelude.{◌≡◌, ◌+◌, ◌*◌, ◌<◌, ◌≤◌, ◌++◌, ◌∷◌, [], Bool, length, map, vec_len, IfOk, OnOk, OnErr, IfErr};
+ghost use Rattle.std.specs.List.{AllByRecursion};
+ghost use Rattle.formula.specs.View.{action_of};
+ghost use Rattle.normal.specs.Form.{IsForm, IsNode};
+ghost use Rattle.normal.specs.View.{node_of, shape_of};
+ghost use Rattle.normal.specs.Normal.{normal_nodes};
+ghost use Rattle.game.specs.Game.{IsGame};
+ghost use Rattle.game.specs.Arena.{arena, vertex_of, or_else, place};
+ghost use Rattle.game.specs.Steps.{IsSetOf, IsSetFor, AreSets, IsRowOf, picks, is_in, vertex_by};
+ghost use Rattle.game.specs.Refused.{HasRefusal};
+
+use crate::error::BuildError;
+use crate::graph::{Game, GameBuilder, MOST_VERTICES};
+use crate::player::Player;
+use formula::label::holds;
+use formula::tree::Act;
+use lts::system::{Lts, Transition};
+use normal::form::Normal;
+use normal::node::{Kind, Node};
+use std::alloc::{AllocError, Global};
+
+// For each label whether the action formula holds of it.
+fn set_of(alloc: Global, lts: &Lts, action: &Act) -> Result<Vec<bool>, AllocError>
+    ensures { IfOk result (λ set. IsSetOf (action_of action.now) lts.now.labels set.items) }
+{
+    let mut set = Vec::new(alloc);
+    for number in 0..lts.labels() {
+        let Ok(number) = u32::try_from(number) else {
+            break;
+        };
+        set.push(holds(action, &lts.label(number)))?;
+    }
+    Ok(set)
+}
+
+// The labels of which the node's action formula holds, if it has one.
+fn set_for(alloc: Global, lts: &Lts, node: &Node) -> Result<Vec<bool>, AllocError>
+    ensures { IfOk result (λ set. IsSetFor lts.now.labels (shape_of node.now.kind) set.items) }
+{
+    match &node.kind {
+        Kind::Dia(action, _) | Kind::Box(action, _) => set_of(alloc, lts, action),
+        _ => Ok(Vec::new(alloc)),
+    }
+}
+
+// The same for each node.
+fn sets(alloc: Global, lts: &Lts, form: &Normal) -> Result<Vec<Vec<bool>>, AllocError>
+    ensures sets { IfOk result (λ sets. AreSets lts.now.labels (normal_nodes form.now) (map (λ set. set.items) sets.items)) }
+    ensures count { IfOk result (λ sets. vec_len sets ≡ length (normal_nodes form.now)) }
+{
+    let mut sets = Vec::new(alloc);
+    for node in form.nodes() {
+        sets.push(set_for(alloc, lts, node)?)?;
+    }
+    Ok(sets)
+}
+
+// The vertices that a modality leads to, or else the sink.
+fn pick(
+    reached: &mut Vec<u32>,
+    row: &[Transition],
+    set: &[bool],
+    nodes: u32,
+    child: u32,
+    sink: u32,
+) -> Result<(), AllocError>
+    requires nodes { nodes ≤ 4096 }
+    requires child { child < nodes }
+    requires inside { AllByRecursion (λ t. t.target < 1000000) row.now }
+    ensures { OnOk result (reached.new.items ≡ or_else (map (λ t. place nodes t child) (picks (is_in set.now) 0 row.now)) sink) }
+{
+    reached.clear();
+    let mut least = 0;
+    for transition in row {
+        let passes = set.get(transition.label as usize).copied().unwrap_or(false);
+        if passes && least <= transition.target {
+            reached.push(2 + (transition.target * nodes + child))?;
+            least = transition.target + 1;
+        }
+    }
+    if reached.is_empty() {
+        reached.push(sink)?;
+    }
+    Ok(())
+}
+
+// The transitions of a state, by target.
+fn by_target(row: &mut Vec<Transition>, lts: &Lts, state: u32) -> Result<(), AllocError>
+    requires { state < lts.now.system.states }
+    ensures { OnOk result (IsRowOf lts.now state row.new.items) }
+{
+    row.clear();
+    for transition in lts.from(state) {
+        let _label = transition.label;
+        row.push(*transition)?;
+    }
+    row.sort_unstable_by_key(|transition| transition.target);
+    Ok(())
+}
+
+// One more vertex: that of a state with a node.
+fn push_node(
+    builder: &mut GameBuilder,
+    row: &[Transition],
+    set: &[bool],
+    nodes: u32,
+    state: u32,
+    node: &Node,
+    reached: &mut Vec<u32>,
+) -> Result<(), AllocError>
+    requires room { length builder.old < MOST_VERTICES }
+    requires nodes { nodes ≤ 4096 }
+    requires node { IsNode nodes (node_of node.now) }
+    requires state { state < 1000000 }
+    requires inside { AllByRecursion (λ t. t.target < 1000000) row.now }
+    ensures { OnOk result (builder.new ≡ builder.old ++ vertex_by nodes state (picks (is_in set.now) 0 row.now) (node_of node.now) ∷ []) }
+{
+    let base = 2 + state * nodes;
+    let priority = node.priority as u8;
+    match node.kind {
+        Kind::True => builder.push(Player::Even, priority, &[0]),
+        Kind::False => builder.push(Player::Even, priority, &[1]),
+        Kind::And(left, right) => builder.push(Player::Odd, priority, &[base + left, base + right]),
+        Kind::Or(left, right) => builder.push(Player::Even, priority, &[base + left, base + right]),
+        Kind::Dia(_, child) => {
+            pick(reached, row, set, nodes, child, 1)?;
+            builder.push(Player::Even, priority, reached)
+        }
+        Kind::Box(_, child) => {
+            pick(reached, row, set, nodes, child, 0)?;
+            builder.push(Player::Odd, priority, reached)
+        }
+        Kind::Mu(child) | Kind::Nu(child) | Kind::Var(child) => {
+            builder.push(Player::Even, priority, &[base + child])
+        }
+    }
+}
+
+// The vertices of a state with each node.
+fn push_state(
+    builder: &mut GameBuilder,
+    lts: &Lts,
+    form: &Normal,
+    sets: &[Vec<bool>],
+    state: u32,
+    row: &mut Vec<Transition>,
+    reached: &mut Vec<u32>,
+) -> Result<(), AllocError>
+    requires state { state < lts.now.system.states }
+    requires sets { AreSets lts.now.labels (normal_nodes form.now) (map (λ set. set.items) sets.now) }
+    requires count { length sets.now ≡ length (normal_nodes form.now) }
+    requires room { length builder.old + length (normal_nodes form.now) ≤ MOST_VERTICES }
+    ensures { OnOk result (builder.new ≡ builder.old ++ map (vertex_of lts.now.system (length (normal_nodes form.now)) state) (normal_nodes form.now)) }
+{
+    form.known();
+    let _states = lts.states();
+    by_target(row, lts, state)?;
+    let nodes = form.count();
+    for number in 0..nodes {
+        let set = sets[number as usize].as_slice();
+        push_node(builder, row, set, nodes, state, form.node(number), reached)?;
+    }
+    Ok(())
+}
+
+/// The game of each state with each node, after two sinks: Even wins the vertex of a state with a node where the node's formula
+/// holds at the state (Emerson and Jutla 1991). Vertices follow each other by state and then by node.
+pub fn build(alloc: Global, lts: &Lts, form: &Normal) -> Result<Game, BuildError>
+    ensures game { IfOk result (λ g. g ≡ arena lts.now.system (normal_nodes form.now)) }
+    ensures within { OnOk result (2 + lts.now.system.states * length (normal_nodes form.now) ≤ MOST_VERTICES) }
+    ensures refused { IfErr result (HasRefusal lts.now.system.states (length (normal_nodes form.now))) }
+{
+    form.known();
+    let states = lts.states();
+    let nodes = form.count();
+    if 2 + states * nodes > MOST_VERTICES as u32 {
+        return Err(BuildError::TooManyVertices);
+    }
+    let sets = sets(alloc, lts, form)?;
+    let mut row = Vec::new(alloc);
+    let mut reached = Vec::new(alloc);
+    let mut builder = GameBuilder::new(alloc);
+    builder.push(Player::Even, 0, &[0])?;
+    builder.push(Player::Even, 1, &[1])?;
+    for state in 0..states {
+        push_state(
+            &mut builder,
+            lts,
+            form,
+            &sets,
+            state,
+            &mut row,
+            &mut reached,
+        )?;
+    }
+    Ok(builder.into_game(Some((states, nodes))))
+}
