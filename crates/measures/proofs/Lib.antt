@@ -16,6 +16,7 @@ pub mod Stored
 pub mod Plain
 pub mod Reaching
 pub mod Settling
+pub mod Within
 pub mod StrategyTable
 pub mod LeastDecides
 pub mod NotBoth

@@ -115,14 +115,18 @@ module _ (w : ℕ) (tops : List Bool) (cs : List ℕ) (now : Rows) (is : rows w 
       has_width : (k : ℕ) (d : List ℕ) → HasWidth k (Counts d) → length d ≡ k
       has_width k d h = h
 
+zeros_split : (n w : ℕ) → replicate {A = ℕ} (suc n * w) 0 ≡ replicate w 0 ++ replicate (n * w) 0
+zeros_split n w = let more : suc n * w ≡ w + n * w = omega arith in ap (λ k. replicate {A = ℕ} k 0) more ∙ sym (replicate-append-replicate w (n * w) 0)
+
+zeros_first : (w m : ℕ) → take {A = ℕ} w (replicate w 0 ++ replicate m 0) ≡ replicate w 0
+zeros_first w m = let long : length (replicate {A = ℕ} w 0) ≡ w = length-replicate w 0 in ap (λ k. take k (replicate w 0 ++ replicate m 0)) (sym long) ∙ take-append_seam (replicate w 0) (replicate m 0)
+
+zeros_rest : (w m : ℕ) → drop {A = ℕ} w (replicate w 0 ++ replicate m 0) ≡ replicate m 0
+zeros_rest w m = let long : length (replicate {A = ℕ} w 0) ≡ w = length-replicate w 0 in ap (λ k. drop k (replicate w 0 ++ replicate m 0)) (sym long) ∙ drop-append_seam (replicate w 0) (replicate m 0)
+
 -- nothing but zeros
 pub rows_zeros : (n w : ℕ) → rows_of w (replicate n false) (replicate (n * w) 0) ≡ replicate n (Counts (replicate w 0))
 rows_zeros zero w = refl
 rows_zeros (suc n) w =
-    let more : suc n * w ≡ w + n * w = omega arith in
-    let list : replicate (suc n * w) 0 ≡ replicate w 0 ++ replicate (n * w) 0 = ap (λ k. replicate {A = ℕ} k 0) more ∙ sym (replicate-append-replicate w (n * w) 0) in
-    let long : length (replicate {A = ℕ} w 0) ≡ w = length-replicate w 0 in
-    let front : take w (replicate w 0 ++ replicate (n * w) 0) ≡ replicate w 0 = ap (λ k. take k (replicate w 0 ++ replicate (n * w) 0)) (sym long) ∙ take-append_seam (replicate w 0) (replicate (n * w) 0) in
-    let rest : drop w (replicate w 0 ++ replicate (n * w) 0) ≡ replicate (n * w) 0 = ap (λ k. drop k (replicate w 0 ++ replicate (n * w) 0)) (sym long) ∙ drop-append_seam (replicate w 0) (replicate (n * w) 0) in
-    ap (λ xs. rows_of w (false ∷ replicate n false) xs) list
-    ∙ (ap₂ (λ xs ys. Counts xs ∷ rows_of w (replicate n false) ys) front rest ∙ ap (λ ms. Counts (replicate w 0) ∷ ms) (rows_zeros n w))
+    ap (rows_of w (false ∷ replicate n false)) (zeros_split n w)
+    ∙ (ap₂ (λ xs ys. Counts xs ∷ rows_of w (replicate n false) ys) (zeros_first w (n * w)) (zeros_rest w (n * w)) ∙ ap (λ ms. Counts (replicate w 0) ∷ ms) (rows_zeros n w))

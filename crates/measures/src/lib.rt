@@ -4,7 +4,10 @@
 mod bounds;
 pub mod law;
 pub mod measure;
+mod pending;
 pub mod progs;
 mod rows;
 pub mod settle;
 pub mod table;
+#[cfg(test)]
+mod tests;

@@ -84,8 +84,8 @@ impl Measure {
         ensures { result ≡ self.now }
     {
         Measure {
-            top: self.top,
-            counts: copy_of(self.counts.as_slice()),
+            top: self.is_top(),
+            counts: copy_of(self.counts()),
         }
     }
 
@@ -93,7 +93,7 @@ impl Measure {
     pub fn compare(&self, other: &Measure) -> Ordering
         ensures { result ≡ measure_cmp self.now other.now }
     {
-        compare(self.top, self.counts(), other.top, other.counts())
+        compare(self.is_top(), self.counts(), other.is_top(), other.counts())
     }
 
     pub fn is_below(&self, other: &Measure) -> bool

@@ -1,7 +1,7 @@
 // The least measure that a vertex asks for.
 
 ghost use Rattle.std.specs.Prelude.{◌≡◌, ◌<◌, ◌≤◌, ◌↔◌, ◌++◌, ◌∷◌, ◌+◌, ◌-◌, ◌^◌, [], length, slice_index, slice_index_or, take, IfNone, IfSome, IsTrue};
-ghost use Rattle.std.specs.List.{AllByRecursion};
+ghost use Rattle.std.specs.List.{AllByRecursion, AllZip};
 ghost use Rattle.measures.specs.Measure.{Counts, IsMeasure, Top};
 ghost use Rattle.measures.specs.Progress.{IsBestFor};
 ghost use Rattle.measures.specs.Progs.{AreFull, IsBetter, IsLiftOf, IsProgAt, IsProgUnder};
@@ -80,6 +80,28 @@ pub(crate) fn is_better(player: Player, order: Ordering) -> bool
         Player::Even => order.is_lt(),
         Player::Odd => order.is_gt(),
     }
+}
+
+// Whether there is a count for each bound, and none above it.
+fn are_within(counts: &[u32], bounds: &[u32]) -> bool
+    ensures { IsTrue result ↔ AllZip (λ count bound. count ≤ bound) counts.now bounds.now }
+{
+    if counts.len() != bounds.len() {
+        return false;
+    }
+    for k in 0..counts.len() {
+        if counts[k] > bounds[k] {
+            return false;
+        }
+    }
+    true
+}
+
+/// Whether a measure is one of the game's: top, or for each component a count within its bound.
+pub fn is_measure(game: &Game, m: &Measure) -> bool
+    ensures { IsTrue result ↔ IsMeasure game.now m.now }
+{
+    m.is_top() || are_within(m.counts(), bounds(game).as_slice())
 }
 
 // The place of the measure with which the player goes on.

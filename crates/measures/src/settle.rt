@@ -28,7 +28,36 @@ fn sweep(game: &Game, table: &mut PlainTable) -> bool
     rose
 }
 
+// Lifts each vertex once, from the other end. A system may be numbered with its steps or against them.
+fn ascend(game: &Game, table: &mut PlainTable)
+    requires { table.old.game ≡ game.now }
+    ensures game { table.new.game ≡ game.now }
+    ensures kept { sum_of game.now table.old.values ≤ sum_of game.now table.new.values }
+{
+    for v in 0..game.vertices() {
+        table.lift_at(game, v);
+    }
+}
+
+// Lifts the vertices that may rise, as long as some are noted.
+fn drain(game: &Game, table: &mut PlainTable)
+    requires { table.old.game ≡ game.now }
+    ensures game { table.new.game ≡ game.now }
+    ensures kept { sum_of game.now table.old.values ≤ sum_of game.now table.new.values }
+{
+    for _ in 0..u64::MAX {
+        match table.next_pending() {
+            Some(v) if v < game.vertices() => {
+                table.lift_at(game, v);
+            }
+            _ => return,
+        }
+    }
+}
+
 /// Leaves the least progress table. It takes no memory.
+///
+/// It drains the list of what may rise, which is fast, and ends when a sweep over all vertices raises none.
 pub fn settle(game: &Game, table: &mut PlainTable)
     requires { table.old.game ≡ game.now }
     ensures game { table.new.game ≡ game.now }
@@ -40,6 +69,8 @@ pub fn settle(game: &Game, table: &mut PlainTable)
             table.known();
             return;
         }
+        ascend(game, table);
+        drain(game, table);
     }
 }
 

@@ -9,6 +9,7 @@ ghost use Rattle.measures.specs.Tables.{IsOpening, IsPlain, IsSettled, LiesBelow
 
 use crate::bounds::bounds;
 use crate::measure::Measure;
+use crate::pending::Pending;
 use crate::progs::prog_of;
 use crate::rows::Rows;
 use arrayvec::ArrayVec;
@@ -23,6 +24,7 @@ use std::snapshot::Snapshot;
 pub struct PlainTable {
     rows: Rows,
     bounds: ArrayVec<u32, 16>,
+    pending: Pending,
     of: Snapshot<Game>,
 }
 
@@ -60,6 +62,7 @@ pub fn opening(alloc: Global, game: &Game) -> Result<PlainTable, Memory>
     Ok(PlainTable {
         rows,
         bounds,
+        pending: Pending::of(alloc, game)?,
         of: Snapshot::of(game),
     })
 }
@@ -138,7 +141,15 @@ impl PlainTable {
         }
         let risen = self.prog_of(priority, best);
         self.rows.set(v as usize, &risen);
+        self.pending.note(v);
         true
+    }
+
+    /// A vertex that may rise, if one is noted.
+    pub(crate) fn next_pending(&mut self) -> Option<u32>
+        ensures { self.new ≡ self.old }
+    {
+        self.pending.next()
     }
 
     /// The table again, where it is a progress table: no other one is less.

@@ -28,7 +28,7 @@ pub invariant_of-result : goal.invariant_of-result
 invariant_of-result c =
     let g = c.args.game.now in
     let whole = opened_whole g c.loop-v.v c.loop-v.rows c.loop-v.invariant (omega arith) in
-    subst (λ (h : Game). IsStored (record { game = h; values = c.loop-v.rows.values }) c.bounds-bounds.result.items c.loop-v.rows.width) (sym c.of.ensures) (record {
+    subst (λ (h : Game). IsStored (record { game = h; values = c.loop-v.rows.values }) c.bounds-bounds.result.items c.loop-v.rows.width) (sym c.of-2.ensures) (record {
       plain = opening_plain g c.loop-v.rows.values c.known.ensures whole;
       bounded = c.bounds-bounds.ensures;
       wide = c.loop-v.invariant.width ∙ ap length (sym c.bounds-bounds.ensures);
