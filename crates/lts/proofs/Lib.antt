@@ -1,3 +1,14 @@
-mod Unique
+pub mod Unique
 pub mod Rows
+pub mod Scanning
+pub mod Cutting
+pub mod Gathering
+pub mod Judging
+pub mod Reading
+pub mod Ordered
+pub mod Names
+pub mod Arranging
+pub mod StartsLemmas
+pub mod Storing
+pub mod Whole
 pub mod Writing

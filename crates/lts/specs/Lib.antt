@@ -7,3 +7,7 @@ pub mod View
 pub mod Aut
 pub mod Laws
 pub mod Wrote
+pub mod Scan
+pub mod Left
+pub mod Gathered
+pub mod Arranged

@@ -1,6 +1,6 @@
 // Why a text gave no system, and what every crate above may want of memory.
 
-use std::alloc::AllocError;
+use std::alloc::{AllocError, AllocFailed};
 use thiserror::Error;
 
 /// What is wrong with a text that spells no system. It is shown as its code.
@@ -52,5 +52,24 @@ impl From<AllocError> for Memory {
     fn from(error: AllocError) -> Self {
         let _ = error;
         Memory
+    }
+}
+
+impl<T: Drop> From<AllocFailed<T>> for Memory {
+    fn from(error: AllocFailed<T>) -> Self {
+        let _ = error;
+        Memory
+    }
+}
+
+impl From<Memory> for AutError {
+    ghost use Rattle.std.specs.Prelude.{◌≡◌};
+    ghost use Rattle.lts.specs.declared.error.AutError.TheVariants as errors;
+
+    ghost from_gives = { λ _ e. e ≡ errors.Memory };
+
+    fn from(error: Memory) -> Self {
+        let Memory = error;
+        AutError::Memory
     }
 }

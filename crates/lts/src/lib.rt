@@ -1,13 +1,21 @@
 // Labelled transition systems and their Aldebaran text.
 #![tactic(auto)]
 
+mod assemble;
 pub mod error;
+mod intake;
 pub mod label;
 pub mod law;
+mod lines;
+pub mod reader;
+mod scan;
 pub mod system;
+#[cfg(test)]
+mod tests;
 pub mod write_loop;
 
 pub use error::{AutError, AutFault, Memory};
 pub use label::{Label, LabelView};
+pub use reader::read_aut;
 pub use system::{Lts, Transition};
 pub use write_loop::{WriteFault, put};

@@ -8,7 +8,7 @@ use crate::label::{Label, LabelView};
 use std::marker::Model;
 
 /// A transition, whose label is given by number.
-#[derive(Clone, Copy, Debug, PartialEq, Eq)]
+#[derive(Clone, Copy, Debug, PartialEq, Eq, PartialOrd, Ord)]
 pub struct Transition {
     pub source: u32,
     pub label: u32,
@@ -38,6 +38,28 @@ impl Model for Lts {
 }
 
 impl Lts {
+    ghost use Rattle.lts.specs.View.{numbered, IsStored};
+
+    // The system of these parts.
+    pub(crate) fn new(
+        states: u32,
+        initial: u32,
+        labels: Vec<Label>,
+        transitions: Vec<Transition>,
+        starts: Vec<u32>,
+    ) -> Lts
+        requires { IsStored (record { states = states; initial = initial; labels = labels; transitions = transitions; starts = starts }) }
+        ensures { result ≡ numbered (record { states = states; initial = initial; labels = labels; transitions = transitions; starts = starts }) }
+    {
+        Lts {
+            states,
+            initial,
+            labels,
+            transitions,
+            starts,
+        }
+    }
+
     /// How many states there are.
     pub fn states(&self) -> u32
         ensures count { result ≡ self.now.system.states }

@@ -1,0 +1,50 @@
+-- Labels that are added keep the arrows of the transitions so far.
+use Rattle.std.proofs.Common.{◌≡◌, ℕ, ◌<◌, List, [], ◌∷◌, ◌++◌, length, map, get_or, Some, refl, sym, ◌∙◌, arith}
+use Rattle.std.specs.Prelude.{position, nat_eq}
+use Rattle.std.specs.List.{AllByRecursion}
+use Rattle.std.specs.Global.{Vec}
+use Rattle.std.specs.Cmp.Lexicographic.{pointwise}
+use Rattle.std.proofs.lemmas.List.{get_or_append_left, get_or-map, length-map, length-append, map-append}
+use Rattle.std.proofs.lemmas.List.Quantifiers.{position-Some}
+use Rattle.std.proofs.lemmas.Slice.Eq.{bytes_eq-Decides}
+use Rattle.lts.specs.System.{Arrow}
+use Rattle.lts.specs.Numbered.{label_at, arrow_of}
+use Rattle.lts.specs.declared.system.Transition.{Transition}
+use Rattle.lts.specs.Label.{texts}
+use Rattle.lts.specs.Gathered.{HasLabel, Extends, Gathers}
+
+-- the key that was found is the label
+pub found_label : (keys : List (Vec ℕ)) (label : List ℕ) (i : ℕ) → position (λ k. pointwise nat_eq label k.items) keys ≡ Some i → HasLabel (texts keys) i label
+found_label [] label i e = absurd cc
+found_label (k ∷ keys) label i e =
+    let found = position-Some (λ (k : Vec ℕ). pointwise nat_eq label k.items) (k ∷ keys) i k e in
+    let same : label ≡ (get_or (k ∷ keys) i k).items = (bytes_eq-Decides label (get_or (k ∷ keys) i k).items).0 found.1 in
+    record { within = rw (length-map (k ∷ keys) (λ (v : Vec ℕ). v.items)) found.0; is = get_or-map (λ (v : Vec ℕ). v.items) (k ∷ keys) i k [] found.0 ∙ sym same }
+
+pub all_more : {X : Type 0} (P : X → Type 0) (xs : List X) (x : X) → AllByRecursion P xs → P x → AllByRecursion P (xs ++ x ∷ [])
+all_more P [] x all one = (one, tt)
+all_more P (y ∷ xs) x all one = (all.0, all_more P xs x all.1 one)
+
+label_kept : (old more : List (List ℕ)) (k : ℕ) → k < length old → label_at (old ++ more) k ≡ label_at old k
+label_kept old more k h = get_or_append_left old more [] k h
+
+arrows_kept : (old more : List (List ℕ)) (ts : List Transition) → AllByRecursion (λ t. t.label < length old) ts → map (arrow_of (old ++ more)) ts ≡ map (arrow_of old) ts
+arrows_kept old more [] all = refl
+arrows_kept old more (t ∷ ts) all =
+    let same = label_kept old more t.label all.0 in
+    λ i. record { source = t.source; label = same i; target = t.target } ∷ arrows_kept old more ts all.1 i
+
+inside_kept : (old more : List (List ℕ)) (ts : List Transition) → AllByRecursion (λ t. t.label < length old) ts → AllByRecursion (λ t. t.label < length (old ++ more)) ts
+inside_kept old more [] all = tt
+inside_kept old more (t ∷ ts) all = (omega (arith, length-append old more, all.0), inside_kept old more ts all.1)
+
+-- one more transition
+pub gathers_more : (old new : List (List ℕ)) (ts : List Transition) (arrows : List Arrow) (s k t : ℕ) (label : List ℕ) → Extends old new → HasLabel new k label → Gathers old ts arrows
+    → Gathers new (ts ++ record { source = s; label = k; target = t } ∷ []) (arrows ++ record { source = s; label = label; target = t } ∷ [])
+gathers_more old new ts arrows s k t label grown numbered so_far =
+    let last : Transition = record { source = s; label = k; target = t } in
+    let kept : map (arrow_of new) ts ≡ arrows = rw grown.is (arrows_kept old grown.more ts so_far.inside) ∙ so_far.spelled in
+    record {
+      spelled = map-append (arrow_of new) ts (last ∷ []) ∙ (λ i. kept i ++ record { source = s; label = numbered.is i; target = t } ∷ []);
+      inside = all_more (λ (t : Transition). t.label < length new) ts last (rw grown.is (inside_kept old grown.more ts so_far.inside)) numbered.within;
+    }

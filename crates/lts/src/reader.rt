@@ -1,0 +1,155 @@
+// The reader of systems.
+
+ghost use Rattle.std.specs.Prelude.{◌≡◌, ◌≤◌, ◌<◌, ◌^◌, List, length, IfOk, IfErr, IfSome, IfNone};
+ghost use Rattle.std.specs.List.{AllByRecursion, list_all};
+ghost use Rattle.lts.specs.Label as label;
+ghost use Rattle.lts.specs.System.{Arrow, System, IsArrow};
+ghost use Rattle.lts.specs.Aut.{IsAut, IsHeader, IsTransition, LineFault, HasFault};
+ghost use Rattle.lts.specs.Scan.{said};
+ghost use Rattle.lts.specs.Label.{texts};
+ghost use Rattle.lts.specs.Gathered.{Gathers};
+ghost use Rattle.lts.specs.Left.{IfKnown, Refuses, IsAdmitted, BeginsWith, AreTransitions, HasRestFault, IsFirstFault};
+
+use crate::assemble::assemble;
+use crate::error::{AutError, AutFault};
+use crate::intake::Rows;
+use crate::lines::next_line;
+use crate::scan::{Announced, Spelled, header, transition};
+use crate::system::Lts;
+use std::alloc::Global;
+use std::io::{BufRead, BufReader, Read};
+
+const MOST_TRANSITIONS: u32 = 10_000_000;
+
+const MOST_STATES: u32 = 1_000_000;
+
+// What is wrong with what a header announces, if anything is.
+fn first_fault(found: Announced) -> Option<AutFault>
+    ensures none { IfNone result (IsAdmitted found) }
+    ensures some { IfSome result (IsFirstFault found) }
+{
+    if found.transitions > MOST_TRANSITIONS || found.states > MOST_STATES {
+        Some(AutFault::OverLimit)
+    } else if found.initial >= found.states {
+        Some(AutFault::BadStates)
+    } else {
+        None
+    }
+}
+
+// Reads the header.
+fn read_first<B: BufRead>(reader: &mut B, line: &mut Vec<u8>) -> Result<Announced, AutError>
+    ensures first { IfOk result (λ found. IfKnown (B.remaining reader.old) (B.remaining reader.new) (BeginsWith found)) }
+    ensures within { IfOk result IsAdmitted }
+    ensures fault { IfErr result (Refuses (B.remaining reader.old) HasFault) }
+{
+    let fault = AutFault::BadHeader;
+    if !next_line(reader, line)? {
+        return Err(AutError::Fault { fault, line: 1 });
+    }
+    let Some(found) = header(line) else {
+        return Err(AutError::Fault { fault, line: 1 });
+    };
+    match first_fault(found) {
+        None => Ok(found),
+        Some(fault) => Err(AutError::Fault { fault, line: 1 }),
+    }
+}
+
+fn are_label_bytes(bytes: &[u8]) -> bool
+    ensures { result ≡ list_all label.is_label_byte bytes.now }
+{
+    bytes
+        .iter()
+        .all(|byte| 32 <= *byte && *byte <= 126 && *byte != 34)
+}
+
+fn is_label(bytes: &[u8]) -> bool
+    ensures { result ≡ label.is_label bytes.now }
+{
+    1 <= bytes.len() && bytes.len() <= 4096 && are_label_bytes(bytes)
+}
+
+// The transition that the line spells, in a system of so many states.
+fn good_line(line: &[u8], states: u32) -> Result<Spelled<'_>, AutFault>
+    ensures good { IfOk result (λ found. IsTransition line.now (said found) × IsArrow states (said found)) }
+    ensures fault { IfErr result (LineFault states line.now) }
+{
+    let Some(found) = transition(line) else {
+        return Err(AutFault::BadLine);
+    };
+    if !is_label(found.label) {
+        return Err(AutFault::BadLabel);
+    }
+    if found.source >= states || found.target >= states {
+        return Err(AutFault::NoSuchState);
+    }
+    Ok(found)
+}
+
+// Reads the transitions.
+fn read_rows<B: BufRead>(
+    alloc: Global,
+    reader: &mut B,
+    line: &mut Vec<u8>,
+    found: Announced,
+) -> Result<Rows, AutError>
+    requires { IsAdmitted found }
+    ensures rows { IfOk result (λ rows. (arrows : List Arrow)
+        × Gathers (texts rows.labels.keys) rows.transitions.items arrows
+        × AllByRecursion (IsArrow found.states) arrows
+        × IfKnown (B.remaining reader.old) (B.remaining reader.new) (AreTransitions found arrows)) }
+    ensures within { IfOk result (λ rows. length rows.transitions.items ≤ 10000000) }
+    ensures labels { IfOk result (λ rows. length rows.labels.keys ≤ 10000000) }
+    ensures fault { IfErr result (Refuses (B.remaining reader.old) (HasRestFault found)) }
+{
+    let mut rows = Rows::new(alloc);
+    for good in 0..found.transitions {
+        let place = u64::from(good) + 2;
+        if !next_line(reader, line)? {
+            let fault = AutFault::WrongCount;
+            return Err(AutError::Fault { fault, line: place });
+        }
+        match good_line(line, found.states) {
+            Ok(spelled) => rows.add(alloc, spelled)?,
+            Err(fault) => return Err(AutError::Fault { fault, line: place }),
+        }
+    }
+    if next_line(reader, line)? {
+        let fault = AutFault::WrongCount;
+        let place = u64::from(found.transitions) + 2;
+        return Err(AutError::Fault { fault, line: place });
+    }
+    Ok(rows)
+}
+
+// Reads the whole text.
+fn read_text<B: BufRead>(alloc: Global, reader: &mut B) -> Result<Lts, AutError>
+    ensures spelled { IfOk result (λ l. IfSome (B.remaining reader.old) (λ text. IsAut text l.system)) }
+    ensures only { IfOk result (λ l. IfSome (B.remaining reader.old) (λ text. (other : System) → IsAut text other → other ≡ l.system)) }
+    ensures fault { IfErr result (Refuses (B.remaining reader.old) HasFault) }
+{
+    let mut line = Vec::new(alloc);
+    let found = read_first(reader, &mut line)?;
+    let rows = read_rows(alloc, reader, &mut line, found)?;
+    Ok(assemble(alloc, found, rows)?)
+}
+
+/// Reads a system in the Aldebaran format (mCRL2 manual, .aut): its profile with quoted labels, at most 1,000,000 states and 10,000,000 transitions.
+/// Of the text it keeps the line that it reads, beside the system that grows.
+///
+/// # Errors
+/// The first faulty line decides. A text is also refused where a read fails, or for want of memory.
+pub fn read_aut<R: Read + Drop>(alloc: Global, reader: R) -> Result<Lts, AutError>
+    // What is answered is spelled, and nothing else is.
+    ensures spelled { IfOk result (λ l. IfSome (R.remaining reader) (λ text. IsAut text l.system)) }
+    ensures only { IfOk result (λ l. IfSome (R.remaining reader) (λ text. (other : System) → IsAut text other → other ≡ l.system)) }
+    // A fault that is named is the one that decides.
+    ensures fault { IfErr result (Refuses (R.remaining reader) HasFault) }
+{
+    let mut reader = match BufReader::new(alloc, reader) {
+        Ok(reader) => reader,
+        Err(_) => return Err(AutError::Memory),
+    };
+    read_text(alloc, &mut reader)
+}
