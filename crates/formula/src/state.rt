@@ -184,16 +184,12 @@ fn bound<'a>(
 {
     let (name, tokens) = name_first(room, tokens)?;
     let tokens = after_dot(room, tokens)?;
-    let ReadState {
-        syntax,
-        height,
-        rest,
-    } = state(room, ANY_STATE, tokens)?;
-    let syntax = WrittenState::Bind(binder, name, boxed(room.alloc, syntax)?);
+    let body = state(room, ANY_STATE, tokens)?;
+    let syntax = WrittenState::Bind(binder, name, boxed(room.alloc, body.syntax)?);
     Ok(ReadState {
         syntax,
-        height: height + 1,
-        rest,
+        height: body.height + 1,
+        rest: body.rest,
     })
 }
 
