@@ -13,3 +13,4 @@ pub mod Faults
 pub mod Scopes
 pub mod Sorting
 pub mod Sense
+pub mod Refusals
