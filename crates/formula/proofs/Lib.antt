@@ -25,3 +25,4 @@ pub mod Faults
 pub mod Scopes
 pub mod Sorting
 pub mod Sense
+pub mod Refusals

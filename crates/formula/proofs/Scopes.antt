@@ -41,11 +41,11 @@ pub variables-first : (mark : Connective) (b : Binders) (parity : Bool) (at : �
 variables-first mark b parity at f g found h =
     let n = joined-count mark f g in
     let place : found.place < at + length (tokens f) = h.1 in
-    (ap (λ xs. slice_get xs 0) (joined-variables mark b parity at f g) ∙ first-left _ _ _ h.0, omega arith)
+    (ap (λ xs. slice_get xs 0) (joined-variables mark b parity at f g) ∙ first-left _ _ _ h.0, omega arith, h.2)
 
 pub at-end : (faults : List (ℕ × FormulaFault)) (a n b m : ℕ) (r : Result ℕ Misplaced) → AreChecked faults a n r → a + n ≡ b + m → AreChecked faults b m r
 at-end faults a n b m (Ok k) h e = (h.0 ∙ e, h.1)
-at-end faults a n b m (Err found) h e = (h.0, subst (λ (k : ℕ). found.place < k) e h.1)
+at-end faults a n b m (Err found) h e = (h.0, subst (λ (k : ℕ). found.place < k) e h.1, h.2)
 
 pub variables-second : (mark : Connective) (b : Binders) (parity : Bool) (at next : ℕ) (f g : Syntax) (result : Result ℕ Misplaced)
     → variable_faults (scope_of b (left_parity mark parity)) at f ≡ [] → next ≡ at + length (tokens f)

@@ -1,7 +1,12 @@
 -- What a walk over a written formula finds.
-use Rattle.std.specs.Prelude.{◌≡◌, ℕ, ◌+◌, ◌<◌, Bool, true, false, not, List, [], ◌∷◌, Option, Some, None, Result, Ok, Err, MatchResult, MatchOption, slice_get, if◌then◌else◌}
+use Rattle.std.specs.Prelude.{◌≡◌, ℕ, ◌+◌, ◌<◌, Bool, true, false, not, List, [], ◌∷◌, Option, Some, None, Result, Ok, Err, MatchResult, MatchOption, slice_get, if◌then◌else◌, IsTrue}
 use Rattle.formula.specs.Admitted.{Scope}
 use Rattle.formula.specs.declared.error.FormulaFault.{FormulaFault}
+use Rattle.formula.specs.declared.error.FormulaFault.TheVariants as fault
+use Rattle.formula.specs.declared.error.FormulaError.{FormulaError}
+use Rattle.formula.specs.declared.error.FormulaError.TheVariants as refused
+use Rattle.formula.specs.Syntax.{Syntax}
+use Rattle.formula.specs.Fault.{HasFault, operand_faults, variable_faults}
 use Rattle.formula.specs.declared.written.Connective.{Connective}
 use Rattle.formula.specs.declared.written.Connective.TheVariants as connective
 use Rattle.formula.specs.declared.scope.Binders.{Binders}
@@ -13,10 +18,15 @@ abbrev pub IsChecked : List ℕ → ℕ → ℕ → Result ℕ ℕ → Type 0
 IsChecked faults at count result =
     MatchResult result (λ next. (next ≡ at + count) × (faults ≡ [])) (λ place. (slice_get faults 0 ≡ Some place) × (place < at + count))
 
+abbrev pub is_variable_fault : FormulaFault → Bool
+is_variable_fault fault.Unbound = true
+is_variable_fault fault.OddNegations = true
+is_variable_fault _ = false
+
 -- the same of variables
 abbrev pub AreChecked : List (ℕ × FormulaFault) → ℕ → ℕ → Result ℕ Misplaced → Type 0
 AreChecked faults at count result =
-    MatchResult result (λ next. (next ≡ at + count) × (faults ≡ [])) (λ found. (slice_get faults 0 ≡ Some (found.place, found.fault)) × (found.place < at + count))
+    MatchResult result (λ next. (next ≡ at + count) × (faults ≡ [])) (λ found. (slice_get faults 0 ≡ Some (found.place, found.fault)) × (found.place < at + count) × IsTrue (is_variable_fault found.fault))
 
 -- the parity of the negations around the left side of a sign
 abbrev pub left_parity : Connective → Bool → Bool
@@ -34,3 +44,16 @@ same false false = true
 abbrev pub scope_of : Binders → Bool → Scope
 scope_of binders.Empty parity = []
 scope_of (binders.Binder' name under p outer) parity = (name.now, same under parity) ∷ scope_of outer parity
+
+-- the refusal of the first operand that is no action formula, else of the first variable that may not stand where it does
+abbrev pub IsTreeRefusal : Syntax → List ℕ → FormulaError → Type 0
+IsTreeRefusal s places (refused.Fault fault.NotAnAction offset) =
+    (first : ℕ) × (others : List ℕ) × (operand_faults 0 s ≡ first ∷ others) × (slice_get places first ≡ Some offset)
+IsTreeRefusal s places (refused.Fault other offset) =
+    (first : ℕ) × (others : List (ℕ × FormulaFault)) × (operand_faults 0 s ≡ []) × (variable_faults [] 0 s ≡ (first, other) ∷ others) × (slice_get places first ≡ Some offset)
+IsTreeRefusal s places refused.Memory = ⊥
+
+-- a refusal by such a fault names the fault that decides
+abbrev pub IsTold : (FormulaFault → Bool) → List ℕ → FormulaError → Type 0
+IsTold test text (refused.Fault fault offset) = IsTrue (test fault) → HasFault text fault offset
+IsTold test text refused.Memory = Unit {0}

@@ -1,12 +1,13 @@
 // Cuts a formula's text into tokens, blanks and comments.
 
-ghost use Rattle.std.specs.Prelude.{◌≡◌, ℕ, ◌+◌, ◌-◌, ◌<◌, ◌≤◌, Bool, true, false, not, List, [], ◌∷◌, length, take, drop, IsTrue, IfOk, IfSome, MatchOption, Option, slice_index, slice_get, if◌then◌else◌, ◌==◌, ◌&&◌, ◌||◌};
+ghost use Rattle.std.specs.Prelude.{◌≡◌, ℕ, ◌+◌, ◌-◌, ◌<◌, ◌≤◌, Bool, true, false, not, List, [], ◌∷◌, length, take, drop, IsTrue, IfOk, IfSome, MatchOption, MatchResult, Option, slice_index, slice_get, if◌then◌else◌, ◌==◌, ◌&&◌, ◌||◌};
 ghost use Rattle.std.specs.List.{take_while, list_any};
 ghost use Rattle.std.specs.Str.{bytes_eq};
 ghost use Rattle.lts.specs.Text.{is_letter as is_letter_of, is_name_byte as is_name_byte_of, is_name};
 ghost use Rattle.lts.specs.Label.{is_label_byte as is_label_byte_of};
 ghost use Rattle.formula.specs.Token.{ChoiceSign, PlusSign, reserved_words};
 ghost use Rattle.formula.specs.Written.{token_of};
+ghost use Rattle.formula.specs.Read.{IsRefusedBy, is_token_fault};
 ghost use Rattle.formula.specs.Cutting.{IsGap, IsFirst, IsSingle, IsDouble, IsNamed, IsCut, IsLexed, IsDecidedBy, is_postfix_before};
 
 use crate::error::{FormulaError, FormulaFault};
@@ -119,7 +120,7 @@ fn word(name: &[u8]) -> Token<'_>
 fn atom(text: &[u8]) -> Result<(Token<'_>, usize), FormulaFault>
     requires some { 0 < length text.now }
     requires quoted { slice_index text.now 0 ≡ 34 }
-    ensures { IfOk result (λ (token, len). IsFirst (token_of token) len text.now) }
+    ensures { MatchResult result (λ (token, len). IsFirst (token_of token) len text.now) (λ fault. IsTrue (is_token_fault fault)) }
 {
     let inside = &text[1..];
     let len = label_len(inside);
@@ -164,7 +165,7 @@ fn single_sign(byte: u8) -> Option<Token<'static>>
 /// The sign at the front of a text, and its length.
 fn sign(text: &[u8]) -> Result<(Token<'_>, usize), FormulaFault>
     requires { 0 < length text.now }
-    ensures { IfOk result (λ (token, len). IsFirst (token_of token) len text.now) }
+    ensures { MatchResult result (λ (token, len). IsFirst (token_of token) len text.now) (λ fault. IsTrue (is_token_fault fault)) }
 {
     if let Some(token) = double_sign(text[0], text.get(1).copied()) {
         return Ok((token, 2));
@@ -179,7 +180,7 @@ fn sign(text: &[u8]) -> Result<(Token<'_>, usize), FormulaFault>
 fn named(text: &[u8]) -> Result<(Token<'_>, usize), FormulaFault>
     requires some { 0 < length text.now }
     requires letter { IsTrue (is_letter_of (slice_index text.now 0)) }
-    ensures { IfOk result (λ (token, len). IsFirst (token_of token) len text.now) }
+    ensures { MatchResult result (λ (token, len). IsFirst (token_of token) len text.now) (λ fault. IsTrue (is_token_fault fault)) }
 {
     let len = name_len(text);
     let name = &text[..len];
@@ -192,7 +193,7 @@ fn named(text: &[u8]) -> Result<(Token<'_>, usize), FormulaFault>
 /// The token at the front of a text, and its length; a `+` is taken as the sign of choice.
 fn first_token(text: &[u8]) -> Result<(Token<'_>, usize), FormulaFault>
     requires { 0 < length text.now }
-    ensures { IfOk result (λ (token, len). IsFirst (token_of token) len text.now) }
+    ensures { MatchResult result (λ (token, len). IsFirst (token_of token) len text.now) (λ fault. IsTrue (is_token_fault fault)) }
 {
     if text[0] == b'"' {
         atom(text)
@@ -238,7 +239,7 @@ fn decided<'a>(token: Token<'a>, next: Option<u8>) -> Token<'a>
 
 /// The tokens of a text.
 pub fn tokens<'a>(alloc: Global, text: &'a [u8]) -> Result<Vec<Placed<'a>>, FormulaError>
-    ensures { IfOk result (λ v. IsLexed text.now v.items) }
+    ensures { MatchResult result (λ v. IsLexed text.now v.items) (IsRefusedBy is_token_fault) }
 {
     let mut tokens = Vec::new(alloc);
     let mut at = gap_len(text);

@@ -1,9 +1,12 @@
 // Reads formulas.
 
-ghost use Rattle.std.specs.Prelude.{◌≡◌, ℕ, ◌<◌, length, map, IfOk, slice_get};
+ghost use Rattle.std.specs.Prelude.{◌≡◌, ℕ, ◌<◌, List, [], length, map, IfOk, IfErr, MatchResult, slice_get};
 ghost use Rattle.formula.specs.Written.{words, state_syntax};
-ghost use Rattle.formula.specs.Read.{IsWhole, IsRefusal};
-ghost use Rattle.formula.specs.Spells.{SpellsWithin};
+ghost use Rattle.formula.specs.Tree.{Formula};
+ghost use Rattle.formula.specs.Fault.{operand_faults, variable_faults};
+ghost use Rattle.formula.specs.Read.{IsWhole, IsRefusal, IsRefusedBy, is_grammar_fault, is_tree_fault};
+ghost use Rattle.formula.specs.Checked.{IsTreeRefusal, IsTold};
+ghost use Rattle.formula.specs.Spells.{Spells, SpellsWithin};
 ghost use Rattle.formula.specs.Closed.{closed_formula};
 
 use crate::closed::Closed;
@@ -33,7 +36,7 @@ fn written<'a>(
     end: usize,
     tokens: &'a [Placed<'a>],
 ) -> Result<WrittenState<'a>, FormulaError>
-    ensures { IfOk result (λ written. IsWhole (state_syntax written) (words tokens.now)) }
+    ensures { MatchResult result (λ written. IsWhole (state_syntax written) (words tokens.now)) (IsRefusedBy is_grammar_fault) }
 {
     let room = Room {
         alloc,
@@ -59,9 +62,27 @@ fn refusal(tokens: &[Placed<'_>], place: usize, fault: FormulaFault) -> FormulaE
     }
 }
 
+/// Whether each operand inside a modality and each variable may stand where it does; else the refusal of the first.
+fn check(tokens: &[Placed<'_>], written: &WrittenState<'_>) -> Result<(), FormulaError>
+    requires { IsWhole (state_syntax written.now) (words tokens.now) }
+    ensures { let s = state_syntax written.now in MatchResult result
+        (λ _. (operand_faults 0 s ≡ []) × (variable_faults [] 0 s ≡ []))
+        (λ e. IsTreeRefusal s (map (λ p. p.offset) tokens.now) e) }
+{
+    if let Err(place) = state_operands(written, 0) {
+        return Err(refusal(tokens, place, FormulaFault::NotAnAction));
+    }
+    if let Err(found) = variables(written, &Binders::Empty, true, 0) {
+        return Err(refusal(tokens, found.place, found.fault));
+    }
+    Ok(())
+}
+
 /// The formula of a text, in the syntax of mCRL2's mcf without data.
 pub fn parse(alloc: Global, text: &[u8]) -> Result<Closed, FormulaError>
-    ensures { IfOk result (λ f. SpellsWithin text.now (closed_formula f)) }
+    ensures spelled { IfOk result (λ f. SpellsWithin text.now (closed_formula f)) }
+    ensures only { IfOk result (λ f. (other : Formula) → Spells text.now other → other ≡ closed_formula f) }
+    ensures tree { IfErr result (λ e. IsTold is_tree_fault text.now e) }
 {
     if text.len() > LONGEST_TEXT {
         return Err(FormulaError::Fault {
@@ -71,11 +92,6 @@ pub fn parse(alloc: Global, text: &[u8]) -> Result<Closed, FormulaError>
     }
     let tokens = tokens(alloc, text)?;
     let written = written(alloc, text.len(), &tokens)?;
-    if let Err(place) = state_operands(&written, 0) {
-        return Err(refusal(&tokens, place, FormulaFault::NotAnAction));
-    }
-    if let Err(found) = variables(&written, &Binders::Empty, true, 0) {
-        return Err(refusal(&tokens, found.place, found.fault));
-    }
+    check(&tokens, &written)?;
     Ok(Closed::new(meant::state(alloc, &written)?))
 }

@@ -1,10 +1,10 @@
 // Reads regular formulas from tokens.
 
-ghost use Rattle.std.specs.Prelude.{◌≡◌, ◌+◌, ◌-◌, ◌^◌, ◌<◌, ◌≤◌, ◌++◌, ◌∷◌, [], List, length, map, max, IfOk, MatchOption, MatchResult, IsTrue};
+ghost use Rattle.std.specs.Prelude.{◌≡◌, ◌+◌, ◌-◌, ◌^◌, ◌<◌, ◌≤◌, ◌++◌, ◌∷◌, [], List, length, map, max, IfOk, IfErr, MatchOption, MatchResult, IsTrue};
 ghost use Rattle.formula.specs.Token.{Name, Bar, Close, Open, NotSign};
 ghost use Rattle.formula.specs.Syntax.{reg_tokens, more_names};
 ghost use Rattle.formula.specs.Written.{token_of, words, reg_syntax, infix_token, infix_row, infixed, repeat_token, repeated as with_repeat};
-ghost use Rattle.formula.specs.Read.{regular_tokens, IsRegular, IsRepeated, IsJoined, IsSuffix, IsWordOf, MatchBar, reg_row};
+ghost use Rattle.formula.specs.Read.{IsRefusedBy, is_grammar_fault, regular_tokens, IsRegular, IsRepeated, IsJoined, IsSuffix, IsWordOf, MatchBar, reg_row};
 
 use crate::error::FormulaError;
 use crate::room::{Room, boxed};
@@ -104,7 +104,7 @@ fn word<'a>(token: Token<'a>) -> Option<WrittenRegular<'a>>
 
 /// The tokens after a closing parenthesis, which has to stand first.
 pub fn after_close<'a>(room: Room, rest: &'a [Placed<'a>]) -> Result<&'a [Placed<'a>], FormulaError>
-    ensures { IfOk result (λ after. words rest.now ≡ Close ∷ words after.now) }
+    ensures { MatchResult result (λ after. words rest.now ≡ Close ∷ words after.now) (IsRefusedBy is_grammar_fault) }
 {
     match rest.split_first() {
         Some(
@@ -125,7 +125,7 @@ pub fn name_first<'a>(
     room: Room,
     rest: &'a [Placed<'a>],
 ) -> Result<(&'a [u8], &'a [Placed<'a>]), FormulaError>
-    ensures { IfOk result (λ (name, after). words rest.now ≡ Name name.now ∷ words after.now) }
+    ensures { MatchResult result (λ (name, after). words rest.now ≡ Name name.now ∷ words after.now) (IsRefusedBy is_grammar_fault) }
 {
     match rest.split_first() {
         Some(
@@ -163,6 +163,7 @@ fn names<'a>(
 ) -> Result<ReadRegular<'a>, FormulaError>
     ensures eaten { IfOk result (λ r. regular_tokens r ≡ Name first.now ∷ words tokens.now) }
     ensures sound { IfOk result (λ r. IsRegular 0 room.depth room.parens r) }
+    ensures refused { IfErr result (IsRefusedBy is_grammar_fault) }
     ensures whole { IfOk result (λ r. 0 < reg_row (words r.rest.now)) }
     ensures shorter { IfOk result (λ r. length r.rest.now ≤ length tokens.now) }
 {
@@ -186,6 +187,7 @@ fn names<'a>(
 fn parens<'a>(room: Room, tokens: &'a [Placed<'a>]) -> Result<ReadRegular<'a>, FormulaError>
     ensures eaten { IfOk result (λ r. regular_tokens r ≡ Open ∷ words tokens.now) }
     ensures sound { IfOk result (λ r. IsRegular 0 room.depth (room.parens + 1) r) }
+    ensures refused { IfErr result (IsRefusedBy is_grammar_fault) }
     ensures shorter { IfOk result (λ r. length r.rest.now < length tokens.now) }
 {
     let ReadRegular {
@@ -208,6 +210,7 @@ fn negated<'a>(room: Room, tokens: &'a [Placed<'a>]) -> Result<ReadRegular<'a>, 
     requires { room.depth + 1 < 2 ^ 64 }
     ensures eaten { IfOk result (λ r. regular_tokens r ≡ NotSign ∷ words tokens.now) }
     ensures sound { IfOk result (λ r. IsRegular 1 (room.depth + 1) room.parens r) }
+    ensures refused { IfErr result (IsRefusedBy is_grammar_fault) }
     ensures shorter { IfOk result (λ r. length r.rest.now < length tokens.now) }
 {
     let ReadRegular {
@@ -228,6 +231,7 @@ fn negated<'a>(room: Room, tokens: &'a [Placed<'a>]) -> Result<ReadRegular<'a>, 
 fn negation<'a>(room: Room, tokens: &'a [Placed<'a>]) -> Result<ReadRegular<'a>, FormulaError>
     ensures eaten { IfOk result (λ r. regular_tokens r ≡ words tokens.now) }
     ensures sound { IfOk result (λ r. IsRegular 1 room.depth room.parens r) }
+    ensures refused { IfErr result (IsRefusedBy is_grammar_fault) }
     ensures shorter { IfOk result (λ r. length r.rest.now < length tokens.now) }
 {
     let Some((first, rest)) = tokens.split_first() else {
@@ -258,6 +262,7 @@ pub fn regular<'a>(
     requires { 1 ≤ level }
     ensures eaten { IfOk result (λ r. regular_tokens r ≡ words tokens.now) }
     ensures sound { IfOk result (λ r. IsRegular level room.depth room.parens r) }
+    ensures refused { IfErr result (IsRefusedBy is_grammar_fault) }
     ensures shorter { IfOk result (λ r. length r.rest.now < length tokens.now) }
 {
     extended(room, level, negation(room, tokens)?)
@@ -273,6 +278,7 @@ fn extended<'a>(
     requires { IsRegular level room.depth room.parens left }
     ensures eaten { IfOk result (λ r. regular_tokens r ≡ regular_tokens left.entry) }
     ensures sound { IfOk result (λ r. IsRegular level room.depth room.parens r) }
+    ensures refused { IfErr result (IsRefusedBy is_grammar_fault) }
     ensures shorter { IfOk result (λ r. length r.rest.now ≤ length left.entry.rest.now) }
 {
     let Some((first, rest)) = left.rest.split_first() else {

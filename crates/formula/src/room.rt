@@ -1,6 +1,7 @@
 // What a parser may still use.
 
 ghost use Rattle.std.specs.Prelude.{◌≡◌, ◌+◌, ◌-◌, ◌<◌, ◌≤◌, MatchResult, List, []};
+ghost use Rattle.formula.specs.Read.{IsRefusedBy, is_grammar_fault};
 ghost use Rattle.formula.specs.declared.error.FormulaFault.TheVariants.{TooLarge, Unexpected, Unfinished};
 
 use crate::error::{FormulaError, FormulaFault};
@@ -59,7 +60,9 @@ impl Room {
     }
 
     /// The refusal of the first of these tokens, or of the end where there is none.
-    pub fn unexpected(self, rest: &[Placed<'_>]) -> FormulaError {
+    pub fn unexpected(self, rest: &[Placed<'_>]) -> FormulaError
+        ensures { IsRefusedBy is_grammar_fault result }
+    {
         match rest.first() {
             Some(placed) => FormulaError::Fault {
                 fault: FormulaFault::Unexpected,

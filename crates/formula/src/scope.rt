@@ -1,10 +1,10 @@
 // Finds the variables that may not stand where they do. Places are numbers of tokens.
 
-ghost use Rattle.std.specs.Prelude.{◌≡◌, ℕ, ◌+◌, ◌<◌, ◌^◌, List, [], ◌∷◌, length, MatchOption};
+ghost use Rattle.std.specs.Prelude.{◌≡◌, ℕ, ◌+◌, ◌<◌, ◌^◌, List, [], ◌∷◌, length, MatchOption, IsTrue};
 ghost use Rattle.formula.specs.Syntax.{tokens, reg_tokens};
 ghost use Rattle.formula.specs.Fault.{variable_fault as fault_of, variable_faults};
 ghost use Rattle.formula.specs.Written.{reg_syntax, state_syntax};
-ghost use Rattle.formula.specs.Checked.{AreChecked, scope_of, left_parity};
+ghost use Rattle.formula.specs.Checked.{AreChecked, scope_of, left_parity, is_variable_fault};
 
 use crate::error::FormulaFault;
 use crate::written::{Connective, WrittenRegular, WrittenState};
@@ -28,7 +28,7 @@ pub struct Misplaced {
 fn variable_fault(name: &[u8], scope: &Binders, parity: bool) -> Option<FormulaFault>
     ensures { MatchOption result
         ((at : ℕ) → fault_of name.now (scope_of scope.now parity) at ≡ [])
-        (λ fault. (at : ℕ) → fault_of name.now (scope_of scope.now parity) at ≡ (at, fault) ∷ []) }
+        (λ fault. IsTrue (is_variable_fault fault) × ((at : ℕ) → fault_of name.now (scope_of scope.now parity) at ≡ (at, fault) ∷ [])) }
 {
     match scope {
         Binders::Empty => Some(FormulaFault::Unbound),

@@ -1,9 +1,9 @@
 // Reads state formulas from tokens.
 
-ghost use Rattle.std.specs.Prelude.{◌≡◌, ◌+◌, ◌-◌, ◌^◌, ◌<◌, ◌≤◌, ◌++◌, ◌∷◌, [], List, length, map, max, IfOk, MatchOption, MatchResult, IsTrue};
+ghost use Rattle.std.specs.Prelude.{◌≡◌, ◌+◌, ◌-◌, ◌^◌, ◌<◌, ◌≤◌, ◌++◌, ◌∷◌, [], List, length, map, max, IfOk, IfErr, MatchOption, MatchResult, IsTrue};
 ghost use Rattle.formula.specs.Token.{Name, Dot, Open, NotSign};
 ghost use Rattle.formula.specs.Written.{token_of, words, opening, closing, binder_token};
-ghost use Rattle.formula.specs.Read.{state_tokens, IsState, IsStateJoined, IsConnective, IsFormulaOf, state_row};
+ghost use Rattle.formula.specs.Read.{IsRefusedBy, is_grammar_fault, state_tokens, IsState, IsStateJoined, IsConnective, IsFormulaOf, state_row};
 
 use crate::error::FormulaError;
 use crate::regular::{ANY_REGULAR, after_close, name_first, regular};
@@ -47,7 +47,7 @@ fn word<'a>(token: Token<'a>) -> Option<WrittenState<'a>>
 
 /// The tokens after a dot, which has to stand first.
 fn after_dot<'a>(room: Room, rest: &'a [Placed<'a>]) -> Result<&'a [Placed<'a>], FormulaError>
-    ensures { IfOk result (λ after. words rest.now ≡ Dot ∷ words after.now) }
+    ensures { MatchResult result (λ after. words rest.now ≡ Dot ∷ words after.now) (IsRefusedBy is_grammar_fault) }
 {
     match rest.split_first() {
         Some(
@@ -69,7 +69,7 @@ fn after_bracket<'a>(
     brackets: Brackets,
     rest: &'a [Placed<'a>],
 ) -> Result<&'a [Placed<'a>], FormulaError>
-    ensures { IfOk result (λ after. words rest.now ≡ closing brackets ∷ words after.now) }
+    ensures { MatchResult result (λ after. words rest.now ≡ closing brackets ∷ words after.now) (IsRefusedBy is_grammar_fault) }
 {
     match (brackets, rest.split_first()) {
         (
@@ -105,6 +105,7 @@ fn after_bracket<'a>(
 fn group<'a>(room: Room, tokens: &'a [Placed<'a>]) -> Result<ReadState<'a>, FormulaError>
     ensures eaten { IfOk result (λ s. state_tokens s ≡ Open ∷ words tokens.now) }
     ensures sound { IfOk result (λ s. IsState 0 room.depth (room.parens + 1) s) }
+    ensures refused { IfErr result (IsRefusedBy is_grammar_fault) }
     ensures shorter { IfOk result (λ s. length s.rest.now < length tokens.now) }
 {
     let ReadState {
@@ -127,6 +128,7 @@ fn negated<'a>(room: Room, tokens: &'a [Placed<'a>]) -> Result<ReadState<'a>, Fo
     requires { room.depth + 1 < 2 ^ 64 }
     ensures eaten { IfOk result (λ s. state_tokens s ≡ NotSign ∷ words tokens.now) }
     ensures sound { IfOk result (λ s. IsState 0 (room.depth + 1) room.parens s) }
+    ensures refused { IfErr result (IsRefusedBy is_grammar_fault) }
     ensures shorter { IfOk result (λ s. length s.rest.now < length tokens.now) }
 {
     let ReadState {
@@ -152,6 +154,7 @@ fn modal<'a>(
     requires { room.depth + 1 < 2 ^ 64 }
     ensures eaten { IfOk result (λ s. state_tokens s ≡ opening brackets ∷ words tokens.now) }
     ensures sound { IfOk result (λ s. IsState 0 (room.depth + 1) room.parens s) }
+    ensures refused { IfErr result (IsRefusedBy is_grammar_fault) }
     ensures shorter { IfOk result (λ s. length s.rest.now < length tokens.now) }
 {
     let inside = regular(room, ANY_REGULAR, tokens)?;
@@ -180,20 +183,17 @@ fn bound<'a>(
     requires { room.depth + 1 < 2 ^ 64 }
     ensures eaten { IfOk result (λ s. state_tokens s ≡ binder_token binder ∷ words tokens.now) }
     ensures sound { IfOk result (λ s. IsState 0 (room.depth + 1) room.parens s) }
+    ensures refused { IfErr result (IsRefusedBy is_grammar_fault) }
     ensures shorter { IfOk result (λ s. length s.rest.now < length tokens.now) }
 {
     let (name, tokens) = name_first(room, tokens)?;
     let tokens = after_dot(room, tokens)?;
-    let ReadState {
-        syntax,
-        height,
-        rest,
-    } = state(room, ANY_STATE, tokens)?;
-    let syntax = WrittenState::Bind(binder, name, boxed(room.alloc, syntax)?);
+    let body = state(room, ANY_STATE, tokens)?;
+    let syntax = WrittenState::Bind(binder, name, boxed(room.alloc, body.syntax)?);
     Ok(ReadState {
         syntax,
-        height: height + 1,
-        rest,
+        height: body.height + 1,
+        rest: body.rest,
     })
 }
 
@@ -202,6 +202,7 @@ fn bound<'a>(
 fn unary<'a>(room: Room, tokens: &'a [Placed<'a>]) -> Result<ReadState<'a>, FormulaError>
     ensures eaten { IfOk result (λ s. state_tokens s ≡ words tokens.now) }
     ensures sound { IfOk result (λ s. IsState 0 room.depth room.parens s) }
+    ensures refused { IfErr result (IsRefusedBy is_grammar_fault) }
     ensures shorter { IfOk result (λ s. length s.rest.now < length tokens.now) }
 {
     let Some((first, rest)) = tokens.split_first() else {
@@ -235,6 +236,7 @@ pub fn state<'a>(
     requires { level ≤ 3 }
     ensures eaten { IfOk result (λ s. state_tokens s ≡ words tokens.now) }
     ensures sound { IfOk result (λ s. IsState level room.depth room.parens s) }
+    ensures refused { IfErr result (IsRefusedBy is_grammar_fault) }
     ensures shorter { IfOk result (λ s. length s.rest.now < length tokens.now) }
     ensures stops { IfOk result (λ s. level < state_row (words s.rest.now)) }
 {
@@ -248,6 +250,7 @@ fn extended<'a>(room: Room, level: u8, left: ReadState<'a>) -> Result<ReadState<
     requires left { IsState level room.depth room.parens left }
     ensures eaten { IfOk result (λ s. state_tokens s ≡ state_tokens left.entry) }
     ensures sound { IfOk result (λ s. IsState level room.depth room.parens s) }
+    ensures refused { IfErr result (IsRefusedBy is_grammar_fault) }
     ensures shorter { IfOk result (λ s. length s.rest.now ≤ length left.entry.rest.now) }
     ensures stops { IfOk result (λ s. level < state_row (words s.rest.now)) }
 {

@@ -13,13 +13,20 @@ fn refusal(alloc: Global, text: &[u8]) -> Result<String, Fail> {
     }
 }
 
-/// The word, this often, and what follows.
-fn repeated(alloc: Global, word: &[u8], times: usize, tail: &[u8]) -> Result<Vec<u8>, Fail> {
-    let mut text = Vec::new(alloc);
-    for _ in 0..times {
-        text.extend_from_slice(word)?;
+/// The byte, this often, the middle, and another byte, as often again.
+fn around(
+    alloc: Global,
+    open: u8,
+    times: usize,
+    middle: &[u8],
+    close: u8,
+    again: usize,
+) -> Result<Vec<u8>, Fail> {
+    let mut text = vec![in alloc; open; times]?;
+    text.extend_from_slice(middle)?;
+    for _ in 0..again {
+        text.push(close)?;
     }
-    text.extend_from_slice(tail)?;
     Ok(text)
 }
 
@@ -42,6 +49,24 @@ fn refusals(rt: HostRuntime) -> Result<(), Fail> {
         ("", "F3 at offset 0"),
         ("forall", "F4 at offset 0"),
         ("<+>true", "F2 at offset 1"),
+        ("<a>true true", "F2 at offset 8"),
+        ("true & true", "F1 at offset 5"),
+        ("<\"a", "F1 at offset 1"),
+        ("<\"\">true", "F1 at offset 1"),
+        ("<\"a % b\">true", "ok"),
+        ("<a|>true", "F2 at offset 3"),
+        ("mu true. X", "F2 at offset 3"),
+        ("mu nil. X", "F4 at offset 3"),
+        ("(true", "F3 at offset 5"),
+        ("% only", "F3 at offset 6"),
+        ("%true\ntrue", "ok"),
+        ("%a\rtrue", "F3 at offset 7"),
+        ("mu X. <a>X => false", "F6 at offset 9"),
+        ("mu X. nu X. !X", "F6 at offset 13"),
+        ("!mu X. X && (mu Y. !!Y)", "ok"),
+        ("mu X. Y && <(a.b) && c>true", "F7 at offset 12"),
+        ("<a* && b>true", "F2 at offset 4"),
+        ("<b|a|b . (true || !tau)* + \"x\">true", "ok"),
     ];
     for (text, shown) in rows {
         assert_eq!(rt;
@@ -55,36 +80,37 @@ fn refusals(rt: HostRuntime) -> Result<(), Fail> {
 
 #[test]
 fn limits(rt: HostRuntime) -> Result<(), Fail> {
+    let alloc = rt.alloc();
     let rows = [
-        (repeated(rt.alloc(), b"!", 256, b"true")?, "ok"),
+        (around(alloc, b'!', 256, b"true", b' ', 0)?, "ok"),
         (
-            repeated(rt.alloc(), b"!", 257, b"true")?,
+            around(alloc, b'!', 257, b"true", b' ', 0)?,
             "F8 at offset 256",
         ),
         (
-            repeated(rt.alloc(), b"!", 253, b"<a*.b+c>true")?,
+            around(alloc, b'!', 253, b"<a*.b+c>true", b' ', 0)?,
             "F8 at offset 258",
         ),
+        (around(alloc, b'(', 1024, b"true", b')', 1024)?, "ok"),
         (
-            repeated(rt.alloc(), b"(", 1024, b"true")?,
-            "F3 at offset 1028",
-        ),
-        (
-            repeated(rt.alloc(), b"(", 1025, b"true")?,
+            around(alloc, b'(', 1025, b"true", b')', 1025)?,
             "F8 at offset 1024",
         ),
         (
-            repeated(rt.alloc(), b"(", 1048576, b"")?,
+            around(alloc, b'(', 1_048_576, b"", b' ', 0)?,
             "F8 at offset 1024",
         ),
         (
-            repeated(rt.alloc(), b"!", 1048576, b"")?,
+            around(alloc, b'!', 1_048_576, b"", b' ', 0)?,
             "F8 at offset 256",
         ),
-        (repeated(rt.alloc(), b"<", 1048576, b"")?, "F2 at offset 1"),
-        (repeated(rt.alloc(), b" ", 1048572, b"true")?, "ok"),
         (
-            repeated(rt.alloc(), b" ", 1048573, b"true")?,
+            around(alloc, b'<', 1_048_576, b"", b' ', 0)?,
+            "F2 at offset 1",
+        ),
+        (around(alloc, b' ', 0, b"true", b' ', 1_048_572)?, "ok"),
+        (
+            around(alloc, b' ', 0, b"true", b' ', 1_048_573)?,
             "F8 at offset 1048576",
         ),
     ];
