@@ -95,7 +95,8 @@ modal left right inside after ts us il ir apart r f = record {
     regroup a b c d m = simp append_assoc
 
 -- `(mu X. f)`
-binder : (t : Token) (name body : List ℕ) (ts : List Token) → IsWord t → is_free_name name ≡ true → Writes body ts → Writes (binder_text (spelling t) name body) (Open ∷ ((t ∷ Name name ∷ Dot ∷ ts) ++ Close ∷ []))
+binder : (t : Token) (name body : List ℕ) (ts : List Token) → IsWord t → is_free_name name ≡ true → Writes body ts
+    → Writes (binder_text (spelling t) name body) (Open ∷ ((t ∷ Name name ∷ Dot ∷ ts) ++ Close ∷ []))
 binder t name body ts is free f = record {
   pieces = λ ps. Word Open ∷ Word t ∷ Blank 32 ∷ Word (Name name) ∷ Word Dot ∷ Blank 32 ∷ f.pieces (Word Close ∷ ps);
   joined = λ ps. ap (λ x. 40 ∷ (spelling t ++ (32 ∷ (name ++ (46 ∷ 32 ∷ x))))) (f.joined (Word Close ∷ ps)) ∙ regroup (spelling t) name body (text_of ps);

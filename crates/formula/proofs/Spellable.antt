@@ -162,6 +162,17 @@ IsRegularDepth n r = n ≡ regular_depth r
 abbrev IsDepth : ℕ → Formula → Type 0
 IsDepth n f = n ≡ formula_depth f
 
+-- an operator stands above its operand, and one with two above the deeper of them
+nests_one : {A B : Type 0} (f : A → B) (o : Option A) (d : A → ℕ) (e : B → ℕ) (m : ℕ) → ((a : A) → 1 + d a ≡ e (f a)) → IfSome o (λ a. m ≡ d a) → IfSome (option_map f o) (λ b. 1 + m ≡ e b)
+nests_one f None d e m above h = tt
+nests_one f (Some a) d e m above h = ap (λ k. 1 + k) h ∙ above a
+
+nests_two : {A B C : Type 0} (f : A → B → C) (o : Option A) (p : Option B) (d : A → ℕ) (e : B → ℕ) (c : C → ℕ) (m n : ℕ) → ((a : A) (b : B) → 1 + max (d a) (e b) ≡ c (f a b))
+    → IfSome o (λ a. m ≡ d a) → IfSome p (λ b. n ≡ e b) → IfSome (option_two f o p) (λ x. 1 + max m n ≡ c x)
+nests_two f None p d e c m n above h k = tt
+nests_two f (Some a) None d e c m n above h k = tt
+nests_two f (Some a) (Some b) d e c m n above h k = (λ i. 1 + max (h i) (k i)) ∙ above a b
+
 action_nests : (r : RegSyntax) → IfSome (action_meant r) (IsActionDepth (reg_nesting r))
 action_nests Anything' = refl
 action_nests Nothing' = refl
@@ -169,10 +180,10 @@ action_nests Tau' = refl
 action_nests (Names' x names) = refl
 action_nests (Quoted' bytes) = refl
 action_nests (Parens' r) = action_nests r
-action_nests (Not' r) = of_one NotAct (action_meant r) (IsActionDepth (reg_nesting r)) (IsActionDepth (1 + reg_nesting r)) (λ a h. ap (λ k. 1 + k) h) (action_nests r)
-action_nests (And' r s) = of_two AndAct (action_meant r) (action_meant s) (IsActionDepth (reg_nesting r)) (IsActionDepth (reg_nesting s)) (IsActionDepth (1 + max (reg_nesting r) (reg_nesting s))) (λ a b h k i. 1 + max (h i) (k i)) (action_nests r) (action_nests s)
-action_nests (Or' r s) = of_two OrAct (action_meant r) (action_meant s) (IsActionDepth (reg_nesting r)) (IsActionDepth (reg_nesting s)) (IsActionDepth (1 + max (reg_nesting r) (reg_nesting s))) (λ a b h k i. 1 + max (h i) (k i)) (action_nests r) (action_nests s)
-action_nests (Implies' r s) = of_two ImpliesAct (action_meant r) (action_meant s) (IsActionDepth (reg_nesting r)) (IsActionDepth (reg_nesting s)) (IsActionDepth (1 + max (reg_nesting r) (reg_nesting s))) (λ a b h k i. 1 + max (h i) (k i)) (action_nests r) (action_nests s)
+action_nests (Not' r) = nests_one NotAct (action_meant r) action_depth action_depth (reg_nesting r) (λ a. refl) (action_nests r)
+action_nests (And' r s) = nests_two AndAct (action_meant r) (action_meant s) action_depth action_depth action_depth (reg_nesting r) (reg_nesting s) (λ a b. refl) (action_nests r) (action_nests s)
+action_nests (Or' r s) = nests_two OrAct (action_meant r) (action_meant s) action_depth action_depth action_depth (reg_nesting r) (reg_nesting s) (λ a b. refl) (action_nests r) (action_nests s)
+action_nests (Implies' r s) = nests_two ImpliesAct (action_meant r) (action_meant s) action_depth action_depth action_depth (reg_nesting r) (reg_nesting s) (λ a b. refl) (action_nests r) (action_nests s)
 action_nests (Star' r) = tt
 action_nests (Plus' r) = tt
 action_nests (Then' r s) = tt
@@ -185,28 +196,28 @@ regular_nests Tau' = refl
 regular_nests (Names' x names) = refl
 regular_nests (Quoted' bytes) = refl
 regular_nests (Parens' r) = regular_nests r
-regular_nests (Not' r) = of_one (λ a. Step (NotAct a)) (action_meant r) (IsActionDepth (reg_nesting r)) (IsRegularDepth (1 + reg_nesting r)) (λ a h. ap (λ k. 1 + k) h) (action_nests r)
-regular_nests (And' r s) = of_two (λ a b. Step (AndAct a b)) (action_meant r) (action_meant s) (IsActionDepth (reg_nesting r)) (IsActionDepth (reg_nesting s)) (IsRegularDepth (1 + max (reg_nesting r) (reg_nesting s))) (λ a b h k i. 1 + max (h i) (k i)) (action_nests r) (action_nests s)
-regular_nests (Or' r s) = of_two (λ a b. Step (OrAct a b)) (action_meant r) (action_meant s) (IsActionDepth (reg_nesting r)) (IsActionDepth (reg_nesting s)) (IsRegularDepth (1 + max (reg_nesting r) (reg_nesting s))) (λ a b h k i. 1 + max (h i) (k i)) (action_nests r) (action_nests s)
-regular_nests (Implies' r s) = of_two (λ a b. Step (ImpliesAct a b)) (action_meant r) (action_meant s) (IsActionDepth (reg_nesting r)) (IsActionDepth (reg_nesting s)) (IsRegularDepth (1 + max (reg_nesting r) (reg_nesting s))) (λ a b h k i. 1 + max (h i) (k i)) (action_nests r) (action_nests s)
-regular_nests (Star' r) = of_one Star (regular_meant r) (IsRegularDepth (reg_nesting r)) (IsRegularDepth (1 + reg_nesting r)) (λ a h. ap (λ k. 1 + k) h) (regular_nests r)
-regular_nests (Plus' r) = of_one Plus (regular_meant r) (IsRegularDepth (reg_nesting r)) (IsRegularDepth (1 + reg_nesting r)) (λ a h. ap (λ k. 1 + k) h) (regular_nests r)
-regular_nests (Then' r s) = of_two Then (regular_meant r) (regular_meant s) (IsRegularDepth (reg_nesting r)) (IsRegularDepth (reg_nesting s)) (IsRegularDepth (1 + max (reg_nesting r) (reg_nesting s))) (λ a b h k i. 1 + max (h i) (k i)) (regular_nests r) (regular_nests s)
-regular_nests (Either' r s) = of_two Either (regular_meant r) (regular_meant s) (IsRegularDepth (reg_nesting r)) (IsRegularDepth (reg_nesting s)) (IsRegularDepth (1 + max (reg_nesting r) (reg_nesting s))) (λ a b h k i. 1 + max (h i) (k i)) (regular_nests r) (regular_nests s)
+regular_nests (Not' r) = nests_one (λ a. Step (NotAct a)) (action_meant r) action_depth regular_depth (reg_nesting r) (λ a. refl) (action_nests r)
+regular_nests (And' r s) = nests_two (λ a b. Step (AndAct a b)) (action_meant r) (action_meant s) action_depth action_depth regular_depth (reg_nesting r) (reg_nesting s) (λ a b. refl) (action_nests r) (action_nests s)
+regular_nests (Or' r s) = nests_two (λ a b. Step (OrAct a b)) (action_meant r) (action_meant s) action_depth action_depth regular_depth (reg_nesting r) (reg_nesting s) (λ a b. refl) (action_nests r) (action_nests s)
+regular_nests (Implies' r s) = nests_two (λ a b. Step (ImpliesAct a b)) (action_meant r) (action_meant s) action_depth action_depth regular_depth (reg_nesting r) (reg_nesting s) (λ a b. refl) (action_nests r) (action_nests s)
+regular_nests (Star' r) = nests_one Star (regular_meant r) regular_depth regular_depth (reg_nesting r) (λ a. refl) (regular_nests r)
+regular_nests (Plus' r) = nests_one Plus (regular_meant r) regular_depth regular_depth (reg_nesting r) (λ a. refl) (regular_nests r)
+regular_nests (Then' r s) = nests_two Then (regular_meant r) (regular_meant s) regular_depth regular_depth regular_depth (reg_nesting r) (reg_nesting s) (λ a b. refl) (regular_nests r) (regular_nests s)
+regular_nests (Either' r s) = nests_two Either (regular_meant r) (regular_meant s) regular_depth regular_depth regular_depth (reg_nesting r) (reg_nesting s) (λ a b. refl) (regular_nests r) (regular_nests s)
 
 formula_nests : (s : Syntax) → IfSome (meant s) (IsDepth (nesting s))
 formula_nests True' = refl
 formula_nests False' = refl
 formula_nests (Var' name) = refl
 formula_nests (Group' f) = formula_nests f
-formula_nests (Neg' f) = of_one Not (meant f) (IsDepth (nesting f)) (IsDepth (1 + nesting f)) (λ a h. ap (λ k. 1 + k) h) (formula_nests f)
-formula_nests (Both' f g) = of_two And (meant f) (meant g) (IsDepth (nesting f)) (IsDepth (nesting g)) (IsDepth (1 + max (nesting f) (nesting g))) (λ a b h k i. 1 + max (h i) (k i)) (formula_nests f) (formula_nests g)
-formula_nests (OneOf' f g) = of_two Or (meant f) (meant g) (IsDepth (nesting f)) (IsDepth (nesting g)) (IsDepth (1 + max (nesting f) (nesting g))) (λ a b h k i. 1 + max (h i) (k i)) (formula_nests f) (formula_nests g)
-formula_nests (If' f g) = of_two Implies (meant f) (meant g) (IsDepth (nesting f)) (IsDepth (nesting g)) (IsDepth (1 + max (nesting f) (nesting g))) (λ a b h k i. 1 + max (h i) (k i)) (formula_nests f) (formula_nests g)
-formula_nests (Dia' r f) = of_two Dia (regular_meant r) (meant f) (IsRegularDepth (reg_nesting r)) (IsDepth (nesting f)) (IsDepth (1 + max (reg_nesting r) (nesting f))) (λ a b h k i. 1 + max (h i) (k i)) (regular_nests r) (formula_nests f)
-formula_nests (Box' r f) = of_two Box (regular_meant r) (meant f) (IsRegularDepth (reg_nesting r)) (IsDepth (nesting f)) (IsDepth (1 + max (reg_nesting r) (nesting f))) (λ a b h k i. 1 + max (h i) (k i)) (regular_nests r) (formula_nests f)
-formula_nests (Mu' name f) = of_one (Mu name) (meant f) (IsDepth (nesting f)) (IsDepth (1 + nesting f)) (λ a h. ap (λ k. 1 + k) h) (formula_nests f)
-formula_nests (Nu' name f) = of_one (Nu name) (meant f) (IsDepth (nesting f)) (IsDepth (1 + nesting f)) (λ a h. ap (λ k. 1 + k) h) (formula_nests f)
+formula_nests (Neg' f) = nests_one Not (meant f) formula_depth formula_depth (nesting f) (λ a. refl) (formula_nests f)
+formula_nests (Both' f g) = nests_two And (meant f) (meant g) formula_depth formula_depth formula_depth (nesting f) (nesting g) (λ a b. refl) (formula_nests f) (formula_nests g)
+formula_nests (OneOf' f g) = nests_two Or (meant f) (meant g) formula_depth formula_depth formula_depth (nesting f) (nesting g) (λ a b. refl) (formula_nests f) (formula_nests g)
+formula_nests (If' f g) = nests_two Implies (meant f) (meant g) formula_depth formula_depth formula_depth (nesting f) (nesting g) (λ a b. refl) (formula_nests f) (formula_nests g)
+formula_nests (Dia' r f) = nests_two Dia (regular_meant r) (meant f) regular_depth formula_depth formula_depth (reg_nesting r) (nesting f) (λ a b. refl) (regular_nests r) (formula_nests f)
+formula_nests (Box' r f) = nests_two Box (regular_meant r) (meant f) regular_depth formula_depth formula_depth (reg_nesting r) (nesting f) (λ a b. refl) (regular_nests r) (formula_nests f)
+formula_nests (Mu' name f) = nests_one (Mu name) (meant f) formula_depth formula_depth (nesting f) (λ a. refl) (formula_nests f)
+formula_nests (Nu' name f) = nests_one (Nu name) (meant f) formula_depth formula_depth (nesting f) (λ a. refl) (formula_nests f)
 
 -- Trees that mean one formula nest alike, whatever their parentheses.
 pub same_nesting : (s t : Syntax) (f : Formula) → meant s ≡ Some f → meant t ≡ Some f → nesting s ≡ nesting t

@@ -158,7 +158,8 @@ joins t a b j at left fb ra rb k n m above small h d =
     ∙ lifted (reg_read n) (read n) (tokens a ++ (t ∷ rest)) m (joined t a b) (suc j) k above both h
 
 -- a tree that is found as a unary form
-from_unary : (f : Syntax) → ((n : ℕ) (m : List Token) → size f ≤ suc n → stops 0 m ≡ true → binder_stops (ends_in_binder f) m ≡ true → unary (reg_read n) (read n) (tokens f ++ m) ≡ Some (f, m)) → Reads f
+from_unary : (f : Syntax)
+    → ((n : ℕ) (m : List Token) → size f ≤ suc n → stops 0 m ≡ true → binder_stops (ends_in_binder f) m ≡ true → unary (reg_read n) (read n) (tokens f ++ m) ≡ Some (f, m)) → Reads f
 from_unary f found k n m low small h d = lifted (reg_read n) (read n) (tokens f ++ m) m f 0 k (omega arith) (found n m small (stops_below 0 k m (omega arith) h) d) h
 
 -- of an operator with two operands of these forms

@@ -15,7 +15,10 @@ pub returns-in_err-put-2 : goal.returns-in_err-put-2
 returns-in_err-put-2 g c =
     let (done, whole, written) = c.loop-name.invariant in
     let next = next_name c.in-Some.others.now c.loop-name.name-index c.name-item.result c.loop-name-test.true c.name-item.is in
-    record { wrote = faulted _ _ _ _ c.from_residual-in_err-put-2.ensures.0 (at_text _ _ _ _ (whole ∙ ap (λ l. done ++ l) next) (WroteFront-after _ _ _ _ _ written (WroteFront-more _ _ _ _ c.in_err-put-2.ensures.wrote))) }
+    record {
+      wrote = faulted _ _ _ _ c.from_residual-in_err-put-2.ensures.0 (at_text _ _ _ _ (whole ∙ ap (λ l. done ++ l) next)
+          (WroteFront-after _ _ _ _ _ written (WroteFront-more _ _ _ _ c.in_err-put-2.ensures.wrote)));
+    }
 
 pub returns-in_err-put-3 : goal.returns-in_err-put-3
 returns-in_err-put-3 g c =
@@ -24,7 +27,10 @@ returns-in_err-put-3 g c =
     let rest : List ℕ = barred (drop (c.loop-name.name-index + 1) c.in-Some.others.now) in
     let next = next_name c.in-Some.others.now c.loop-name.name-index c.name-item.result c.loop-name-test.true c.name-item.is in
     let bar = Appends-trans _ _ _ _ _ written c.in_ok-put-2.ensures.wrote in
-    record { wrote = faulted _ _ _ _ c.from_residual-in_err-put-3.ensures.0 (at_text _ _ _ _ (one_more _ done name _ rest whole next) (WroteFront-more _ _ _ rest (WroteFront-after _ _ _ _ _ bar (at_text _ _ _ _ (sym c.deref-in-loop-name.ensures.value) c.in_err-put-3.ensures.wrote)))) }
+    record {
+      wrote = faulted _ _ _ _ c.from_residual-in_err-put-3.ensures.0 (at_text _ _ _ _ (one_more _ done name _ rest whole next)
+          (WroteFront-more _ _ _ rest (WroteFront-after _ _ _ _ _ bar (at_text _ _ _ _ (sym c.deref-in-loop-name.ensures.value) c.in_err-put-3.ensures.wrote))));
+    }
 
 pub loop-name-preserved : goal.loop-name-preserved
 loop-name-preserved g c =
