@@ -11,4 +11,5 @@ pub mod Arranging
 pub mod StartsLemmas
 pub mod Storing
 pub mod Whole
+pub mod Faults
 pub mod Writing

@@ -60,7 +60,7 @@ line_more n good old mid new labels labels' ts ts' line a so taken is inside add
   cut = cut_more old mid new so.done line so.cut taken;
 }
 
-good_lines : (n : ℕ) (done : List (List ℕ)) (arrows : List Arrow) → AllZip IsTransition done arrows → AllByRecursion (IsArrow n) arrows → AllByRecursion (IsGoodLine n) done
+pub good_lines : (n : ℕ) (done : List (List ℕ)) (arrows : List Arrow) → AllZip IsTransition done arrows → AllByRecursion (IsArrow n) arrows → AllByRecursion (IsGoodLine n) done
 good_lines n [] [] each within = tt
 good_lines n [] (b ∷ arrows) each within = tt
 good_lines n (l ∷ done) [] each within = absurd each

@@ -1,8 +1,13 @@
 -- What holds of all texts of systems.
 use Rattle.std.specs.Prelude.{◌≡◌, ℕ, List}
 use Rattle.lts.specs.System.{System}
-use Rattle.lts.specs.Aut.{IsAut}
+use Rattle.lts.specs.declared.error.AutFault.{AutFault}
+use Rattle.lts.specs.Aut.{IsAut, HasFault}
 
 -- A text spells at most one system.
 abbrev pub OneSystem : Type 0
 OneSystem = (text : List ℕ) (l k : System) → IsAut text l → IsAut text k → l ≡ k
+
+-- A text that spells a system has no deciding fault.
+abbrev pub NoFault : Type 0
+NoFault = (text : List ℕ) (l : System) (fault : AutFault) (line : ℕ) → IsAut text l → HasFault text fault line → ⊥

@@ -1,8 +1,13 @@
 // What holds of all texts of systems.
 
-ghost use Rattle.lts.specs.Laws.{OneSystem};
+ghost use Rattle.lts.specs.Laws.{OneSystem, NoFault};
 
 /// A text spells at most one system.
 pub fn one_system()
     ensures { OneSystem }
+{}
+
+/// A text that spells a system has no deciding fault.
+pub fn no_fault()
+    ensures { NoFault }
 {}

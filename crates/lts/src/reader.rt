@@ -8,7 +8,7 @@ ghost use Rattle.lts.specs.Aut.{IsAut, IsHeader, IsTransition, LineFault, HasFau
 ghost use Rattle.lts.specs.Scan.{said};
 ghost use Rattle.lts.specs.Label.{texts};
 ghost use Rattle.lts.specs.Gathered.{Gathers};
-ghost use Rattle.lts.specs.Left.{IfKnown, Refuses, IsAdmitted, BeginsWith, AreTransitions, HasRestFault, IsFirstFault};
+ghost use Rattle.lts.specs.Left.{IfKnown, Refuses, IsAdmitted, BeginsWith, AreTransitions, HasRestFault, IsFirstFault, IsNoFault};
 
 use crate::assemble::assemble;
 use crate::error::{AutError, AutFault};
@@ -144,6 +144,8 @@ pub fn read_aut<R: Read + Drop>(alloc: Global, reader: R) -> Result<Lts, AutErro
     // What is answered is spelled, and nothing else is.
     ensures spelled { IfOk result (λ l. IfSome (R.remaining reader) (λ text. IsAut text l.system)) }
     ensures only { IfOk result (λ l. IfSome (R.remaining reader) (λ text. (other : System) → IsAut text other → other ≡ l.system)) }
+    // A text that spells a system is refused for a failed read or want of memory alone.
+    ensures complete { IfErr result (λ e. IfSome (R.remaining reader) (λ text. (l : System) → IsAut text l → IsNoFault e)) }
     // A fault that is named is the one that decides.
     ensures fault { IfErr result (Refuses (R.remaining reader) HasFault) }
 {
