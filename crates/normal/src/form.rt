@@ -43,7 +43,7 @@ impl Normal {
     pub fn nodes(&self) -> &[Node]
         ensures { nodes_of result.now ≡ normal_nodes self.now }
     {
-        &self.nodes
+        self.nodes.as_slice()
     }
 
     /// How many nodes there are.
