@@ -1,17 +1,18 @@
 -- A text that spells a system has no deciding fault.
-use Rattle.std.proofs.Common.{◌≡◌, ℕ, ◌+◌, ◌<◌, ◌≤◌, ◌⊎◌, inl, inr, true, false, List, [], ◌∷◌, ◌++◌, length, Option, Some, None, Result, Ok, Err, refl, sym, ap, ◌∙◌, subst, arith, true≢false}
-use Rattle.std.specs.Prelude.{IfSome, IfErr}
+use Rattle.std.proofs.Common.{◌≡◌, ℕ, ◌+◌, ◌<◌, ◌≤◌, ◌⊎◌, inl, inr, List, [], ◌∷◌, ◌++◌, length, Option, Some, None, Result, Ok, Err, refl, sym, ap, ◌∙◌, subst, arith, true≢false}
+use Rattle.std.specs.Prelude.{IfSome, IfOk, IfErr}
 use Rattle.std.specs.List.{AllByRecursion}
 use Rattle.std.proofs.lemmas.List.{length-append}
+use Rattle.std.proofs.lemmas.Bool.{cases_lt}
 use Rattle.lts.specs.declared.error.AutFault.{AutFault}
 use Rattle.lts.specs.declared.error.AutFault.TheVariants.{BadHeader, BadLine, OverLimit, NoSuchState, WrongCount, BadStates, BadLabel}
 use Rattle.lts.specs.declared.error.AutError.{AutError}
 use Rattle.lts.specs.declared.error.AutError.TheVariants as errors
 use Rattle.lts.specs.Text.{lines}
 use Rattle.lts.specs.Label.{is_label}
-use Rattle.lts.specs.System.{Arrow, System, IsArrow}
-use Rattle.lts.specs.Aut.{IsAut, IsHeader, IsTransition, IsGoodLine, LineFault, HeaderFault, BodyFault, HasFault}
-use Rattle.lts.specs.Left.{Refuses, IsNoFault}
+use Rattle.lts.specs.System.{Arrow, System}
+use Rattle.lts.specs.Aut.{IsAut, IsHeader, IsGoodLine, LineFault, HeaderFault, BodyFault, HasFault}
+use Rattle.lts.specs.Left.{Refuses, IsNoFault, NamesOnly}
 use Rattle.lts.proofs.Unique.{header_same, transition_same, lines_same}
 use Rattle.lts.proofs.Reading.{good_lines}
 
@@ -86,3 +87,172 @@ complete_is (Some text) (errors.Fault fault line) h = λ l a. no_fault text l fa
 pub complete_all : {T : Type 0} (old : Option (List ℕ)) (r : Result T AutError) → IfErr r (Refuses old HasFault) → IfErr r (λ e. IfSome old (λ text. (l : System) → IsAut text l → IsNoFault e))
 complete_all old (Ok x) h = tt
 complete_all old (Err e) h = complete_is old e h
+
+-- ---- one fault at most
+
+-- a line has one fault at most
+one_line : (n : ℕ) (line : List ℕ) (f g : AutFault) → LineFault n line f → LineFault n line g → f ≡ g
+one_line n line BadLine BadLine p q = refl
+one_line n line BadLine BadLabel p (b, is, more) = absurd (p b is)
+one_line n line BadLine NoSuchState p (b, is, right, past) = absurd (p b is)
+one_line n line BadLabel BadLine (a, is, more) q = absurd (q a is)
+one_line n line BadLabel BadLabel p q = refl
+one_line n line BadLabel NoSuchState (a, is, bad) (b, same, right, past) = absurd (true≢false (sym right ∙ sym (ap (λ (x : Arrow). is_label x.label) (transition_same line a b is same)) ∙ bad))
+one_line n line NoSuchState BadLine (a, is, right, past) q = absurd (q a is)
+one_line n line NoSuchState BadLabel (b, same, right, past) (a, is, bad) = absurd (true≢false (sym right ∙ sym (ap (λ (x : Arrow). is_label x.label) (transition_same line a b is same)) ∙ bad))
+one_line n line NoSuchState NoSuchState p q = refl
+one_line n line BadHeader g p q = absurd p
+one_line n line OverLimit g p q = absurd p
+one_line n line WrongCount g p q = absurd p
+one_line n line BadStates g p q = absurd p
+one_line n line BadLine BadHeader p q = absurd q
+one_line n line BadLine OverLimit p q = absurd q
+one_line n line BadLine WrongCount p q = absurd q
+one_line n line BadLine BadStates p q = absurd q
+one_line n line BadLabel BadHeader p q = absurd q
+one_line n line BadLabel OverLimit p q = absurd q
+one_line n line BadLabel WrongCount p q = absurd q
+one_line n line BadLabel BadStates p q = absurd q
+one_line n line NoSuchState BadHeader p q = absurd q
+one_line n line NoSuchState OverLimit p q = absurd q
+one_line n line NoSuchState WrongCount p q = absurd q
+one_line n line NoSuchState BadStates p q = absurd q
+
+-- what decides: a count that is wrong after the good lines, or a faulty line
+record IsStop (m n : ℕ) (rest : List (List ℕ)) (fault : AutFault) (good : ℕ) : Type 0 where
+  front : List (List ℕ)
+  back : List (List ℕ)
+  split : rest ≡ front ++ back
+  goods : AllByRecursion (IsGoodLine n) front
+  long : length front ≡ good
+  why : ((fault ≡ WrongCount) × (((back ≡ []) × (good < m)) ⊎ ((0 < length back) × (good ≡ m)))) ⊎ ((line : List ℕ) × (after : List (List ℕ)) × (back ≡ line ∷ after) × (good < m) × LineFault n line fault)
+
+some_length : (xs : List (List ℕ)) → (xs ≡ [] → ⊥) → 0 < length xs
+some_length [] h = absurd (h refl)
+some_length (x ∷ xs) h = omega arith
+
+stop_of : (m n : ℕ) (rest : List (List ℕ)) (fault : AutFault) (good : ℕ) → BodyFault m n rest fault good → IsStop m n rest fault good
+stop_of m n rest WrongCount good (front, back, split, goods, long, wrong) =
+    record { front = front; back = back; split = split; goods = goods; long = long; why = inl (refl, elim wrong [ inl w ↦ inl w | inr w ↦ inr (some_length back w.0, w.1) ]) }
+stop_of m n rest BadLine good (front, back, line, split, goods, long, few, wrong) = record { front = front; back = line ∷ back; split = split; goods = goods; long = long; why = inr (line, back, refl, few, wrong) }
+stop_of m n rest BadLabel good (front, back, line, split, goods, long, few, wrong) = record { front = front; back = line ∷ back; split = split; goods = goods; long = long; why = inr (line, back, refl, few, wrong) }
+stop_of m n rest NoSuchState good (front, back, line, split, goods, long, few, wrong) = record { front = front; back = line ∷ back; split = split; goods = goods; long = long; why = inr (line, back, refl, few, wrong) }
+stop_of m n rest BadHeader good (front, back, line, split, goods, long, few, wrong) = absurd wrong
+stop_of m n rest OverLimit good (front, back, line, split, goods, long, few, wrong) = absurd wrong
+stop_of m n rest BadStates good (front, back, line, split, goods, long, few, wrong) = absurd wrong
+
+-- a faulty line is not among the good ones of a longer front
+inside_longer : (n : ℕ) (fault : AutFault) (front back longer rest : List (List ℕ)) (line : List ℕ) → front ++ line ∷ back ≡ longer ++ rest → length front < length longer → AllByRecursion (IsGoodLine n) longer → LineFault n line fault → ⊥
+inside_longer n fault front back [] rest line e more goods wrong = absurd (omega arith)
+inside_longer n fault [] back (x ∷ longer) rest line e more goods wrong =
+    let same = lines_same line x back (longer ++ rest) e in no_line n x fault goods.0 (subst (λ l. LineFault n l fault) same.0 wrong)
+inside_longer n fault (y ∷ front) back (x ∷ longer) rest line e more goods wrong =
+    let same = lines_same y x (front ++ line ∷ back) (longer ++ rest) e in inside_longer n fault front back longer rest line same.1 (omega arith) goods.1 wrong
+
+same_back : (xs ys vs ws : List (List ℕ)) → length xs ≡ length ys → xs ++ vs ≡ ys ++ ws → vs ≡ ws
+same_back [] [] vs ws long e = e
+same_back [] (y ∷ ys) vs ws long e = absurd (omega (arith, long))
+same_back (x ∷ xs) [] vs ws long e = absurd (omega (arith, long))
+same_back (x ∷ xs) (y ∷ ys) vs ws long e = same_back xs ys vs ws (omega (arith, long)) (lines_same x y (xs ++ vs) (ys ++ ws) e).1
+
+not_before : (m n : ℕ) (rest : List (List ℕ)) (f g : AutFault) (i j : ℕ) → IsStop m n rest f i → IsStop m n rest g j → i < j → ⊥
+not_before m n rest f g i j p q less =
+    let sum_p : length rest ≡ length p.front + length p.back = ap length p.split ∙ length-append p.front p.back in
+    let sum_q : length rest ≡ length q.front + length q.back = ap length q.split ∙ length-append q.front q.back in
+    let top : j ≤ m = elim q.why [ inl w ↦ elim w.1 [ inl k ↦ omega (arith, k.1) | inr k ↦ omega (arith, k.1) ] | inr w ↦ omega (arith, w.3) ] in
+    elim p.why [
+      | inl w ↦ elim w.1 [ inl k ↦ absurd (omega (arith, sum_p, sum_q, p.long, q.long, ap length k.0, less)) | inr k ↦ absurd (omega (arith, k.1, top, less)) ]
+      | inr w ↦
+          inside_longer n f p.front w.1 q.front q.back w.0 (ap (λ l. p.front ++ l) (sym w.2) ∙ sym p.split ∙ q.split) (omega (arith, p.long, q.long, less)) q.goods w.4
+    ]
+
+one_body : (m n : ℕ) (rest : List (List ℕ)) (f g : AutFault) (i j : ℕ) → IsStop m n rest f i → IsStop m n rest g j → (f ≡ g) × (i ≡ j)
+one_body m n rest f g i j p q =
+    let at : i ≡ j = elim (cases_lt i j) [ inl less ↦ absurd (not_before m n rest f g i j p q less) | inr low ↦ elim (cases_lt j i) [ inl less ↦ absurd (not_before m n rest g f j i q p less) | inr high ↦ omega arith ] ] in
+    let back : p.back ≡ q.back = same_back p.front q.front p.back q.back (p.long ∙ at ∙ sym q.long) (sym p.split ∙ q.split) in
+    let fault : f ≡ g = elim p.why [
+      | inl w ↦ elim q.why [
+        | inl k ↦ w.0 ∙ sym k.0
+        | inr k ↦ absurd (elim w.1 [ inl u ↦ omega (arith, ap length u.0, ap length back, ap length k.2) | inr u ↦ omega (arith, u.1, k.3, at) ])
+      ]
+      | inr w ↦ elim q.why [
+        | inl k ↦ absurd (elim k.1 [ inl u ↦ omega (arith, ap length u.0, ap length back, ap length w.2) | inr u ↦ omega (arith, u.1, w.3, at) ])
+        | inr k ↦ let same = lines_same w.0 k.0 w.1 k.1 (sym w.2 ∙ back ∙ k.2) in one_line n k.0 f g (subst (λ l. LineFault n l f) same.0 w.4) k.4
+      ]
+    ] in
+    (fault, at)
+
+-- two readings of one header
+abbrev SameHeader : (i m n i' m' n' : ℕ) (rest rest' : List (List ℕ)) → Type 0
+SameHeader i m n i' m' n' rest rest' = (i ≡ i') × (m ≡ m') × (n ≡ n') × (rest ≡ rest')
+
+two_headers : (all : List (List ℕ)) (first first' : List ℕ) (rest rest' : List (List ℕ)) (i m n i' m' n' : ℕ) → all ≡ first ∷ rest → all ≡ first' ∷ rest' → IsHeader first i m n → IsHeader first' i' m' n' → SameHeader i m n i' m' n' rest rest'
+two_headers all first first' rest rest' i m n i' m' n' cut cut' h h' =
+    let same = lines_same first first' rest rest' (sym cut ∙ cut') in
+    let e = header_same first' i m n i' m' n' (subst (λ x. IsHeader x i m n) same.0 h) h' in
+    (e.0, e.1, e.2, same.1)
+
+one_first : (all : List (List ℕ)) (f g : AutFault) → HeaderFault all f → HeaderFault all g → f ≡ g
+one_first all BadHeader BadHeader p q = refl
+one_first all BadHeader OverLimit p (first, rest, i, m, n, cut, h, more) = absurd (p first rest i m n cut h)
+one_first all BadHeader BadStates p (first, rest, i, m, n, cut, h, few, small, past) = absurd (p first rest i m n cut h)
+one_first all OverLimit BadHeader (first, rest, i, m, n, cut, h, more) q = absurd (q first rest i m n cut h)
+one_first all OverLimit OverLimit p q = refl
+one_first all OverLimit BadStates (first, rest, i, m, n, cut, h, over) (first', rest', i', m', n', cut', h', few, small, past) =
+    let e = two_headers all first first' rest rest' i m n i' m' n' cut cut' h h' in
+    elim over [ inl k ↦ absurd (omega (arith, k, few, e.1)) | inr k ↦ absurd (omega (arith, k, small, e.2)) ]
+one_first all BadStates BadHeader (first, rest, i, m, n, cut, h, few, small, past) q = absurd (q first rest i m n cut h)
+one_first all BadStates OverLimit (first', rest', i', m', n', cut', h', few, small, past) (first, rest, i, m, n, cut, h, over) =
+    let e = two_headers all first first' rest rest' i m n i' m' n' cut cut' h h' in
+    elim over [ inl k ↦ absurd (omega (arith, k, few, e.1)) | inr k ↦ absurd (omega (arith, k, small, e.2)) ]
+one_first all BadStates BadStates p q = refl
+one_first all BadLine g p q = absurd p
+one_first all NoSuchState g p q = absurd p
+one_first all WrongCount g p q = absurd p
+one_first all BadLabel g p q = absurd p
+one_first all f BadLine p q = absurd q
+one_first all f NoSuchState p q = absurd q
+one_first all f WrongCount p q = absurd q
+one_first all f BadLabel p q = absurd q
+
+-- a right header has no fault
+right_header : (all : List (List ℕ)) (fault : AutFault) (first : List ℕ) (rest : List (List ℕ)) (i m n : ℕ) → HeaderFault all fault → all ≡ first ∷ rest → IsHeader first i m n → m ≤ 10000000 → n ≤ 1000000 → i < n → ⊥
+right_header all BadHeader first rest i m n p cut h few small below = p first rest i m n cut h
+right_header all OverLimit first rest i m n (first', rest', i', m', n', cut', h', over) cut h few small below =
+    let e = two_headers all first first' rest rest' i m n i' m' n' cut cut' h h' in elim over [ inl k ↦ absurd (omega (arith, k, few, e.1)) | inr k ↦ absurd (omega (arith, k, small, e.2)) ]
+right_header all BadStates first rest i m n (first', rest', i', m', n', cut', h', few', small', past) cut h few small below =
+    let e = two_headers all first first' rest rest' i m n i' m' n' cut cut' h h' in absurd (omega (arith, past, below, e.0, e.2))
+right_header all BadLine first rest i m n p cut h few small below = p
+right_header all NoSuchState first rest i m n p cut h few small below = p
+right_header all WrongCount first rest i m n p cut h few small below = p
+right_header all BadLabel first rest i m n p cut h few small below = p
+
+pub one_fault : (text : List ℕ) (f g : AutFault) (i j : ℕ) → HasFault text f i → HasFault text g j → (f ≡ g) × (i ≡ j)
+one_fault text f g i j (inl (p, at)) (inl (q, at')) = (one_first (lines text) f g p q, at ∙ sym at')
+one_fault text f g i j (inl (p, at)) (inr (first, rest, a, m, n, good, cut, h, few, small, below, body, place)) = absurd (right_header (lines text) f first rest a m n p cut h few small below)
+one_fault text f g i j (inr (first, rest, a, m, n, good, cut, h, few, small, below, body, place)) (inl (q, at)) = absurd (right_header (lines text) g first rest a m n q cut h few small below)
+one_fault text f g i j (inr (first, rest, a, m, n, good, cut, h, few, small, below, body, place)) (inr (first', rest', a', m', n', good', cut', h', few', small', below', body', place')) =
+    let e = two_headers (lines text) first first' rest rest' a m n a' m' n' cut cut' h h' in
+    let stop = stop_of m' n' rest' f good (subst (λ k. BodyFault m' k rest' f good) e.2 (subst (λ k. BodyFault k n rest' f good) e.1 (subst (λ l. BodyFault m n l f good) e.3 body))) in
+    let (same, at) = one_body m' n' rest' f g good good' stop (stop_of m' n' rest' g good' body') in
+    (same, place ∙ ap (λ k. k + 2) at ∙ sym place')
+
+exact_is : (old : Option (List ℕ)) (e : AutError) → Refuses old HasFault e → IfSome old (λ text. (fault : AutFault) (line : ℕ) → HasFault text fault line → NamesOnly fault line e)
+exact_is None e h = tt
+exact_is (Some text) errors.Read h = λ fault line k. tt
+exact_is (Some text) errors.Memory h = λ fault line k. tt
+exact_is (Some text) (errors.Fault named place) h = λ fault line k. one_fault text named fault place line h k
+
+-- a text with a deciding fault is refused for no other
+pub exact_all : {T : Type 0} (old : Option (List ℕ)) (r : Result T AutError) → IfErr r (Refuses old HasFault) → IfErr r (λ e. IfSome old (λ text. (fault : AutFault) (line : ℕ) → HasFault text fault line → NamesOnly fault line e))
+exact_all old (Ok x) h = tt
+exact_all old (Err e) h = exact_is old e h
+
+none_is : (old : Option (List ℕ)) (l : System) → IfSome old (λ text. IsAut text l) → IfSome old (λ text. (fault : AutFault) (line : ℕ) → HasFault text fault line → ⊥)
+none_is None l h = tt
+none_is (Some text) l h = λ fault line k. no_fault text l fault line h k
+
+-- a text with a deciding fault is not answered
+pub none_all : {T E : Type 0} (view : T → System) (old : Option (List ℕ)) (r : Result T E) → IfOk r (λ x. IfSome old (λ text. IsAut text (view x))) → IfOk r (λ x. IfSome old (λ text. (fault : AutFault) (line : ℕ) → HasFault text fault line → ⊥))
+none_all view old (Ok x) h = none_is old (view x) h
+none_all view old (Err e) h = tt

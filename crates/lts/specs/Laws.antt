@@ -11,3 +11,7 @@ OneSystem = (text : List ℕ) (l k : System) → IsAut text l → IsAut text k �
 -- A text that spells a system has no deciding fault.
 abbrev pub NoFault : Type 0
 NoFault = (text : List ℕ) (l : System) (fault : AutFault) (line : ℕ) → IsAut text l → HasFault text fault line → ⊥
+
+-- A text has at most one deciding fault, at one line.
+abbrev pub OneFault : Type 0
+OneFault = (text : List ℕ) (f g : AutFault) (i j : ℕ) → HasFault text f i → HasFault text g j → (f ≡ g) × (i ≡ j)

@@ -58,3 +58,9 @@ abbrev pub IsFirstFault : Announced → AutFault → Type 0
 IsFirstFault h OverLimit = (10000000 < h.transitions) ⊎ (1000000 < h.states)
 IsFirstFault h BadStates = (h.transitions ≤ 10000000) × (h.states ≤ 1000000) × (h.states ≤ h.initial)
 IsFirstFault h _ = ⊥
+
+-- the error names this fault and line, if it names one
+abbrev pub NamesOnly : AutFault → ℕ → AutError → Type 0
+NamesOnly fault line (Fault named place) = (named ≡ fault) × (place ≡ line)
+NamesOnly fault line Read = ⊤
+NamesOnly fault line Memory = ⊤

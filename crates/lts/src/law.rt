@@ -1,6 +1,6 @@
 // What holds of all texts of systems.
 
-ghost use Rattle.lts.specs.Laws.{OneSystem, NoFault};
+ghost use Rattle.lts.specs.Laws.{OneSystem, NoFault, OneFault};
 
 /// A text spells at most one system.
 pub fn one_system()
@@ -10,4 +10,9 @@ pub fn one_system()
 /// A text that spells a system has no deciding fault.
 pub fn no_fault()
     ensures { NoFault }
+{}
+
+/// A text has at most one deciding fault, at one line.
+pub fn one_fault()
+    ensures { OneFault }
 {}

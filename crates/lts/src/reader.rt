@@ -1,6 +1,6 @@
 // The reader of systems.
 
-ghost use Rattle.std.specs.Prelude.{◌≡◌, ◌≤◌, ◌<◌, ◌^◌, List, length, IfOk, IfErr, IfSome, IfNone};
+ghost use Rattle.std.specs.Prelude.{◌≡◌, ℕ, ◌≤◌, ◌<◌, ◌^◌, List, length, IfOk, IfErr, IfSome, IfNone};
 ghost use Rattle.std.specs.List.{AllByRecursion, list_all};
 ghost use Rattle.lts.specs.Label as label;
 ghost use Rattle.lts.specs.System.{Arrow, System, IsArrow};
@@ -8,7 +8,7 @@ ghost use Rattle.lts.specs.Aut.{IsAut, IsHeader, IsTransition, LineFault, HasFau
 ghost use Rattle.lts.specs.Scan.{said};
 ghost use Rattle.lts.specs.Label.{texts};
 ghost use Rattle.lts.specs.Gathered.{Gathers};
-ghost use Rattle.lts.specs.Left.{IfKnown, Refuses, IsAdmitted, BeginsWith, AreTransitions, HasRestFault, IsFirstFault, IsNoFault};
+ghost use Rattle.lts.specs.Left.{IfKnown, Refuses, IsAdmitted, BeginsWith, AreTransitions, HasRestFault, IsFirstFault, IsNoFault, NamesOnly};
 
 use crate::assemble::assemble;
 use crate::error::{AutError, AutFault};
@@ -146,6 +146,9 @@ pub fn read_aut<R: Read + Drop>(alloc: Global, reader: R) -> Result<Lts, AutErro
     ensures only { IfOk result (λ l. IfSome (R.remaining reader) (λ text. (other : System) → IsAut text other → other ≡ l.system)) }
     // A text that spells a system is refused for a failed read or want of memory alone.
     ensures complete { IfErr result (λ e. IfSome (R.remaining reader) (λ text. (l : System) → IsAut text l → IsNoFault e)) }
+    // A text with a deciding fault is never answered, and no other fault is named.
+    ensures none { IfOk result (λ _. IfSome (R.remaining reader) (λ text. (fault : AutFault) (line : ℕ) → HasFault text fault line → ⊥)) }
+    ensures exact { IfErr result (λ e. IfSome (R.remaining reader) (λ text. (fault : AutFault) (line : ℕ) → HasFault text fault line → NamesOnly fault line e)) }
     // A fault that is named is the one that decides.
     ensures fault { IfErr result (Refuses (R.remaining reader) HasFault) }
 {
