@@ -1,15 +1,15 @@
 -- How fronts of a text join.
-use Rattle.std.specs.Prelude.{◌≡◌, ℕ, ◌+◌, ◌-◌, ◌<◌, ◌≤◌, suc, zero, Bool, true, false, not, ◌&&◌, cond, List, [], ◌∷◌, ◌++◌, map, length, take, drop, IsTrue, refl, ◌==◌}
+use Rattle.std.specs.Prelude.{◌≡◌, ℕ, ◌+◌, ◌<◌, ◌≤◌, suc, zero, Bool, true, false, not, ◌&&◌, cond, List, [], ◌∷◌, ◌++◌, length, take, drop, IsTrue, refl}
 use Rattle.std.specs.List.{list_all, list_any, take_while}
 use Rattle.std.specs.Str.{bytes_eq}
-use Rattle.std.proofs.Common.{arith, sym, ◌∙◌, ap, subst, append_assoc, true≢false, get_or, zero-add, add-zero}
+use Rattle.std.proofs.Common.{arith, sym, ◌∙◌, ap, subst, append_assoc, true≢false, get_or, add-zero}
 use Rattle.std.proofs.Math.Seq.{take-add}
 use Rattle.std.proofs.lemmas.List.{append-nil, length-drop, drop-drop, take-append-drop, length-take-le, take_more, length-append}
 use Rattle.std.proofs.lemmas.List.Sums.{take_while-cons}
-use Rattle.lts.specs.Text.{is_name, is_name_byte, is_letter}
-use Rattle.lts.specs.Label.{is_label_byte, is_label}
-use Rattle.formula.specs.Token.{Token, Atom, spelling, reserved_words, IsToken, Piece, Blank, Comment, Word, piece_text, piece_ends, IsPiece, begins, token_ends, text_of, Cuts, tokens_of, offsets_from}
-use Rattle.formula.specs.Cutting.{IsFront, IsGap, IsFirst, IsNamed}
+use Rattle.lts.specs.Text.{is_name_byte, is_letter}
+use Rattle.lts.specs.Label.{is_label_byte}
+use Rattle.formula.specs.Token.{Token, Atom, spelling, reserved_words, IsToken, Piece, Blank, Comment, Word, piece_text, piece_ends, begins, token_ends, text_of, Cuts, tokens_of, offsets_from}
+use Rattle.formula.specs.Cutting.{IsFront, IsFirst, IsNamed}
 use Rattle.formula.proofs.Regulars.{all_true, le_true}
 
 pub text_of-append : (ps qs : List Piece) → text_of (ps ++ qs) ≡ text_of ps ++ text_of qs

@@ -1,8 +1,8 @@
 -- What the faults of a written formula are, from those of its parts.
-use Rattle.std.specs.Prelude.{◌≡◌, ℕ, ◌+◌, ◌*◌, ◌<◌, ◌≤◌, Bool, true, false, List, [], ◌∷◌, ◌++◌, length, map, Option, Some, None, Result, Ok, Err, slice_get, refl, if◌then◌else◌}
-use Rattle.std.proofs.Common.{arith, sym, ◌∙◌, ap, subst, true≢false}
+use Rattle.std.specs.Prelude.{◌≡◌, ℕ, ◌+◌, ◌*◌, ◌<◌, ◌≤◌, true, false, List, [], ◌∷◌, ◌++◌, length, Some, Err, slice_get, refl, if◌then◌else◌}
+use Rattle.std.proofs.Common.{arith, sym, ap, true≢false}
 use Rattle.std.proofs.lemmas.List.{length-append}
-use Rattle.formula.specs.Token.{Token, AndSign, OrSign, ImpliesSign, Dot, ChoiceSign, StarSign, PlusSign, Close}
+use Rattle.formula.specs.Token.{AndSign, OrSign, ImpliesSign, Dot, ChoiceSign, StarSign, PlusSign}
 use Rattle.formula.specs.Syntax.{RegSyntax, Anything', Nothing', Tau', Names', Quoted', Parens', Not', And', Or', Implies', Star', Plus', Then', Either', reg_tokens, more_names, counts_as_action}
 use Rattle.formula.specs.Fault.{operand_fault, reg_faults}
 use Rattle.formula.specs.Written.{infixed, joins_actions, infix_token}

@@ -1,9 +1,9 @@
 -- How blanks and comments join.
-use Rattle.std.specs.Prelude.{◌≡◌, ℕ, ◌+◌, ◌-◌, ◌<◌, ◌≤◌, suc, zero, Bool, true, false, not, ◌||◌, List, [], ◌∷◌, ◌++◌, length, take, drop, IsTrue, refl, ◌==◌}
-use Rattle.std.specs.List.{list_all, take_while}
-use Rattle.std.proofs.Common.{arith, sym, ◌∙◌, ap, subst, true≢false, get_or, add-zero}
-use Rattle.std.proofs.lemmas.List.{append-nil, length-drop, drop_more}
-use Rattle.formula.specs.Token.{Token, Piece, Blank, Comment, begins, text_of, tokens_of}
+use Rattle.std.specs.Prelude.{◌≡◌, ℕ, ◌+◌, ◌<◌, suc, zero, Bool, not, ◌||◌, List, [], ◌∷◌, ◌++◌, length, take, drop, IsTrue, refl, ◌==◌}
+use Rattle.std.specs.List.{take_while}
+use Rattle.std.proofs.Common.{arith, sym, ◌∙◌, ap, subst, true≢false, get_or}
+use Rattle.std.proofs.lemmas.List.{append-nil, drop_more}
+use Rattle.formula.specs.Token.{Piece, Blank, Comment, tokens_of}
 use Rattle.formula.specs.Cutting.{IsFront, IsGap}
 use Rattle.formula.proofs.Cuts.{tokens_of-append, front-append, Run, run-of}
 

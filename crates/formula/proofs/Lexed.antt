@@ -1,10 +1,8 @@
 -- How a text is cut into decided tokens, one after another.
-use Rattle.std.specs.Prelude.{◌≡◌, ℕ, ◌+◌, ◌-◌, ◌<◌, ◌≤◌, suc, zero, Bool, true, false, not, ◌&&◌, ◌||◌, List, [], ◌∷◌, ◌++◌, map, length, take, drop, IsTrue, refl, ◌==◌, Option, Some, None, slice_get, if◌then◌else◌, cond}
-use Rattle.std.specs.List.{list_all, list_any}
-use Rattle.std.proofs.Common.{arith, sym, ◌∙◌, ap, subst, append_assoc, true≢false, get_or, add-zero, zero-add}
-use Rattle.std.proofs.lemmas.List.{append-nil, length-drop, drop-drop, map-append, drop_all, length-take-le, take-append-drop}
+use Rattle.std.specs.Prelude.{◌≡◌, ℕ, ◌+◌, ◌<◌, ◌≤◌, suc, zero, Bool, true, false, not, ◌&&◌, List, [], ◌∷◌, ◌++◌, map, length, take, drop, IsTrue, refl, Option, Some, slice_get, if◌then◌else◌}
+use Rattle.std.proofs.Common.{arith, sym, ◌∙◌, ap, subst, append_assoc, true≢false, zero-add}
+use Rattle.std.proofs.lemmas.List.{append-nil, map-append, drop_all, length-take-le, take-append-drop}
 use Rattle.std.proofs.lemmas.Bool.Decides.{nat_tests}
-use Rattle.std.proofs.Math.Seq.{take-length}
 use Rattle.lts.specs.Text.{is_letter}
 use Rattle.formula.specs.Token.{Token, Name, Reserved, Atom, TrueWord, FalseWord, MuWord, NuWord, TauWord, ImpliesSign, OrSign, AndSign, Bar, NotSign, Less, Greater, OpenBox, CloseBox, Open, Close, Dot, ChoiceSign, PlusSign, StarSign, spelling, IsToken, is_free_name, Piece, Word, text_of, Cuts, tokens_of, offsets_from, is_decided, is_after_postfix, sign_is_decided, is_reserved, token_ends}
 use Rattle.formula.specs.Written.{token_of, words}

@@ -1,11 +1,10 @@
 -- What a refusal of an operand or a variable says of its text.
-use Rattle.std.specs.Prelude.{◌≡◌, ℕ, ◌<◌, ◌≤◌, Bool, true, false, List, [], ◌∷◌, length, map, drop, Option, Some, None, slice_get, IsTrue, refl}
-use Rattle.std.proofs.Common.{arith, sym, ◌∙◌, ap, subst, true≢false, inl, inr}
+use Rattle.std.specs.Prelude.{◌≡◌, ℕ, ◌≤◌, List, [], ◌∷◌, length, map, drop, Some, slice_get, IsTrue}
+use Rattle.std.proofs.Common.{sym, ◌∙◌, ap, subst, true≢false, inr}
 use Rattle.formula.specs.Tree.{Formula}
-use Rattle.formula.specs.Token.{Token}
-use Rattle.formula.specs.Syntax.{Syntax, tokens}
+use Rattle.formula.specs.Syntax.{Syntax}
 use Rattle.formula.specs.Spells.{IsWritten, Spells, SpellsWithin}
-use Rattle.formula.specs.Fault.{HasFault, operand_faults, variable_faults}
+use Rattle.formula.specs.Fault.{operand_faults, variable_faults}
 use Rattle.formula.specs.Written.{words}
 use Rattle.formula.specs.Cutting.{IsLexed}
 use Rattle.formula.specs.Read.{IsWhole, IsRefusal, IsRefusedBy, is_token_fault, is_grammar_fault, is_tree_fault}

@@ -1,12 +1,11 @@
 -- A formula without faults of operands means something, and one without faults of variables is admitted.
-use Rattle.std.specs.Prelude.{◌≡◌, ℕ, ◌+◌, Bool, true, false, not, ◌&&◌, List, [], ◌∷◌, ◌++◌, length, IsTrue, IsSome, Option, Some, None, option_map, refl, if◌then◌else◌}
+use Rattle.std.specs.Prelude.{◌≡◌, ℕ, ◌+◌, Bool, true, false, List, [], ◌∷◌, ◌++◌, IsTrue, IsSome, Option, Some, None, option_map, refl, if◌then◌else◌}
 use Rattle.std.specs.Str.{bytes_eq}
-use Rattle.std.proofs.Common.{arith, sym, ◌∙◌, ap, subst, true≢false}
-use Rattle.formula.specs.Tree.{Formula, True, False, Var, Not, And, Or, Implies, Dia, Box, Mu, Nu, Action, Regular}
-use Rattle.formula.specs.Syntax.{RegSyntax, Anything', Nothing', Tau', Names', Quoted', Parens', Not', And', Or', Implies', Star', Plus', Then', Either', reg_tokens, counts_as_action, action_meant, regular_meant, option_two, Syntax, True', False', Var', Group', Neg', Both', OneOf', If', Dia', Box', Mu', Nu', tokens, meant}
+use Rattle.std.proofs.Common.{sym, ◌∙◌, ap, subst, true≢false}
+use Rattle.formula.specs.Tree.{Formula, Not, And, Or, Implies, Dia, Box, Mu, Nu}
+use Rattle.formula.specs.Syntax.{RegSyntax, Anything', Nothing', Tau', Names', Quoted', Parens', Not', And', Or', Implies', Star', Plus', Then', Either', counts_as_action, action_meant, regular_meant, option_two, Syntax, True', False', Var', Group', Neg', Both', OneOf', If', Dia', Box', Mu', Nu', meant}
 use Rattle.formula.specs.Admitted.{Scope, negated, is_free_to_stand, is_admitted_in}
 use Rattle.formula.specs.Fault.{operand_fault, reg_faults, operand_faults, variable_fault, variable_faults}
-use Rattle.formula.specs.declared.error.FormulaFault.{FormulaFault}
 use Rattle.formula.specs.declared.error.FormulaFault.TheVariants.{OddNegations}
 use Rattle.formula.proofs.Regulars.{all_true}
 

@@ -1,7 +1,7 @@
 -- What a state formula is that was put together from parts.
-use Rattle.std.specs.Prelude.{◌≡◌, ◌≢◌, ℕ, ◌+◌, ◌-◌, ◌<◌, ◌≤◌, Bool, true, false, not, ◌&&◌, nat_le, List, [], ◌∷◌, ◌++◌, map, max, length, IsTrue, refl, suc}
-use Rattle.std.proofs.Common.{arith, sym, ◌∙◌, ap, subst, append_assoc, true≢false}
-use Rattle.formula.specs.Token.{Token, AndSign}
+use Rattle.std.specs.Prelude.{◌≡◌, ℕ, ◌+◌, ◌-◌, ◌<◌, ◌≤◌, Bool, true, false, not, ◌&&◌, nat_le, List, ◌∷◌, ◌++◌, max, IsTrue, refl}
+use Rattle.std.proofs.Common.{arith, sym, ◌∙◌, ap, subst, append_assoc}
+use Rattle.formula.specs.Token.{Token}
 use Rattle.formula.specs.Syntax.{RegSyntax, reg_tokens, reg_fits, reg_nesting, reg_parens, Syntax, tokens, fits, form, nesting, parens, ends_in_binder}
 use Rattle.formula.specs.Written.{words, token_of, reg_syntax, state_syntax, joined, connective_token, connective_row, modal, opening, closing}
 use Rattle.formula.specs.Read.{IsRegular, regular_tokens, IsState, state_tokens, IsStateJoined, state_row}

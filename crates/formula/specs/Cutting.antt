@@ -1,11 +1,10 @@
 -- How a text is cut from its front on.
-use Rattle.std.specs.Prelude.{◌≡◌, ℕ, ◌+◌, ◌<◌, ◌≤◌, Bool, true, false, not, List, [], ◌∷◌, ◌++◌, map, length, take, drop, IsTrue, Option, Some, None, ◌==◌, ◌||◌, if◌then◌else◌}
+use Rattle.std.specs.Prelude.{◌≡◌, ℕ, ◌<◌, ◌≤◌, Bool, false, not, List, [], ◌∷◌, ◌++◌, map, length, take, drop, IsTrue, Option, Some, None, ◌==◌, ◌||◌, if◌then◌else◌}
 use Rattle.std.specs.List.{list_any}
 use Rattle.std.specs.Str.{bytes_eq}
 use Rattle.lts.specs.Text.{is_name, is_name_byte}
 use Rattle.formula.specs.Token.{Token, ChoiceSign, PlusSign, spelling, reserved_words, IsToken, Piece, Word, begins, token_ends, text_of, Cuts, tokens_of, offsets_from, is_decided, is_reserved}
-use Rattle.formula.specs.Written.{token_of, words}
-use Rattle.formula.specs.declared.token.Token.{Token as Lexeme}
+use Rattle.formula.specs.Written.{words}
 use Rattle.formula.specs.declared.token.Placed.{Placed}
 
 -- the first n bytes of the text are these pieces

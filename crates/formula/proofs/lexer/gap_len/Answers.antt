@@ -1,4 +1,4 @@
-use Rattle.std.proofs.Common.{rules, arith, ◌≡◌, ◌+◌, ℕ, Bool, true, not, List, length, subst, sym, ap, ◌∙◌, drop, get_or, IsTrue, ◌||◌}
+use Rattle.std.proofs.Common.{rules, arith, ◌≡◌, ◌+◌, ℕ, Bool, not, length, subst, sym, ap, ◌∙◌, get_or, IsTrue, ◌||◌}
 use Rattle.std.specs.Prelude.{◌==◌}
 use Rattle.std.specs.List.{take_while}
 use Rattle.std.proofs.lemmas.List.{take_rest}

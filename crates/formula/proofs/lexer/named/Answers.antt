@@ -1,4 +1,4 @@
-use Rattle.std.proofs.Common.{rules, ◌≡◌, ℕ, Bool, false, subst, sym, ◌∙◌, take}
+use Rattle.std.proofs.Common.{◌≡◌, ℕ, false, subst, sym, take}
 use Rattle.std.specs.List.{list_any}
 use Rattle.std.specs.Str.{bytes_eq}
 use Rattle.lts.specs.Text.{is_name_byte}

@@ -1,9 +1,9 @@
-use Rattle.std.proofs.Common.{rules, arith, ◌≡◌, ◌+◌, ℕ, List, [], ◌∷◌, ◌++◌, length, subst, sym, ap, ◌∙◌, drop, refl}
+use Rattle.std.proofs.Common.{rules, arith, ◌≡◌, ◌+◌, ℕ, [], ◌∷◌, ◌++◌, subst, drop, refl}
 use Rattle.std.specs.Prelude.{slice_get, Option}
 use Rattle.std.proofs.lemmas.List.{take_rest}
 use Rattle.std.proofs.lemmas.Grind.{common_steps}
 use Rattle.formula.specs.Written.{token_of}
-use Rattle.formula.specs.Cutting.{IsGap, IsFirst, IsCut, IsDecidedBy}
+use Rattle.formula.specs.Cutting.{IsGap, IsFirst, IsDecidedBy}
 use Rattle.formula.specs.declared.token.Placed.{Placed}
 use Rattle.formula.proofs.Lexed.{cut-none, cut-more, cut-all}
 use Rattle.formula.proofs.lexer.tokens.Goals as goal

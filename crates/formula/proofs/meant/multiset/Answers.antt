@@ -1,4 +1,4 @@
-use Rattle.std.proofs.Common.{rules, arith, ◌≡◌, ◌∷◌, List, ℕ, map, take, ap, ◌∙◌, length, Vec, Global}
+use Rattle.std.proofs.Common.{arith, ◌≡◌, ◌∷◌, List, ℕ, map, take, ap, ◌∙◌, Vec, Global}
 use Rattle.lts.specs.Label.{multiset}
 use Rattle.std.proofs.lemmas.List.{take_all}
 use Rattle.formula.proofs.Sorting.{sorted_is}

@@ -1,5 +1,5 @@
-use Rattle.std.proofs.Common.{rules, arith, ◌≡◌, ◌+◌, ◌*◌, ◌^◌, ◌<◌, ℕ, Bool, true, false, List, length, map, subst, sym, ap, ◌∙◌, refl}
-use Rattle.std.specs.Prelude.{Result, Ok, Err}
+use Rattle.std.proofs.Common.{rules, arith, ◌≡◌, ◌+◌, ◌^◌, ◌<◌, ℕ, true, false, length, map, subst, sym, ap, ◌∙◌}
+use Rattle.std.specs.Prelude.{Result, Err}
 use Rattle.std.proofs.lemmas.Result.{err_from_is_err_and}
 use Rattle.std.proofs.lemmas.List.{length-map}
 use Rattle.formula.specs.Syntax.{RegSyntax, reg_tokens, more_names, counts_as_action}

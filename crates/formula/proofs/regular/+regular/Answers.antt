@@ -1,6 +1,6 @@
-use Rattle.std.proofs.Common.{rules, ◌≡◌, ◌++◌, ◌∷◌, IfOk, ◌∙◌, ap, subst, List, ℕ, ◌-◌}
+use Rattle.std.proofs.Common.{rules, ◌≡◌, IfOk, subst, List, ℕ, ◌-◌}
 use Rattle.formula.specs.Token.{Token}
-use Rattle.formula.specs.Written.{token_of, infix_token, infix_row, repeat_token, words}
+use Rattle.formula.specs.Written.{token_of, infix_token, infix_row, repeat_token}
 use Rattle.formula.specs.declared.room.Room.{Room}
 use Rattle.formula.specs.Read.{regular_tokens, IsRegular}
 use Rattle.formula.proofs.Regulars.{joined-is, joined-eaten, repeated-eaten}

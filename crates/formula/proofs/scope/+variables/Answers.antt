@@ -1,8 +1,7 @@
-use Rattle.std.proofs.Common.{rules, arith, ◌≡◌, ◌+◌, ℕ, Bool, not, List, [], length, subst, sym, ap, ◌∙◌, refl}
-use Rattle.std.specs.Prelude.{Result, Ok, Err}
+use Rattle.std.proofs.Common.{◌≡◌, ℕ, Bool, [], length, subst, sym, ap, ◌∙◌}
+use Rattle.std.specs.Prelude.{Result, Err}
 use Rattle.std.proofs.lemmas.Result.{err_from_is_err_and}
 use Rattle.formula.specs.Syntax.{Syntax, tokens, Neg'}
-use Rattle.formula.specs.Admitted.{Scope, negated}
 use Rattle.formula.specs.Fault.{variable_faults}
 use Rattle.formula.specs.Written.{state_syntax, joined}
 use Rattle.formula.specs.Checked.{AreChecked, scope_of, left_parity}

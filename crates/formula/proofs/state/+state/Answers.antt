@@ -1,6 +1,6 @@
-use Rattle.std.proofs.Common.{rules, ◌≡◌, ◌++◌, ◌∷◌, IfOk, ◌∙◌, ap, refl, sym, subst, List, ℕ, ◌-◌, ◌<◌}
+use Rattle.std.proofs.Common.{rules, ◌≡◌, IfOk, ap, refl, subst, List, ℕ, ◌-◌, ◌<◌}
 use Rattle.formula.specs.Token.{Token}
-use Rattle.formula.specs.Written.{token_of, connective_token, connective_row, words, modal, reg_syntax, state_syntax}
+use Rattle.formula.specs.Written.{connective_row, words, modal, reg_syntax, state_syntax}
 use Rattle.formula.specs.declared.room.Room.{Room}
 use Rattle.formula.specs.Read.{state_tokens, IsState, state_row}
 use Rattle.formula.proofs.States.{state-joined-is, state-joined-eaten, modal-eaten, modal-is}
