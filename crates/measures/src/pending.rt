@@ -1,6 +1,6 @@
 // Which vertices may rise next. Nothing rests on these lists but time: what they miss, a sweep over all vertices finds.
 
-ghost use Rattle.std.specs.Prelude.{◌+◌, ◌<◌, ◌≤◌, vec_len};
+ghost use Rattle.std.specs.Prelude.{◌≤◌, vec_len};
 
 use game::graph::Game;
 use std::alloc::{AllocError, Global};
@@ -67,29 +67,33 @@ fn place_edges(starts: &mut [usize], vertices: &mut [u32], v: u32, successors: &
     }
 }
 
-// Vertices that wait, each once, in a ring with room for all. The one that has waited longest comes first.
+// Vertices that wait, each once. The one that came last is taken first, so that a rise is carried on before others begin.
 #[derive(Drop)]
-struct Queue {
+struct Stack {
     marks: Vec<bool>,
-    ring: Vec<u32>,
-    first: usize,
+    list: Vec<u32>,
     waiting: usize,
-    ghost inside: { first ≤ vec_len ring },
-    ghost room: { waiting ≤ vec_len ring },
+    ghost room: { waiting ≤ vec_len list },
 }
 
-impl Queue {
-    fn new(alloc: Global, room: usize) -> Result<Self, AllocError> {
-        Ok(Queue {
-            marks: vec![in alloc; false; room]?,
-            ring: vec![in alloc; 0; room]?,
-            first: 0,
-            waiting: 0,
+impl Stack {
+    // All of them wait, and the last comes first.
+    fn of_all(alloc: Global, vertices: u32) -> Result<Self, AllocError> {
+        let mut list = vec![in alloc; 0; vertices as usize]?;
+        for v in 0..vertices {
+            if let Some(place) = list.get_mut(v as usize) {
+                *place = v;
+            }
+        }
+        Ok(Stack {
+            marks: vec![in alloc; true; vertices as usize]?,
+            waiting: list.len(),
+            list,
         })
     }
 
     fn push(&mut self, v: u32) {
-        let room = self.ring.len();
+        let room = self.list.len();
         let Some(mark) = self.marks.get_mut(v as usize) else {
             return;
         };
@@ -97,8 +101,7 @@ impl Queue {
             return;
         }
         *mark = true;
-        let place = wrapped(self.first + self.waiting, room);
-        self.ring[place] = v;
+        self.list[self.waiting] = v;
         self.waiting += 1;
     }
 
@@ -106,9 +109,8 @@ impl Queue {
         if self.waiting == 0 {
             return None;
         }
-        let v = *self.ring.get(self.first)?;
-        self.first = wrapped(self.first + 1, self.ring.len());
         self.waiting -= 1;
+        let v = self.list[self.waiting];
         if let Some(mark) = self.marks.get_mut(v as usize) {
             *mark = false;
         }
@@ -116,39 +118,30 @@ impl Queue {
     }
 }
 
-// A place in a ring, where the ring goes round at most once.
-fn wrapped(place: usize, room: usize) -> usize
-    requires some { 0 < room }
-    requires once { place ≤ room + room }
-    ensures { place < room + room → result < room }
-{
-    if place < room { place } else { place - room }
-}
-
 /// What may rise next, with all the memory that lifting needs.
 #[derive(Drop)]
 pub(crate) struct Pending {
     predecessors: Predecessors,
-    queue: Queue,
+    stack: Stack,
 }
 
 impl Pending {
     pub(crate) fn of(alloc: Global, game: &Game) -> Result<Self, AllocError> {
         Ok(Pending {
             predecessors: Predecessors::of(alloc, game)?,
-            queue: Queue::new(alloc, game.vertices() as usize)?,
+            stack: Stack::of_all(alloc, game.vertices())?,
         })
     }
 
     /// A vertex rose: those that have it among their successors may rise too.
     pub(crate) fn note(&mut self, v: u32) {
         for u in self.predecessors.get(v) {
-            self.queue.push(*u);
+            self.stack.push(*u);
         }
     }
 
-    /// The vertex that has waited longest.
+    /// The vertex that came last.
     pub(crate) fn next(&mut self) -> Option<u32> {
-        self.queue.pop()
+        self.stack.pop()
     }
 }

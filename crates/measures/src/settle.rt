@@ -28,17 +28,6 @@ fn sweep(game: &Game, table: &mut PlainTable) -> bool
     rose
 }
 
-// Lifts each vertex once, from the other end. A system may be numbered with its steps or against them.
-fn ascend(game: &Game, table: &mut PlainTable)
-    requires { table.old.game ≡ game.now }
-    ensures game { table.new.game ≡ game.now }
-    ensures kept { sum_of game.now table.old.values ≤ sum_of game.now table.new.values }
-{
-    for v in 0..game.vertices() {
-        table.lift_at(game, v);
-    }
-}
-
 // Lifts the vertices that may rise, as long as some are noted.
 fn drain(game: &Game, table: &mut PlainTable)
     requires { table.old.game ≡ game.now }
@@ -64,13 +53,12 @@ pub fn settle(game: &Game, table: &mut PlainTable)
     ensures least { IsLeastTable game.now table.new.values }
 {
     loop {
+        drain(game, table);
         let rose = sweep(game, table);
         if !rose {
             table.known();
             return;
         }
-        ascend(game, table);
-        drain(game, table);
     }
 }
 

@@ -1,9 +1,0 @@
-use Rattle.std.proofs.Common.{◌≡◌, ◌≤◌}
-use Rattle.measures.specs.Lifting.{sum_of}
-use Rattle.measures.proofs.settle.ascend.Given as goal
-
-abbrev pub invariant-loop-v : goal.invariant-loop-v
-invariant-loop-v l = record {
-  game : l.table.game ≡ l.game;
-  kept : sum_of l.game l.fn.table.values ≤ sum_of l.game l.table.values;
-}
