@@ -1,0 +1,93 @@
+-- What a check has found out.
+use Rattle.std.proofs.Common.{◌≡◌, ℕ, List, Bool, false, Some, Ok, Err, subst, slice_index_or}
+use Rattle.std.proofs.KnownBytes.{Keeps-refl}
+use Rattle.std.specs.Prelude.{IfSome, IfOk, IfErr, Option, Result}
+use Rattle.lts.specs.System.{System}
+use Rattle.lts.specs.Aut.{IsAut}
+use Rattle.formula.specs.Tree.{Formula}
+use Rattle.formula.specs.Spells.{Spells}
+use Rattle.formula.specs.Admitted.{IsAdmitted}
+use Rattle.formula.specs.Meaning.{Marks, Satisfies}
+use Rattle.mucheck.specs.declared.error.MuError.{MuError}
+use Rattle.mucheck.specs.declared.error.MuError.TheVariants as error
+use Rattle.mucheck.specs.Check.{AreSpelled, SpellsSystem, HasReported, HasRefused, Reported, IsPlain, IsReadRefusal, IsGameRefusal}
+use Rattle.mucheck.specs.Report.{report}
+
+-- what is said of known bytes, at them
+pub at_known : (P : List ℕ → Type 0) (known : Option (List ℕ)) (text : List ℕ) → known ≡ Some text → IfSome known P → P text
+at_known P known text e h = subst (λ o. IfSome o P) e h
+
+-- what both readers say
+pub spelled_of : (first second : List ℕ) (known_first known_second : Option (List ℕ)) (l : System) (f : Formula) → known_first ≡ Some first → known_second ≡ Some second
+    → IfSome known_first (λ text. IsAut text l) → IfSome known_first (λ text. (other : System) → IsAut text other → other ≡ l)
+    → IfSome known_second (λ text. Spells text f) → IfSome known_second (λ text. (other : Formula) → Spells text other → other ≡ f)
+    → IsAdmitted f → AreSpelled first second l f
+spelled_of first second known_first known_second l f e d system only_system formula only_formula admitted = record {
+  system = at_known (λ text. IsAut text l) known_first first e system;
+  only_system = at_known (λ text. (other : System) → IsAut text other → other ≡ l) known_first first e only_system;
+  formula = at_known (λ text. Spells text f) known_second second d formula;
+  only_formula = at_known (λ text. (other : Formula) → Spells text other → other ≡ f) known_second second d only_formula;
+  admitted = admitted;
+}
+
+-- a check that came to its report
+pub report_of : (first second : List ℕ) (old new : Option (List ℕ)) (l : System) (f : Formula) (marks : List Bool) (r : Result Bool MuError) → AreSpelled first second l f
+    → Marks l.states marks (Satisfies l f) → Reported old new (report l f marks) (slice_index_or marks l.initial false) r → IfOk r (HasReported first second old new)
+report_of first second old new l f marks (Ok answer) spelled exact h =
+    record { l = l; f = f; marks = marks; spelled = spelled; exact = exact; reported = h.0; answered = h.1 }
+report_of first second old new l f marks (Err e) spelled exact h = tt
+
+-- a write fault came in the report
+pub begun_of : (first second : List ℕ) (old new : Option (List ℕ)) (l : System) (f : Formula) (marks : List Bool) (e : MuError) → AreSpelled first second l f
+    → Marks l.states marks (Satisfies l f) → Reported old new (report l f marks) (slice_index_or marks l.initial false) (Err e) → HasRefused first second old new e
+begun_of first second old new l f marks (error.Write e) spelled exact h = record { l = l; f = f; marks = marks; spelled = spelled; exact = exact; begun = h }
+begun_of first second old new l f marks (error.Arguments e) spelled exact h = absurd h
+begun_of first second old new l f marks error.File spelled exact h = absurd h
+begun_of first second old new l f marks error.Read spelled exact h = absurd h
+begun_of first second old new l f marks error.Memory spelled exact h = absurd h
+begun_of first second old new l f marks (error.System e) spelled exact h = absurd h
+begun_of first second old new l f marks (error.Formula e) spelled exact h = absurd h
+begun_of first second old new l f marks (error.Normal e) spelled exact h = absurd h
+begun_of first second old new l f marks (error.Build e) spelled exact h = absurd h
+
+pub fault_of : (first second : List ℕ) (old new : Option (List ℕ)) (l : System) (f : Formula) (marks : List Bool) (r : Result Bool MuError) → AreSpelled first second l f
+    → Marks l.states marks (Satisfies l f) → Reported old new (report l f marks) (slice_index_or marks l.initial false) r → IfErr r (HasRefused first second old new)
+fault_of first second old new l f marks (Ok answer) spelled exact h = tt
+fault_of first second old new l f marks (Err e) spelled exact h = begun_of first second old new l f marks e spelled exact h
+
+-- a report is refused for a write fault alone
+pub plain_of : (old new : Option (List ℕ)) (text : List ℕ) (answer : Bool) (r : Result Bool MuError) → Reported old new text answer r → IfErr r IsPlain
+plain_of old new text answer (Ok marked) h = tt
+plain_of old new text answer (Err (error.Write e)) h = tt
+plain_of old new text answer (Err (error.Arguments e)) h = absurd h
+plain_of old new text answer (Err error.File) h = absurd h
+plain_of old new text answer (Err error.Read) h = absurd h
+plain_of old new text answer (Err error.Memory) h = absurd h
+plain_of old new text answer (Err (error.System e)) h = absurd h
+plain_of old new text answer (Err (error.Formula e)) h = absurd h
+plain_of old new text answer (Err (error.Normal e)) h = absurd h
+plain_of old new text answer (Err (error.Build e)) h = absurd h
+
+-- The refusal of a formula's text comes where the first text spells a system.
+pub unread_of : (first second : List ℕ) (here : Option (List ℕ)) (e : MuError) → SpellsSystem first → IsReadRefusal second e → HasRefused first second here here e
+unread_of first second here (error.Formula e) spelled h = (spelled, h, Keeps-refl here)
+unread_of first second here error.Read spelled h = (spelled, Keeps-refl here)
+unread_of first second here error.Memory spelled h = (spelled, Keeps-refl here)
+unread_of first second here (error.Arguments e) spelled h = absurd h
+unread_of first second here error.File spelled h = absurd h
+unread_of first second here (error.System e) spelled h = absurd h
+unread_of first second here (error.Normal e) spelled h = absurd h
+unread_of first second here (error.Build e) spelled h = absurd h
+unread_of first second here (error.Write e) spelled h = absurd h
+
+-- The refusal of a game comes where both texts are spelled.
+pub gameless_of : (first second : List ℕ) (here : Option (List ℕ)) (l : System) (f : Formula) (e : MuError) → AreSpelled first second l f → IsGameRefusal l f e → HasRefused first second here here e
+gameless_of first second here l f (error.Normal e) spelled h = (record { l = l; f = f; spelled = spelled; refusal = h }, Keeps-refl here)
+gameless_of first second here l f (error.Build e) spelled h = (record { l = l; f = f; spelled = spelled; refusal = h }, Keeps-refl here)
+gameless_of first second here l f error.Memory spelled h = ((l, spelled.system), Keeps-refl here)
+gameless_of first second here l f (error.Arguments e) spelled h = absurd h
+gameless_of first second here l f error.File spelled h = absurd h
+gameless_of first second here l f error.Read spelled h = absurd h
+gameless_of first second here l f (error.System e) spelled h = absurd h
+gameless_of first second here l f (error.Formula e) spelled h = absurd h
+gameless_of first second here l f (error.Write e) spelled h = absurd h

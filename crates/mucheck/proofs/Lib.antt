@@ -1,0 +1,4 @@
+mod Lines
+mod Fronts
+mod Checks
+mod Roots

@@ -1,0 +1,177 @@
+// The engines: from both texts to the report.
+
+ghost use Rattle.std.specs.Prelude.{◌≡◌, ℕ, List, false, length, take, IfOk, IfErr, IfSome, IsErrAnd, Some, slice_index_or};
+ghost use Rattle.std.specs.Io.KnownBytes.{Keeps};
+ghost use Rattle.formula.specs.Closed.{closed_formula};
+ghost use Rattle.formula.specs.Spells.{Spells};
+ghost use Rattle.formula.specs.Tree.{Formula};
+ghost use Rattle.mucheck.specs.Check.{IsServed, IsUnserved, IsArguments, IsPlain, HasReported, HasRefused, Reported, IsReadRefusal, IsReadFault, IsReading};
+ghost use Rattle.mucheck.specs.Report.{report};
+
+use crate::error::{ArgumentError, MuError};
+use crate::lifting::lifted_states;
+use crate::report::write_report;
+use crate::request::Options;
+use formula::closed::Closed;
+use formula::parse;
+use lts::reader::read_aut;
+use lts::system::Lts;
+use meaning::plain::plain_states;
+use std::alloc::Global;
+use std::io::{ErrorKind, Read, Write};
+
+/// One byte more than the longest text of a formula: nothing behind it is read.
+const FORMULA_BYTES: u64 = 1_048_577;
+
+/// Checks a formula at each state of a system by sets of states, without a game, and reports. It answers whether the
+/// initial state satisfies the formula. The system is read first; nothing is written before all memory was taken.
+///
+/// # Errors
+/// Those of the readers, unchanged; U3 where a read of the formula failed, U4 for memory in the engine, W1 in the report.
+pub fn check_plain<R: Read + Drop, S: Read + Drop, W: Write>(
+    alloc: Global,
+    aut: R,
+    formula: S,
+    out: &mut W,
+) -> Result<bool, MuError>
+    ensures report { (first second : List ℕ) → R.remaining aut ≡ Some first → S.remaining formula ≡ Some second
+        → IfOk result (HasReported first second (W.contents out.old) (W.contents out.new)) }
+    ensures refusal { (first second : List ℕ) → R.remaining aut ≡ Some first → S.remaining formula ≡ Some second
+        → IfErr result (HasRefused first second (W.contents out.old) (W.contents out.new)) }
+    ensures plain { IfErr result IsPlain }
+{
+    let system = match read_aut(alloc, aut) {
+        Ok(system) => system,
+        Err(error) => return Err(MuError::System(error)),
+    };
+    let closed = read_formula(alloc, formula)?;
+    let marks = match plain_states(alloc, &system, &closed) {
+        Ok(marks) => marks,
+        Err(_) => return Err(MuError::Memory),
+    };
+    reported(&system, &closed, &marks, out)
+}
+
+/// Checks a formula at each state of a system and reports. It answers whether the initial state satisfies the formula.
+///
+/// # Errors
+/// U1 where a writer for the game or for evidence is handed in: nothing serves them yet. Else those of `check_one`.
+pub fn check<R: Read + Drop, S: Read + Drop, W: Write, G: Write, E: Write, O: Write>(
+    alloc: Global,
+    aut: R,
+    formula: S,
+    options: &Options,
+    out: &mut W,
+    game: Option<&mut G>,
+    evidence: Option<(&mut E, &mut O)>,
+) -> Result<bool, MuError>
+    ensures report { (first second : List ℕ) → R.remaining aut ≡ Some first → S.remaining formula ≡ Some second
+        → IfOk result (HasReported first second (W.contents out.old) (W.contents out.new)) }
+    ensures refusal { (first second : List ℕ) → R.remaining aut ≡ Some first → S.remaining formula ≡ Some second
+        → IsServed game.entry evidence.entry → IfErr result (HasRefused first second (W.contents out.old) (W.contents out.new)) }
+    ensures unserved { IsUnserved game.entry evidence.entry → IsErrAnd result IsArguments × Keeps (W.contents out.old) (W.contents out.new) }
+{
+    check_one(alloc, aut, formula, options, out, game, evidence)
+}
+
+/// The same on one thread: the least progress table of the parity game tells which states satisfy the formula.
+///
+/// # Errors
+/// U1 as of `check`. Those of the readers, of the normal form and of the game, unchanged; U3 where a read of the formula
+/// failed, U4 for memory in the engine, W1 in the report.
+pub fn check_one<R: Read + Drop, S: Read + Drop, W: Write, G: Write, E: Write, O: Write>(
+    alloc: Global,
+    aut: R,
+    formula: S,
+    options: &Options,
+    out: &mut W,
+    game: Option<&mut G>,
+    evidence: Option<(&mut E, &mut O)>,
+) -> Result<bool, MuError>
+    ensures report { (first second : List ℕ) → R.remaining aut ≡ Some first → S.remaining formula ≡ Some second
+        → IfOk result (HasReported first second (W.contents out.old) (W.contents out.new)) }
+    ensures refusal { (first second : List ℕ) → R.remaining aut ≡ Some first → S.remaining formula ≡ Some second
+        → IsServed game.entry evidence.entry → IfErr result (HasRefused first second (W.contents out.old) (W.contents out.new)) }
+    ensures unserved { IsUnserved game.entry evidence.entry → IsErrAnd result IsArguments × Keeps (W.contents out.old) (W.contents out.new) }
+{
+    let _ = options;
+    if game.is_some() {
+        return Err(MuError::Arguments(ArgumentError::NotServed("--game")));
+    }
+    if evidence.is_some() {
+        return Err(MuError::Arguments(ArgumentError::NotServed("--evidence")));
+    }
+    check_lifted(alloc, aut, formula, out)
+}
+
+/// A check by the parity game, without writers for the game and for evidence.
+fn check_lifted<R: Read + Drop, S: Read + Drop, W: Write>(
+    alloc: Global,
+    aut: R,
+    formula: S,
+    out: &mut W,
+) -> Result<bool, MuError>
+    ensures report { (first second : List ℕ) → R.remaining aut ≡ Some first → S.remaining formula ≡ Some second
+        → IfOk result (HasReported first second (W.contents out.old) (W.contents out.new)) }
+    ensures refusal { (first second : List ℕ) → R.remaining aut ≡ Some first → S.remaining formula ≡ Some second
+        → IfErr result (HasRefused first second (W.contents out.old) (W.contents out.new)) }
+{
+    let system = match read_aut(alloc, aut) {
+        Ok(system) => system,
+        Err(error) => return Err(MuError::System(error)),
+    };
+    let closed = read_formula(alloc, formula)?;
+    let marks = match lifted_states(alloc, &system, &closed) {
+        Ok(marks) => marks,
+        Err(error) => return Err(error),
+    };
+    reported(&system, &closed, &marks, out)
+}
+
+/// Writes the report, and answers the initial state's mark.
+fn reported<W: Write>(
+    system: &Lts,
+    formula: &Closed,
+    marks: &[bool],
+    out: &mut W,
+) -> Result<bool, MuError>
+    requires { length marks.now ≡ system.now.system.states }
+    ensures { Reported (W.contents out.old) (W.contents out.new)
+        (report system.now.system (closed_formula formula.now) marks.now)
+        (slice_index_or marks.now system.now.system.initial false) result }
+{
+    let initial = system.initial() as usize;
+    match write_report(system, formula, marks, out) {
+        Ok(()) => Ok(marks[initial]),
+        Err(error) => Err(MuError::Write(error)),
+    }
+}
+
+/// Reads a formula. Of a text that is too long no more is read than shows it.
+fn read_formula<S: Read + Drop>(alloc: Global, formula: S) -> Result<Closed, MuError>
+    ensures spelled { IfOk result (λ f. IfSome (S.remaining formula) (λ text. Spells text (closed_formula f))) }
+    ensures only { IfOk result (λ f. IfSome (S.remaining formula) (λ text. (other : Formula) → Spells text other → other ≡ closed_formula f)) }
+    ensures refusal { (text : List ℕ) → S.remaining formula ≡ Some text → IfErr result (IsReadRefusal text) }
+    ensures fault { IfErr result IsReading }
+{
+    let text = read_front(alloc, formula)?;
+    match parse(alloc, &text) {
+        Ok(closed) => Ok(closed),
+        Err(error) => Err(MuError::Formula(error)),
+    }
+}
+
+/// All bytes of the reader, or its first `FORMULA_BYTES`.
+fn read_front<S: Read + Drop>(alloc: Global, reader: S) -> Result<Vec<u8>, MuError>
+    ensures front { IfOk result (λ text. IfSome (S.remaining reader) (λ all. text.items ≡ take 1048577 all)) }
+    ensures refusal { IfErr result IsReadFault }
+{
+    let mut text = Vec::new(alloc);
+    match reader.take(FORMULA_BYTES).read_to_end(&mut text) {
+        Ok(_) => Ok(text),
+        Err(error) => match error.kind() {
+            ErrorKind::OutOfMemory => Err(MuError::Memory),
+            _ => Err(MuError::Read),
+        },
+    }
+}

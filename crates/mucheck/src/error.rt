@@ -1,0 +1,64 @@
+// Why the program gave no answer.
+
+use clap::Error as ClapError;
+use formula::error::FormulaError;
+use game::error::BuildError;
+use lts::error::AutError;
+use lts::write_loop::WriteFault;
+use normal::error::NormalError;
+use thiserror::Error;
+
+/// What is wrong with a command line, or with what an engine was asked for.
+#[derive(Debug, Drop, Error)]
+pub enum ArgumentError {
+    /// The words are no command; the text is `clap`'s, and may be the help that was asked for.
+    #[error("{0}")]
+    Refused(ClapError),
+    /// A word of the command line is no text.
+    #[error("error: a word is no text\n")]
+    NoText,
+    /// No command is named.
+    #[error("error: no command is named\n")]
+    NoCommand,
+    /// A word that has to name a file is empty.
+    #[error("error: a file's name is empty\n")]
+    EmptyName,
+    /// A number is outside of its limits.
+    #[error("error: a number is outside of its limits\n")]
+    OverLimit,
+    /// The option or the writer is served by nothing yet.
+    #[error("error: {0} is not served yet\n")]
+    NotServed(&'static str),
+}
+
+/// Why there is no answer. It is shown as its code, with the place where it has one.
+#[derive(Debug, Drop, Error)]
+pub enum MuError {
+    /// The command line, or what an engine was asked for.
+    #[error("U1")]
+    Arguments(ArgumentError),
+    /// A file could not be opened or made.
+    #[error("U2")]
+    File,
+    /// A read of the formula failed.
+    #[error("U3")]
+    Read,
+    /// A growth was refused in the engine itself.
+    #[error("U4")]
+    Memory,
+    /// The text of the system.
+    #[error("{0}")]
+    System(AutError),
+    /// The text of the formula.
+    #[error("{0}")]
+    Formula(FormulaError),
+    /// The formula's normal form.
+    #[error("{0}")]
+    Normal(NormalError),
+    /// The parity game.
+    #[error("{0}")]
+    Build(BuildError),
+    /// A write failed.
+    #[error("{0}")]
+    Write(WriteFault),
+}

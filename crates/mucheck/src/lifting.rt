@@ -1,0 +1,67 @@
+// The states that satisfy a formula, by lifting the progress measures of its parity game.
+
+ghost use Rattle.std.specs.Prelude.{◌≡◌, IfOk, IfErr};
+ghost use Rattle.formula.specs.Closed.{closed_formula};
+ghost use Rattle.formula.specs.Meaning.{Marks, Satisfies};
+ghost use Rattle.mucheck.specs.Check.{IsGameRefusal};
+ghost use Rattle.mucheck.specs.Roots.{HasRoots, WinsRoot};
+
+use crate::error::MuError;
+use formula::closed::Closed;
+use game::build::build;
+use game::graph::Game;
+use laws::formula_is_decided;
+use lts::system::Lts;
+use measures::settle::{even_wins, solve_one};
+use measures::table::Settled;
+use normal::make::normal;
+use std::alloc::{AllocError, Global};
+
+/// A mark for each state, true where it satisfies the formula: where Even wins its vertex with the root node.
+///
+/// # Errors
+/// Those of the normal form and of the game, unchanged; U4 for memory in the solver.
+pub fn lifted_states(alloc: Global, system: &Lts, formula: &Closed) -> Result<Vec<bool>, MuError>
+    ensures meaning { IfOk result (λ marks. Marks system.now.system.states marks.items
+        (Satisfies system.now.system (closed_formula formula.now))) }
+    ensures refusal { IfErr result (IsGameRefusal system.now.system (closed_formula formula.now)) }
+{
+    formula_is_decided();
+    let states = system.states();
+    let normal = match normal(alloc, formula) {
+        Ok(normal) => normal,
+        Err(error) => return Err(MuError::Normal(error)),
+    };
+    normal.known();
+    let game = match build(alloc, system, &normal) {
+        Ok(game) => game,
+        Err(error) => return Err(MuError::Build(error)),
+    };
+    let marks = match solve_one(alloc, &game) {
+        Ok(settled) => root_marks(alloc, states, &game, &settled),
+        Err(_) => return Err(MuError::Memory),
+    };
+    match marks {
+        Ok(marks) => Ok(marks),
+        Err(_) => Err(MuError::Memory),
+    }
+}
+
+/// A mark for each state, true where Even wins its vertex with the root node.
+fn root_marks(
+    alloc: Global,
+    states: u32,
+    game: &Game,
+    settled: &Settled,
+) -> Result<Vec<bool>, AllocError>
+    requires same { settled.now.game ≡ game.now }
+    requires named { HasRoots states game.now }
+    ensures { IfOk result (λ marks. Marks states marks.items (WinsRoot game.now)) }
+{
+    game.known();
+    let mut marks = Vec::with_capacity(alloc, states as usize)?;
+    for state in 0..states {
+        marks.push(even_wins(settled, game.vertex_of(state, 0)))?;
+    }
+    Ok(marks)
+}

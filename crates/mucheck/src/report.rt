@@ -1,0 +1,111 @@
+// The report of a check.
+
+ghost use Rattle.std.specs.Prelude.{◌≡◌, ◌++◌, length, count_by, codes, decimal, List, ℕ};
+ghost use Rattle.lts.specs.Wrote.{Wrote};
+ghost use Rattle.formula.specs.Closed.{closed_formula};
+ghost use Rattle.mucheck.specs.Report.{report, system_line, formula_line, yes_line, initial_line, state_lines, yes_or_no};
+
+use formula::closed::Closed;
+use formula::print;
+use itoa::{Buffer, Integer};
+use lts::system::Lts;
+use lts::write_loop::{WriteFault, put};
+use std::io::Write;
+
+/// Writes the report: what was read, how many states satisfy the formula, whether the initial one does, and a line for
+/// each state.
+pub fn write_report<W: Write>(
+    lts: &Lts,
+    formula: &Closed,
+    marks: &[bool],
+    out: &mut W,
+) -> Result<(), WriteFault>
+    requires { length marks.now ≡ lts.now.system.states }
+    ensures { Wrote (W.contents out.old) (W.contents out.new) result
+        (report lts.now.system (closed_formula formula.now) marks.now) }
+{
+    let states = lts.states();
+    let initial = lts.initial();
+    write_system_line(states, lts.transitions(), initial, out)?;
+    write_formula_line(formula, out)?;
+    write_yes_line(marked(marks), states, out)?;
+    write_initial_line(marks[initial as usize], out)?;
+    write_state_lines(marks, out)
+}
+
+fn write_system_line<W: Write>(
+    states: u32,
+    transitions: usize,
+    initial: u32,
+    out: &mut W,
+) -> Result<(), WriteFault>
+    ensures { Wrote (W.contents out.old) (W.contents out.new) result
+        (system_line states transitions initial) }
+{
+    put_number(out, b"system ", states, b" states ")?;
+    put_number(out, b"", transitions, b" transitions ")?;
+    put_number(out, b"initial ", initial, b"\n")
+}
+
+fn write_formula_line<W: Write>(formula: &Closed, out: &mut W) -> Result<(), WriteFault>
+    ensures { Wrote (W.contents out.old) (W.contents out.new) result
+        (formula_line (closed_formula formula.now)) }
+{
+    put(out, b"formula ")?;
+    print(formula, out)?;
+    put(out, b"\n")
+}
+
+fn write_yes_line<W: Write>(yes: usize, states: u32, out: &mut W) -> Result<(), WriteFault>
+    ensures { Wrote (W.contents out.old) (W.contents out.new) result (yes_line yes states) }
+{
+    put_number(out, b"yes ", yes, b" of ")?;
+    put_number(out, b"", states, b"\n")
+}
+
+fn write_initial_line<W: Write>(mark: bool, out: &mut W) -> Result<(), WriteFault>
+    ensures { Wrote (W.contents out.old) (W.contents out.new) result (initial_line mark) }
+{
+    put(out, b"initial ")?;
+    put(out, mark_line(mark))
+}
+
+fn write_state_lines<W: Write>(marks: &[bool], out: &mut W) -> Result<(), WriteFault>
+    ensures { Wrote (W.contents out.old) (W.contents out.new) result (state_lines 0 marks.now) }
+{
+    for (state, mark) in marks.iter().enumerate() {
+        put_number(out, b"", state, b" ")?;
+        put(out, mark_line(*mark))?;
+    }
+    Ok(())
+}
+
+/// How many are marked.
+fn marked(marks: &[bool]) -> usize
+    ensures { result ≡ count_by (λ mark. mark) marks.now }
+{
+    marks.iter().filter(|mark| **mark).count()
+}
+
+/// The end of a line that tells a mark.
+fn mark_line(mark: bool) -> &'static [u8]
+    ensures { result.now ≡ yes_or_no mark }
+{
+    if mark { b"yes\n" } else { b"no\n" }
+}
+
+/// Writes a number between two pieces of text.
+fn put_number<N: Integer, W: Write>(
+    out: &mut W,
+    before: &[u8],
+    number: N,
+    after: &[u8],
+) -> Result<(), WriteFault>
+    ensures { Wrote (W.contents out.old) (W.contents out.new) result
+        (before.now ++ (N.text number ++ after.now)) }
+{
+    let mut buffer = Buffer::new();
+    put(out, before)?;
+    put(out, buffer.format(number).as_bytes())?;
+    put(out, after)
+}

@@ -1,0 +1,40 @@
+// What the program can be asked to do.
+
+ghost use Rattle.std.specs.Prelude.{◌≤◌};
+
+/// Which board the workers share.
+#[derive(Clone, Copy, Debug, PartialEq, Eq)]
+pub enum BoardKind {
+    /// Packed where the ranks fit a word, and else locked.
+    Auto,
+    Locked,
+    Packed,
+}
+
+/// Workers, locked shards and board of a check.
+#[derive(Clone, Copy, Debug)]
+pub struct Options {
+    pub workers: u32,
+    pub shards: u32,
+    pub board: BoardKind,
+    pub ghost some_workers: { 1 ≤ workers },
+    pub ghost few_workers: { workers ≤ 64 },
+    pub ghost some_shards: { 1 ≤ shards },
+    pub ghost few_shards: { shards ≤ 256 },
+}
+
+/// What the program is asked to do.
+#[derive(Clone, Copy, Debug)]
+pub enum Command<'a> {
+    Check(Check<'a>),
+}
+
+/// A check of a formula at each state of a system. The files are named as on the command line.
+#[derive(Clone, Copy, Debug)]
+pub struct Check<'a> {
+    pub system: &'a str,
+    pub formula: &'a str,
+    pub options: Options,
+    /// By sets of states, without a game.
+    pub plain: bool,
+}

@@ -1,0 +1,389 @@
+// Checks on small systems, whose answers were worked out by hand, and command lines.
+
+use crate::command_line::command;
+use crate::engine::{check, check_plain};
+use crate::error::MuError;
+use crate::request::{BoardKind, Command, Options};
+use crate::status::status;
+use std::alloc::{AllocError, Global};
+use std::io;
+use std::test::Fail;
+
+const RING: &str = "des (0,2,2)\n(0,\"a\",1)\n(1,\"b\",0)\n";
+
+const LOOP: &str = "des (0,2,2)\n(0,\"a\",1)\n(1,\"b\",1)\n";
+
+const STUCK: &str = "des (0,0,1)\n";
+
+const DEFAULTS: Options = Options {
+    workers: 1,
+    shards: 16,
+    board: BoardKind::Auto,
+};
+
+/// A check, what its formula is written as, and the marks of its states.
+#[derive(Clone, Copy)]
+struct Case {
+    system: &'static str,
+    formula: &'static str,
+    canonical: &'static str,
+    marks: &'static str,
+}
+
+const fn row(
+    system: &'static str,
+    formula: &'static str,
+    canonical: &'static str,
+    marks: &'static str,
+) -> Case {
+    Case {
+        system,
+        formula,
+        canonical,
+        marks,
+    }
+}
+
+/// A check by sets of states, or by a game.
+fn run(
+    alloc: Global,
+    system: &[u8],
+    formula: &[u8],
+    plain: bool,
+    out: &mut Vec<u8>,
+) -> Result<bool, MuError> {
+    if plain {
+        check_plain(alloc, system, formula, out)
+    } else {
+        let no_game: Option<&mut Vec<u8>> = None;
+        let no_evidence: Option<(&mut Vec<u8>, &mut Vec<u8>)> = None;
+        check(alloc, system, formula, &DEFAULTS, out, no_game, no_evidence)
+    }
+}
+
+/// The lines of a report behind its first one.
+fn rest_of_report(alloc: Global, case: &Case) -> Result<String, Fail> {
+    let mut text = String::new(alloc);
+    let yes = case.marks.bytes().filter(|mark| *mark == b'y').count();
+    let states = case.marks.len();
+    let initial = if case.marks.starts_with('y') {
+        "yes"
+    } else {
+        "no"
+    };
+    write!(
+        text,
+        "formula {}\nyes {yes} of {states}\ninitial {initial}\n",
+        case.canonical
+    )?;
+    for (state, mark) in case.marks.bytes().enumerate() {
+        let word = if mark == b'y' { "yes" } else { "no" };
+        write!(text, "{state} {word}\n")?;
+    }
+    Ok(text)
+}
+
+#[test]
+fn reports_what_was_worked_out(rt: HostRuntime) -> Result<(), Fail> {
+    let rows = [
+        row(RING, "<a>true", "<a>true", "yn"),
+        row(RING, "mu X. X", "(mu X. X)", "nn"),
+        row(RING, "nu X. X", "(nu X. X)", "yy"),
+        row(STUCK, "<true>true", "<true>true", "n"),
+        row(STUCK, "[true]false", "[true]false", "y"),
+        row(
+            RING,
+            "nu X. mu Y. (<a>X || <b>Y)",
+            "(nu X. (mu Y. (<a>X || <b>Y)))",
+            "yy",
+        ),
+        row(
+            RING,
+            "mu Y. nu X. (<a>X || <b>Y)",
+            "(mu Y. (nu X. (<a>X || <b>Y)))",
+            "nn",
+        ),
+        row(
+            LOOP,
+            "nu X. mu Y. (<a>X || <b>Y)",
+            "(nu X. (mu Y. (<a>X || <b>Y)))",
+            "nn",
+        ),
+        row(RING, "<a*>true", "<a*>true", "yy"),
+        row(RING, "<a+>true", "<a+>true", "yn"),
+        row(RING, "<a + + b>true", "<(a+ + b)>true", "yy"),
+        row(RING, "<a+b>true", "<(a + b)>true", "yy"),
+        row(
+            LOOP,
+            "mu X. (<a>X || nu X. <b>X)",
+            "(mu X. (<a>X || (nu X. <b>X)))",
+            "yy",
+        ),
+        row(RING, "mu X. !(X => false)", "(mu X. !(X => false))", "nn"),
+        row(
+            RING,
+            "(mu X. <a>X) => false",
+            "((mu X. <a>X) => false)",
+            "yy",
+        ),
+        row(RING, "<a=>b>true", "<(a => b)>true", "ny"),
+        row(RING, "<a||b>true", "<(a || b)>true", "yy"),
+        row(LOOP, "[b]<b>true", "[b]<b>true", "yy"),
+        row(
+            LOOP,
+            "mu X. (<a>X || <b>true)",
+            "(mu X. (<a>X || <b>true))",
+            "yy",
+        ),
+        row(
+            LOOP,
+            "mu Z. nu Y. mu X. (<a>Z || <b>Y)",
+            "(mu Z. (nu Y. (mu X. (<a>Z || <b>Y))))",
+            "yy",
+        ),
+    ];
+    for row in rows.iter() {
+        for plain in [true, false] {
+            let mut out = Vec::new(rt.alloc());
+            let answer = run(
+                rt.alloc(),
+                row.system.as_bytes(),
+                row.formula.as_bytes(),
+                plain,
+                &mut out,
+            )?;
+            let rest = rest_of_report(rt.alloc(), row)?;
+            assert_eq!(rt;
+                answer,
+                row.marks.starts_with('y'),
+                "{} by {plain}",
+                row.formula
+            );
+            assert!(rt;
+                out.ends_with(rest.as_bytes()),
+                "{} by {plain}",
+                row.formula
+            );
+        }
+    }
+    Ok(())
+}
+
+#[test]
+fn reads_labels_as_multisets_of_names(rt: HostRuntime) -> Result<(), Fail> {
+    let both = "des (0,1,2)\n(0,\"b|a\",1)\n";
+    let opaque = "des (0,1,2)\n(0,\"r(1)\",1)\n";
+    let silent = "des ( 0 , 1 , 1 )\r\n\t(0,\"tau\",0)";
+    let rows = [
+        (both, "<a|b>true", true),
+        (both, "<a>true", false),
+        (both, "<\"a|b\">true", false),
+        (opaque, "<\"r(1)\">true", true),
+        (opaque, "<r>true", false),
+        (silent, "<tau>true", true),
+        (silent, "[a]false", true),
+        (silent, "<true && !tau>true", false),
+    ];
+    for (system, formula, yes) in rows {
+        for plain in [true, false] {
+            let mut out = Vec::new(rt.alloc());
+            let answer = run(
+                rt.alloc(),
+                system.as_bytes(),
+                formula.as_bytes(),
+                plain,
+                &mut out,
+            )?;
+            assert_eq!(rt; answer, yes, "{formula} by {plain}");
+        }
+    }
+    Ok(())
+}
+
+#[test]
+fn a_transition_that_stands_twice_is_one(rt: HostRuntime) -> Result<(), Fail> {
+    let system = "des (0,2,2)\n(0,\"a\",1)\n(0,\"a\",1)\n";
+    let want =
+        "system 2 states 1 transitions initial 0\nformula <a>true\nyes 1 of 2\ninitial yes\n0 yes\n1 no\n";
+    let mut out = Vec::new(rt.alloc());
+    assert!(rt;
+        check_plain(
+            rt.alloc(),
+            system.as_bytes(),
+            b"<a>true".as_slice(),
+            &mut out
+        )?
+    );
+    assert_eq!(rt; out.as_slice(), want.as_bytes());
+    Ok(())
+}
+
+/// The code and place of a refusal.
+fn shown(alloc: Global, answer: Result<bool, MuError>) -> Result<String, AllocError> {
+    match answer {
+        Ok(_) => String::from_str(alloc, "answered"),
+        Err(error) => format!(in alloc; "{error}"),
+    }
+}
+
+#[test]
+fn passes_refusals_on(rt: HostRuntime) -> Result<(), Fail> {
+    let rows = [
+        ("des (0,2,2)\n(0,\"a\",1)\n", "true", "A5 at line 3"),
+        ("des (0,2,2)\n(0,\"a\",1)\n(1,\"b", "true", "A2 at line 3"),
+        (
+            "des (0,2,2)\n(0,\"a\",2)\n(1,\"b\",0)\n",
+            "true",
+            "A4 at line 2",
+        ),
+        ("des (0,0,0)\n", "true", "A6 at line 1"),
+        ("", "true", "A1 at line 1"),
+        ("des (0,0,1000001)\n", "true", "A3 at line 1"),
+        (RING, "mu X. !X", "F6 at offset 7"),
+        (RING, "mu X. Y", "F5 at offset 6"),
+        (RING, "<a|tau>true", "F2 at offset 3"),
+        (RING, "<(a.b) && c>true", "F7 at offset 1"),
+        (RING, "<a", "F3 at offset 2"),
+        (RING, "", "F3 at offset 0"),
+        (RING, "forall", "F4 at offset 0"),
+        (RING, "true & true", "F1 at offset 5"),
+    ];
+    for (system, formula, refusal) in rows {
+        let mut out = Vec::new(rt.alloc());
+        let answer = run(
+            rt.alloc(),
+            system.as_bytes(),
+            formula.as_bytes(),
+            true,
+            &mut out,
+        );
+        let text = shown(rt.alloc(), answer)?;
+        assert_eq!(rt; text.as_str(), refusal);
+        assert_eq!(rt; out.len(), 0, "written");
+    }
+    Ok(())
+}
+
+#[test]
+fn reports_a_million_states(rt: HostRuntime) -> Result<(), Fail> {
+    let mut out = Vec::new(rt.alloc());
+    let system = "des (0,0,1000000)\n";
+    assert!(rt; check_plain(rt.alloc(), system.as_bytes(), b"true".as_slice(), &mut out)?);
+    let want =
+        "system 1000000 states 0 transitions initial 0\nformula true\nyes 1000000 of 1000000\ninitial yes\n0 yes\n";
+    assert!(rt; out.starts_with(want.as_bytes()));
+    assert!(rt; out.ends_with(b"\n999998 yes\n999999 yes\n"));
+    Ok(())
+}
+
+/// A writer that takes so many bytes and then fails.
+#[derive(Drop)]
+struct Stingy {
+    taken: Vec<u8>,
+    left: usize,
+}
+
+impl io::Write for Stingy {
+    fn write(&mut self, bytes: &[u8]) -> io::Result<usize> {
+        let count = bytes.len().min(self.left);
+        if count == 0 && !bytes.is_empty() {
+            return Err(io::Error::from(io::ErrorKind::StorageFull));
+        }
+        self.taken.extend_from_slice(&bytes[..count])?;
+        self.left -= count;
+        Ok(count)
+    }
+
+    fn flush(&mut self) -> io::Result<()> {
+        Ok(())
+    }
+}
+
+#[test]
+fn a_write_fault_leaves_a_beginning(rt: HostRuntime) -> Result<(), Fail> {
+    let want =
+        "system 2 states 2 transitions initial 0\nformula <a>true\nyes 1 of 2\ninitial yes\n0 yes\n1 no\n";
+    for left in 0..want.len() {
+        let mut out = Stingy {
+            taken: Vec::new(rt.alloc()),
+            left,
+        };
+        let answer = check_plain(rt.alloc(), RING.as_bytes(), b"<a>true".as_slice(), &mut out);
+        assert_eq!(rt; status(&answer), 3);
+        assert_eq!(rt; out.taken.as_slice(), &want.as_bytes()[..left]);
+    }
+    Ok(())
+}
+
+#[test]
+fn statuses_are_those_of_the_table(rt: HostRuntime) {
+    assert_eq!(rt; status(&Ok(true)), 0);
+    assert_eq!(rt; status(&Ok(false)), 1);
+    assert_eq!(rt; status(&Err(MuError::File)), 3);
+    assert_eq!(rt; status(&Err(MuError::Memory)), 3);
+}
+
+/// The words of a command line.
+fn words(alloc: Global, line: &str) -> Result<Vec<String>, Fail> {
+    let mut words = Vec::new(alloc);
+    for word in line.split(' ') {
+        words.push(String::from_str(alloc, word)?)?;
+    }
+    Ok(words)
+}
+
+#[test]
+fn takes_command_lines(rt: HostRuntime) -> Result<(), Fail> {
+    let line = words(
+        rt.alloc(),
+        "mucheck check s f --plain --workers 64 --board packed",
+    )?;
+    let Command::Check(request) = command(rt.alloc(), &line)?;
+    assert!(rt; request.system == "s" && request.formula == "f" && request.plain);
+    assert_eq!(rt; request.options.workers, 64);
+    assert_eq!(rt; request.options.board, BoardKind::Packed);
+    let line = words(rt.alloc(), "mucheck check s f")?;
+    let Command::Check(request) = command(rt.alloc(), &line)?;
+    assert!(rt; !request.plain);
+    assert_eq!(rt; request.options.shards, 16);
+    Ok(())
+}
+
+#[test]
+fn refuses_command_lines(rt: HostRuntime) -> Result<(), Fail> {
+    let lines = [
+        "mucheck",
+        "mucheck check s",
+        "mucheck check s f --plain --workers 65",
+        "mucheck check s f --plain --workers 0",
+        "mucheck check s f --workers 2",
+        "mucheck check s f --game g",
+        "mucheck solve g",
+        "mucheck check  f",
+        "mucheck check --help",
+    ];
+    for line in lines {
+        let words = words(rt.alloc(), line)?;
+        match command(rt.alloc(), &words) {
+            Ok(_) => assert!(rt; false, "{line} is taken"),
+            Err(error) => assert!(rt; matches!(&error, MuError::Arguments(_)), "{line}"),
+        }
+    }
+    Ok(())
+}
+
+#[test]
+fn help_shows_what_is_served(rt: HostRuntime) -> Result<(), Fail> {
+    let line = words(rt.alloc(), "mucheck check --help")?;
+    match command(rt.alloc(), &line) {
+        Err(MuError::Arguments(argument)) => {
+            let text = format!(in rt.alloc(); "{argument}")?;
+            for part in ["SYSTEM", "FORMULA", "--plain", "Example:"] {
+                assert!(rt; text.contains(part), "{part}");
+            }
+            assert!(rt; !text.contains("--workers"));
+        }
+        _ => assert!(rt; false, "help is no command"),
+    }
+    Ok(())
+}
