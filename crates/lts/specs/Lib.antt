@@ -5,6 +5,7 @@ pub mod System
 pub mod Numbered
 pub mod View
 pub mod Aut
+pub mod Canon
 pub mod Laws
 pub mod Wrote
 pub mod Scan

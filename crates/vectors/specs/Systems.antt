@@ -4,6 +4,8 @@ use Rattle.std.proofs.Common.{arith, inl, inr}
 use Rattle.lts.specs.Text.{lines, IsNumeral, is_numeral}
 use Rattle.lts.specs.Label.{reading}
 use Rattle.lts.specs.System.{Arrow, System}
+use Rattle.std.specs.Fmt.{digits}
+use Rattle.lts.specs.Canon.{aut_text}
 use Rattle.lts.specs.Aut.{IsAut, IsHeader, IsTransition, HasFault}
 use Rattle.lts.specs.declared.error.AutFault.TheVariants.{BadHeader, NoSuchState, WrongCount, BadStates}
 
@@ -133,6 +135,11 @@ aut_p =
       initial = omega arith;
       within = (record { source = omega arith; target = omega arith; label = refl }, (record { source = omega arith; target = omega arith; label = refl }, tt));
     }
+
+-- the text is the canonical one
+canonical_two_states : aut_text two_states ≡ two_states_text
+unfolding digits
+canonical_two_states = refl
 
 -- the two-state system without its last line: a line is missing at line 3
 missing_line : HasFault (codes "des (0,2,2)" ++ 10 ∷ (codes "(0," ++ 34 ∷ codes "a" ++ 34 ∷ codes ",1)" ++ 10 ∷ [])) WrongCount 3
