@@ -3,6 +3,8 @@
 
 pub mod build;
 pub mod error;
+#[cfg(test)]
+mod examples;
 pub mod graph;
 pub mod name;
 pub mod player;

@@ -9,3 +9,5 @@ mod scope;
 mod search;
 mod sets;
 mod signs;
+#[cfg(test)]
+mod tests;

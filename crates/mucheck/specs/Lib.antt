@@ -1,4 +1,5 @@
 pub mod Report
+pub mod Example
 pub mod Check
 pub mod Status
 pub mod Command

@@ -15,6 +15,15 @@ const LOOP: &str = "des (0,2,2)\n(0,\"a\",1)\n(1,\"b\",1)\n";
 
 const STUCK: &str = "des (0,0,1)\n";
 
+/// The first line of a report on one of these.
+fn first_line(system: &str) -> &'static str {
+    if system == STUCK {
+        "system 1 states 0 transitions initial 0\n"
+    } else {
+        "system 2 states 2 transitions initial 0\n"
+    }
+}
+
 const DEFAULTS: Options = Options {
     workers: 1,
     shards: 16,
@@ -61,8 +70,8 @@ fn run(
     }
 }
 
-/// The lines of a report behind its first one.
-fn rest_of_report(alloc: Global, case: &Case) -> Result<String, Fail> {
+/// A report, but for its first line.
+fn below_the_first_line(alloc: Global, case: &Case) -> Result<String, Fail> {
     let mut text = String::new(alloc);
     let yes = case.marks.bytes().filter(|mark| *mark == b'y').count();
     let states = case.marks.len();
@@ -145,25 +154,17 @@ fn reports_what_was_worked_out(rt: HostRuntime) -> Result<(), Fail> {
     for row in rows.iter() {
         for plain in [true, false] {
             let mut out = Vec::new(rt.alloc());
-            let answer = run(
-                rt.alloc(),
-                row.system.as_bytes(),
-                row.formula.as_bytes(),
-                plain,
-                &mut out,
-            )?;
-            let rest = rest_of_report(rt.alloc(), row)?;
+            let system = row.system.as_bytes();
+            let answer = run(rt.alloc(), system, row.formula.as_bytes(), plain, &mut out)?;
+            let mut want = String::from_str(rt.alloc(), first_line(row.system))?;
+            want.push_str(below_the_first_line(rt.alloc(), row)?.as_str())?;
             assert_eq!(rt;
                 answer,
                 row.marks.starts_with('y'),
                 "{} by {plain}",
                 row.formula
             );
-            assert!(rt;
-                out.ends_with(rest.as_bytes()),
-                "{} by {plain}",
-                row.formula
-            );
+            assert_eq!(rt; out.as_slice(), want.as_bytes());
         }
     }
     Ok(())
@@ -260,6 +261,70 @@ fn passes_refusals_on(rt: HostRuntime) -> Result<(), Fail> {
         let text = shown(rt.alloc(), answer)?;
         assert_eq!(rt; text.as_str(), refusal);
         assert_eq!(rt; out.len(), 0, "written");
+    }
+    Ok(())
+}
+
+/// `part` this often, and then `tail`.
+fn repeated(alloc: Global, part: &str, times: usize, tail: &str) -> Result<String, Fail> {
+    let mut text = String::new(alloc);
+    for _ in 0..times {
+        text.push_str(part)?;
+    }
+    text.push_str(tail)?;
+    Ok(text)
+}
+
+#[test]
+fn refuses_what_is_too_large_for_a_game(rt: HostRuntime) -> Result<(), Fail> {
+    let million = "des (0,0,1000000)\n";
+    let diamonds = repeated(rt.alloc(), "<a>", 16, "true")?;
+    let choices = repeated(rt.alloc(), "(a+b).", 9, "(a+b)")?;
+    let nodes = format!(in rt.alloc(); "<c><c><c><c><{choices}>true")?;
+    let binders = repeated(rt.alloc(), "nu X. mu X. ", 16, "true")?;
+    let rows = [
+        (million, diamonds.as_str(), "B1"),
+        (RING, nodes.as_str(), "N1"),
+        (RING, binders.as_str(), "N2"),
+    ];
+    for (system, formula, refusal) in rows {
+        let mut out = Vec::new(rt.alloc());
+        let answer = run(
+            rt.alloc(),
+            system.as_bytes(),
+            formula.as_bytes(),
+            false,
+            &mut out,
+        );
+        let text = shown(rt.alloc(), answer)?;
+        assert_eq!(rt; text.as_str(), refusal);
+        assert_eq!(rt; out.len(), 0, "written");
+    }
+    Ok(())
+}
+
+#[test]
+fn answers_what_is_as_large_as_may_be(rt: HostRuntime) -> Result<(), Fail> {
+    let choices = repeated(rt.alloc(), "(a+b).", 9, "(a+b)")?;
+    let nodes = format!(in rt.alloc(); "<c><c><c><{choices}>true")?;
+    let binders = repeated(rt.alloc(), "nu X. mu X. ", 15, "true")?;
+    let nested = format!(in rt.alloc(); "mu X. {binders}")?;
+    let negations = repeated(rt.alloc(), "!", 256, "true")?;
+    let rows = [
+        (nodes.as_str(), false),
+        (nested.as_str(), true),
+        (negations.as_str(), true),
+    ];
+    for (formula, yes) in rows {
+        let mut out = Vec::new(rt.alloc());
+        let answer = run(
+            rt.alloc(),
+            RING.as_bytes(),
+            formula.as_bytes(),
+            false,
+            &mut out,
+        )?;
+        assert_eq!(rt; answer, yes);
     }
     Ok(())
 }

@@ -9,4 +9,6 @@ pub mod law;
 pub mod make;
 pub mod node;
 pub mod part;
+#[cfg(test)]
+mod tests;
 pub mod write;
