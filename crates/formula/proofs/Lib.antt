@@ -3,6 +3,7 @@ pub mod States
 pub mod Cuts
 pub mod Gaps
 pub mod Lexed
+pub mod Tokenless
 pub mod RegularUnique
 pub mod Unambiguous
 pub mod Pieces
