@@ -8,6 +8,10 @@ pub mod RegularUnique
 pub mod Unambiguous
 pub mod Pieces
 pub mod OneText
+pub mod OneCut
+pub mod OneFront
+pub mod Unreserved
+pub mod OneFault
 pub mod Telling
 pub mod Counted
 pub mod Fixpoints
@@ -26,4 +30,6 @@ pub mod Faults
 pub mod Scopes
 pub mod Sorting
 pub mod Sense
+pub mod Faultless
+pub mod NoFault
 pub mod Refusals

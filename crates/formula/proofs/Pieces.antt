@@ -223,7 +223,7 @@ decided_again PlusSign ts h = ap (λ b. if b then PlusSign else ChoiceSign) h
 decided_again ChoiceSign ts h = ap (λ b. if b then PlusSign else ChoiceSign) (not-true (is_after_postfix ts) h)
 decided_again t ts h = refl
 
-heads_same : (t u : Token) (ts us : List Token) → t ∷ ts ≡ u ∷ us → (t ≡ u) × (ts ≡ us)
+pub heads_same : (t u : Token) (ts us : List Token) → t ∷ ts ≡ u ∷ us → (t ≡ u) × (ts ≡ us)
 heads_same t u ts us e = (cc, cc)
 
 -- Each `+` is what the next token makes it.
