@@ -35,12 +35,15 @@ one_front P closed (t ∷ front) (u ∷ front') back back' h k stuck stuck' e =
 within_closed : (xs ys : List Token) → BeginsWithin (xs ++ ys) → BeginsWithin xs
 within_closed xs ys (s, more, fit, small, e) = (s, ys ++ more, fit, small, e ∙ append_assoc xs ys more)
 
+-- whether no formula begins with these tokens, or none within the limits
+abbrev Kind : List Token → FormulaFault → Type 0
+Kind front f = ((f ≡ fault.Unexpected) × (Begins front → ⊥)) ⊎ ((f ≡ fault.TooLarge) × Begins front)
+
 -- why the grammar stops at this front of the tokens
 abbrev Reason : List ℕ → List ℕ → List Token → List Token → FormulaFault → ℕ → Type 0
 Reason text offsets front back f place =
     ((back ≡ []) × (f ≡ fault.Unfinished) × (place ≡ length text) × ((s : Syntax) → IsTrue (fits s) → tokens s ≡ front → ⊥))
-    ⊎ ((t : Token) × (more : List Token) × (back ≡ t ∷ more) × (BeginsWithin (front ++ t ∷ []) → ⊥) × (slice_get offsets (length front) ≡ Some place)
-    × (((f ≡ fault.Unexpected) × (Begins (front ++ t ∷ []) → ⊥)) ⊎ ((f ≡ fault.TooLarge) × Begins (front ++ t ∷ []))))
+    ⊎ ((t : Token) × (more : List Token) × (back ≡ t ∷ more) × (BeginsWithin (front ++ t ∷ []) → ⊥) × (slice_get offsets (length front) ≡ Some place) × Kind (front ++ t ∷ []) f)
 
 -- the tokens are those of a formula up to here and no further
 record Stop (text : List ℕ) (f : FormulaFault) (place : ℕ) : Type 0 where
@@ -70,7 +73,7 @@ stuck text offsets front back f place (inr a) t more e h =
     let same = heads_same a.0 t a.1 more (sym a.2 ∙ e) in
     a.3 (subst (λ (u : Token). BeginsWithin (front ++ u ∷ [])) (sym same.0) h)
 
-one_kind : (front : List Token) (f g : FormulaFault) → ((f ≡ fault.Unexpected) × (Begins front → ⊥)) ⊎ ((f ≡ fault.TooLarge) × Begins front) → ((g ≡ fault.Unexpected) × (Begins front → ⊥)) ⊎ ((g ≡ fault.TooLarge) × Begins front) → f ≡ g
+one_kind : (front : List Token) (f g : FormulaFault) → Kind front f → Kind front g → f ≡ g
 one_kind front f g (inl a) (inl b) = a.0 ∙ sym b.0
 one_kind front f g (inr a) (inr b) = a.0 ∙ sym b.0
 one_kind front f g (inl a) (inr b) = absurd (a.1 b.1)
@@ -82,7 +85,7 @@ one_reason text offsets front back f g p q (inl a) (inr b) = let e : [] ≡ b.0 
 one_reason text offsets front back f g p q (inr a) (inl b) = let e : [] ≡ a.0 ∷ a.1 = sym b.0 ∙ a.2 in cc
 one_reason text offsets front back f g p q (inr a) (inr b) =
     let same = heads_same a.0 b.0 a.1 b.1 (sym a.2 ∙ b.2) in
-    let kind = subst (λ (u : Token). ((g ≡ fault.Unexpected) × (Begins (front ++ u ∷ []) → ⊥)) ⊎ ((g ≡ fault.TooLarge) × Begins (front ++ u ∷ []))) (sym same.0) b.5 in
+    let kind = subst (λ (u : Token). Kind (front ++ u ∷ []) g) (sym same.0) b.5 in
     (one_kind (front ++ a.0 ∷ []) f g a.5 kind, some_once p q (sym a.4 ∙ b.4))
 
 -- A text has one fault of the grammar at most.
