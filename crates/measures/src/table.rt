@@ -59,10 +59,11 @@ pub fn opening(alloc: Global, game: &Game) -> Result<PlainTable, Memory>
             rows.set(v as usize, &Measure::top());
         }
     }
+    let climbs = bounds.iter().any(|bound| *bound > 1);
     Ok(PlainTable {
         rows,
         bounds,
-        pending: Pending::of(alloc, game)?,
+        pending: Pending::of(alloc, game, climbs)?,
         of: Snapshot::of(game),
     })
 }
