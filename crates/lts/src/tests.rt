@@ -115,6 +115,55 @@ fn a_failed_read_is_told_wherever_it_comes(rt: HostRuntime) -> Result<(), Fail> 
     Ok(())
 }
 
+// A reader whose every second read is interrupted.
+#[derive(Drop)]
+struct Halting<'a> {
+    left: &'a [u8],
+    is_interrupted: bool,
+}
+
+impl Read for Halting<'_> {
+    fn read(&mut self, buf: &mut [u8]) -> io::Result<usize> {
+        self.is_interrupted = !self.is_interrupted;
+        if self.is_interrupted {
+            return Err(io::Error::from(io::ErrorKind::Interrupted));
+        }
+        let count = self.left.len().min(buf.len()).min(4);
+        let (front, rest) = self.left.split_at(count);
+        buf[..count].copy_from_slice(front);
+        self.left = rest;
+        Ok(count)
+    }
+}
+
+#[test]
+fn an_interrupted_read_is_tried_again(rt: HostRuntime) -> Result<(), Fail> {
+    let reader = Halting {
+        left: RING.as_bytes(),
+        is_interrupted: false,
+    };
+    match read_aut(rt.alloc(), reader) {
+        Ok(lts) => assert_eq!(rt; shape(&rt, &lts)?.as_str(), "2 0 2 2"),
+        Err(_) => return Err(Fail::from("read")),
+    }
+    Ok(())
+}
+
+// Each growth may be refused: then nothing but that is told. `rt try --test --fail-alloc N` refuses the Nth.
+#[test]
+fn want_of_memory_is_told_as_such(rt: HostRuntime) -> Result<(), Fail> {
+    let text = "des (2,4,3)\n(2,\"c|a|b\",0)\n(0,\"tau\",2)\n(2,\"c|a|b\",0)\n(1,\"r(1)\",1)\n";
+    match read_aut(rt.alloc(), text.as_bytes()) {
+        Ok(lts) => {
+            assert_eq!(rt; (lts.states(), lts.initial()), (3, 2));
+            assert_eq!(rt; (lts.transitions(), lts.labels()), (3, 3));
+            Ok(())
+        }
+        Err(AutError::Memory) => Ok(()),
+        Err(_) => Err(Fail::from("another refusal")),
+    }
+}
+
 // How a writer goes on that has no room left.
 #[derive(Clone, Copy)]
 enum AtEnd {
