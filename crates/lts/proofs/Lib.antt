@@ -13,3 +13,4 @@ pub mod Storing
 pub mod Whole
 pub mod Faults
 pub mod Writing
+pub mod Canonical

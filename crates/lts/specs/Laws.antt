@@ -1,8 +1,9 @@
 -- What holds of all texts of systems.
-use Rattle.std.specs.Prelude.{◌≡◌, ℕ, List}
-use Rattle.lts.specs.System.{System}
+use Rattle.std.specs.Prelude.{◌≡◌, ℕ, ◌≤◌, List, length}
+use Rattle.lts.specs.System.{System, IsSystem}
 use Rattle.lts.specs.declared.error.AutFault.{AutFault}
 use Rattle.lts.specs.Aut.{IsAut, HasFault}
+use Rattle.lts.specs.Canon.{aut_text}
 
 -- A text spells at most one system.
 abbrev pub OneSystem : Type 0
@@ -15,3 +16,7 @@ NoFault = (text : List ℕ) (l : System) (fault : AutFault) (line : ℕ) → IsA
 -- A text has at most one deciding fault, at one line.
 abbrev pub OneFault : Type 0
 OneFault = (text : List ℕ) (f g : AutFault) (i j : ℕ) → HasFault text f i → HasFault text g j → (f ≡ g) × (i ≡ j)
+
+-- The canonical text of a system with no more transitions than a text may have spells the system.
+abbrev pub CanonSpells : Type 0
+CanonSpells = (l : System) → IsSystem l → length l.arrows ≤ 10000000 → IsAut (aut_text l) l

@@ -20,10 +20,11 @@ pub record IsRow (starts : List ℕ) (transitions : List Transition) (s : ℕ) :
   pub ends : slice_index starts (s + 1) ≤ length transitions
   pub row : slice_range transitions (slice_index starts s) (slice_index starts (s + 1)) ≡ filter (λ t. t.source == s) transitions
 
--- each transition once, in order, with a label that has a number, and a start for each source
+-- each transition once, in order, with a label that has a number, no more of them than a text may have, and a start for each source
 pub record IsStored (a : Inside) : Type 0 where
   pub system : IsSystem (numbered a).system
   pub labels : AreAscending (labels_of a)
   pub inside : IsInside (numbered a) a.transitions.items
+  pub few : length a.transitions.items ≤ 10000000
   pub starts : length a.starts.items ≡ a.states + 1
   pub rows : (s : ℕ) → s < a.states → IsRow a.starts.items a.transitions.items s

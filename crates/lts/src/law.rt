@@ -1,6 +1,6 @@
 // What holds of all texts of systems.
 
-ghost use Rattle.lts.specs.Laws.{OneSystem, NoFault, OneFault};
+ghost use Rattle.lts.specs.Laws.{OneSystem, NoFault, OneFault, CanonSpells};
 
 /// A text spells at most one system.
 pub fn one_system()
@@ -15,4 +15,9 @@ pub fn no_fault()
 /// A text has at most one deciding fault, at one line.
 pub fn one_fault()
     ensures { OneFault }
+{}
+
+/// The canonical text of a system spells the system, and by `one_system` no other.
+pub fn canon_spells()
+    ensures { CanonSpells }
 {}

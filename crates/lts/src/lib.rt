@@ -13,9 +13,11 @@ pub mod system;
 #[cfg(test)]
 mod tests;
 pub mod write_loop;
+pub mod writer;
 
 pub use error::{AutError, AutFault, Memory};
 pub use label::{Label, LabelView};
 pub use reader::read_aut;
 pub use system::{Lts, Transition};
 pub use write_loop::{WriteFault, put};
+pub use writer::write_aut;

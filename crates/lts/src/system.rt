@@ -1,6 +1,6 @@
 // Labelled transition systems.
 
-ghost use Rattle.std.specs.Prelude.{◌≡◌, ◌<◌, length, map};
+ghost use Rattle.std.specs.Prelude.{◌≡◌, ◌<◌, ◌≤◌, length, map};
 ghost use Rattle.lts.specs.System.{IsSystem};
 ghost use Rattle.lts.specs.Numbered.{label_at, arrow_of, arrows_from, IsInside, AreAscending};
 
@@ -95,6 +95,7 @@ impl Lts {
     pub fn all(&self) -> &[Transition]
         ensures arrows { map (arrow_of self.now.labels) result.now ≡ self.now.system.arrows }
         ensures inside { IsInside self.now result.now }
+        ensures few { length result.now ≤ 10000000 }
     {
         &self.transitions
     }

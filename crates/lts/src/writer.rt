@@ -1,0 +1,74 @@
+// The writer of systems.
+
+ghost use Rattle.std.specs.Prelude.{◌≡◌, ◌<◌, ◌++◌, length, map, decimal};
+ghost use Rattle.std.specs.List.{flat_map};
+ghost use Rattle.lts.specs.Numbered.{arrow_of, IsInside};
+ghost use Rattle.lts.specs.Aut.{IsAut};
+ghost use Rattle.lts.specs.Canon.{aut_text, header_line, arrow_line};
+ghost use Rattle.lts.specs.Wrote.{Wrote};
+
+use crate::system::{Lts, Transition};
+use crate::write_loop::{WriteFault, put};
+use itoa::{Buffer, Integer};
+use std::io::Write;
+
+/// Writes the system as its canonical Aldebaran text: a header, and a line for each distinct transition, ascending by
+/// source, by the label's bytes and by target. It takes no memory.
+///
+/// # Errors
+/// After a fault the writer holds a beginning of the text.
+pub fn write_aut<W: Write>(lts: &Lts, out: &mut W) -> Result<(), WriteFault>
+    ensures wrote { Wrote (W.contents out.old) (W.contents out.new) result (aut_text lts.now.system) }
+    // The text spells the system.
+    ensures spelled { IsAut (aut_text lts.now.system) lts.now.system }
+{
+    let transitions = lts.all();
+    put_header(lts.initial(), lts.transitions(), lts.states(), out)?;
+    put_lines(lts, transitions, out)
+}
+
+fn put_header<W: Write>(
+    initial: u32,
+    transitions: usize,
+    states: u32,
+    out: &mut W,
+) -> Result<(), WriteFault>
+    ensures { Wrote (W.contents out.old) (W.contents out.new) result (header_line initial transitions states) }
+{
+    put_number(out, b"des (", initial)?;
+    put_number(out, b",", transitions)?;
+    put_number(out, b",", states)?;
+    put(out, b")\n")
+}
+
+// Writes a line for each of the transitions.
+fn put_lines<W: Write>(lts: &Lts, transitions: &[Transition], out: &mut W) -> Result<(), WriteFault>
+    requires { IsInside lts.now transitions.now }
+    ensures { Wrote (W.contents out.old) (W.contents out.new) result
+        (flat_map arrow_line (map (arrow_of lts.now.labels) transitions.now)) }
+{
+    for transition in transitions {
+        put_line(lts, *transition, out)?;
+    }
+    Ok(())
+}
+
+fn put_line<W: Write>(lts: &Lts, transition: Transition, out: &mut W) -> Result<(), WriteFault>
+    requires { transition.label < length lts.now.labels }
+    ensures { Wrote (W.contents out.old) (W.contents out.new) result (arrow_line (arrow_of lts.now.labels transition)) }
+{
+    put_number(out, b"(", transition.source)?;
+    put(out, b",\"")?;
+    put(out, lts.label(transition.label).bytes)?;
+    put_number(out, b"\",", transition.target)?;
+    put(out, b")\n")
+}
+
+// Writes the bytes and then the number.
+fn put_number<N: Integer, W: Write>(out: &mut W, before: &[u8], number: N) -> Result<(), WriteFault>
+    ensures { Wrote (W.contents out.old) (W.contents out.new) result (before.now ++ N.text number) }
+{
+    let mut buffer = Buffer::new();
+    put(out, before)?;
+    put(out, buffer.format(number).as_bytes())
+}
