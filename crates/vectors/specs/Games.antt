@@ -1,6 +1,7 @@
 -- Worked examples of arenas and of winning.
-use Rattle.std.specs.Prelude.{◌≡◌, ℕ, ◌⊎◌, Bool, List, [], ◌∷◌, Some, refl}
-use Rattle.std.specs.Prelude.{Contains, max, IsTrue, ◌==◌, ◌||◌, if◌then◌else◌}
+use Rattle.std.specs.Prelude.{◌≡◌, ℕ, ◌+◌, ◌*◌, ◌<◌, ◌≤◌, length, ◌⊎◌, Bool, List, [], ◌∷◌, Some, refl}
+use Rattle.std.specs.Prelude.{Contains, None, max, IsTrue, ◌==◌, ◌||◌, if◌then◌else◌}
+use Rattle.std.specs.List.{AllByRecursion}
 use Rattle.std.proofs.Common.{arith, inl, inr, sym, ap, ap₂, subst, ◌∙◌}
 use Rattle.lts.specs.Path.{IsPath}
 use Rattle.std.proofs.lemmas.Bool.Decides.{nat_tests}
@@ -10,11 +11,11 @@ use Rattle.vectors.specs.Formulas.{name_a, often_a}
 use Rattle.normal.specs.Nodes.{nodes}
 use Rattle.game.specs.declared.player.Player.{Player}
 use Rattle.game.specs.declared.player.Player.TheVariants.{Even, Odd}
-use Rattle.game.specs.Game.{Game, Vertex, vertex}
+use Rattle.game.specs.Game.{Game, IsAscending, IsGame, IsVertex, Vertex, dual, vertex}
 use Rattle.game.specs.Wins.{Edge, Wins, priority_at, greatest_met}
 use Rattle.game.specs.Arena.{arena}
 
-abbrev vertex_at : ℕ → Player → List ℕ → Vertex
+abbrev pub vertex_at : ℕ → Player → List ℕ → Vertex
 vertex_at p o ss = record { owner = o; priority = p; successors = ss }
 
 -- <a>true on the two-state system
@@ -26,17 +27,95 @@ vertices_one_step : one_step.vertices ≡ vertex_at 0 Even (0 ∷ []) ∷ vertex
 vertices_one_step = refl
 
 -- [true]false on one state without transitions
-vertices_stuck : (arena (record { states = 1; initial = 0; arrows = [] }) (nodes (Box (Step Anything) False))).vertices
-    ≡ vertex_at 0 Even (0 ∷ []) ∷ vertex_at 1 Even (1 ∷ []) ∷ vertex_at 0 Odd (0 ∷ []) ∷ vertex_at 0 Even (1 ∷ []) ∷ []
+abbrev stuck : Game
+stuck = arena (record { states = 1; initial = 0; arrows = [] }) (nodes (Box (Step Anything) False))
+
+vertices_stuck : stuck.vertices ≡ vertex_at 0 Even (0 ∷ []) ∷ vertex_at 1 Even (1 ∷ []) ∷ vertex_at 0 Odd (0 ∷ []) ∷ vertex_at 0 Even (1 ∷ []) ∷ []
 vertices_stuck = refl
 
--- nu X. mu Y. (<a>X || <b>Y) on the two-state system
-vertices_often_a : (arena two_states (nodes often_a)).vertices
-    ≡ vertex_at 0 Even (0 ∷ []) ∷ vertex_at 1 Even (1 ∷ []) ∷ vertex_at 2 Even (3 ∷ []) ∷ vertex_at 1 Even (4 ∷ []) ∷ vertex_at 0 Even (5 ∷ 7 ∷ [])
-    ∷ vertex_at 0 Even (13 ∷ []) ∷ vertex_at 0 Even (2 ∷ []) ∷ vertex_at 0 Even (1 ∷ []) ∷ vertex_at 0 Even (3 ∷ []) ∷ vertex_at 2 Even (10 ∷ [])
-    ∷ vertex_at 1 Even (11 ∷ []) ∷ vertex_at 0 Even (12 ∷ 14 ∷ []) ∷ vertex_at 0 Even (1 ∷ []) ∷ vertex_at 0 Even (9 ∷ []) ∷ vertex_at 0 Even (8 ∷ [])
-    ∷ vertex_at 0 Even (10 ∷ []) ∷ []
-vertices_often_a = refl
+-- the dual names no vertices
+dual_stuck : dual stuck
+    ≡ record { vertices = vertex_at 1 Odd (0 ∷ []) ∷ vertex_at 2 Odd (1 ∷ []) ∷ vertex_at 1 Even (0 ∷ []) ∷ vertex_at 1 Odd (1 ∷ []) ∷ []; named = None }
+dual_stuck = refl
+
+abbrev two_of_seven : ℕ × ℕ
+two_of_seven = (2, 7)
+
+-- nu X. mu Y. (<a>X || <b>Y) on the two-state system: two states with seven nodes each
+abbrev pub often_a_game : Game
+often_a_game = record {
+  vertices =
+      vertex_at 0 Even (0 ∷ []) ∷ vertex_at 1 Even (1 ∷ []) ∷ vertex_at 2 Even (3 ∷ []) ∷ vertex_at 1 Even (4 ∷ []) ∷ vertex_at 0 Even (5 ∷ 7 ∷ [])
+      ∷ vertex_at 0 Even (13 ∷ []) ∷ vertex_at 0 Even (2 ∷ []) ∷ vertex_at 0 Even (1 ∷ []) ∷ vertex_at 0 Even (3 ∷ []) ∷ vertex_at 2 Even (10 ∷ [])
+      ∷ vertex_at 1 Even (11 ∷ []) ∷ vertex_at 0 Even (12 ∷ 14 ∷ []) ∷ vertex_at 0 Even (1 ∷ []) ∷ vertex_at 0 Even (9 ∷ []) ∷ vertex_at 0 Even (8 ∷ [])
+      ∷ vertex_at 0 Even (10 ∷ []) ∷ [];
+  named = Some two_of_seven;
+}
+
+arena_often_a : arena two_states (nodes often_a) ≡ often_a_game
+arena_often_a = refl
+
+-- a vertex of that game
+whole : (p : ℕ) (o : Player) (ss : List ℕ) → p ≤ 32 → 1 ≤ length ss → IsAscending ss → AllByRecursion (λ t. t < 16) ss → IsVertex 16 (vertex_at p o ss)
+whole p o ss priority some ascending within = record { priority = priority; some = some; ascending = ascending; within = within }
+
+one_next : (p t : ℕ) → p ≤ 32 → t < 16 → IsVertex 16 (vertex_at p Even (t ∷ []))
+one_next p t h k = whole p Even (t ∷ []) h (omega arith) tt (k, tt)
+
+pub is_game_often_a : IsGame often_a_game
+is_game_often_a = record {
+  limit = omega arith;
+  vertices = (
+    one_next 0 0 (omega arith) (omega arith),
+    (
+      one_next 1 1 (omega arith) (omega arith),
+      (
+        one_next 2 3 (omega arith) (omega arith),
+        (
+          one_next 1 4 (omega arith) (omega arith),
+          (
+            whole 0 Even (5 ∷ 7 ∷ []) (omega arith) (omega arith) (omega arith, tt) (omega arith, (omega arith, tt)),
+            (
+              one_next 0 13 (omega arith) (omega arith),
+              (
+                one_next 0 2 (omega arith) (omega arith),
+                (
+                  one_next 0 1 (omega arith) (omega arith),
+                  (
+                    one_next 0 3 (omega arith) (omega arith),
+                    (
+                      one_next 2 10 (omega arith) (omega arith),
+                      (
+                        one_next 1 11 (omega arith) (omega arith),
+                        (
+                          whole 0 Even (12 ∷ 14 ∷ []) (omega arith) (omega arith) (omega arith, tt) (omega arith, (omega arith, tt)),
+                          (
+                            one_next 0 1 (omega arith) (omega arith),
+                            (
+                              one_next 0 9 (omega arith) (omega arith),
+                              (
+                                one_next 0 8 (omega arith) (omega arith),
+                                (
+                                  one_next 0 10 (omega arith) (omega arith),
+                                  tt,
+                                ),
+                              ),
+                            ),
+                          ),
+                        ),
+                      ),
+                    ),
+                  ),
+                ),
+              ),
+            ),
+          ),
+        ),
+      ),
+    ),
+  );
+  named = λ states nodes e. (let q : two_of_seven ≡ (states, nodes) = cc in ap (λ (w : ℕ × ℕ). 2 + w.0 * w.1) q);
+}
 
 -- Even wins (0,0), vertex 2 of that game, by 2, 5 and 0
 abbrev in_three : ℕ → Bool
