@@ -1,10 +1,13 @@
 -- Worked examples of refused formulas.
-use Rattle.std.specs.Prelude.{◌≡◌, List, [], ◌∷◌, ◌++◌, codes, refl}
-use Rattle.std.proofs.Common.{arith, inl, inr, sym, ◌∙◌, append_assoc}
-use Rattle.formula.specs.Token.{Token, Name, Dot, Less, Greater, Open, Close, AndSign, OrSign, ImpliesSign, ChoiceSign, PlusSign, StarSign, NotSign, TrueWord, MuWord, Blank, Word}
-use Rattle.formula.specs.Syntax.{Syntax, RegSyntax, Anything', Nothing', Tau', Names', Quoted', Parens', Not', And', Or', Implies', Star', Plus', Then', Either', reg_tokens, Dia', True', Var', Mu', Neg', False', Group', Both', OneOf', If', Box', Nu', tokens}
-use Rattle.formula.specs.Fault.{HasFault}
-use Rattle.formula.specs.declared.error.FormulaFault.TheVariants.{Unexpected, Unfinished, ReservedWord, Unbound, OddNegations, NotAnAction}
+use Rattle.std.specs.Prelude.{◌≡◌, ℕ, zero, suc, ◌≤◌, IsTrue, List, [], ◌∷◌, ◌++◌, codes, refl}
+use Rattle.std.specs.List.{list_any}
+use Rattle.std.specs.Str.{bytes_eq}
+use Rattle.std.proofs.Common.{arith, inl, inr, sym, ap, subst, ◌∙◌, append_assoc, true≢false}
+use Rattle.std.proofs.lemmas.Bool.Decides.{nat_tests}
+use Rattle.formula.specs.Token.{Token, Name, Reserved, Atom, Dot, Less, Greater, OpenBox, CloseBox, Open, Close, Bar, AndSign, OrSign, ImpliesSign, ChoiceSign, PlusSign, StarSign, NotSign, TrueWord, FalseWord, MuWord, NuWord, TauWord, Piece, Blank, Comment, Word, IsPiece, Cuts, is_free_name, reserved_words}
+use Rattle.formula.specs.Syntax.{Syntax, RegSyntax, Anything', Nothing', Tau', Names', Quoted', Parens', Not', And', Or', Implies', Star', Plus', Then', Either', reg_tokens, Dia', True', Var', Mu', Neg', False', Group', Both', OneOf', If', Box', Nu', tokens, nesting, is_within_limits}
+use Rattle.formula.specs.Fault.{HasFault, NothingBegins}
+use Rattle.formula.specs.declared.error.FormulaFault.TheVariants.{NoToken, Unexpected, Unfinished, ReservedWord, Unbound, OddNegations, NotAnAction, TooLarge}
 
 -- mu X. !X: the variable at offset 7 stands under one negation
 odd : HasFault (codes "mu X. !X") OddNegations 7
@@ -148,4 +151,113 @@ unexpected = inr (
     (λ w. no_less_plus w.0 [] w.1 (append_nil (tokens w.0) ∙ w.3)),
     refl,
   )),
+)
+
+-- n negation signs, and then these tokens
+abbrev nots : ℕ → List Token → List Token
+nots zero ts = ts
+nots (suc n) ts = NotSign ∷ nots n ts
+
+abbrev not_pieces : ℕ → List Piece → List Piece
+not_pieces zero ps = ps
+not_pieces (suc n) ps = Word NotSign ∷ not_pieces n ps
+
+abbrev negations : ℕ → Syntax → Syntax
+negations zero f = f
+negations (suc n) f = Neg' (negations n f)
+
+-- n times `!`, and then `true`
+abbrev not_true : ℕ → List ℕ
+not_true zero = codes "true"
+not_true (suc n) = 33 ∷ not_true n
+
+not_true_cut : (n : ℕ) → Cuts (not_pieces n (Word TrueWord ∷ [])) []
+not_true_cut zero = (tt, refl, tt)
+not_true_cut (suc n) = (tt, refl, not_true_cut n)
+
+-- each sign nests once more
+nested : (n : ℕ) (s : Syntax) (ts more : List Token) → tokens s ++ ts ≡ nots n more → n ≤ nesting s
+nested zero s ts more e = omega arith
+nested (suc n) True' ts more e = cc
+nested (suc n) False' ts more e = cc
+nested (suc n) (Var' name) ts more e = cc
+nested (suc n) (Group' f) ts more e = cc
+nested (suc n) (Neg' f) ts more e = let q : tokens f ++ ts ≡ nots n more = cc in omega (arith, nested n f ts more q)
+nested (suc n) (Both' f g) ts more e =
+    let q = nested (suc n) f (AndSign ∷ (tokens g ++ ts)) more (sym (append_assoc (tokens f) (AndSign ∷ tokens g) ts) ∙ e) in omega (arith, q)
+nested (suc n) (OneOf' f g) ts more e =
+    let q = nested (suc n) f (OrSign ∷ (tokens g ++ ts)) more (sym (append_assoc (tokens f) (OrSign ∷ tokens g) ts) ∙ e) in omega (arith, q)
+nested (suc n) (If' f g) ts more e =
+    let q = nested (suc n) f (ImpliesSign ∷ (tokens g ++ ts)) more (sym (append_assoc (tokens f) (ImpliesSign ∷ tokens g) ts) ∙ e) in omega (arith, q)
+nested (suc n) (Dia' r f) ts more e = cc
+nested (suc n) (Box' r f) ts more e = cc
+nested (suc n) (Mu' name f) ts more e = cc
+nested (suc n) (Nu' name f) ts more e = cc
+
+-- a formula that begins with 257 signs isn't within the limits
+too_deep : (s : Syntax) (more : List Token) → tokens s ≡ nots 257 more → IsTrue (is_within_limits s) → ⊥
+too_deep s more e h = let q = nested 257 s [] more (append_nil (tokens s) ∙ e) in grind (arith, nat_tests, q, h)
+
+-- 257 times `!`, and then true: the last `!` is one too many
+too_nested : HasFault (not_true 257) TooLarge 256
+too_nested = inr (
+  omega arith,
+  inr (inl (
+    not_pieces 257 (Word TrueWord ∷ []),
+    nots 256 [],
+    TrueWord ∷ [],
+    NotSign,
+    record { joined = refl; cut = not_true_cut 257; decided = refl; free = refl },
+    refl,
+    (negations 256 True', TrueWord ∷ [], refl, refl, refl),
+    (negations 257 True', TrueWord ∷ [], refl, refl),
+    (λ w. too_deep w.0 w.1 w.4 w.3),
+    refl,
+  )),
+)
+
+abbrev head_or_zero : List ℕ → ℕ
+head_or_zero [] = 0
+head_or_zero (b ∷ bytes) = b
+
+-- a text has one first byte
+first_byte : {b c : ℕ} {xs ys : List ℕ} → b ∷ xs ≡ c ∷ ys → b ≡ c
+first_byte e = ap head_or_zero e
+
+-- a lone `&` begins nothing
+lone_and : (rest : List ℕ) → NothingBegins (38 ∷ 32 ∷ rest)
+lone_and more (Blank byte) rest h k e = absurd (true≢false (sym (subst (λ c. IsPiece (Blank c)) (sym (first_byte e)) h)))
+lone_and more (Comment bytes) rest h k e = absurd (omega (arith, first_byte e))
+lone_and more (Word (Name [])) rest h k e = absurd (true≢false (sym h))
+lone_and more (Word (Name (b ∷ bytes))) rest h k e = absurd (true≢false (sym (subst (λ c. IsTrue (is_free_name (c ∷ bytes))) (sym (first_byte e)) h)))
+lone_and more (Word (Reserved [])) rest h k e = absurd (true≢false (sym h))
+lone_and more (Word (Reserved (b ∷ bytes))) rest h k e =
+    absurd (true≢false (sym (subst (λ c. IsTrue (list_any (bytes_eq (c ∷ bytes)) reserved_words)) (sym (first_byte e)) h)))
+lone_and more (Word (Atom bytes)) rest h k e = absurd (omega (arith, first_byte e))
+lone_and more (Word TrueWord) rest h k e = absurd (omega (arith, first_byte e))
+lone_and more (Word FalseWord) rest h k e = absurd (omega (arith, first_byte e))
+lone_and more (Word MuWord) rest h k e = absurd (omega (arith, first_byte e))
+lone_and more (Word NuWord) rest h k e = absurd (omega (arith, first_byte e))
+lone_and more (Word TauWord) rest h k e = absurd (omega (arith, first_byte e))
+lone_and more (Word ImpliesSign) rest h k e = absurd (omega (arith, first_byte e))
+lone_and more (Word OrSign) rest h k e = absurd (omega (arith, first_byte e))
+lone_and more (Word AndSign) rest h k e = let q : 32 ∷ more ≡ 38 ∷ rest = cc in absurd (omega (arith, first_byte q))
+lone_and more (Word Bar) rest h k e = absurd (omega (arith, first_byte e))
+lone_and more (Word NotSign) rest h k e = absurd (omega (arith, first_byte e))
+lone_and more (Word Less) rest h k e = absurd (omega (arith, first_byte e))
+lone_and more (Word Greater) rest h k e = absurd (omega (arith, first_byte e))
+lone_and more (Word OpenBox) rest h k e = absurd (omega (arith, first_byte e))
+lone_and more (Word CloseBox) rest h k e = absurd (omega (arith, first_byte e))
+lone_and more (Word Open) rest h k e = absurd (omega (arith, first_byte e))
+lone_and more (Word Close) rest h k e = absurd (omega (arith, first_byte e))
+lone_and more (Word Dot) rest h k e = absurd (omega (arith, first_byte e))
+lone_and more (Word ChoiceSign) rest h k e = absurd (omega (arith, first_byte e))
+lone_and more (Word PlusSign) rest h k e = absurd (omega (arith, first_byte e))
+lone_and more (Word StarSign) rest h k e = absurd (omega (arith, first_byte e))
+
+-- true & true: at the `&` no token begins
+no_token : HasFault (codes "true & true") NoToken 5
+no_token = inr (
+  omega arith,
+  inl (Word TrueWord ∷ Blank 32 ∷ [], codes "& true", refl, (tt, refl, (refl, refl, tt)), refl, (λ e. cc), lone_and (codes "true"), refl),
 )

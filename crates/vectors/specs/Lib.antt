@@ -1,7 +1,9 @@
 pub mod Systems
+pub mod SystemFaults
 pub mod Formulas
 pub mod FormulaFaults
 pub mod Meanings
 pub mod NormalForms
 pub mod Games
 pub mod Measures
+pub mod Tables

@@ -1,5 +1,5 @@
 -- Worked examples of progress measures.
-use Rattle.std.specs.Prelude.{◌≡◌, zero, suc, [], ◌∷◌, length, map, codes, refl}
+use Rattle.std.specs.Prelude.{◌≡◌, ℕ, zero, suc, List, [], ◌∷◌, length, map, codes, refl, AllPairs, Contains}
 use Rattle.formula.specs.Tree.{Formula, Step, Or, Dia, Var, Mu, Nu}
 use Rattle.vectors.specs.Formulas.{name_a, name_b}
 use Rattle.normal.specs.Nodes.{nodes}
@@ -7,8 +7,9 @@ use Rattle.lts.specs.System.{System}
 use Rattle.vectors.specs.Systems.{arrow}
 use Rattle.game.specs.Game.{Game, count}
 use Rattle.game.specs.Arena.{arena}
-use Rattle.std.proofs.Common.{arith}
-use Rattle.measures.specs.Measure.{Measure, Top, Counts, components, IsMeasure, IsAtMost, Reaches, IsProg}
+use Rattle.std.proofs.Common.{arith, sym, subst, true≢false}
+use Rattle.measures.specs.Measure.{Measure, Top, Counts, components, IsMeasure, IsAtMost, IsBelow, IsRank, Reaches, IsProg}
+use Rattle.measures.proofs.Ranks.{rank_is}
 
 -- the system with a loop: des (0,2,2), (0,"a",1), (1,"b",1)
 abbrev pub with_loop : System
@@ -75,3 +76,54 @@ prog_even = record { measure = (omega arith, (omega arith, tt)); reaches = refl;
     least (Counts (a ∷ [])) h k = absurd h.1
     least (Counts (a ∷ b ∷ c ∷ d)) h k = absurd h.1.1
     least (Counts (a ∷ b ∷ [])) h k = k
+
+-- four measures are below (1,0): its rank is 4
+abbrev pair : ℕ → ℕ → Measure
+pair a b = Counts (a ∷ b ∷ [])
+
+abbrev below_carry : List Measure
+below_carry = pair 0 0 ∷ pair 0 1 ∷ pair 0 2 ∷ pair 0 3 ∷ []
+
+rank_carry : IsRank three_binder_game (pair 1 0) 4
+rank_carry = (below_carry, refl, rising, λ x. (there x, back x))
+  where
+    rising : AllPairs (λ x y. IsBelow x y) below_carry
+    rising zero zero d l k = absurd (omega (arith, l))
+    rising zero (suc zero) d l k = refl
+    rising zero (suc (suc zero)) d l k = refl
+    rising zero (suc (suc (suc zero))) d l k = refl
+    rising (suc zero) zero d l k = absurd (omega (arith, l))
+    rising (suc zero) (suc zero) d l k = absurd (omega (arith, l))
+    rising (suc zero) (suc (suc zero)) d l k = refl
+    rising (suc zero) (suc (suc (suc zero))) d l k = refl
+    rising (suc (suc zero)) (suc (suc (suc zero))) d l k = refl
+    rising i j d l k = absurd (omega (arith, l, k))
+
+    there : (x : Measure) → Contains below_carry x → IsMeasure three_binder_game x × IsBelow x (pair 1 0)
+    there x (zero, l, e) = subst (λ y. IsMeasure three_binder_game y × IsBelow y (pair 1 0)) e ((omega arith, (omega arith, tt)), refl)
+    there x (suc zero, l, e) = subst (λ y. IsMeasure three_binder_game y × IsBelow y (pair 1 0)) e ((omega arith, (omega arith, tt)), refl)
+    there x (suc (suc zero), l, e) = subst (λ y. IsMeasure three_binder_game y × IsBelow y (pair 1 0)) e ((omega arith, (omega arith, tt)), refl)
+    there x (suc (suc (suc zero)), l, e) = subst (λ y. IsMeasure three_binder_game y × IsBelow y (pair 1 0)) e ((omega arith, (omega arith, tt)), refl)
+    there x (suc (suc (suc (suc k))), l, e) = absurd (omega (arith, l))
+
+    back : (x : Measure) → IsMeasure three_binder_game x × IsBelow x (pair 1 0) → Contains below_carry x
+    back Top h = absurd (true≢false (sym h.1))
+    back (Counts []) h = absurd h.0
+    back (Counts (a ∷ [])) h = absurd h.0.1
+    back (Counts (a ∷ b ∷ c ∷ d)) h = absurd h.0.1.1
+    back (Counts (zero ∷ zero ∷ [])) h = (0, omega arith, refl)
+    back (Counts (zero ∷ suc zero ∷ [])) h = (1, omega arith, refl)
+    back (Counts (zero ∷ suc (suc zero) ∷ [])) h = (2, omega arith, refl)
+    back (Counts (zero ∷ suc (suc (suc zero)) ∷ [])) h = (3, omega arith, refl)
+    back (Counts (zero ∷ suc (suc (suc (suc b))) ∷ [])) h = absurd (omega (arith, h.0.1.0))
+    back (Counts (suc zero ∷ zero ∷ [])) h = absurd (true≢false (sym h.1))
+    back (Counts (suc zero ∷ suc zero ∷ [])) h = absurd (true≢false (sym h.1))
+    back (Counts (suc zero ∷ suc (suc zero) ∷ [])) h = absurd (true≢false (sym h.1))
+    back (Counts (suc zero ∷ suc (suc (suc zero)) ∷ [])) h = absurd (true≢false (sym h.1))
+    back (Counts (suc zero ∷ suc (suc (suc (suc b))) ∷ [])) h = absurd (omega (arith, h.0.1.0))
+    back (Counts (suc (suc zero) ∷ b ∷ [])) h = absurd (true≢false (sym h.1))
+    back (Counts (suc (suc (suc a)) ∷ b ∷ [])) h = absurd (omega (arith, h.0.0))
+
+-- twelve are below top: three counts of priority 3 with four of priority 1
+rank_top : IsRank three_binder_game Top 12
+rank_top = rank_is three_binder_game Top tt

@@ -1,9 +1,12 @@
 -- Worked examples of normal forms.
-use Rattle.std.specs.Prelude.{◌≡◌, ℕ, zero, suc, true, false, [], ◌∷◌, codes, refl}
-use Rattle.formula.specs.Tree.{Anything, Regular, Step, Then, Either, Star, Formula, True, Var, Not, And, Dia, Box, Mu}
+use Rattle.std.specs.Prelude.{◌≡◌, ℕ, zero, suc, ◌%◌, ◌==◌, if◌then◌else◌, true, false, [], ◌∷◌, codes, refl}
+use Rattle.std.proofs.Common.{arith}
+use Rattle.formula.specs.Tree.{Anything, Regular, Step, Then, Either, Star, Formula, True, Var, Not, And, Dia, Box, Mu, Nu}
 use Rattle.vectors.specs.Formulas.{often_a, plus_or_b, name_a, name_b}
 use Rattle.normal.specs.Tree.{normal_form, Shape, ConstantNode, JunctionNode, ModalityNode, FixpointNode, VariableNode, depth, size, count}
 use Rattle.normal.specs.Nodes.{nodes, Node, greatest}
+use Rattle.normal.specs.Refused.{HasRefusal}
+use Rattle.normal.specs.declared.error.NormalError.TheVariants.{TooManyNodes, PriorityTooGreat}
 
 abbrev node : Shape → ℕ → Node
 node shape p = record { shape = shape; priority = p }
@@ -34,6 +37,20 @@ many_nodes = Dia (Step name_a) (Dia (Step name_a) (Dia (Step name_a) (Dia (tens 
 
 count_many_nodes : count many_nodes ≡ 4096
 count_many_nodes = refl
+
+one_node_more : HasRefusal (Dia (Step name_a) many_nodes) TooManyNodes
+one_node_more = omega arith
+
+-- n binders in one another, the innermost `mu`, of alternating kinds
+abbrev alternating : ℕ → Formula
+alternating zero = True
+alternating (suc n) = if n % 2 == 0 then Mu (codes "X") (alternating n) else Nu (codes "X") (alternating n)
+
+greatest_alternating : (greatest (normal_form (alternating 31)) ≡ 31) × (depth (normal_form (alternating 31)) ≡ 31)
+greatest_alternating = (refl, refl)
+
+one_binder_more : HasRefusal (alternating 32) PriorityTooGreat
+one_binder_more = (omega arith, omega arith)
 
 -- [true*]<true*>(<a>true)
 everywhere : (greatest (normal_form (Box (Star (Step Anything)) (Dia (Star (Step Anything)) (Dia (Step name_a) True)))) ≡ 2)

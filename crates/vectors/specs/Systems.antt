@@ -1,13 +1,12 @@
 -- Worked examples of systems and their texts.
 use Rattle.std.specs.Prelude.{◌≡◌, ℕ, false, List, [], ◌∷◌, ◌++◌, length, Some, None, codes, refl}
-use Rattle.std.proofs.Common.{arith, inl, inr}
+use Rattle.std.proofs.Common.{arith}
 use Rattle.lts.specs.Text.{lines, IsNumeral, is_numeral}
 use Rattle.lts.specs.Label.{reading}
 use Rattle.lts.specs.System.{Arrow, System}
 use Rattle.std.specs.Fmt.{digits}
 use Rattle.lts.specs.Canon.{aut_text}
-use Rattle.lts.specs.Aut.{IsAut, IsHeader, IsTransition, HasFault}
-use Rattle.lts.specs.declared.error.AutFault.TheVariants.{BadHeader, NoSuchState, WrongCount, BadStates}
+use Rattle.lts.specs.Aut.{IsAut, IsHeader, IsTransition}
 
 abbrev pub arrow : ℕ → List ℕ → ℕ → Arrow
 arrow s l t = record { source = s; label = l; target = t }
@@ -40,7 +39,7 @@ two_states = record { states = 2; initial = 0; arrows = arrow 0 (codes "a") 1 �
 v_two_states_lines : length (lines two_states_text) ≡ 3
 v_two_states_lines = refl
 
-two_states_header : IsHeader (codes "des (0,2,2)") 0 2 2
+pub two_states_header : IsHeader (codes "des (0,2,2)") 0 2 2
 two_states_header = (
   codes "0",
   codes "2",
@@ -75,7 +74,7 @@ two_states_header = (
   ),
 )
 
-line_a : IsTransition (codes "(0," ++ 34 ∷ codes "a" ++ 34 ∷ codes ",1)") (arrow 0 (codes "a") 1)
+pub line_a : IsTransition (codes "(0," ++ 34 ∷ codes "a" ++ 34 ∷ codes ",1)") (arrow 0 (codes "a") 1)
 line_a = (
   codes "0",
   codes "1",
@@ -140,116 +139,6 @@ aut_p =
 canonical_two_states : aut_text two_states ≡ two_states_text
 unfolding digits
 canonical_two_states = refl
-
--- the two-state system without its last line: a line is missing at line 3
-missing_line : HasFault (codes "des (0,2,2)" ++ 10 ∷ (codes "(0," ++ 34 ∷ codes "a" ++ 34 ∷ codes ",1)" ++ 10 ∷ [])) WrongCount 3
-missing_line =
-    inr (
-      codes "des (0,2,2)",
-      (codes "(0," ++ 34 ∷ codes "a" ++ 34 ∷ codes ",1)") ∷ [],
-      0,
-      2,
-      2,
-      1,
-      refl,
-      two_states_header,
-      omega arith,
-      omega arith,
-      omega arith,
-      (
-        (codes "(0," ++ 34 ∷ codes "a" ++ 34 ∷ codes ",1)") ∷ [],
-        [],
-        refl,
-        ((arrow 0 (codes "a") 1, line_a, record { source = omega arith; target = omega arith; label = refl }), tt),
-        refl,
-        inl (refl, omega arith),
-      ),
-      refl,
-    )
-
--- the empty text has no header
-no_header : HasFault [] BadHeader 1
-no_header = inl (λ first rest i m n e h. cc, refl)
-
--- des (0,0,0)
-header_of_none : IsHeader (codes "des (0,0,0)") 0 0 0
-header_of_none = (
-  codes "0",
-  codes "0",
-  codes "0",
-  (refl, refl),
-  (refl, refl),
-  (refl, refl),
-  (
-    [],
-    codes " (0,0,0)",
-    refl,
-    refl,
-    (
-      codes " ",
-      codes "0,0,0)",
-      refl,
-      refl,
-      (
-        [],
-        codes ",0,0)",
-        refl,
-        refl,
-        (
-          [],
-          codes "0,0)",
-          refl,
-          refl,
-          ([], codes ",0)", refl, refl, ([], codes "0)", refl, refl, ([], codes ")", refl, refl, ([], [], refl, refl, refl)))),
-        ),
-      ),
-    ),
-  ),
-)
-
-no_states : HasFault (codes "des (0,0,0)") BadStates 1
-no_states = inl ((codes "des (0,0,0)", [], 0, 0, 0, refl, header_of_none, omega arith, omega arith, omega arith), refl)
-
--- a target that is no state, at line 2
-line_far : IsTransition (codes "(0," ++ 34 ∷ codes "a" ++ 34 ∷ codes ",2)") (arrow 0 (codes "a") 2)
-line_far = (
-  codes "0",
-  codes "2",
-  (refl, refl),
-  (refl, refl),
-  refl,
-  (
-    [],
-    codes "0," ++ 34 ∷ codes "a" ++ 34 ∷ codes ",2)",
-    refl,
-    refl,
-    (
-      [],
-      codes "," ++ 34 ∷ codes "a" ++ 34 ∷ codes ",2)",
-      refl,
-      refl,
-      ([], 34 ∷ codes "a" ++ 34 ∷ codes ",2)", refl, refl, ([], codes ",2)", refl, refl, ([], codes "2)", refl, refl, ([], codes ")", refl, refl, ([], [], refl, refl, refl))))),
-    ),
-  ),
-)
-
-no_such_state : HasFault (codes "des (0,2,2)" ++ 10 ∷ (codes "(0," ++ 34 ∷ codes "a" ++ 34 ∷ codes ",2)" ++ 10 ∷ [])) NoSuchState 2
-no_such_state =
-    inr (
-      codes "des (0,2,2)",
-      (codes "(0," ++ 34 ∷ codes "a" ++ 34 ∷ codes ",2)") ∷ [],
-      0,
-      2,
-      2,
-      0,
-      refl,
-      two_states_header,
-      omega arith,
-      omega arith,
-      omega arith,
-      ([], [], codes "(0," ++ 34 ∷ codes "a" ++ 34 ∷ codes ",2)", refl, tt, refl, omega arith, (arrow 0 (codes "a") 2, line_far, refl, inr (omega arith))),
-      refl,
-    )
 
 -- a number of any length is a numeral
 long : IsNumeral (codes "99999999999999999999999") 99999999999999999999999
