@@ -1,6 +1,7 @@
 // The one loop that writes.
 
-ghost use Rattle.lts.specs.Wrote.{Wrote};
+ghost use Rattle.std.specs.Prelude.{IfErr};
+ghost use Rattle.lts.specs.Wrote.{Wrote, WroteShort};
 
 use std::io::{ErrorKind, Write};
 use thiserror::Error;
@@ -17,6 +18,8 @@ pub struct WriteFault;
 /// After a fault the writer holds a beginning of the bytes.
 pub fn put<W: Write>(writer: &mut W, bytes: &[u8]) -> Result<(), WriteFault>
     ensures wrote { Wrote (W.contents writer.old) (W.contents writer.new) result bytes.now }
+    // A fault is never told once all was written, nor where nothing is to be written.
+    ensures short { IfErr result (λ _. WroteShort (W.contents writer.old) (W.contents writer.new) bytes.now) }
 {
     let mut rest = bytes;
     'writes: for _ in 0..u64::MAX {
@@ -33,5 +36,9 @@ pub fn put<W: Write>(writer: &mut W, bytes: &[u8]) -> Result<(), WriteFault>
             }
         }
     }
-    Err(WriteFault)
+    if rest.is_empty() {
+        Ok(())
+    } else {
+        Err(WriteFault)
+    }
 }
