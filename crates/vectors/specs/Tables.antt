@@ -191,14 +191,27 @@ settled_14 = single often_a_game least_often_a 14 0 8 Even (number 1) refl (prog
 settled_15 : IsSettledAt 15
 settled_15 = single often_a_game least_often_a 15 0 10 Even (number 2) refl (prog_0 (number 2) two_measure)
 
+-- the vertices of state 1, and then all
+settled_late : HoldsFrom IsSettledAt 9 7
+settled_late = (settled_9, (settled_10, (settled_11, (settled_12, (settled_13, (settled_14, (settled_15, tt)))))))
+
 settled : (v : ℕ) → v < 16 → IsSettledAt v
 settled v h =
     holds_from IsSettledAt 0 16
-    (settled_0, (settled_1, (settled_2, (settled_3, (settled_4, (settled_5, (settled_6, (settled_7, (settled_8, (settled_9, (settled_10, (settled_11, (settled_12, (settled_13, (settled_14, (settled_15, tt))))))))))))))))
+    (settled_0, (settled_1, (settled_2, (settled_3, (settled_4, (settled_5, (settled_6, (settled_7, (settled_8, settled_late)))))))))
     v (omega arith) (omega (arith, h))
 
 table_often_a : IsTable often_a_game least_often_a
-table_often_a = (refl, (zero_measure, (tt, (zero_measure, (one_measure, (zero_measure, (zero_measure, (zero_measure, (tt, (one_measure, (zero_measure, (two_measure, (one_measure, (tt, (zero_measure, (one_measure, (two_measure, tt)))))))))))))))))
+table_often_a = (refl, (z, (tt, (z, (o, (z, (z, (z, (tt, (o, (z, (w, (o, (tt, (z, (o, (w, tt)))))))))))))))))
+  where
+    z : IsMeasure often_a_game (number 0)
+    z = zero_measure
+
+    o : IsMeasure often_a_game (number 1)
+    o = one_measure
+
+    w : IsMeasure often_a_game (number 2)
+    w = two_measure
 
 pub progress_often_a : IsProgress often_a_game least_often_a
 progress_often_a = (table_often_a, λ v r lift. lift_one often_a_game least_often_a v r (value_at least_often_a v) lift (settled v (slice_get_within often_a_game.vertices v lift.0 lift.1)))
@@ -287,7 +300,10 @@ stays_top Top = refl
 stays_top (Counts c) = refl
 
 top_at : (v : ℕ) → v < 16 → value_at tops v ≡ Top
-top_at v h = holds_from (λ u. value_at tops u ≡ Top) 0 16 (refl, (refl, (refl, (refl, (refl, (refl, (refl, (refl, (refl, (refl, (refl, (refl, (refl, (refl, (refl, (refl, tt)))))))))))))))) v (omega arith) (omega (arith, h))
+top_at v h =
+    holds_from (λ u. value_at tops u ≡ Top) 0 16
+    (refl, (refl, (refl, (refl, (refl, (refl, (refl, (refl, (refl, (refl, (refl, (refl, (refl, (refl, (refl, (refl, tt))))))))))))))))
+    v (omega arith) (omega (arith, h))
 
 progress_tops : IsProgress often_a_game tops
 progress_tops = (
