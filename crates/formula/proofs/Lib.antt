@@ -26,3 +26,4 @@ pub mod Scopes
 pub mod Sorting
 pub mod Sense
 pub mod Refusals
+pub mod Misreads

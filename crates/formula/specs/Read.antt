@@ -1,5 +1,5 @@
 -- What a parser has read, and how far what follows lets it go on.
-use Rattle.std.specs.Prelude.{◌≡◌, ℕ, ◌+◌, ◌<◌, ◌≤◌, Bool, true, false, List, [], ◌∷◌, ◌++◌, max, IsTrue, ◌==◌, ◌||◌, Option, Some, None}
+use Rattle.std.specs.Prelude.{◌≡◌, ◌⊎◌, ℕ, ◌+◌, ◌<◌, ◌≤◌, Bool, true, false, List, [], ◌∷◌, ◌++◌, max, IsTrue, ◌==◌, ◌||◌, Option, Some, None}
 use Rattle.formula.specs.Token.{Token, ImpliesSign, OrSign, AndSign, Bar, Dot, ChoiceSign, PlusSign, StarSign}
 use Rattle.formula.specs.Syntax.{reg_tokens, reg_fits, reg_form, reg_nesting, reg_parens, Syntax, tokens, fits, form, nesting, parens, ends_in_binder, is_within_limits}
 use Rattle.formula.specs.Written.{words, reg_syntax, state_syntax, infixed, repeated, infix_token, repeat_token, joined, connective_token}
@@ -60,6 +60,10 @@ pub record IsState (level depth inside : ℕ) (s : ReadState) : Type 0 where
   pub narrow : parens (state_syntax s.syntax) ≤ inside
   pub reaches : ends_in_binder (state_syntax s.syntax) ≡ true → 3 < state_row (words s.rest.now)
   pub ended : form (state_syntax s.syntax) < state_row (words s.rest.now)
+
+-- What was read may stand before the next token in a longer formula, if that token goes on at all.
+abbrev pub MayGoOn : ReadRegular → Type 0
+MayGoOn r = let form = reg_form (reg_syntax r.syntax) in let row = reg_row (words r.rest.now) in (form < row) ⊎ ((form ≤ 5) × (row ≡ 5))
 
 -- what was read, under a postfix sign
 pub record IsRepeated (left : ReadRegular) (sign : Repeat) (r : ReadRegular) : Type 0 where

@@ -4,7 +4,8 @@ ghost use Rattle.std.specs.Prelude.{◌≡◌, ℕ, ◌<◌, List, [], length, m
 ghost use Rattle.formula.specs.Written.{words, state_syntax};
 ghost use Rattle.formula.specs.Tree.{Formula};
 ghost use Rattle.formula.specs.Fault.{operand_faults, variable_faults};
-ghost use Rattle.formula.specs.Read.{IsWhole, IsRefusal, IsRefusedBy, is_grammar_fault, is_tree_fault};
+ghost use Rattle.formula.specs.Read.{IsWhole, IsRefusal, is_tree_fault};
+ghost use Rattle.formula.specs.Misread.{IsStateMisread, IsGrammarRefusal};
 ghost use Rattle.formula.specs.Checked.{IsTreeRefusal, IsTold};
 ghost use Rattle.formula.specs.Spells.{Spells, SpellsWithin};
 ghost use Rattle.formula.specs.Closed.{closed_formula};
@@ -13,6 +14,7 @@ use crate::closed::Closed;
 use crate::error::{FormulaError, FormulaFault};
 use crate::lexer::tokens;
 use crate::meant;
+use crate::misread::Misread;
 use crate::operands::state_operands;
 use crate::room::Room;
 use crate::scope::{Binders, variables};
@@ -31,22 +33,19 @@ pub const DEEPEST: usize = 256;
 pub const MOST_PARENS: usize = 1_024;
 
 /// The formula that the tokens are, as it is written.
-fn written<'a>(
-    alloc: Global,
-    end: usize,
-    tokens: &'a [Placed<'a>],
-) -> Result<WrittenState<'a>, FormulaError>
-    ensures { MatchResult result (λ written. IsWhole (state_syntax written) (words tokens.now)) (IsRefusedBy is_grammar_fault) }
+fn written<'a>(alloc: Global, tokens: &'a [Placed<'a>]) -> Result<WrittenState<'a>, Misread>
+    ensures { MatchResult result
+        (λ written. IsWhole (state_syntax written) (words tokens.now))
+        (IsStateMisread 3 256 1024 (words tokens.now)) }
 {
     let room = Room {
         alloc,
         depth: DEEPEST,
         parens: MOST_PARENS,
-        end,
     };
     let whole = state(room, ANY_STATE, tokens)?;
     if !whole.rest.is_empty() {
-        return Err(room.unexpected(whole.rest));
+        return Err(Misread::unexpected(whole.rest));
     }
     Ok(whole.syntax)
 }
@@ -59,6 +58,24 @@ fn refusal(tokens: &[Placed<'_>], place: usize, fault: FormulaFault) -> FormulaE
     FormulaError::Fault {
         fault,
         offset: tokens[place].offset,
+    }
+}
+
+/// The refusal of tokens that are no formula, in a text of this length.
+fn grammar_refusal(tokens: &[Placed<'_>], end: usize, misread: Misread) -> FormulaError
+    requires { IsStateMisread 3 256 1024 (words tokens.now) misread }
+    ensures { IsGrammarRefusal (words tokens.now) (map (λ p. p.offset) tokens.now) end result }
+{
+    match misread {
+        Misread::Unexpected { left: 0 } => FormulaError::Fault {
+            fault: FormulaFault::Unfinished,
+            offset: end,
+        },
+        Misread::Unexpected { left } => {
+            refusal(tokens, tokens.len() - left, FormulaFault::Unexpected)
+        }
+        Misread::TooLarge { left } => refusal(tokens, tokens.len() - left, FormulaFault::TooLarge),
+        Misread::Memory => FormulaError::Memory,
     }
 }
 
@@ -91,7 +108,10 @@ pub fn parse(alloc: Global, text: &[u8]) -> Result<Closed, FormulaError>
         });
     }
     let tokens = tokens(alloc, text)?;
-    let written = written(alloc, text.len(), &tokens)?;
+    let written = match written(alloc, &tokens) {
+        Ok(written) => written,
+        Err(misread) => return Err(grammar_refusal(&tokens, text.len(), misread)),
+    };
     check(&tokens, &written)?;
     Ok(Closed::new(meant::state(alloc, &written)?))
 }
