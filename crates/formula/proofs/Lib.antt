@@ -27,3 +27,7 @@ pub mod Sorting
 pub mod Sense
 pub mod Refusals
 pub mod Misreads
+pub mod StateSpine
+pub mod StatePlaces
+pub mod StateEnds
+pub mod StateRefusals

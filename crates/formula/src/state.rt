@@ -175,11 +175,7 @@ fn modal<'a>(
 
 /// What stands after the word of a binder.
 #[cycle(state)]
-fn bound<'a>(
-    room: Room,
-    binder: Binder,
-    tokens: &'a [Placed<'a>],
-) -> Result<ReadState<'a>, Misread>
+fn bound<'a>(room: Room, binder: Binder, tokens: &'a [Placed<'a>]) -> Result<ReadState<'a>, Misread>
     requires { room.depth + 1 < 2 ^ 64 }
     ensures eaten { IfOk result (λ s. state_tokens s ≡ binder_token binder ∷ words tokens.now) }
     ensures sound { IfOk result (λ s. IsState 0 (room.depth + 1) room.parens s) }
@@ -228,11 +224,7 @@ fn unary<'a>(room: Room, tokens: &'a [Placed<'a>]) -> Result<ReadState<'a>, Misr
 
 /// The longest formula of this row of the grammar's table at the front of the tokens.
 #[cycle(state)]
-pub fn state<'a>(
-    room: Room,
-    level: u8,
-    tokens: &'a [Placed<'a>],
-) -> Result<ReadState<'a>, Misread>
+pub fn state<'a>(room: Room, level: u8, tokens: &'a [Placed<'a>]) -> Result<ReadState<'a>, Misread>
     requires { level ≤ 3 }
     ensures eaten { IfOk result (λ s. state_tokens s ≡ words tokens.now) }
     ensures sound { IfOk result (λ s. IsState level room.depth room.parens s) }
