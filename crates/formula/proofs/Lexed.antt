@@ -1,12 +1,12 @@
 -- How a text is cut into decided tokens, one after another.
-use Rattle.std.specs.Prelude.{◌≡◌, ℕ, ◌+◌, ◌<◌, ◌≤◌, suc, zero, Bool, true, false, not, ◌&&◌, List, [], ◌∷◌, ◌++◌, map, length, take, drop, IsTrue, refl, Option, Some, slice_get, if◌then◌else◌}
+use Rattle.std.specs.Prelude.{◌≡◌, ℕ, ◌+◌, ◌<◌, ◌≤◌, suc, zero, Bool, true, false, not, ◌&&◌, List, [], ◌∷◌, ◌++◌, map, length, take, drop, IsTrue, IsFalse, refl, Option, Some, slice_get, if◌then◌else◌}
 use Rattle.std.proofs.Common.{arith, sym, ◌∙◌, ap, subst, append_assoc, true≢false, zero-add}
-use Rattle.std.proofs.lemmas.List.{append-nil, map-append, drop_all, length-take-le, take-append-drop}
+use Rattle.std.proofs.lemmas.List.{append-nil, map-append, drop_all, drop-drop, length-take-le, take-append-drop}
 use Rattle.std.proofs.lemmas.Bool.Decides.{nat_tests}
 use Rattle.lts.specs.Text.{is_letter}
-use Rattle.formula.specs.Token.{Token, Name, Reserved, Atom, TrueWord, FalseWord, MuWord, NuWord, TauWord, ImpliesSign, OrSign, AndSign, Bar, NotSign, Less, Greater, OpenBox, CloseBox, Open, Close, Dot, ChoiceSign, PlusSign, StarSign, spelling, IsToken, is_free_name, Piece, Word, text_of, Cuts, tokens_of, offsets_from, is_decided, is_after_postfix, sign_is_decided, is_reserved, token_ends}
+use Rattle.formula.specs.Token.{Token, Name, Reserved, Atom, TrueWord, FalseWord, MuWord, NuWord, TauWord, ImpliesSign, OrSign, AndSign, Bar, NotSign, Less, Greater, OpenBox, CloseBox, Open, Close, Dot, ChoiceSign, PlusSign, StarSign, spelling, IsToken, is_free_name, Piece, Word, text_of, Cuts, tokens_of, offsets_from, is_decided, is_after_postfix, sign_is_decided, is_reserved, begins, token_ends}
 use Rattle.formula.specs.Written.{token_of, words}
-use Rattle.formula.specs.Cutting.{IsFront, IsGap, IsFirst, IsDecidedBy, is_postfix_before, Heads, IsCut, IsLexed}
+use Rattle.formula.specs.Cutting.{IsFront, IsGap, IsFirst, IsDecidedBy, is_postfix_before, begins_gap, Heads, IsCut, IsLexed}
 use Rattle.formula.specs.declared.token.Token.{Token as Lexeme}
 use Rattle.formula.specs.declared.token.Token.TheVariants as lexeme
 use Rattle.formula.specs.declared.token.Placed.{Placed}
@@ -105,7 +105,7 @@ get-drop zero xs = refl
 get-drop (suc n) [] = refl
 get-drop (suc n) (x ∷ xs) = get-drop n xs
 
-front-length : (ps : List Piece) (n : ℕ) (text : List ℕ) → IsFront ps n text → length (text_of ps) ≡ n
+pub front-length : (ps : List Piece) (n : ℕ) (text : List ℕ) → IsFront ps n text → length (text_of ps) ≡ n
 front-length ps n text f = ap length (sym f.joined) ∙ length-take-le n text f.within
 
 -- the first byte of what a text begins with
@@ -119,10 +119,11 @@ heads_first t u ts n text f a free =
     let w = first_byte n text (spelling t ++ []) f.some f.front.within f.front.joined in
     (w.0, w.1, w.2, w.3, a.spelled ∙ sym (append-nil (spelling t)) ∙ w.4, a.valid f.front.cut.0, free)
 
-pub cut-none : (text : List ℕ) (n : ℕ) (placed : List Placed) → placed ≡ [] → IsGap n text → IsCut text n placed
-cut-none text n placed none g = record {
+pub cut-none : (text : List ℕ) (n : ℕ) (placed : List Placed) → placed ≡ [] → IsGap n text → IsFalse (begins begins_gap (drop n text)) → IsCut text n placed
+cut-none text n placed none g over = record {
   pieces = g.pieces;
   front = g.front;
+  over = over;
   spelled = g.wordless ∙ ap words (sym none);
   places = offsets-none 0 g.pieces g.wordless ∙ ap (λ ps. map (λ p. p.offset) ps) (sym none);
   decided = λ ts decided heads. subst (λ (us : List Token). IsTrue (is_decided (us ++ ts))) (sym g.wordless) decided;
@@ -130,8 +131,8 @@ cut-none text n placed none g = record {
 
 -- one more token, and the blanks and comments after it
 pub cut-more : (text : List ℕ) (at : ℕ) (placed placed' : List Placed) (t : Token) (p : Placed) (n gap : ℕ) → IsCut text at placed → IsFirst t n (drop at text) → IsGap gap (drop (at + n) text)
-    → IsDecidedBy t (slice_get text (at + n + gap)) (token_of p.token) → p.offset ≡ at → placed' ≡ placed ++ p ∷ [] → IsCut text (at + n + gap) placed'
-cut-more text at placed placed' t p n gap c f g d place e =
+    → IsFalse (begins begins_gap (drop gap (drop (at + n) text))) → IsDecidedBy t (slice_get text (at + n + gap)) (token_of p.token) → p.offset ≡ at → placed' ≡ placed ++ p ∷ [] → IsCut text (at + n + gap) placed'
+cut-more text at placed placed' t p n gap c f g over d place e =
     let u = token_of p.token in
     let next = at + n + gap in
     let a = alike t u (slice_get text next) d in
@@ -149,6 +150,7 @@ cut-more text at placed placed' t p n gap c f g d place e =
     record {
       pieces = pieces ++ g.pieces;
       front = front-append pieces g.pieces (at + n) gap text front g.front;
+      over = subst (λ (ts : List ℕ). IsFalse (begins begins_gap ts)) (drop-drop gap (at + n) text) over;
       spelled = all_words ∙ sym (ap words e ∙ map-append f_token placed (p ∷ []));
       places = offsets-append 0 pieces g.pieces ∙ ap (λ os. offsets_from 0 pieces ++ os) (offsets-none (0 + length (text_of pieces)) g.pieces g.wordless) ∙ append-nil (offsets_from 0 pieces) ∙ offsets_so
           ∙ sym (ap (λ ps. map f_offset ps) e ∙ map-append f_offset placed (p ∷ []));

@@ -3,10 +3,15 @@ pub mod States
 pub mod Cuts
 pub mod Gaps
 pub mod Lexed
+pub mod Tokenless
 pub mod RegularUnique
 pub mod Unambiguous
 pub mod Pieces
 pub mod OneText
+pub mod OneCut
+pub mod OneFront
+pub mod Unreserved
+pub mod OneFault
 pub mod Telling
 pub mod Counted
 pub mod Fixpoints
@@ -25,6 +30,8 @@ pub mod Faults
 pub mod Scopes
 pub mod Sorting
 pub mod Sense
+pub mod Faultless
+pub mod NoFault
 pub mod Refusals
 pub mod Misreads
 pub mod StateSpine

@@ -121,7 +121,7 @@ one_of bytes [] P h each = cc
 one_of bytes (name ∷ names) P h each =
     either_true (bytes_eq bytes name) (list_any (bytes_eq bytes) names) (P bytes) h (λ e. subst P (sym (bytes_same bytes name e)) each.0) (λ e. one_of bytes names P e each.1)
 
-reserved_word : (bytes : List ℕ) → list_any (bytes_eq bytes) reserved_words ≡ true → (is_name bytes ≡ true) × (word_of bytes ≡ Reserved bytes)
+pub reserved_word : (bytes : List ℕ) → list_any (bytes_eq bytes) reserved_words ≡ true → (is_name bytes ≡ true) × (word_of bytes ≡ Reserved bytes)
 reserved_word bytes h =
     one_of bytes reserved_words (λ bytes. (is_name bytes ≡ true) × (word_of bytes ≡ Reserved bytes)) h ((refl, refl), ((refl, refl), ((refl, refl), ((refl, refl), ((refl, refl), ((refl, refl), tt))))))
 
@@ -129,7 +129,7 @@ or_false : (a b : Bool) → (a || b) ≡ false → (a ≡ false) × (b ≡ false
 or_false true b h = cc
 or_false false b h = (refl, h)
 
-free_name : (bytes : List ℕ) → is_free_name bytes ≡ true → (is_name bytes ≡ true) × (word_of bytes ≡ Name bytes)
+pub free_name : (bytes : List ℕ) → is_free_name bytes ≡ true → (is_name bytes ≡ true) × (word_of bytes ≡ Name bytes)
 free_name bytes h =
     let x = and_parts (is_name bytes && not (list_any (bytes_eq bytes) words)) (not (list_any (bytes_eq bytes) reserved_words)) h in
     let y = and_parts (is_name bytes) (not (list_any (bytes_eq bytes) words)) x.0 in
@@ -223,7 +223,7 @@ decided_again PlusSign ts h = ap (λ b. if b then PlusSign else ChoiceSign) h
 decided_again ChoiceSign ts h = ap (λ b. if b then PlusSign else ChoiceSign) (not-true (is_after_postfix ts) h)
 decided_again t ts h = refl
 
-heads_same : (t u : Token) (ts us : List Token) → t ∷ ts ≡ u ∷ us → (t ≡ u) × (ts ≡ us)
+pub heads_same : (t u : Token) (ts us : List Token) → t ∷ ts ≡ u ∷ us → (t ≡ u) × (ts ≡ us)
 heads_same t u ts us e = (cc, cc)
 
 -- Each `+` is what the next token makes it.

@@ -100,16 +100,16 @@ variable_free name (binder ∷ scope) at e =
       | false ↦ variable_free name scope at
     ] e
 
-from_map : {A B : Type 0} (f : A → B) (o : Option A) (b : B) → option_map f o ≡ Some b → (a : A) × (o ≡ Some a) × (f a ≡ b)
+pub from_map : {A B : Type 0} (f : A → B) (o : Option A) (b : B) → option_map f o ≡ Some b → (a : A) × (o ≡ Some a) × (f a ≡ b)
 from_map f (Some a) b e = (a, refl, cc)
 from_map f None b e = cc
 
-from_two : {A B C : Type 0} (f : A → B → C) (o : Option A) (p : Option B) (c : C) → option_two f o p ≡ Some c → (a : A) × (b : B) × (o ≡ Some a) × (p ≡ Some b) × (f a b ≡ c)
+pub from_two : {A B C : Type 0} (f : A → B → C) (o : Option A) (p : Option B) (c : C) → option_two f o p ≡ Some c → (a : A) × (b : B) × (o ≡ Some a) × (p ≡ Some b) × (f a b ≡ c)
 from_two f (Some a) (Some b) c e = (a, b, refl, refl, cc)
 from_two f (Some a) None c e = cc
 from_two f None p c e = cc
 
-some_same : {A : Type 0} (a b : A) → Some a ≡ Some b → a ≡ b
+pub some_same : {A : Type 0} (a b : A) → Some a ≡ Some b → a ≡ b
 some_same a b e = cc
 
 -- a formula without faults of variables is admitted

@@ -1,11 +1,16 @@
 -- How a text is cut from its front on.
-use Rattle.std.specs.Prelude.{◌≡◌, ℕ, ◌<◌, ◌≤◌, Bool, false, not, List, [], ◌∷◌, ◌++◌, map, length, take, drop, IsTrue, Option, Some, None, ◌==◌, ◌||◌, if◌then◌else◌}
+use Rattle.std.specs.Prelude.{◌≡◌, ℕ, ◌<◌, ◌≤◌, Bool, false, not, List, [], ◌∷◌, ◌++◌, map, length, take, drop, IsTrue, IsFalse, Option, Some, None, slice_get, ◌==◌, ◌&&◌, ◌||◌, if◌then◌else◌}
 use Rattle.std.specs.List.{list_any}
 use Rattle.std.specs.Str.{bytes_eq}
 use Rattle.lts.specs.Text.{is_name, is_name_byte}
-use Rattle.formula.specs.Token.{Token, ChoiceSign, PlusSign, spelling, reserved_words, IsToken, Piece, Word, begins, token_ends, text_of, Cuts, tokens_of, offsets_from, is_decided, is_reserved}
+use Rattle.formula.specs.Token.{Token, Reserved, Atom, ChoiceSign, PlusSign, spelling, reserved_words, IsToken, Piece, Word, begins, token_ends, text_of, Cuts, tokens_of, offsets_from, is_decided, is_reserved}
 use Rattle.formula.specs.Written.{words}
+use Rattle.formula.specs.Fault.{TokenFault}
 use Rattle.formula.specs.declared.token.Placed.{Placed}
+use Rattle.formula.specs.declared.error.FormulaFault.{FormulaFault}
+use Rattle.formula.specs.declared.error.FormulaFault.TheVariants as fault
+use Rattle.formula.specs.declared.error.FormulaError.{FormulaError}
+use Rattle.formula.specs.declared.error.FormulaError.TheVariants as refused
 
 -- the first n bytes of the text are these pieces
 pub record IsFront (pieces : List Piece) (n : ℕ) (text : List ℕ) : Type 0 where
@@ -18,6 +23,10 @@ pub record IsGap (n : ℕ) (text : List ℕ) : Type 0 where
   pub pieces : List Piece
   pub front : IsFront pieces n text
   pub wordless : tokens_of pieces ≡ []
+
+-- a blank or a comment begins with this byte
+abbrev pub begins_gap : ℕ → Bool
+begins_gap b = b == 32 || b == 9 || b == 13 || b == 10 || b == 37
 
 -- the first n bytes of the text are this token
 pub record IsFirst (token : Token) (n : ℕ) (text : List ℕ) : Type 0 where
@@ -38,11 +47,46 @@ pub record IsDouble (byte : ℕ) (next : Option ℕ) (token : Token) : Type 0 wh
   pub valid : IsToken token
   pub ends : (rest : List ℕ) → IsTrue (token_ends token rest)
 
+-- these bytes are a sign of two bytes
+abbrev pub is_double : ℕ → Option ℕ → Bool
+is_double b None = false
+is_double b (Some c) = (b == 61 && c == 62) || (b == 124 && c == 124) || (b == 38 && c == 38)
+
+-- this byte is a sign of one byte
+abbrev pub is_single : ℕ → Bool
+is_single b = b == 124 || b == 33 || b == 60 || b == 62 || b == 91 || b == 93 || b == 40 || b == 41 || b == 46 || b == 43 || b == 42
+
 -- the token that a name is, if it is not reserved
 pub record IsNamed (name : List ℕ) (token : Token) : Type 0 where
   pub spelled : spelling token ≡ name
   pub valid : IsTrue (is_name name) → list_any (bytes_eq name) reserved_words ≡ false → IsToken token
   pub ends : (rest : List ℕ) → token_ends token rest ≡ not (begins is_name_byte rest)
+
+-- the token stands at the front of the text, and ends there
+pub record Stands (token : Token) (text : List ℕ) : Type 0 where
+  pub rest : List ℕ
+  pub joined : text ≡ spelling token ++ rest
+  pub valid : IsToken token
+  pub ends : IsTrue (token_ends token rest)
+
+-- no quoted atom stands at the front
+abbrev pub IsAtomless : List ℕ → FormulaFault → Type 0
+IsAtomless text found = (found ≡ fault.NoToken) × ((bytes : List ℕ) → Stands (Atom bytes) text → ⊥)
+
+-- no sign stands at the front
+abbrev pub IsSignless : List ℕ → FormulaFault → Type 0
+IsSignless [] found = ⊥
+IsSignless (b ∷ text) found = (found ≡ fault.NoToken) × IsFalse (is_single b) × IsFalse (is_double b (slice_get text 0))
+
+-- a reserved word stands at the front
+abbrev pub BeginsReserved : List ℕ → FormulaFault → Type 0
+BeginsReserved text found = (found ≡ fault.ReservedWord) × (word : List ℕ) × Stands (Reserved word) text
+
+-- no token stands at the front; or a reserved word
+abbrev pub IsTokenless : List ℕ → FormulaFault → Type 0
+IsTokenless text fault.NoToken = (token : Token) → Stands token text → ⊥
+IsTokenless text fault.ReservedWord = (word : List ℕ) × Stands (Reserved word) text
+IsTokenless text _ = ⊥
 
 -- whether this byte begins a token before which a `+` is the postfix sign
 abbrev pub is_postfix_before : Option ℕ → Bool
@@ -54,10 +98,11 @@ abbrev pub Heads : List Token → List ℕ → Type 0
 Heads [] text = text ≡ []
 Heads (token ∷ tokens) text = (b : ℕ) × (bytes more : List ℕ) × (text ≡ b ∷ more) × (spelling token ≡ b ∷ bytes) × IsToken token × (is_reserved token ≡ false)
 
--- the text up to here is these tokens, whatever decided tokens follow
+-- the text up to here is these tokens, whatever decided tokens follow; no blank and no comment stands here
 pub record IsCut (text : List ℕ) (n : ℕ) (placed : List Placed) : Type 0 where
   pub pieces : List Piece
   pub front : IsFront pieces n text
+  pub over : IsFalse (begins begins_gap (drop n text))
   pub spelled : tokens_of pieces ≡ words placed
   pub places : offsets_from 0 pieces ≡ map (λ p. p.offset) placed
   pub decided : (tokens : List Token) → IsTrue (is_decided tokens) → Heads tokens (drop n text) → IsTrue (is_decided (tokens_of pieces ++ tokens))
@@ -70,6 +115,11 @@ pub record IsLexed (text : List ℕ) (placed : List Placed) : Type 0 where
   pub decided : IsTrue (is_decided (tokens_of pieces))
   pub spelled : tokens_of pieces ≡ words placed
   pub places : offsets_from 0 pieces ≡ map (λ p. p.offset) placed
+
+-- a refusal names the first byte where no token begins, or the first reserved word
+abbrev pub IsTokenRefusal : List ℕ → FormulaError → Type 0
+IsTokenRefusal text (refused.Fault found offset) = TokenFault text found offset
+IsTokenRefusal text refused.Memory = Unit {0}
 
 -- a `+` is the postfix sign before such a byte, else the sign of choice; other tokens are as they are
 abbrev pub IsDecidedBy : Token → Option ℕ → Token → Type 0

@@ -3,6 +3,9 @@ use Rattle.std.specs.Prelude.{◌≡◌, ℕ, ◌≤◌, List, length}
 use Rattle.formula.specs.Tree.{Formula}
 use Rattle.formula.specs.Canon.{canon}
 use Rattle.formula.specs.Spells.{Spells, SpellsWithin}
+use Rattle.formula.specs.Admitted.{IsAdmitted}
+use Rattle.formula.specs.Fault.{HasFault}
+use Rattle.formula.specs.declared.error.FormulaFault.{FormulaFault}
 
 -- A text spells at most one formula.
 abbrev pub OneFormula : Type 0
@@ -15,3 +18,11 @@ CanonSpells = (text : List ℕ) (f : Formula) → Spells text f → Spells (cano
 -- So it is within the limits, where it has at most 1,048,576 bytes: it nests like every text of the formula, and opens no more parentheses.
 abbrev pub CanonSpellsWithin : Type 0
 CanonSpellsWithin = (text : List ℕ) (f : Formula) → SpellsWithin text f → length (canon f) ≤ 1048576 → SpellsWithin (canon f) f
+
+-- A text that spells an admitted formula within the limits has no deciding fault.
+abbrev pub NoFault : Type 0
+NoFault = (text : List ℕ) (f : Formula) (fault : FormulaFault) (place : ℕ) → SpellsWithin text f → IsAdmitted f → HasFault text fault place → ⊥
+
+-- A text has at most one deciding fault, at one place.
+abbrev pub OneFault : Type 0
+OneFault = (text : List ℕ) (f g : FormulaFault) (p q : ℕ) → HasFault text f p → HasFault text g q → (f ≡ g) × (p ≡ q)

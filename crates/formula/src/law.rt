@@ -1,6 +1,6 @@
 // What holds of all texts of formulas.
 
-ghost use Rattle.formula.specs.Laws.{OneFormula, CanonSpells, CanonSpellsWithin};
+ghost use Rattle.formula.specs.Laws.{OneFormula, CanonSpells, CanonSpellsWithin, NoFault, OneFault};
 
 /// A text spells at most one formula: the grammar is unambiguous.
 pub fn one_formula()
@@ -16,4 +16,14 @@ pub fn canon_spells()
 /// is not too long. So `parse` reads the formula that was printed from it, memory aside.
 pub fn canon_spells_within()
     ensures { CanonSpellsWithin }
+{}
+
+/// A text that spells an admitted formula within the limits has no deciding fault.
+pub fn no_fault()
+    ensures { NoFault }
+{}
+
+/// A text has at most one deciding fault, at one place.
+pub fn one_fault()
+    ensures { OneFault }
 {}

@@ -1,14 +1,14 @@
 // Cuts a formula's text into tokens, blanks and comments.
 
-ghost use Rattle.std.specs.Prelude.{◌≡◌, ℕ, ◌+◌, ◌-◌, ◌<◌, ◌≤◌, Bool, true, false, not, List, [], ◌∷◌, length, take, drop, IsTrue, IfOk, IfSome, MatchOption, MatchResult, Option, slice_index, slice_get, if◌then◌else◌, ◌==◌, ◌&&◌, ◌||◌};
+ghost use Rattle.std.specs.Prelude.{◌≡◌, ℕ, ◌+◌, ◌-◌, ◌<◌, ◌≤◌, Bool, true, false, not, List, [], ◌∷◌, length, take, drop, IsTrue, IsFalse, MatchOption, MatchResult, Option, slice_index, slice_get, if◌then◌else◌, ◌==◌, ◌&&◌, ◌||◌};
 ghost use Rattle.std.specs.List.{take_while, list_any};
 ghost use Rattle.std.specs.Str.{bytes_eq};
 ghost use Rattle.lts.specs.Text.{is_letter as is_letter_of, is_name_byte as is_name_byte_of, is_name};
 ghost use Rattle.lts.specs.Label.{is_label_byte as is_label_byte_of};
-ghost use Rattle.formula.specs.Token.{ChoiceSign, PlusSign, reserved_words};
+ghost use Rattle.formula.specs.Token.{ChoiceSign, PlusSign, reserved_words, begins};
 ghost use Rattle.formula.specs.Written.{token_of};
 ghost use Rattle.formula.specs.Read.{IsRefusedBy, is_token_fault};
-ghost use Rattle.formula.specs.Cutting.{IsGap, IsFirst, IsSingle, IsDouble, IsNamed, IsCut, IsLexed, IsDecidedBy, is_postfix_before};
+ghost use Rattle.formula.specs.Cutting.{IsGap, IsFirst, IsSingle, IsDouble, IsNamed, IsCut, IsLexed, IsDecidedBy, IsAtomless, IsSignless, BeginsReserved, IsTokenless, IsTokenRefusal, begins_gap, is_double, is_single, is_postfix_before};
 
 use crate::error::{FormulaError, FormulaFault};
 use crate::token::{Placed, Token};
@@ -64,7 +64,8 @@ fn label_len(text: &[u8]) -> usize
 
 /// How many bytes of blanks and comments stand at the front.
 fn gap_len(text: &[u8]) -> usize
-    ensures { IsGap result text.now }
+    ensures gap { IsGap result text.now }
+    ensures over { IsFalse (begins begins_gap (drop result text.now)) }
 {
     let mut at = 0;
     'gap: while at < text.len() {
@@ -120,7 +121,7 @@ fn word(name: &[u8]) -> Token<'_>
 fn atom(text: &[u8]) -> Result<(Token<'_>, usize), FormulaFault>
     requires some { 0 < length text.now }
     requires quoted { slice_index text.now 0 ≡ 34 }
-    ensures { MatchResult result (λ (token, len). IsFirst (token_of token) len text.now) (λ fault. IsTrue (is_token_fault fault)) }
+    ensures { MatchResult result (λ (token, len). IsFirst (token_of token) len text.now) (IsAtomless text.now) }
 {
     let inside = &text[1..];
     let len = label_len(inside);
@@ -132,7 +133,7 @@ fn atom(text: &[u8]) -> Result<(Token<'_>, usize), FormulaFault>
 
 /// The sign of two bytes that begins with this byte.
 fn double_sign(first: u8, second: Option<u8>) -> Option<Token<'static>>
-    ensures { MatchOption result (first ≡ 124 → second ≡ Some 124 → ⊥) (λ token. IsDouble first second (token_of token)) }
+    ensures { MatchOption result (IsFalse (is_double first second)) (λ token. IsDouble first second (token_of token)) }
 {
     match (first, second) {
         (b'=', Some(b'>')) => Some(Token::ImpliesSign),
@@ -144,7 +145,7 @@ fn double_sign(first: u8, second: Option<u8>) -> Option<Token<'static>>
 
 /// The sign that is this byte; a `+` is taken as the sign of choice.
 fn single_sign(byte: u8) -> Option<Token<'static>>
-    ensures { IfSome result (λ token. IsSingle byte (token_of token)) }
+    ensures { MatchOption result (IsFalse (is_single byte)) (λ token. IsSingle byte (token_of token)) }
 {
     match byte {
         b'|' => Some(Token::Bar),
@@ -165,7 +166,7 @@ fn single_sign(byte: u8) -> Option<Token<'static>>
 /// The sign at the front of a text, and its length.
 fn sign(text: &[u8]) -> Result<(Token<'_>, usize), FormulaFault>
     requires { 0 < length text.now }
-    ensures { MatchResult result (λ (token, len). IsFirst (token_of token) len text.now) (λ fault. IsTrue (is_token_fault fault)) }
+    ensures { MatchResult result (λ (token, len). IsFirst (token_of token) len text.now) (IsSignless text.now) }
 {
     if let Some(token) = double_sign(text[0], text.get(1).copied()) {
         return Ok((token, 2));
@@ -180,7 +181,7 @@ fn sign(text: &[u8]) -> Result<(Token<'_>, usize), FormulaFault>
 fn named(text: &[u8]) -> Result<(Token<'_>, usize), FormulaFault>
     requires some { 0 < length text.now }
     requires letter { IsTrue (is_letter_of (slice_index text.now 0)) }
-    ensures { MatchResult result (λ (token, len). IsFirst (token_of token) len text.now) (λ fault. IsTrue (is_token_fault fault)) }
+    ensures { MatchResult result (λ (token, len). IsFirst (token_of token) len text.now) (BeginsReserved text.now) }
 {
     let len = name_len(text);
     let name = &text[..len];
@@ -193,7 +194,7 @@ fn named(text: &[u8]) -> Result<(Token<'_>, usize), FormulaFault>
 /// The token at the front of a text, and its length; a `+` is taken as the sign of choice.
 fn first_token(text: &[u8]) -> Result<(Token<'_>, usize), FormulaFault>
     requires { 0 < length text.now }
-    ensures { MatchResult result (λ (token, len). IsFirst (token_of token) len text.now) (λ fault. IsTrue (is_token_fault fault)) }
+    ensures { MatchResult result (λ (token, len). IsFirst (token_of token) len text.now) (IsTokenless text.now) }
 {
     if text[0] == b'"' {
         atom(text)
@@ -239,7 +240,7 @@ fn decided<'a>(token: Token<'a>, next: Option<u8>) -> Token<'a>
 
 /// The tokens of a text.
 pub fn tokens<'a>(alloc: Global, text: &'a [u8]) -> Result<Vec<Placed<'a>>, FormulaError>
-    ensures { MatchResult result (λ v. IsLexed text.now v.items) (IsRefusedBy is_token_fault) }
+    ensures { MatchResult result (λ v. IsLexed text.now v.items) (λ e. IsRefusedBy is_token_fault e × IsTokenRefusal text.now e) }
 {
     let mut tokens = Vec::new(alloc);
     let mut at = gap_len(text);

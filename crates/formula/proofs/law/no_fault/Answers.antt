@@ -1,0 +1,5 @@
+use Rattle.formula.proofs.NoFault as none
+use Rattle.formula.proofs.law.no_fault.Goals as goal
+
+pub returns : goal.returns
+returns c = none.no_fault
