@@ -25,10 +25,10 @@ use Rattle.formula.proofs.StatePlaces.{UnaryAs, after-not, in-group, at-front, a
 use Rattle.formula.proofs.StateEnds.{nothing-left, no-word, group-unclosed, modal-unclosed, sign-too-large}
 
 -- what a `?` passes on
-pub passed-on : {T : Type 0} (result : Result T Misread) (e : Misread) (P : Misread → Type 0) → IsErrAnd result (λ x. x ≡ e) → P e → IfErr result P
-passed-on {T = T} result e P h p =
+pub passed-on : {T E : Type 0} (result : Result T E) (e : E) (P : E → Type 0) → IsErrAnd result (λ x. x ≡ e) → P e → IfErr result P
+passed-on {T = T} {E = E} result e P h p =
     let r = err_from_is_err_and result h in
-    subst (λ (r : Result T Misread). IfErr r P) (sym (r.1 ∙ ap Err r.2)) p
+    subst (λ (r : Result T E). IfErr r P) (sym (r.1 ∙ ap Err r.2)) p
 
 pub within-not : (depth inside : ℕ) (ts : List Token) (e : Misread) → IsStateMisread 0 depth inside ts e → IsStateMisread 0 (depth + 1) inside (NotSign ∷ ts) e
 within-not depth inside ts e h =
@@ -108,7 +108,7 @@ within-sign mark level depth inside left first rest e is front token lower room 
     subst (λ ts. IsStateMisread level depth inside ts e) (append_assoc (tokens s) (connective_token mark ∷ []) (words rest) ∙ ap (λ ts. tokens s ++ ts) (sym whole))
     (misread-within (BeginsState level) (StandsState level) (BeginsState (connective_row mark)) (StandsState (connective_row mark)) depth inside (depth - 1) inside (tokens s ++ connective_token mark ∷ []) (words rest) e place h)
 
-sized : (placed : List Placed) → length (words placed) ≡ length placed
+pub sized : (placed : List Placed) → length (words placed) ≡ length placed
 sized placed = length-map placed (λ p. token_of p.token)
 
 -- a sign whose left operand nests as deep as it may

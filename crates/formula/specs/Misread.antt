@@ -93,6 +93,18 @@ IsRegularMisread level depth inside ts e = IsMisread (BeginsRegular level) (Stan
 abbrev pub IsStateMisread : (level depth inside : ℕ) → List Token → Misread → Type 0
 IsStateMisread level depth inside ts e = IsMisread (BeginsState level) (StandsState level) depth inside ts e
 
+-- a formula that is these tokens
+pub record SpellsTokens (nested opened : ℕ) (ts : List Token) : Type 0 where
+  pub syntax : Syntax
+  pub grammatical : IsTrue (fits syntax)
+  pub nests : nesting syntax ≡ nested
+  pub opens : parens syntax ≡ opened
+  pub spelled : tokens syntax ≡ ts
+
+-- why the tokens are no formula within the limits
+abbrev pub IsWholeMisread : List Token → Misread → Type 0
+IsWholeMisread ts e = IsMisread (BeginsState 3) SpellsTokens 256 1024 ts e
+
 -- this token, which had to come next, doesn't
 abbrev pub IsMissing : Token → List Token → Misread → Type 0
 IsMissing token ts e = (e ≡ misread.Unexpected (length ts)) × ((more : List Token) → ts ≡ token ∷ more → ⊥)

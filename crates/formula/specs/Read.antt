@@ -4,7 +4,6 @@ use Rattle.formula.specs.Token.{Token, Name, TrueWord, FalseWord, ImpliesSign, O
 use Rattle.formula.specs.Syntax.{reg_tokens, reg_fits, reg_form, reg_nesting, reg_parens, Syntax, tokens, fits, form, nesting, parens, ends_in_binder, is_within_limits}
 use Rattle.formula.specs.Written.{words, reg_syntax, state_syntax, infixed, repeated, infix_token, repeat_token, joined, connective_token}
 use Rattle.formula.specs.declared.error.FormulaFault.{FormulaFault}
-use Rattle.formula.specs.declared.error.FormulaFault.TheVariants as fault
 use Rattle.formula.specs.declared.error.FormulaError.{FormulaError}
 use Rattle.formula.specs.declared.error.FormulaError.TheVariants as refused
 use Rattle.formula.specs.declared.written.Infix.{Infix}
@@ -123,28 +122,3 @@ pub record IsWhole (s : Syntax) (ts : List Token) : Type 0 where
 abbrev pub IsRefusal : FormulaFault → Option ℕ → FormulaError → Type 0
 IsRefusal fault place (refused.Fault other offset) = (other ≡ fault) × (place ≡ Some offset)
 IsRefusal fault place refused.Memory = ⊥
-
--- no token begins, or a reserved word stands
-abbrev pub is_token_fault : FormulaFault → Bool
-is_token_fault fault.NoToken = true
-is_token_fault fault.ReservedWord = true
-is_token_fault _ = false
-
--- the tokens are no formula, or none within the limits
-abbrev pub is_grammar_fault : FormulaFault → Bool
-is_grammar_fault fault.Unexpected = true
-is_grammar_fault fault.Unfinished = true
-is_grammar_fault fault.TooLarge = true
-is_grammar_fault _ = false
-
--- an operand or a variable
-abbrev pub is_tree_fault : FormulaFault → Bool
-is_tree_fault fault.Unbound = true
-is_tree_fault fault.OddNegations = true
-is_tree_fault fault.NotAnAction = true
-is_tree_fault _ = false
-
--- a refusal for such a fault, or for memory
-abbrev pub IsRefusedBy : (FormulaFault → Bool) → FormulaError → Type 0
-IsRefusedBy test (refused.Fault fault offset) = IsTrue (test fault)
-IsRefusedBy test refused.Memory = Unit {0}

@@ -3,10 +3,11 @@
 ghost use Rattle.std.specs.Prelude.{◌≡◌, ℕ, ◌<◌, List, [], length, map, IfOk, IfErr, MatchResult, slice_get};
 ghost use Rattle.formula.specs.Written.{words, state_syntax};
 ghost use Rattle.formula.specs.Tree.{Formula};
-ghost use Rattle.formula.specs.Fault.{operand_faults, variable_faults};
-ghost use Rattle.formula.specs.Read.{IsWhole, IsRefusal, is_tree_fault};
-ghost use Rattle.formula.specs.Misread.{IsStateMisread, IsGrammarRefusal};
-ghost use Rattle.formula.specs.Checked.{IsTreeRefusal, IsTold};
+ghost use Rattle.formula.specs.Fault.{HasFault, operand_faults, variable_faults};
+ghost use Rattle.formula.specs.Read.{IsWhole, IsRefusal};
+ghost use Rattle.formula.specs.Misread.{IsWholeMisread, IsGrammarRefusal};
+ghost use Rattle.formula.specs.Admitted.{IsAdmitted};
+ghost use Rattle.formula.specs.Checked.{IsTreeRefusal, IsTold, NamesOnly};
 ghost use Rattle.formula.specs.Spells.{Spells, SpellsWithin};
 ghost use Rattle.formula.specs.Closed.{closed_formula};
 
@@ -36,7 +37,7 @@ pub const MOST_PARENS: usize = 1_024;
 fn written<'a>(alloc: Global, tokens: &'a [Placed<'a>]) -> Result<WrittenState<'a>, Misread>
     ensures { MatchResult result
         (λ written. IsWhole (state_syntax written) (words tokens.now))
-        (IsStateMisread 3 256 1024 (words tokens.now)) }
+        (IsWholeMisread (words tokens.now)) }
 {
     let room = Room {
         alloc,
@@ -63,7 +64,7 @@ fn refusal(tokens: &[Placed<'_>], place: usize, fault: FormulaFault) -> FormulaE
 
 /// The refusal of tokens that are no formula, in a text of this length.
 fn grammar_refusal(tokens: &[Placed<'_>], end: usize, misread: Misread) -> FormulaError
-    requires { IsStateMisread 3 256 1024 (words tokens.now) misread }
+    requires { IsWholeMisread (words tokens.now) misread }
     ensures { IsGrammarRefusal (words tokens.now) (map (λ p. p.offset) tokens.now) end result }
 {
     match misread {
@@ -99,7 +100,13 @@ fn check(tokens: &[Placed<'_>], written: &WrittenState<'_>) -> Result<(), Formul
 pub fn parse(alloc: Global, text: &[u8]) -> Result<Closed, FormulaError>
     ensures spelled { IfOk result (λ f. SpellsWithin text.now (closed_formula f)) }
     ensures only { IfOk result (λ f. (other : Formula) → Spells text.now other → other ≡ closed_formula f) }
-    ensures tree { IfErr result (λ e. IsTold is_tree_fault text.now e) }
+    // A text that spells an admitted formula within the limits is refused for want of memory alone.
+    ensures complete { IfErr result (λ e. (f : Formula) → SpellsWithin text.now f → IsAdmitted f → e ≡ FormulaError.Memory) }
+    // A text with a deciding fault is never answered, and no other fault or place is named.
+    ensures none { IfOk result (λ _. (fault : FormulaFault) (place : ℕ) → HasFault text.now fault place → ⊥) }
+    ensures exact { IfErr result (λ e. (fault : FormulaFault) (place : ℕ) → HasFault text.now fault place → NamesOnly fault place e) }
+    // A fault that is named is the one that decides.
+    ensures fault { IfErr result (IsTold text.now) }
 {
     if text.len() > LONGEST_TEXT {
         return Err(FormulaError::Fault {
