@@ -4,6 +4,10 @@ pub mod Cuts
 pub mod Gaps
 pub mod Lexed
 pub mod RegularUnique
+pub mod RegularSpine
+pub mod RegularPlaces
+pub mod RegularEnds
+pub mod RegularRefusals
 pub mod Unambiguous
 pub mod Pieces
 pub mod OneText

@@ -1,6 +1,6 @@
 -- What a parser has read, and how far what follows lets it go on.
 use Rattle.std.specs.Prelude.{◌≡◌, ◌⊎◌, ℕ, ◌+◌, ◌<◌, ◌≤◌, Bool, true, false, List, [], ◌∷◌, ◌++◌, max, IsTrue, ◌==◌, ◌||◌, Option, Some, None}
-use Rattle.formula.specs.Token.{Token, ImpliesSign, OrSign, AndSign, Bar, Dot, ChoiceSign, PlusSign, StarSign}
+use Rattle.formula.specs.Token.{Token, Atom, TrueWord, FalseWord, TauWord, ImpliesSign, OrSign, AndSign, Bar, Dot, ChoiceSign, PlusSign, StarSign}
 use Rattle.formula.specs.Syntax.{reg_tokens, reg_fits, reg_form, reg_nesting, reg_parens, Syntax, tokens, fits, form, nesting, parens, ends_in_binder, is_within_limits}
 use Rattle.formula.specs.Written.{words, reg_syntax, state_syntax, infixed, repeated, infix_token, repeat_token, joined, connective_token}
 use Rattle.formula.specs.declared.error.FormulaFault.{FormulaFault}
@@ -81,10 +81,18 @@ IsSuffix token (Some (suffix.Infix sign)) = token ≡ infix_token sign
 IsSuffix token (Some (suffix.Repeat sign)) = token ≡ repeat_token sign
 IsSuffix token None = (more : List Token) → IsTrue (reg_row (token ∷ more) == 0 || reg_row (token ∷ more) == 8)
 
+-- whether the token is an atom by itself, whatever follows
+abbrev pub is_word : Token → Bool
+is_word TrueWord = true
+is_word FalseWord = true
+is_word TauWord = true
+is_word (Atom bytes) = true
+is_word _ = false
+
 -- the atom that is this one token
 abbrev pub IsWordOf : Token → Option WrittenRegular → Type 0
-IsWordOf token (Some r) = (reg_tokens (reg_syntax r) ≡ token ∷ []) × (reg_form (reg_syntax r) ≡ 0) × (reg_nesting (reg_syntax r) ≡ 0) × (reg_parens (reg_syntax r) ≡ 0) × IsTrue (reg_fits (reg_syntax r))
-IsWordOf token None = Unit {0}
+IsWordOf token (Some r) = (reg_tokens (reg_syntax r) ≡ token ∷ []) × (reg_form (reg_syntax r) ≡ 0) × (reg_nesting (reg_syntax r) ≡ 0) × (reg_parens (reg_syntax r) ≡ 0) × IsTrue (reg_fits (reg_syntax r)) × IsTrue (is_word token)
+IsWordOf token None = is_word token ≡ false
 
 -- whether a bar stands first
 abbrev pub MatchBar : List Token → Bool → Type 0
