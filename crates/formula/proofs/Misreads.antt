@@ -48,6 +48,7 @@ misread-within begins stands begins' stands' depth inside depth' inside' before 
       let p = place.outward (h.front ++ h.token ∷ []) h.goes_on.0 h.goes_on.1 h.goes_on.2 in
       (p.0, p.1, subst (begins p.0 p.1) (sym (append_assoc before h.front (h.token ∷ []))) p.2);
   none = λ more w.
-      h.none more (within-part stands stands' depth inside depth' inside' (before ++ (h.front ++ h.token ∷ more)) (h.front ++ h.token ∷ more) (place.inward (h.front ++ h.token ∷ more)) (subst (Within stands depth inside) (append_assoc before h.front (h.token ∷ more)) w));
+      h.none more (within-part stands stands' depth inside depth' inside' (before ++ (h.front ++ h.token ∷ more)) (h.front ++ h.token ∷ more) (place.inward (h.front ++ h.token ∷ more))
+      (subst (Within stands depth inside) (append_assoc before h.front (h.token ∷ more)) w));
 }
 misread-within begins stands begins' stands' depth inside depth' inside' before ts misread.Memory place h = tt

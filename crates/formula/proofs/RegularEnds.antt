@@ -129,7 +129,8 @@ close_barred depth inside r ts fit low narrow bar = record {
   place = refl;
   begun = begun 1 depth (inside + 1) (Parens' r) (Open ∷ (reg_tokens r ++ Close ∷ [])) [] fit (omega arith) low (omega (arith, narrow)) (ap (λ us. Open ∷ us) (no_more (reg_tokens r ++ Close ∷ [])));
   none = λ nested opened more stop s.
-      let p = open_part s.syntax s.rest (reg_tokens r ++ Close ∷ (take 1 ts ++ more)) s.grammatical s.row (s.spelled ∙ ap (λ us. Open ∷ us) (append_assoc (reg_tokens r) (Close ∷ []) (take 1 ts ++ more))) in
+      let p = open_part s.syntax s.rest (reg_tokens r ++ Close ∷ (take 1 ts ++ more)) s.grammatical s.row
+      (s.spelled ∙ ap (λ us. Open ∷ us) (append_assoc (reg_tokens r) (Close ∷ []) (take 1 ts ++ more))) in
       let q = one_at 7 p.inner r (Close ∷ s.rest) (Close ∷ (take 1 ts ++ more)) p.grammatical fit (any_form p.inner) (any_form r) (omega arith) (omega arith) p.spelled in
       not_barred ts more s.rest bar s.stops (ap (drop 1) q.1);
 }
@@ -156,7 +157,8 @@ no_name depth inside first names ts missing = record {
 
 -- a sign between two, with a left operand that is as deep as formulas may be
 pub sign_too_deep : (mark : Infix) (level depth inside : ℕ) (left : RegSyntax) (ts : List Token) → IsTrue (reg_fits left) → reg_form left < infix_row mark → infix_row mark ≤ level
-    → reg_nesting left ≤ depth → depth ≤ reg_nesting left → reg_parens left ≤ inside → IsRegularMisread level depth inside (reg_tokens left ++ infix_token mark ∷ ts) (misread.TooLarge (suc (length ts)))
+    → reg_nesting left ≤ depth → depth ≤ reg_nesting left → reg_parens left ≤ inside → IsRegularMisread level depth inside (reg_tokens left ++ infix_token mark ∷ ts)
+    (misread.TooLarge (suc (length ts)))
 sign_too_deep mark level depth inside left ts fit below above low full narrow = record {
   front = reg_tokens left;
   token = infix_token mark;
@@ -198,7 +200,8 @@ repeated-parens repeat.Plus r = refl
 
 -- a postfix sign after a formula that is as deep as formulas may be
 pub mark_too_deep : (mark : Repeat) (level depth inside : ℕ) (left : RegSyntax) (ts : List Token) → IsTrue (reg_fits left) → reg_form left ≤ 5 → 5 ≤ level
-    → reg_nesting left ≤ depth → depth ≤ reg_nesting left → reg_parens left ≤ inside → IsRegularMisread level depth inside (reg_tokens left ++ repeat_token mark ∷ ts) (misread.TooLarge (suc (length ts)))
+    → reg_nesting left ≤ depth → depth ≤ reg_nesting left → reg_parens left ≤ inside → IsRegularMisread level depth inside (reg_tokens left ++ repeat_token mark ∷ ts)
+    (misread.TooLarge (suc (length ts)))
 mark_too_deep mark level depth inside left ts fit below above low full narrow = record {
   front = reg_tokens left;
   token = repeat_token mark;
@@ -233,6 +236,7 @@ mark_followed mark level depth inside left ts fit below above low narrow next = 
   begun = begun level depth inside (repeated mark left) (reg_tokens left ++ repeat_token mark ∷ []) [] (repeated-fits mark left fit below) (omega (arith, repeated-form mark left, above))
       (omega (arith, repeated-nesting mark left, low)) (omega (arith, repeated-parens mark left, narrow)) (repeated-tokens mark left ∙ sym (append-nil (reg_tokens left ++ repeat_token mark ∷ [])));
   none = λ nested opened more stop s.
-      let p = postfix_spine mark left s.syntax s.rest (take 1 ts ++ more) fit below s.grammatical (omega (arith, s.stops, above)) (s.spelled ∙ append_assoc (reg_tokens left) (repeat_token mark ∷ []) (take 1 ts ++ more)) in
+      let p = postfix_spine mark left s.syntax s.rest (take 1 ts ++ more) fit below s.grammatical (omega (arith, s.stops, above))
+      (s.spelled ∙ append_assoc (reg_tokens left) (repeat_token mark ∷ []) (take 1 ts ++ more)) in
       omega (arith, p.stops, row_taken ts more (omega arith), next);
 }

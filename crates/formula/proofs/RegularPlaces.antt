@@ -122,7 +122,8 @@ name_next [] [] rest ts stop e = let row : reg_row rest ≡ 0 = ap reg_row e in 
 name_next [] (y ∷ ys) rest ts stop e = (y, more_names ys ++ rest, sym (tail_once Bar Bar (Name y ∷ (more_names ys ++ rest)) ts e))
 name_next (x ∷ xs) [] rest ts stop e = let row : reg_row rest ≡ 0 = ap reg_row e in absurd (omega arith)
 name_next (x ∷ xs) (y ∷ ys) rest ts stop e =
-    name_next xs ys rest ts stop (tail_once (Name y) (Name x) (more_names ys ++ rest) (more_names xs ++ Bar ∷ ts) (tail_once Bar Bar (Name y ∷ (more_names ys ++ rest)) (Name x ∷ (more_names xs ++ Bar ∷ ts)) e))
+    name_next xs ys rest ts stop (tail_once (Name y) (Name x) (more_names ys ++ rest) (more_names xs ++ Bar ∷ ts)
+    (tail_once Bar Bar (Name y ∷ (more_names ys ++ rest)) (Name x ∷ (more_names xs ++ Bar ∷ ts)) e))
 
 -- the atom or negation that a formula begins with
 record Leftmost (s : RegSyntax) (m : List Token) : Type 0 where
@@ -284,4 +285,5 @@ pub in_joined : (mark : Infix) (level depth inside : ℕ) (left : RegSyntax) (ts
     → reg_parens left ≤ inside → IsRegularMisread (infix_row mark) (depth - 1) inside ts e → IsRegularMisread level depth inside (reg_tokens left ++ infix_token mark ∷ ts) e
 in_joined mark level depth inside left ts e fit below above low narrow h =
     subst (λ us. IsRegularMisread level depth inside us e) (append_assoc (reg_tokens left) (infix_token mark ∷ []) ts)
-    (misread-within (BeginsRegular level) (StandsRegular level) (BeginsRegular (infix_row mark)) (StandsRegular (infix_row mark)) depth inside (depth - 1) inside (reg_tokens left ++ infix_token mark ∷ []) ts e (place_sign mark level depth inside left fit below above low narrow) h)
+    (misread-within (BeginsRegular level) (StandsRegular level) (BeginsRegular (infix_row mark)) (StandsRegular (infix_row mark)) depth inside (depth - 1) inside
+    (reg_tokens left ++ infix_token mark ∷ []) ts e (place_sign mark level depth inside left fit below above low narrow) h)

@@ -58,13 +58,15 @@ negation-empty d i (p ∷ ps) e h q = absurd (omega arith)
 pub negation-deep : (d i : ℕ) (tokens : List Placed) (first : Placed) (rest : List Placed) (e : Misread) → tokens ≡ first ∷ rest → token_of first.token ≡ NotSign → d ≤ 0 → e ≡ misread.TooLarge (length tokens)
     → IsRegularMisread 1 d i (words tokens) e
 negation-deep d i tokens first rest e split token full q =
-    moved 1 d i (words tokens) (NotSign ∷ words rest) e (misread.TooLarge (suc (length (words rest)))) (first-words tokens first rest NotSign split token) (q ∙ ap misread.TooLarge (left-length tokens first rest split))
+    moved 1 d i (words tokens) (NotSign ∷ words rest) e (misread.TooLarge (suc (length (words rest)))) (first-words tokens first rest NotSign split token)
+    (q ∙ ap misread.TooLarge (left-length tokens first rest split))
     (not_too_deep d i (words rest) full)
 
 pub negation-many : (d i : ℕ) (tokens : List Placed) (first : Placed) (rest : List Placed) (e : Misread) → tokens ≡ first ∷ rest → token_of first.token ≡ Open → i ≡ 0 → e ≡ misread.TooLarge (length tokens)
     → IsRegularMisread 1 d i (words tokens) e
 negation-many d i tokens first rest e split token full q =
-    moved 1 d i (words tokens) (Open ∷ words rest) e (misread.TooLarge (suc (length (words rest)))) (first-words tokens first rest Open split token) (q ∙ ap misread.TooLarge (left-length tokens first rest split))
+    moved 1 d i (words tokens) (Open ∷ words rest) e (misread.TooLarge (suc (length (words rest)))) (first-words tokens first rest Open split token)
+    (q ∙ ap misread.TooLarge (left-length tokens first rest split))
     (open_too_many d i (words rest) full)
 
 -- a token that is no atom, no name, no `!` and no parenthesis
@@ -96,7 +98,8 @@ pub word-refused : (d i : ℕ) (tokens : List Placed) (first : Placed) (atom : R
     → Unbarred atom result → IfErr result (IsRegularMisread 1 d i (words tokens))
 word-refused d i tokens first atom (Ok r) split w h = tt
 word-refused d i tokens first atom (Err e) split w h =
-    moved 1 d i (words tokens) (token_of first.token ∷ words atom.rest.now) e (misread.Unexpected (length (words atom.rest.now))) (ap words split) (h.0 ∙ ap misread.Unexpected (sym (words-length atom.rest.now)))
+    moved 1 d i (words tokens) (token_of first.token ∷ words atom.rest.now) e (misread.Unexpected (length (words atom.rest.now))) (ap words split)
+    (h.0 ∙ ap misread.Unexpected (sym (words-length atom.rest.now)))
     (word_barred d i (reg_syntax atom.syntax) (token_of first.token) (words atom.rest.now) w.0 w.1 w.2 w.3 w.4 w.5 h.1)
 
 pub word-is : (d i : ℕ) (token : Token) (atom : ReadRegular) → IsWordOf token (Some atom.syntax) → atom.height ≡ 0 → IsRegular 1 d i atom
@@ -198,7 +201,9 @@ repeated-is level d i left r mark l below above low j =
     record {
       grammatical = subst (λ s. IsTrue (reg_fits s)) (sym e) (repeated-fits mark (reg_syntax left.syntax) l.grammatical below);
       row = let f : reg_form (reg_syntax r.syntax) ≡ 5 = ap reg_form e ∙ repeated-form mark (reg_syntax left.syntax) in omega arith;
-      height = let f : reg_nesting (reg_syntax r.syntax) ≡ 1 + reg_nesting (reg_syntax left.syntax) = ap reg_nesting e ∙ repeated-nesting mark (reg_syntax left.syntax) in omega (arith, j.height, l.height, f);
+      height =
+          let f : reg_nesting (reg_syntax r.syntax) ≡ 1 + reg_nesting (reg_syntax left.syntax) = ap reg_nesting e ∙ repeated-nesting mark (reg_syntax left.syntax) in
+          omega (arith, j.height, l.height, f);
       low = omega (arith, j.height, low);
       narrow = let f : reg_parens (reg_syntax r.syntax) ≡ reg_parens (reg_syntax left.syntax) = ap reg_parens e ∙ repeated-parens mark (reg_syntax left.syntax) in omega (arith, f, l.narrow);
     }

@@ -125,7 +125,8 @@ along : (mark other : Infix) (left a b : RegSyntax) (m ts : List Token) → IsTr
 along mark other left a b m ts fl low fs stop e on =
     let o = infixed-parts other a b fs in
     let n : List Token = infix_token other ∷ (reg_tokens b ++ m) in
-    let e' : reg_tokens a ++ n ≡ reg_tokens left ++ infix_token mark ∷ ts = sym (append_assoc (reg_tokens a) (infix_token other ∷ reg_tokens b) m) ∙ (ap (λ xs. xs ++ m) (sym (infixed-tokens other a b)) ∙ e) in
+    let e' : reg_tokens a ++ n ≡ reg_tokens left ++ infix_token mark ∷ ts
+    = sym (append_assoc (reg_tokens a) (infix_token other ∷ reg_tokens b) m) ∙ (ap (λ xs. xs ++ m) (sym (infixed-tokens other a b)) ∙ e) in
     let row : reg_row n ≡ infix_row other = sign_row other (reg_tokens b ++ m) in
     let deep = infixed-nesting other a b in
     let wide = infixed-parens other a b in
@@ -162,7 +163,8 @@ under : (mark : Infix) (post : Repeat) (left a : RegSyntax) (m ts : List Token) 
 under mark post left a m ts fl low fs form deep wide tokens stop e on =
     elim (not_postfix mark) [
       | inl less ↦
-          let e' : reg_tokens a ++ repeat_token post ∷ m ≡ reg_tokens left ++ infix_token mark ∷ ts = sym (append_assoc (reg_tokens a) (repeat_token post ∷ []) m) ∙ (ap (λ xs. xs ++ m) (sym tokens) ∙ e) in
+          let e' : reg_tokens a ++ repeat_token post ∷ m ≡ reg_tokens left ++ infix_token mark ∷ ts
+          = sym (append_assoc (reg_tokens a) (repeat_token post ∷ []) m) ∙ (ap (λ xs. xs ++ m) (sym tokens) ∙ e) in
           widened mark left a (repeated post a) ts (on (repeat_token post ∷ m) (omega (arith, repeat_row post m, less)) e') (omega (arith, deep)) (omega (arith, wide))
       | inr more ↦ too_low mark left (repeated post a) m ts fl low fs (omega (arith, form, more)) stop e
     ]
@@ -200,6 +202,7 @@ postfix_spine mark left (Then' a b) m ts fl low fs stop e =
     let p = postfix_spine mark left a (Dot ∷ (reg_tokens b ++ m)) ts fl low (infixed-parts sign.Then a b fs).2 (omega arith) (sym (append_assoc (reg_tokens a) (Dot ∷ reg_tokens b) m) ∙ e) in
     record { left_below = omega (arith, p.left_below); stops = p.stops }
 postfix_spine mark left (Either' a b) m ts fl low fs stop e =
-    let p = postfix_spine mark left a (ChoiceSign ∷ (reg_tokens b ++ m)) ts fl low (infixed-parts sign.Either a b fs).2 (omega arith) (sym (append_assoc (reg_tokens a) (ChoiceSign ∷ reg_tokens b) m) ∙ e) in
+    let p = postfix_spine mark left a (ChoiceSign ∷ (reg_tokens b ++ m)) ts fl low (infixed-parts sign.Either a b fs).2 (omega arith)
+    (sym (append_assoc (reg_tokens a) (ChoiceSign ∷ reg_tokens b) m) ∙ e) in
     record { left_below = omega (arith, p.left_below); stops = p.stops }
 postfix_spine mark left s m ts fl low fs stop e = low_postfix mark left s m ts fl low fs (omega arith) stop e

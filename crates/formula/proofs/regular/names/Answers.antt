@@ -23,4 +23,5 @@ returns-in_err-name-clause-refused c =
     let ts = c.args.tokens.now in
     let bar : MatchBar (words (drop c.names.at ts)) true = rw take_rest at c.names-test.ensures in
     passed_on c.from_residual.result c.in_err-name.field-0.0 (IsRegularMisread 1 c.args.room.depth c.args.room.parens (Name c.args.first.now ∷ words ts)) c.from_residual.ensures.1
-    (names-unnamed c.args.room.depth c.args.room.parens c.args.first.now ts c.names.at (map (λ name. name.now) c.names.others.items) c.in_err-name.field-0.0 c.names.invariant.1 bar (rw take_rest at c.in_err-name.ensures))
+    (names-unnamed c.args.room.depth c.args.room.parens c.args.first.now ts c.names.at (map (λ name. name.now) c.names.others.items) c.in_err-name.field-0.0 c.names.invariant.1 bar
+    (rw take_rest at c.in_err-name.ensures))
