@@ -1,7 +1,7 @@
 -- Why tokens gave no formula, from why those of its last part gave none.
-use Rattle.std.proofs.Common.{◌≡◌, ℕ, ◌≤◌, List, [], ◌∷◌, ◌++◌, length, take, subst, sym, ap, ◌∙◌, append_assoc}
+use Rattle.std.proofs.Common.{ℕ, ◌≤◌, List, [], ◌∷◌, ◌++◌, take, subst, sym, ap, ◌∙◌, append_assoc}
 use Rattle.formula.specs.Token.{Token}
-use Rattle.formula.specs.Misread.{Within, IsUnexpected, IsTooLarge, IsMisread}
+use Rattle.formula.specs.Misread.{Within, IsMisread}
 use Rattle.formula.specs.declared.misread.Misread.{Misread}
 use Rattle.formula.specs.declared.misread.Misread.TheVariants as misread
 
@@ -28,26 +28,27 @@ within-part outer inner depth inside depth' inside' ts ts' parts w =
 pub misread-within : (begins stands begins' stands' : Class) (depth inside depth' inside' : ℕ) (before ts : List Token) (e : Misread) → IsPlace begins stands begins' stands' depth inside depth' inside' before
     → IsMisread begins' stands' depth' inside' ts e → IsMisread begins stands depth inside (before ++ ts) e
 misread-within begins stands begins' stands' depth inside depth' inside' before ts (misread.Unexpected left) place h = record {
-    front = before ++ h.front;
-    back = h.back;
-    joined = ap (λ xs. before ++ xs) h.joined ∙ sym (append_assoc before h.front h.back);
-    place = h.place;
-    begun = within-part begins' begins depth' inside' depth inside h.front (before ++ h.front) (place.outward h.front) h.begun;
-    none = λ nested opened more stop it.
-        let p = place.inward (h.front ++ (take 1 h.back ++ more)) nested opened (subst (stands nested opened) (append_assoc before h.front (take 1 h.back ++ more)) it) in
-        h.none p.0 p.1 more stop p.2;
-  }
+  front = before ++ h.front;
+  back = h.back;
+  joined = ap (λ xs. before ++ xs) h.joined ∙ sym (append_assoc before h.front h.back);
+  place = h.place;
+  begun = within-part begins' begins depth' inside' depth inside h.front (before ++ h.front) (place.outward h.front) h.begun;
+  none = λ nested opened more stop it.
+      let p = place.inward (h.front ++ (take 1 h.back ++ more)) nested opened (subst (stands nested opened) (append_assoc before h.front (take 1 h.back ++ more)) it) in
+      h.none p.0 p.1 more stop p.2;
+}
 misread-within begins stands begins' stands' depth inside depth' inside' before ts (misread.TooLarge left) place h = record {
-    front = before ++ h.front;
-    token = h.token;
-    back = h.back;
-    joined = ap (λ xs. before ++ xs) h.joined ∙ sym (append_assoc before h.front (h.token ∷ h.back));
-    place = h.place;
-    begun = within-part begins' begins depth' inside' depth inside h.front (before ++ h.front) (place.outward h.front) h.begun;
-    goes_on =
-        let p = place.outward (h.front ++ h.token ∷ []) h.goes_on.0 h.goes_on.1 h.goes_on.2 in
-        (p.0, p.1, subst (begins p.0 p.1) (sym (append_assoc before h.front (h.token ∷ []))) p.2);
-    none = λ more w.
-        h.none more (within-part stands stands' depth inside depth' inside' (before ++ (h.front ++ h.token ∷ more)) (h.front ++ h.token ∷ more) (place.inward (h.front ++ h.token ∷ more)) (subst (Within stands depth inside) (append_assoc before h.front (h.token ∷ more)) w));
-  }
+  front = before ++ h.front;
+  token = h.token;
+  back = h.back;
+  joined = ap (λ xs. before ++ xs) h.joined ∙ sym (append_assoc before h.front (h.token ∷ h.back));
+  place = h.place;
+  begun = within-part begins' begins depth' inside' depth inside h.front (before ++ h.front) (place.outward h.front) h.begun;
+  goes_on =
+      let p = place.outward (h.front ++ h.token ∷ []) h.goes_on.0 h.goes_on.1 h.goes_on.2 in
+      (p.0, p.1, subst (begins p.0 p.1) (sym (append_assoc before h.front (h.token ∷ []))) p.2);
+  none = λ more w.
+      h.none more (within-part stands stands' depth inside depth' inside' (before ++ (h.front ++ h.token ∷ more)) (h.front ++ h.token ∷ more) (place.inward (h.front ++ h.token ∷ more))
+      (subst (Within stands depth inside) (append_assoc before h.front (h.token ∷ more)) w));
+}
 misread-within begins stands begins' stands' depth inside depth' inside' before ts misread.Memory place h = tt

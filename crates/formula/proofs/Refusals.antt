@@ -29,7 +29,7 @@ use Rattle.formula.proofs.Tokenless.{free_words}
 use Rattle.formula.proofs.Misreads.{Parts, IsPlace, misread-within}
 use Rattle.formula.proofs.StateSpine.{Standing, one-state}
 use Rattle.formula.proofs.StateEnds.{begun-by, same-row}
-use Rattle.formula.proofs.StateRefusals.{sized}
+use Rattle.formula.proofs.RegularRefusals.{words-length}
 use Rattle.formula.proofs.NoFault.{no_fault}
 use Rattle.formula.proofs.OneFault.{one_fault}
 
@@ -95,7 +95,7 @@ pub left-over : (s : ReadState) (ts : List Token) (e : Misread) → IsState 3 25
 left-over s ts e is stops eaten some at =
     let f : Syntax = state_syntax s.syntax in
     let back : List Token = words s.rest.now in
-    let count : length back ≡ length s.rest.now = sized s.rest.now in
+    let count : length back ≡ length s.rest.now = words-length s.rest.now in
     let height = is.height in
     let low = is.low in
     subst (λ (m : Misread). IsWholeMisread ts m) (sym (at ∙ ap misread.Unexpected (sym count))) (record {

@@ -11,19 +11,18 @@ use Rattle.formula.specs.declared.misread.Misread.TheVariants as misread
 use Rattle.formula.specs.declared.written.Connective.{Connective}
 use Rattle.formula.specs.declared.written.Brackets.{Brackets}
 use Rattle.formula.specs.declared.written.Binder.{Binder}
+use Rattle.formula.proofs.RegularUnique.{any_form}
+use Rattle.formula.proofs.RegularSpine.{one_at}
+use Rattle.formula.proofs.RegularPlaces.{head_once, above_taken}
 use Rattle.formula.proofs.Unambiguous.{any_formula}
 use Rattle.formula.proofs.States.{joined-tokens, joined-form, joined-fits, modal-tokens, modal-form, modal-nesting, modal-parens, modal-fits}
 use Rattle.formula.proofs.StateSpine.{row-level, Standing, one-state, LeftOperand, spine}
-use Rattle.formula.proofs.StatePlaces.{standing, first_token, row_level, UnaryAs, unary-as, modal-as, bound-as, bound-tokens, bound-form, bound-nesting, bound-parens, bound-fits, modal-inside, closing-row, one-regular}
+use Rattle.formula.proofs.StatePlaces.{standing, UnaryAs, unary-as, modal-as, bound-as, bound-tokens, bound-form, bound-nesting, bound-parens, bound-fits, modal-inside, closing-row}
 
 -- what follows the last token that counts doesn't matter
 pub same-row : (back more : List Token) → (back ≡ [] → more ≡ []) → state_row (take 1 back ++ more) ≡ state_row back
 same-row [] more stop = ap state_row (stop refl)
 same-row (t ∷ back) more stop = row-level t more ∙ sym (row-level t back)
-
-same-reg_row : (back more : List Token) → (back ≡ [] → more ≡ []) → reg_row (take 1 back ++ more) ≡ reg_row back
-same-reg_row [] more stop = ap reg_row (stop refl)
-same-reg_row (t ∷ back) more stop = row_level t more ∙ sym (row_level t back)
 
 cons_nil : (t : Token) (ts : List Token) → t ∷ ts ≡ [] → ⊥
 cons_nil t ts e = absurd (omega (arith, ap length e))
@@ -31,7 +30,7 @@ cons_nil t ts e = absurd (omega (arith, ap length e))
 -- a token that doesn't come next doesn't come next
 pub still-missing : (t : Token) (back more rest : List Token) → (back ≡ [] → more ≡ []) → ((after : List Token) → back ≡ t ∷ after → ⊥) → t ∷ rest ≡ take 1 back ++ more → ⊥
 still-missing t [] more rest stop none e = cons_nil t rest (e ∙ stop refl)
-still-missing t (u ∷ back) more rest stop none e = none back (ap (λ v. v ∷ back) (sym (first_token t u rest more e)))
+still-missing t (u ∷ back) more rest stop none e = none back (ap (λ v. v ∷ back) (sym (head_once t u rest more e)))
 
 -- a formula that begins with these tokens, within the limits
 pub begun-by : (level depth inside : ℕ) (s : Syntax) (front more : List Token) → IsTrue (fits s) → form s ≤ level → nesting s ≤ depth → parens s ≤ inside → tokens s ≡ front ++ more
@@ -109,10 +108,10 @@ modal_none : (mark : Brackets) (r : RegSyntax) (back : List Token) → IsTrue (r
     → NoneStands 0 (opening mark ∷ reg_tokens r) back
 modal_none mark r back fit far missing nested opened more stop x =
     let u = modal-as mark x.syntax x.rest (reg_tokens r ++ (take 1 back ++ more)) x.row x.spelled in
-    let row : reg_row (take 1 back ++ more) ≡ reg_row back = same-reg_row back more stop in
+    let beyond : 7 < reg_row (take 1 back ++ more) = above_taken 7 back more stop far in
     let after : reg_row (closing mark ∷ (tokens u.1 ++ x.rest)) ≡ 8 = closing-row mark (tokens u.1 ++ x.rest) in
     let o = modal-inside mark u.0 u.1 (subst (λ s. IsTrue (fits s)) u.2 x.grammatical) in
-    let p = one-regular u.0 r (closing mark ∷ (tokens u.1 ++ x.rest)) (take 1 back ++ more) o.1 fit (omega arith) (omega arith) u.3 in
+    let p = one_at 7 u.0 r (closing mark ∷ (tokens u.1 ++ x.rest)) (take 1 back ++ more) o.1 fit (any_form u.0) (any_form r) (omega arith) beyond u.3 in
     still-missing (closing mark) back more (tokens u.1 ++ x.rest) stop missing p.1
 
 -- a modality whose bracket isn't closed

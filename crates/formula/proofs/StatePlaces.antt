@@ -1,8 +1,8 @@
 -- Where a state formula's parts stand in it: what begins a part begins the whole, and what stands as the whole has the part.
 use Rattle.std.proofs.Common.{◌≡◌, ℕ, ◌+◌, ◌-◌, ◌<◌, ◌≤◌, true, List, [], ◌∷◌, ◌++◌, refl, sym, ap, ◌∙◌, subst, arith, append_assoc}
 use Rattle.std.specs.Prelude.{IsTrue, nat_le, max, drop}
-use Rattle.std.proofs.lemmas.Bool.{lt-ltb, leb-true, and_parts}
-use Rattle.formula.specs.Token.{Token, Name, TrueWord, FalseWord, MuWord, NuWord, NotSign, Less, Greater, OpenBox, CloseBox, Open, Close, Dot, ImpliesSign, OrSign, AndSign, Bar, ChoiceSign, PlusSign, StarSign}
+use Rattle.std.proofs.lemmas.Bool.{leb-true, and_parts}
+use Rattle.formula.specs.Token.{Token, Name, TrueWord, FalseWord, MuWord, NuWord, NotSign, Less, Greater, OpenBox, CloseBox, Open, Close, Dot}
 use Rattle.formula.specs.Syntax.{RegSyntax, reg_tokens, reg_fits, reg_nesting, reg_parens, Syntax, True', False', Var', Group', Neg', Both', OneOf', If', Dia', Box', Mu', Nu', form, ends_in_binder, fits, tokens, nesting, parens}
 use Rattle.formula.specs.Written.{joined, connective_token, connective_row, modal, opening, closing, bound, binder_token}
 use Rattle.formula.specs.Read.{reg_row, state_row}
@@ -12,7 +12,9 @@ use Rattle.formula.specs.declared.written.Brackets.{Brackets}
 use Rattle.formula.specs.declared.written.Brackets.TheVariants as brackets
 use Rattle.formula.specs.declared.written.Binder.{Binder}
 use Rattle.formula.specs.declared.written.Binder.TheVariants as binder
-use Rattle.formula.proofs.RegularUnique.{reg_level, reg_stops, any_form, one_regular}
+use Rattle.formula.proofs.RegularUnique.{any_form}
+use Rattle.formula.proofs.RegularSpine.{one_at}
+use Rattle.formula.proofs.RegularPlaces.{head_once}
 use Rattle.formula.proofs.Unambiguous.{any_formula, modal_parts}
 use Rattle.formula.proofs.States.{joined-tokens, joined-form, joined-nesting, joined-parens, joined-fits, modal-tokens, modal-form, modal-nesting, modal-parens, modal-ends, modal-fits}
 use Rattle.formula.proofs.Misreads.{Parts, IsPlace}
@@ -35,11 +37,8 @@ UnaryAs FalseWord s rest more = Unit {0}
 UnaryAs (Name x) s rest more = Unit {0}
 UnaryAs _ s rest more = ⊥
 
-pub first_token : (t u : Token) (ts us : List Token) → t ∷ ts ≡ u ∷ us → t ≡ u
-first_token t u ts us e = cc
-
 as_first : (t u : Token) (s : Syntax) (rest ts more : List Token) → t ∷ ts ≡ u ∷ more → UnaryAs t s rest more → UnaryAs u s rest more
-as_first t u s rest ts more e h = subst (λ v. UnaryAs v s rest more) (first_token t u ts more e) h
+as_first t u s rest ts more e h = subst (λ v. UnaryAs v s rest more) (head_once t u ts more e) h
 
 pub unary-as : (s : Syntax) (rest more : List Token) (t : Token) → form s ≤ 0 → tokens s ++ rest ≡ t ∷ more → UnaryAs t s rest more
 unary-as True' rest more t low e = as_first TrueWord t True' rest rest more e tt
@@ -345,25 +344,6 @@ modal_in mark depth inside ts nested opened x =
 pub in-brackets : (mark : Brackets) (depth inside : ℕ) → IsPlace (BeginsState 0) (StandsState 0) (BeginsRegular 7) (StandsRegular 7) (depth + 1) inside depth inside (opening mark ∷ [])
 in-brackets mark depth inside = record { outward = modal_out mark depth inside; inward = modal_in mark depth inside }
 
-pub row_level : (t : Token) (ts : List Token) → reg_row (t ∷ ts) ≡ reg_level t
-row_level Bar ts = refl
-row_level AndSign ts = refl
-row_level OrSign ts = refl
-row_level ImpliesSign ts = refl
-row_level StarSign ts = refl
-row_level PlusSign ts = refl
-row_level Dot ts = refl
-row_level ChoiceSign ts = refl
-row_level _ ts = refl
-
-row_stops : (k : ℕ) (ts : List Token) → k < reg_row ts → reg_stops k ts ≡ true
-row_stops k [] h = refl
-row_stops k (t ∷ ts) h = lt-ltb k (reg_level t) (subst (λ n. k < n) (row_level t ts) h)
-
--- Two regular formulas at the front of the same tokens, each of which ends there, are one.
-pub one-regular : (r s : RegSyntax) (m n : List Token) → IsTrue (reg_fits r) → IsTrue (reg_fits s) → 7 < reg_row m → 7 < reg_row n → reg_tokens r ++ m ≡ reg_tokens s ++ n → (r ≡ s) × (m ≡ n)
-one-regular r s m n fr fs hm hn e = one_regular 7 r s m n fr fs (any_form r) (any_form s) (row_stops 7 m hm) (row_stops 7 n hn) e
-
 -- after the brackets of a modality
 operand_out : (mark : Brackets) (r : RegSyntax) (depth inside : ℕ) (ts : List Token) → IsTrue (reg_fits r) → reg_nesting r ≤ depth → reg_parens r ≤ inside
     → Parts (BeginsState 0) (BeginsState 0) depth inside (depth + 1) inside ts ((opening mark ∷ (reg_tokens r ++ closing mark ∷ [])) ++ ts)
@@ -398,7 +378,7 @@ operand_in mark r depth inside ts fit nested opened x =
     let o = modal-inside mark u.0 u.1 whole in
     let row : reg_row (closing mark ∷ (tokens u.1 ++ x.rest)) ≡ 8 = closing-row mark (tokens u.1 ++ x.rest) in
     let row' : reg_row (closing mark ∷ ts) ≡ 8 = closing-row mark ts in
-    let p = one-regular u.0 r (closing mark ∷ (tokens u.1 ++ x.rest)) (closing mark ∷ ts) o.1 fit (omega arith) (omega arith) (u.3 ∙ append_assoc (reg_tokens r) (closing mark ∷ []) ts) in
+    let p = one_at 7 u.0 r (closing mark ∷ (tokens u.1 ++ x.rest)) (closing mark ∷ ts) o.1 fit (any_form u.0) (any_form r) (omega arith) (omega arith) (u.3 ∙ append_assoc (reg_tokens r) (closing mark ∷ []) ts) in
     let deep : nesting x.syntax ≡ 1 + max (reg_nesting u.0) (nesting u.1) = ap nesting u.2 ∙ modal-nesting mark u.0 u.1 in
     let wide : parens x.syntax ≡ max (reg_parens u.0) (parens u.1) = ap parens u.2 ∙ modal-parens mark u.0 u.1 in
     let nests = x.nests in

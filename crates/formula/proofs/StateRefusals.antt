@@ -1,12 +1,10 @@
 -- Why a state formula was not read, from why a part of it was not.
-use Rattle.std.specs.Prelude.{◌≡◌, ℕ, suc, ◌+◌, ◌-◌, ◌<◌, ◌≤◌, Bool, true, false, List, [], ◌∷◌, ◌++◌, length, IsFalse, Result, Err, IfErr, IsErrAnd}
+use Rattle.std.specs.Prelude.{◌≡◌, ℕ, suc, ◌+◌, ◌-◌, ◌<◌, ◌≤◌, Bool, true, false, List, [], ◌∷◌, ◌++◌, length, IsFalse}
 use Rattle.std.proofs.Common.{arith, refl, sym, ◌∙◌, ap, subst, append_assoc, true≢false}
-use Rattle.std.proofs.lemmas.List.{length-map}
-use Rattle.std.proofs.lemmas.Result.{err_from_is_err_and}
 use Rattle.formula.specs.Token.{Token, Name, NotSign, Open, Close, Dot}
 use Rattle.formula.specs.Syntax.{RegSyntax, reg_tokens, Syntax, tokens, form}
 use Rattle.formula.specs.Written.{token_of, words, state_syntax, reg_syntax, connective_token, connective_row, opening, closing, binder_token}
-use Rattle.formula.specs.Read.{IsRegular, regular_tokens, reg_row, IsState, state_tokens, state_row, is_word}
+use Rattle.formula.specs.Read.{IsRegular, regular_tokens, reg_row, IsState, state_tokens, state_row, is_state_word}
 use Rattle.formula.specs.Misread.{BeginsRegular, StandsRegular, IsRegularMisread, BeginsState, StandsState, IsStateMisread, IsMissing}
 use Rattle.formula.specs.declared.misread.Misread.{Misread}
 use Rattle.formula.specs.declared.misread.Misread.TheVariants as misread
@@ -20,15 +18,10 @@ use Rattle.formula.specs.declared.regular.ReadRegular.{ReadRegular}
 use Rattle.formula.specs.declared.state.ReadState.{ReadState}
 use Rattle.formula.proofs.States.{connective-row, row-most}
 use Rattle.formula.proofs.Misreads.{misread-within}
+use Rattle.formula.proofs.RegularRefusals.{words-length}
 use Rattle.formula.proofs.StateSpine.{Standing, LeftOperand}
 use Rattle.formula.proofs.StatePlaces.{UnaryAs, after-not, in-group, at-front, after-sign, in-brackets, after-brackets, after-dot}
 use Rattle.formula.proofs.StateEnds.{nothing-left, no-word, group-unclosed, modal-unclosed, sign-too-large}
-
--- what a `?` passes on
-pub passed-on : {T E : Type 0} (result : Result T E) (e : E) (P : E → Type 0) → IsErrAnd result (λ x. x ≡ e) → P e → IfErr result P
-passed-on {T = T} {E = E} result e P h p =
-    let r = err_from_is_err_and result h in
-    subst (λ (r : Result T E). IfErr r P) (sym (r.1 ∙ ap Err r.2)) p
 
 pub within-not : (depth inside : ℕ) (ts : List Token) (e : Misread) → IsStateMisread 0 depth inside ts e → IsStateMisread 0 (depth + 1) inside (NotSign ∷ ts) e
 within-not depth inside ts e h =
@@ -108,9 +101,6 @@ within-sign mark level depth inside left first rest e is front token lower room 
     subst (λ ts. IsStateMisread level depth inside ts e) (append_assoc (tokens s) (connective_token mark ∷ []) (words rest) ∙ ap (λ ts. tokens s ++ ts) (sym whole))
     (misread-within (BeginsState level) (StandsState level) (BeginsState (connective_row mark)) (StandsState (connective_row mark)) depth inside (depth - 1) inside (tokens s ++ connective_token mark ∷ []) (words rest) e place h)
 
-pub sized : (placed : List Placed) → length (words placed) ≡ length placed
-sized placed = length-map placed (λ p. token_of p.token)
-
 -- a sign whose left operand nests as deep as it may
 pub beyond-sign : (mark : Connective) (level depth inside : ℕ) (left : ReadState) (first : Placed) (rest : List Placed) (e : Misread) → IsState level depth inside left → left.rest.now ≡ first ∷ rest
     → token_of first.token ≡ connective_token mark → connective_row mark ≤ level → depth ≤ left.height → e ≡ misread.TooLarge (length left.rest.now) → IsStateMisread level depth inside (state_tokens left) e
@@ -119,7 +109,7 @@ beyond-sign mark level depth inside left first rest e is front token lower full 
     let height = is.height in
     let low = is.low in
     let whole : words left.rest.now ≡ connective_token mark ∷ words rest = front_words left first rest (connective_token mark) front token in
-    let count : length left.rest.now ≡ suc (length (words rest)) = sym (sized left.rest.now) ∙ ap length whole in
+    let count : length left.rest.now ≡ suc (length (words rest)) = sym (words-length left.rest.now) ∙ ap length whole in
     sign-too-large mark s level depth inside (words rest) (state_tokens left) e (left-operand mark level depth inside left (words rest) is whole) is.row lower (omega arith) (omega arith) is.narrow
     (ap (λ ts. tokens s ++ ts) (sym whole)) (big ∙ ap misread.TooLarge count)
 
@@ -128,7 +118,7 @@ pub beyond-first : (token : Lexeme) (depth inside : ℕ) (placed : List Placed) 
     → ((back : List Token) → e ≡ misread.TooLarge (suc (length back)) → IsStateMisread 0 depth inside (token_of token ∷ back) e) → IsStateMisread 0 depth inside (words placed) e
 beyond-first token depth inside placed first rest e front is big none =
     let whole : words placed ≡ token_of token ∷ words rest = ap words front ∙ ap (λ (t : Lexeme). token_of t ∷ words rest) is in
-    let count : length placed ≡ suc (length (words rest)) = sym (sized placed) ∙ ap length whole in
+    let count : length placed ≡ suc (length (words rest)) = sym (words-length placed) ∙ ap length whole in
     subst (λ ts. IsStateMisread 0 depth inside ts e) (sym whole) (none (words rest) (big ∙ ap misread.TooLarge count))
 
 no_items : (placed : List Placed) → length placed ≡ 0 → placed ≡ []
@@ -137,10 +127,10 @@ no_items (first ∷ rest) e = absurd (omega (arith, e))
 
 -- no token is left
 pub none-left : (depth inside : ℕ) (placed : List Placed) (e : Misread) → length placed ≡ 0 → e ≡ misread.Unexpected (length placed) → IsStateMisread 0 depth inside (words placed) e
-none-left depth inside placed e none is = nothing-left depth inside (words placed) e (ap words (no_items placed none)) (is ∙ ap misread.Unexpected (sym (sized placed)))
+none-left depth inside placed e none is = nothing-left depth inside (words placed) e (ap words (no_items placed none)) (is ∙ ap misread.Unexpected (sym (words-length placed)))
 
 no_unary : (token : Lexeme) → (token ≡ lexeme.MuWord → ⊥) → (token ≡ lexeme.NuWord → ⊥) → (token ≡ lexeme.NotSign → ⊥) → (token ≡ lexeme.Less → ⊥) → (token ≡ lexeme.OpenBox → ⊥) → (token ≡ lexeme.Open → ⊥)
-    → IsFalse (is_word (token_of token)) → (s : Syntax) (rest more : List Token) → UnaryAs (token_of token) s rest more → ⊥
+    → IsFalse (is_state_word (token_of token)) → (s : Syntax) (rest more : List Token) → UnaryAs (token_of token) s rest more → ⊥
 no_unary lexeme.MuWord m n s l b o w x rest more h = m refl
 no_unary lexeme.NuWord m n s l b o w x rest more h = n refl
 no_unary lexeme.NotSign m n s l b o w x rest more h = s refl
@@ -154,10 +144,10 @@ no_unary _ m n s l b o w x rest more h = h
 
 -- a first token with which no formula begins
 pub none-begins : (depth inside : ℕ) (placed : List Placed) (first : Placed) (rest : List Placed) (e : Misread) → placed ≡ first ∷ rest → (first.token ≡ lexeme.MuWord → ⊥) → (first.token ≡ lexeme.NuWord → ⊥)
-    → (first.token ≡ lexeme.NotSign → ⊥) → (first.token ≡ lexeme.Less → ⊥) → (first.token ≡ lexeme.OpenBox → ⊥) → (first.token ≡ lexeme.Open → ⊥) → IsFalse (is_word (token_of first.token))
+    → (first.token ≡ lexeme.NotSign → ⊥) → (first.token ≡ lexeme.Less → ⊥) → (first.token ≡ lexeme.OpenBox → ⊥) → (first.token ≡ lexeme.Open → ⊥) → IsFalse (is_state_word (token_of first.token))
     → e ≡ misread.Unexpected (length placed) → IsStateMisread 0 depth inside (words placed) e
 none-begins depth inside placed first rest e front m n s l b o w is =
     let token = first.token in
     let whole : words placed ≡ token_of token ∷ words rest = ap words front in
-    let count : length placed ≡ length (token_of token ∷ words rest) = sym (sized placed) ∙ ap length whole in
+    let count : length placed ≡ length (token_of token ∷ words rest) = sym (words-length placed) ∙ ap length whole in
     subst (λ ts. IsStateMisread 0 depth inside ts e) (sym whole) (no-word (token_of token) (words rest) depth inside e (no_unary token m n s l b o w) (is ∙ ap misread.Unexpected count))

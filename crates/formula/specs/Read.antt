@@ -1,6 +1,6 @@
 -- What a parser has read, and how far what follows lets it go on.
 use Rattle.std.specs.Prelude.{◌≡◌, ◌⊎◌, ℕ, ◌+◌, ◌<◌, ◌≤◌, Bool, true, false, List, [], ◌∷◌, ◌++◌, max, IsTrue, IsFalse, ◌==◌, ◌||◌, Option, Some, None}
-use Rattle.formula.specs.Token.{Token, Name, TrueWord, FalseWord, ImpliesSign, OrSign, AndSign, Bar, Dot, ChoiceSign, PlusSign, StarSign}
+use Rattle.formula.specs.Token.{Token, Name, Atom, TrueWord, FalseWord, TauWord, ImpliesSign, OrSign, AndSign, Bar, Dot, ChoiceSign, PlusSign, StarSign}
 use Rattle.formula.specs.Syntax.{reg_tokens, reg_fits, reg_form, reg_nesting, reg_parens, Syntax, tokens, fits, form, nesting, parens, ends_in_binder, is_within_limits}
 use Rattle.formula.specs.Written.{words, reg_syntax, state_syntax, infixed, repeated, infix_token, repeat_token, joined, connective_token}
 use Rattle.formula.specs.declared.error.FormulaFault.{FormulaFault}
@@ -80,10 +80,18 @@ IsSuffix token (Some (suffix.Infix sign)) = token ≡ infix_token sign
 IsSuffix token (Some (suffix.Repeat sign)) = token ≡ repeat_token sign
 IsSuffix token None = (more : List Token) → IsTrue (reg_row (token ∷ more) == 0 || reg_row (token ∷ more) == 8)
 
+-- whether the token is an atom by itself, whatever follows
+abbrev pub is_word : Token → Bool
+is_word TrueWord = true
+is_word FalseWord = true
+is_word TauWord = true
+is_word (Atom bytes) = true
+is_word _ = false
+
 -- the atom that is this one token
 abbrev pub IsWordOf : Token → Option WrittenRegular → Type 0
-IsWordOf token (Some r) = (reg_tokens (reg_syntax r) ≡ token ∷ []) × (reg_form (reg_syntax r) ≡ 0) × (reg_nesting (reg_syntax r) ≡ 0) × (reg_parens (reg_syntax r) ≡ 0) × IsTrue (reg_fits (reg_syntax r))
-IsWordOf token None = Unit {0}
+IsWordOf token (Some r) = (reg_tokens (reg_syntax r) ≡ token ∷ []) × (reg_form (reg_syntax r) ≡ 0) × (reg_nesting (reg_syntax r) ≡ 0) × (reg_parens (reg_syntax r) ≡ 0) × IsTrue (reg_fits (reg_syntax r)) × IsTrue (is_word token)
+IsWordOf token None = is_word token ≡ false
 
 -- whether a bar stands first
 abbrev pub MatchBar : List Token → Bool → Type 0
@@ -100,17 +108,17 @@ abbrev pub IsConnective : Token → Option Connective → Type 0
 IsConnective token (Some sign) = token ≡ connective_token sign
 IsConnective token None = (more : List Token) → state_row (token ∷ more) ≡ 4
 
--- whether the token is a formula
-abbrev pub is_word : Token → Bool
-is_word TrueWord = true
-is_word FalseWord = true
-is_word (Name x) = true
-is_word _ = false
+-- whether the token is a state formula by itself
+abbrev pub is_state_word : Token → Bool
+is_state_word TrueWord = true
+is_state_word FalseWord = true
+is_state_word (Name x) = true
+is_state_word _ = false
 
 -- the formula that is this one token
 abbrev pub IsFormulaOf : Token → Option WrittenState → Type 0
 IsFormulaOf token (Some s) = (tokens (state_syntax s) ≡ token ∷ []) × (form (state_syntax s) ≡ 0) × (nesting (state_syntax s) ≡ 0) × (parens (state_syntax s) ≡ 0) × IsTrue (fits (state_syntax s)) × (ends_in_binder (state_syntax s) ≡ false)
-IsFormulaOf token None = IsFalse (is_word token)
+IsFormulaOf token None = IsFalse (is_state_word token)
 
 -- these tokens are the formula, which is of the grammar and within the limits
 pub record IsWhole (s : Syntax) (ts : List Token) : Type 0 where

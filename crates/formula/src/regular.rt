@@ -289,7 +289,8 @@ pub fn regular<'a>(
     level: u8,
     tokens: &'a [Placed<'a>],
 ) -> Result<ReadRegular<'a>, Misread>
-    requires { 1 ≤ level }
+    requires above { 1 ≤ level }
+    requires row { level ≤ 7 }
     ensures eaten { IfOk result (λ r. regular_tokens r ≡ words tokens.now) }
     ensures sound { IfOk result (λ r. IsRegular level room.depth room.parens r) }
     ensures refused { IfErr result (IsRegularMisread level room.depth room.parens (words tokens.now)) }
@@ -301,11 +302,8 @@ pub fn regular<'a>(
 
 /// The longest formula of this row that begins with this one.
 #[cycle(regular)]
-fn extended<'a>(
-    room: Room,
-    level: u8,
-    left: ReadRegular<'a>,
-) -> Result<ReadRegular<'a>, Misread>
+fn extended<'a>(room: Room, level: u8, left: ReadRegular<'a>) -> Result<ReadRegular<'a>, Misread>
+    requires row { level ≤ 7 }
     requires left { IsRegular level room.depth room.parens left }
     requires onward { MayGoOn left }
     ensures eaten { IfOk result (λ r. regular_tokens r ≡ regular_tokens left.entry) }

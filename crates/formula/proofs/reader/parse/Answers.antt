@@ -8,7 +8,7 @@ use Rattle.formula.specs.Checked.{IsTold, IsTreeRefusal}
 use Rattle.formula.specs.declared.token.Placed.{Placed}
 use Rattle.formula.proofs.OneText.{one_formula}
 use Rattle.formula.proofs.NoFault.{no_fault}
-use Rattle.formula.proofs.StateRefusals.{passed-on}
+use Rattle.formula.proofs.RegularRefusals.{passed_on}
 use Rattle.formula.proofs.Refusals.{token-told, grammar-told, tree-told, told-complete, told-exact, spelled-within, without_limits}
 use Rattle.formula.proofs.Sense.{meant_some, admitted_in}
 use Rattle.formula.proofs.reader.parse.Goals as goal
@@ -51,10 +51,10 @@ returns-in_err-tokens c =
     record {
       spelled = search rules;
       only = search rules;
-      complete = passed-on result e _ residual (told-complete text e told);
+      complete = passed_on result e _ residual (told-complete text e told);
       none = search rules;
-      exact = passed-on result e _ residual (told-exact text e told);
-      fault = passed-on result e _ residual told;
+      exact = passed_on result e _ residual (told-exact text e told);
+      fault = passed_on result e _ residual told;
     }
 
 pub returns-in-Err : goal.returns-in-Err
@@ -83,8 +83,8 @@ returns-in_err-check c =
     record {
       spelled = search rules;
       only = search rules;
-      complete = passed-on result e _ residual (told-complete text e told);
+      complete = passed_on result e _ residual (told-complete text e told);
       none = search rules;
-      exact = passed-on result e _ residual (told-exact text e told);
-      fault = passed-on result e _ residual told;
+      exact = passed_on result e _ residual (told-exact text e told);
+      fault = passed_on result e _ residual told;
     }
