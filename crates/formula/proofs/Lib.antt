@@ -5,6 +5,10 @@ pub mod Gaps
 pub mod Lexed
 pub mod Tokenless
 pub mod RegularUnique
+pub mod RegularSpine
+pub mod RegularPlaces
+pub mod RegularEnds
+pub mod RegularRefusals
 pub mod Unambiguous
 pub mod Pieces
 pub mod OneText
@@ -33,3 +37,8 @@ pub mod Sense
 pub mod Faultless
 pub mod NoFault
 pub mod Refusals
+pub mod Misreads
+pub mod StateSpine
+pub mod StatePlaces
+pub mod StateEnds
+pub mod StateRefusals

@@ -1,20 +1,37 @@
--- What a refusal of an operand or a variable says of its text.
-use Rattle.std.specs.Prelude.{◌≡◌, ℕ, ◌≤◌, List, [], ◌∷◌, length, map, drop, Some, slice_get, IsTrue}
-use Rattle.std.proofs.Common.{sym, ◌∙◌, ap, subst, true≢false, inr}
+-- What a refusal says of its text.
+use Rattle.std.specs.Prelude.{◌≡◌, ℕ, nat_le, ◌+◌, ◌-◌, ◌<◌, ◌≤◌, List, [], ◌∷◌, ◌++◌, length, map, drop, take, Some, suc, slice_get, IsTrue}
+use Rattle.std.proofs.Common.{arith, refl, sym, ◌∙◌, ap, subst, append-nil, append_assoc, length-append, true≢false, inl, inr}
+use Rattle.std.specs.List.{list_any}
+use Rattle.std.proofs.lemmas.Bool.{leb-true, and_parts}
+use Rattle.formula.specs.Token.{Token, is_reserved}
 use Rattle.formula.specs.Tree.{Formula}
-use Rattle.formula.specs.Syntax.{Syntax}
+use Rattle.formula.specs.Syntax.{Syntax, meant, tokens, nesting, parens, is_within_limits}
 use Rattle.formula.specs.Spells.{IsWritten, Spells, SpellsWithin}
-use Rattle.formula.specs.Fault.{operand_faults, variable_faults}
-use Rattle.formula.specs.Written.{words}
-use Rattle.formula.specs.Cutting.{IsLexed}
-use Rattle.formula.specs.Read.{IsWhole, IsRefusal, IsRefusedBy, is_token_fault, is_grammar_fault, is_tree_fault}
-use Rattle.formula.specs.Checked.{IsTreeRefusal, IsTold, is_variable_fault}
+use Rattle.formula.specs.Admitted.{IsAdmitted}
+use Rattle.formula.specs.Fault.{BeginsWithin, IsTokens, HasFault, operand_faults, variable_faults}
+use Rattle.formula.specs.Written.{words, state_syntax}
+use Rattle.formula.specs.Cutting.{IsLexed, IsTokenRefusal}
+use Rattle.formula.specs.Read.{IsWhole, IsRefusal, IsState, state_tokens, state_row}
+use Rattle.formula.specs.Misread.{BeginsState, StandsState, Within, SpellsTokens, IsStateMisread, IsWholeMisread, IsGrammarRefusal}
+use Rattle.formula.specs.Checked.{IsTreeRefusal, IsTold, NamesOnly, is_variable_fault}
 use Rattle.formula.specs.declared.token.Placed.{Placed}
 use Rattle.formula.specs.declared.scope.Misplaced.{Misplaced}
+use Rattle.formula.specs.declared.state.ReadState.{ReadState}
+use Rattle.formula.specs.declared.misread.Misread.{Misread}
+use Rattle.formula.specs.declared.misread.Misread.TheVariants as misread
 use Rattle.formula.specs.declared.error.FormulaFault.{FormulaFault}
 use Rattle.formula.specs.declared.error.FormulaFault.TheVariants as fault
 use Rattle.formula.specs.declared.error.FormulaError.{FormulaError}
 use Rattle.formula.specs.declared.error.FormulaError.TheVariants as refused
+use Rattle.formula.proofs.Regulars.{all_true, le_true}
+use Rattle.formula.proofs.Unambiguous.{any_formula}
+use Rattle.formula.proofs.Tokenless.{free_words}
+use Rattle.formula.proofs.Misreads.{Parts, IsPlace, misread-within}
+use Rattle.formula.proofs.StateSpine.{Standing, one-state}
+use Rattle.formula.proofs.StateEnds.{begun-by, same-row}
+use Rattle.formula.proofs.RegularRefusals.{words-length}
+use Rattle.formula.proofs.NoFault.{no_fault}
+use Rattle.formula.proofs.OneFault.{one_fault}
 
 first_is : {A : Type 0} (xs : List A) (x : A) → slice_get xs 0 ≡ Some x → xs ≡ x ∷ drop 1 xs
 first_is [] x e = cc
@@ -39,32 +56,205 @@ variable-refused s places found (refused.Fault other offset) none h v r =
     subst (λ (f : FormulaFault). IsTreeRefusal s places (refused.Fault f offset)) (sym r.0) (variable-refusal s places found.fault found.place offset none h v r.1)
 variable-refused s places found refused.Memory none h v r = absurd r
 
-pub token-told : (text : List ℕ) (e : FormulaError) → IsRefusedBy is_token_fault e → IsTold is_tree_fault text e
-token-told text (refused.Fault fault.NoToken offset) r = λ h. absurd (true≢false (sym h))
-token-told text (refused.Fault fault.ReservedWord offset) r = λ h. absurd (true≢false (sym h))
-token-told text (refused.Fault _ offset) r = absurd (true≢false (sym r))
-token-told text refused.Memory r = tt
+pub ruleset tree_refusals = (operand-refused, variable-refused)
 
-pub grammar-told : (text : List ℕ) (e : FormulaError) → IsRefusedBy is_grammar_fault e → IsTold is_tree_fault text e
-grammar-told text (refused.Fault fault.Unexpected offset) r = λ h. absurd (true≢false (sym h))
-grammar-told text (refused.Fault fault.Unfinished offset) r = λ h. absurd (true≢false (sym h))
-grammar-told text (refused.Fault fault.TooLarge offset) r = λ h. absurd (true≢false (sym h))
-grammar-told text (refused.Fault _ offset) r = absurd (true≢false (sym r))
-grammar-told text refused.Memory r = tt
+-- a formula that is the tokens stands at their front, and nothing is after it
+whole_in : (ts : List Token) → Parts SpellsTokens (StandsState 3) 256 1024 256 1024 ts ts
+whole_in ts nested opened x = (
+  nested,
+  opened,
+  record {
+    syntax = x.syntax;
+    rest = [];
+    grammatical = x.grammatical;
+    row = any_formula x.syntax;
+    nests = x.nests;
+    opens = x.opens;
+    stops = omega arith;
+    reaches = λ e. omega arith;
+    spelled = append-nil (tokens x.syntax) ∙ x.spelled;
+  },
+  λ h. h,
+  λ h. h,
+)
+
+whole_place : IsPlace (BeginsState 3) SpellsTokens (BeginsState 3) (StandsState 3) 256 1024 256 1024 []
+whole_place = record { outward = λ ts nested opened b. (nested, opened, b, λ h. h, λ h. h); inward = whole_in }
+
+-- where no formula stands at the front, the tokens are none
+pub whole-misread : (ts : List Token) (e : Misread) → IsStateMisread 3 256 1024 ts e → IsWholeMisread ts e
+whole-misread ts e h = misread-within (BeginsState 3) SpellsTokens (BeginsState 3) (StandsState 3) 256 1024 256 1024 [] ts e whole_place h
+
+not_over : (back more : List Token) → 0 < length back → [] ≡ take 1 back ++ more → ⊥
+not_over [] more h e = absurd (omega (arith, h))
+not_over (t ∷ back) more h e = absurd (omega (arith, ap length e))
+
+-- After a whole formula a token is left.
+pub left-over : (s : ReadState) (ts : List Token) (e : Misread) → IsState 3 256 1024 s → 3 < state_row (words s.rest.now) → state_tokens s ≡ ts → 0 < length s.rest.now
+    → e ≡ misread.Unexpected (length s.rest.now) → IsWholeMisread ts e
+left-over s ts e is stops eaten some at =
+    let f : Syntax = state_syntax s.syntax in
+    let back : List Token = words s.rest.now in
+    let count : length back ≡ length s.rest.now = words-length s.rest.now in
+    let height = is.height in
+    let low = is.low in
+    subst (λ (m : Misread). IsWholeMisread ts m) (sym (at ∙ ap misread.Unexpected (sym count))) (record {
+      front = tokens f;
+      back = back;
+      joined = sym eaten;
+      place = refl;
+      begun = begun-by 3 256 1024 f (tokens f) [] is.grammatical is.row (omega arith) is.narrow (sym (append-nil (tokens f)));
+      none = λ nested opened more stop x.
+          let row : state_row (take 1 back ++ more) ≡ state_row back = same-row back more stop in
+          let own = any_formula x.syntax in
+          let his = any_formula f in
+          let inner : Standing x.syntax [] = record { grammatical = x.grammatical; ended = omega arith; reaches = λ b. omega arith } in
+          let outer : Standing f (take 1 back ++ more) = record { grammatical = is.grammatical; ended = omega arith; reaches = λ b. omega arith } in
+          let p = one-state 3 x.syntax f [] (take 1 back ++ more) inner outer (any_formula x.syntax) (any_formula f) (omega arith) (omega arith) (append-nil (tokens x.syntax) ∙ x.spelled) in
+          not_over back more (omega arith) p.1;
+    })
+
+within_limits : (front : List Token) → Within (BeginsState 3) 256 1024 front → BeginsWithin front
+within_limits front w =
+    let low : nesting w.it.syntax ≤ 256 = omega (arith, w.it.nests, w.low) in
+    let narrow : parens w.it.syntax ≤ 1024 = omega (arith, w.it.opens, w.narrow) in
+    (w.it.syntax, w.it.more, w.it.grammatical, all_true _ _ (le_true _ _ low) (le_true _ _ narrow), w.it.spelled)
+
+split_limits : (s : Syntax) → IsTrue (is_within_limits s) → (nesting s ≤ 256) × (parens s ≤ 1024)
+split_limits s h = let o = and_parts (nat_le (nesting s) 256) (nat_le (parens s) 1024) h in (leb-true (nesting s) 256 o.0, leb-true (parens s) 1024 o.1)
+
+first_of : (back : List Token) → 0 < length back → (token : Token) × (others : List Token) × (back ≡ token ∷ others)
+first_of [] h = absurd (omega (arith, h))
+first_of (token ∷ others) h = (token, others, refl)
+
+no_more : (back : List Token) → 0 ≡ length back → back ≡ []
+no_more [] e = refl
+no_more (token ∷ others) e = absurd (omega (arith, e))
+
+pub unfinished : (ts : List Token) (places : List ℕ) (end : ℕ) → IsWholeMisread ts (misread.Unexpected 0) → IsGrammarRefusal ts places end (refused.Fault fault.Unfinished end)
+unfinished ts places end h =
+    let none : h.back ≡ [] = no_more h.back h.place in
+    let whole : h.front ≡ ts = sym (append-nil h.front) ∙ (ap (λ ts. h.front ++ ts) (sym none) ∙ sym h.joined) in
+    let begun : BeginsWithin ts = subst BeginsWithin whole (within_limits h.front h.begun) in (
+      begun,
+      λ s fit e. h.none (nesting s) (parens s) [] (λ k. refl) (record {
+        syntax = s;
+        grammatical = fit;
+        nests = refl;
+        opens = refl;
+        spelled = e ∙ (sym whole ∙ (sym (append-nil h.front) ∙ ap (λ ts. h.front ++ (take 1 ts ++ [])) (sym none)));
+      }),
+      refl,
+    )
+
+-- the token with which no formula begins
+unexpected_at : (ts : List Token) (places : List ℕ) (end left offset : ℕ) → IsWholeMisread ts (misread.Unexpected left) → 0 < left → slice_get places (length ts - left) ≡ Some offset
+    → IsGrammarRefusal ts places end (refused.Fault fault.Unexpected offset)
+unexpected_at ts places end left offset h some at =
+    let place = h.place in
+    let first = first_of h.back (omega arith) in
+    let size : length ts ≡ length h.front + length h.back = ap length h.joined ∙ length-append h.front h.back in
+    let here : length ts - left ≡ length h.front = omega arith in
+    let one : take 1 h.back ≡ first.0 ∷ [] = ap (take 1) first.2 in (
+      h.front,
+      first.1,
+      first.0,
+      h.joined ∙ ap (λ ts. h.front ++ ts) first.2,
+      within_limits h.front h.begun,
+      λ b. h.none (nesting b.0) (parens b.0) b.1 (λ none. absurd (omega (arith, ap length none))) (record {
+        syntax = b.0;
+        grammatical = b.2;
+        nests = refl;
+        opens = refl;
+        spelled = b.3 ∙ (append_assoc h.front (first.0 ∷ []) b.1 ∙ ap (λ ts. h.front ++ (ts ++ b.1)) (sym one));
+      }),
+      ap (slice_get places) (sym here) ∙ at,
+    )
+
+pub unexpected : (ts : List Token) (places : List ℕ) (end left : ℕ) (e : FormulaError) → IsWholeMisread ts (misread.Unexpected left) → 0 < left
+    → IsRefusal fault.Unexpected (slice_get places (length ts - left)) e → IsGrammarRefusal ts places end e
+unexpected ts places end left (refused.Fault other offset) h some r =
+    subst (λ (f : FormulaFault). IsGrammarRefusal ts places end (refused.Fault f offset)) (sym r.0) (unexpected_at ts places end left offset h some r.1)
+unexpected ts places end left refused.Memory h some r = tt
+
+-- the token with which no formula within the limits begins
+too_large_at : (ts : List Token) (places : List ℕ) (end left offset : ℕ) → IsWholeMisread ts (misread.TooLarge left) → slice_get places (length ts - left) ≡ Some offset
+    → IsGrammarRefusal ts places end (refused.Fault fault.TooLarge offset)
+too_large_at ts places end left offset h at =
+    let place = h.place in
+    let size : length ts ≡ length h.front + suc (length h.back) = ap length h.joined ∙ length-append h.front (h.token ∷ h.back) in
+    let here : length ts - left ≡ length h.front = omega arith in
+    let on = h.goes_on in (
+      h.front,
+      h.back,
+      h.token,
+      h.joined,
+      within_limits h.front h.begun,
+      (on.2.syntax, on.2.more, on.2.grammatical, on.2.spelled),
+      λ b.
+          let limits = split_limits b.0 b.3 in
+          h.none b.1 (record {
+            nested = nesting b.0;
+            opened = parens b.0;
+            it = record { syntax = b.0; grammatical = b.2; nests = refl; opens = refl; spelled = b.4 ∙ append_assoc h.front (h.token ∷ []) b.1 };
+            low = limits.0;
+            narrow = limits.1;
+          }),
+      ap (slice_get places) (sym here) ∙ at,
+    )
+
+pub too-large : (ts : List Token) (places : List ℕ) (end left : ℕ) (e : FormulaError) → IsWholeMisread ts (misread.TooLarge left)
+    → IsRefusal fault.TooLarge (slice_get places (length ts - left)) e → IsGrammarRefusal ts places end e
+too-large ts places end left (refused.Fault other offset) h r =
+    subst (λ (f : FormulaFault). IsGrammarRefusal ts places end (refused.Fault f offset)) (sym r.0) (too_large_at ts places end left offset h r.1)
+too-large ts places end left refused.Memory h r = tt
+
+pub long-told : (text : List ℕ) → 1048576 < length text → IsTold text (refused.Fault fault.TooLarge 1048576)
+long-told text h = inl (h, refl, refl)
+
+pub token-told : (text : List ℕ) (e : FormulaError) → length text ≤ 1048576 → IsTokenRefusal text e → IsTold text e
+token-told text (refused.Fault f offset) short r = inr (short, inl r)
+token-told text refused.Memory short r = tt
+
+-- the pieces of a text that was cut into tokens, none of which is reserved
+lexed_tokens : (text : List ℕ) (placed : List Placed) (l : IsLexed text placed) → IsTokens text l.pieces
+lexed_tokens text placed l = record { joined = l.joined; cut = l.cut; decided = l.decided; free = ap (list_any is_reserved) l.spelled ∙ free_words placed }
+
+pub grammar-told : (text : List ℕ) (placed : List Placed) (e : FormulaError) → length text ≤ 1048576 → IsLexed text placed
+    → IsGrammarRefusal (words placed) (map (λ p. p.offset) placed) (length text) e → IsTold text e
+grammar-told text placed (refused.Fault fault.Unexpected offset) short l r =
+    inr (short, inr (inl (l.pieces, r.0, r.1, r.2, lexed_tokens text placed l, l.spelled ∙ r.3, r.4, r.5, ap (λ places. slice_get places (length r.0)) l.places ∙ r.6)))
+grammar-told text placed (refused.Fault fault.TooLarge offset) short l r =
+    inr (short, inr (inl (l.pieces, r.0, r.1, r.2, lexed_tokens text placed l, l.spelled ∙ r.3, r.4, r.5, r.6, ap (λ places. slice_get places (length r.0)) l.places ∙ r.7)))
+grammar-told text placed (refused.Fault fault.Unfinished offset) short l r =
+    inr (short, inr (inl (l.pieces, lexed_tokens text placed l, subst BeginsWithin (sym l.spelled) r.0, λ s fit e. r.1 s fit (e ∙ l.spelled), r.2)))
+grammar-told text placed (refused.Fault _ offset) short l r = absurd r
+grammar-told text placed refused.Memory short l r = tt
 
 pub written-as : (text : List ℕ) (placed : List Placed) (s : Syntax) (l : IsLexed text placed) → IsWhole s (words placed) → IsWritten text l.pieces s
 written-as text placed s l w = record { joined = l.joined; cut = l.cut; decided = l.decided; spelled = l.spelled ∙ sym w.spelled; grammatical = w.grammatical }
 
+pub spelled-within : (text : List ℕ) (placed : List Placed) (s : Syntax) (f : Formula) → length text ≤ 1048576 → IsLexed text placed → IsWhole s (words placed) → meant s ≡ Some f → SpellsWithin text f
+spelled-within text placed s f short l w m =
+    record { pieces = l.pieces; syntax = s; written = written-as text placed s l w; stands_for = m; within = w.within; short = short }
+
 pub tree-told : (text : List ℕ) (placed : List Placed) (s : Syntax) (e : FormulaError) → length text ≤ 1048576 → IsLexed text placed → IsWhole s (words placed)
-    → IsTreeRefusal s (map (λ p. p.offset) placed) e → IsTold is_tree_fault text e
-tree-told text placed s (refused.Fault fault.NotAnAction offset) short l w r = λ h.
+    → IsTreeRefusal s (map (λ p. p.offset) placed) e → IsTold text e
+tree-told text placed s (refused.Fault fault.NotAnAction offset) short l w r =
     inr (short, inr (inr (l.pieces, s, r.0, r.1, written-as text placed s l w, w.within, r.2, ap (λ places. slice_get places r.0) l.places ∙ r.3)))
-tree-told text placed s (refused.Fault fault.Unbound offset) short l w r = λ h.
+tree-told text placed s (refused.Fault _ offset) short l w r =
     inr (short, inr (inr (l.pieces, s, r.0, r.1, written-as text placed s l w, w.within, r.2, r.3, ap (λ places. slice_get places r.0) l.places ∙ r.4)))
-tree-told text placed s (refused.Fault fault.OddNegations offset) short l w r = λ h.
-    inr (short, inr (inr (l.pieces, s, r.0, r.1, written-as text placed s l w, w.within, r.2, r.3, ap (λ places. slice_get places r.0) l.places ∙ r.4)))
-tree-told text placed s (refused.Fault _ offset) short l w r = λ h. absurd (true≢false (sym h))
 tree-told text placed s refused.Memory short l w r = tt
+
+-- A refusal that tells the fault of its text refuses no good text for it.
+pub told-complete : (text : List ℕ) (e : FormulaError) → IsTold text e → (f : Formula) → SpellsWithin text f → IsAdmitted f → e ≡ refused.Memory
+told-complete text (refused.Fault fault place) t f s a = absurd (no_fault text f fault place s a t)
+told-complete text refused.Memory t f s a = refl
+
+-- and tells no other
+pub told-exact : (text : List ℕ) (e : FormulaError) → IsTold text e → (fault : FormulaFault) (place : ℕ) → HasFault text fault place → NamesOnly fault place e
+told-exact text (refused.Fault named offset) t fault place h = one_fault text named fault offset place t h
+told-exact text refused.Memory t fault place h = tt
 
 -- what is spelled within the limits is spelled
 pub without_limits : (text : List ℕ) (f : Formula) → SpellsWithin text f → Spells text f

@@ -3,7 +3,7 @@ use Rattle.std.proofs.Common.{◌≡◌, ℕ, zero, suc, ◌+◌, ◌<◌, ◌�
 use Rattle.std.specs.Prelude.{nat_le, nat_lt, ◌==◌, if◌then◌else◌}
 use Rattle.std.proofs.lemmas.Bool.{leb-true, ltb-true, lt-ltb, ne_eqb, eq-eqb, and_parts, cases_eq}
 use Rattle.formula.specs.Token.{Token, Name, Atom, TrueWord, FalseWord, TauWord, ImpliesSign, OrSign, AndSign, Bar, NotSign, Open, Close, Dot, ChoiceSign, PlusSign, StarSign}
-use Rattle.formula.specs.Syntax.{RegSyntax, Anything', Nothing', Tau', Names', Quoted', Parens', Not', And', Or', Implies', Star', Plus', Then', Either', reg_form, reg_fits, reg_tokens, more_names}
+use Rattle.formula.specs.Syntax.{RegSyntax, Anything', Nothing', Tau', Names', Quoted', Parens', Not', And', Or', Implies', Star', Plus', Then', Either', reg_form, reg_fits, reg_tokens, reg_nesting, more_names}
 
 -- the least form that can go on with this token
 abbrev pub reg_level : Token → ℕ
@@ -68,7 +68,7 @@ chosen PlusSign a b = a
 chosen _ a b = b
 
 -- what goes on after an operand of a form
-abbrev more : ℕ → RegReader → RegSyntax → List Token → Found RegSyntax
+abbrev pub more : ℕ → RegReader → RegSyntax → List Token → Found RegSyntax
 more k read r [] = Some (r, [])
 more k read r (t ∷ ts) = if reg_level t == k then chosen t (more k read (joined t r r) ts) (within (joined t r) (read k ts)) else Some (r, t ∷ ts)
 
@@ -212,10 +212,10 @@ and_three : (a b c : Bool) → (a && b && c) ≡ true → (a ≡ true) × (b ≡
 and_three a b c h = let x = and_parts (a && b) c h in let y = and_parts a b x.0 in (y.0, y.1, x.1)
 
 -- of an operator with two operands of these forms
-abbrev Operands : (i j : ℕ) → RegSyntax → RegSyntax → Type 0
+abbrev pub Operands : (i j : ℕ) → RegSyntax → RegSyntax → Type 0
 Operands i j r s = (reg_form r ≤ i) × (reg_form s ≤ j) × (reg_fits r ≡ true) × (reg_fits s ≡ true)
 
-operands : (i j : ℕ) (r s : RegSyntax) → (nat_le (reg_form r) i && nat_le (reg_form s) j && reg_fits r && reg_fits s) ≡ true → Operands i j r s
+pub operands : (i j : ℕ) (r s : RegSyntax) → (nat_le (reg_form r) i && nat_le (reg_form s) j && reg_fits r && reg_fits s) ≡ true → Operands i j r s
 operands i j r s h =
     let x = and_parts (nat_le (reg_form r) i && nat_le (reg_form s) j && reg_fits r) (reg_fits s) h in
     let y = and_three (nat_le (reg_form r) i) (nat_le (reg_form s) j) (reg_fits r) x.0 in
@@ -300,3 +300,20 @@ pub one_regular : (k : ℕ) (r s : RegSyntax) (m n : List Token) → reg_fits r 
 one_regular k r s m n fr fs lr ls sm sn e =
     let size : ℕ = reg_size r + reg_size s in
     found_once (r, m) (s, n) (sym (reg_found r k size m fr lr (omega arith) sm) ∙ (ap (reg_read size k) e ∙ reg_found s k size n fs ls (omega arith) sn))
+
+-- after postfix signs a formula is at least as deep, and what's left may stand after such a sign
+pub more_grows : (read : RegReader) (r s : RegSyntax) (ts m : List Token) → reg_stops 5 m ≡ true → more 5 read r ts ≡ Some (s, m) → (reg_nesting r ≤ reg_nesting s) × (reg_stops 4 ts ≡ true)
+more_grows read r s [] m stop e = let d : reg_nesting r ≡ reg_nesting s = ap reg_nesting (found_once (r, []) (s, m) e).0 in (omega arith, refl)
+more_grows read r s (StarSign ∷ ts) m stop e = let p = more_grows read (Star' r) s ts m stop e in (omega (arith, p.0), refl)
+more_grows read r s (PlusSign ∷ ts) m stop e = let p = more_grows read (Plus' r) s ts m stop e in (omega (arith, p.0), refl)
+more_grows read r s (t ∷ ts) m stop e =
+    let f = found_once (r, t ∷ ts) (s, m) e in
+    let d : reg_nesting r ≡ reg_nesting s = ap reg_nesting f.0 in
+    (omega arith, stops_below 4 5 (t ∷ ts) (omega arith) (subst (λ n. reg_stops 5 n ≡ true) (sym f.1) stop))
+
+-- A postfixed formula at the front of tokens is found from any formula there that postfix signs follow.
+pub postfix_found : (left s : RegSyntax) (ts m : List Token) → reg_fits left ≡ true → reg_fits s ≡ true → reg_form left ≤ 5 → reg_form s ≤ 5 → reg_stops 4 ts ≡ true → reg_stops 5 m ≡ true
+    → reg_tokens s ++ m ≡ reg_tokens left ++ ts → more 5 (reg_read (reg_size left + reg_size s)) left ts ≡ Some (s, m)
+postfix_found left s ts m fl fs ll ls st sm e =
+    let n : ℕ = reg_size left + reg_size s in
+    sym ((finds left fl).1 n ts ll (omega arith) st) ∙ (ap (levels (reg_read n) 5) (sym e) ∙ (finds s fs).0 5 n m ls (omega arith) sm)

@@ -1,5 +1,5 @@
 -- Where no token stands at the front of a text, or a reserved word does.
-use Rattle.std.specs.Prelude.{◌≡◌, ◌≢◌, ℕ, ◌<◌, ◌≤◌, Bool, true, false, not, ◌&&◌, ◌||◌, cond, List, [], ◌∷◌, ◌++◌, length, take, drop, IsTrue, refl, slice_get, nat_le, Option, Some, None, ◌⊎◌, ◌==◌}
+use Rattle.std.specs.Prelude.{◌≡◌, ◌≢◌, ℕ, ◌<◌, ◌≤◌, Bool, true, false, not, ◌&&◌, ◌||◌, cond, List, [], ◌∷◌, ◌++◌, length, take, drop, refl, slice_get, nat_le, Option, Some, None, ◌⊎◌, ◌==◌}
 use Rattle.std.specs.List.{list_all, list_any, take_while}
 use Rattle.std.specs.Str.{bytes_eq}
 use Rattle.std.proofs.Common.{arith, sym, ◌∙◌, ap, subst, append_assoc, true≢false, get_or, inl, inr}
@@ -11,7 +11,6 @@ use Rattle.lts.specs.Text.{is_name, is_name_byte, is_letter}
 use Rattle.lts.specs.Label.{is_label_byte}
 use Rattle.formula.specs.Token.{Token, Name, Reserved, Atom, TrueWord, FalseWord, MuWord, NuWord, TauWord, ImpliesSign, OrSign, AndSign, spelling, reserved_words, IsToken, Blank, Comment, Word, begins, text_of, Cuts, tokens_of, is_reserved}
 use Rattle.formula.specs.Written.{words}
-use Rattle.formula.specs.Read.{is_token_fault}
 use Rattle.formula.specs.Fault.{NothingBegins, TokenFault}
 use Rattle.formula.specs.Cutting.{IsCut, Stands, IsAtomless, IsSignless, BeginsReserved, IsTokenless, begins_gap, is_single, is_double}
 use Rattle.formula.specs.declared.token.Placed.{Placed}
@@ -127,7 +126,7 @@ sign-tokenless (b ∷ text) f some quote letter none =
       | inr (inr (inr a)) ↦ true≢false (sym a ∙ none.2)
     ])
 
-free_words : (placed : List Placed) → list_any is_reserved (words placed) ≡ false
+pub free_words : (placed : List Placed) → list_any is_reserved (words placed) ≡ false
 free_words [] = refl
 free_words (p ∷ placed) = ap (λ b. b || list_any is_reserved (words placed)) (not_reserved p.token) ∙ free_words placed
 
@@ -154,8 +153,3 @@ token-fault text at placed fault.ReservedWord c lt (word, s) =
     let cut : Cuts c.pieces (word ++ s.rest) = subst (λ (t : List ℕ). Cuts c.pieces t) s.joined c.front.cut in
     (c.pieces, word, s.rest, joined, cut, free, s.valid, s.ends, sym (front-length c.pieces at text c.front))
 token-fault text at placed _ c lt none = absurd none
-
-pub token-faulty : (text : List ℕ) (f : FormulaFault) (place : ℕ) → TokenFault text f place → IsTrue (is_token_fault f)
-token-faulty text fault.NoToken place h = refl
-token-faulty text fault.ReservedWord place h = refl
-token-faulty text _ place h = absurd h

@@ -98,7 +98,7 @@ some_tree (Mu' name f) = omega arith
 some_tree (Nu' name f) = omega arith
 some_tree _ = omega arith
 
-any_formula : (f : Syntax) → form f ≤ 3
+pub any_formula : (f : Syntax) → form f ≤ 3
 any_formula (Both' f g) = omega arith
 any_formula (OneOf' f g) = omega arith
 any_formula (If' f g) = omega arith
@@ -163,10 +163,10 @@ from_unary : (f : Syntax)
 from_unary f found k n m low small h d = lifted (reg_read n) (read n) (tokens f ++ m) m f 0 k (omega arith) (found n m small (stops_below 0 k m (omega arith) h) d) h
 
 -- of an operator with two operands of these forms
-abbrev Operands : (i j : ℕ) → Syntax → Syntax → Type 0
+abbrev pub Operands : (i j : ℕ) → Syntax → Syntax → Type 0
 Operands i j f g = (left_fits i f ≡ true) × (form g ≤ j) × (fits f ≡ true) × (fits g ≡ true)
 
-operands : (i j : ℕ) (f g : Syntax) → (left_fits i f && nat_le (form g) j && fits f && fits g) ≡ true → Operands i j f g
+pub operands : (i j : ℕ) (f g : Syntax) → (left_fits i f && nat_le (form g) j && fits f && fits g) ≡ true → Operands i j f g
 operands i j f g h =
     let x = and_parts (left_fits i f && nat_le (form g) j && fits f) (fits g) h in
     let y = and_parts (left_fits i f && nat_le (form g) j) (fits f) x.0 in
@@ -178,7 +178,7 @@ modal : (close : Token) (r : RegSyntax) (f : Syntax) (n : ℕ) (m : List Token) 
     → reg_read n 7 ((reg_tokens r ++ close ∷ tokens f) ++ m) ≡ Some (r, close ∷ (tokens f ++ m))
 modal close r f n m h fit small = ap (reg_read n 7) (append_assoc (reg_tokens r) (close ∷ tokens f) m) ∙ reg_found r 7 n (close ∷ (tokens f ++ m)) fit (any_form r) small h
 
-modal_parts : (r : RegSyntax) (f : Syntax) → (nat_le (form f) 0 && reg_fits r && fits f) ≡ true → (form f ≤ 0) × (reg_fits r ≡ true) × (fits f ≡ true)
+pub modal_parts : (r : RegSyntax) (f : Syntax) → (nat_le (form f) 0 && reg_fits r && fits f) ≡ true → (form f ≤ 0) × (reg_fits r ≡ true) × (fits f ≡ true)
 modal_parts r f h =
     let x = and_parts (nat_le (form f) 0 && reg_fits r) (fits f) h in
     let y = and_parts (nat_le (form f) 0) (reg_fits r) x.0 in

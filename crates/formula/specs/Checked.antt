@@ -53,7 +53,12 @@ IsTreeRefusal s places (refused.Fault other offset) =
     (first : ℕ) × (others : List (ℕ × FormulaFault)) × (operand_faults 0 s ≡ []) × (variable_faults [] 0 s ≡ (first, other) ∷ others) × (slice_get places first ≡ Some offset)
 IsTreeRefusal s places refused.Memory = ⊥
 
--- a refusal by such a fault names the fault that decides
-abbrev pub IsTold : (FormulaFault → Bool) → List ℕ → FormulaError → Type 0
-IsTold test text (refused.Fault fault offset) = IsTrue (test fault) → HasFault text fault offset
-IsTold test text refused.Memory = Unit {0}
+-- the fault that is named is the one that decides
+abbrev pub IsTold : List ℕ → FormulaError → Type 0
+IsTold text (refused.Fault fault offset) = HasFault text fault offset
+IsTold text refused.Memory = Unit {0}
+
+-- the error names this fault and place, if it names one
+abbrev pub NamesOnly : FormulaFault → ℕ → FormulaError → Type 0
+NamesOnly fault place (refused.Fault named offset) = (named ≡ fault) × (offset ≡ place)
+NamesOnly fault place refused.Memory = Unit {0}

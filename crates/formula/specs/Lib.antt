@@ -11,6 +11,7 @@ pub mod Fault
 pub mod Closed
 pub mod Written
 pub mod Read
+pub mod Misread
 pub mod Cutting
 pub mod Laws
 pub mod FixpointLaws

@@ -1,10 +1,9 @@
 -- What a parser has read, and how far what follows lets it go on.
-use Rattle.std.specs.Prelude.{◌≡◌, ℕ, ◌+◌, ◌<◌, ◌≤◌, Bool, true, false, List, [], ◌∷◌, ◌++◌, max, IsTrue, ◌==◌, ◌||◌, Option, Some, None}
-use Rattle.formula.specs.Token.{Token, ImpliesSign, OrSign, AndSign, Bar, Dot, ChoiceSign, PlusSign, StarSign}
+use Rattle.std.specs.Prelude.{◌≡◌, ◌⊎◌, ℕ, ◌+◌, ◌<◌, ◌≤◌, Bool, true, false, List, [], ◌∷◌, ◌++◌, max, IsTrue, IsFalse, ◌==◌, ◌||◌, Option, Some, None}
+use Rattle.formula.specs.Token.{Token, Name, Atom, TrueWord, FalseWord, TauWord, ImpliesSign, OrSign, AndSign, Bar, Dot, ChoiceSign, PlusSign, StarSign}
 use Rattle.formula.specs.Syntax.{reg_tokens, reg_fits, reg_form, reg_nesting, reg_parens, Syntax, tokens, fits, form, nesting, parens, ends_in_binder, is_within_limits}
 use Rattle.formula.specs.Written.{words, reg_syntax, state_syntax, infixed, repeated, infix_token, repeat_token, joined, connective_token}
 use Rattle.formula.specs.declared.error.FormulaFault.{FormulaFault}
-use Rattle.formula.specs.declared.error.FormulaFault.TheVariants as fault
 use Rattle.formula.specs.declared.error.FormulaError.{FormulaError}
 use Rattle.formula.specs.declared.error.FormulaError.TheVariants as refused
 use Rattle.formula.specs.declared.written.Infix.{Infix}
@@ -61,6 +60,10 @@ pub record IsState (level depth inside : ℕ) (s : ReadState) : Type 0 where
   pub reaches : ends_in_binder (state_syntax s.syntax) ≡ true → 3 < state_row (words s.rest.now)
   pub ended : form (state_syntax s.syntax) < state_row (words s.rest.now)
 
+-- What was read may stand before the next token in a longer formula, if that token goes on at all.
+abbrev pub MayGoOn : ReadRegular → Type 0
+MayGoOn r = let form = reg_form (reg_syntax r.syntax) in let row = reg_row (words r.rest.now) in (form < row) ⊎ ((form ≤ 5) × (row ≡ 5))
+
 -- what was read, under a postfix sign
 pub record IsRepeated (left : ReadRegular) (sign : Repeat) (r : ReadRegular) : Type 0 where
   pub syntax : reg_syntax r.syntax ≡ repeated sign (reg_syntax left.syntax)
@@ -77,10 +80,18 @@ IsSuffix token (Some (suffix.Infix sign)) = token ≡ infix_token sign
 IsSuffix token (Some (suffix.Repeat sign)) = token ≡ repeat_token sign
 IsSuffix token None = (more : List Token) → IsTrue (reg_row (token ∷ more) == 0 || reg_row (token ∷ more) == 8)
 
+-- whether the token is an atom by itself, whatever follows
+abbrev pub is_word : Token → Bool
+is_word TrueWord = true
+is_word FalseWord = true
+is_word TauWord = true
+is_word (Atom bytes) = true
+is_word _ = false
+
 -- the atom that is this one token
 abbrev pub IsWordOf : Token → Option WrittenRegular → Type 0
-IsWordOf token (Some r) = (reg_tokens (reg_syntax r) ≡ token ∷ []) × (reg_form (reg_syntax r) ≡ 0) × (reg_nesting (reg_syntax r) ≡ 0) × (reg_parens (reg_syntax r) ≡ 0) × IsTrue (reg_fits (reg_syntax r))
-IsWordOf token None = Unit {0}
+IsWordOf token (Some r) = (reg_tokens (reg_syntax r) ≡ token ∷ []) × (reg_form (reg_syntax r) ≡ 0) × (reg_nesting (reg_syntax r) ≡ 0) × (reg_parens (reg_syntax r) ≡ 0) × IsTrue (reg_fits (reg_syntax r)) × IsTrue (is_word token)
+IsWordOf token None = is_word token ≡ false
 
 -- whether a bar stands first
 abbrev pub MatchBar : List Token → Bool → Type 0
@@ -97,10 +108,17 @@ abbrev pub IsConnective : Token → Option Connective → Type 0
 IsConnective token (Some sign) = token ≡ connective_token sign
 IsConnective token None = (more : List Token) → state_row (token ∷ more) ≡ 4
 
+-- whether the token is a state formula by itself
+abbrev pub is_state_word : Token → Bool
+is_state_word TrueWord = true
+is_state_word FalseWord = true
+is_state_word (Name x) = true
+is_state_word _ = false
+
 -- the formula that is this one token
 abbrev pub IsFormulaOf : Token → Option WrittenState → Type 0
 IsFormulaOf token (Some s) = (tokens (state_syntax s) ≡ token ∷ []) × (form (state_syntax s) ≡ 0) × (nesting (state_syntax s) ≡ 0) × (parens (state_syntax s) ≡ 0) × IsTrue (fits (state_syntax s)) × (ends_in_binder (state_syntax s) ≡ false)
-IsFormulaOf token None = Unit {0}
+IsFormulaOf token None = IsFalse (is_state_word token)
 
 -- these tokens are the formula, which is of the grammar and within the limits
 pub record IsWhole (s : Syntax) (ts : List Token) : Type 0 where
@@ -112,28 +130,3 @@ pub record IsWhole (s : Syntax) (ts : List Token) : Type 0 where
 abbrev pub IsRefusal : FormulaFault → Option ℕ → FormulaError → Type 0
 IsRefusal fault place (refused.Fault other offset) = (other ≡ fault) × (place ≡ Some offset)
 IsRefusal fault place refused.Memory = ⊥
-
--- no token begins, or a reserved word stands
-abbrev pub is_token_fault : FormulaFault → Bool
-is_token_fault fault.NoToken = true
-is_token_fault fault.ReservedWord = true
-is_token_fault _ = false
-
--- the tokens are no formula, or none within the limits
-abbrev pub is_grammar_fault : FormulaFault → Bool
-is_grammar_fault fault.Unexpected = true
-is_grammar_fault fault.Unfinished = true
-is_grammar_fault fault.TooLarge = true
-is_grammar_fault _ = false
-
--- an operand or a variable
-abbrev pub is_tree_fault : FormulaFault → Bool
-is_tree_fault fault.Unbound = true
-is_tree_fault fault.OddNegations = true
-is_tree_fault fault.NotAnAction = true
-is_tree_fault _ = false
-
--- a refusal for such a fault, or for memory
-abbrev pub IsRefusedBy : (FormulaFault → Bool) → FormulaError → Type 0
-IsRefusedBy test (refused.Fault fault offset) = IsTrue (test fault)
-IsRefusedBy test refused.Memory = Unit {0}

@@ -1,8 +1,9 @@
 // Why a text gave no formula.
 
 ghost use Rattle.std.specs.Prelude.{◌≡◌};
-ghost use Rattle.formula.specs.declared.error.FormulaError.TheVariants.{Memory};
+ghost use Rattle.formula.specs.declared.error.FormulaError.{FormulaError};
 
+use lts::Memory;
 use std::alloc::AllocFailed;
 use thiserror::Error;
 
@@ -47,9 +48,18 @@ pub enum FormulaError {
 }
 
 impl<T: Drop> From<AllocFailed<T>> for FormulaError {
-    ghost from_gives = { λ _ e. e ≡ Memory };
+    ghost from_gives = { λ _ e. e ≡ FormulaError.Memory };
 
     fn from(error: AllocFailed<T>) -> Self {
+        let _ = error;
+        FormulaError::Memory
+    }
+}
+
+impl From<Memory> for FormulaError {
+    ghost from_gives = { λ _ e. e ≡ FormulaError.Memory };
+
+    fn from(error: Memory) -> Self {
         let _ = error;
         FormulaError::Memory
     }

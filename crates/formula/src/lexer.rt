@@ -7,7 +7,6 @@ ghost use Rattle.lts.specs.Text.{is_letter as is_letter_of, is_name_byte as is_n
 ghost use Rattle.lts.specs.Label.{is_label_byte as is_label_byte_of};
 ghost use Rattle.formula.specs.Token.{ChoiceSign, PlusSign, reserved_words, begins};
 ghost use Rattle.formula.specs.Written.{token_of};
-ghost use Rattle.formula.specs.Read.{IsRefusedBy, is_token_fault};
 ghost use Rattle.formula.specs.Cutting.{IsGap, IsFirst, IsSingle, IsDouble, IsNamed, IsCut, IsLexed, IsDecidedBy, IsAtomless, IsSignless, BeginsReserved, IsTokenless, IsTokenRefusal, begins_gap, is_double, is_single, is_postfix_before};
 
 use crate::error::{FormulaError, FormulaFault};
@@ -240,7 +239,7 @@ fn decided<'a>(token: Token<'a>, next: Option<u8>) -> Token<'a>
 
 /// The tokens of a text.
 pub fn tokens<'a>(alloc: Global, text: &'a [u8]) -> Result<Vec<Placed<'a>>, FormulaError>
-    ensures { MatchResult result (λ v. IsLexed text.now v.items) (λ e. IsRefusedBy is_token_fault e × IsTokenRefusal text.now e) }
+    ensures { MatchResult result (λ v. IsLexed text.now v.items) (IsTokenRefusal text.now) }
 {
     let mut tokens = Vec::new(alloc);
     let mut at = gap_len(text);

@@ -14,6 +14,7 @@ pub use printer::print;
 
 mod lexer;
 mod meant;
+mod misread;
 mod operands;
 pub mod reader;
 mod regular;

@@ -3,9 +3,11 @@
 ghost use Rattle.std.specs.Prelude.{◌≡◌, ℕ, ◌<◌, List, [], length, map, IfOk, IfErr, MatchResult, slice_get};
 ghost use Rattle.formula.specs.Written.{words, state_syntax};
 ghost use Rattle.formula.specs.Tree.{Formula};
-ghost use Rattle.formula.specs.Fault.{operand_faults, variable_faults};
-ghost use Rattle.formula.specs.Read.{IsWhole, IsRefusal, IsRefusedBy, is_grammar_fault, is_tree_fault};
-ghost use Rattle.formula.specs.Checked.{IsTreeRefusal, IsTold};
+ghost use Rattle.formula.specs.Fault.{HasFault, operand_faults, variable_faults};
+ghost use Rattle.formula.specs.Read.{IsWhole, IsRefusal};
+ghost use Rattle.formula.specs.Misread.{IsWholeMisread, IsGrammarRefusal};
+ghost use Rattle.formula.specs.Admitted.{IsAdmitted};
+ghost use Rattle.formula.specs.Checked.{IsTreeRefusal, IsTold, NamesOnly};
 ghost use Rattle.formula.specs.Spells.{Spells, SpellsWithin};
 ghost use Rattle.formula.specs.Closed.{closed_formula};
 
@@ -13,6 +15,7 @@ use crate::closed::Closed;
 use crate::error::{FormulaError, FormulaFault};
 use crate::lexer::tokens;
 use crate::meant;
+use crate::misread::Misread;
 use crate::operands::state_operands;
 use crate::room::Room;
 use crate::scope::{Binders, variables};
@@ -31,22 +34,19 @@ pub const DEEPEST: usize = 256;
 pub const MOST_PARENS: usize = 1_024;
 
 /// The formula that the tokens are, as it is written.
-fn written<'a>(
-    alloc: Global,
-    end: usize,
-    tokens: &'a [Placed<'a>],
-) -> Result<WrittenState<'a>, FormulaError>
-    ensures { MatchResult result (λ written. IsWhole (state_syntax written) (words tokens.now)) (IsRefusedBy is_grammar_fault) }
+fn written<'a>(alloc: Global, tokens: &'a [Placed<'a>]) -> Result<WrittenState<'a>, Misread>
+    ensures { MatchResult result
+        (λ written. IsWhole (state_syntax written) (words tokens.now))
+        (IsWholeMisread (words tokens.now)) }
 {
     let room = Room {
         alloc,
         depth: DEEPEST,
         parens: MOST_PARENS,
-        end,
     };
     let whole = state(room, ANY_STATE, tokens)?;
     if !whole.rest.is_empty() {
-        return Err(room.unexpected(whole.rest));
+        return Err(Misread::unexpected(whole.rest));
     }
     Ok(whole.syntax)
 }
@@ -62,7 +62,26 @@ fn refusal(tokens: &[Placed<'_>], place: usize, fault: FormulaFault) -> FormulaE
     }
 }
 
+/// The refusal of tokens that are no formula, in a text of this length.
+fn grammar_refusal(tokens: &[Placed<'_>], end: usize, misread: Misread) -> FormulaError
+    requires { IsWholeMisread (words tokens.now) misread }
+    ensures { IsGrammarRefusal (words tokens.now) (map (λ p. p.offset) tokens.now) end result }
+{
+    match misread {
+        Misread::Unexpected { left: 0 } => FormulaError::Fault {
+            fault: FormulaFault::Unfinished,
+            offset: end,
+        },
+        Misread::Unexpected { left } => {
+            refusal(tokens, tokens.len() - left, FormulaFault::Unexpected)
+        }
+        Misread::TooLarge { left } => refusal(tokens, tokens.len() - left, FormulaFault::TooLarge),
+        Misread::Memory => FormulaError::Memory,
+    }
+}
+
 /// Whether each operand inside a modality and each variable may stand where it does; else the refusal of the first.
+#[tactic(auto, using(crate::proofs::Refusals::tree_refusals))]
 fn check(tokens: &[Placed<'_>], written: &WrittenState<'_>) -> Result<(), FormulaError>
     requires { IsWhole (state_syntax written.now) (words tokens.now) }
     ensures { let s = state_syntax written.now in MatchResult result
@@ -82,7 +101,13 @@ fn check(tokens: &[Placed<'_>], written: &WrittenState<'_>) -> Result<(), Formul
 pub fn parse(alloc: Global, text: &[u8]) -> Result<Closed, FormulaError>
     ensures spelled { IfOk result (λ f. SpellsWithin text.now (closed_formula f)) }
     ensures only { IfOk result (λ f. (other : Formula) → Spells text.now other → other ≡ closed_formula f) }
-    ensures tree { IfErr result (λ e. IsTold is_tree_fault text.now e) }
+    // A text that spells an admitted formula within the limits is refused for want of memory alone.
+    ensures complete { IfErr result (λ e. (f : Formula) → SpellsWithin text.now f → IsAdmitted f → e ≡ FormulaError.Memory) }
+    // A text with a deciding fault is never answered, and no other fault or place is named.
+    ensures none { IfOk result (λ _. (fault : FormulaFault) (place : ℕ) → HasFault text.now fault place → ⊥) }
+    ensures exact { IfErr result (λ e. (fault : FormulaFault) (place : ℕ) → HasFault text.now fault place → NamesOnly fault place e) }
+    // A fault that is named is the one that decides.
+    ensures fault { IfErr result (IsTold text.now) }
 {
     if text.len() > LONGEST_TEXT {
         return Err(FormulaError::Fault {
@@ -91,7 +116,10 @@ pub fn parse(alloc: Global, text: &[u8]) -> Result<Closed, FormulaError>
         });
     }
     let tokens = tokens(alloc, text)?;
-    let written = written(alloc, text.len(), &tokens)?;
+    let written = match written(alloc, &tokens) {
+        Ok(written) => written,
+        Err(misread) => return Err(grammar_refusal(&tokens, text.len(), misread)),
+    };
     check(&tokens, &written)?;
     Ok(Closed::new(meant::state(alloc, &written)?))
 }

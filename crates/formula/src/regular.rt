@@ -4,9 +4,10 @@ ghost use Rattle.std.specs.Prelude.{◌≡◌, ◌+◌, ◌-◌, ◌^◌, ◌<�
 ghost use Rattle.formula.specs.Token.{Name, Bar, Close, Open, NotSign};
 ghost use Rattle.formula.specs.Syntax.{reg_tokens, more_names};
 ghost use Rattle.formula.specs.Written.{token_of, words, reg_syntax, infix_token, infix_row, infixed, repeat_token, repeated as with_repeat};
-ghost use Rattle.formula.specs.Read.{IsRefusedBy, is_grammar_fault, regular_tokens, IsRegular, IsRepeated, IsJoined, IsSuffix, IsWordOf, MatchBar, reg_row};
+ghost use Rattle.formula.specs.Read.{regular_tokens, IsRegular, MayGoOn, IsRepeated, IsJoined, IsSuffix, IsWordOf, MatchBar, reg_row};
+ghost use Rattle.formula.specs.Misread.{IsMissing, IsNameMissing, IsRegularMisread};
 
-use crate::error::FormulaError;
+use crate::misread::Misread;
 use crate::room::{Room, boxed};
 use crate::token::{Placed, Token};
 use crate::written::{Infix, Repeat, WrittenRegular};
@@ -53,9 +54,9 @@ fn repeated<'a>(
     left: ReadRegular<'a>,
     repeat: Repeat,
     rest: &'a [Placed<'a>],
-) -> Result<ReadRegular<'a>, FormulaError>
+) -> Result<ReadRegular<'a>, Misread>
     requires { left.height < room.depth }
-    ensures { MatchResult result (λ r. IsRepeated left.entry repeat r × (r.rest.now ≡ rest.now)) (λ e. e ≡ FormulaError.Memory) }
+    ensures { MatchResult result (λ r. IsRepeated left.entry repeat r × (r.rest.now ≡ rest.now)) (λ e. e ≡ Misread.Memory) }
 {
     let syntax = WrittenRegular::Repeated(repeat, boxed(room.alloc, left.syntax)?);
     Ok(ReadRegular {
@@ -71,10 +72,10 @@ fn joined<'a>(
     left: ReadRegular<'a>,
     sign: Infix,
     right: ReadRegular<'a>,
-) -> Result<ReadRegular<'a>, FormulaError>
+) -> Result<ReadRegular<'a>, Misread>
     requires left { left.height < room.depth }
     requires right { right.height < room.depth }
-    ensures { MatchResult result (λ r. IsJoined left.entry sign right.entry r × (r.rest.now ≡ right.entry.rest.now)) (λ e. e ≡ FormulaError.Memory) }
+    ensures { MatchResult result (λ r. IsJoined left.entry sign right.entry r × (r.rest.now ≡ right.entry.rest.now)) (λ e. e ≡ Misread.Memory) }
 {
     let height = left.height.max(right.height) + 1;
     let syntax = WrittenRegular::Joined(
@@ -103,8 +104,8 @@ fn word<'a>(token: Token<'a>) -> Option<WrittenRegular<'a>>
 }
 
 /// The tokens after a closing parenthesis, which has to stand first.
-pub fn after_close<'a>(room: Room, rest: &'a [Placed<'a>]) -> Result<&'a [Placed<'a>], FormulaError>
-    ensures { MatchResult result (λ after. words rest.now ≡ Close ∷ words after.now) (IsRefusedBy is_grammar_fault) }
+pub fn after_close<'a>(rest: &'a [Placed<'a>]) -> Result<&'a [Placed<'a>], Misread>
+    ensures { MatchResult result (λ after. words rest.now ≡ Close ∷ words after.now) (IsMissing Close (words rest.now)) }
 {
     match rest.split_first() {
         Some(
@@ -116,16 +117,13 @@ pub fn after_close<'a>(room: Room, rest: &'a [Placed<'a>]) -> Result<&'a [Placed
                 after,
             ),
         ) => Ok(after),
-        _ => Err(room.unexpected(rest)),
+        _ => Err(Misread::unexpected(rest)),
     }
 }
 
 /// The name that has to stand first, and the tokens after it.
-pub fn name_first<'a>(
-    room: Room,
-    rest: &'a [Placed<'a>],
-) -> Result<(&'a [u8], &'a [Placed<'a>]), FormulaError>
-    ensures { MatchResult result (λ (name, after). words rest.now ≡ Name name.now ∷ words after.now) (IsRefusedBy is_grammar_fault) }
+pub fn name_first<'a>(rest: &'a [Placed<'a>]) -> Result<(&'a [u8], &'a [Placed<'a>]), Misread>
+    ensures { MatchResult result (λ (name, after). words rest.now ≡ Name name.now ∷ words after.now) (IsNameMissing (words rest.now)) }
 {
     match rest.split_first() {
         Some(
@@ -137,7 +135,7 @@ pub fn name_first<'a>(
                 after,
             ),
         ) => Ok((name, after)),
-        _ => Err(room.unexpected(rest)),
+        _ => Err(Misread::unexpected(rest)),
     }
 }
 
@@ -160,17 +158,17 @@ fn names<'a>(
     room: Room,
     first: &'a [u8],
     tokens: &'a [Placed<'a>],
-) -> Result<ReadRegular<'a>, FormulaError>
+) -> Result<ReadRegular<'a>, Misread>
     ensures eaten { IfOk result (λ r. regular_tokens r ≡ Name first.now ∷ words tokens.now) }
     ensures sound { IfOk result (λ r. IsRegular 0 room.depth room.parens r) }
-    ensures refused { IfErr result (IsRefusedBy is_grammar_fault) }
-    ensures whole { IfOk result (λ r. 0 < reg_row (words r.rest.now)) }
+    ensures refused { IfErr result (IsRegularMisread 1 room.depth room.parens (Name first.now ∷ words tokens.now)) }
+    ensures stops { IfOk result (λ r. 1 < reg_row (words r.rest.now)) }
     ensures shorter { IfOk result (λ r. length r.rest.now ≤ length tokens.now) }
 {
     let mut others = Vec::new(room.alloc);
     let mut at = 0;
     'names: while is_bar_first(&tokens[at..]) {
-        let (name, _) = name_first(room, &tokens[at + 1..])?;
+        let (name, _) = name_first(&tokens[at + 1..])?;
         others.push(name)?;
         at += 2;
     }
@@ -182,22 +180,52 @@ fn names<'a>(
     })
 }
 
+/// This atom, which no bar may follow.
+fn unbarred<'a>(atom: ReadRegular<'a>) -> Result<ReadRegular<'a>, Misread>
+    ensures { MatchResult result
+        (λ r. (r ≡ atom.entry) × (0 < reg_row (words r.rest.now)))
+        (λ e. (e ≡ Misread.Unexpected (length atom.entry.rest.now)) × (reg_row (words atom.entry.rest.now) ≡ 0)) }
+{
+    if is_bar_first(atom.rest) {
+        return Err(Misread::unexpected(atom.rest));
+    }
+    Ok(atom)
+}
+
+/// Refuses a sign of action formulas right after a postfix sign.
+fn after_repeat(rest: &[Placed<'_>]) -> Result<(), Misread>
+    ensures { MatchResult result
+        (λ _. 5 ≤ reg_row (words rest.now))
+        (λ e. (e ≡ Misread.Unexpected (length rest.now)) × (reg_row (words rest.now) < 5)) }
+{
+    match rest.first() {
+        Some(
+            Placed {
+                token: Token::Bar | Token::AndSign | Token::OrSign | Token::ImpliesSign,
+                ..
+            },
+        ) => Err(Misread::unexpected(rest)),
+        _ => Ok(()),
+    }
+}
+
 /// What stands after an opening parenthesis, up to the closing one.
 #[cycle(regular)]
-fn parens<'a>(room: Room, tokens: &'a [Placed<'a>]) -> Result<ReadRegular<'a>, FormulaError>
+fn parens<'a>(room: Room, tokens: &'a [Placed<'a>]) -> Result<ReadRegular<'a>, Misread>
     ensures eaten { IfOk result (λ r. regular_tokens r ≡ Open ∷ words tokens.now) }
     ensures sound { IfOk result (λ r. IsRegular 0 room.depth (room.parens + 1) r) }
-    ensures refused { IfErr result (IsRefusedBy is_grammar_fault) }
+    ensures refused { IfErr result (IsRegularMisread 1 room.depth (room.parens + 1) (Open ∷ words tokens.now)) }
     ensures shorter { IfOk result (λ r. length r.rest.now < length tokens.now) }
+    ensures stops { IfOk result (λ r. 1 < reg_row (words r.rest.now)) }
 {
     let ReadRegular {
         syntax,
         height,
         rest,
     } = regular(room, ANY_REGULAR, tokens)?;
-    let rest = after_close(room, rest)?;
+    let rest = after_close(rest)?;
     let syntax = WrittenRegular::Parens(boxed(room.alloc, syntax)?);
-    Ok(ReadRegular {
+    unbarred(ReadRegular {
         syntax,
         height,
         rest,
@@ -206,12 +234,13 @@ fn parens<'a>(room: Room, tokens: &'a [Placed<'a>]) -> Result<ReadRegular<'a>, F
 
 /// What stands after a `!`.
 #[cycle(regular)]
-fn negated<'a>(room: Room, tokens: &'a [Placed<'a>]) -> Result<ReadRegular<'a>, FormulaError>
+fn negated<'a>(room: Room, tokens: &'a [Placed<'a>]) -> Result<ReadRegular<'a>, Misread>
     requires { room.depth + 1 < 2 ^ 64 }
     ensures eaten { IfOk result (λ r. regular_tokens r ≡ NotSign ∷ words tokens.now) }
     ensures sound { IfOk result (λ r. IsRegular 1 (room.depth + 1) room.parens r) }
-    ensures refused { IfErr result (IsRefusedBy is_grammar_fault) }
+    ensures refused { IfErr result (IsRegularMisread 1 (room.depth + 1) room.parens (NotSign ∷ words tokens.now)) }
     ensures shorter { IfOk result (λ r. length r.rest.now < length tokens.now) }
+    ensures stops { IfOk result (λ r. 1 < reg_row (words r.rest.now)) }
 {
     let ReadRegular {
         syntax,
@@ -228,26 +257,27 @@ fn negated<'a>(room: Room, tokens: &'a [Placed<'a>]) -> Result<ReadRegular<'a>, 
 
 /// A negation or an atom.
 #[cycle(regular)]
-fn negation<'a>(room: Room, tokens: &'a [Placed<'a>]) -> Result<ReadRegular<'a>, FormulaError>
+fn negation<'a>(room: Room, tokens: &'a [Placed<'a>]) -> Result<ReadRegular<'a>, Misread>
     ensures eaten { IfOk result (λ r. regular_tokens r ≡ words tokens.now) }
     ensures sound { IfOk result (λ r. IsRegular 1 room.depth room.parens r) }
-    ensures refused { IfErr result (IsRefusedBy is_grammar_fault) }
+    ensures refused { IfErr result (IsRegularMisread 1 room.depth room.parens (words tokens.now)) }
     ensures shorter { IfOk result (λ r. length r.rest.now < length tokens.now) }
+    ensures stops { IfOk result (λ r. 1 < reg_row (words r.rest.now)) }
 {
     let Some((first, rest)) = tokens.split_first() else {
-        return Err(room.unexpected(tokens));
+        return Err(Misread::unexpected(tokens));
     };
     match first.token {
-        Token::NotSign => negated(room.below(first, 0)?, rest),
-        Token::Open => parens(room.inside(first)?, rest),
+        Token::NotSign => negated(room.below(tokens, 0)?, rest),
+        Token::Open => parens(room.inside(tokens)?, rest),
         Token::Name(name) => names(room, name, rest),
         token => match word(token) {
-            Some(syntax) => Ok(ReadRegular {
+            Some(syntax) => unbarred(ReadRegular {
                 syntax,
                 height: 0,
                 rest,
             }),
-            None => Err(room.unexpected(tokens)),
+            None => Err(Misread::unexpected(tokens)),
         },
     }
 }
@@ -258,41 +288,43 @@ pub fn regular<'a>(
     room: Room,
     level: u8,
     tokens: &'a [Placed<'a>],
-) -> Result<ReadRegular<'a>, FormulaError>
-    requires { 1 ≤ level }
+) -> Result<ReadRegular<'a>, Misread>
+    requires above { 1 ≤ level }
+    requires row { level ≤ 7 }
     ensures eaten { IfOk result (λ r. regular_tokens r ≡ words tokens.now) }
     ensures sound { IfOk result (λ r. IsRegular level room.depth room.parens r) }
-    ensures refused { IfErr result (IsRefusedBy is_grammar_fault) }
+    ensures refused { IfErr result (IsRegularMisread level room.depth room.parens (words tokens.now)) }
     ensures shorter { IfOk result (λ r. length r.rest.now < length tokens.now) }
+    ensures stops { IfOk result (λ r. level < reg_row (words r.rest.now)) }
 {
     extended(room, level, negation(room, tokens)?)
 }
 
 /// The longest formula of this row that begins with this one.
 #[cycle(regular)]
-fn extended<'a>(
-    room: Room,
-    level: u8,
-    left: ReadRegular<'a>,
-) -> Result<ReadRegular<'a>, FormulaError>
-    requires { IsRegular level room.depth room.parens left }
+fn extended<'a>(room: Room, level: u8, left: ReadRegular<'a>) -> Result<ReadRegular<'a>, Misread>
+    requires row { level ≤ 7 }
+    requires left { IsRegular level room.depth room.parens left }
+    requires onward { MayGoOn left }
     ensures eaten { IfOk result (λ r. regular_tokens r ≡ regular_tokens left.entry) }
     ensures sound { IfOk result (λ r. IsRegular level room.depth room.parens r) }
-    ensures refused { IfErr result (IsRefusedBy is_grammar_fault) }
+    ensures refused { IfErr result (IsRegularMisread level room.depth room.parens (regular_tokens left.entry)) }
     ensures shorter { IfOk result (λ r. length r.rest.now ≤ length left.entry.rest.now) }
+    ensures stops { IfOk result (λ r. level < reg_row (words r.rest.now)) }
 {
-    let Some((first, rest)) = left.rest.split_first() else {
+    let tokens = left.rest;
+    let Some((first, rest)) = tokens.split_first() else {
         return Ok(left);
     };
-    let form = left.syntax.form();
     match suffix_of(first.token) {
-        Some(Suffix::Repeat(repeat)) if form <= POSTFIXED && POSTFIXED <= level => {
-            let _ = room.below(first, left.height)?;
+        Some(Suffix::Repeat(repeat)) if POSTFIXED <= level => {
+            let _ = room.below(tokens, left.height)?;
+            after_repeat(rest)?;
             let longer = repeated(room, left, repeat, rest)?;
             extended(room, level, longer)
         }
-        Some(Suffix::Infix(sign)) if form < sign.level() && sign.level() <= level => {
-            let below = room.below(first, left.height)?;
+        Some(Suffix::Infix(sign)) if sign.level() <= level => {
+            let below = room.below(tokens, left.height)?;
             let right = regular(below, sign.level(), rest)?;
             let longer = joined(room, left, sign, right)?;
             extended(room, level, longer)

@@ -1,7 +1,7 @@
 // Formulas as they are written, with their parentheses.
 
 ghost use Rattle.std.specs.Prelude.{◌≡◌};
-ghost use Rattle.formula.specs.Syntax.{reg_form, form as form_of, counts_as_action as counts};
+ghost use Rattle.formula.specs.Syntax.{form as form_of, counts_as_action as counts};
 ghost use Rattle.formula.specs.Written.{infix_row, connective_row, joins_actions as joins, reg_syntax, state_syntax};
 
 /// A sign between two regular formulas.
@@ -121,18 +121,6 @@ impl WrittenState<'_> {
 }
 
 impl WrittenRegular<'_> {
-    /// The row of the grammar's table that the formula's outermost sign makes; 0 is an atom.
-    pub fn form(&self) -> u8
-        ensures { result ≡ reg_form (reg_syntax self.now) }
-    {
-        match self {
-            WrittenRegular::Not(_) => 1,
-            WrittenRegular::Joined(sign, _, _) => sign.level(),
-            WrittenRegular::Repeated(_, _) => 5,
-            _ => 0,
-        }
-    }
-
     /// Whether the formula counts as an action formula.
     pub fn counts_as_action(&self) -> bool
         ensures { result ≡ counts (reg_syntax self.now) }

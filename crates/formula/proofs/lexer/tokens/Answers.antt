@@ -7,7 +7,7 @@ use Rattle.formula.specs.Written.{token_of}
 use Rattle.formula.specs.Cutting.{IsGap, IsFirst, IsTokenless, IsDecidedBy, begins_gap}
 use Rattle.formula.specs.declared.token.Placed.{Placed}
 use Rattle.formula.proofs.Lexed.{cut-none, cut-more, cut-all}
-use Rattle.formula.proofs.Tokenless.{token-fault, token-faulty}
+use Rattle.formula.proofs.Tokenless.{token-fault}
 use Rattle.formula.proofs.lexer.tokens.Goals as goal
 
 pub tokens-init : goal.tokens-init
@@ -34,5 +34,4 @@ pub returns-in-Err : goal.returns-in-Err
 returns-in-Err c =
     let text = c.args.text.now in
     let none : IsTokenless (drop c.tokens.at text) c.in-Err.fault = rw take_rest at c.in-Err.ensures in
-    let exact = token-fault text c.tokens.at c.tokens.tokens.items c.in-Err.fault c.tokens.invariant c.tokens-test.true none in
-    (token-faulty text c.in-Err.fault c.tokens.at exact, exact)
+    token-fault text c.tokens.at c.tokens.tokens.items c.in-Err.fault c.tokens.invariant c.tokens-test.true none

@@ -1,0 +1,54 @@
+-- Why tokens gave no formula, from why those of its last part gave none.
+use Rattle.std.proofs.Common.{ℕ, ◌≤◌, List, [], ◌∷◌, ◌++◌, take, subst, sym, ap, ◌∙◌, append_assoc}
+use Rattle.formula.specs.Token.{Token}
+use Rattle.formula.specs.Misread.{Within, IsMisread}
+use Rattle.formula.specs.declared.misread.Misread.{Misread}
+use Rattle.formula.specs.declared.misread.Misread.TheVariants as misread
+
+-- formulas that begin with tokens, or stand at their front; how deep they nest and how many parentheses they open
+abbrev pub Class : Type 1
+Class = ℕ → ℕ → List Token → Type 0
+
+-- what is found has a part at these tokens, and is within the outer limits only where the part is within the inner ones
+abbrev pub Parts : (outer inner : Class) → (depth inside depth' inside' : ℕ) → List Token → List Token → Type 0
+Parts outer inner depth inside depth' inside' ts ts' =
+    (nested opened : ℕ) → outer nested opened ts → (nested' opened' : ℕ) × inner nested' opened' ts' × (nested ≤ depth → nested' ≤ depth') × (opened ≤ inside → opened' ≤ inside')
+
+-- An operand or a formula inside comes after these tokens. What begins with its front begins the whole; what stands there stands in the whole.
+pub record IsPlace (begins stands begins' stands' : Class) (depth inside depth' inside' : ℕ) (before : List Token) : Type 1 where
+  pub outward : (ts : List Token) → Parts begins' begins depth' inside' depth inside ts (before ++ ts)
+  pub inward : (ts : List Token) → Parts stands stands' depth inside depth' inside' (before ++ ts) ts
+
+within-part : (outer inner : Class) (depth inside depth' inside' : ℕ) (ts ts' : List Token) → Parts outer inner depth inside depth' inside' ts ts' → Within outer depth inside ts → Within inner depth' inside' ts'
+within-part outer inner depth inside depth' inside' ts ts' parts w =
+    let p = parts w.nested w.opened w.it in
+    record { nested = p.0; opened = p.1; it = p.2; low = p.3 w.low; narrow = p.4 w.narrow }
+
+-- the reason why the part was not read is the reason why the whole was not
+pub misread-within : (begins stands begins' stands' : Class) (depth inside depth' inside' : ℕ) (before ts : List Token) (e : Misread) → IsPlace begins stands begins' stands' depth inside depth' inside' before
+    → IsMisread begins' stands' depth' inside' ts e → IsMisread begins stands depth inside (before ++ ts) e
+misread-within begins stands begins' stands' depth inside depth' inside' before ts (misread.Unexpected left) place h = record {
+  front = before ++ h.front;
+  back = h.back;
+  joined = ap (λ xs. before ++ xs) h.joined ∙ sym (append_assoc before h.front h.back);
+  place = h.place;
+  begun = within-part begins' begins depth' inside' depth inside h.front (before ++ h.front) (place.outward h.front) h.begun;
+  none = λ nested opened more stop it.
+      let p = place.inward (h.front ++ (take 1 h.back ++ more)) nested opened (subst (stands nested opened) (append_assoc before h.front (take 1 h.back ++ more)) it) in
+      h.none p.0 p.1 more stop p.2;
+}
+misread-within begins stands begins' stands' depth inside depth' inside' before ts (misread.TooLarge left) place h = record {
+  front = before ++ h.front;
+  token = h.token;
+  back = h.back;
+  joined = ap (λ xs. before ++ xs) h.joined ∙ sym (append_assoc before h.front (h.token ∷ h.back));
+  place = h.place;
+  begun = within-part begins' begins depth' inside' depth inside h.front (before ++ h.front) (place.outward h.front) h.begun;
+  goes_on =
+      let p = place.outward (h.front ++ h.token ∷ []) h.goes_on.0 h.goes_on.1 h.goes_on.2 in
+      (p.0, p.1, subst (begins p.0 p.1) (sym (append_assoc before h.front (h.token ∷ []))) p.2);
+  none = λ more w.
+      h.none more (within-part stands stands' depth inside depth' inside' (before ++ (h.front ++ h.token ∷ more)) (h.front ++ h.token ∷ more) (place.inward (h.front ++ h.token ∷ more))
+      (subst (Within stands depth inside) (append_assoc before h.front (h.token ∷ more)) w));
+}
+misread-within begins stands begins' stands' depth inside depth' inside' before ts misread.Memory place h = tt
