@@ -2,7 +2,7 @@
 use Rattle.std.specs.Prelude.{IfSome, Option, option_map}
 use Rattle.std.specs.Io.Take.{take_limit, take_inner, take_remaining}
 use Rattle.std.specs.declared.io.traits.Take.{Take}
-use Rattle.std.proofs.Common.{◌≡◌, ◌+◌, ◌<◌, ◌≤◌, ℕ, List, [], ◌++◌, length, take, Some, None, inl, inr, refl, sym, ap, ◌∙◌, subst, arith}
+use Rattle.std.proofs.Common.{◌≡◌, ◌<◌, ℕ, List, [], ◌++◌, length, take, Some, None, inl, inr, sym, ap, ◌∙◌, subst, arith}
 use Rattle.std.proofs.lemmas.List.{take_all, length-take}
 use Rattle.formula.specs.Tree.{Formula}
 use Rattle.formula.specs.Spells.{Spells, SpellsWithin}
@@ -11,7 +11,6 @@ use Rattle.formula.specs.declared.error.FormulaFault.{FormulaFault}
 use Rattle.formula.specs.declared.error.FormulaError.{FormulaError}
 use Rattle.formula.specs.declared.error.FormulaError.TheVariants.{Fault, Memory}
 use Rattle.formula.specs.Checked.{IsTold}
-use Rattle.formula.specs.Read.{is_tree_fault}
 
 -- a front that is shorter than asked for is the whole
 pub whole_front : (n : ℕ) (xs : List ℕ) → length (take n xs) < n → take n xs ≡ xs
@@ -53,6 +52,6 @@ only_of (Some all) front text f h e s only =
     λ other k. only other (subst (λ t. Spells t other) (sym (e ∙ (h ∙ whole_front 1048577 all (subst (λ t. length t < 1048577) (e ∙ h) (omega (arith, s.short)))))) k)
 
 -- The refusal of what was read is that of the text.
-pub refused_of : (all front text : List ℕ) (error : FormulaError) → front ≡ take 1048577 all → text ≡ front → IsTold is_tree_fault text error → IsTold is_tree_fault all error
-refused_of all front text (Fault fault offset) h e f = λ tree. fault_front 1048577 all fault offset (omega arith) (subst (λ t. HasFault t fault offset) (e ∙ h) (f tree))
+pub refused_of : (all front text : List ℕ) (error : FormulaError) → front ≡ take 1048577 all → text ≡ front → IsTold text error → IsTold all error
+refused_of all front text (Fault fault offset) h e f = fault_front 1048577 all fault offset (omega arith) (subst (λ t. HasFault t fault offset) (e ∙ h) f)
 refused_of all front text Memory h e f = tt

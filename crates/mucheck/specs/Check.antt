@@ -11,7 +11,6 @@ use Rattle.formula.specs.Spells.{Spells}
 use Rattle.formula.specs.Admitted.{IsAdmitted}
 use Rattle.formula.specs.Meaning.{Marks, Satisfies}
 use Rattle.formula.specs.Checked.{IsTold}
-use Rattle.formula.specs.Read.{is_tree_fault}
 use Rattle.normal.specs.Nodes.{nodes}
 use Rattle.normal.specs.Refused as normal
 use Rattle.game.specs.Refused as game
@@ -70,7 +69,7 @@ HasRefused first second old new error.File = ⊥
 HasRefused first second old new error.Read = SpellsSystem first × Keeps old new
 HasRefused first second old new error.Memory = SpellsSystem first × Keeps old new
 HasRefused first second old new (error.System e) = Refuses (Some first) HasFault e × Keeps old new
-HasRefused first second old new (error.Formula e) = SpellsSystem first × IsTold is_tree_fault second e × Keeps old new
+HasRefused first second old new (error.Formula e) = SpellsSystem first × IsTold second e × Keeps old new
 HasRefused first second old new (error.Normal e) = HasNoGame first second (error.Normal e) × Keeps old new
 HasRefused first second old new (error.Build e) = HasNoGame first second (error.Build e) × Keeps old new
 HasRefused first second old new (error.Write e) = HasBegun first second old new
@@ -83,7 +82,7 @@ IsReadFault _ = ⊥
 
 -- what a refusal of the formula's text says
 abbrev pub IsReadRefusal : List ℕ → MuError → Type 0
-IsReadRefusal text (error.Formula e) = IsTold is_tree_fault text e
+IsReadRefusal text (error.Formula e) = IsTold text e
 IsReadRefusal text e = IsReadFault e
 
 -- the refusals of a read of a formula

@@ -1,4 +1,4 @@
-use Rattle.std.proofs.Common.{◌≡◌, ap, Err, subst, take}
+use Rattle.std.proofs.Common.{◌≡◌, subst, take}
 use Rattle.std.specs.Prelude.{IfSome}
 use Rattle.mucheck.proofs.Fronts.{spelled_of, only_of, refused_of}
 use Rattle.mucheck.proofs.engine.read_formula.Goals as goal
@@ -12,4 +12,4 @@ returns-in-Ok-clause-only g c = only_of _ _ _ _ c.in_ok-text.ensures.front c.der
 pub returns-clause-refusal : goal.returns-clause-refusal
 returns-clause-refusal g c =
     λ text known. refused_of text c.in_ok-text.text.items c.deref.result.now c.in-Err.error
-    (subst (λ o. IfSome o (λ all. c.in_ok-text.text.items ≡ take 1048577 all)) known c.in_ok-text.ensures.front) c.deref.ensures.value c.in-Err.ensures.tree
+    (subst (λ o. IfSome o (λ all. c.in_ok-text.text.items ≡ take 1048577 all)) known c.in_ok-text.ensures.front) c.deref.ensures.value c.in-Err.ensures.fault
