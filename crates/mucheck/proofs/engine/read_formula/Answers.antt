@@ -1,4 +1,4 @@
-use Rattle.std.proofs.Common.{◌≡◌, ap, Err, subst, take}
+use Rattle.std.proofs.Common.{◌≡◌, subst, take}
 use Rattle.std.specs.Prelude.{IfSome}
 use Rattle.mucheck.proofs.Fronts.{spelled_of, only_of, refused_of}
 use Rattle.mucheck.proofs.engine.read_formula.Goals as goal
