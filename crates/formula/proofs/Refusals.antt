@@ -209,9 +209,6 @@ too-large ts places end left (refused.Fault other offset) h r =
     subst (λ (f : FormulaFault). IsGrammarRefusal ts places end (refused.Fault f offset)) (sym r.0) (too_large_at ts places end left offset h r.1)
 too-large ts places end left refused.Memory h r = tt
 
-pub long-told : (text : List ℕ) → 1048576 < length text → IsTold text (refused.Fault fault.TooLarge 1048576)
-long-told text h = inl (h, refl, refl)
-
 pub token-told : (text : List ℕ) (e : FormulaError) → length text ≤ 1048576 → IsTokenRefusal text e → IsTold text e
 token-told text (refused.Fault f offset) short r = inr (short, inl r)
 token-told text refused.Memory short r = tt

@@ -1,8 +1,8 @@
 // Formulas as they are written, with their parentheses.
 
 ghost use Rattle.std.specs.Prelude.{◌≡◌};
-ghost use Rattle.formula.specs.Syntax.{form as form_of, counts_as_action as counts};
-ghost use Rattle.formula.specs.Written.{infix_row, connective_row, joins_actions as joins, reg_syntax, state_syntax};
+ghost use Rattle.formula.specs.Syntax.{counts_as_action as counts};
+ghost use Rattle.formula.specs.Written.{infix_row, connective_row, joins_actions as joins, reg_syntax};
 
 /// A sign between two regular formulas.
 #[derive(Clone, Copy)]
@@ -104,18 +104,6 @@ impl Connective {
             Connective::And => 1,
             Connective::Or => 2,
             Connective::Implies => 3,
-        }
-    }
-}
-
-impl WrittenState<'_> {
-    /// The row of the grammar's table that the formula's outermost sign makes; 0 is a unary formula.
-    pub fn form(&self) -> u8
-        ensures { result ≡ form_of (state_syntax self.now) }
-    {
-        match self {
-            WrittenState::Joined(sign, _, _) => sign.level(),
-            _ => 0,
         }
     }
 }
