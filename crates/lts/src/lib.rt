@@ -19,5 +19,5 @@ pub use error::{AutError, AutFault, Memory};
 pub use label::{Label, LabelView};
 pub use reader::read_aut;
 pub use system::{Lts, Transition};
-pub use write_loop::{WriteFault, put};
+pub use write_loop::{WriteFault, put, put_number};
 pub use writer::write_aut;

@@ -1,4 +1,4 @@
-use crate::{AutError, Lts, WriteFault, put, read_aut, write_aut};
+use crate::{AutError, Lts, WriteFault, put, put_number, read_aut, write_aut};
 use std::alloc::Global;
 use std::io;
 use std::io::{Read, Write};
@@ -310,4 +310,12 @@ fn an_interrupted_write_is_tried_again(rt: HostRuntime) -> Result<(), Fail> {
 fn nothing_is_written_without_a_fault(rt: HostRuntime) {
     let mut out = Narrow::new(rt.alloc(), 1, 0);
     assert_eq!(rt; put(&mut out, b""), Ok(()));
+}
+
+#[test]
+fn a_number_follows_its_bytes(rt: HostRuntime) {
+    let mut out = Narrow::new(rt.alloc(), 3, 1_000_000);
+    assert_eq!(rt; put_number(&mut out, b"states ", 1_000_000_u32), Ok(()));
+    assert_eq!(rt; put_number(&mut out, b"", 0_usize), Ok(()));
+    assert_eq!(rt; out.taken.as_slice(), b"states 10000000".as_slice());
 }

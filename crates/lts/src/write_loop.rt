@@ -1,8 +1,9 @@
 // The one loop that writes.
 
-ghost use Rattle.std.specs.Prelude.{IfErr};
+ghost use Rattle.std.specs.Prelude.{◌++◌, IfErr};
 ghost use Rattle.lts.specs.Wrote.{Wrote, WroteShort};
 
+use itoa::{Buffer, Integer};
 use std::io::{ErrorKind, Write};
 use thiserror::Error;
 
@@ -41,4 +42,22 @@ pub fn put<W: Write>(writer: &mut W, bytes: &[u8]) -> Result<(), WriteFault>
     } else {
         Err(WriteFault)
     }
+}
+
+/// Writes the bytes, and then the number in decimal digits, by `put`.
+///
+/// # Errors
+/// After a fault the writer holds a beginning of them.
+pub fn put_number<N: Integer, W: Write>(
+    writer: &mut W,
+    before: &[u8],
+    number: N,
+) -> Result<(), WriteFault>
+    ensures wrote { Wrote (W.contents writer.old) (W.contents writer.new) result (before.now ++ N.text number) }
+    // A fault is never told once all was written.
+    ensures short { IfErr result (λ _. WroteShort (W.contents writer.old) (W.contents writer.new) (before.now ++ N.text number)) }
+{
+    let mut buffer = Buffer::new();
+    put(writer, before)?;
+    put(writer, buffer.format(number).as_bytes())
 }

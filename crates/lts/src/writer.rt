@@ -8,8 +8,7 @@ ghost use Rattle.lts.specs.Canon.{aut_text, header_line, arrow_line};
 ghost use Rattle.lts.specs.Wrote.{Wrote};
 
 use crate::system::{Lts, Transition};
-use crate::write_loop::{WriteFault, put};
-use itoa::{Buffer, Integer};
+use crate::write_loop::{WriteFault, put, put_number};
 use std::io::Write;
 
 /// Writes the system as its canonical Aldebaran text: a header, and a line for each distinct transition, ascending by
@@ -62,13 +61,4 @@ fn put_line<W: Write>(lts: &Lts, transition: Transition, out: &mut W) -> Result<
     put(out, lts.label(transition.label).bytes)?;
     put_number(out, b"\",", transition.target)?;
     put(out, b")\n")
-}
-
-// Writes the bytes and then the number.
-fn put_number<N: Integer, W: Write>(out: &mut W, before: &[u8], number: N) -> Result<(), WriteFault>
-    ensures { Wrote (W.contents out.old) (W.contents out.new) result (before.now ++ N.text number) }
-{
-    let mut buffer = Buffer::new();
-    put(out, before)?;
-    put(out, buffer.format(number).as_bytes())
 }

@@ -1,22 +1,22 @@
 -- The lines of a report.
-use Rattle.std.proofs.Common.{◌≡◌, ◌+◌, ◌<◌, ◌≤◌, ℕ, Bool, true, false, List, [], ◌∷◌, ◌++◌, length, drop, get_or, codes, refl, sym, ap, ◌∙◌, append-nil, append_assoc, add-one}
+use Rattle.std.proofs.Common.{◌≡◌, ◌+◌, ◌<◌, ◌≤◌, ℕ, Bool, true, false, List, [], ◌∷◌, ◌++◌, length, drop, get_or, decimal, refl, sym, ap, ◌∙◌, append-nil, append_assoc, add-one}
 use Rattle.std.proofs.Math.Seq.{drop-cons}
 use Rattle.std.proofs.Math.ListN.{drop_of_length-le}
 use Rattle.std.specs.Prelude.{count_by}
 use Rattle.lts.specs.System.{System}
 use Rattle.formula.specs.Tree.{Formula}
-use Rattle.mucheck.specs.Report.{with_number, yes_or_no, state_lines, system_line, formula_line, yes_line, initial_line, report}
+use Rattle.mucheck.specs.Report.{yes_or_no, state_lines, system_line, formula_line, yes_line, initial_line, report}
 
 -- the lines from a state on begin with that state's
 pub next_line : (marks : List Bool) (s : ℕ) → s < length marks
-    → state_lines s (drop s marks) ≡ with_number [] s (codes " ") ++ (yes_or_no (get_or marks s false) ++ state_lines (s + 1) (drop (s + 1) marks))
+    → state_lines s (drop s marks) ≡ decimal s ++ (yes_or_no (get_or marks s false) ++ state_lines (s + 1) (drop (s + 1) marks))
 next_line marks s h = rw (drop-cons marks s false, add-one s) refl
 
 -- what is done and one line more
 pub after_line : (marks : List Bool) (s : ℕ) (all done : List ℕ) → s < length marks → all ≡ done ++ state_lines s (drop s marks)
-    → all ≡ (done ++ (with_number [] s (codes " ") ++ yes_or_no (get_or marks s false))) ++ state_lines (s + 1) (drop (s + 1) marks)
+    → all ≡ (done ++ (decimal s ++ yes_or_no (get_or marks s false))) ++ state_lines (s + 1) (drop (s + 1) marks)
 after_line marks s all done h e =
-    let head = with_number [] s (codes " ") in
+    let head = decimal s in
     let line = yes_or_no (get_or marks s false) in
     let rest = state_lines (s + 1) (drop (s + 1) marks) in
     e ∙ (ap (λ t. done ++ t) (next_line marks s h ∙ sym (append_assoc head line rest)) ∙ sym (append_assoc done (head ++ line) rest))

@@ -9,33 +9,29 @@ use Rattle.formula.specs.Canon.{canon}
 abbrev pub line_end : List ℕ
 line_end = 10 ∷ []
 
--- `before`, the number, `after`
-abbrev pub with_number : List ℕ → ℕ → List ℕ → List ℕ
-with_number before n after = before ++ (decimal n ++ after)
-
 -- with the numbers of states and of transitions, and the initial state
 abbrev pub system_line : ℕ → ℕ → ℕ → List ℕ
 system_line states transitions initial =
-    with_number (codes "system ") states (codes " states ")
-    ++ (with_number [] transitions (codes " transitions ") ++ with_number (codes "initial ") initial line_end)
+    codes "system " ++ (decimal states ++ (codes " states " ++ (decimal transitions ++ (codes " transitions initial " ++ (decimal initial ++ line_end)))))
 
 abbrev pub formula_line : Formula → List ℕ
 formula_line f = codes "formula " ++ (canon f ++ line_end)
 
 -- how many states of how many are marked
 abbrev pub yes_line : ℕ → ℕ → List ℕ
-yes_line marked states = with_number (codes "yes ") marked (codes " of ") ++ with_number [] states line_end
+yes_line marked states = codes "yes " ++ (decimal marked ++ (codes " of " ++ (decimal states ++ line_end)))
 
+-- the end of a line that tells a mark
 abbrev pub yes_or_no : Bool → List ℕ
-yes_or_no mark = (if mark then codes "yes" else codes "no") ++ line_end
+yes_or_no mark = (if mark then codes " yes" else codes " no") ++ line_end
 
 abbrev pub initial_line : Bool → List ℕ
-initial_line mark = codes "initial " ++ yes_or_no mark
+initial_line mark = codes "initial" ++ yes_or_no mark
 
 -- a line for each state from s on
 abbrev pub state_lines : ℕ → List Bool → List ℕ
 state_lines s [] = []
-state_lines s (mark ∷ marks) = with_number [] s (codes " ") ++ (yes_or_no mark ++ state_lines (s + 1) marks)
+state_lines s (mark ∷ marks) = decimal s ++ (yes_or_no mark ++ state_lines (s + 1) marks)
 
 -- the report where these states are marked yes
 abbrev pub report : System → Formula → List Bool → List ℕ

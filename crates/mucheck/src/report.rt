@@ -7,9 +7,8 @@ ghost use Rattle.mucheck.specs.Report.{report, system_line, formula_line, yes_li
 
 use formula::closed::Closed;
 use formula::print;
-use itoa::{Buffer, Integer};
 use lts::system::Lts;
-use lts::write_loop::{WriteFault, put};
+use lts::write_loop::{WriteFault, put, put_number};
 use std::io::Write;
 
 /// Writes the report: what was read, how many states satisfy the formula, whether the initial one does, and a line for
@@ -42,9 +41,10 @@ fn write_system_line<W: Write>(
     ensures { Wrote (W.contents out.old) (W.contents out.new) result
         (system_line states transitions initial) }
 {
-    put_number(out, b"system ", states, b" states ")?;
-    put_number(out, b"", transitions, b" transitions ")?;
-    put_number(out, b"initial ", initial, b"\n")
+    put_number(out, b"system ", states)?;
+    put_number(out, b" states ", transitions)?;
+    put_number(out, b" transitions initial ", initial)?;
+    put(out, b"\n")
 }
 
 fn write_formula_line<W: Write>(formula: &Closed, out: &mut W) -> Result<(), WriteFault>
@@ -59,23 +59,24 @@ fn write_formula_line<W: Write>(formula: &Closed, out: &mut W) -> Result<(), Wri
 fn write_yes_line<W: Write>(yes: usize, states: u32, out: &mut W) -> Result<(), WriteFault>
     ensures { Wrote (W.contents out.old) (W.contents out.new) result (yes_line yes states) }
 {
-    put_number(out, b"yes ", yes, b" of ")?;
-    put_number(out, b"", states, b"\n")
+    put_number(out, b"yes ", yes)?;
+    put_number(out, b" of ", states)?;
+    put(out, b"\n")
 }
 
 fn write_initial_line<W: Write>(mark: bool, out: &mut W) -> Result<(), WriteFault>
     ensures { Wrote (W.contents out.old) (W.contents out.new) result (initial_line mark) }
 {
-    put(out, b"initial ")?;
-    put(out, mark_line(mark))
+    put(out, b"initial")?;
+    put(out, line_end(mark))
 }
 
 fn write_state_lines<W: Write>(marks: &[bool], out: &mut W) -> Result<(), WriteFault>
     ensures { Wrote (W.contents out.old) (W.contents out.new) result (state_lines 0 marks.now) }
 {
     for (state, mark) in marks.iter().enumerate() {
-        put_number(out, b"", state, b" ")?;
-        put(out, mark_line(*mark))?;
+        put_number(out, b"", state)?;
+        put(out, line_end(*mark))?;
     }
     Ok(())
 }
@@ -88,24 +89,8 @@ fn marked(marks: &[bool]) -> usize
 }
 
 /// The end of a line that tells a mark.
-fn mark_line(mark: bool) -> &'static [u8]
+fn line_end(mark: bool) -> &'static [u8]
     ensures { result.now ≡ yes_or_no mark }
 {
-    if mark { b"yes\n" } else { b"no\n" }
-}
-
-/// Writes a number between two pieces of text.
-fn put_number<N: Integer, W: Write>(
-    out: &mut W,
-    before: &[u8],
-    number: N,
-    after: &[u8],
-) -> Result<(), WriteFault>
-    ensures { Wrote (W.contents out.old) (W.contents out.new) result
-        (before.now ++ (N.text number ++ after.now)) }
-{
-    let mut buffer = Buffer::new();
-    put(out, before)?;
-    put(out, buffer.format(number).as_bytes())?;
-    put(out, after)
+    if mark { b" yes\n" } else { b" no\n" }
 }

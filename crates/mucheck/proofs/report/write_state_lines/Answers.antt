@@ -1,9 +1,9 @@
-use Rattle.std.proofs.Common.{◌≡◌, ◌++◌, [], ℕ, List, codes, refl, sym, ap, ◌∙◌, drop, get_or, false, subst}
+use Rattle.std.proofs.Common.{◌≡◌, ◌++◌, [], ℕ, List, decimal, refl, sym, ap, ◌∙◌, drop, get_or, false, subst}
 use Rattle.std.specs.Io.KnownBytes.{Appends}
 use Rattle.std.proofs.KnownBytes.{Appends-nil, Appends-trans}
 use Rattle.lts.proofs.Writing.{Wrote-err, Wrote-as, WroteFront-more, WroteFront-after}
 use Rattle.lts.specs.Wrote.{WroteFront}
-use Rattle.mucheck.specs.Report.{with_number, yes_or_no, state_lines}
+use Rattle.mucheck.specs.Report.{yes_or_no, state_lines}
 use Rattle.mucheck.proofs.Lines.{next_line, after_line, no_lines}
 use Rattle.mucheck.proofs.report.write_state_lines.Goals as goal
 
@@ -15,24 +15,24 @@ returns-in_err-put_number g c =
     let next = next_line c.args.marks.now c.loop-state.state c.loop-state-test.true in
     let text = c.loop-state.invariant.2 ∙ ap (λ t. c.loop-state.invariant.0 ++ t) next in
     Wrote-as _ _ _ _ _ (sym text) (Wrote-err _ _ _ _ c.from_residual.ensures.0
-    (WroteFront-after _ _ _ _ _ c.loop-state.invariant.1 (WroteFront-more _ _ (with_number [] c.loop-state.state (codes " ")) _ c.in_err-put_number.ensures)))
+    (WroteFront-after _ _ _ _ _ c.loop-state.invariant.1 (WroteFront-more _ _ (decimal c.loop-state.state) _ c.in_err-put_number.ensures.wrote)))
 
 pub returns-in_err-put : goal.returns-in_err-put
 returns-in_err-put g c =
     let next = next_line c.args.marks.now c.loop-state.state c.loop-state-test.true in
     let text = c.loop-state.invariant.2 ∙ ap (λ t. c.loop-state.invariant.0 ++ t) next in
-    let wrote = subst (λ t. WroteFront (g.W.Write.contents c.put_number.new.out) (g.W.Write.contents c.put.new.writer) t) c.mark_line.ensures c.in_err-put.ensures.wrote in
+    let wrote = subst (λ t. WroteFront (g.W.Write.contents c.put_number.new.writer) (g.W.Write.contents c.put.new.writer) t) c.line_end.ensures c.in_err-put.ensures.wrote in
     Wrote-as _ _ _ _ _ (sym text) (Wrote-err _ _ _ _ c.from_residual-in_err-put.ensures.0
     (WroteFront-after _ _ _ _ _ c.loop-state.invariant.1
-    (WroteFront-after _ _ _ (with_number [] c.loop-state.state (codes " ")) _ c.in_ok-put_number.ensures (WroteFront-more _ _ _ _ wrote))))
+    (WroteFront-after _ _ _ (decimal c.loop-state.state) _ c.in_ok-put_number.ensures.wrote (WroteFront-more _ _ _ _ wrote))))
 
 pub loop-state-preserved : goal.loop-state-preserved
 loop-state-preserved g c =
     let state = c.loop-state.state in
     let mark = get_or c.args.marks.now state false in
-    let wrote = subst (λ t. Appends (g.W.Write.contents c.put_number.new.out) (g.W.Write.contents c.put.new.writer) t) c.mark_line.ensures c.in_ok-put.ensures.wrote in (
-      c.loop-state.invariant.0 ++ (with_number [] state (codes " ") ++ yes_or_no mark),
-      Appends-trans _ _ _ _ _ c.loop-state.invariant.1 (Appends-trans _ _ _ (with_number [] state (codes " ")) _ c.in_ok-put_number.ensures wrote),
+    let wrote = subst (λ t. Appends (g.W.Write.contents c.put_number.new.writer) (g.W.Write.contents c.put.new.writer) t) c.line_end.ensures c.in_ok-put.ensures.wrote in (
+      c.loop-state.invariant.0 ++ (decimal state ++ yes_or_no mark),
+      Appends-trans _ _ _ _ _ c.loop-state.invariant.1 (Appends-trans _ _ _ (decimal state) _ c.in_ok-put_number.ensures.wrote wrote),
       after_line c.args.marks.now state _ _ c.loop-state-test.true c.loop-state.invariant.2,
     )
 
