@@ -1,12 +1,13 @@
 -- Worked examples of formulas, canonical texts and satisfaction of action formulas.
-use Rattle.std.specs.Prelude.{◌≡◌, true, false, [], ◌∷◌, codes, refl}
+use Rattle.std.specs.Prelude.{◌≡◌, true, false, [], ◌∷◌, None, codes, refl}
+use Rattle.std.proofs.Common.{arith}
 use Rattle.formula.specs.Tree.{Action, Anything, Names, Quoted, NotAct, AndAct, Step, Either, Plus, Formula, True, False, Var, Not, Or, Implies, Dia, Mu, Nu}
 use Rattle.formula.specs.Holds.{holds}
 use Rattle.formula.specs.Admitted.{IsAdmitted, is_admitted_in}
 use Rattle.formula.specs.Canon.{canon}
-use Rattle.formula.specs.Token.{Name, Less, Greater, ChoiceSign, PlusSign, TrueWord, Blank, Word}
-use Rattle.formula.specs.Syntax.{Names', Plus', Either', Dia', True'}
-use Rattle.formula.specs.Spells.{Spells}
+use Rattle.formula.specs.Token.{Name, Less, Greater, ChoiceSign, PlusSign, TrueWord, Blank, Word, is_decided}
+use Rattle.formula.specs.Syntax.{Names', Parens', And', Then', Plus', Either', OneOf', Group', Dia', Mu', Var', True', fits, meant}
+use Rattle.formula.specs.Spells.{Spells, SpellsWithin}
 
 abbrev pub name_a : Action
 name_a = Names (codes "a" ∷ [])
@@ -45,6 +46,26 @@ spells_plus_or_b =
       };
       stands_for = refl;
     }
+
+spells_within_plus_or_b : SpellsWithin (codes "<a + + b>true") plus_or_b
+unfolding spells_plus_or_b
+spells_within_plus_or_b =
+    record { pieces = spells_plus_or_b.pieces; syntax = spells_plus_or_b.syntax; written = spells_plus_or_b.written; stands_for = spells_plus_or_b.stands_for; within = refl; short = omega arith }
+
+-- of `+ +` before `b` the first is the postfix sign
+signs : (is_decided (PlusSign ∷ ChoiceSign ∷ Name (codes "b") ∷ []) ≡ true) × (is_decided (ChoiceSign ∷ ChoiceSign ∷ Name (codes "b") ∷ []) ≡ false)
+    × (is_decided (PlusSign ∷ PlusSign ∷ Name (codes "b") ∷ []) ≡ false)
+signs = (refl, refl, refl)
+
+-- mu X. X || true is read as mu X. (X || true): a binder's formula is no left operand, unless in parentheses
+reach : (fits (OneOf' (Mu' (codes "X") (Var' (codes "X"))) True') ≡ false) × (fits (Mu' (codes "X") (OneOf' (Var' (codes "X")) True')) ≡ true)
+    × (fits (OneOf' (Group' (Mu' (codes "X") (Var' (codes "X")))) True') ≡ true)
+reach = (refl, refl, refl)
+
+-- <(a.b) && c>true is a text of the grammar and stands for no formula
+no_action : (fits (Dia' (And' (Parens' (Then' (Names' (codes "a") []) (Names' (codes "b") []))) (Names' (codes "c") [])) True') ≡ true)
+    × (meant (Dia' (And' (Parens' (Then' (Names' (codes "a") []) (Names' (codes "b") []))) (Names' (codes "c") [])) True') ≡ None)
+no_action = (refl, refl)
 
 -- mu X. !(X => false)
 abbrev pub twice_negated : Formula

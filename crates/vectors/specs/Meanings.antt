@@ -1,9 +1,9 @@
 -- Worked examples of meanings.
-use Rattle.std.specs.Prelude.{◌≡◌, ℕ, ◌⊎◌, List, codes, refl}
+use Rattle.std.specs.Prelude.{◌≡◌, ℕ, ◌⊎◌, List, [], codes, refl}
 use Rattle.std.proofs.Common.{zero, suc, arith, inl, inr, sym, ap, subst, ◌∙◌, true≢false}
 use Rattle.lts.specs.System.{Arrow}
 use Rattle.vectors.specs.Systems.{two_states}
-use Rattle.formula.specs.Tree.{Formula, Step, Mu, Nu, Or, Dia, Var}
+use Rattle.formula.specs.Tree.{Formula, Step, Then, Star, Plus, Mu, Nu, Or, Dia, Var}
 use Rattle.formula.specs.Holds.{holds}
 use Rattle.vectors.specs.Formulas.{often_a, name_a, name_b}
 use Rattle.formula.specs.Meaning.{Satisfies, HasArrow, Leads}
@@ -49,3 +49,13 @@ swapped = Mu (codes "Y") (Nu (codes "X") (Or (Dia (Step name_a) (Var (codes "X")
 
 not_in_swapped : Satisfies two_states swapped 0 → ⊥
 not_in_swapped h = from_1 _ (λ _. ⊥) (from_0 _ _ (from_1 _ _ (from_0 _ _ h)))
+
+-- no step at all, and a step and back again
+stays : Leads two_states (Star (Step name_a)) 0 0
+stays = ([], refl)
+
+goes_round : Leads two_states (Plus (Then (Step name_a) (Step name_b))) 0 0
+goes_round = (0, [], round, refl)
+  where
+    round : Leads two_states (Then (Step name_a) (Step name_b)) 0 0
+    round = (1, (codes "a", first_arrow, refl), (codes "b", second_arrow, refl))

@@ -8,7 +8,8 @@ use Rattle.vectors.specs.Systems.{arrow}
 use Rattle.game.specs.Game.{Game, count}
 use Rattle.game.specs.Arena.{arena}
 use Rattle.std.proofs.Common.{arith, sym, subst, true≢false}
-use Rattle.measures.specs.Measure.{Measure, Top, Counts, components, IsMeasure, IsAtMost, IsBelow, IsRank, Reaches, IsProg}
+use Rattle.measures.specs.Measure.{Measure, Top, Counts, components, measure_cmp, IsMeasure, IsAtMost, IsBelow, IsRank, Reaches, IsProg}
+use Rattle.std.specs.declared.cmp.Ordering.TheVariants.{Less, Equal, Greater}
 use Rattle.measures.proofs.Ranks.{rank_is}
 
 -- the system with a loop: des (0,2,2), (0,"a",1), (1,"b",1)
@@ -30,6 +31,11 @@ v_counts = refl
 
 v_vertices : length three_binder_game.vertices ≡ 18
 v_vertices = refl
+
+-- the count of the greatest priority decides first, and top is the last
+order : (measure_cmp (Counts (0 ∷ 3 ∷ [])) (Counts (1 ∷ 0 ∷ [])) ≡ Less) × (measure_cmp (Counts (2 ∷ 3 ∷ [])) Top ≡ Less) × (measure_cmp Top Top ≡ Equal)
+    × (measure_cmp (Counts (1 ∷ 2 ∷ [])) (Counts (1 ∷ 1 ∷ [])) ≡ Greater)
+order = (refl, refl, refl, refl)
 
 -- at priority 3 of (2,0): top
 prog_top : IsProg three_binder_game 3 (Counts (2 ∷ 0 ∷ [])) Top

@@ -1,9 +1,9 @@
 -- Worked examples of normal forms.
 use Rattle.std.specs.Prelude.{◌≡◌, ℕ, zero, suc, ◌%◌, ◌==◌, if◌then◌else◌, true, false, [], ◌∷◌, codes, refl}
 use Rattle.std.proofs.Common.{arith}
-use Rattle.formula.specs.Tree.{Anything, Regular, Step, Then, Either, Star, Formula, True, Var, Not, And, Dia, Box, Mu, Nu}
+use Rattle.formula.specs.Tree.{Anything, Regular, Step, Then, Either, Star, Plus, Formula, True, False, Var, Not, And, Or, Dia, Box, Mu, Nu}
 use Rattle.vectors.specs.Formulas.{often_a, plus_or_b, name_a, name_b}
-use Rattle.normal.specs.Tree.{normal_form, Shape, ConstantNode, JunctionNode, ModalityNode, FixpointNode, VariableNode, depth, size, count}
+use Rattle.normal.specs.Tree.{normal_form, Shape, ConstantNode, JunctionNode, ModalityNode, FixpointNode, VariableNode, depth, size, chain, count, modal_count, formula_from}
 use Rattle.normal.specs.Nodes.{nodes, Node, greatest}
 use Rattle.normal.specs.Refused.{HasRefusal}
 use Rattle.normal.specs.declared.error.NormalError.TheVariants.{TooManyNodes, PriorityTooGreat}
@@ -26,6 +26,27 @@ depth_often_a = (refl, refl)
 negated_nodes : nodes (Not (And (Dia (Step name_a) True) (Mu (codes "X") (Box (Step name_b) (Var (codes "X"))))))
     ≡ node (JunctionNode true 1 3) 0 ∷ node (ModalityNode false name_a 2) 0 ∷ node (ConstantNode false) 0 ∷ node (FixpointNode false 4) 0 ∷ node (ModalityNode true name_b 5) 0 ∷ node (VariableNode 3) 0 ∷ []
 negated_nodes = refl
+
+-- the nodes spell formulas without regular ones, each of whose binders is named by its number
+spelled_often_a : formula_from 0 (normal_form often_a) ≡ Nu (codes "Z") (Mu (codes "Z_") (Or (Dia (Step name_a) (Var (codes "Z"))) (Dia (Step name_b) (Var (codes "Z_")))))
+spelled_often_a = refl
+
+spelled_plus_or_b : formula_from 0 (normal_form plus_or_b)
+    ≡ Or (Dia (Step name_a) (Mu (codes "Z__") (Or True (Dia (Step name_a) (Var (codes "Z__")))))) (Dia (Step name_b) True)
+spelled_plus_or_b = refl
+
+-- and without negations: !(<a>true && mu X. [b]X)
+spelled_negated : formula_from 0 (normal_form (Not (And (Dia (Step name_a) True) (Mu (codes "X") (Box (Step name_b) (Var (codes "X")))))))
+    ≡ Or (Box (Step name_a) False) (Nu (codes "Z___") (Dia (Step name_b) (Var (codes "Z___"))))
+spelled_negated = refl
+
+-- `<a+>true` has six: the step, the binder, its `||`, `true`, the step inside and the variable
+counts : (count plus_or_b ≡ 9) × (modal_count (Plus (Step name_a)) 1 ≡ 6)
+counts = (refl, refl)
+
+-- nu, then mu: one binder from the first mu, two from the first nu
+chains : (chain (normal_form often_a) true ≡ 1) × (chain (normal_form often_a) false ≡ 2)
+chains = (refl, refl)
 
 -- ten times (a+b), joined by `.`
 abbrev tens : ℕ → Regular

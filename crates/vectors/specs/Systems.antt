@@ -1,9 +1,9 @@
 -- Worked examples of systems and their texts.
-use Rattle.std.specs.Prelude.{◌≡◌, ℕ, false, List, [], ◌∷◌, ◌++◌, length, Some, None, codes, refl}
+use Rattle.std.specs.Prelude.{◌≡◌, ℕ, true, false, List, [], ◌∷◌, ◌++◌, length, Some, None, codes, refl}
 use Rattle.std.proofs.Common.{arith}
-use Rattle.lts.specs.Text.{lines, IsNumeral, is_numeral}
-use Rattle.lts.specs.Label.{reading}
-use Rattle.lts.specs.System.{Arrow, System}
+use Rattle.lts.specs.Text.{lines, is_blank, is_name, IsNumeral, is_numeral}
+use Rattle.lts.specs.Label.{is_label, reading}
+use Rattle.lts.specs.System.{Arrow, System, IsSystem, set_of}
 use Rattle.std.specs.Fmt.{digits}
 use Rattle.lts.specs.Canon.{aut_text}
 use Rattle.lts.specs.Aut.{IsAut, IsHeader, IsTransition}
@@ -13,6 +13,16 @@ arrow s l t = record { source = s; label = l; target = t }
 
 v_lines : lines (codes "a" ++ (13 ∷ 10 ∷ 10 ∷ codes "b" ++ 13 ∷ [])) ≡ codes "a" ∷ [] ∷ codes "b" ∷ []
 v_lines = refl
+
+blanks : (is_blank 32 ≡ true) × (is_blank 9 ≡ true) × (is_blank 10 ≡ false) × (is_blank 13 ≡ false)
+blanks = (refl, refl, refl, refl)
+
+names : (is_name (codes "_a1") ≡ true) × (is_name (codes "1a") ≡ false) × (is_name (codes "a-b") ≡ false) × (is_name [] ≡ false)
+names = (refl, refl, refl, refl)
+
+-- no `"` and no TAB stands in a label
+labels : (is_label (codes "r(1)") ≡ true) × (is_label [] ≡ false) × (is_label (34 ∷ []) ≡ false) × (is_label (9 ∷ []) ≡ false)
+labels = (refl, refl, refl, refl)
 
 v_reading : reading (codes "b|a") ≡ Some (codes "a" ∷ codes "b" ∷ [])
 v_reading = refl
@@ -35,6 +45,19 @@ two_states_text = codes "des (0,2,2)" ++ 10 ∷ (codes "(0," ++ 34 ∷ codes "a"
 
 abbrev pub two_states : System
 two_states = record { states = 2; initial = 0; arrows = arrow 0 (codes "a") 1 ∷ arrow 1 (codes "b") 0 ∷ [] }
+
+is_system_two_states : IsSystem two_states
+is_system_two_states = record {
+  some = omega arith;
+  limit = omega arith;
+  initial = omega arith;
+  arrows = (record { source = omega arith; target = omega arith; label = refl }, (record { source = omega arith; target = omega arith; label = refl }, tt));
+  set = refl;
+}
+
+-- each arrow once, by source, then by label
+set_of_three : set_of (arrow 1 (codes "b") 0 ∷ arrow 0 (codes "a") 1 ∷ arrow 1 (codes "b") 0 ∷ []) ≡ arrow 0 (codes "a") 1 ∷ arrow 1 (codes "b") 0 ∷ []
+set_of_three = refl
 
 v_two_states_lines : length (lines two_states_text) ≡ 3
 v_two_states_lines = refl

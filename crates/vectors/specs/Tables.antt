@@ -9,10 +9,10 @@ use Rattle.game.specs.declared.player.Player.TheVariants.{Even, Odd}
 use Rattle.game.specs.Game.{Game, vertex}
 use Rattle.measures.specs.Lifting.{IsLifted, AreLifts}
 use Rattle.measures.specs.Measure.{Measure, Top, Counts, IsAtMost, IsMeasure, IsProg, Reaches}
-use Rattle.measures.specs.Progress.{IsLift, IsLiftAt, IsProgress, IsLeastTable, IsTable, greater_of, opening, value_at}
+use Rattle.measures.specs.Progress.{IsLift, IsLiftAt, IsProgress, IsLeastTable, IsTable, IsUnder, greater_of, opening, value_at}
 use Rattle.measures.proofs.Bests.{best_single}
 use Rattle.measures.proofs.Lifting.{lifting_least}
-use Rattle.measures.proofs.Measures.{at_most_itself, at_most_top, top_prog}
+use Rattle.measures.proofs.Measures.{at_most_itself, at_most_top, at_most_trans, top_prog}
 use Rattle.measures.proofs.Monotone.{lift_one}
 use Rattle.measures.proofs.Plain.{value_set_other, value_set_same}
 use Rattle.vectors.specs.Games.{vertex_at, often_a_game, is_game_often_a}
@@ -283,6 +283,20 @@ lifts_often_a = (lift_7, (lift_12, (lift_3, (lift_8, (lift_14, (lift_11, (lift_1
 -- eight lifts from the opening table come to it
 pub least_table_often_a : IsLeastTable often_a_game least_often_a
 least_table_often_a = lifting_least often_a_game is_game_often_a (table_1 ∷ table_2 ∷ table_3 ∷ table_4 ∷ table_5 ∷ table_6 ∷ table_7 ∷ table_8 ∷ []) least_often_a lifts_often_a progress_often_a
+
+-- at vertex 10 a count of 1 is below, and 2 too; 3 is not, as the least progress table shows
+under_one : IsUnder often_a_game 10 (number 1)
+under_one table progress = at_most_trans (number 1) (number 2) (value_at table 10) refl (least_table_often_a.under 10 (omega arith) table progress)
+
+under_two : IsUnder often_a_game 10 (number 2)
+under_two = least_table_often_a.under 10 (omega arith)
+
+not_under_three : IsUnder often_a_game 10 (number 3) → ⊥
+not_under_three under = true≢false (sym (under least_often_a progress_often_a))
+
+-- at vertex 1, the false sink, every progress table has top
+under_top : IsUnder often_a_game 1 Top
+under_top = least_table_often_a.under 1 (omega arith)
 
 top_is_no_number : (k : ℕ) → Top ≡ number k → ⊥
 top_is_no_number k e = cc
