@@ -1,7 +1,7 @@
 // Checks on small systems, whose answers were worked out by hand, and command lines.
 
 use crate::command_line::command;
-use crate::engine::{check, check_plain};
+use crate::engine::{check, check_one, check_plain};
 use crate::error::MuError;
 use crate::request::{BoardKind, Command, Options};
 use crate::status::status;
@@ -53,20 +53,90 @@ const fn row(
     }
 }
 
-/// A check by sets of states, or by a game.
-fn run(
+/// Formulas on small systems.
+const WORKED_OUT: [Case; 20] = [
+    row(RING, "<a>true", "<a>true", "yn"),
+    row(RING, "mu X. X", "(mu X. X)", "nn"),
+    row(RING, "nu X. X", "(nu X. X)", "yy"),
+    row(STUCK, "<true>true", "<true>true", "n"),
+    row(STUCK, "[true]false", "[true]false", "y"),
+    row(
+        RING,
+        "nu X. mu Y. (<a>X || <b>Y)",
+        "(nu X. (mu Y. (<a>X || <b>Y)))",
+        "yy",
+    ),
+    row(
+        RING,
+        "mu Y. nu X. (<a>X || <b>Y)",
+        "(mu Y. (nu X. (<a>X || <b>Y)))",
+        "nn",
+    ),
+    row(
+        LOOP,
+        "nu X. mu Y. (<a>X || <b>Y)",
+        "(nu X. (mu Y. (<a>X || <b>Y)))",
+        "nn",
+    ),
+    row(RING, "<a*>true", "<a*>true", "yy"),
+    row(RING, "<a+>true", "<a+>true", "yn"),
+    row(RING, "<a + + b>true", "<(a+ + b)>true", "yy"),
+    row(RING, "<a+b>true", "<(a + b)>true", "yy"),
+    row(
+        LOOP,
+        "mu X. (<a>X || nu X. <b>X)",
+        "(mu X. (<a>X || (nu X. <b>X)))",
+        "yy",
+    ),
+    row(RING, "mu X. !(X => false)", "(mu X. !(X => false))", "nn"),
+    row(
+        RING,
+        "(mu X. <a>X) => false",
+        "((mu X. <a>X) => false)",
+        "yy",
+    ),
+    row(RING, "<a=>b>true", "<(a => b)>true", "ny"),
+    row(RING, "<a||b>true", "<(a || b)>true", "yy"),
+    row(LOOP, "[b]<b>true", "[b]<b>true", "yy"),
+    row(
+        LOOP,
+        "mu X. (<a>X || <b>true)",
+        "(mu X. (<a>X || <b>true))",
+        "yy",
+    ),
+    row(
+        LOOP,
+        "mu Z. nu Y. mu X. (<a>Z || <b>Y)",
+        "(mu Z. (nu Y. (mu X. (<a>Z || <b>Y))))",
+        "yy",
+    ),
+];
+
+/// The ways to check: by sets of states, by a game on one thread, and by a game.
+#[derive(Clone, Copy, Debug)]
+enum Engine {
+    Plain,
+    One,
+    Game,
+}
+
+const ENGINES: [Engine; 3] = [Engine::Plain, Engine::One, Engine::Game];
+
+fn run<W: io::Write>(
     alloc: Global,
-    system: &[u8],
-    formula: &[u8],
-    plain: bool,
-    out: &mut Vec<u8>,
+    system: &str,
+    formula: &str,
+    engine: Engine,
+    out: &mut W,
 ) -> Result<bool, MuError> {
-    if plain {
-        check_plain(alloc, system, formula, out)
-    } else {
-        let no_game: Option<&mut Vec<u8>> = None;
-        let no_evidence: Option<(&mut Vec<u8>, &mut Vec<u8>)> = None;
-        check(alloc, system, formula, &DEFAULTS, out, no_game, no_evidence)
+    let system = system.as_bytes();
+    let formula = formula.as_bytes();
+    let no_game: Option<&mut Vec<u8>> = None;
+    let no_evidence: Option<(&mut Vec<u8>, &mut Vec<u8>)> = None;
+    match engine {
+        Engine::Plain => check_plain(alloc, system, formula, out),
+        Engine::One => check_one(alloc, system, formula, &DEFAULTS, out, no_game, no_evidence),
+        Engine::Game => check(alloc, system, formula, &DEFAULTS, out, no_game, no_evidence),
     }
 }
 
@@ -94,74 +164,16 @@ fn below_the_first_line(alloc: Global, case: &Case) -> Result<String, Fail> {
 
 #[test]
 fn reports_what_was_worked_out(rt: HostRuntime) -> Result<(), Fail> {
-    let rows = [
-        row(RING, "<a>true", "<a>true", "yn"),
-        row(RING, "mu X. X", "(mu X. X)", "nn"),
-        row(RING, "nu X. X", "(nu X. X)", "yy"),
-        row(STUCK, "<true>true", "<true>true", "n"),
-        row(STUCK, "[true]false", "[true]false", "y"),
-        row(
-            RING,
-            "nu X. mu Y. (<a>X || <b>Y)",
-            "(nu X. (mu Y. (<a>X || <b>Y)))",
-            "yy",
-        ),
-        row(
-            RING,
-            "mu Y. nu X. (<a>X || <b>Y)",
-            "(mu Y. (nu X. (<a>X || <b>Y)))",
-            "nn",
-        ),
-        row(
-            LOOP,
-            "nu X. mu Y. (<a>X || <b>Y)",
-            "(nu X. (mu Y. (<a>X || <b>Y)))",
-            "nn",
-        ),
-        row(RING, "<a*>true", "<a*>true", "yy"),
-        row(RING, "<a+>true", "<a+>true", "yn"),
-        row(RING, "<a + + b>true", "<(a+ + b)>true", "yy"),
-        row(RING, "<a+b>true", "<(a + b)>true", "yy"),
-        row(
-            LOOP,
-            "mu X. (<a>X || nu X. <b>X)",
-            "(mu X. (<a>X || (nu X. <b>X)))",
-            "yy",
-        ),
-        row(RING, "mu X. !(X => false)", "(mu X. !(X => false))", "nn"),
-        row(
-            RING,
-            "(mu X. <a>X) => false",
-            "((mu X. <a>X) => false)",
-            "yy",
-        ),
-        row(RING, "<a=>b>true", "<(a => b)>true", "ny"),
-        row(RING, "<a||b>true", "<(a || b)>true", "yy"),
-        row(LOOP, "[b]<b>true", "[b]<b>true", "yy"),
-        row(
-            LOOP,
-            "mu X. (<a>X || <b>true)",
-            "(mu X. (<a>X || <b>true))",
-            "yy",
-        ),
-        row(
-            LOOP,
-            "mu Z. nu Y. mu X. (<a>Z || <b>Y)",
-            "(mu Z. (nu Y. (mu X. (<a>Z || <b>Y))))",
-            "yy",
-        ),
-    ];
-    for row in rows.iter() {
-        for plain in [true, false] {
+    for row in WORKED_OUT.iter() {
+        for engine in ENGINES {
             let mut out = Vec::new(rt.alloc());
-            let system = row.system.as_bytes();
-            let answer = run(rt.alloc(), system, row.formula.as_bytes(), plain, &mut out)?;
+            let answer = run(rt.alloc(), row.system, row.formula, engine, &mut out)?;
             let mut want = String::from_str(rt.alloc(), first_line(row.system))?;
             want.push_str(below_the_first_line(rt.alloc(), row)?.as_str())?;
             assert_eq!(rt;
                 answer,
                 row.marks.starts_with('y'),
-                "{} by {plain}",
+                "{} by {engine:?}",
                 row.formula
             );
             assert_eq!(rt; out.as_slice(), want.as_bytes());
@@ -186,16 +198,10 @@ fn reads_labels_as_multisets_of_names(rt: HostRuntime) -> Result<(), Fail> {
         (silent, "<true && !tau>true", false),
     ];
     for (system, formula, yes) in rows {
-        for plain in [true, false] {
+        for engine in ENGINES {
             let mut out = Vec::new(rt.alloc());
-            let answer = run(
-                rt.alloc(),
-                system.as_bytes(),
-                formula.as_bytes(),
-                plain,
-                &mut out,
-            )?;
-            assert_eq!(rt; answer, yes, "{formula} by {plain}");
+            let answer = run(rt.alloc(), system, formula, engine, &mut out)?;
+            assert_eq!(rt; answer, yes, "{formula} by {engine:?}");
         }
     }
     Ok(())
@@ -206,16 +212,14 @@ fn a_transition_that_stands_twice_is_one(rt: HostRuntime) -> Result<(), Fail> {
     let system = "des (0,2,2)\n(0,\"a\",1)\n(0,\"a\",1)\n";
     let want =
         "system 2 states 1 transitions initial 0\nformula <a>true\nyes 1 of 2\ninitial yes\n0 yes\n1 no\n";
-    let mut out = Vec::new(rt.alloc());
-    assert!(rt;
-        check_plain(
-            rt.alloc(),
-            system.as_bytes(),
-            b"<a>true".as_slice(),
-            &mut out
-        )?
-    );
-    assert_eq!(rt; out.as_slice(), want.as_bytes());
+    for engine in ENGINES {
+        let mut out = Vec::new(rt.alloc());
+        assert!(rt;
+            run(rt.alloc(), system, "<a>true", engine, &mut out)?,
+            "by {engine:?}"
+        );
+        assert_eq!(rt; out.as_slice(), want.as_bytes());
+    }
     Ok(())
 }
 
@@ -227,8 +231,19 @@ fn shown(alloc: Global, answer: Result<bool, MuError>) -> Result<String, AllocEr
     }
 }
 
+/// `part` this often, and then `tail`.
+fn repeated(alloc: Global, part: &str, times: usize, tail: &str) -> Result<String, Fail> {
+    let mut text = String::new(alloc);
+    for _ in 0..times {
+        text.push_str(part)?;
+    }
+    text.push_str(tail)?;
+    Ok(text)
+}
+
 #[test]
 fn passes_refusals_on(rt: HostRuntime) -> Result<(), Fail> {
+    let negations = repeated(rt.alloc(), "!", 257, "true")?;
     let rows = [
         ("des (0,2,2)\n(0,\"a\",1)\n", "true", "A5 at line 3"),
         ("des (0,2,2)\n(0,\"a\",1)\n(1,\"b", "true", "A2 at line 3"),
@@ -248,31 +263,18 @@ fn passes_refusals_on(rt: HostRuntime) -> Result<(), Fail> {
         (RING, "", "F3 at offset 0"),
         (RING, "forall", "F4 at offset 0"),
         (RING, "true & true", "F1 at offset 5"),
+        (RING, negations.as_str(), "F8 at offset 256"),
     ];
     for (system, formula, refusal) in rows {
-        let mut out = Vec::new(rt.alloc());
-        let answer = run(
-            rt.alloc(),
-            system.as_bytes(),
-            formula.as_bytes(),
-            true,
-            &mut out,
-        );
-        let text = shown(rt.alloc(), answer)?;
-        assert_eq!(rt; text.as_str(), refusal);
-        assert_eq!(rt; out.len(), 0, "written");
+        for engine in ENGINES {
+            let mut out = Vec::new(rt.alloc());
+            let answer = run(rt.alloc(), system, formula, engine, &mut out);
+            let text = shown(rt.alloc(), answer)?;
+            assert_eq!(rt; text.as_str(), refusal, "by {engine:?}");
+            assert_eq!(rt; out.len(), 0, "written");
+        }
     }
     Ok(())
-}
-
-/// `part` this often, and then `tail`.
-fn repeated(alloc: Global, part: &str, times: usize, tail: &str) -> Result<String, Fail> {
-    let mut text = String::new(alloc);
-    for _ in 0..times {
-        text.push_str(part)?;
-    }
-    text.push_str(tail)?;
-    Ok(text)
 }
 
 #[test]
@@ -288,17 +290,13 @@ fn refuses_what_is_too_large_for_a_game(rt: HostRuntime) -> Result<(), Fail> {
         (RING, binders.as_str(), "N2"),
     ];
     for (system, formula, refusal) in rows {
-        let mut out = Vec::new(rt.alloc());
-        let answer = run(
-            rt.alloc(),
-            system.as_bytes(),
-            formula.as_bytes(),
-            false,
-            &mut out,
-        );
-        let text = shown(rt.alloc(), answer)?;
-        assert_eq!(rt; text.as_str(), refusal);
-        assert_eq!(rt; out.len(), 0, "written");
+        for engine in [Engine::One, Engine::Game] {
+            let mut out = Vec::new(rt.alloc());
+            let answer = run(rt.alloc(), system, formula, engine, &mut out);
+            let text = shown(rt.alloc(), answer)?;
+            assert_eq!(rt; text.as_str(), refusal, "by {engine:?}");
+            assert_eq!(rt; out.len(), 0, "written");
+        }
     }
     Ok(())
 }
@@ -316,28 +314,65 @@ fn answers_what_is_as_large_as_may_be(rt: HostRuntime) -> Result<(), Fail> {
         (negations.as_str(), true),
     ];
     for (formula, yes) in rows {
-        let mut out = Vec::new(rt.alloc());
-        let answer = run(
-            rt.alloc(),
-            RING.as_bytes(),
-            formula.as_bytes(),
-            false,
-            &mut out,
-        )?;
-        assert_eq!(rt; answer, yes);
+        for engine in [Engine::One, Engine::Game] {
+            let mut out = Vec::new(rt.alloc());
+            let answer = run(rt.alloc(), RING, formula, engine, &mut out)?;
+            assert_eq!(rt; answer, yes, "by {engine:?}");
+        }
     }
     Ok(())
 }
 
 #[test]
 fn reports_a_million_states(rt: HostRuntime) -> Result<(), Fail> {
-    let mut out = Vec::new(rt.alloc());
     let system = "des (0,0,1000000)\n";
-    assert!(rt; check_plain(rt.alloc(), system.as_bytes(), b"true".as_slice(), &mut out)?);
-    let want =
-        "system 1000000 states 0 transitions initial 0\nformula true\nyes 1000000 of 1000000\ninitial yes\n0 yes\n";
-    assert!(rt; out.starts_with(want.as_bytes()));
-    assert!(rt; out.ends_with(b"\n999998 yes\n999999 yes\n"));
+    let head =
+        "system 1000000 states 0 transitions initial 0\nformula true\nyes 1000000 of 1000000\ninitial yes\n";
+    // The numbers below a million have 5,888,890 digits.
+    let lines = 5_888_890 + 1_000_000 * " yes\n".len();
+    for engine in ENGINES {
+        let mut out = Vec::new(rt.alloc());
+        assert!(rt;
+            run(rt.alloc(), system, "true", engine, &mut out)?,
+            "by {engine:?}"
+        );
+        assert!(rt; out.starts_with(head.as_bytes()));
+        assert!(rt; out[head.len()..].starts_with(b"0 yes\n1 yes\n"));
+        assert!(rt; out.ends_with(b"\n999998 yes\n999999 yes\n"));
+        assert_eq!(rt; out.len(), head.len() + lines);
+    }
+    Ok(())
+}
+
+/// States in a ring, of whose transitions the first has the label `a` and all others `b`.
+fn ring(alloc: Global, states: usize) -> Result<String, Fail> {
+    let mut text = format!(in alloc; "des (0,{states},{states})\n")?;
+    for state in 0..states {
+        let label = if state == 0 { 'a' } else { 'b' };
+        let next = (state + 1) % states;
+        write!(text, "({state},\"{label}\",{next})\n")?;
+    }
+    Ok(text)
+}
+
+#[test]
+fn reports_a_ring_of_many_states(rt: HostRuntime) -> Result<(), Fail> {
+    let system = ring(rt.alloc(), 2500)?;
+    let head =
+        "system 2500 states 2500 transitions initial 0\nformula [true*]<true*><a>true\nyes 2500 of 2500\ninitial yes\n";
+    let mut want = String::from_str(rt.alloc(), head)?;
+    for state in 0..2500 {
+        write!(want, "{state} yes\n")?;
+    }
+    for engine in ENGINES {
+        let mut out = Vec::new(rt.alloc());
+        let formula = "[true*]<true*>(<a>true)";
+        assert!(rt;
+            run(rt.alloc(), system.as_str(), formula, engine, &mut out)?,
+            "by {engine:?}"
+        );
+        assert_eq!(rt; out.as_slice(), want.as_bytes());
+    }
     Ok(())
 }
 
@@ -369,13 +404,16 @@ fn a_write_fault_leaves_a_beginning(rt: HostRuntime) -> Result<(), Fail> {
     let want =
         "system 2 states 2 transitions initial 0\nformula <a>true\nyes 1 of 2\ninitial yes\n0 yes\n1 no\n";
     for left in 0..want.len() {
-        let mut out = Stingy {
-            taken: Vec::new(rt.alloc()),
-            left,
-        };
-        let answer = check_plain(rt.alloc(), RING.as_bytes(), b"<a>true".as_slice(), &mut out);
-        assert_eq!(rt; status(&answer), 3);
-        assert_eq!(rt; out.taken.as_slice(), &want.as_bytes()[..left]);
+        for engine in ENGINES {
+            let mut out = Stingy {
+                taken: Vec::new(rt.alloc()),
+                left,
+            };
+            let answer = run(rt.alloc(), RING, "<a>true", engine, &mut out);
+            assert_eq!(rt; status(&answer), 3);
+            assert_eq!(rt; shown(rt.alloc(), answer)?.as_str(), "W1", "by {engine:?}");
+            assert_eq!(rt; out.taken.as_slice(), &want.as_bytes()[..left]);
+        }
     }
     Ok(())
 }
