@@ -30,81 +30,58 @@ const DEFAULTS: Options = Options {
     board: BoardKind::Auto,
 };
 
-/// A check, what its formula is written as, and the marks of its states.
-#[derive(Clone, Copy)]
-struct Case {
-    system: &'static str,
-    formula: &'static str,
-    canonical: &'static str,
-    marks: &'static str,
-}
-
-const fn row(
-    system: &'static str,
-    formula: &'static str,
-    canonical: &'static str,
-    marks: &'static str,
-) -> Case {
-    Case {
-        system,
-        formula,
-        canonical,
-        marks,
-    }
-}
-
-/// Formulas on small systems.
-const WORKED_OUT: [Case; 20] = [
-    row(RING, "<a>true", "<a>true", "yn"),
-    row(RING, "mu X. X", "(mu X. X)", "nn"),
-    row(RING, "nu X. X", "(nu X. X)", "yy"),
-    row(STUCK, "<true>true", "<true>true", "n"),
-    row(STUCK, "[true]false", "[true]false", "y"),
-    row(
+/// Systems, formulas, what each is written as, and the marks of the states.
+const WORKED_OUT: [(&str, &str, &str, &str); 20] = [
+    (RING, "<a>true", "<a>true", "yn"),
+    (RING, "mu X. X", "(mu X. X)", "nn"),
+    (RING, "nu X. X", "(nu X. X)", "yy"),
+    (STUCK, "<true>true", "<true>true", "n"),
+    (STUCK, "[true]false", "[true]false", "y"),
+    (
         RING,
         "nu X. mu Y. (<a>X || <b>Y)",
         "(nu X. (mu Y. (<a>X || <b>Y)))",
         "yy",
     ),
-    row(
+    (
         RING,
         "mu Y. nu X. (<a>X || <b>Y)",
         "(mu Y. (nu X. (<a>X || <b>Y)))",
         "nn",
     ),
-    row(
+    (
         LOOP,
         "nu X. mu Y. (<a>X || <b>Y)",
         "(nu X. (mu Y. (<a>X || <b>Y)))",
         "nn",
     ),
-    row(RING, "<a*>true", "<a*>true", "yy"),
-    row(RING, "<a+>true", "<a+>true", "yn"),
-    row(RING, "<a + + b>true", "<(a+ + b)>true", "yy"),
-    row(RING, "<a+b>true", "<(a + b)>true", "yy"),
-    row(
+    (RING, "<a*>true", "<a*>true", "yy"),
+    (RING, "<a+>true", "<a+>true", "yn"),
+    (RING, "<a + + b>true", "<(a+ + b)>true", "yy"),
+    (RING, "<a+b>true", "<(a + b)>true", "yy"),
+    (
         LOOP,
         "mu X. (<a>X || nu X. <b>X)",
         "(mu X. (<a>X || (nu X. <b>X)))",
         "yy",
     ),
-    row(RING, "mu X. !(X => false)", "(mu X. !(X => false))", "nn"),
-    row(
+    (RING, "mu X. !(X => false)", "(mu X. !(X => false))", "nn"),
+    (
         RING,
         "(mu X. <a>X) => false",
         "((mu X. <a>X) => false)",
         "yy",
     ),
-    row(RING, "<a=>b>true", "<(a => b)>true", "ny"),
-    row(RING, "<a||b>true", "<(a || b)>true", "yy"),
-    row(LOOP, "[b]<b>true", "[b]<b>true", "yy"),
-    row(
+    (RING, "<a=>b>true", "<(a => b)>true", "ny"),
+    (RING, "<a||b>true", "<(a || b)>true", "yy"),
+    (LOOP, "[b]<b>true", "[b]<b>true", "yy"),
+    (
         LOOP,
         "mu X. (<a>X || <b>true)",
         "(mu X. (<a>X || <b>true))",
         "yy",
     ),
-    row(
+    (
         LOOP,
         "mu Z. nu Y. mu X. (<a>Z || <b>Y)",
         "(mu Z. (nu Y. (mu X. (<a>Z || <b>Y))))",
@@ -141,21 +118,16 @@ fn run<W: io::Write>(
 }
 
 /// A report, but for its first line.
-fn below_the_first_line(alloc: Global, case: &Case) -> Result<String, Fail> {
+fn below_the_first_line(alloc: Global, canonical: &str, marks: &str) -> Result<String, Fail> {
     let mut text = String::new(alloc);
-    let yes = case.marks.bytes().filter(|mark| *mark == b'y').count();
-    let states = case.marks.len();
-    let initial = if case.marks.starts_with('y') {
-        "yes"
-    } else {
-        "no"
-    };
+    let yes = marks.bytes().filter(|mark| *mark == b'y').count();
+    let states = marks.len();
+    let initial = if marks.starts_with('y') { "yes" } else { "no" };
     write!(
         text,
-        "formula {}\nyes {yes} of {states}\ninitial {initial}\n",
-        case.canonical
+        "formula {canonical}\nyes {yes} of {states}\ninitial {initial}\n"
     )?;
-    for (state, mark) in case.marks.bytes().enumerate() {
+    for (state, mark) in marks.bytes().enumerate() {
         let word = if mark == b'y' { "yes" } else { "no" };
         write!(text, "{state} {word}\n")?;
     }
@@ -164,18 +136,13 @@ fn below_the_first_line(alloc: Global, case: &Case) -> Result<String, Fail> {
 
 #[test]
 fn reports_what_was_worked_out(rt: HostRuntime) -> Result<(), Fail> {
-    for row in WORKED_OUT.iter() {
+    for (system, formula, canonical, marks) in WORKED_OUT {
         for engine in ENGINES {
             let mut out = Vec::new(rt.alloc());
-            let answer = run(rt.alloc(), row.system, row.formula, engine, &mut out)?;
-            let mut want = String::from_str(rt.alloc(), first_line(row.system))?;
-            want.push_str(below_the_first_line(rt.alloc(), row)?.as_str())?;
-            assert_eq!(rt;
-                answer,
-                row.marks.starts_with('y'),
-                "{} by {engine:?}",
-                row.formula
-            );
+            let answer = run(rt.alloc(), system, formula, engine, &mut out)?;
+            let mut want = String::from_str(rt.alloc(), first_line(system))?;
+            want.push_str(below_the_first_line(rt.alloc(), canonical, marks)?.as_str())?;
+            assert_eq!(rt; answer, marks.starts_with('y'), "{formula} by {engine:?}");
             assert_eq!(rt; out.as_slice(), want.as_bytes());
         }
     }
@@ -323,24 +290,38 @@ fn answers_what_is_as_large_as_may_be(rt: HostRuntime) -> Result<(), Fail> {
     Ok(())
 }
 
-#[test]
-fn reports_a_million_states(rt: HostRuntime) -> Result<(), Fail> {
-    let system = "des (0,0,1000000)\n";
+/// Whether the report on a million states without transitions, of which `true` holds, is as it has to be.
+fn reports_a_million(alloc: Global, engine: Engine) -> Result<bool, Fail> {
     let head =
         "system 1000000 states 0 transitions initial 0\nformula true\nyes 1000000 of 1000000\ninitial yes\n";
     // The numbers below a million have 5,888,890 digits.
     let lines = 5_888_890 + 1_000_000 * " yes\n".len();
-    for engine in ENGINES {
-        let mut out = Vec::new(rt.alloc());
-        assert!(rt;
-            run(rt.alloc(), system, "true", engine, &mut out)?,
-            "by {engine:?}"
-        );
-        assert!(rt; out.starts_with(head.as_bytes()));
-        assert!(rt; out[head.len()..].starts_with(b"0 yes\n1 yes\n"));
-        assert!(rt; out.ends_with(b"\n999998 yes\n999999 yes\n"));
-        assert_eq!(rt; out.len(), head.len() + lines);
-    }
+    let mut out = Vec::new(alloc);
+    let answer = run(alloc, "des (0,0,1000000)\n", "true", engine, &mut out)?;
+    Ok(
+        answer
+            && out.len() == head.len() + lines
+            && out.starts_with(head.as_bytes())
+            && out[head.len()..].starts_with(b"0 yes\n1 yes\n")
+            && out.ends_with(b"\n999998 yes\n999999 yes\n"),
+    )
+}
+
+#[test]
+fn a_million_states_by_sets(rt: HostRuntime) -> Result<(), Fail> {
+    assert!(rt; reports_a_million(rt.alloc(), Engine::Plain)?);
+    Ok(())
+}
+
+#[test]
+fn a_million_states_by_a_game_on_one_thread(rt: HostRuntime) -> Result<(), Fail> {
+    assert!(rt; reports_a_million(rt.alloc(), Engine::One)?);
+    Ok(())
+}
+
+#[test]
+fn a_million_states_by_a_game(rt: HostRuntime) -> Result<(), Fail> {
+    assert!(rt; reports_a_million(rt.alloc(), Engine::Game)?);
     Ok(())
 }
 
