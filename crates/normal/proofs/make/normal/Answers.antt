@@ -32,5 +32,5 @@ written f n old new s first none w low short =
 pub of-requires : goal.of-requires
 of-requires c =
     let f = formula_of c.tree-tree.result.now in
-    written f (vec_len c.new-nodes.result) c.new-nodes.result.items (nodes_of c.write.new.nodes.items) c.in_ok-summary.summary c.new-nodes.ensures.len c.new-nodes.ensures.items c.in_ok-summary.ensures c.if-summary-gt-GREATEST_PRIORITY.false
-    (few c.count.result (count f) c.if-is_none.ensures c.count.ensures)
+    written f (vec_len c.new-nodes.result) c.new-nodes.result.items (nodes_of c.write.new.nodes.items) c.in_ok-summary.summary c.new-nodes.ensures.len c.new-nodes.ensures.items c.in_ok-summary.ensures
+    (omega (arith, c.if-summary-gt-GREATEST_PRIORITY.false)) (few c.count.result (count f) c.if-is_none.ensures c.count.ensures)
