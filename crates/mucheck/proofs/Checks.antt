@@ -1,7 +1,8 @@
 -- What a check has found out.
-use Rattle.std.proofs.Common.{◌≡◌, ℕ, List, Bool, false, Some, Ok, Err, subst, slice_index_or}
+use Rattle.std.proofs.Common.{◌≡◌, ℕ, List, Bool, false, Some, Ok, Err, subst, sym, slice_index_or}
 use Rattle.std.proofs.KnownBytes.{Keeps-refl}
-use Rattle.std.specs.Prelude.{IfSome, IfOk, IfErr, Option, Result}
+use Rattle.std.specs.Prelude.{IfSome, IfOk, IfErr, IsErrAnd, MatchResult, Option, Result}
+use Rattle.std.proofs.lemmas.Result.{IfOk-weaker}
 use Rattle.lts.specs.System.{System}
 use Rattle.lts.specs.Aut.{IsAut}
 use Rattle.formula.specs.Tree.{Formula}
@@ -91,3 +92,37 @@ gameless_of first second here l f error.Read spelled h = absurd h
 gameless_of first second here l f (error.System e) spelled h = absurd h
 gameless_of first second here l f (error.Formula e) spelled h = absurd h
 gameless_of first second here l f (error.Write e) spelled h = absurd h
+
+ok_same : {T : Type 0} → (x y : T) → ◌≡◌ {A = Result T MuError} (Ok x) (Ok y) → x ≡ y
+ok_same x y h = cc
+
+-- What holds of an answer holds of it too where errors were turned into others.
+pub ok_before : {T E : Type 0} → (r : Result T E) (x : T) (P : T → Type 0) → MatchResult r (λ y. ◌≡◌ {A = Result T MuError} (Ok x) (Ok y)) (λ e. ⊥) → IfOk r P → P x
+ok_before (Ok y) x P h p = subst P (sym (ok_same x y h)) p
+ok_before (Err e) x P h p = absurd h
+
+pub ok_after : {T E : Type 0} → (Q : E → MuError → Type 0) (r : Result T E) (s : Result T MuError) (P : T → Type 0) → MatchResult r (λ x. s ≡ Ok x) (λ e. IsErrAnd s (Q e)) → IfOk r P → IfOk s P
+ok_after Q (Ok x) s P h p = subst (λ y. IfOk y P) (sym h) p
+ok_after Q (Err e) (Ok x) P h p = absurd h
+ok_after Q (Err e) (Err d) P h p = tt
+
+ok_both : {T E : Type 0} → (r : Result T E) (P Q : T → Type 0) → IfOk r P → IfOk r Q → IfOk r (λ x. P x × Q x)
+ok_both (Ok x) P Q h k = (h, k)
+ok_both (Err e) P Q h k = tt
+
+-- both at once
+pub ok_after_both : {T E : Type 0} → (L : E → MuError → Type 0) (r : Result T E) (s : Result T MuError) (P Q R : T → Type 0) → MatchResult r (λ x. s ≡ Ok x) (λ e. IsErrAnd s (L e)) → IfOk r P → IfOk r Q
+    → ((x : T) → P x → Q x → R x) → IfOk s R
+ok_after_both L r s P Q R h p q f = ok_after L r s R h (IfOk-weaker r (λ x. P x × Q x) R (λ x k. f x k.0 k.1) (ok_both r P Q p q))
+
+-- What holds of what an error was turned into holds of the refusal.
+pub err_after : {T E : Type 0} → (make : E → MuError) (r : Result T E) (s : Result T MuError) (P : MuError → Type 0) → MatchResult r (λ x. s ≡ Ok x) (λ e. IsErrAnd s (λ d. d ≡ make e)) → IfErr r (λ e. P (make e))
+    → IfErr s P
+err_after make (Ok x) s P h p = subst (λ y. IfErr y P) (sym h) tt
+err_after make (Err e) (Ok x) P h p = absurd h
+err_after make (Err e) (Err d) P h p = subst P (sym h) p
+
+-- An error that is handed on is the same.
+pub passed_on : {T : Type 0} → (r : Result T MuError) (e : MuError) (P : MuError → Type 0) → IsErrAnd r (λ x. x ≡ e) → P e → IfErr r P
+passed_on (Ok x) e P h p = absurd h
+passed_on (Err x) e P h p = subst P (sym h) p

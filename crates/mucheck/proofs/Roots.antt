@@ -9,6 +9,13 @@ use Rattle.std.proofs.Math.ListN.{get_or-append}
 use Rattle.std.proofs.Math.Seq.{get_or-append_seam}
 use Rattle.std.proofs.lemmas.Bool.{cases_order}
 use Rattle.formula.specs.Meaning.{marked, Marks}
+use Rattle.formula.specs.Tree.{Formula}
+use Rattle.formula.specs.Admitted.{IsAdmitted}
+use Rattle.formula.specs.Meaning.{Satisfies}
+use Rattle.lts.specs.System.{System, IsSystem}
+use Rattle.normal.specs.Nodes.{Node, nodes}
+use Rattle.game.specs.Arena.{arena}
+use Rattle.laws.specs.Laws.{NestedWins}
 use Rattle.mucheck.specs.Roots.{HasRoots, WinsRoot}
 
 pub root_names : (states s : ℕ) (g : Game) → HasRoots states g → s < states → AreNames g s 0
@@ -45,3 +52,18 @@ marks_more n marks mark P m here = record { count = omega (arith, m.count, lengt
 -- that Even wins a state's vertex with the root node
 pub wins_root : (s v : ℕ) (g : Game) (mark : Bool) → place_in g s 0 ≡ Some v → IsTrue mark ↔ Wins g v → IsTrue mark ↔ WinsRoot g s
 wins_root s v g mark at w = (λ m. (v, at, w.0 m), λ h. w.1 (subst (Wins g) (some_same h.0 v (sym h.1 ∙ at)) h.2))
+
+-- the arena of a system and these nodes has roots
+pub arena_roots : (l : System) (ns : List Node) (g : Game) (n : ℕ) → g ≡ arena l ns → n ≡ l.states → 1 ≤ length ns → HasRoots n g
+arena_roots l ns g n e h some = (length ns, some, ap (λ (x : Game). x.named) e ∙ ap (λ k. Some (k, length ns)) (sym h))
+
+-- The marks of the states whose root vertex Even wins are those of the formula's states.
+pub roots_mean : (l : System) (f : Formula) (g : Game) (marks : List Bool) → NestedWins → IsSystem l → IsAdmitted f → g ≡ arena l (nodes f)
+    → Marks l.states marks (WinsRoot g) → Marks l.states marks (Satisfies l f)
+roots_mean l f g marks wins is admitted e m = record { count = m.count; exact = exact }
+  where
+    exact : (s : ℕ) → s < l.states → marked marks s ↔ Satisfies l f s
+    exact s h =
+        let there = subst (λ x. marked marks s ↔ WinsRoot x s) e (m.exact s h) in
+        let decided = wins l f is admitted s h in
+        (λ mark. (let w = there.0 mark in decided.0 (subst (Wins (arena l (nodes f))) (sym (some_same _ _ w.1)) w.2)), λ x. there.1 (_, refl, decided.1 x))

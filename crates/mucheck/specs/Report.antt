@@ -1,5 +1,5 @@
 -- The report of a check.
-use Rattle.std.specs.Prelude.{◌≡◌, ℕ, ◌+◌, Bool, false, List, [], ◌∷◌, ◌++◌, length, count_by, codes, decimal, if◌then◌else◌}
+use Rattle.std.specs.Prelude.{ℕ, ◌+◌, Bool, false, List, [], ◌∷◌, ◌++◌, length, count_by, codes, decimal, if◌then◌else◌}
 use Rattle.std.specs.List.{slice_index_or}
 use Rattle.lts.specs.System.{System}
 use Rattle.formula.specs.Tree.{Formula}

@@ -40,15 +40,9 @@ pub fn check_plain<R: Read + Drop, S: Read + Drop, W: Write>(
         → IfErr result (HasRefused first second (W.contents out.old) (W.contents out.new)) }
     ensures plain { IfErr result IsPlain }
 {
-    let system = match read_aut(alloc, aut) {
-        Ok(system) => system,
-        Err(error) => return Err(MuError::System(error)),
-    };
+    let system = read_aut(alloc, aut).map_err(MuError::System)?;
     let closed = read_formula(alloc, formula)?;
-    let marks = match plain_states(alloc, &system, &closed) {
-        Ok(marks) => marks,
-        Err(_) => return Err(MuError::Memory),
-    };
+    let marks = plain_states(alloc, &system, &closed).map_err(|_| MuError::Memory)?;
     reported(&system, &closed, &marks, out)
 }
 
@@ -116,15 +110,9 @@ fn check_lifted<R: Read + Drop, S: Read + Drop, W: Write>(
     ensures refusal { (first second : List ℕ) → R.remaining aut ≡ Some first → S.remaining formula ≡ Some second
         → IfErr result (HasRefused first second (W.contents out.old) (W.contents out.new)) }
 {
-    let system = match read_aut(alloc, aut) {
-        Ok(system) => system,
-        Err(error) => return Err(MuError::System(error)),
-    };
+    let system = read_aut(alloc, aut).map_err(MuError::System)?;
     let closed = read_formula(alloc, formula)?;
-    let marks = match lifted_states(alloc, &system, &closed) {
-        Ok(marks) => marks,
-        Err(error) => return Err(error),
-    };
+    let marks = lifted_states(alloc, &system, &closed)?;
     reported(&system, &closed, &marks, out)
 }
 
@@ -141,10 +129,8 @@ fn reported<W: Write>(
         (slice_index_or marks.now system.now.system.initial false) result }
 {
     let initial = system.initial() as usize;
-    match write_report(system, formula, marks, out) {
-        Ok(()) => Ok(marks[initial]),
-        Err(error) => Err(MuError::Write(error)),
-    }
+    write_report(system, formula, marks, out).map_err(MuError::Write)?;
+    Ok(marks[initial])
 }
 
 /// Reads a formula. Of a text that is too long no more is read than shows it.
@@ -155,10 +141,7 @@ fn read_formula<S: Read + Drop>(alloc: Global, formula: S) -> Result<Closed, MuE
     ensures fault { IfErr result IsReading }
 {
     let text = read_front(alloc, formula)?;
-    match parse(alloc, &text) {
-        Ok(closed) => Ok(closed),
-        Err(error) => Err(MuError::Formula(error)),
-    }
+    parse(alloc, &text).map_err(MuError::Formula)
 }
 
 /// All bytes of the reader, or its first `FORMULA_BYTES`.

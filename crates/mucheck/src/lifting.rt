@@ -28,23 +28,11 @@ pub fn lifted_states(alloc: Global, system: &Lts, formula: &Closed) -> Result<Ve
 {
     formula_is_decided();
     let states = system.states();
-    let normal = match normal(alloc, formula) {
-        Ok(normal) => normal,
-        Err(error) => return Err(MuError::Normal(error)),
-    };
+    let normal = normal(alloc, formula).map_err(MuError::Normal)?;
     normal.known();
-    let game = match build(alloc, system, &normal) {
-        Ok(game) => game,
-        Err(error) => return Err(MuError::Build(error)),
-    };
-    let marks = match solve_one(alloc, &game) {
-        Ok(settled) => root_marks(alloc, states, &game, &settled),
-        Err(_) => return Err(MuError::Memory),
-    };
-    match marks {
-        Ok(marks) => Ok(marks),
-        Err(_) => Err(MuError::Memory),
-    }
+    let game = build(alloc, system, &normal).map_err(MuError::Build)?;
+    let settled = solve_one(alloc, &game).map_err(|_| MuError::Memory)?;
+    root_marks(alloc, states, &game, &settled).map_err(|_| MuError::Memory)
 }
 
 /// A mark for each state, true where Even wins its vertex with the root node.

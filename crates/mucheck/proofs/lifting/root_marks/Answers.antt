@@ -1,4 +1,4 @@
-use Rattle.std.proofs.Common.{◌≡◌, ◌<◌, ◌+◌, ◌∷◌, ◌++◌, [], List, Bool, sym, subst, length}
+use Rattle.std.proofs.Common.{◌<◌, ◌+◌, List, Bool, sym, subst, length}
 use Rattle.std.specs.Prelude.{◌↔◌, IsTrue}
 use Rattle.game.specs.Game.{Game}
 use Rattle.game.specs.Wins.{Wins}

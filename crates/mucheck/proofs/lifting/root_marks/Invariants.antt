@@ -1,5 +1,3 @@
-use Rattle.std.proofs.Common.{◌≡◌, ◌<◌, ℕ, length}
-use Rattle.std.specs.Prelude.{◌↔◌, vec_len}
 use Rattle.formula.specs.Meaning.{Marks}
 use Rattle.mucheck.specs.Roots.{WinsRoot}
 use Rattle.mucheck.proofs.lifting.root_marks.Given as goal

@@ -1,8 +1,8 @@
-use Rattle.std.proofs.Common.{◌≡◌, ◌++◌, List, ℕ, refl, sym, get_or, false}
-use Rattle.std.specs.Prelude.{count_by, length}
+use Rattle.std.proofs.Common.{refl, get_or, false}
+use Rattle.std.specs.Prelude.{count_by}
 use Rattle.formula.specs.Closed.{closed_formula}
 use Rattle.lts.proofs.Writing.{Wrote-err, Wrote-as, Wrote-after, WroteFront-more, WroteFront-after}
-use Rattle.mucheck.specs.Report.{system_line, formula_line, yes_line, initial_line, state_lines}
+use Rattle.mucheck.specs.Report.{system_line, formula_line, yes_line, initial_line}
 use Rattle.mucheck.proofs.Lines.{report_is}
 use Rattle.mucheck.proofs.report.write_report.Goals as goal
 

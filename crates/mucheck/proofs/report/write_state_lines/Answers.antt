@@ -1,9 +1,9 @@
-use Rattle.std.proofs.Common.{◌≡◌, ◌++◌, [], ℕ, List, decimal, refl, sym, ap, ◌∙◌, drop, get_or, false, subst}
+use Rattle.std.proofs.Common.{◌++◌, [], decimal, refl, sym, ap, ◌∙◌, get_or, false, subst}
 use Rattle.std.specs.Io.KnownBytes.{Appends}
 use Rattle.std.proofs.KnownBytes.{Appends-nil, Appends-trans}
 use Rattle.lts.proofs.Writing.{Wrote-err, Wrote-as, WroteFront-more, WroteFront-after}
 use Rattle.lts.specs.Wrote.{WroteFront}
-use Rattle.mucheck.specs.Report.{yes_or_no, state_lines}
+use Rattle.mucheck.specs.Report.{yes_or_no}
 use Rattle.mucheck.proofs.Lines.{next_line, after_line, no_lines}
 use Rattle.mucheck.proofs.report.write_state_lines.Goals as goal
 
