@@ -50,6 +50,9 @@ swapped = Mu (codes "Y") (Nu (codes "X") (Or (Dia (Step name_a) (Var (codes "X")
 not_in_swapped : Satisfies two_states swapped 0 → ⊥
 not_in_swapped h = from_1 _ (λ _. ⊥) (from_0 _ _ (from_1 _ _ (from_0 _ _ h)))
 
+not_in_swapped_too : Satisfies two_states swapped 1 → ⊥
+not_in_swapped_too h = from_1 _ (λ _. ⊥) (from_0 _ _ (from_1 _ _ h))
+
 -- no step at all, and a step and back again
 stays : Leads two_states (Star (Step name_a)) 0 0
 stays = ([], refl)
