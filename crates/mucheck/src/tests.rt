@@ -15,12 +15,21 @@ const LOOP: &str = "des (0,2,2)\n(0,\"a\",1)\n(1,\"b\",1)\n";
 
 const STUCK: &str = "des (0,0,1)\n";
 
+const BOTH: &str = "des (0,1,2)\n(0,\"b|a\",1)\n";
+
+const OPAQUE: &str = "des (0,1,2)\n(0,\"r(1)\",1)\n";
+
+const SILENT: &str = "des ( 0 , 1 , 1 )\r\n\t(0,\"tau\",0)";
+
+const TWICE: &str = "des (0,2,2)\n(0,\"a\",1)\n(0,\"a\",1)\n";
+
 /// The first line of a report on one of these.
 fn first_line(system: &str) -> &'static str {
-    if system == STUCK {
-        "system 1 states 0 transitions initial 0\n"
-    } else {
-        "system 2 states 2 transitions initial 0\n"
+    match system {
+        STUCK => "system 1 states 0 transitions initial 0\n",
+        SILENT => "system 1 states 1 transitions initial 0\n",
+        BOTH | OPAQUE | TWICE => "system 2 states 1 transitions initial 0\n",
+        _ => "system 2 states 2 transitions initial 0\n",
     }
 }
 
@@ -31,7 +40,7 @@ const DEFAULTS: Options = Options {
 };
 
 /// Systems, formulas, what each is written as, and the marks of the states.
-const WORKED_OUT: [(&str, &str, &str, &str); 20] = [
+const WORKED_OUT: [(&str, &str, &str, &str); 30] = [
     (RING, "<a>true", "<a>true", "yn"),
     (RING, "mu X. X", "(mu X. X)", "nn"),
     (RING, "nu X. X", "(nu X. X)", "yy"),
@@ -87,6 +96,16 @@ const WORKED_OUT: [(&str, &str, &str, &str); 20] = [
         "(mu Z. (nu Y. (mu X. (<a>Z || <b>Y))))",
         "yy",
     ),
+    (RING, "mu X. <a>X", "(mu X. <a>X)", "nn"),
+    (BOTH, "<a|b>true", "<a|b>true", "yn"),
+    (BOTH, "<a>true", "<a>true", "nn"),
+    (BOTH, "<\"a|b\">true", "<\"a|b\">true", "nn"),
+    (OPAQUE, "<\"r(1)\">true", "<\"r(1)\">true", "yn"),
+    (OPAQUE, "<r>true", "<r>true", "nn"),
+    (SILENT, "<tau>true", "<tau>true", "y"),
+    (SILENT, "[a]false", "[a]false", "y"),
+    (SILENT, "<true && !tau>true", "<(true && !tau)>true", "n"),
+    (TWICE, "<a>true", "<a>true", "yn"),
 ];
 
 /// The ways to check: by sets of states, by a game on one thread, and by a game.
@@ -134,58 +153,31 @@ fn below_the_first_line(alloc: Global, canonical: &str, marks: &str) -> Result<S
     Ok(text)
 }
 
+/// Whether the report is the one with these marks, and the answer the first of them.
+fn is_reported(
+    alloc: Global,
+    system: &str,
+    formula: &str,
+    canonical: &str,
+    marks: &str,
+    engine: Engine,
+) -> Result<bool, Fail> {
+    let mut want = String::from_str(alloc, first_line(system))?;
+    want.push_str(below_the_first_line(alloc, canonical, marks)?.as_str())?;
+    let mut out = Vec::new(alloc);
+    let answer = run(alloc, system, formula, engine, &mut out)?;
+    Ok(answer == marks.starts_with('y') && out.as_slice() == want.as_bytes())
+}
+
 #[test]
 fn reports_what_was_worked_out(rt: HostRuntime) -> Result<(), Fail> {
     for (system, formula, canonical, marks) in WORKED_OUT {
         for engine in ENGINES {
-            let mut out = Vec::new(rt.alloc());
-            let answer = run(rt.alloc(), system, formula, engine, &mut out)?;
-            let mut want = String::from_str(rt.alloc(), first_line(system))?;
-            want.push_str(below_the_first_line(rt.alloc(), canonical, marks)?.as_str())?;
-            assert_eq!(rt; answer, marks.starts_with('y'), "{formula} by {engine:?}");
-            assert_eq!(rt; out.as_slice(), want.as_bytes());
+            assert!(rt;
+                is_reported(rt.alloc(), system, formula, canonical, marks, engine)?,
+                "{formula} by {engine:?}"
+            );
         }
-    }
-    Ok(())
-}
-
-#[test]
-fn reads_labels_as_multisets_of_names(rt: HostRuntime) -> Result<(), Fail> {
-    let both = "des (0,1,2)\n(0,\"b|a\",1)\n";
-    let opaque = "des (0,1,2)\n(0,\"r(1)\",1)\n";
-    let silent = "des ( 0 , 1 , 1 )\r\n\t(0,\"tau\",0)";
-    let rows = [
-        (both, "<a|b>true", true),
-        (both, "<a>true", false),
-        (both, "<\"a|b\">true", false),
-        (opaque, "<\"r(1)\">true", true),
-        (opaque, "<r>true", false),
-        (silent, "<tau>true", true),
-        (silent, "[a]false", true),
-        (silent, "<true && !tau>true", false),
-    ];
-    for (system, formula, yes) in rows {
-        for engine in ENGINES {
-            let mut out = Vec::new(rt.alloc());
-            let answer = run(rt.alloc(), system, formula, engine, &mut out)?;
-            assert_eq!(rt; answer, yes, "{formula} by {engine:?}");
-        }
-    }
-    Ok(())
-}
-
-#[test]
-fn a_transition_that_stands_twice_is_one(rt: HostRuntime) -> Result<(), Fail> {
-    let system = "des (0,2,2)\n(0,\"a\",1)\n(0,\"a\",1)\n";
-    let want =
-        "system 2 states 1 transitions initial 0\nformula <a>true\nyes 1 of 2\ninitial yes\n0 yes\n1 no\n";
-    for engine in ENGINES {
-        let mut out = Vec::new(rt.alloc());
-        assert!(rt;
-            run(rt.alloc(), system, "<a>true", engine, &mut out)?,
-            "by {engine:?}"
-        );
-        assert_eq!(rt; out.as_slice(), want.as_bytes());
     }
     Ok(())
 }
@@ -272,19 +264,26 @@ fn refuses_what_is_too_large_for_a_game(rt: HostRuntime) -> Result<(), Fail> {
 fn answers_what_is_as_large_as_may_be(rt: HostRuntime) -> Result<(), Fail> {
     let choices = repeated(rt.alloc(), "(a+b).", 9, "(a+b)")?;
     let nodes = format!(in rt.alloc(); "<c><c><c><{choices}>true")?;
+    let ends = repeated(rt.alloc(), ")", 9, ">true")?;
+    let written = repeated(rt.alloc(), "((a + b) . ", 9, "(a + b)")?;
+    let nodes_written = format!(in rt.alloc(); "<c><c><c><{written}{ends}")?;
     let binders = repeated(rt.alloc(), "nu X. mu X. ", 15, "true")?;
     let nested = format!(in rt.alloc(); "mu X. {binders}")?;
+    let ends = repeated(rt.alloc(), ")", 31, "")?;
+    let written = repeated(rt.alloc(), "(nu X. (mu X. ", 15, "true")?;
+    let nested_written = format!(in rt.alloc(); "(mu X. {written}{ends}")?;
     let negations = repeated(rt.alloc(), "!", 256, "true")?;
     let rows = [
-        (nodes.as_str(), false),
-        (nested.as_str(), true),
-        (negations.as_str(), true),
+        (nodes.as_str(), nodes_written.as_str(), "nn"),
+        (nested.as_str(), nested_written.as_str(), "yy"),
+        (negations.as_str(), negations.as_str(), "yy"),
     ];
-    for (formula, yes) in rows {
-        for engine in [Engine::One, Engine::Game] {
-            let mut out = Vec::new(rt.alloc());
-            let answer = run(rt.alloc(), RING, formula, engine, &mut out)?;
-            assert_eq!(rt; answer, yes, "by {engine:?}");
+    for (formula, canonical, marks) in rows {
+        for engine in ENGINES {
+            assert!(rt;
+                is_reported(rt.alloc(), RING, formula, canonical, marks, engine)?,
+                "{formula} by {engine:?}"
+            );
         }
     }
     Ok(())
