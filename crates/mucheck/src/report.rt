@@ -68,7 +68,7 @@ fn write_initial_line<W: Write>(mark: bool, out: &mut W) -> Result<(), WriteFaul
     ensures { Wrote (W.contents out.old) (W.contents out.new) result (initial_line mark) }
 {
     put(out, b"initial")?;
-    put(out, line_end(mark))
+    put(out, answer_line(mark))
 }
 
 fn write_state_lines<W: Write>(marks: &[bool], out: &mut W) -> Result<(), WriteFault>
@@ -76,7 +76,7 @@ fn write_state_lines<W: Write>(marks: &[bool], out: &mut W) -> Result<(), WriteF
 {
     for (state, mark) in marks.iter().enumerate() {
         put_number(out, b"", state)?;
-        put(out, line_end(*mark))?;
+        put(out, answer_line(*mark))?;
     }
     Ok(())
 }
@@ -88,8 +88,8 @@ fn marked(marks: &[bool]) -> usize
     marks.iter().filter(|mark| **mark).count()
 }
 
-/// The end of a line that tells a mark.
-fn line_end(mark: bool) -> &'static [u8]
+/// The end of a line that tells whether a mark stands.
+fn answer_line(mark: bool) -> &'static [u8]
     ensures { result.now ≡ yes_or_no mark }
 {
     if mark { b" yes\n" } else { b" no\n" }

@@ -21,7 +21,7 @@ pub returns-in_err-put : goal.returns-in_err-put
 returns-in_err-put g c =
     let next = next_line c.args.marks.now c.loop-state.state c.loop-state-test.true in
     let text = c.loop-state.invariant.2 ∙ ap (λ t. c.loop-state.invariant.0 ++ t) next in
-    let wrote = subst (λ t. WroteFront (g.W.Write.contents c.put_number.new.writer) (g.W.Write.contents c.put.new.writer) t) c.line_end.ensures c.in_err-put.ensures.wrote in
+    let wrote = subst (λ t. WroteFront (g.W.Write.contents c.put_number.new.writer) (g.W.Write.contents c.put.new.writer) t) c.answer_line.ensures c.in_err-put.ensures.wrote in
     Wrote-as _ _ _ _ _ (sym text) (Wrote-err _ _ _ _ c.from_residual-in_err-put.ensures.0
     (WroteFront-after _ _ _ _ _ c.loop-state.invariant.1
     (WroteFront-after _ _ _ (decimal c.loop-state.state) _ c.in_ok-put_number.ensures.wrote (WroteFront-more _ _ _ _ wrote))))
@@ -30,7 +30,7 @@ pub loop-state-preserved : goal.loop-state-preserved
 loop-state-preserved g c =
     let state = c.loop-state.state in
     let mark = get_or c.args.marks.now state false in
-    let wrote = subst (λ t. Appends (g.W.Write.contents c.put_number.new.writer) (g.W.Write.contents c.put.new.writer) t) c.line_end.ensures c.in_ok-put.ensures.wrote in (
+    let wrote = subst (λ t. Appends (g.W.Write.contents c.put_number.new.writer) (g.W.Write.contents c.put.new.writer) t) c.answer_line.ensures c.in_ok-put.ensures.wrote in (
       c.loop-state.invariant.0 ++ (decimal state ++ yes_or_no mark),
       Appends-trans _ _ _ _ _ c.loop-state.invariant.1 (Appends-trans _ _ _ (decimal state) _ c.in_ok-put_number.ensures.wrote wrote),
       after_line c.args.marks.now state _ _ c.loop-state-test.true c.loop-state.invariant.2,
