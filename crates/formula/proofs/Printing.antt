@@ -1,13 +1,7 @@
--- What a sequence of writes has written, where one of them fails and where all are done.
-use Rattle.std.proofs.Common.{◌≡◌, ℕ, suc, ◌+◌, ◌<◌, List, [], ◌∷◌, ◌++◌, length, map, drop, get_or, drop-cons, add-one, Option, Result, Ok, Err, Vec, Global, sym, ap, ◌∙◌, append-nil, append_assoc, subst}
-use Rattle.std.specs.Prelude.{IsErr}
-use Rattle.lts.specs.Wrote.{Wrote, WroteFront}
+-- The names of an action between bars, and what was written of them.
+use Rattle.std.proofs.Common.{◌≡◌, ℕ, suc, ◌+◌, ◌<◌, List, [], ◌∷◌, ◌++◌, length, map, drop, get_or, drop-cons, add-one, Option, Vec, Global, sym, ap, ◌∙◌, append-nil, append_assoc, subst}
+use Rattle.lts.specs.Wrote.{WroteFront}
 use Rattle.formula.specs.Canon.{names_text}
-
--- a fault is answered where a beginning was written
-pub faulted : {T E : Type 0} → (a c : Option (List ℕ)) (text : List ℕ) (r : Result T E) → IsErr r → WroteFront a c text → Wrote a c r text
-faulted a c text (Ok x) e h = cc
-faulted a c text (Err x) e h = h
 
 -- names, each after a bar
 abbrev pub barred : List (Vec ℕ Global) → List ℕ

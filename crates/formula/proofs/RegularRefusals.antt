@@ -1,6 +1,6 @@
 -- Why the program's functions read no regular formula, by what they met.
 use Rattle.std.proofs.Common.{◌≡◌, ℕ, ◌+◌, ◌-◌, ◌<◌, ◌≤◌, inl, inr, true, false, List, [], ◌∷◌, ◌++◌, length, drop, refl, sym, ap, ◌∙◌, subst, arith, append_assoc}
-use Rattle.std.specs.Prelude.{IsTrue, IfOk, IfErr, IsErrAnd, MatchResult, Result, Ok, Err, Some, None, suc, ◌==◌, ◌||◌}
+use Rattle.std.specs.Prelude.{IsTrue, IfOk, IfErr, MatchResult, Result, Ok, Err, Some, None, suc, ◌==◌, ◌||◌}
 use Rattle.std.proofs.lemmas.Bool.{cases_eq}
 use Rattle.std.proofs.lemmas.List.{length-map}
 use Rattle.formula.specs.Token.{Token, Name, AndSign, OrSign, ImpliesSign, Bar, NotSign, Open, Close, Dot, ChoiceSign, PlusSign, StarSign}
@@ -20,11 +20,6 @@ use Rattle.formula.proofs.Regulars.{words-next, bar_first, infixed-form}
 use Rattle.formula.proofs.RegularSpine.{sign_row, repeat_row, not_postfix}
 use Rattle.formula.proofs.RegularPlaces.{opens_regular, in_joined}
 use Rattle.formula.proofs.RegularEnds.{no_token, no_start, not_too_deep, open_too_many, word_barred, no_close, close_barred, no_name, sign_too_deep, mark_too_deep, mark_followed, repeated-fits, repeated-form, repeated-nesting, repeated-parens}
-
--- what the exit of a `?` returns
-pub passed_on : {T E : Type 0} → (r : Result T E) (e : E) (P : E → Type 0) → IsErrAnd r (λ x. x ≡ e) → P e → IfErr r P
-passed_on (Ok x) e P h p = absurd h
-passed_on (Err x) e P h p = subst P (sym h) p
 
 -- no token has the row 1
 pub row_not_one : (ts : List Token) → 0 < reg_row ts → 1 < reg_row ts

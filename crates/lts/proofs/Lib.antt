@@ -14,3 +14,4 @@ pub mod Whole
 pub mod Faults
 pub mod Writing
 pub mod Canonical
+pub mod PassedOn

@@ -1,6 +1,6 @@
 -- A header and its transitions are a text of a system.
-use Rattle.std.proofs.Common.{◌≡◌, ℕ, inr, List, length, Option, Some, None, Result, Ok, Err, sym, subst, arith}
-use Rattle.std.specs.Prelude.{IfSome, IfErr, IsErrAnd}
+use Rattle.std.proofs.Common.{◌≡◌, ℕ, inr, List, length, Option, Some, None, sym, subst, arith}
+use Rattle.std.specs.Prelude.{IfSome}
 use Rattle.std.specs.List.{AllByRecursion}
 use Rattle.lts.specs.declared.error.AutError.{AutError}
 use Rattle.lts.specs.declared.error.AutError.TheVariants as errors
@@ -50,8 +50,3 @@ read_fault None mid h (errors.Fault fault line) admitted begins wrong = tt
 read_fault (Some text) None h (errors.Fault fault line) admitted begins wrong = absurd begins
 read_fault (Some text) (Some left) h (errors.Fault fault line) admitted begins (good, body, place) =
     inr (begins.first, lines left, h.initial, h.transitions, h.states, good, begins.cut, begins.header, admitted.transitions, admitted.states, admitted.initial, body, place)
-
--- an error that is handed on
-pub err_kept : {T : Type 0} (r : Result T AutError) (e : AutError) (P : AutError → Type 0) → IsErrAnd r (λ y. y ≡ e) → P e → IfErr r P
-err_kept (Ok x) e P h p = tt
-err_kept (Err y) e P h p = subst P (sym h) p

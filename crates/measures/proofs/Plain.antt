@@ -124,6 +124,14 @@ opened_whole g v r is h = same_values (length g.vertices) r.values (opening g) i
 pub stored_width : (g : Game) (limits : List ℕ) (w : ℕ) (values : List Measure) → IsStored (record { game = g; values = values }) limits w → w ≡ length (bounds g)
 stored_width g limits w values is = is.wide ∙ ap length is.bounded
 
+-- a stored table under the name that a call gives its game
+pub stored_as : (of g : Game) (limits : List ℕ) (w : ℕ) (values : List Measure) → of ≡ g → IsStored (record { game = of; values = values }) limits w
+    → IsPlain (record { game = g; values = values }) × (length (components g) ≡ w)
+stored_as of g limits w values same is = (
+  subst (λ (h : Game). IsPlain (record { game = h; values = values })) same is.plain,
+  sym (stored_width of limits w values is ∙ (bounds_long of ∙ ap (λ (h : Game). length (components h)) same)),
+)
+
 pub set_stored : (g : Game) (limits : List ℕ) (r new : Rows) (v : ℕ) (m : Measure) → IsStored (record { game = g; values = r.values }) limits r.width → v < length g.vertices → LiesBelow g v m
     → new ≡ record { width = r.width; values = slice_set r.values v m } → IsStored (record { game = g; values = new.values }) limits new.width
 set_stored g limits r new v m is h below e = subst (λ (s : Rows). IsStored (record { game = g; values = s.values }) limits s.width) (sym e) (record {

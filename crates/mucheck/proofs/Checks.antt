@@ -121,8 +121,3 @@ pub err_after : {T E : Type 0} → (make : E → MuError) (r : Result T E) (s : 
 err_after make (Ok x) s P h p = subst (λ y. IfErr y P) (sym h) tt
 err_after make (Err e) (Ok x) P h p = absurd h
 err_after make (Err e) (Err d) P h p = subst P (sym h) p
-
--- An error that is handed on is the same.
-pub passed_on : {T : Type 0} → (r : Result T MuError) (e : MuError) (P : MuError → Type 0) → IsErrAnd r (λ x. x ≡ e) → P e → IfErr r P
-passed_on (Ok x) e P h p = absurd h
-passed_on (Err x) e P h p = subst P (sym h) p

@@ -1,20 +1,18 @@
 -- The vertices of the states with the root node.
-use Rattle.std.proofs.Common.{◌≡◌, ◌+◌, ◌*◌, ◌<◌, ◌≤◌, ℕ, Bool, true, false, List, [], ◌∷◌, ◌++◌, length, Some, get_or, refl, sym, ap, ◌∙◌, subst, inl, inr, length-append, arith}
-use Rattle.std.specs.Prelude.{Option, MatchOption, IsTrue, ◌↔◌, ◌⊎◌, option_map}
+use Rattle.std.proofs.Common.{◌≡◌, ◌+◌, ◌*◌, ◌<◌, ◌≤◌, ℕ, Bool, false, List, [], ◌∷◌, ◌++◌, length, Some, get_or, refl, sym, ap, ◌∙◌, subst, inl, inr, length-append, arith}
+use Rattle.std.specs.Prelude.{MatchOption, IsTrue, ◌↔◌, option_map}
 use Rattle.std.proofs.Math.Nat.{mul-lt-mul_of_pos_right}
 use Rattle.game.specs.Game.{Game, IsGame}
-use Rattle.game.specs.Arena.{AreNames, place, place_in}
+use Rattle.game.specs.Arena.{AreNames, arena, place, place_in}
 use Rattle.game.specs.Wins.{Wins}
 use Rattle.std.proofs.Math.ListN.{get_or-append}
 use Rattle.std.proofs.Math.Seq.{get_or-append_seam}
 use Rattle.std.proofs.lemmas.Bool.{cases_order}
-use Rattle.formula.specs.Meaning.{marked, Marks}
+use Rattle.formula.specs.Meaning.{marked, Marks, Satisfies}
 use Rattle.formula.specs.Tree.{Formula}
 use Rattle.formula.specs.Admitted.{IsAdmitted}
-use Rattle.formula.specs.Meaning.{Satisfies}
 use Rattle.lts.specs.System.{System, IsSystem}
 use Rattle.normal.specs.Nodes.{Node, nodes}
-use Rattle.game.specs.Arena.{arena}
 use Rattle.laws.specs.Laws.{NestedWins}
 use Rattle.mucheck.specs.Roots.{HasRoots, WinsRoot}
 

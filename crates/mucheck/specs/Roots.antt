@@ -1,5 +1,5 @@
 -- The vertices of the states with the root node.
-use Rattle.std.specs.Prelude.{◌≡◌, ℕ, ◌<◌, ◌≤◌, Some}
+use Rattle.std.specs.Prelude.{◌≡◌, ℕ, ◌≤◌, Some}
 use Rattle.game.specs.Game.{Game}
 use Rattle.game.specs.Arena.{place_in}
 use Rattle.game.specs.Wins.{Wins}

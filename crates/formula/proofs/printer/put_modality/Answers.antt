@@ -1,13 +1,12 @@
-use Rattle.lts.proofs.Writing.{WroteFront-more, WroteFront-after, Wrote-after}
-use Rattle.formula.proofs.Printing.{faulted}
+use Rattle.lts.proofs.Writing.{Wrote-err, WroteFront-more, WroteFront-after, Wrote-after}
 use Rattle.formula.proofs.printer.put_modality.Goals as goal
 
 pub returns-in_err-put : goal.returns-in_err-put
-returns-in_err-put g c = record { wrote = faulted _ _ _ _ c.from_residual.ensures.0 (WroteFront-more _ _ _ _ c.in_err-put.ensures.wrote) }
+returns-in_err-put g c = record { wrote = Wrote-err _ _ _ _ c.from_residual.ensures.0 (WroteFront-more _ _ _ _ c.in_err-put.ensures.wrote) }
 
 pub returns-in_err-put_regular : goal.returns-in_err-put_regular
 returns-in_err-put_regular g c = record {
-  wrote = faulted _ _ _ _ c.from_residual-in_err-put_regular.ensures.0
+  wrote = Wrote-err _ _ _ _ c.from_residual-in_err-put_regular.ensures.0
       (WroteFront-after _ _ _ _ _ c.in_ok-put.ensures.wrote (WroteFront-more _ _ _ _ c.in_err-put_regular.ensures.wrote));
 }
 

@@ -2,8 +2,8 @@ use Rattle.std.proofs.Common.{ℕ, ◌+◌, List, [], ◌∷◌, ◌++◌, drop,
 use Rattle.std.specs.Io.KnownBytes.{Appends}
 use Rattle.std.proofs.KnownBytes.{Appends-trans}
 use Rattle.std.proofs.lemmas.List.{drop_all}
-use Rattle.lts.proofs.Writing.{WroteFront-more, WroteFront-after}
-use Rattle.formula.proofs.Printing.{faulted, barred, names_text-cons, next_name, one_more, at_text}
+use Rattle.lts.proofs.Writing.{Wrote-err, WroteFront-more, WroteFront-after}
+use Rattle.formula.proofs.Printing.{barred, names_text-cons, next_name, one_more, at_text}
 use Rattle.formula.proofs.printer.put_names.Goals as goal
 
 pub loop-name-init : goal.loop-name-init
@@ -16,7 +16,7 @@ returns-in_err-put-2 g c =
     let (done, whole, written) = c.loop-name.invariant in
     let next = next_name c.in-Some.others.now c.loop-name.name-index c.name-item.result c.loop-name-test.true c.name-item.is in
     record {
-      wrote = faulted _ _ _ _ c.from_residual-in_err-put-2.ensures.0 (at_text _ _ _ _ (whole ∙ ap (λ l. done ++ l) next)
+      wrote = Wrote-err _ _ _ _ c.from_residual-in_err-put-2.ensures.0 (at_text _ _ _ _ (whole ∙ ap (λ l. done ++ l) next)
           (WroteFront-after _ _ _ _ _ written (WroteFront-more _ _ _ _ c.in_err-put-2.ensures.wrote)));
     }
 
@@ -28,7 +28,7 @@ returns-in_err-put-3 g c =
     let next = next_name c.in-Some.others.now c.loop-name.name-index c.name-item.result c.loop-name-test.true c.name-item.is in
     let bar = Appends-trans _ _ _ _ _ written c.in_ok-put-2.ensures.wrote in
     record {
-      wrote = faulted _ _ _ _ c.from_residual-in_err-put-3.ensures.0 (at_text _ _ _ _ (one_more _ done name _ rest whole next)
+      wrote = Wrote-err _ _ _ _ c.from_residual-in_err-put-3.ensures.0 (at_text _ _ _ _ (one_more _ done name _ rest whole next)
           (WroteFront-more _ _ _ rest (WroteFront-after _ _ _ _ _ bar (at_text _ _ _ _ (sym c.deref-in-loop-name.ensures.value) c.in_err-put-3.ensures.wrote))));
     }
 

@@ -8,7 +8,7 @@ use Rattle.formula.specs.Checked.{IsTold, IsTreeRefusal}
 use Rattle.formula.specs.declared.token.Placed.{Placed}
 use Rattle.formula.proofs.OneText.{one_formula}
 use Rattle.formula.proofs.NoFault.{no_fault}
-use Rattle.formula.proofs.RegularRefusals.{passed_on}
+use Rattle.lts.proofs.PassedOn.{passed_on}
 use Rattle.formula.proofs.Refusals.{token-told, grammar-told, tree-told, told-complete, told-exact, spelled-within, without_limits}
 use Rattle.formula.proofs.Sense.{meant_some, admitted_in}
 use Rattle.formula.proofs.reader.parse.Goals as goal

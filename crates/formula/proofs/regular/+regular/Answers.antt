@@ -10,7 +10,8 @@ use Rattle.formula.specs.declared.regular.ReadRegular.{ReadRegular}
 use Rattle.formula.specs.declared.written.WrittenRegular.TheVariants as regular
 use Rattle.formula.proofs.Regulars.{joined-is, joined-eaten, repeated-eaten}
 use Rattle.formula.proofs.RegularPlaces.{in_regular, in_negated, in_parens}
-use Rattle.formula.proofs.RegularRefusals.{passed_on, negation-empty, negation-deep, negation-many, negation-none, unbarred-stops, unbarred-ok, word-refused, word-is, word-eaten, parens-eaten, parens-barred, parens-unclosed, may_join, may_repeat, join-deep, join-right, repeat-deep, repeat-followed, repeated-is, repeated-onward, joined-onward, stops-empty, stops-none, stops-repeat, stops-infix}
+use Rattle.lts.proofs.PassedOn.{passed_on}
+use Rattle.formula.proofs.RegularRefusals.{negation-empty, negation-deep, negation-many, negation-none, unbarred-stops, unbarred-ok, word-refused, word-is, word-eaten, parens-eaten, parens-barred, parens-unclosed, may_join, may_repeat, join-deep, join-right, repeat-deep, repeat-followed, repeated-is, repeated-onward, joined-onward, stops-empty, stops-none, stops-repeat, stops-infix}
 use Rattle.formula.proofs.regular.+regular.Goals as goal
 
 pub negated-returns-in_err-syntax-clause-refused : goal.negated-returns-in_err-syntax-clause-refused

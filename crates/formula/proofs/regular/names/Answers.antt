@@ -7,7 +7,8 @@ use Rattle.formula.specs.Written.{words}
 use Rattle.formula.specs.Misread.{IsRegularMisread}
 use Rattle.formula.specs.Read.{MatchBar}
 use Rattle.formula.proofs.Regulars.{names-more}
-use Rattle.formula.proofs.RegularRefusals.{passed_on, names-unnamed}
+use Rattle.lts.proofs.PassedOn.{passed_on}
+use Rattle.formula.proofs.RegularRefusals.{names-unnamed}
 use Rattle.formula.proofs.regular.names.Goals as goal
 
 pub names-preserved : goal.names-preserved

@@ -8,7 +8,7 @@ use Rattle.formula.specs.Misread.{IsStateMisread}
 use Rattle.formula.specs.declared.written.Binder.TheVariants as binder
 use Rattle.formula.specs.declared.written.Brackets.TheVariants as brackets
 use Rattle.formula.proofs.StateEnds.{not-too-deep, modal-too-deep, binder-too-deep, group-too-wide, binder-unnamed, binder-undotted}
-use Rattle.formula.proofs.RegularRefusals.{passed_on}
+use Rattle.lts.proofs.PassedOn.{passed_on}
 use Rattle.formula.proofs.StateRefusals.{within-not, within-group, within-front, within-brackets, within-modality, modality-unclosed, within-binder, parenthesis-unclosed, within-sign, beyond-sign, beyond-first, none-left, none-begins}
 use Rattle.formula.proofs.state.+state.Goals as goal
 

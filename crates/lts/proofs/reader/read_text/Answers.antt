@@ -1,13 +1,14 @@
 use Rattle.lts.specs.Left.{Refuses}
 use Rattle.lts.specs.Aut.{HasFault}
-use Rattle.lts.proofs.Whole.{read_whole, read_only, read_fault, err_kept}
+use Rattle.lts.proofs.PassedOn.{passed_on}
+use Rattle.lts.proofs.Whole.{read_whole, read_only, read_fault}
 use Rattle.lts.proofs.reader.read_text.Goals as goal
 
 pub returns-in_err-rows-clause-fault : goal.returns-in_err-rows-clause-fault
 returns-in_err-rows-clause-fault g c =
     let old = g.B.Read.remaining c.args.reader.now in
     let mid = g.B.Read.remaining c.read_first.new.reader in
-    err_kept c.from_residual-in_err-rows.result c.in_err-rows.field-0.0 (Refuses old HasFault) c.from_residual-in_err-rows.ensures.1
+    passed_on c.from_residual-in_err-rows.result c.in_err-rows.field-0.0 (Refuses old HasFault) c.from_residual-in_err-rows.ensures.1
     (read_fault old mid c.in_ok-found.found c.in_err-rows.field-0.0 c.in_ok-found.ensures.within c.in_ok-found.ensures.first c.in_err-rows.ensures.fault)
 
 pub returns-clause-spelled : goal.returns-clause-spelled

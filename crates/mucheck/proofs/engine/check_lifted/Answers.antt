@@ -1,8 +1,9 @@
 use Rattle.std.proofs.Common.{sym, subst}
+use Rattle.lts.proofs.PassedOn.{passed_on}
 use Rattle.formula.specs.Closed.{closed_formula}
 use Rattle.formula.specs.Meaning.{Marks, Satisfies}
 use Rattle.mucheck.specs.Check.{HasRefused}
-use Rattle.mucheck.proofs.Checks.{spelled_of, report_of, fault_of, gameless_of, passed_on, ok_before}
+use Rattle.mucheck.proofs.Checks.{spelled_of, report_of, fault_of, gameless_of, ok_before}
 use Rattle.mucheck.proofs.engine.check_lifted.Goals as goal
 
 pub returns-in_err-marks-clause-refusal : goal.returns-in_err-marks-clause-refusal

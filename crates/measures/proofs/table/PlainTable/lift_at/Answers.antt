@@ -1,12 +1,12 @@
 use Rattle.std.proofs.Common.{◌≡◌, ◌∙◌, ◌<◌, ap, length, refl, subst, sym, true≢false}
 use Rattle.game.specs.Game.{Game}
 use Rattle.measures.specs.Lifting.{sum_of}
-use Rattle.measures.specs.Measure.{IsProg, Reaches, components}
+use Rattle.measures.specs.Measure.{IsProg, Reaches}
 use Rattle.measures.specs.Progress.{value_at}
 use Rattle.measures.specs.Settling.{IsStill}
-use Rattle.measures.specs.Tables.{IsPlain, LiesBelow, Table}
+use Rattle.measures.specs.Tables.{LiesBelow, Table}
 use Rattle.measures.specs.View.{Rows}
-use Rattle.measures.proofs.Plain.{bounds_long, measure_width, set_stored, stored_width}
+use Rattle.measures.proofs.Plain.{measure_width, set_stored, stored_as, stored_width}
 use Rattle.measures.proofs.Reaching.{not_reached}
 use Rattle.measures.proofs.Settling.{lift_below, risen_lift, still_from, sum_raised}
 use Rattle.measures.proofs.table.PlainTable.lift_at.Goals as goal
@@ -17,9 +17,8 @@ returns-then-reaches-clause-lifts c =
     let i = c.self.inside in
     let values = i.rows.values in
     let same : i.of.value ≡ g = ap (λ (t : Table). t.game) c.self.view_is ∙ c.requires.same in
-    let plain = subst (λ (h : Game). IsPlain (record { game = h; values = values })) same c.self.invariant.plain in
-    let width = stored_width i.of.value i.bounds.items i.rows.width values c.self.invariant ∙ (bounds_long i.of.value ∙ ap (λ (h : Game). length (components h)) same) in
-    let reaches = c.reaches.ensures g (sym width) in (
+    let (plain, wide) = stored_as i.of.value g i.bounds.items i.rows.width values same c.self.invariant in
+    let reaches = c.reaches.ensures g wide in (
       refl,
       subst (λ (t : Table). IsStill g t.values c.args.v) c.self.view_is
           (still_from g values plain c.args.v c.requires.vertex c.owner.result c.priority-priority.result c.successors.result.now c.best-best.result c.owner.ensures c.priority-priority.ensures c.successors.ensures c.best-best.ensures.best (reaches.0 c.if-reaches.true)),
@@ -37,9 +36,8 @@ invariant_of-self c =
     let i = c.self.inside in
     let values = i.rows.values in
     let same : i.of.value ≡ g = ap (λ (t : Table). t.game) c.self.view_is ∙ c.requires.same in
-    let plain = subst (λ (h : Game). IsPlain (record { game = h; values = values })) same c.self.invariant.plain in
-    let width = stored_width i.of.value i.bounds.items i.rows.width values c.self.invariant ∙ (bounds_long i.of.value ∙ ap (λ (h : Game). length (components h)) same) in
-    let reaches = c.reaches.ensures g (sym width) in
+    let (plain, wide) = stored_as i.of.value g i.bounds.items i.rows.width values same c.self.invariant in
+    let reaches = c.reaches.ensures g wide in
     let is = subst (λ (h : Game). IsProg h c.priority-priority.result (value_at values c.best-best.result) c.prog_of-risen.result) same
     (subst (λ (t : Table). IsProg t.game c.priority-priority.result (value_at t.values c.best-best.result) c.prog_of-risen.result) (sym c.self.view_is) c.prog_of-risen.ensures) in
     let lift = risen_lift g values plain c.args.v c.requires.vertex c.owner.result c.priority-priority.result c.successors.result.now c.best-best.result c.owner.ensures c.priority-priority.ensures c.successors.ensures
@@ -54,9 +52,8 @@ returns-clause-lifts c =
     let i = c.self.inside in
     let values = i.rows.values in
     let same : i.of.value ≡ g = ap (λ (t : Table). t.game) c.self.view_is ∙ c.requires.same in
-    let plain = subst (λ (h : Game). IsPlain (record { game = h; values = values })) same c.self.invariant.plain in
-    let width = stored_width i.of.value i.bounds.items i.rows.width values c.self.invariant ∙ (bounds_long i.of.value ∙ ap (λ (h : Game). length (components h)) same) in
-    let reaches = c.reaches.ensures g (sym width) in
+    let (plain, wide) = stored_as i.of.value g i.bounds.items i.rows.width values same c.self.invariant in
+    let reaches = c.reaches.ensures g wide in
     let never = λ (r : Reaches g c.priority-priority.result (value_at values c.best-best.result) (value_at values c.args.v)). true≢false (sym (reaches.1 r) ∙ c.if-reaches.false) in
     let is = subst (λ (h : Game). IsProg h c.priority-priority.result (value_at values c.best-best.result) c.prog_of-risen.result) same
     (subst (λ (t : Table). IsProg t.game c.priority-priority.result (value_at t.values c.best-best.result) c.prog_of-risen.result) (sym c.self.view_is) c.prog_of-risen.ensures) in
