@@ -60,7 +60,7 @@ module _ (g : Game) (p : Player) (choice : ℕ → ℕ) where
       let s = source_of u y at in
       (s.source, s.at, inr ((λ e. w.0 (sym (ap (λ (z : Vertex). z.owner) s.is) ∙ ap opponent e)), subst (λ (z : Vertex). Contains z.successors t) (sym s.is) w.1))
 
-  priority_dual : (u : ℕ) → u < length g.vertices → priority (dual g) u ≡ priority g u + 1
+  pub priority_dual : (u : ℕ) → u < length g.vertices → priority (dual g) u ≡ priority g u + 1
   priority_dual u l = elim ((slice_get_cases g.vertices u).1) [
     | inl w ↦ ap priority_at (vertex_dual g u ∙ ap (option_map turned) w.2) ∙ ap (λ o. priority_at o + 1) (sym w.2)
     | inr w ↦ (let h = w.0 in absurd (omega arith))
@@ -70,7 +70,7 @@ module _ (g : Game) (p : Player) (choice : ℕ → ℕ) where
   met_dual m [] h = let e = priority_dual m h.0 in omega (arith, e)
   met_dual m (o ∷ others) h = let e = priority_dual m h.0 in let r = met_dual o others h.1 in omega (arith, e, r)
 
-  met_of : (others : List ℕ) → others ≢ [] → AllByRecursion (λ u. u < length g.vertices) others → greatest_met (dual g) others ≡ greatest_met g others + 1
+  pub met_of : (others : List ℕ) → others ≢ [] → AllByRecursion (λ u. u < length g.vertices) others → greatest_met (dual g) others ≡ greatest_met g others + 1
   met_of [] m h = absurd (m refl)
   met_of (o ∷ others) m h = met_dual o others h
 
@@ -78,7 +78,7 @@ pub long_dual : (g : Game) → length (dual g).vertices ≡ length g.vertices
 long_dual g = length-map g.vertices turned
 
 -- all places of a path lie in the set
-path_in : (R : ℕ → ℕ → Type 0) (P : ℕ → Type 0) → ((u t : ℕ) → P u → R u t → P t) → (u : ℕ) (others : List ℕ) (t : ℕ) → P u → IsPath R u others t → AllByRecursion P others
+pub path_in : (R : ℕ → ℕ → Type 0) (P : ℕ → Type 0) → ((u t : ℕ) → P u → R u t → P t) → (u : ℕ) (others : List ℕ) (t : ℕ) → P u → IsPath R u others t → AllByRecursion P others
 path_in R P f u [] t h p = tt
 path_in R P f u (m ∷ others) t h p = let i = f u m h p.0 in (i, path_in R P f m others t i p.1)
 

@@ -28,3 +28,7 @@ pub mod Lifting
 pub mod OneWins
 pub mod Dual
 pub mod DualTop
+pub mod Claims
+pub mod Putting
+pub mod StoredClaims
+pub mod Jumping

@@ -1,11 +1,13 @@
 -- What holds of all parity games and their progress measures (Jurdziński 2000).
-use Rattle.std.specs.Prelude.{◌≡◌, ◌≢◌, ◌<◌, ◌⊎◌, ◌↔◌, ◌≤◌, ◌*◌, ℕ, Contains, List, Some, length}
+use Rattle.std.specs.Prelude.{◌≡◌, ◌≢◌, ◌<◌, ◌⊎◌, ◌↔◌, ◌≤◌, ◌*◌, ℕ, Contains, List, Option, Some, length}
 use Rattle.game.specs.declared.player.Player.TheVariants.{Even}
 use Rattle.game.specs.Game.{Game, IsGame, Vertex, dual, greatest, vertex}
 use Rattle.game.specs.Wins.{OddWins, Wins}
 use Rattle.measures.specs.Measure.{IsAtMost, IsMeasure, IsProg, IsRank, Measure, Top}
 use Rattle.measures.specs.Progress.{IsLeastTable, IsProgress, opening, value_at}
+use Rattle.measures.specs.Claim.{Entry, IsGoodClaim, entry_at}
 use Rattle.measures.specs.Lifting.{AreLifts, AreRises, height, rank}
+use Rattle.measures.specs.Tables.{IsPlain, LiesBelow, Table}
 
 -- For each priority and measure there is a least measure that reaches it.
 abbrev pub ProgExists : Type 0
@@ -68,3 +70,8 @@ LiftingEnds = (g : Game) (tables : List (List Measure)) (table : List Measure) �
 -- The number of the measures below one is its counts read in mixed radix.
 abbrev pub RankIsCode : Type 0
 RankIsCode = (g : Game) (m : Measure) → IsMeasure g m → IsRank g m (rank g m)
+
+-- What a good claim says over a table that lies below lies below too.
+abbrev pub ClaimsLieBelow : Type 0
+ClaimsLieBelow =
+    (t : Table) (entries : List (Option Entry)) → IsPlain t → IsGoodClaim t.game t.values entries → (v : ℕ) (x : Entry) → entry_at entries v ≡ Some x → LiesBelow t.game v x.value

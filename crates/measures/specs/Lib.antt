@@ -1,6 +1,8 @@
 pub mod Measure
 pub mod Progress
 pub mod Lifting
+pub mod Claim
+pub mod StoredClaim
 pub mod Laws
 pub mod View
 pub mod Progs

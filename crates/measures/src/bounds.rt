@@ -1,7 +1,8 @@
 // The components of a game, and how far their counts go.
 
-ghost use Rattle.std.specs.Prelude.{◌≡◌};
-ghost use Rattle.game.specs.Game.{greatest as greatest_of};
+ghost use Rattle.std.specs.Prelude.{◌≡◌, length};
+ghost use Rattle.game.specs.Game.{dual, greatest as greatest_of};
+ghost use Rattle.measures.specs.Measure.{components};
 ghost use Rattle.measures.specs.Progs.{bounds as bounds_of};
 
 use arrayvec::ArrayVec;
@@ -35,4 +36,15 @@ pub(crate) fn bounds(game: &Game) -> ArrayVec<u32, 16>
         }
     }
     bounds
+}
+
+/// How many components the dual game has.
+pub(crate) fn dual_width(game: &Game) -> usize
+    ensures { result ≡ length (components (dual game.now)) }
+{
+    if game.vertices() == 0 {
+        0
+    } else {
+        greatest(game) as usize / 2 + 1
+    }
 }

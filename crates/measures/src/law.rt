@@ -1,6 +1,7 @@
 // What holds of all parity games and their progress measures (Jurdziński 2000, Small progress measures for solving parity games).
 
 ghost use Rattle.measures.specs.Laws.{
+  ClaimsLieBelow,
   DualTop,
   DualWins,
   LeastDecides,
@@ -80,4 +81,11 @@ pub fn lifting_ends()
 /// The rank of a measure, the number of measures below it, is its counts read in mixed radix.
 pub fn rank_is_code()
     ensures { RankIsCode }
+{}
+
+/// What a good claim says over a table that lies below lies below too. Where it didn't, one could go on for ever among the
+/// vertices whose claims are too high, and the greatest priority of a cycle there would be neither odd, by the measures of
+/// a progress table, nor even, by the ranks.
+pub fn claims_lie_below()
+    ensures { ClaimsLieBelow }
 {}

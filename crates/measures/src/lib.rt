@@ -2,6 +2,7 @@
 #![tactic(auto)]
 
 mod bounds;
+pub mod claim;
 pub mod law;
 pub mod measure;
 mod pending;

@@ -1,10 +1,10 @@
 // The measures of many vertices, in one list of counts.
 
 ghost use Rattle.std.specs.Prelude.{◌≡◌, ◌<◌, ◌≤◌, ◌+◌, ◌*◌, ◌++◌, drop, length, map, replicate, slice_set, take, IfOk};
-ghost use Rattle.measures.specs.Measure.{Counts, measure_cmp};
+ghost use Rattle.measures.specs.Measure.{Counts, Top, measure_cmp};
 ghost use Rattle.measures.specs.Progress.{IsBestFor, value_at};
 ghost use Rattle.std.specs.List.{AllByRecursion};
-ghost use Rattle.measures.specs.View.{HasWidth, ReachesAt, Rows, is_top_of, measure_of};
+ghost use Rattle.measures.specs.View.{ArePut, HasWidth, ReachesAt, Rows, is_top_of, measure_of};
 
 use crate::measure::{COMPONENTS, Measure, compare};
 use crate::progs::is_better;
@@ -46,6 +46,27 @@ impl Rows {
             tops: vec![in alloc; false; length]?,
             counts: vec![in alloc; 0; length * width]?,
         })
+    }
+
+    /// So many measures, all of them top.
+    pub(crate) fn tops(alloc: Global, length: usize, width: usize) -> Result<Self, AllocError>
+        requires vertices { length ≤ MOST_VERTICES }
+        requires width { width ≤ COMPONENTS + 1 }
+        ensures width { IfOk result (λ r. r.width ≡ width) }
+        ensures tops { IfOk result (λ r. r.values ≡ replicate length Top) }
+    {
+        Ok(Rows {
+            width,
+            tops: vec![in alloc; true; length]?,
+            counts: vec![in alloc; 0; length * width]?,
+        })
+    }
+
+    /// How many counts each measure has.
+    pub(crate) fn width(&self) -> usize
+        ensures { result ≡ self.now.width }
+    {
+        self.width
     }
 
     pub(crate) fn is_top(&self, v: usize) -> bool
@@ -148,6 +169,26 @@ impl Rows {
             self.tops[v] = false;
             write_row(self.counts.as_mut_slice(), self.width, v, m.counts());
         }
+    }
+
+    /// Puts top in these places.
+    pub(crate) fn put_top(&mut self, places: &[u32])
+        requires { AllByRecursion (λ v. v < length self.old.values) places.now }
+        ensures { ArePut self.old places.now self.new }
+    {
+        for v in places {
+            self.set(*v as usize, &Measure::top());
+        }
+    }
+
+    /// Puts these counts in the place of a measure.
+    pub(crate) fn set_counts(&mut self, v: usize, counts: &[u32])
+        requires vertex { v < length self.old.values }
+        requires width { length counts.now ≡ self.old.width }
+        ensures { self.new ≡ record self.old { values = slice_set self.old.values v (Counts counts.now) } }
+    {
+        self.tops[v] = false;
+        write_row(self.counts.as_mut_slice(), self.width, v, counts);
     }
 }
 

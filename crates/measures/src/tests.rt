@@ -1,5 +1,6 @@
 // Small games, with measures and winners that were worked out by hand.
 
+use crate::claim::Claim;
 use crate::measure::Measure;
 use crate::progs::{is_measure, lift, prog};
 use crate::settle::{even_wins, is_settled, settle, solve_one};
@@ -139,5 +140,37 @@ fn tells_who_wins(rt: HostRuntime) -> Result<(), Fail> {
             assert_eq!(rt; even_wins(&settled, v), wins, "at {v}");
         }
     }
+    Ok(())
+}
+
+// Odd goes round between the first two vertices, and need not go on to the third.
+const ROUND: [Row; 3] = [
+    (Player::Odd, 1, &[1, 2]),
+    (Player::Even, 0, &[0]),
+    (Player::Even, 0, &[2]),
+];
+
+#[test]
+fn jumps_to_top(rt: HostRuntime) -> Result<(), Fail> {
+    let game = game_of(&rt, rt.alloc(), &ROUND)?;
+    assert!(rt; game.vertices() == 3);
+    let mut table = opening(rt.alloc(), &game)?;
+    let mut claim = Claim::new(rt.alloc(), &game)?;
+    assert!(rt; claim.width() == 1);
+    claim.set(1, &Measure::top(), 0, &[0]);
+    claim.set(0, &Measure::top(), 1, &[0]);
+    assert!(rt; !table.jump(&game, &claim));
+    assert!(rt; !table.is_top(0));
+    claim.set(1, &Measure::top(), 0, &[1]);
+    assert!(rt; claim.vertices().len() == 2);
+    assert!(rt; table.jump(&game, &claim));
+    assert!(rt; table.is_top(0));
+    assert!(rt; table.is_top(1));
+    assert!(rt; !table.is_top(2));
+    claim.clear();
+    assert!(rt; claim.vertices().is_empty());
+    assert!(rt; table.jump(&game, &claim));
+    settle(&game, &mut table);
+    assert!(rt; !table.is_top(2));
     Ok(())
 }

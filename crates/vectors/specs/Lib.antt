@@ -7,3 +7,4 @@ pub mod NormalForms
 pub mod Games
 pub mod Measures
 pub mod Tables
+pub mod Evidences

@@ -123,7 +123,7 @@ single : (g : Game) (table : List Measure) (v p t : ℕ) (o : Player) (r : Measu
 single g table v p t o r at is = (vertex_at p o (t ∷ []), at, (r ∷ [], r, (is, tt), best_single o r, refl))
 
 -- the least progress table: top where Even loses, and elsewhere how many of the vertices of priority 1 are met before one of priority 2
-abbrev least_often_a : List Measure
+abbrev pub least_often_a : List Measure
 least_often_a =
     number 0 ∷ Top ∷ number 0 ∷ number 1 ∷ number 0 ∷ number 0 ∷ number 0 ∷ Top ∷ number 1 ∷ number 0 ∷ number 2 ∷ number 1 ∷ Top ∷ number 0 ∷ number 1 ∷ number 2 ∷ []
 

@@ -1,0 +1,14 @@
+pub mod Shifted
+pub mod Descent
+pub mod Turned
+pub mod GoodWins
+pub mod BestGood
+pub mod BestMade
+pub mod Sides
+pub mod Cutting
+pub mod Parts
+pub mod Verdicts
+pub mod Kept
+pub mod Tested
+pub mod Taken
+pub mod Reached

@@ -1,0 +1,5 @@
+pub mod Evidence
+pub mod Best
+pub mod Verdict
+pub mod Witness
+pub mod Laws

@@ -1,0 +1,5 @@
+// Evidence that a player wins, and what it proves.
+#![tactic(auto)]
+
+pub mod law;
+pub mod verdict;

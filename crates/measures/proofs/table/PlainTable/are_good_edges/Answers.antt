@@ -1,0 +1,15 @@
+use Rattle.std.proofs.Common.{arith, refl, slice_index}
+use Rattle.measures.specs.Claim.{IsGoodFrom}
+use Rattle.measures.proofs.Putting.{contained_from, more_places}
+use Rattle.measures.proofs.table.PlainTable.are_good_edges.Goals as goal
+
+pub loop-t-preserved : goal.loop-t-preserved
+loop-t-preserved c =
+    let t = c.args.self.now in
+    more_places (IsGoodFrom t.game t.values c.args.claim.now.entries c.args.priority c.args.v) c.args.successors.now c.loop-t.t-index (slice_index c.args.successors.now c.loop-t.t-index) refl
+    c.loop-t.invariant (c.is_good_edge.ensures.0 c.if-not-is_good_edge.false)
+
+pub returns : goal.returns
+returns c =
+    let t = c.args.self.now in
+    ((λ yes. contained_from (IsGoodFrom t.game t.values c.args.claim.now.entries c.args.priority c.args.v) c.args.successors.now c.loop-t.t-index (omega arith) c.loop-t.invariant), (λ good. refl))

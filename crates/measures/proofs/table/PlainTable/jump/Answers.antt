@@ -1,0 +1,10 @@
+use Rattle.std.proofs.Common.{subst, sym}
+use Rattle.game.specs.Game.{Game}
+use Rattle.measures.specs.Claim.{IsGoodClaim}
+use Rattle.measures.proofs.Claims.{claims_lie_below}
+use Rattle.measures.proofs.table.PlainTable.jump.Goals as goal
+
+pub raise_by-requires-clause-below : goal.raise_by-requires-clause-below
+raise_by-requires-clause-below c =
+    let t = c.args.self.now in
+    claims_lie_below t c.args.claim.now.entries c.known.ensures (subst (λ (g : Game). IsGoodClaim g t.values c.args.claim.now.entries) (sym c.requires.same) (c.is_good_claim.ensures.0 c.if-not-is_good_claim.false))
