@@ -4,12 +4,14 @@ use Rattle.std.specs.Prelude.{IfSome}
 use Rattle.lts.specs.declared.error.AutFault.{AutFault}
 use Rattle.lts.specs.declared.error.AutFault.TheVariants.{BadHeader, BadLine, OverLimit, NoSuchState, WrongCount, BadStates, BadLabel}
 use Rattle.lts.specs.declared.scan.Announced.{Announced}
-use Rattle.lts.specs.Text.{lines}
+use Rattle.text.specs.Text.{lines}
 use Rattle.lts.specs.Label.{is_label}
 use Rattle.lts.specs.System.{Arrow, IsArrow}
 use Rattle.lts.specs.Aut.{IsHeader, IsTransition, LineFault, HasFault}
-use Rattle.lts.specs.Scan.{capped, header_at, transition_at}
-use Rattle.lts.specs.Left.{IfKnown, TakesLine, IsAdmitted, BeginsWith, IsFirstFault}
+use Rattle.text.specs.Tokens.{capped}
+use Rattle.lts.specs.Scan.{header_at, transition_at}
+use Rattle.text.specs.Lines.{IfKnown, TakesLine}
+use Rattle.lts.specs.Left.{IsAdmitted, BeginsWith, IsFirstFault}
 use Rattle.lts.proofs.Scanning.{header_gives, header_finds, transition_gives, transition_finds}
 
 -- no transition was found

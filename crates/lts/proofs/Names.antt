@@ -11,7 +11,7 @@ use Rattle.std.proofs.lemmas.List.{get_or-map, length-map}
 use Rattle.std.proofs.lemmas.Cmp.{nat_list_cmp_total, nat_list_eq_equiv, upto}
 use Rattle.std.proofs.lemmas.Map.Lookups.{exact_bytes}
 use Rattle.std.proofs.lemmas.List.Sorted.{sum_by-IsPermutation, IsPermutation-map}
-use Rattle.lts.specs.Text.{with_first, is_name}
+use Rattle.text.specs.Text.{with_first, is_name}
 use Rattle.lts.specs.Label.{parts_of, reading_of_parts, reading, multiset, with_name, bytes_cmp, tau, texts}
 use Rattle.lts.proofs.Ordered.{IsRising, times, rising_unique, rising_from_sorted, times_is_sum, turned_test}
 

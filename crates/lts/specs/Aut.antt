@@ -1,7 +1,7 @@
 -- The Aldebaran text of a system, and the fault of a text that spells none.
 use Rattle.std.specs.Prelude.{◌≡◌, ◌≢◌, ℕ, ◌+◌, ◌<◌, ◌≤◌, ◌⊎◌, List, [], ◌∷◌, ◌++◌, length, IsTrue, IsFalse, codes, ◌==◌}
 use Rattle.std.specs.List.{list_any, AllZip, AllByRecursion}
-use Rattle.lts.specs.Text.{lines, IsNumeral, IsSpaced}
+use Rattle.text.specs.Text.{lines, IsNumeral, IsSpaced}
 use Rattle.lts.specs.Label.{is_label}
 use Rattle.lts.specs.System.{Arrow, System, IsArrow, set_of}
 use Rattle.lts.specs.declared.error.AutFault.{AutFault}
@@ -70,3 +70,7 @@ HasFault text fault place =
     (HeaderFault (lines text) fault × (place ≡ 1))
     ⊎ ((first : List ℕ) × (rest : List (List ℕ)) × (i m n good : ℕ) × (lines text ≡ first ∷ rest) × IsHeader first i m n
     × (m ≤ 10000000) × (n ≤ 1000000) × (i < n) × BodyFault m n rest fault good × (place ≡ good + 2))
+
+-- the same of the fault with its line
+abbrev pub HasFaultAt : List ℕ → AutFault × ℕ → Type 0
+HasFaultAt text told = HasFault text told.0 told.1

@@ -1,7 +1,7 @@
 use Rattle.lts.specs.Left.{Refuses}
 use Rattle.lts.specs.Aut.{HasFault}
-use Rattle.lts.proofs.PassedOn.{passed_on}
-use Rattle.lts.proofs.Whole.{read_whole, read_only, read_fault}
+use Rattle.text.proofs.PassedOn.{passed_on}
+use Rattle.lts.proofs.Whole.{read_whole, read_fault}
 use Rattle.lts.proofs.reader.read_text.Goals as goal
 
 pub returns-in_err-rows-clause-fault : goal.returns-in_err-rows-clause-fault
@@ -19,13 +19,3 @@ returns-clause-spelled g c =
     let (arrows, gathered, within, are) = c.in_ok-rows.ensures.rows in
     read_whole old mid new c.in_ok-found.found arrows c.in_ok-assemble.field-0.system c.in_ok-found.ensures.within c.in_ok-found.ensures.first are within c.in_ok-assemble.ensures.states c.in_ok-assemble.ensures.initial
     (c.in_ok-assemble.ensures.arrows arrows gathered)
-
-pub returns-clause-only : goal.returns-clause-only
-returns-clause-only g c =
-    let old = g.B.Read.remaining c.args.reader.now in
-    let mid = g.B.Read.remaining c.read_first.new.reader in
-    let new = g.B.Read.remaining c.read_rows.new.reader in
-    let (arrows, gathered, within, are) = c.in_ok-rows.ensures.rows in
-    read_only old c.in_ok-assemble.field-0.system
-    (read_whole old mid new c.in_ok-found.found arrows c.in_ok-assemble.field-0.system c.in_ok-found.ensures.within c.in_ok-found.ensures.first are within c.in_ok-assemble.ensures.states c.in_ok-assemble.ensures.initial
-    (c.in_ok-assemble.ensures.arrows arrows gathered))

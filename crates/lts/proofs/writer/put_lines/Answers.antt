@@ -1,7 +1,7 @@
 use Rattle.std.proofs.Common.{◌++◌, sym, ap, ◌∙◌}
 use Rattle.std.proofs.KnownBytes.{Appends-trans}
 use Rattle.lts.proofs.Canonical.{next_line, after_line}
-use Rattle.lts.proofs.Writing.{Wrote-err, Wrote-as, WroteFront-more, WroteFront-after}
+use Rattle.text.proofs.Writing.{Wrote-err, Wrote-as, WroteFront-more, WroteFront-after}
 use Rattle.lts.proofs.writer.put_lines.Goals as goal
 
 pub returns-in_err-put_line : goal.returns-in_err-put_line
