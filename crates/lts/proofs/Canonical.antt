@@ -8,6 +8,7 @@ use Rattle.std.proofs.lemmas.List.{length-map}
 use Rattle.std.proofs.lemmas.List.Concat.{flat_map-cons}
 use Rattle.std.proofs.lemmas.List.Folds.{list_all-append}
 use Rattle.text.specs.Text.{lines}
+use Rattle.lts.specs.declared.limits.TheConstants.{MOST_TRANSITIONS, MOST_STATES, LONGEST_LABEL}
 use Rattle.lts.specs.Label.{is_label, is_label_byte}
 use Rattle.lts.specs.System.{Arrow, System, IsArrow, IsSystem}
 use Rattle.lts.specs.Numbered.{Numbered, arrow_of}
@@ -107,9 +108,9 @@ label_bytes (b ∷ label) h =
     (rw (one.0, more.0) refl, rw (one.1, more.1) refl)
 
 label_is : (label : List ℕ) → is_label label ≡ true → (list_all plain label ≡ true) × (list_any (λ b. b == 34) label ≡ false)
-label_is label h = label_bytes label (all_of_label (nat_le 1 (length label)) (nat_le (length label) 4096) (list_all is_label_byte label) h)
+label_is label h = label_bytes label (all_of_label (nat_le 1 (length label)) (nat_le (length label) LONGEST_LABEL) (list_all is_label_byte label) h)
 
-module _ (n : ℕ) (limit : n ≤ 1000000) where
+module _ (n : ℕ) (limit : n ≤ MOST_STATES) where
   arrow_plain : (a : Arrow) → IsArrow n a → list_all plain (arrow_body a) ≡ true
   arrow_plain a h =
       let label : list_all plain (34 ∷ a.label ++ 34 ∷ []) ≡ true = list_all-append plain a.label (34 ∷ []) ∙ rw (label_is a.label h.label).0 refl in
@@ -128,7 +129,7 @@ module _ (n : ℕ) (limit : n ≤ 1000000) where
 -- ---- the whole
 
 -- The canonical text of a system spells it.
-pub canon_spells : (l : System) → IsSystem l → length l.arrows ≤ 10000000 → IsAut (aut_text l) l
+pub canon_spells : (l : System) → IsSystem l → length l.arrows ≤ MOST_TRANSITIONS → IsAut (aut_text l) l
 canon_spells l h few =
     let count = length l.arrows in
     let body = header_body l.initial count l.states in
@@ -153,7 +154,7 @@ canon_spells l h few =
     }
 
 -- the same by the transitions that are stored
-pub stored_spells : (l : Numbered) (ts : List Transition) → IsSystem l.system → map (arrow_of l.labels) ts ≡ l.system.arrows → length ts ≤ 10000000 → IsAut (aut_text l.system) l.system
+pub stored_spells : (l : Numbered) (ts : List Transition) → IsSystem l.system → map (arrow_of l.labels) ts ≡ l.system.arrows → length ts ≤ MOST_TRANSITIONS → IsAut (aut_text l.system) l.system
 stored_spells l ts known is few = canon_spells l.system known (omega (arith, few, ap length is, length-map ts (arrow_of l.labels)))
 
 -- the text by what the program has at hand

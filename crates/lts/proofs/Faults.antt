@@ -3,6 +3,7 @@ use Rattle.std.proofs.Common.{◌≡◌, ℕ, ◌+◌, ◌<◌, ◌≤◌, ◌�
 use Rattle.std.specs.List.{AllByRecursion}
 use Rattle.std.proofs.lemmas.List.{length-append}
 use Rattle.std.proofs.lemmas.Bool.{cases_lt}
+use Rattle.lts.specs.declared.limits.TheConstants.{MOST_TRANSITIONS, MOST_STATES}
 use Rattle.lts.specs.declared.error.AutFault.{AutFault}
 use Rattle.lts.specs.declared.error.AutFault.TheVariants.{BadHeader, BadLine, OverLimit, NoSuchState, WrongCount, BadStates, BadLabel}
 use Rattle.text.specs.Text.{lines}
@@ -201,7 +202,7 @@ one_first all f WrongCount p q = absurd q
 one_first all f BadLabel p q = absurd q
 
 -- a right header has no fault
-right_header : (all : List (List ℕ)) (fault : AutFault) (first : List ℕ) (rest : List (List ℕ)) (i m n : ℕ) → HeaderFault all fault → all ≡ first ∷ rest → IsHeader first i m n → m ≤ 10000000 → n ≤ 1000000 → i < n → ⊥
+right_header : (all : List (List ℕ)) (fault : AutFault) (first : List ℕ) (rest : List (List ℕ)) (i m n : ℕ) → HeaderFault all fault → all ≡ first ∷ rest → IsHeader first i m n → m ≤ MOST_TRANSITIONS → n ≤ MOST_STATES → i < n → ⊥
 right_header all BadHeader first rest i m n p cut h few small below = p first rest i m n cut h
 right_header all OverLimit first rest i m n (first', rest', i', m', n', cut', h', over) cut h few small below =
     let e = two_headers all first first' rest rest' i m n i' m' n' cut cut' h h' in elim over [ inl k ↦ absurd (omega (arith, k, few, e.1)) | inr k ↦ absurd (omega (arith, k, small, e.2)) ]

@@ -1,6 +1,7 @@
 -- What is wrong with a line, by what was found on it.
 use Rattle.std.proofs.Common.{◌≡◌, ℕ, ◌^◌, ◌<◌, ◌≤◌, ◌⊎◌, inl, inr, true, false, List, Option, Some, None, refl, sym, subst, arith}
 use Rattle.std.specs.Prelude.{IfSome}
+use Rattle.lts.specs.declared.limits.TheConstants.{MOST_TRANSITIONS}
 use Rattle.lts.specs.declared.error.AutFault.{AutFault}
 use Rattle.lts.specs.declared.error.AutFault.TheVariants.{BadHeader, BadLine, OverLimit, NoSuchState, WrongCount, BadStates, BadLabel}
 use Rattle.lts.specs.declared.scan.Announced.{Announced}
@@ -55,7 +56,7 @@ bad_first (Some text) (Some left) line h none =
     )
 
 -- the limits decide alike on the numbers and on what was read of them
-same_number : (a n : ℕ) → a ≡ capped n → a ≤ 10000000 → n ≡ a
+same_number : (a n : ℕ) → a ≡ capped n → a ≤ MOST_TRANSITIONS → n ≡ a
 same_number a n e h = omega arith
 
 -- the header announces what no system has

@@ -3,6 +3,7 @@ use Rattle.std.specs.Prelude.{◌≡◌, ℕ, ◌+◌, ◌<◌, ◌≤◌, ◌�
 use Rattle.std.specs.List.{AllZip, AllByRecursion}
 use Rattle.text.specs.Text.{lines}
 use Rattle.text.specs.Lines.{IfKnown}
+use Rattle.lts.specs.declared.limits.TheConstants.{MOST_TRANSITIONS, MOST_STATES}
 use Rattle.lts.specs.declared.error.AutFault.{AutFault}
 use Rattle.lts.specs.declared.error.AutFault.TheVariants.{OverLimit, BadStates}
 use Rattle.lts.specs.declared.error.AutError.{AutError}
@@ -25,8 +26,8 @@ Refuses old P e = IfSome old (λ text. IfSome (named e) (λ told. P text told.0 
 
 -- what a right header announces is within the limits
 pub record IsAdmitted (h : Announced) : Type 0 where
-  pub transitions : h.transitions ≤ 10000000
-  pub states : h.states ≤ 1000000
+  pub transitions : h.transitions ≤ MOST_TRANSITIONS
+  pub states : h.states ≤ MOST_STATES
   pub initial : h.initial < h.states
 
 -- the first line is this header, and the others are left
@@ -46,8 +47,8 @@ HasRestFault h text fault place = (good : ℕ) × BodyFault h.transitions h.stat
 
 -- what is wrong with what a header announces
 abbrev pub IsFirstFault : Announced → AutFault → Type 0
-IsFirstFault h OverLimit = (10000000 < h.transitions) ⊎ (1000000 < h.states)
-IsFirstFault h BadStates = (h.transitions ≤ 10000000) × (h.states ≤ 1000000) × (h.states ≤ h.initial)
+IsFirstFault h OverLimit = (MOST_TRANSITIONS < h.transitions) ⊎ (MOST_STATES < h.states)
+IsFirstFault h BadStates = (h.transitions ≤ MOST_TRANSITIONS) × (h.states ≤ MOST_STATES) × (h.states ≤ h.initial)
 IsFirstFault h _ = ⊥
 
 -- the first lines are these, and the others are left

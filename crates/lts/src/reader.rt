@@ -1,6 +1,6 @@
 // The reader of systems.
 
-ghost use Rattle.std.specs.Prelude.{◌≡◌, ℕ, ◌+◌, ◌≤◌, ◌<◌, List, length, Option, IfOk, IfErr, OnOk, IfSome, IfNone};
+ghost use Rattle.std.specs.Prelude.{◌≡◌, ℕ, ◌+◌, ◌≤◌, ◌<◌, List, [], length, Option, IfOk, IfErr, OnOk, IfSome, IfNone};
 ghost use Rattle.std.specs.List.{AllByRecursion, list_all};
 ghost use Rattle.text.specs.Lines.{IfKnown};
 ghost use Rattle.text.specs.Reads.{Reads};
@@ -133,28 +133,29 @@ fn read_end<B: BufRead>(
     Ok(())
 }
 
-// Reads the transitions.
+// Reads the transitions into rows that have none yet.
 fn read_rows<B: BufRead>(
     alloc: Global,
     reader: &mut B,
     line: &mut Vec<u8>,
     found: Announced,
-) -> Result<Rows, AutError>
-    requires { IsAdmitted found }
-    ensures rows { IfOk result (λ rows. (arrows : List Arrow)
-        × Gathers (texts rows.labels.keys) rows.transitions.items arrows
+    rows: &mut Rows,
+) -> Result<(), AutError>
+    requires admitted { IsAdmitted found }
+    requires none { Gathers (texts rows.old.labels.keys) rows.old.transitions.items [] }
+    requires unlabelled { length rows.old.labels.keys ≡ 0 }
+    ensures rows { OnOk result ((arrows : List Arrow)
+        × Gathers (texts rows.new.labels.keys) rows.new.transitions.items arrows
         × AllByRecursion (IsArrow found.states) arrows
         × IfKnown (B.remaining reader.old) (B.remaining reader.new) (AreTransitions found arrows)) }
-    ensures within { IfOk result (λ rows. length rows.transitions.items ≤ 10000000) }
-    ensures labels { IfOk result (λ rows. length rows.labels.keys ≤ 10000000) }
+    ensures within { OnOk result (length rows.new.transitions.items ≤ MOST_TRANSITIONS) }
+    ensures labels { OnOk result (length rows.new.labels.keys ≤ MOST_TRANSITIONS) }
     ensures fault { IfErr result (Refuses (B.remaining reader.old) (HasRestFault found)) }
 {
-    let mut rows = Rows::new(alloc);
     for good in 0..found.transitions {
-        read_row(alloc, reader, line, found, good, &mut rows)?;
+        read_row(alloc, reader, line, found, good, rows)?;
     }
-    read_end(reader, line, found)?;
-    Ok(rows)
+    read_end(reader, line, found)
 }
 
 // Reads the whole text.
@@ -164,7 +165,8 @@ fn read_text<B: BufRead>(alloc: Global, reader: &mut B) -> Result<Lts, AutError>
 {
     let mut line = Vec::new(alloc);
     let found = read_first(reader, &mut line)?;
-    let rows = read_rows(alloc, reader, &mut line, found)?;
+    let mut rows = Rows::new(alloc);
+    read_rows(alloc, reader, &mut line, found, &mut rows)?;
     Ok(assemble(alloc, found, rows)?)
 }
 
