@@ -38,9 +38,9 @@ pub keys_few : (b : Bool) (m n : ℕ) → m ≡ n + cond b 1 0 → m ≤ n + 1
 keys_few true m n is = omega arith
 keys_few false m n is = omega arith
 
-pub all_more : {X : Type 0} (P : X → Type 0) (xs : List X) (x : X) → AllByRecursion P xs → P x → AllByRecursion P (xs ++ x ∷ [])
-all_more P [] x all one = (one, tt)
-all_more P (y ∷ xs) x all one = (all.0, all_more P xs x all.1 one)
+pub all_append : {X : Type 0} (P : X → Type 0) (xs ys : List X) → AllByRecursion P xs → AllByRecursion P ys → AllByRecursion P (xs ++ ys)
+all_append P [] ys p q = q
+all_append P (x ∷ xs) ys p q = (p.0, all_append P xs ys p.1 q)
 
 label_kept : (old more : List (List ℕ)) (k : ℕ) → k < length old → label_at (old ++ more) k ≡ label_at old k
 label_kept old more k h = get_or_append_left old more [] k h
@@ -63,5 +63,5 @@ gathers_more old new ts arrows s k t label grown numbered so_far =
     let kept : map (arrow_of new) ts ≡ arrows = rw grown.is (arrows_kept old grown.more ts so_far.inside) ∙ so_far.spelled in
     record {
       spelled = map-append (arrow_of new) ts (last ∷ []) ∙ (λ i. kept i ++ record { source = s; label = numbered.is i; target = t } ∷ []);
-      inside = all_more (λ (t : Transition). t.label < length new) ts last (rw grown.is (inside_kept old grown.more ts so_far.inside)) numbered.within;
+      inside = all_append (λ (t : Transition). t.label < length new) ts (last ∷ []) (rw grown.is (inside_kept old grown.more ts so_far.inside)) (numbered.within, tt);
     }

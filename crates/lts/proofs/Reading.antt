@@ -14,7 +14,7 @@ use Rattle.lts.specs.Numbered.{arrow_of}
 use Rattle.lts.specs.Gathered.{Gathers}
 use Rattle.text.specs.Lines.{IfKnown, TakesLine}
 use Rattle.lts.specs.Left.{HasRestFault, AreTransitions, SoFar, IsCut, HasNoLine}
-use Rattle.lts.proofs.Gathering.{all_more}
+use Rattle.lts.proofs.Gathering.{all_append}
 
 pub nothing_yet : (n : ℕ) (old : Option (List ℕ)) (labels : List (List ℕ)) (transitions : List Transition) → Gathers labels transitions [] → SoFar n 0 old old labels transitions
 nothing_yet n old labels transitions none = record { done = []; arrows = []; each = tt; within = tt; gathered = none; count = refl; cut = start old }
@@ -42,7 +42,7 @@ line_more n good old mid new labels labels' ts ts' line a so taken is inside add
   done = so.done ++ line ∷ [];
   arrows = so.arrows ++ a ∷ [];
   each = each_more so.done so.arrows line a so.each is;
-  within = all_more (IsArrow n) so.arrows a so.within inside;
+  within = all_append (IsArrow n) so.arrows (a ∷ []) so.within (inside, tt);
   gathered = add so.arrows so.gathered;
   count = omega (arith, length-append so.done (line ∷ []), so.count);
   cut = cut_more old mid new so.done line so.cut taken;

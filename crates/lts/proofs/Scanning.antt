@@ -7,7 +7,7 @@ use Rattle.text.proofs.Scanning.{bind_some, sign_gives, sign_finds, number_befor
 use Rattle.lts.specs.declared.scan.Announced.{Announced}
 use Rattle.lts.specs.System.{Arrow}
 use Rattle.lts.specs.Aut.{IsHeader, IsTransition}
-use Rattle.lts.specs.Scan.{header_at, transition_at}
+use Rattle.lts.specs.Scan.{header_at, counts_at, transition_at, labelled_at}
 
 abbrev header_of : ℕ → ℕ → ℕ → Announced
 header_of i m n = record { initial = i; transitions = m; states = n }
@@ -24,7 +24,7 @@ header_1 rest = number_before (codes ",") rest >>= λ i. header_2 i.0 i.1
 -- what is found is a header
 pub header_gives : (line : List ℕ) (a : Announced) → header_at line ≡ Some a
     → (i m n : ℕ) × IsHeader line i m n × (a.initial ≡ capped i) × (a.transitions ≡ capped m) × (a.states ≡ capped n)
-unfolding header_at
+unfolding header_at counts_at
 header_gives line a e =
     let (r1, s1, e1) = bind_some (sign_at (codes "des") line) (λ rest. sign_at (codes "(") rest >>= header_1) a e in
     let (r2, s2, e2) = bind_some (sign_at (codes "(") r1) header_1 a e1 in
@@ -40,7 +40,7 @@ header_gives line a e =
 
 -- a header is found
 pub header_finds : (line : List ℕ) (i m n : ℕ) → IsHeader line i m n → header_at line ≡ Some (record { initial = capped i; transitions = capped m; states = capped n })
-unfolding header_at
+unfolding header_at counts_at
 header_finds line i m n (x, y, z, hx, hy, hz, spaced) =
     let (r1, s1, m1) = sign_finds 100 (101 ∷ 115 ∷ []) line (codes "(" ∷ x ∷ codes "," ∷ y ∷ codes "," ∷ z ∷ codes ")" ∷ []) refl spaced in
     let (r2, s2, m2) = sign_finds 40 [] r1 (x ∷ codes "," ∷ y ∷ codes "," ∷ z ∷ codes ")" ∷ []) refl m1 in
@@ -67,7 +67,7 @@ transition_1 rest = number_before (codes ",") rest >>= λ s. transition_2 s.0 s.
 -- what is found is a transition
 pub transition_gives : (line : List ℕ) (a : Arrow) → transition_at line ≡ Some a
     → (b : Arrow) × IsTransition line b × (a.source ≡ capped b.source) × (a.label ≡ b.label) × (a.target ≡ capped b.target)
-unfolding transition_at
+unfolding transition_at labelled_at
 transition_gives line a e =
     let (r1, s1, e1) = bind_some (sign_at (codes "(") line) transition_1 a e in
     let (s, s2, e2) = bind_some (number_before (codes ",") r1) (λ s. transition_2 s.0 s.1) a e1 in
@@ -83,7 +83,7 @@ transition_gives line a e =
 
 -- a transition is found
 pub transition_finds : (line : List ℕ) (a : Arrow) → IsTransition line a → transition_at line ≡ Some (record { source = capped a.source; label = a.label; target = capped a.target })
-unfolding transition_at
+unfolding transition_at labelled_at
 transition_finds line a (x, z, hx, hz, plain, spaced) =
     let q = 34 ∷ a.label ++ 34 ∷ [] in
     let (r1, s1, m1) = sign_finds 40 [] line (x ∷ codes "," ∷ q ∷ codes "," ∷ z ∷ codes ")" ∷ []) refl spaced in

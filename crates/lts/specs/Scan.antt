@@ -9,20 +9,30 @@ use Rattle.lts.specs.declared.scan.Spelled.{Spelled}
 abbrev pub said : Spelled → Arrow
 said s = record { source = s.source; label = s.label.now; target = s.target }
 
+-- the three numbers of a header, and its end
+unfoldable pub counts_at : List ℕ → Option Announced
+counts_at line = do
+  i ← number_before (codes ",") line
+  m ← number_before (codes ",") i.1
+  n ← number_before (codes ")") m.1
+  end_at (record { initial = i.0; transitions = m.0; states = n.0 }) n.1
+
 unfoldable pub header_at : List ℕ → Option Announced
 header_at line = do
   rest ← sign_at (codes "des") line
   rest ← sign_at (codes "(") rest
-  i ← number_before (codes ",") rest
-  m ← number_before (codes ",") i.1
-  n ← number_before (codes ")") m.1
-  end_at (record { initial = i.0; transitions = m.0; states = n.0 }) n.1
+  counts_at rest
+
+-- the label and the target of a transition from this source, and its end
+unfoldable pub labelled_at : ℕ → List ℕ → Option Arrow
+labelled_at source line = do
+  label ← quoted_at line
+  rest ← sign_at (codes ",") label.1
+  t ← number_before (codes ")") rest
+  end_at (record { source = source; label = label.0; target = t.0 }) t.1
 
 unfoldable pub transition_at : List ℕ → Option Arrow
 transition_at line = do
   rest ← sign_at (codes "(") line
   s ← number_before (codes ",") rest
-  label ← quoted_at s.1
-  rest ← sign_at (codes ",") label.1
-  t ← number_before (codes ")") rest
-  end_at (record { source = s.0; label = label.0; target = t.0 }) t.1
+  labelled_at s.0 s.1

@@ -23,14 +23,12 @@ pub(crate) struct Spelled<'a> {
     pub target: u32,
 }
 
-/// What the line says as a header, if it has the shape of one.
-#[tactic(auto, unfolding(crate::specs::Scan::header_at, text::specs::Tokens::end_at))]
-pub(crate) fn header(line: &[u8]) -> Option<Announced>
-    ensures { at.header_at line.now ≡ result }
+// The numbers of a header, of which this is the rest.
+#[tactic(auto, unfolding(crate::specs::Scan::counts_at, text::specs::Tokens::end_at))]
+fn counts(line: &[u8]) -> Option<Announced>
+    ensures { at.counts_at line.now ≡ result }
 {
-    let rest = sign(line, b"des")?;
-    let rest = sign(rest, b"(")?;
-    let (initial, rest) = number_before(rest, b",")?;
+    let (initial, rest) = number_before(line, b",")?;
     let (transitions, rest) = number_before(rest, b",")?;
     let (states, rest) = number_before(rest, b")")?;
     if !is_end(rest) {
@@ -43,14 +41,22 @@ pub(crate) fn header(line: &[u8]) -> Option<Announced>
     })
 }
 
-/// What the line says as a transition, if it has the shape of one.
-#[tactic(auto, unfolding(crate::specs::Scan::transition_at, text::specs::Tokens::end_at))]
-pub(crate) fn transition(line: &[u8]) -> Option<Spelled<'_>>
-    ensures { Finds said result (at.transition_at line.now) }
+/// What the line says as a header, if it has the shape of one.
+#[tactic(auto, unfolding(crate::specs::Scan::header_at))]
+pub(crate) fn header(line: &[u8]) -> Option<Announced>
+    ensures { at.header_at line.now ≡ result }
 {
-    let rest = sign(line, b"(")?;
-    let (source, rest) = number_before(rest, b",")?;
-    let (label, rest) = quoted(rest)?;
+    let rest = sign(line, b"des")?;
+    let rest = sign(rest, b"(")?;
+    counts(rest)
+}
+
+// The transition from this source of which this is the rest.
+#[tactic(auto, unfolding(crate::specs::Scan::labelled_at, text::specs::Tokens::end_at))]
+fn labelled(source: u32, line: &[u8]) -> Option<Spelled<'_>>
+    ensures { Finds said result (at.labelled_at source line.now) }
+{
+    let (label, rest) = quoted(line)?;
     let rest = sign(rest, b",")?;
     let (target, rest) = number_before(rest, b")")?;
     if !is_end(rest) {
@@ -61,4 +67,14 @@ pub(crate) fn transition(line: &[u8]) -> Option<Spelled<'_>>
         label,
         target,
     })
+}
+
+/// What the line says as a transition, if it has the shape of one.
+#[tactic(auto, unfolding(crate::specs::Scan::transition_at))]
+pub(crate) fn transition(line: &[u8]) -> Option<Spelled<'_>>
+    ensures { Finds said result (at.transition_at line.now) }
+{
+    let rest = sign(line, b"(")?;
+    let (source, rest) = number_before(rest, b",")?;
+    labelled(source, rest)
 }
