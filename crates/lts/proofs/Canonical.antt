@@ -1,5 +1,5 @@
 -- The canonical text of a system, line by line, and that it spells the system.
-use Rattle.std.proofs.Common.{◌≡◌, ℕ, ◌+◌, ◌^◌, ◌<◌, ◌≤◌, Bool, true, false, not, ◌&&◌, ◌==◌, List, [], ◌∷◌, ◌++◌, length, map, drop, get_or, codes, decimal, refl, sym, ap, ◌∙◌, subst, arith, append_assoc, append-nil, add-one}
+use Rattle.std.proofs.Common.{◌≡◌, ℕ, ◌+◌, ◌^◌, ◌<◌, ◌≤◌, Bool, true, false, not, ◌&&◌, ◌==◌, List, [], ◌∷◌, ◌++◌, length, map, drop, get_or, codes, decimal, refl, sym, ap, ◌∙◌, subst, arith, append_assoc, add-one}
 use Rattle.std.specs.Prelude.{nat_le}
 use Rattle.std.specs.List.{flat_map, list_all, list_any, AllZip, AllByRecursion}
 use Rattle.std.proofs.Math.Seq.{drop-cons}
@@ -29,16 +29,9 @@ pub next_line : (labels : List (List ℕ)) (ts : List Transition) (i : ℕ) (t :
     → lines_of labels (drop i ts) ≡ arrow_line (arrow_of labels (get_or ts i t)) ++ lines_of labels (drop (i + 1) ts)
 next_line labels ts i t h = rw (drop-cons ts i t h, add-one i) refl
 
--- what is done and one line more
-pub after_line : (labels : List (List ℕ)) (ts : List Transition) (i : ℕ) (t : Transition) (all done : List ℕ) → i < length ts → all ≡ done ++ lines_of labels (drop i ts)
-    → all ≡ (done ++ arrow_line (arrow_of labels (get_or ts i t))) ++ lines_of labels (drop (i + 1) ts)
-after_line labels ts i t all done h e =
-    let line = arrow_line (arrow_of labels (get_or ts i t)) in
-    e ∙ ap (λ l. done ++ l) (next_line labels ts i t h) ∙ sym (append_assoc done line (lines_of labels (drop (i + 1) ts)))
-
 -- past the last transition no lines are left
-pub no_lines : (labels : List (List ℕ)) (ts : List Transition) (i : ℕ) (all done : List ℕ) → length ts ≤ i → all ≡ done ++ lines_of labels (drop i ts) → done ≡ all
-no_lines labels ts i all done h e = sym (e ∙ (ap (λ l. done ++ lines_of labels l) (drop_of_length-le ts h) ∙ append-nil done))
+pub no_lines : (labels : List (List ℕ)) (ts : List Transition) (i : ℕ) → length ts ≤ i → lines_of labels (drop i ts) ≡ []
+no_lines labels ts i past = ap (lines_of labels) (drop_of_length-le ts past)
 
 -- ---- the header
 

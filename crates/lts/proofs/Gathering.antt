@@ -25,9 +25,9 @@ found_label (k ∷ keys) label i e =
 -- the key that was stored is the label
 pub stored_label : (keys : List (Vec ℕ)) (label : List ℕ) (i : ℕ) (k v : Vec ℕ) → i < length keys → slice_get keys i ≡ Some k → pointwise nat_eq v.items k.items ≡ true → v.items ≡ label → HasLabel (texts keys) i label
 stored_label keys label i k v below there alike is = record {
-      within = omega (arith, length-map keys (λ (v : Vec ℕ). v.items), below);
-      is = get_or-map (λ (v : Vec ℕ). v.items) keys i k [] below ∙ ap (λ (v : Vec ℕ). v.items) (get_or_from_slice_get keys i k k there) ∙ sym ((bytes_eq-Decides v.items k.items).0 alike) ∙ is;
-    }
+  within = omega (arith, length-map keys (λ (v : Vec ℕ). v.items), below);
+  is = get_or-map (λ (v : Vec ℕ). v.items) keys i k [] below ∙ ap (λ (v : Vec ℕ). v.items) (get_or_from_slice_get keys i k k there) ∙ sym ((bytes_eq-Decides v.items k.items).0 alike) ∙ is;
+}
 
 -- the keys are the same, or one came at the end
 pub keys_grown : (b : Bool) (old new : List (Vec ℕ)) (v : Vec ℕ) → new ≡ cond b old (old ++ v ∷ []) → Extends (texts old) (texts new)

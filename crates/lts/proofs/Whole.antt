@@ -13,7 +13,7 @@ use Rattle.lts.specs.Left.{IsAdmitted, BeginsWith, AreTransitions, HasRestFault,
 use Rattle.text.specs.declared.error.ReadFault.{ReadFault}
 use Rattle.text.specs.declared.error.ReadFault.TheVariants as reads
 use Rattle.text.specs.Reads.{Reads}
-use Rattle.text.proofs.Promised.{keeps}
+use Rattle.text.proofs.Promised.{AreLaws, keeps}
 use Rattle.lts.specs.declared.error.AutFault.{AutFault}
 use Rattle.lts.specs.Unread.{unread}
 use Rattle.lts.specs.Numbered.{Numbered}
@@ -61,10 +61,14 @@ unread_refuses None P fault = tt
 unread_refuses (Some text) P reads.Read = tt
 unread_refuses (Some text) P reads.Memory = tt
 
+pub laws : AreLaws IsAut IsAut IsAut HasFaultAt
+laws = record {
+  one_value = λ text l k a b. unique.one_system text k l b a;
+  no_fault = λ text l f a h. no_fault text l f.0 f.1 a h;
+  none_due = λ text l f a h. no_fault text l f.0 f.1 a h;
+  one_fault = λ text f g h k. let e = one_fault text f.0 g.0 f.1 g.1 h k in λ i. (e.0 i, e.1 i);
+}
+
 -- all that the reader promises
-pub promised : (old : Option (List ℕ)) (r : Result Numbered AutError) → IfOk r (λ l. IfSome old (λ text. IsAut text l.system)) → IfErr r (Refuses old HasFault)
-    → IfSome old (λ text. Reads (IsAut text) (IsAut text) (IsAut text) (HasFaultAt text) (λ (l : Numbered). l.system) named r)
-promised None r spelled fault = tt
-promised (Some text) r spelled fault =
-    keeps (IsAut text) (IsAut text) (IsAut text) (HasFaultAt text) (λ (l : Numbered). l.system) named r (λ l k a b. unique.one_system text k l b a) (λ l f a h. no_fault text l f.0 f.1 a h)
-    (λ l f a h. no_fault text l f.0 f.1 a h) (λ f g h k. let e = one_fault text f.0 g.0 f.1 g.1 h k in λ i. (e.0 i, e.1 i)) spelled fault
+pub promised : (old : Option (List ℕ)) (r : Result Numbered AutError) → IfOk r (λ l. IfSome old (λ text. IsAut text l.system)) → IfErr r (Refuses old HasFault) → Reads IsAut IsAut IsAut HasFaultAt (λ (l : Numbered). l.system) named old r
+promised old r spelled fault = keeps IsAut IsAut IsAut HasFaultAt (λ (l : Numbered). l.system) named laws old r spelled fault

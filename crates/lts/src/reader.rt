@@ -176,7 +176,7 @@ fn read_text<B: BufRead>(alloc: Global, reader: &mut B) -> Result<Lts, AutError>
 /// # Errors
 /// The first faulty line decides. A text is also refused where a read fails, or for want of memory.
 pub fn read_aut<R: Read + Drop>(alloc: Global, reader: R) -> Result<Lts, AutError>
-    ensures { IfSome (R.remaining reader) (λ text. Reads (IsAut text) (IsAut text) (IsAut text) (HasFaultAt text) (λ l. l.system) named result) }
+    ensures { Reads IsAut IsAut IsAut HasFaultAt (λ l. l.system) named (R.remaining reader) result }
 {
     let mut reader = match BufReader::new(alloc, reader) {
         Ok(reader) => reader,
