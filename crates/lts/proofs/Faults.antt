@@ -1,18 +1,15 @@
 -- A text that spells a system has no deciding fault.
-use Rattle.std.proofs.Common.{◌≡◌, ℕ, ◌+◌, ◌<◌, ◌≤◌, ◌⊎◌, inl, inr, List, [], ◌∷◌, ◌++◌, length, Option, Some, None, Result, Ok, Err, refl, sym, ap, ◌∙◌, subst, arith, true≢false}
-use Rattle.std.specs.Prelude.{IfSome, IfOk, IfErr}
+use Rattle.std.proofs.Common.{◌≡◌, ℕ, ◌+◌, ◌<◌, ◌≤◌, ◌⊎◌, inl, inr, List, [], ◌∷◌, ◌++◌, length, refl, sym, ap, ◌∙◌, subst, arith, true≢false}
 use Rattle.std.specs.List.{AllByRecursion}
 use Rattle.std.proofs.lemmas.List.{length-append}
 use Rattle.std.proofs.lemmas.Bool.{cases_lt}
+use Rattle.lts.specs.declared.limits.TheConstants.{MOST_TRANSITIONS, MOST_STATES}
 use Rattle.lts.specs.declared.error.AutFault.{AutFault}
 use Rattle.lts.specs.declared.error.AutFault.TheVariants.{BadHeader, BadLine, OverLimit, NoSuchState, WrongCount, BadStates, BadLabel}
-use Rattle.lts.specs.declared.error.AutError.{AutError}
-use Rattle.lts.specs.declared.error.AutError.TheVariants as errors
-use Rattle.lts.specs.Text.{lines}
+use Rattle.text.specs.Text.{lines}
 use Rattle.lts.specs.Label.{is_label}
 use Rattle.lts.specs.System.{Arrow, System}
 use Rattle.lts.specs.Aut.{IsAut, IsHeader, IsGoodLine, LineFault, HeaderFault, BodyFault, HasFault}
-use Rattle.lts.specs.Left.{Refuses, IsNoFault, NamesOnly}
 use Rattle.lts.proofs.Unique.{header_same, transition_same, lines_same}
 use Rattle.lts.proofs.Reading.{good_lines}
 
@@ -76,17 +73,6 @@ no_fault text l fault line a (inl (wrong, place)) = no_first text l fault a wron
 no_fault text l fault line a (inr (first, rest, i, m, n, good, cut, header, few, small, below, body, place)) =
     let (r, e, f, g) = same_header text l a first rest i m n cut header in
     no_body m n rest fault good (subst (AllByRecursion (IsGoodLine n)) (sym r) (subst (λ k. AllByRecursion (IsGoodLine k) a.rest) (sym g) (good_lines l.states a.rest a.spelled a.each a.within))) (ap length r ∙ sym f) body
-
--- a text that spells a system was not refused for a fault
-complete_is : (old : Option (List ℕ)) (e : AutError) → Refuses old HasFault e → IfSome old (λ text. (l : System) → IsAut text l → IsNoFault e)
-complete_is None e h = tt
-complete_is (Some text) errors.Read h = λ l a. tt
-complete_is (Some text) errors.Memory h = λ l a. tt
-complete_is (Some text) (errors.Fault fault line) h = λ l a. no_fault text l fault line a h
-
-pub complete_all : {T : Type 0} (old : Option (List ℕ)) (r : Result T AutError) → IfErr r (Refuses old HasFault) → IfErr r (λ e. IfSome old (λ text. (l : System) → IsAut text l → IsNoFault e))
-complete_all old (Ok x) h = tt
-complete_all old (Err e) h = complete_is old e h
 
 -- ---- one fault at most
 
@@ -216,7 +202,7 @@ one_first all f WrongCount p q = absurd q
 one_first all f BadLabel p q = absurd q
 
 -- a right header has no fault
-right_header : (all : List (List ℕ)) (fault : AutFault) (first : List ℕ) (rest : List (List ℕ)) (i m n : ℕ) → HeaderFault all fault → all ≡ first ∷ rest → IsHeader first i m n → m ≤ 10000000 → n ≤ 1000000 → i < n → ⊥
+right_header : (all : List (List ℕ)) (fault : AutFault) (first : List ℕ) (rest : List (List ℕ)) (i m n : ℕ) → HeaderFault all fault → all ≡ first ∷ rest → IsHeader first i m n → m ≤ MOST_TRANSITIONS → n ≤ MOST_STATES → i < n → ⊥
 right_header all BadHeader first rest i m n p cut h few small below = p first rest i m n cut h
 right_header all OverLimit first rest i m n (first', rest', i', m', n', cut', h', over) cut h few small below =
     let e = two_headers all first first' rest rest' i m n i' m' n' cut cut' h h' in elim over [ inl k ↦ absurd (omega (arith, k, few, e.1)) | inr k ↦ absurd (omega (arith, k, small, e.2)) ]
@@ -236,23 +222,3 @@ one_fault text f g i j (inr (first, rest, a, m, n, good, cut, h, few, small, bel
     let stop = stop_of m' n' rest' f good (subst (λ k. BodyFault m' k rest' f good) e.2 (subst (λ k. BodyFault k n rest' f good) e.1 (subst (λ l. BodyFault m n l f good) e.3 body))) in
     let (same, at) = one_body m' n' rest' f g good good' stop (stop_of m' n' rest' g good' body') in
     (same, place ∙ ap (λ k. k + 2) at ∙ sym place')
-
-exact_is : (old : Option (List ℕ)) (e : AutError) → Refuses old HasFault e → IfSome old (λ text. (fault : AutFault) (line : ℕ) → HasFault text fault line → NamesOnly fault line e)
-exact_is None e h = tt
-exact_is (Some text) errors.Read h = λ fault line k. tt
-exact_is (Some text) errors.Memory h = λ fault line k. tt
-exact_is (Some text) (errors.Fault named place) h = λ fault line k. one_fault text named fault place line h k
-
--- a text with a deciding fault is refused for no other
-pub exact_all : {T : Type 0} (old : Option (List ℕ)) (r : Result T AutError) → IfErr r (Refuses old HasFault) → IfErr r (λ e. IfSome old (λ text. (fault : AutFault) (line : ℕ) → HasFault text fault line → NamesOnly fault line e))
-exact_all old (Ok x) h = tt
-exact_all old (Err e) h = exact_is old e h
-
-none_is : (old : Option (List ℕ)) (l : System) → IfSome old (λ text. IsAut text l) → IfSome old (λ text. (fault : AutFault) (line : ℕ) → HasFault text fault line → ⊥)
-none_is None l h = tt
-none_is (Some text) l h = λ fault line k. no_fault text l fault line h k
-
--- a text with a deciding fault is not answered
-pub none_all : {T E : Type 0} (view : T → System) (old : Option (List ℕ)) (r : Result T E) → IfOk r (λ x. IfSome old (λ text. IsAut text (view x))) → IfOk r (λ x. IfSome old (λ text. (fault : AutFault) (line : ℕ) → HasFault text fault line → ⊥))
-none_all view old (Ok x) h = none_is old (view x) h
-none_all view old (Err e) h = tt

@@ -1,11 +1,12 @@
 -- Labels that are added keep the arrows of the transitions so far.
-use Rattle.std.proofs.Common.{◌≡◌, ℕ, ◌<◌, List, [], ◌∷◌, ◌++◌, length, map, get_or, Some, refl, sym, ◌∙◌, arith}
-use Rattle.std.specs.Prelude.{position, nat_eq}
+use Rattle.std.proofs.Common.{◌≡◌, ℕ, ◌<◌, ◌≤◌, ◌+◌, List, [], ◌∷◌, ◌++◌, length, map, get_or, Some, Bool, true, false, cond, append-nil, refl, sym, ap, ◌∙◌, arith}
+use Rattle.std.specs.Prelude.{position, nat_eq, slice_get}
 use Rattle.std.specs.List.{AllByRecursion}
 use Rattle.std.specs.Global.{Vec}
 use Rattle.std.specs.Cmp.Lexicographic.{pointwise}
 use Rattle.std.proofs.lemmas.List.{get_or_append_left, get_or-map, length-map, length-append, map-append}
 use Rattle.std.proofs.lemmas.List.Quantifiers.{position-Some}
+use Rattle.std.proofs.lemmas.Option.{get_or_from_slice_get}
 use Rattle.std.proofs.lemmas.Slice.Eq.{bytes_eq-Decides}
 use Rattle.lts.specs.System.{Arrow}
 use Rattle.lts.specs.Numbered.{label_at, arrow_of}
@@ -21,9 +22,25 @@ found_label (k ∷ keys) label i e =
     let same : label ≡ (get_or (k ∷ keys) i k).items = (bytes_eq-Decides label (get_or (k ∷ keys) i k).items).0 found.1 in
     record { within = rw (length-map (k ∷ keys) (λ (v : Vec ℕ). v.items)) found.0; is = get_or-map (λ (v : Vec ℕ). v.items) (k ∷ keys) i k [] found.0 ∙ sym same }
 
-pub all_more : {X : Type 0} (P : X → Type 0) (xs : List X) (x : X) → AllByRecursion P xs → P x → AllByRecursion P (xs ++ x ∷ [])
-all_more P [] x all one = (one, tt)
-all_more P (y ∷ xs) x all one = (all.0, all_more P xs x all.1 one)
+-- the key that was stored is the label
+pub stored_label : (keys : List (Vec ℕ)) (label : List ℕ) (i : ℕ) (k v : Vec ℕ) → i < length keys → slice_get keys i ≡ Some k → pointwise nat_eq v.items k.items ≡ true → v.items ≡ label → HasLabel (texts keys) i label
+stored_label keys label i k v below there alike is = record {
+  within = omega (arith, length-map keys (λ (v : Vec ℕ). v.items), below);
+  is = get_or-map (λ (v : Vec ℕ). v.items) keys i k [] below ∙ ap (λ (v : Vec ℕ). v.items) (get_or_from_slice_get keys i k k there) ∙ sym ((bytes_eq-Decides v.items k.items).0 alike) ∙ is;
+}
+
+-- the keys are the same, or one came at the end
+pub keys_grown : (b : Bool) (old new : List (Vec ℕ)) (v : Vec ℕ) → new ≡ cond b old (old ++ v ∷ []) → Extends (texts old) (texts new)
+keys_grown true old new v is = record { more = []; is = ap texts is ∙ sym (append-nil (texts old)) }
+keys_grown false old new v is = record { more = v.items ∷ []; is = ap texts is ∙ map-append (λ (v : Vec ℕ). v.items) old (v ∷ []) }
+
+pub keys_few : (b : Bool) (m n : ℕ) → m ≡ n + cond b 1 0 → m ≤ n + 1
+keys_few true m n is = omega arith
+keys_few false m n is = omega arith
+
+pub all_append : {X : Type 0} (P : X → Type 0) (xs ys : List X) → AllByRecursion P xs → AllByRecursion P ys → AllByRecursion P (xs ++ ys)
+all_append P [] ys p q = q
+all_append P (x ∷ xs) ys p q = (p.0, all_append P xs ys p.1 q)
 
 label_kept : (old more : List (List ℕ)) (k : ℕ) → k < length old → label_at (old ++ more) k ≡ label_at old k
 label_kept old more k h = get_or_append_left old more [] k h
@@ -46,5 +63,5 @@ gathers_more old new ts arrows s k t label grown numbered so_far =
     let kept : map (arrow_of new) ts ≡ arrows = rw grown.is (arrows_kept old grown.more ts so_far.inside) ∙ so_far.spelled in
     record {
       spelled = map-append (arrow_of new) ts (last ∷ []) ∙ (λ i. kept i ++ record { source = s; label = numbered.is i; target = t } ∷ []);
-      inside = all_more (λ (t : Transition). t.label < length new) ts last (rw grown.is (inside_kept old grown.more ts so_far.inside)) numbered.within;
+      inside = all_append (λ (t : Transition). t.label < length new) ts (last ∷ []) (rw grown.is (inside_kept old grown.more ts so_far.inside)) (numbered.within, tt);
     }

@@ -1,15 +1,18 @@
 -- What is wrong with a line, by what was found on it.
 use Rattle.std.proofs.Common.{◌≡◌, ℕ, ◌^◌, ◌<◌, ◌≤◌, ◌⊎◌, inl, inr, true, false, List, Option, Some, None, refl, sym, subst, arith}
 use Rattle.std.specs.Prelude.{IfSome}
+use Rattle.lts.specs.declared.limits.TheConstants.{MOST_TRANSITIONS}
 use Rattle.lts.specs.declared.error.AutFault.{AutFault}
 use Rattle.lts.specs.declared.error.AutFault.TheVariants.{BadHeader, BadLine, OverLimit, NoSuchState, WrongCount, BadStates, BadLabel}
 use Rattle.lts.specs.declared.scan.Announced.{Announced}
-use Rattle.lts.specs.Text.{lines}
+use Rattle.text.specs.Text.{lines}
 use Rattle.lts.specs.Label.{is_label}
 use Rattle.lts.specs.System.{Arrow, IsArrow}
 use Rattle.lts.specs.Aut.{IsHeader, IsTransition, LineFault, HasFault}
-use Rattle.lts.specs.Scan.{capped, header_at, transition_at}
-use Rattle.lts.specs.Left.{IfKnown, TakesLine, IsAdmitted, BeginsWith, IsFirstFault}
+use Rattle.text.specs.Tokens.{capped}
+use Rattle.lts.specs.Scan.{header_at, transition_at}
+use Rattle.text.specs.Lines.{IfKnown, TakesLine}
+use Rattle.lts.specs.Left.{IsAdmitted, BeginsWith, IsFirstFault}
 use Rattle.lts.proofs.Scanning.{header_gives, header_finds, transition_gives, transition_finds}
 
 -- no transition was found
@@ -53,7 +56,7 @@ bad_first (Some text) (Some left) line h none =
     )
 
 -- the limits decide alike on the numbers and on what was read of them
-same_number : (a n : ℕ) → a ≡ capped n → a ≤ 10000000 → n ≡ a
+same_number : (a n : ℕ) → a ≡ capped n → a ≤ MOST_TRANSITIONS → n ≡ a
 same_number a n e h = omega arith
 
 -- the header announces what no system has

@@ -1,7 +1,6 @@
 pub mod Unique
 pub mod Rows
 pub mod Scanning
-pub mod Cutting
 pub mod Gathering
 pub mod Judging
 pub mod Reading
@@ -12,6 +11,6 @@ pub mod StartsLemmas
 pub mod Storing
 pub mod Whole
 pub mod Faults
-pub mod Writing
+pub use Rattle.text.proofs.Writing
 pub mod Canonical
-pub mod PassedOn
+pub use Rattle.text.proofs.PassedOn

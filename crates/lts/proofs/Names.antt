@@ -5,13 +5,14 @@ use Rattle.std.specs.List.Sorted.{IsSorted, IsPermutation}
 use Rattle.std.specs.Ordering.{is_lt, is_gt, is_eq}
 use Rattle.std.specs.Str.{bytes_eq}
 use Rattle.std.specs.Global.{Vec}
+use Rattle.std.proofs.Math.Bool.{and-true, or-false, and-false}
 use Rattle.std.proofs.Math.Seq.{drop-cons}
 use Rattle.std.proofs.lemmas.Bool.{eq-eqb, ne_eqb}
 use Rattle.std.proofs.lemmas.List.{get_or-map, length-map}
 use Rattle.std.proofs.lemmas.Cmp.{nat_list_cmp_total, nat_list_eq_equiv, upto}
 use Rattle.std.proofs.lemmas.Map.Lookups.{exact_bytes}
 use Rattle.std.proofs.lemmas.List.Sorted.{sum_by-IsPermutation, IsPermutation-map}
-use Rattle.lts.specs.Text.{with_first, is_name}
+use Rattle.text.specs.Text.{with_first, is_name}
 use Rattle.lts.specs.Label.{parts_of, reading_of_parts, reading, multiset, with_name, bytes_cmp, tau, texts}
 use Rattle.lts.proofs.Ordered.{IsRising, times, rising_unique, rising_from_sorted, times_is_sum, turned_test}
 
@@ -118,11 +119,7 @@ any_texts p (x ∷ parts) = ap (λ b. p x.items || b) (any_texts p parts)
 -- one of the parts is no name
 no_names : (parts : List (List ℕ)) → list_all is_name parts ≡ false → reading_of_parts parts ≡ None
 no_names [] h = refl
-no_names (name ∷ []) h = let one : is_name name ≡ false = one_of (is_name name) h in rw one refl
-  where
-    one_of : (b : Bool) → (b && true) ≡ false → b ≡ false
-    one_of true e = e
-    one_of false e = refl
+no_names (name ∷ []) h = let one : is_name name ≡ false = sym (and-true (is_name name)) ∙ h in rw one refl
 no_names (name ∷ other ∷ names) h = rw h refl
 
 -- `tau` is alone
@@ -130,43 +127,23 @@ only_tau : (parts : List (List ℕ)) → list_all is_name parts ≡ true → lis
 only_tau [] h t one = absurd cc
 only_tau (name ∷ other ∷ names) h t one = absurd (omega arith)
 only_tau (name ∷ []) h t one =
-    let named : is_name name ≡ true = one_of (is_name name) h in
-    let is_tau : bytes_eq name tau ≡ true = nat_list_eq_equiv.symm name tau ∙ none_or (bytes_eq tau name) t in
+    let named : is_name name ≡ true = sym (and-true (is_name name)) ∙ h in
+    let is_tau : bytes_eq name tau ≡ true = nat_list_eq_equiv.symm name tau ∙ sym (or-false (bytes_eq tau name)) ∙ t in
     rw (named, is_tau) refl
-  where
-    one_of : (b : Bool) → (b && true) ≡ true → b ≡ true
-    one_of true e = refl
-    one_of false e = e
-
-    none_or : (b : Bool) → (b || false) ≡ true → b ≡ true
-    none_or true e = refl
-    none_or false e = e
 
 -- `tau` is not alone
 more_than_tau : (parts : List (List ℕ)) → list_any (bytes_eq tau) parts ≡ true → (length parts ≡ 1 → ⊥) → reading_of_parts parts ≡ None
 more_than_tau [] t more = refl
 more_than_tau (name ∷ []) t more = absurd (more refl)
-more_than_tau (name ∷ other ∷ names) t more = rw (t, no_and (list_all is_name (name ∷ other ∷ names))) refl
-  where
-    no_and : (b : Bool) → (b && false) ≡ false
-    no_and true = refl
-    no_and false = refl
+more_than_tau (name ∷ other ∷ names) t more = rw (t, and-false (list_all is_name (name ∷ other ∷ names))) refl
 
 -- only names, and none of them `tau`
 all_names : (parts : List (List ℕ)) → 0 < length parts → list_all is_name parts ≡ true → list_any (bytes_eq tau) parts ≡ false → reading_of_parts parts ≡ Some (multiset parts)
 all_names [] some h t = absurd (omega arith)
 all_names (name ∷ []) some h t =
-    let named : is_name name ≡ true = one_of (is_name name) h in
-    let no_tau : bytes_eq name tau ≡ false = nat_list_eq_equiv.symm name tau ∙ none_or (bytes_eq tau name) t in
+    let named : is_name name ≡ true = sym (and-true (is_name name)) ∙ h in
+    let no_tau : bytes_eq name tau ≡ false = nat_list_eq_equiv.symm name tau ∙ sym (or-false (bytes_eq tau name)) ∙ t in
     rw (named, no_tau) refl
-  where
-    one_of : (b : Bool) → (b && true) ≡ true → b ≡ true
-    one_of true e = refl
-    one_of false e = e
-
-    none_or : (b : Bool) → (b || false) ≡ false → b ≡ false
-    none_or true e = e
-    none_or false e = refl
 all_names (name ∷ other ∷ names) some h t = rw (h, t) refl
 
 abbrev pub nothing : Option (List (List ℕ))

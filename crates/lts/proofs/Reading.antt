@@ -2,31 +2,19 @@
 use Rattle.std.proofs.Common.{◌≡◌, ℕ, ◌+◌, ◌<◌, inl, inr, true, false, List, [], ◌∷◌, ◌++◌, length, Option, Some, None, refl, sym, ap, ◌∙◌, subst, append_assoc, append-nil, arith}
 use Rattle.std.specs.Prelude.{IfSome}
 use Rattle.std.specs.List.{AllZip, AllByRecursion}
-use Rattle.std.proofs.lemmas.List.{length-append}
+use Rattle.std.proofs.lemmas.List.{length-append, length-map}
 use Rattle.lts.specs.declared.error.AutFault.{AutFault}
 use Rattle.lts.specs.declared.error.AutFault.TheVariants.{BadHeader, BadLine, OverLimit, NoSuchState, WrongCount, BadStates, BadLabel}
 use Rattle.lts.specs.declared.scan.Announced.{Announced}
 use Rattle.lts.specs.declared.system.Transition.{Transition}
-use Rattle.lts.specs.Text.{lines}
+use Rattle.text.specs.Text.{lines}
 use Rattle.lts.specs.System.{Arrow, IsArrow}
 use Rattle.lts.specs.Aut.{IsTransition, IsGoodLine, LineFault}
+use Rattle.lts.specs.Numbered.{arrow_of}
 use Rattle.lts.specs.Gathered.{Gathers}
-use Rattle.lts.specs.Left.{IfKnown, TakesLine, HasRestFault, AreTransitions}
-use Rattle.lts.proofs.Gathering.{all_more}
-
--- the first lines are these, and the others are left
-abbrev pub IsCut : List (List ℕ) → List ℕ → List ℕ → Type 0
-IsCut done text left = lines text ≡ done ++ lines left
-
--- the lines that were read so far, and what they spell
-pub record SoFar (n good : ℕ) (old now : Option (List ℕ)) (labels : List (List ℕ)) (transitions : List Transition) : Type 0 where
-  pub done : List (List ℕ)
-  pub arrows : List Arrow
-  pub each : AllZip IsTransition done arrows
-  pub within : AllByRecursion (IsArrow n) arrows
-  pub gathered : Gathers labels transitions arrows
-  pub count : length done ≡ good
-  pub cut : IfKnown old now (IsCut done)
+use Rattle.text.specs.Lines.{IfKnown, TakesLine}
+use Rattle.lts.specs.Left.{HasRestFault, AreTransitions, SoFar, IsCut, HasNoLine}
+use Rattle.lts.proofs.Gathering.{all_append}
 
 pub nothing_yet : (n : ℕ) (old : Option (List ℕ)) (labels : List (List ℕ)) (transitions : List Transition) → Gathers labels transitions [] → SoFar n 0 old old labels transitions
 nothing_yet n old labels transitions none = record { done = []; arrows = []; each = tt; within = tt; gathered = none; count = refl; cut = start old }
@@ -54,7 +42,7 @@ line_more n good old mid new labels labels' ts ts' line a so taken is inside add
   done = so.done ++ line ∷ [];
   arrows = so.arrows ++ a ∷ [];
   each = each_more so.done so.arrows line a so.each is;
-  within = all_more (IsArrow n) so.arrows a so.within inside;
+  within = all_append (IsArrow n) so.arrows (a ∷ []) so.within (inside, tt);
   gathered = add so.arrows so.gathered;
   count = omega (arith, length-append so.done (line ∷ []), so.count);
   cut = cut_more old mid new so.done line so.cut taken;
@@ -102,11 +90,21 @@ bad_row h good p at (Some text) (Some left) (Some rest) labels ts line BadStates
 bad_row h good p at (Some text) (Some left) (Some rest) labels ts line WrongCount so more few wrong = absurd wrong
 
 -- all lines were read
-pub all_rows : (h : Announced) (good : ℕ) → good ≡ h.transitions → (old mid new : Option (List ℕ)) (labels : List (List ℕ)) (ts : List Transition) (line : List ℕ) (so : SoFar h.states good old mid labels ts) → TakesLine mid new false line
+pub all_rows : (h : Announced) (good : ℕ) → good ≡ h.transitions → (old mid new : Option (List ℕ)) (labels : List (List ℕ)) (ts : List Transition) (so : SoFar h.states good old mid labels ts) → IfKnown mid new HasNoLine
     → IfKnown old new (AreTransitions h so.arrows)
-all_rows h good all None mid new labels ts line so none = tt
-all_rows h good all (Some text) None new labels ts line so none = absurd so.cut
-all_rows h good all (Some text) (Some left) None labels ts line so none = absurd none
-all_rows h good all (Some text) (Some left) (Some rest) labels ts line so none =
+all_rows h good all None mid new labels ts so none = tt
+all_rows h good all (Some text) None new labels ts so none = absurd so.cut
+all_rows h good all (Some text) (Some left) None labels ts so none = absurd none
+all_rows h good all (Some text) (Some left) (Some rest) labels ts so none =
     let whole : lines text ≡ so.done = so.cut ∙ ap (λ l. so.done ++ l) none ∙ append-nil so.done in
     record { each = subst (λ l. AllZip IsTransition l so.arrows) (sym whole) so.each; count = ap length whole ∙ so.count ∙ all }
+
+-- as many transitions as good lines
+zip_length : (done : List (List ℕ)) (arrows : List Arrow) → AllZip IsTransition done arrows → length arrows ≡ length done
+zip_length [] [] each = refl
+zip_length [] (b ∷ arrows) each = absurd each
+zip_length (l ∷ done) [] each = absurd each
+zip_length (l ∷ done) (b ∷ arrows) each = omega (arith, zip_length done arrows each.1)
+
+pub row_count : (n good : ℕ) (old now : Option (List ℕ)) (labels : List (List ℕ)) (ts : List Transition) → SoFar n good old now labels ts → length ts ≡ good
+row_count n good old now labels ts so = sym (length-map ts (arrow_of labels)) ∙ ap length so.gathered.spelled ∙ zip_length so.done so.arrows so.each ∙ so.count

@@ -1,220 +1,13 @@
--- What the tests on the front of a line say of the line.
-use Rattle.std.proofs.Common.{◌≡◌, ℕ, suc, ◌+◌, ◌-◌, ◌*◌, ◌<◌, ◌≤◌, Bool, true, false, cond, not, ◌&&◌, ◌||◌, nat_eq, nat_lt, ◌==◌, min, List, [], ◌∷◌, ◌++◌, length, get_or, take, drop, Option, Some, None, refl, sym, ap, ◌∙◌, subst, append_assoc, arith}
+-- What the tests on a whole line say of the line.
+use Rattle.std.proofs.Common.{◌≡◌, ℕ, List, [], ◌∷◌, ◌++◌, Option, Some, refl, sym, ap, ◌∙◌}
 use Rattle.std.specs.Prelude.{codes}
-use Rattle.std.specs.List.{list_all, list_any, prefix_len}
-use Rattle.std.specs.Cmp.Lexicographic.{pointwise}
-use Rattle.std.proofs.Math.Seq.{take-append_seam, drop-append-add}
-use Rattle.std.proofs.lemmas.Bool.{le-leb, lt-ltb, ltb-true, eqb-true}
-use Rattle.std.proofs.lemmas.List.{take-append-drop, length-append}
-use Rattle.std.proofs.lemmas.List.Sums.{fold_more}
-use Rattle.std.proofs.lemmas.List.Prefix.{front_rest}
-use Rattle.std.proofs.lemmas.Slice.Eq.{bytes_eq-Decides}
+use Rattle.text.specs.Text.{value_of}
+use Rattle.text.specs.Tokens.{capped, sign_at, quoted_at, end_at, number_before, ◌>>=◌}
+use Rattle.text.proofs.Scanning.{bind_some, sign_gives, sign_finds, number_before_gives, number_before_finds, quoted_gives, quoted_finds, end_gives, end_finds}
 use Rattle.lts.specs.declared.scan.Announced.{Announced}
-use Rattle.lts.specs.Text.{is_blank, is_digit, is_numeral, value_of, IsSpaced}
 use Rattle.lts.specs.System.{Arrow}
 use Rattle.lts.specs.Aut.{IsHeader, IsTransition}
-use Rattle.lts.specs.Scan.{capped, past_blanks, sign_at, number_at, closed_at, quoted_at, end_at, number_before, header_at, transition_at, is_unquoted, ◌>>=◌}
-use Rattle.lts.proofs.Unique.{begins, both_true, numeral_digits, digit_no_blank, no_digit, all_unquoted}
-
--- two digits or more are a number where the first is not 0
-pub long_numeral : (r : Bool) (digits : List ℕ) → 2 ≤ length digits → 49 ≤ get_or digits 0 0 → r ≡ list_all is_digit digits → r ≡ is_numeral digits
-long_numeral r [] long first e = absurd (omega arith)
-long_numeral r (d ∷ []) long first e = absurd (omega (arith))
-long_numeral r (d ∷ f ∷ ds) long first e = rw (le-leb 49 d first) e
-
--- the number of the digits, with one more
-pub value_more : (digits : List ℕ) (i v m d w : ℕ) → i < length digits → v ≡ capped (value_of (take i digits)) → m ≡ min (v * 10) 4294967295 → d ≡ get_or digits i 0 - 48 → w ≡ min (m + d) 4294967295
-    → w ≡ capped (value_of (take (i + 1) digits))
-value_more digits i v m d w below so_far by_ten digit added =
-    let step : value_of (take (i + 1) digits) ≡ 10 * value_of (take i digits) + (get_or digits i 0 - 48) = fold_more (λ n d. 10 * n + (d - 48)) 0 digits i 0 below in
-    rw step (omega arith)
-
--- ---- the run of bytes that pass, at the front
-
-run_none : (p : ℕ → Bool) (ys : List ℕ) → begins p ys ≡ false → prefix_len p ys ≡ 0
-run_none p [] e = refl
-run_none p (y ∷ ys) e = rw e refl
-
--- it is what passes, where what follows does not
-run_is : (p : ℕ → Bool) (xs ys : List ℕ) → list_all p xs ≡ true → begins p ys ≡ false → prefix_len p (xs ++ ys) ≡ length xs
-run_is p [] ys all stop = run_none p ys stop
-run_is p (x ∷ xs) ys all stop = let h = both_true (p x) (list_all p xs) all in let rest = run_is p xs ys h.1 stop in rw h.0 (omega (arith, rest))
-
-run_passes : (p : ℕ → Bool) (xs : List ℕ) → list_all p (take (prefix_len p xs) xs) ≡ true
-run_passes p [] = refl
-run_passes p (x ∷ xs) =
-    elim (p x) as (λ b. p x ≡ b → list_all p (take (cond b (1 + prefix_len p xs) 0) (x ∷ xs)) ≡ true) [
-      | true ↦ λ e. let more : 1 + prefix_len p xs ≡ suc (prefix_len p xs) = omega arith in rw (more, e) (run_passes p xs)
-      | false ↦ λ e. refl
-    ] refl
-
--- ---- tests that found something
-
-bind_some : {A B : Type 0} (o : Option A) (f : A → Option B) (y : B) → (o >>= f) ≡ Some y → (x : A) × (o ≡ Some x) × (f x ≡ Some y)
-bind_some (Some x) f y e = (x, refl, e)
-bind_some None f y e = absurd cc
-
-if_some : {A : Type 0} (b : Bool) (x y : A) → cond b (Some x) None ≡ Some y → (b ≡ true) × (x ≡ y)
-if_some true x y e = (refl, cc)
-if_some false x y e = absurd cc
-
-abbrev some_of : {A : Type 0} → A → Option A
-some_of x = Some x
-
-some_is : {A : Type 0} (x y : A) → some_of x ≡ some_of y → x ≡ y
-some_is x y e = cc
-
--- ---- signs
-
--- the blanks in front, and the rest
-past : (line : List ℕ) → line ≡ take (prefix_len is_blank line) line ++ past_blanks line
-past line = sym (take-append-drop (prefix_len is_blank line) line)
-
-past_gap : (gap rest : List ℕ) → list_all is_blank gap ≡ true → begins is_blank rest ≡ false → past_blanks (gap ++ rest) ≡ rest
-past_gap gap rest blank stop = rw (run_is is_blank gap rest blank stop) (front_rest (gap ++ rest) gap rest refl)
-
-sign_cuts : (token line rest : List ℕ) → sign_at token line ≡ Some rest → (gap : List ℕ) × (list_all is_blank gap ≡ true) × (line ≡ gap ++ (token ++ rest))
-unfolding sign_at
-sign_cuts token line rest e =
-    let start = past_blanks line in
-    let h = if_some (pointwise nat_eq (take (length token) start) token) (drop (length token) start) rest e in
-    let front : take (length token) start ≡ token = (bytes_eq-Decides (take (length token) start) token).0 h.0 in
-    let split : start ≡ token ++ rest = sym (take-append-drop (length token) start) ∙ ap (λ l. l ++ drop (length token) start) front ∙ ap (λ l. token ++ l) h.1 in
-    (take (prefix_len is_blank line) line, run_passes is_blank line, past line ∙ ap (λ l. take (prefix_len is_blank line) line ++ l) split)
-
-sign_gives : (token line rest : List ℕ) (ts : List (List ℕ)) → sign_at token line ≡ Some rest → IsSpaced ts rest → IsSpaced (token ∷ ts) line
-sign_gives token line rest ts e more = let (gap, blank, cut) = sign_cuts token line rest e in (gap, rest, blank, cut, more)
-
-sign_here : (token line rest : List ℕ) → past_blanks line ≡ token ++ rest → sign_at token line ≡ Some rest
-unfolding sign_at
-sign_here token line rest start =
-    let front : take (length token) (token ++ rest) ≡ token = take-append_seam token rest in
-    let back : drop (length token) (token ++ rest) ≡ rest = front_rest (token ++ rest) token rest refl in
-    let same : pointwise nat_eq token token ≡ true = (bytes_eq-Decides token token).1 refl in
-    rw (start, front, same, back) refl
-
-sign_finds : (c : ℕ) (cs line : List ℕ) (ts : List (List ℕ)) → is_blank c ≡ false → IsSpaced ((c ∷ cs) ∷ ts) line → (rest : List ℕ) × (sign_at (c ∷ cs) line ≡ Some rest) × IsSpaced ts rest
-sign_finds c cs line ts h (gap, rest, blank, e, more) = (rest, sign_here (c ∷ cs) line rest (ap past_blanks e ∙ past_gap gap ((c ∷ cs) ++ rest) blank h), more)
-
--- ---- numbers
-
-digits_numeral : (x : List ℕ) → is_numeral x ≡ true → (d : ℕ) × (ds : List ℕ) × (x ≡ d ∷ ds)
-digits_numeral [] h = absurd cc
-digits_numeral (d ∷ ds) h = (d, ds, refl)
-
-number_gives : (line : List ℕ) (v : ℕ) (rest : List ℕ) → number_at line ≡ Some (v, rest)
-    → (x : List ℕ) × (is_numeral x ≡ true) × (v ≡ capped (value_of x)) × ((ts : List (List ℕ)) → IsSpaced ts rest → IsSpaced (x ∷ ts) line)
-unfolding number_at
-number_gives line v rest e =
-    let start = past_blanks line in
-    let n = prefix_len is_digit start in
-    let h = if_some (is_numeral (take n start)) (capped (value_of (take n start)), drop n start) (v, rest) e in
-    let v-is : capped (value_of (take n start)) ≡ v = ap (λ (p : ℕ × List ℕ). p.0) h.1 in
-    let rest-is : drop n start ≡ rest = ap (λ (p : ℕ × List ℕ). p.1) h.1 in
-    let split : line ≡ take (prefix_len is_blank line) line ++ (take n start ++ rest) = past line ∙ ap (λ l. take (prefix_len is_blank line) line ++ l) (sym (take-append-drop n start) ∙ ap (λ l. take n start ++ l) rest-is) in
-    (take n start, h.0, sym v-is, λ ts more. (take (prefix_len is_blank line) line, rest, run_passes is_blank line, split, more))
-
-number_finds : (x : List ℕ) (c : ℕ) (cs line : List ℕ) (ts : List (List ℕ)) → is_numeral x ≡ true → is_digit c ≡ false → IsSpaced (x ∷ (c ∷ cs) ∷ ts) line
-    → (rest : List ℕ) × (number_at line ≡ Some (capped (value_of x), rest)) × IsSpaced ((c ∷ cs) ∷ ts) rest
-unfolding number_at
-number_finds x c cs line ts hx h (gap, rest, blank, e, more) =
-    let digits = numeral_digits x hx in
-    let (d, ds, x-is) = digits_numeral x hx in
-    let no_blank : begins is_blank (x ++ rest) ≡ false = rw x-is (digit_no_blank d (both_true (is_digit d) (list_all is_digit ds) (subst (λ l. list_all is_digit l ≡ true) x-is digits)).0) in
-    let start : past_blanks line ≡ x ++ rest = ap past_blanks e ∙ past_gap gap (x ++ rest) blank no_blank in
-    let count : prefix_len is_digit (x ++ rest) ≡ length x = run_is is_digit x rest digits (no_digit c cs ts rest h more) in
-    let front : take (length x) (x ++ rest) ≡ x = take-append_seam x rest in
-    let back : drop (length x) (x ++ rest) ≡ rest = front_rest (x ++ rest) x rest refl in
-    (rest, rw (start, count, front, hx, back) refl, more)
-
-number_before_gives : (token line : List ℕ) (v : ℕ) (rest : List ℕ) → number_before token line ≡ Some (v, rest)
-    → (x : List ℕ) × (is_numeral x ≡ true) × (v ≡ capped (value_of x)) × ((ts : List (List ℕ)) → IsSpaced ts rest → IsSpaced (x ∷ token ∷ ts) line)
-unfolding number_before
-number_before_gives token line v rest e =
-    let (n, found, e2) = bind_some (number_at line) (λ n. sign_at token n.1 >>= λ rest. Some (n.0, rest)) (v, rest) e in
-    let (after, signed, e3) = bind_some (sign_at token n.1) (λ rest. Some (n.0, rest)) (v, rest) e2 in
-    let (x, numeral, value, spaced) = number_gives line n.0 n.1 found in
-    let same = some_is (n.0, after) (v, rest) e3 in
-    let v-is : n.0 ≡ v = ap (λ (p : ℕ × List ℕ). p.0) same in
-    let rest-is : after ≡ rest = ap (λ (p : ℕ × List ℕ). p.1) same in
-    (x, numeral, sym v-is ∙ value, λ ts more. spaced (token ∷ ts) (sign_gives token n.1 after ts signed (subst (IsSpaced ts) (sym rest-is) more)))
-
-number_before_finds : (x : List ℕ) (c : ℕ) (cs line : List ℕ) (ts : List (List ℕ)) → is_numeral x ≡ true → is_digit c ≡ false → is_blank c ≡ false → IsSpaced (x ∷ (c ∷ cs) ∷ ts) line
-    → (rest : List ℕ) × (number_before (c ∷ cs) line ≡ Some (capped (value_of x), rest)) × IsSpaced ts rest
-unfolding number_before
-number_before_finds x c cs line ts hx h hb spaced =
-    let (after, found, more) = number_finds x c cs line ts hx h spaced in
-    let (rest, signed, last) = sign_finds c cs after ts hb more in
-    (rest, rw (found, signed) refl, last)
-
--- ---- labels
-
--- no quote is among bytes that are not one
-none_quoted : (label : List ℕ) → list_all is_unquoted label ≡ true → list_any (λ b. b == 34) label ≡ false
-none_quoted [] h = refl
-none_quoted (b ∷ label) h =
-    elim (b == 34) as (λ c. (not c && list_all is_unquoted label) ≡ true → (c || list_any (λ b. b == 34) label) ≡ false) [ true ↦ λ e. cc | false ↦ λ e. none_quoted label e ] h
-
--- what stops the run of unquoted bytes is a quote
-stops_quoted : (line : List ℕ) → prefix_len is_unquoted line < length line → line ≡ take (prefix_len is_unquoted line) line ++ (34 ∷ drop (prefix_len is_unquoted line + 1) line)
-stops_quoted [] h = absurd (omega arith)
-stops_quoted (b ∷ line) h =
-    elim (b == 34) as (λ c. (b == 34) ≡ c → cond (not c) (1 + prefix_len is_unquoted line) 0 < length (b ∷ line)
-    → b ∷ line ≡ take (cond (not c) (1 + prefix_len is_unquoted line) 0) (b ∷ line) ++ (34 ∷ drop (cond (not c) (1 + prefix_len is_unquoted line) 0 + 1) (b ∷ line))) [
-      | true ↦ λ e k. ap (λ q. q ∷ line) (eqb-true b 34 e)
-      | false ↦ λ e k.
-          let one : 1 + prefix_len is_unquoted line ≡ suc (prefix_len is_unquoted line) = omega arith in
-          let two : suc (prefix_len is_unquoted line) + 1 ≡ suc (prefix_len is_unquoted line + 1) = omega arith in
-          rw (one, two) (ap (λ l. b ∷ l) (stops_quoted line (omega (arith, k))))
-    ] refl h
-
-closed_gives : (line label rest : List ℕ) → closed_at line ≡ Some (label, rest) → (list_any (λ b. b == 34) label ≡ false) × (line ≡ label ++ (34 ∷ rest))
-unfolding closed_at
-closed_gives line label rest e =
-    let n = prefix_len is_unquoted line in
-    let h = if_some (nat_lt n (length line)) (take n line, drop (n + 1) line) (label, rest) e in
-    let label-is : take n line ≡ label = ap (λ (p : List ℕ × List ℕ). p.0) h.1 in
-    let rest-is : drop (n + 1) line ≡ rest = ap (λ (p : List ℕ × List ℕ). p.1) h.1 in
-    (rw (← label-is) (none_quoted (take n line) (run_passes is_unquoted line)), rw (← label-is, ← rest-is) (stops_quoted line (ltb-true n (length line) h.0)))
-
-closed_finds : (label rest : List ℕ) → list_any (λ b. b == 34) label ≡ false → closed_at (label ++ (34 ∷ rest)) ≡ Some (label, rest)
-unfolding closed_at
-closed_finds label rest h =
-    let count : prefix_len is_unquoted (label ++ (34 ∷ rest)) ≡ length label = run_is is_unquoted label (34 ∷ rest) (all_unquoted label h) refl in
-    let room : nat_lt (length label) (length (label ++ (34 ∷ rest))) ≡ true = lt-ltb _ _ (omega (arith, length-append label (34 ∷ rest))) in
-    let front : take (length label) (label ++ (34 ∷ rest)) ≡ label = take-append_seam label (34 ∷ rest) in
-    let back : drop (length label + 1) (label ++ (34 ∷ rest)) ≡ rest = drop-append-add label (34 ∷ rest) 1 in
-    rw (count, room, front, back) refl
-
--- the quotes stand around the label
-around : (label rest : List ℕ) → (34 ∷ label ++ 34 ∷ []) ++ rest ≡ 34 ∷ (label ++ (34 ∷ rest))
-around label rest = ap (λ l. 34 ∷ l) (append_assoc label (34 ∷ []) rest)
-
-quoted_gives : (line label rest : List ℕ) (ts : List (List ℕ)) → quoted_at line ≡ Some (label, rest) → IsSpaced ts rest
-    → (list_any (λ b. b == 34) label ≡ false) × IsSpaced ((34 ∷ label ++ 34 ∷ []) ∷ ts) line
-unfolding quoted_at
-quoted_gives line label rest ts e more =
-    let (inner, signed, shut) = bind_some (sign_at (34 ∷ []) line) (λ rest. closed_at rest) (label, rest) e in
-    let (plain, split) = closed_gives inner label rest shut in
-    let (gap, blank, cut) = sign_cuts (34 ∷ []) line inner signed in
-    (plain, (gap, rest, blank, cut ∙ ap (λ l. gap ++ (34 ∷ l)) split ∙ ap (λ l. gap ++ l) (sym (around label rest)), more))
-
-quoted_finds : (line label : List ℕ) (ts : List (List ℕ)) → list_any (λ b. b == 34) label ≡ false → IsSpaced ((34 ∷ label ++ 34 ∷ []) ∷ ts) line
-    → (rest : List ℕ) × (quoted_at line ≡ Some (label, rest)) × IsSpaced ts rest
-unfolding quoted_at
-quoted_finds line label ts plain (gap, rest, blank, e, more) =
-    let start : past_blanks line ≡ (34 ∷ []) ++ (label ++ (34 ∷ rest)) = ap past_blanks e ∙ past_gap gap ((34 ∷ label ++ 34 ∷ []) ++ rest) blank refl ∙ around label rest in
-    (rest, rw (sign_here (34 ∷ []) line (label ++ (34 ∷ rest)) start, closed_finds label rest plain) refl, more)
-
--- ---- whole lines
-
-end_gives : {A : Type 0} (a b : A) (line : List ℕ) → end_at a line ≡ Some b → (list_all is_blank line ≡ true) × (a ≡ b)
-unfolding end_at
-end_gives a b line e = if_some (list_all is_blank line) a b e
-
-end_finds : {A : Type 0} (a : A) (line : List ℕ) → list_all is_blank line ≡ true → end_at a line ≡ Some a
-unfolding end_at
-end_finds a line h = rw h refl
+use Rattle.lts.specs.Scan.{header_at, counts_at, transition_at, labelled_at}
 
 abbrev header_of : ℕ → ℕ → ℕ → Announced
 header_of i m n = record { initial = i; transitions = m; states = n }
@@ -231,7 +24,7 @@ header_1 rest = number_before (codes ",") rest >>= λ i. header_2 i.0 i.1
 -- what is found is a header
 pub header_gives : (line : List ℕ) (a : Announced) → header_at line ≡ Some a
     → (i m n : ℕ) × IsHeader line i m n × (a.initial ≡ capped i) × (a.transitions ≡ capped m) × (a.states ≡ capped n)
-unfolding header_at
+unfolding header_at counts_at
 header_gives line a e =
     let (r1, s1, e1) = bind_some (sign_at (codes "des") line) (λ rest. sign_at (codes "(") rest >>= header_1) a e in
     let (r2, s2, e2) = bind_some (sign_at (codes "(") r1) header_1 a e1 in
@@ -247,7 +40,7 @@ header_gives line a e =
 
 -- a header is found
 pub header_finds : (line : List ℕ) (i m n : ℕ) → IsHeader line i m n → header_at line ≡ Some (record { initial = capped i; transitions = capped m; states = capped n })
-unfolding header_at
+unfolding header_at counts_at
 header_finds line i m n (x, y, z, hx, hy, hz, spaced) =
     let (r1, s1, m1) = sign_finds 100 (101 ∷ 115 ∷ []) line (codes "(" ∷ x ∷ codes "," ∷ y ∷ codes "," ∷ z ∷ codes ")" ∷ []) refl spaced in
     let (r2, s2, m2) = sign_finds 40 [] r1 (x ∷ codes "," ∷ y ∷ codes "," ∷ z ∷ codes ")" ∷ []) refl m1 in
@@ -274,7 +67,7 @@ transition_1 rest = number_before (codes ",") rest >>= λ s. transition_2 s.0 s.
 -- what is found is a transition
 pub transition_gives : (line : List ℕ) (a : Arrow) → transition_at line ≡ Some a
     → (b : Arrow) × IsTransition line b × (a.source ≡ capped b.source) × (a.label ≡ b.label) × (a.target ≡ capped b.target)
-unfolding transition_at
+unfolding transition_at labelled_at
 transition_gives line a e =
     let (r1, s1, e1) = bind_some (sign_at (codes "(") line) transition_1 a e in
     let (s, s2, e2) = bind_some (number_before (codes ",") r1) (λ s. transition_2 s.0 s.1) a e1 in
@@ -290,7 +83,7 @@ transition_gives line a e =
 
 -- a transition is found
 pub transition_finds : (line : List ℕ) (a : Arrow) → IsTransition line a → transition_at line ≡ Some (record { source = capped a.source; label = a.label; target = capped a.target })
-unfolding transition_at
+unfolding transition_at labelled_at
 transition_finds line a (x, z, hx, hz, plain, spaced) =
     let q = 34 ∷ a.label ++ 34 ∷ [] in
     let (r1, s1, m1) = sign_finds 40 [] line (x ∷ codes "," ∷ q ∷ codes "," ∷ z ∷ codes ")" ∷ []) refl spaced in

@@ -1,14 +1,23 @@
 -- A header and its transitions are a text of a system.
-use Rattle.std.proofs.Common.{◌≡◌, ℕ, inr, List, length, Option, Some, None, sym, subst, arith}
-use Rattle.std.specs.Prelude.{IfSome}
+use Rattle.std.proofs.Common.{◌≡◌, ℕ, inr, List, length, Option, Some, None, Result, sym, subst, arith}
+use Rattle.std.specs.Prelude.{IfSome, IfOk, IfErr}
 use Rattle.std.specs.List.{AllByRecursion}
 use Rattle.lts.specs.declared.error.AutError.{AutError}
 use Rattle.lts.specs.declared.error.AutError.TheVariants as errors
 use Rattle.lts.specs.declared.scan.Announced.{Announced}
-use Rattle.lts.specs.Text.{lines}
+use Rattle.text.specs.Text.{lines}
 use Rattle.lts.specs.System.{Arrow, System, IsArrow, set_of}
-use Rattle.lts.specs.Aut.{IsAut, IsHeader, HasFault}
-use Rattle.lts.specs.Left.{IfKnown, IsAdmitted, BeginsWith, AreTransitions, HasRestFault, Refuses}
+use Rattle.lts.specs.Aut.{IsAut, IsHeader, HasFault, HasFaultAt}
+use Rattle.text.specs.Lines.{IfKnown}
+use Rattle.lts.specs.Left.{IsAdmitted, BeginsWith, AreTransitions, HasRestFault, Refuses, named}
+use Rattle.text.specs.declared.error.ReadFault.{ReadFault}
+use Rattle.text.specs.declared.error.ReadFault.TheVariants as reads
+use Rattle.text.specs.Reads.{Reads}
+use Rattle.text.proofs.Promised.{AreLaws, keeps}
+use Rattle.lts.specs.declared.error.AutFault.{AutFault}
+use Rattle.lts.specs.Unread.{unread}
+use Rattle.lts.specs.Numbered.{Numbered}
+use Rattle.lts.proofs.Faults.{no_fault, one_fault}
 use Rattle.lts.proofs.Unique as unique
 
 whole : (h : Announced) (text left rest : List ℕ) (arrows : List Arrow) (l : System) → IsAdmitted h → BeginsWith h text left → AreTransitions h arrows left rest → AllByRecursion (IsArrow h.states) arrows
@@ -37,16 +46,29 @@ read_whole (Some text) None new h arrows l admitted begins are within states ini
 read_whole (Some text) (Some left) None h arrows l admitted begins are within states initial set = absurd are
 read_whole (Some text) (Some left) (Some rest) h arrows l admitted begins are within states initial set = whole h text left rest arrows l admitted begins are within states initial set
 
--- what is spelled is the only one
-pub read_only : (old : Option (List ℕ)) (l : System) → IfSome old (λ text. IsAut text l) → IfSome old (λ text. (other : System) → IsAut text other → other ≡ l)
-read_only None l h = tt
-read_only (Some text) l h = λ other k. unique.one_system text other l k h
-
 -- a fault below the header decides
 pub read_fault : (old mid : Option (List ℕ)) (h : Announced) (e : AutError) → IsAdmitted h → IfKnown old mid (BeginsWith h) → Refuses mid (HasRestFault h) e → Refuses old HasFault e
-read_fault old mid h errors.Read admitted begins wrong = tt
-read_fault old mid h errors.Memory admitted begins wrong = tt
-read_fault None mid h (errors.Fault fault line) admitted begins wrong = tt
-read_fault (Some text) None h (errors.Fault fault line) admitted begins wrong = absurd begins
+read_fault None mid h e admitted begins wrong = tt
+read_fault (Some text) None h e admitted begins wrong = absurd begins
+read_fault (Some text) (Some left) h errors.Read admitted begins wrong = tt
+read_fault (Some text) (Some left) h errors.Memory admitted begins wrong = tt
 read_fault (Some text) (Some left) h (errors.Fault fault line) admitted begins (good, body, place) =
     inr (begins.first, lines left, h.initial, h.transitions, h.states, good, begins.cut, begins.header, admitted.transitions, admitted.states, admitted.initial, body, place)
+
+-- a line that could not be read is no fault
+pub unread_refuses : (old : Option (List ℕ)) (P : List ℕ → AutFault → ℕ → Type 0) (fault : ReadFault) → Refuses old P (unread fault)
+unread_refuses None P fault = tt
+unread_refuses (Some text) P reads.Read = tt
+unread_refuses (Some text) P reads.Memory = tt
+
+pub laws : AreLaws IsAut IsAut IsAut HasFaultAt
+laws = record {
+  one_value = λ text l k a b. unique.one_system text k l b a;
+  no_fault = λ text l f a h. no_fault text l f.0 f.1 a h;
+  none_due = λ text l f a h. no_fault text l f.0 f.1 a h;
+  one_fault = λ text f g h k. let e = one_fault text f.0 g.0 f.1 g.1 h k in λ i. (e.0 i, e.1 i);
+}
+
+-- all that the reader promises
+pub promised : (old : Option (List ℕ)) (r : Result Numbered AutError) → IfOk r (λ l. IfSome old (λ text. IsAut text l.system)) → IfErr r (Refuses old HasFault) → Reads IsAut IsAut IsAut HasFaultAt (λ (l : Numbered). l.system) named old r
+promised old r spelled fault = keeps IsAut IsAut IsAut HasFaultAt (λ (l : Numbered). l.system) named laws old r spelled fault

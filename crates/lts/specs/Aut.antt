@@ -1,7 +1,8 @@
 -- The Aldebaran text of a system, and the fault of a text that spells none.
 use Rattle.std.specs.Prelude.{◌≡◌, ◌≢◌, ℕ, ◌+◌, ◌<◌, ◌≤◌, ◌⊎◌, List, [], ◌∷◌, ◌++◌, length, IsTrue, IsFalse, codes, ◌==◌}
 use Rattle.std.specs.List.{list_any, AllZip, AllByRecursion}
-use Rattle.lts.specs.Text.{lines, IsNumeral, IsSpaced}
+use Rattle.text.specs.Text.{lines, IsNumeral, IsSpaced}
+use Rattle.lts.specs.declared.limits.TheConstants.{MOST_TRANSITIONS, MOST_STATES}
 use Rattle.lts.specs.Label.{is_label}
 use Rattle.lts.specs.System.{Arrow, System, IsArrow, set_of}
 use Rattle.lts.specs.declared.error.AutFault.{AutFault}
@@ -32,9 +33,9 @@ pub record IsAut (text : List ℕ) (l : System) : Type 0 where
   pub header : IsHeader first l.initial (length rest) l.states
   pub each : AllZip IsTransition rest spelled
   pub set : l.arrows ≡ set_of spelled
-  pub count : length rest ≤ 10000000
+  pub count : length rest ≤ MOST_TRANSITIONS
   pub some : 1 ≤ l.states
-  pub limit : l.states ≤ 1000000
+  pub limit : l.states ≤ MOST_STATES
   pub initial : l.initial < l.states
   pub within : AllByRecursion (IsArrow l.states) spelled
 
@@ -42,9 +43,9 @@ pub record IsAut (text : List ℕ) (l : System) : Type 0 where
 abbrev pub HeaderFault : List (List ℕ) → AutFault → Type 0
 HeaderFault all BadHeader = (first : List ℕ) (rest : List (List ℕ)) (i m n : ℕ) → all ≡ first ∷ rest → IsHeader first i m n → ⊥
 HeaderFault all OverLimit =
-    (first : List ℕ) × (rest : List (List ℕ)) × (i m n : ℕ) × (all ≡ first ∷ rest) × IsHeader first i m n × ((10000000 < m) ⊎ (1000000 < n))
+    (first : List ℕ) × (rest : List (List ℕ)) × (i m n : ℕ) × (all ≡ first ∷ rest) × IsHeader first i m n × ((MOST_TRANSITIONS < m) ⊎ (MOST_STATES < n))
 HeaderFault all BadStates =
-    (first : List ℕ) × (rest : List (List ℕ)) × (i m n : ℕ) × (all ≡ first ∷ rest) × IsHeader first i m n × (m ≤ 10000000) × (n ≤ 1000000) × (n ≤ i)
+    (first : List ℕ) × (rest : List (List ℕ)) × (i m n : ℕ) × (all ≡ first ∷ rest) × IsHeader first i m n × (m ≤ MOST_TRANSITIONS) × (n ≤ MOST_STATES) × (n ≤ i)
 HeaderFault all _ = ⊥
 
 -- what is wrong with a line that stands where a transition of a system with n states is due
@@ -69,4 +70,8 @@ abbrev pub HasFault : List ℕ → AutFault → ℕ → Type 0
 HasFault text fault place =
     (HeaderFault (lines text) fault × (place ≡ 1))
     ⊎ ((first : List ℕ) × (rest : List (List ℕ)) × (i m n good : ℕ) × (lines text ≡ first ∷ rest) × IsHeader first i m n
-    × (m ≤ 10000000) × (n ≤ 1000000) × (i < n) × BodyFault m n rest fault good × (place ≡ good + 2))
+    × (m ≤ MOST_TRANSITIONS) × (n ≤ MOST_STATES) × (i < n) × BodyFault m n rest fault good × (place ≡ good + 2))
+
+-- the same of the fault with its line
+abbrev pub HasFaultAt : List ℕ → AutFault × ℕ → Type 0
+HasFaultAt text told = HasFault text told.0 told.1

@@ -1,5 +1,6 @@
 -- What holds of all texts of systems.
 use Rattle.std.specs.Prelude.{◌≡◌, ℕ, ◌≤◌, List, length}
+use Rattle.lts.specs.declared.limits.TheConstants.{MOST_TRANSITIONS}
 use Rattle.lts.specs.System.{System, IsSystem}
 use Rattle.lts.specs.declared.error.AutFault.{AutFault}
 use Rattle.lts.specs.Aut.{IsAut, HasFault}
@@ -19,4 +20,4 @@ OneFault = (text : List ℕ) (f g : AutFault) (i j : ℕ) → HasFault text f i 
 
 -- The canonical text of a system with no more transitions than a text may have spells the system.
 abbrev pub CanonSpells : Type 0
-CanonSpells = (l : System) → IsSystem l → length l.arrows ≤ 10000000 → IsAut (aut_text l) l
+CanonSpells = (l : System) → IsSystem l → length l.arrows ≤ MOST_TRANSITIONS → IsAut (aut_text l) l

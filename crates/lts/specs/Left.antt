@@ -1,41 +1,33 @@
--- What a reader has left, and why a call refused it.
-use Rattle.std.specs.Prelude.{◌≡◌, ℕ, ◌+◌, ◌<◌, ◌≤◌, ◌⊎◌, Bool, List, [], ◌∷◌, length, Option, Some, None, ⊤, MatchBool, IfSome}
-use Rattle.std.specs.List.{AllZip}
+-- Why a call refused what a reader had left, and what stands there.
+use Rattle.std.specs.Prelude.{◌≡◌, ℕ, ◌+◌, ◌<◌, ◌≤◌, ◌⊎◌, List, [], ◌∷◌, ◌++◌, length, Option, Some, None, IfSome}
+use Rattle.std.specs.List.{AllZip, AllByRecursion}
+use Rattle.text.specs.Text.{lines}
+use Rattle.text.specs.Lines.{IfKnown}
+use Rattle.lts.specs.declared.limits.TheConstants.{MOST_TRANSITIONS, MOST_STATES}
 use Rattle.lts.specs.declared.error.AutFault.{AutFault}
 use Rattle.lts.specs.declared.error.AutFault.TheVariants.{OverLimit, BadStates}
 use Rattle.lts.specs.declared.error.AutError.{AutError}
 use Rattle.lts.specs.declared.error.AutError.TheVariants.{Fault, Read, Memory}
 use Rattle.lts.specs.declared.scan.Announced.{Announced}
-use Rattle.lts.specs.Text.{lines}
-use Rattle.lts.specs.System.{Arrow}
+use Rattle.lts.specs.declared.system.Transition.{Transition}
+use Rattle.lts.specs.System.{Arrow, IsArrow}
+use Rattle.lts.specs.Gathered.{Gathers}
 use Rattle.lts.specs.Aut.{IsHeader, IsTransition, BodyFault}
 
--- P holds of the text that a reader had left and of what it has left now, where these are known
-abbrev pub IfKnown : Option (List ℕ) → Option (List ℕ) → (List ℕ → List ℕ → Type 0) → Type 0
-IfKnown None new P = ⊤
-IfKnown (Some text) None P = ⊥
-IfKnown (Some text) (Some left) P = P text left
-
--- The first line of what was left is this one, and the others are left. If there is none, no line was left.
-abbrev pub TakesLine : Option (List ℕ) → Option (List ℕ) → Bool → List ℕ → Type 0
-TakesLine old new more line = IfKnown old new (λ text left. MatchBool more (lines text ≡ line ∷ lines left) (lines text ≡ []))
+-- the fault that an error tells, and its line: none for a failed read, or for want of memory
+abbrev pub named : AutError → Option (AutFault × ℕ)
+named (Fault fault line) = Some (fault, line)
+named Read = None
+named Memory = None
 
 -- P holds of what was left, where that is known, and of the fault and its line, if it was one
 abbrev pub Refuses : Option (List ℕ) → (List ℕ → AutFault → ℕ → Type 0) → AutError → Type 0
-Refuses old P (Fault fault line) = IfSome old (λ text. P text fault line)
-Refuses old P Read = ⊤
-Refuses old P Memory = ⊤
-
--- no fault of the text, but a failed read, or want of memory
-abbrev pub IsNoFault : AutError → Type 0
-IsNoFault (Fault fault line) = ⊥
-IsNoFault Read = ⊤
-IsNoFault Memory = ⊤
+Refuses old P e = IfSome old (λ text. IfSome (named e) (λ told. P text told.0 told.1))
 
 -- what a right header announces is within the limits
 pub record IsAdmitted (h : Announced) : Type 0 where
-  pub transitions : h.transitions ≤ 10000000
-  pub states : h.states ≤ 1000000
+  pub transitions : h.transitions ≤ MOST_TRANSITIONS
+  pub states : h.states ≤ MOST_STATES
   pub initial : h.initial < h.states
 
 -- the first line is this header, and the others are left
@@ -55,12 +47,24 @@ HasRestFault h text fault place = (good : ℕ) × BodyFault h.transitions h.stat
 
 -- what is wrong with what a header announces
 abbrev pub IsFirstFault : Announced → AutFault → Type 0
-IsFirstFault h OverLimit = (10000000 < h.transitions) ⊎ (1000000 < h.states)
-IsFirstFault h BadStates = (h.transitions ≤ 10000000) × (h.states ≤ 1000000) × (h.states ≤ h.initial)
+IsFirstFault h OverLimit = (MOST_TRANSITIONS < h.transitions) ⊎ (MOST_STATES < h.states)
+IsFirstFault h BadStates = (h.transitions ≤ MOST_TRANSITIONS) × (h.states ≤ MOST_STATES) × (h.states ≤ h.initial)
 IsFirstFault h _ = ⊥
 
--- the error names this fault and line, if it names one
-abbrev pub NamesOnly : AutFault → ℕ → AutError → Type 0
-NamesOnly fault line (Fault named place) = (named ≡ fault) × (place ≡ line)
-NamesOnly fault line Read = ⊤
-NamesOnly fault line Memory = ⊤
+-- the first lines are these, and the others are left
+abbrev pub IsCut : List (List ℕ) → List ℕ → List ℕ → Type 0
+IsCut done text left = lines text ≡ done ++ lines left
+
+-- the lines of transitions that were read so far, so many and all of them good, and what they spell
+pub record SoFar (n good : ℕ) (old now : Option (List ℕ)) (labels : List (List ℕ)) (transitions : List Transition) : Type 0 where
+  pub done : List (List ℕ)
+  pub arrows : List Arrow
+  pub each : AllZip IsTransition done arrows
+  pub within : AllByRecursion (IsArrow n) arrows
+  pub gathered : Gathers labels transitions arrows
+  pub count : length done ≡ good
+  pub cut : IfKnown old now (IsCut done)
+
+-- no line was left
+abbrev pub HasNoLine : List ℕ → List ℕ → Type 0
+HasNoLine text left = lines text ≡ []

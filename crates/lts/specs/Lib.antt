@@ -1,4 +1,7 @@
-pub mod Text
+pub use Rattle.text.specs.Text
+pub use Rattle.text.specs.Wrote
+pub use Rattle.text.specs.Pieces
+pub use Rattle.text.specs.Reads
 pub mod Label
 pub mod Path
 pub mod System
@@ -7,8 +10,8 @@ pub mod View
 pub mod Aut
 pub mod Canon
 pub mod Laws
-pub mod Wrote
 pub mod Scan
 pub mod Left
 pub mod Gathered
 pub mod Arranged
+pub mod Unread

@@ -1,83 +1,38 @@
--- The token at the front of a line, and what a line is as a test: the first token and what follows it.
-use Rattle.std.specs.Prelude.{◌≡◌, ℕ, ◌+◌, ◌-◌, ◌^◌, Bool, not, nat_eq, nat_lt, ◌==◌, List, [], ◌∷◌, length, take, drop, min, codes, Option, Some, None, if◌then◌else◌}
-use Rattle.std.specs.List.{prefix_len, list_all}
-use Rattle.std.specs.Cmp.Lexicographic.{pointwise}
-use Rattle.lts.specs.Text.{is_blank, is_digit, is_numeral, value_of}
+-- What a line is as a test: a header or a transition.
+use Rattle.std.specs.Prelude.{ℕ, List, codes, Option}
+use Rattle.text.specs.Tokens.{sign_at, quoted_at, number_before, end_at, ◌>>=◌}
 use Rattle.lts.specs.System.{Arrow}
 use Rattle.lts.specs.declared.scan.Announced.{Announced}
 use Rattle.lts.specs.declared.scan.Spelled.{Spelled}
-
-infixl 10 ◌>>=◌
-abbrev pub ◌>>=◌ : {A B : Type 0} → Option A → (A → Option B) → Option B
-(Some x) >>= f = f x
-None >>= f = None
-
--- a function found what a test on lists finds, seen by view
-abbrev pub Finds : {X Y : Type 0} → (X → Y) → Option X → Option Y → Type 0
-Finds view (Some x) found = found ≡ Some (view x)
-Finds view None found = found ≡ None
-
--- the number, or the greatest of its type
-abbrev pub capped : ℕ → ℕ
-capped n = min n (2 ^ 32 - 1)
-
-abbrev pub past_blanks : List ℕ → List ℕ
-past_blanks line = drop (prefix_len is_blank line) line
-
--- what follows the token
-unfoldable pub sign_at : List ℕ → List ℕ → Option (List ℕ)
-sign_at token line = let start = past_blanks line in if pointwise nat_eq (take (length token) start) token then Some (drop (length token) start) else None
-
--- the number, and what follows it
-unfoldable pub number_at : List ℕ → Option (ℕ × List ℕ)
-number_at line =
-    let start = past_blanks line in
-    let count = prefix_len is_digit start in
-    if is_numeral (take count start) then Some (capped (value_of (take count start)), drop count start) else None
-
-abbrev pub is_unquoted : ℕ → Bool
-is_unquoted b = not (b == 34)
-
--- the bytes before the next quote, and what follows it
-unfoldable pub closed_at : List ℕ → Option (List ℕ × List ℕ)
-closed_at line =
-    let count = prefix_len is_unquoted line in
-    if nat_lt count (length line) then Some (take count line, drop (count + 1) line) else None
-
-unfoldable pub quoted_at : List ℕ → Option (List ℕ × List ℕ)
-quoted_at line = do
-  rest ← sign_at (34 ∷ []) line
-  closed_at rest
 
 -- the transition that a line says
 abbrev pub said : Spelled → Arrow
 said s = record { source = s.source; label = s.label.now; target = s.target }
 
--- nothing but blanks follows
-unfoldable pub end_at : {A : Type 0} → A → List ℕ → Option A
-end_at a line = if list_all is_blank line then Some a else None
-
--- the number before the token, and what follows both
-unfoldable pub number_before : List ℕ → List ℕ → Option (ℕ × List ℕ)
-number_before token line = do
-  n ← number_at line
-  rest ← sign_at token n.1
-  Some (n.0, rest)
+-- the three numbers of a header, and its end
+unfoldable pub counts_at : List ℕ → Option Announced
+counts_at line = do
+  i ← number_before (codes ",") line
+  m ← number_before (codes ",") i.1
+  n ← number_before (codes ")") m.1
+  end_at (record { initial = i.0; transitions = m.0; states = n.0 }) n.1
 
 unfoldable pub header_at : List ℕ → Option Announced
 header_at line = do
   rest ← sign_at (codes "des") line
   rest ← sign_at (codes "(") rest
-  i ← number_before (codes ",") rest
-  m ← number_before (codes ",") i.1
-  n ← number_before (codes ")") m.1
-  end_at (record { initial = i.0; transitions = m.0; states = n.0 }) n.1
+  counts_at rest
+
+-- the label and the target of a transition from this source, and its end
+unfoldable pub labelled_at : ℕ → List ℕ → Option Arrow
+labelled_at source line = do
+  label ← quoted_at line
+  rest ← sign_at (codes ",") label.1
+  t ← number_before (codes ")") rest
+  end_at (record { source = source; label = label.0; target = t.0 }) t.1
 
 unfoldable pub transition_at : List ℕ → Option Arrow
 transition_at line = do
   rest ← sign_at (codes "(") line
   s ← number_before (codes ",") rest
-  label ← quoted_at s.1
-  rest ← sign_at (codes ",") label.1
-  t ← number_before (codes ")") rest
-  end_at (record { source = s.0; label = label.0; target = t.0 }) t.1
+  labelled_at s.0 s.1

@@ -1,5 +1,6 @@
 -- What a system of the program stands for.
 use Rattle.std.specs.Prelude.{◌≡◌, ℕ, ◌+◌, ◌<◌, ◌≤◌, List, length, map, filter, slice_index, slice_range, ◌==◌}
+use Rattle.lts.specs.declared.limits.TheConstants.{MOST_TRANSITIONS}
 use Rattle.lts.specs.System.{Arrow, IsSystem}
 use Rattle.lts.specs.Numbered.{Numbered, arrow_of, AreAscending, IsInside}
 use Rattle.lts.specs.declared.system.Transition.{Transition}
@@ -25,6 +26,6 @@ pub record IsStored (a : Inside) : Type 0 where
   pub system : IsSystem (numbered a).system
   pub labels : AreAscending (labels_of a)
   pub inside : IsInside (numbered a) a.transitions.items
-  pub few : length a.transitions.items ≤ 10000000
+  pub few : length a.transitions.items ≤ MOST_TRANSITIONS
   pub starts : length a.starts.items ≡ a.states + 1
   pub rows : (s : ℕ) → s < a.states → IsRow a.starts.items a.transitions.items s

@@ -1,6 +1,7 @@
-// Why a text gave no system, and what every crate above may want of memory.
+// Why a text gave no system.
 
-use std::alloc::{AllocError, AllocFailed};
+pub use text::error::Memory;
+use text::error::ReadFault;
 use thiserror::Error;
 
 /// What is wrong with a text that spells no system. It is shown as its code.
@@ -43,25 +44,6 @@ pub enum AutError {
     Memory,
 }
 
-/// Want of memory, by itself: each program above gives it a code of its own.
-#[derive(Clone, Copy, Debug, PartialEq, Eq, Error)]
-#[error("want of memory")]
-pub struct Memory;
-
-impl From<AllocError> for Memory {
-    fn from(error: AllocError) -> Self {
-        let _ = error;
-        Memory
-    }
-}
-
-impl<T: Drop> From<AllocFailed<T>> for Memory {
-    fn from(error: AllocFailed<T>) -> Self {
-        let _ = error;
-        Memory
-    }
-}
-
 impl From<Memory> for AutError {
     ghost use Rattle.std.specs.Prelude.{◌≡◌};
     ghost use Rattle.lts.specs.declared.error.AutError.TheVariants as errors;
@@ -71,5 +53,19 @@ impl From<Memory> for AutError {
     fn from(error: Memory) -> Self {
         let Memory = error;
         AutError::Memory
+    }
+}
+
+impl From<ReadFault> for AutError {
+    ghost use Rattle.std.specs.Prelude.{◌≡◌};
+    ghost use Rattle.lts.specs.Unread.{unread};
+
+    ghost from_gives = { λ fault e. e ≡ unread fault };
+
+    fn from(fault: ReadFault) -> Self {
+        match fault {
+            ReadFault::Read => AutError::Read,
+            ReadFault::Memory => AutError::Memory,
+        }
     }
 }

@@ -6,18 +6,17 @@ pub mod error;
 mod intake;
 pub mod label;
 pub mod law;
-mod lines;
+pub mod limits;
 pub mod reader;
 mod scan;
 pub mod system;
 #[cfg(test)]
 mod tests;
-pub mod write_loop;
 pub mod writer;
 
-pub use error::{AutError, AutFault, Memory};
+pub use error::{AutError, AutFault};
 pub use label::{Label, LabelView};
 pub use reader::read_aut;
 pub use system::{Lts, Transition};
-pub use write_loop::{WriteFault, put, put_number};
+pub use text::{Memory, Piece, WriteFault, put, put_number, put_pieces};
 pub use writer::write_aut;

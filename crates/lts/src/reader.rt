@@ -1,27 +1,26 @@
 // The reader of systems.
 
-ghost use Rattle.std.specs.Prelude.{◌≡◌, ℕ, ◌≤◌, ◌<◌, ◌^◌, List, length, IfOk, IfErr, IfSome, IfNone};
+ghost use Rattle.std.specs.Prelude.{◌≡◌, ℕ, ◌+◌, ◌≤◌, ◌<◌, List, [], length, Option, IfOk, IfErr, OnOk, IfSome, IfNone};
 ghost use Rattle.std.specs.List.{AllByRecursion, list_all};
+ghost use Rattle.text.specs.Lines.{IfKnown};
+ghost use Rattle.text.specs.Reads.{Reads};
 ghost use Rattle.lts.specs.Label as label;
-ghost use Rattle.lts.specs.System.{Arrow, System, IsArrow};
-ghost use Rattle.lts.specs.Aut.{IsAut, IsHeader, IsTransition, LineFault, HasFault};
+ghost use Rattle.lts.specs.System.{Arrow, IsArrow};
+ghost use Rattle.lts.specs.Aut.{IsAut, IsTransition, LineFault, HasFault, HasFaultAt};
 ghost use Rattle.lts.specs.Scan.{said};
 ghost use Rattle.lts.specs.Label.{texts};
 ghost use Rattle.lts.specs.Gathered.{Gathers};
-ghost use Rattle.lts.specs.Left.{IfKnown, Refuses, IsAdmitted, BeginsWith, AreTransitions, HasRestFault, IsFirstFault, IsNoFault, NamesOnly};
+ghost use Rattle.lts.specs.Left.{Refuses, IsAdmitted, BeginsWith, SoFar, HasNoLine, AreTransitions, HasRestFault, IsFirstFault, named};
 
 use crate::assemble::assemble;
 use crate::error::{AutError, AutFault};
 use crate::intake::Rows;
-use crate::lines::next_line;
+use crate::limits::{LONGEST_LABEL, MOST_STATES, MOST_TRANSITIONS};
 use crate::scan::{Announced, Spelled, header, transition};
-use crate::system::Lts;
+use crate::system::{Lts, Transition};
 use std::alloc::Global;
 use std::io::{BufRead, BufReader, Read};
-
-const MOST_TRANSITIONS: u32 = 10_000_000;
-
-const MOST_STATES: u32 = 1_000_000;
+use text::lines::next_line;
 
 // What is wrong with what a header announces, if anything is.
 fn first_fault(found: Announced) -> Option<AutFault>
@@ -67,7 +66,7 @@ fn are_label_bytes(bytes: &[u8]) -> bool
 fn is_label(bytes: &[u8]) -> bool
     ensures { result ≡ label.is_label bytes.now }
 {
-    1 <= bytes.len() && bytes.len() <= 4096 && are_label_bytes(bytes)
+    1 <= bytes.len() && bytes.len() <= LONGEST_LABEL && are_label_bytes(bytes)
 }
 
 // The transition that the line spells, in a system of so many states.
@@ -87,51 +86,87 @@ fn good_line(line: &[u8], states: u32) -> Result<Spelled<'_>, AutFault>
     Ok(found)
 }
 
-// Reads the transitions.
-fn read_rows<B: BufRead>(
+// Reads the transition that comes after so many of them.
+fn read_row<B: BufRead>(
     alloc: Global,
     reader: &mut B,
     line: &mut Vec<u8>,
     found: Announced,
-) -> Result<Rows, AutError>
-    requires { IsAdmitted found }
-    ensures rows { IfOk result (λ rows. (arrows : List Arrow)
-        × Gathers (texts rows.labels.keys) rows.transitions.items arrows
-        × AllByRecursion (IsArrow found.states) arrows
-        × IfKnown (B.remaining reader.old) (B.remaining reader.new) (AreTransitions found arrows)) }
-    ensures within { IfOk result (λ rows. length rows.transitions.items ≤ 10000000) }
-    ensures labels { IfOk result (λ rows. length rows.labels.keys ≤ 10000000) }
-    ensures fault { IfErr result (Refuses (B.remaining reader.old) (HasRestFault found)) }
+    good: u32,
+    rows: &mut Rows,
+) -> Result<(), AutError>
+    requires due { good < found.transitions }
+    requires admitted { IsAdmitted found }
+    requires labels { length rows.old.labels.keys ≤ good }
+    ensures row { OnOk result ((old : Option (List ℕ)) → SoFar found.states good old (B.remaining reader.old) (texts rows.old.labels.keys) rows.old.transitions.items
+        → SoFar found.states (good + 1) old (B.remaining reader.new) (texts rows.new.labels.keys) rows.new.transitions.items) }
+    ensures labels { OnOk result (length rows.new.labels.keys ≤ good + 1) }
+    ensures fault { IfErr result (λ e. (old : Option (List ℕ)) → SoFar found.states good old (B.remaining reader.old) (texts rows.old.labels.keys) rows.old.transitions.items
+        → Refuses old (HasRestFault found) e) }
 {
-    let mut rows = Rows::new(alloc);
-    for good in 0..found.transitions {
-        let place = u64::from(good) + 2;
-        if !next_line(reader, line)? {
-            let fault = AutFault::WrongCount;
-            return Err(AutError::Fault { fault, line: place });
-        }
-        match good_line(line, found.states) {
-            Ok(spelled) => rows.add(alloc, spelled)?,
-            Err(fault) => return Err(AutError::Fault { fault, line: place }),
-        }
+    let place = u64::from(good) + 2;
+    if !next_line(reader, line)? {
+        let fault = AutFault::WrongCount;
+        return Err(AutError::Fault { fault, line: place });
     }
+    match good_line(line, found.states) {
+        Ok(spelled) => Ok(rows.add(alloc, spelled)?),
+        Err(fault) => Err(AutError::Fault { fault, line: place }),
+    }
+}
+
+// Reads on to the end of the text, where no line may stand.
+fn read_end<B: BufRead>(
+    reader: &mut B,
+    line: &mut Vec<u8>,
+    found: Announced,
+) -> Result<(), AutError>
+    ensures end { OnOk result (IfKnown (B.remaining reader.old) (B.remaining reader.new) HasNoLine) }
+    ensures fault { IfErr result (λ e. (old : Option (List ℕ)) (labels : List (List ℕ)) (transitions : List Transition)
+        → SoFar found.states found.transitions old (B.remaining reader.old) labels transitions → Refuses old (HasRestFault found) e) }
+{
     if next_line(reader, line)? {
         let fault = AutFault::WrongCount;
         let place = u64::from(found.transitions) + 2;
         return Err(AutError::Fault { fault, line: place });
     }
-    Ok(rows)
+    Ok(())
+}
+
+// Reads the transitions into rows that have none yet.
+fn read_rows<B: BufRead>(
+    alloc: Global,
+    reader: &mut B,
+    line: &mut Vec<u8>,
+    found: Announced,
+    rows: &mut Rows,
+) -> Result<(), AutError>
+    requires admitted { IsAdmitted found }
+    requires none { Gathers (texts rows.old.labels.keys) rows.old.transitions.items [] }
+    requires unlabelled { length rows.old.labels.keys ≡ 0 }
+    ensures rows { OnOk result ((arrows : List Arrow)
+        × Gathers (texts rows.new.labels.keys) rows.new.transitions.items arrows
+        × AllByRecursion (IsArrow found.states) arrows
+        × IfKnown (B.remaining reader.old) (B.remaining reader.new) (AreTransitions found arrows)) }
+    ensures within { OnOk result (length rows.new.transitions.items ≤ MOST_TRANSITIONS) }
+    ensures labels { OnOk result (length rows.new.labels.keys ≤ MOST_TRANSITIONS) }
+    ensures fault { IfErr result (Refuses (B.remaining reader.old) (HasRestFault found)) }
+{
+    for good in 0..found.transitions {
+        read_row(alloc, reader, line, found, good, rows)?;
+    }
+    read_end(reader, line, found)
 }
 
 // Reads the whole text.
 fn read_text<B: BufRead>(alloc: Global, reader: &mut B) -> Result<Lts, AutError>
     ensures spelled { IfOk result (λ l. IfSome (B.remaining reader.old) (λ text. IsAut text l.system)) }
-    ensures only { IfOk result (λ l. IfSome (B.remaining reader.old) (λ text. (other : System) → IsAut text other → other ≡ l.system)) }
     ensures fault { IfErr result (Refuses (B.remaining reader.old) HasFault) }
 {
     let mut line = Vec::new(alloc);
     let found = read_first(reader, &mut line)?;
-    let rows = read_rows(alloc, reader, &mut line, found)?;
+    let mut rows = Rows::new(alloc);
+    read_rows(alloc, reader, &mut line, found, &mut rows)?;
     Ok(assemble(alloc, found, rows)?)
 }
 
@@ -141,16 +176,7 @@ fn read_text<B: BufRead>(alloc: Global, reader: &mut B) -> Result<Lts, AutError>
 /// # Errors
 /// The first faulty line decides. A text is also refused where a read fails, or for want of memory.
 pub fn read_aut<R: Read + Drop>(alloc: Global, reader: R) -> Result<Lts, AutError>
-    // What is answered is spelled, and nothing else is.
-    ensures spelled { IfOk result (λ l. IfSome (R.remaining reader) (λ text. IsAut text l.system)) }
-    ensures only { IfOk result (λ l. IfSome (R.remaining reader) (λ text. (other : System) → IsAut text other → other ≡ l.system)) }
-    // A text that spells a system is refused for a failed read or want of memory alone.
-    ensures complete { IfErr result (λ e. IfSome (R.remaining reader) (λ text. (l : System) → IsAut text l → IsNoFault e)) }
-    // A text with a deciding fault is never answered, and no other fault is named.
-    ensures none { IfOk result (λ _. IfSome (R.remaining reader) (λ text. (fault : AutFault) (line : ℕ) → HasFault text fault line → ⊥)) }
-    ensures exact { IfErr result (λ e. IfSome (R.remaining reader) (λ text. (fault : AutFault) (line : ℕ) → HasFault text fault line → NamesOnly fault line e)) }
-    // A fault that is named is the one that decides.
-    ensures fault { IfErr result (Refuses (R.remaining reader) HasFault) }
+    ensures { Reads IsAut IsAut IsAut HasFaultAt (λ l. l.system) named (R.remaining reader) result }
 {
     let mut reader = match BufReader::new(alloc, reader) {
         Ok(reader) => reader,

@@ -1,10 +1,11 @@
-// The tokens of a line, and the two shapes of lines.
+// The two shapes of lines.
 
-ghost use Rattle.std.specs.Prelude.{◌≡◌, ◌≤◌, length};
-ghost use Rattle.std.specs.List.{prefix_len, list_all};
-ghost use Rattle.lts.specs.Text as text;
-ghost use Rattle.lts.specs.Scan.{Finds, capped, said, is_unquoted};
+ghost use Rattle.std.specs.Prelude.{◌≡◌};
+ghost use Rattle.text.specs.Tokens.{Finds};
+ghost use Rattle.lts.specs.Scan.{said};
 ghost use Rattle.lts.specs.Scan as at;
+
+use text::scan::{is_end, number_before, quoted, sign};
 
 /// What a header says. A number that is too great for its type is read as the greatest one.
 #[derive(Clone, Copy)]
@@ -22,150 +23,12 @@ pub(crate) struct Spelled<'a> {
     pub target: u32,
 }
 
-fn is_blank(byte: u8) -> bool
-    ensures { result ≡ text.is_blank byte }
+// The numbers of a header, of which this is the rest.
+#[tactic(auto, unfolding(crate::specs::Scan::counts_at, text::specs::Tokens::end_at))]
+fn counts(line: &[u8]) -> Option<Announced>
+    ensures { at.counts_at line.now ≡ result }
 {
-    byte == b' ' || byte == b'\t'
-}
-
-fn is_digit(byte: u8) -> bool
-    ensures { result ≡ text.is_digit byte }
-{
-    byte.is_ascii_digit()
-}
-
-// How many blanks stand in front.
-fn blanks(line: &[u8]) -> usize
-    ensures count { result ≡ prefix_len text.is_blank line.now }
-    ensures within { result ≤ length line.now }
-{
-    line.iter().take_while(|byte| is_blank(**byte)).count()
-}
-
-// The bytes past the blanks.
-fn past_blanks(line: &[u8]) -> &[u8]
-    ensures { result.now ≡ at.past_blanks line.now }
-{
-    let (_, rest) = line.split_at(blanks(line));
-    rest
-}
-
-// What follows the token, past the blanks.
-#[tactic(auto, unfolding(crate::specs::Scan::sign_at))]
-fn sign<'a>(line: &'a [u8], token: &[u8]) -> Option<&'a [u8]>
-    ensures { Finds (λ rest. rest.now) result (at.sign_at token.now line.now) }
-{
-    past_blanks(line).strip_prefix(token)
-}
-
-// The number of these digits, or the greatest that there is.
-fn value_of(digits: &[u8]) -> u32
-    ensures { result ≡ capped (text.value_of digits.now) }
-{
-    let mut value = 0u32;
-    for digit in digits {
-        value = value
-            .saturating_mul(10)
-            .saturating_add(u32::from(digit.saturating_sub(48)));
-    }
-    value
-}
-
-// How many digits stand in front.
-fn digits(line: &[u8]) -> usize
-    ensures count { result ≡ prefix_len text.is_digit line.now }
-    ensures within { result ≤ length line.now }
-{
-    line.iter().take_while(|byte| is_digit(**byte)).count()
-}
-
-fn are_digits(bytes: &[u8]) -> bool
-    ensures { result ≡ list_all text.is_digit bytes.now }
-{
-    bytes.iter().all(|byte| is_digit(*byte))
-}
-
-// Whether these digits are a number: there are some, and no 0 stands in front of another.
-fn is_numeral(digits: &[u8]) -> bool
-    ensures { result ≡ text.is_numeral digits.now }
-{
-    match digits {
-        [] => false,
-        [only] => is_digit(*only),
-        [first, ..] => *first >= 49 && are_digits(digits),
-    }
-}
-
-// The number past the blanks, and what follows it.
-#[tactic(auto, unfolding(crate::specs::Scan::number_at))]
-fn number(line: &[u8]) -> Option<(u32, &[u8])>
-    ensures { Finds (λ found. (found.0, found.1.now)) result (at.number_at line.now) }
-{
-    let line = past_blanks(line);
-    let (numeral, rest) = line.split_at(digits(line));
-    if is_numeral(numeral) {
-        Some((value_of(numeral), rest))
-    } else {
-        None
-    }
-}
-
-// The number before the token, past the blanks, and what follows both.
-#[tactic(auto, unfolding(crate::specs::Scan::number_before))]
-fn number_before<'a>(line: &'a [u8], token: &[u8]) -> Option<(u32, &'a [u8])>
-    ensures { Finds (λ found. (found.0, found.1.now)) result (at.number_before token.now line.now) }
-{
-    let (number, rest) = number(line)?;
-    let rest = sign(rest, token)?;
-    Some((number, rest))
-}
-
-// How many bytes stand before the next quote.
-fn unquoted(line: &[u8]) -> usize
-    ensures count { result ≡ prefix_len is_unquoted line.now }
-    ensures within { result ≤ length line.now }
-{
-    line.iter().take_while(|byte| **byte != 34).count()
-}
-
-// The bytes before the next quote, and what follows it.
-#[tactic(auto, unfolding(crate::specs::Scan::closed_at))]
-fn closed(line: &[u8]) -> Option<(&[u8], &[u8])>
-    ensures { Finds (λ found. (found.0.now, found.1.now)) result (at.closed_at line.now) }
-{
-    let count = unquoted(line);
-    if count >= line.len() {
-        return None;
-    }
-    let (label, _) = line.split_at(count);
-    let (_, rest) = line.split_at(count + 1);
-    Some((label, rest))
-}
-
-// The bytes between the quotes past the blanks, and what follows them.
-#[tactic(auto, unfolding(crate::specs::Scan::quoted_at))]
-fn quoted(line: &[u8]) -> Option<(&[u8], &[u8])>
-    ensures { Finds (λ found. (found.0.now, found.1.now)) result (at.quoted_at line.now) }
-{
-    let rest = sign(line, b"\"")?;
-    closed(rest)
-}
-
-// Whether only blanks follow.
-fn is_end(line: &[u8]) -> bool
-    ensures { result ≡ list_all text.is_blank line.now }
-{
-    line.iter().all(|byte| is_blank(*byte))
-}
-
-/// What the line says as a header, if it has the shape of one.
-#[tactic(auto, unfolding(crate::specs::Scan::header_at, crate::specs::Scan::end_at))]
-pub(crate) fn header(line: &[u8]) -> Option<Announced>
-    ensures { at.header_at line.now ≡ result }
-{
-    let rest = sign(line, b"des")?;
-    let rest = sign(rest, b"(")?;
-    let (initial, rest) = number_before(rest, b",")?;
+    let (initial, rest) = number_before(line, b",")?;
     let (transitions, rest) = number_before(rest, b",")?;
     let (states, rest) = number_before(rest, b")")?;
     if !is_end(rest) {
@@ -178,14 +41,22 @@ pub(crate) fn header(line: &[u8]) -> Option<Announced>
     })
 }
 
-/// What the line says as a transition, if it has the shape of one.
-#[tactic(auto, unfolding(crate::specs::Scan::transition_at, crate::specs::Scan::end_at))]
-pub(crate) fn transition(line: &[u8]) -> Option<Spelled<'_>>
-    ensures { Finds said result (at.transition_at line.now) }
+/// What the line says as a header, if it has the shape of one.
+#[tactic(auto, unfolding(crate::specs::Scan::header_at))]
+pub(crate) fn header(line: &[u8]) -> Option<Announced>
+    ensures { at.header_at line.now ≡ result }
 {
-    let rest = sign(line, b"(")?;
-    let (source, rest) = number_before(rest, b",")?;
-    let (label, rest) = quoted(rest)?;
+    let rest = sign(line, b"des")?;
+    let rest = sign(rest, b"(")?;
+    counts(rest)
+}
+
+// The transition from this source of which this is the rest.
+#[tactic(auto, unfolding(crate::specs::Scan::labelled_at, text::specs::Tokens::end_at))]
+fn labelled(source: u32, line: &[u8]) -> Option<Spelled<'_>>
+    ensures { Finds said result (at.labelled_at source line.now) }
+{
+    let (label, rest) = quoted(line)?;
     let rest = sign(rest, b",")?;
     let (target, rest) = number_before(rest, b")")?;
     if !is_end(rest) {
@@ -196,4 +67,14 @@ pub(crate) fn transition(line: &[u8]) -> Option<Spelled<'_>>
         label,
         target,
     })
+}
+
+/// What the line says as a transition, if it has the shape of one.
+#[tactic(auto, unfolding(crate::specs::Scan::transition_at))]
+pub(crate) fn transition(line: &[u8]) -> Option<Spelled<'_>>
+    ensures { Finds said result (at.transition_at line.now) }
+{
+    let rest = sign(line, b"(")?;
+    let (source, rest) = number_before(rest, b",")?;
+    labelled(source, rest)
 }

@@ -5,6 +5,7 @@ ghost use Rattle.lts.specs.System.{IsSystem};
 ghost use Rattle.lts.specs.Numbered.{label_at, arrow_of, arrows_from, IsInside, AreAscending};
 
 use crate::label::{Label, LabelView};
+use crate::limits::MOST_TRANSITIONS;
 use std::marker::Model;
 
 /// A transition, whose label is given by number.
@@ -95,7 +96,7 @@ impl Lts {
     pub fn all(&self) -> &[Transition]
         ensures arrows { map (arrow_of self.now.labels) result.now ≡ self.now.system.arrows }
         ensures inside { IsInside self.now result.now }
-        ensures few { length result.now ≤ 10000000 }
+        ensures few { length result.now ≤ MOST_TRANSITIONS }
     {
         &self.transitions
     }

@@ -5,11 +5,11 @@ ghost use Rattle.std.specs.List.{flat_map};
 ghost use Rattle.lts.specs.Numbered.{arrow_of, IsInside};
 ghost use Rattle.lts.specs.Aut.{IsAut};
 ghost use Rattle.lts.specs.Canon.{aut_text, header_line, arrow_line};
-ghost use Rattle.lts.specs.Wrote.{Wrote};
+ghost use Rattle.text.specs.Wrote.{Wrote};
 
 use crate::system::{Lts, Transition};
-use crate::write_loop::{WriteFault, put, put_number};
 use std::io::Write;
+use text::{Piece, WriteFault, put_pieces};
 
 /// Writes the system as its canonical Aldebaran text: a header, and a line for each distinct transition, ascending by
 /// source, by the label's bytes and by target. It takes no memory.
@@ -34,10 +34,18 @@ fn put_header<W: Write>(
 ) -> Result<(), WriteFault>
     ensures { Wrote (W.contents out.old) (W.contents out.new) result (header_line initial transitions states) }
 {
-    put_number(out, b"des (", initial)?;
-    put_number(out, b",", transitions)?;
-    put_number(out, b",", states)?;
-    put(out, b")\n")
+    put_pieces(
+        out,
+        &[
+            Piece::Bytes(b"des ("),
+            Piece::Number(u64::from(initial)),
+            Piece::Bytes(b","),
+            Piece::Number(transitions as u64),
+            Piece::Bytes(b","),
+            Piece::Number(u64::from(states)),
+            Piece::Bytes(b")\n"),
+        ],
+    )
 }
 
 // Writes a line for each of the transitions.
@@ -56,9 +64,16 @@ fn put_line<W: Write>(lts: &Lts, transition: Transition, out: &mut W) -> Result<
     requires { transition.label < length lts.now.labels }
     ensures { Wrote (W.contents out.old) (W.contents out.new) result (arrow_line (arrow_of lts.now.labels transition)) }
 {
-    put_number(out, b"(", transition.source)?;
-    put(out, b",\"")?;
-    put(out, lts.label(transition.label).bytes)?;
-    put_number(out, b"\",", transition.target)?;
-    put(out, b")\n")
+    put_pieces(
+        out,
+        &[
+            Piece::Bytes(b"("),
+            Piece::Number(u64::from(transition.source)),
+            Piece::Bytes(b",\""),
+            Piece::Bytes(lts.label(transition.label).bytes),
+            Piece::Bytes(b"\","),
+            Piece::Number(u64::from(transition.target)),
+            Piece::Bytes(b")\n"),
+        ],
+    )
 }

@@ -4,7 +4,7 @@ use clap::Error as ClapError;
 use formula::error::FormulaError;
 use game::error::BuildError;
 use lts::error::AutError;
-use lts::write_loop::WriteFault;
+use lts::WriteFault;
 use normal::error::NormalError;
 use thiserror::Error;
 

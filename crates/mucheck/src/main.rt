@@ -17,7 +17,7 @@ use crate::engine::{check, check_plain};
 use crate::error::{ArgumentError, MuError};
 use crate::request::{Check, Command};
 use crate::status::status;
-use lts::write_loop::WriteFault;
+use lts::WriteFault;
 use std::fs::File;
 use std::io::{BufWriter, ErrorKind, Write};
 use std::process::ExitCode;

@@ -8,7 +8,7 @@ ghost use Rattle.mucheck.specs.Report.{report, system_line, formula_line, yes_li
 use formula::closed::Closed;
 use formula::print;
 use lts::system::Lts;
-use lts::write_loop::{WriteFault, put, put_number};
+use lts::{WriteFault, put, put_number};
 use std::io::Write;
 
 /// Writes the report: what was read, how many states satisfy the formula, whether the initial one does, and a line for

@@ -2,26 +2,13 @@ use Rattle.std.proofs.Common.{◌∙◌, subst, cond, nat_eq, None}
 use Rattle.std.specs.Prelude.{IfOk, IfErr, IfSome}
 use Rattle.std.specs.Io.KnownBytes.{prepend_known}
 use Rattle.std.proofs.KnownBytes.{prepend_known-nil}
-use Rattle.lts.specs.Left.{Refuses}
-use Rattle.lts.specs.Numbered.{Numbered}
 use Rattle.lts.specs.Aut.{IsAut, HasFault}
-use Rattle.lts.proofs.Faults.{complete_all, exact_all, none_all}
+use Rattle.lts.specs.Left.{Refuses}
+use Rattle.lts.proofs.Whole.{promised}
 use Rattle.lts.proofs.reader.read_aut.Goals as goal
 
-pub returns-clause-complete : goal.returns-clause-complete
-returns-clause-complete g c =
+pub returns : goal.returns
+returns g c =
     let old = g.R.Read.remaining c.args.reader in
     let known = (λ i. cond (nat_eq (c.in-Ok.ensures.capacity i) 0) None (prepend_known (c.in-Ok.ensures.empty i) (g.R.Read.remaining (c.in-Ok.ensures.inner i)))) ∙ prepend_known-nil old in
-    complete_all old c.read_text.result (subst (λ old. IfErr c.read_text.result (Refuses old HasFault)) known c.read_text.ensures.fault)
-
-pub returns-clause-exact : goal.returns-clause-exact
-returns-clause-exact g c =
-    let old = g.R.Read.remaining c.args.reader in
-    let known = (λ i. cond (nat_eq (c.in-Ok.ensures.capacity i) 0) None (prepend_known (c.in-Ok.ensures.empty i) (g.R.Read.remaining (c.in-Ok.ensures.inner i)))) ∙ prepend_known-nil old in
-    exact_all old c.read_text.result (subst (λ old. IfErr c.read_text.result (Refuses old HasFault)) known c.read_text.ensures.fault)
-
-pub returns-clause-none : goal.returns-clause-none
-returns-clause-none g c =
-    let old = g.R.Read.remaining c.args.reader in
-    let known = (λ i. cond (nat_eq (c.in-Ok.ensures.capacity i) 0) None (prepend_known (c.in-Ok.ensures.empty i) (g.R.Read.remaining (c.in-Ok.ensures.inner i)))) ∙ prepend_known-nil old in
-    none_all (λ (l : Numbered). l.system) old c.read_text.result (subst (λ old. IfOk c.read_text.result (λ l. IfSome old (λ text. IsAut text l.system))) known c.read_text.ensures.spelled)
+    promised old c.read_text.result (subst (λ old. IfOk c.read_text.result (λ l. IfSome old (λ text. IsAut text l.system))) known c.read_text.ensures.spelled) (subst (λ old. IfErr c.read_text.result (Refuses old HasFault)) known c.read_text.ensures.fault)

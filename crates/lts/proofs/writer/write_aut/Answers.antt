@@ -1,6 +1,6 @@
 use Rattle.lts.specs.Canon.{header_line}
 use Rattle.lts.proofs.Canonical.{stored_spells, text_is}
-use Rattle.lts.proofs.Writing.{Wrote-err, Wrote-as, Wrote-after, WroteFront-more}
+use Rattle.text.proofs.Writing.{Wrote-err, Wrote-as, Wrote-after, WroteFront-more}
 use Rattle.lts.proofs.writer.write_aut.Goals as goal
 
 pub returns-in_err-put_header-clause-wrote : goal.returns-in_err-put_header-clause-wrote

@@ -1,0 +1,6 @@
+pub mod Text
+pub mod Wrote
+pub mod Lines
+pub mod Tokens
+pub mod Pieces
+pub mod Reads

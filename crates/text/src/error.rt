@@ -1,0 +1,34 @@
+// Why a line could not be read, and want of memory.
+
+use std::alloc::{AllocError, AllocFailed};
+use thiserror::Error;
+
+/// Why no line was read: each reader above gives it a code of its own.
+#[derive(Clone, Copy, Debug, PartialEq, Eq, Error)]
+pub enum ReadFault {
+    /// A read failed.
+    #[error("a failed read")]
+    Read,
+    /// A growth was refused.
+    #[error("want of memory")]
+    Memory,
+}
+
+/// Want of memory, by itself: each program above gives it a code of its own.
+#[derive(Clone, Copy, Debug, PartialEq, Eq, Error)]
+#[error("want of memory")]
+pub struct Memory;
+
+impl From<AllocError> for Memory {
+    fn from(error: AllocError) -> Self {
+        let _ = error;
+        Memory
+    }
+}
+
+impl<T: Drop> From<AllocFailed<T>> for Memory {
+    fn from(error: AllocFailed<T>) -> Self {
+        let _ = error;
+        Memory
+    }
+}

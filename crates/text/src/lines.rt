@@ -1,0 +1,39 @@
+// The lines of a reader.
+
+ghost use Rattle.std.specs.Prelude.{◌≡◌, IfOk};
+ghost use Rattle.text.specs.Text.{without_end};
+ghost use Rattle.text.specs.Lines.{TakesLine};
+
+use crate::error::ReadFault;
+use std::io::{BufRead, ErrorKind};
+
+// Takes the byte off the end, if it stands there.
+fn cut_end(line: &mut Vec<u8>, byte: u8)
+    ensures { line.new.items ≡ without_end byte line.old.items }
+{
+    if let Some(last) = line.last() {
+        if *last == byte {
+            line.pop();
+        }
+    }
+}
+
+/// Reads the next line into `line`, without its end, and says whether there was one.
+///
+/// # Errors
+/// A read failed, or memory was refused. What the reader has left then isn't said.
+pub fn next_line<B: BufRead>(reader: &mut B, line: &mut Vec<u8>) -> Result<bool, ReadFault>
+    ensures { IfOk result (λ more. TakesLine (B.remaining reader.old) (B.remaining reader.new) more line.new.items) }
+{
+    line.clear();
+    match reader.read_until(b'\n', line) {
+        Ok(0) => Ok(false),
+        Ok(_) => {
+            cut_end(line, b'\n');
+            cut_end(line, b'\r');
+            Ok(true)
+        }
+        Err(error) if error.kind() == ErrorKind::OutOfMemory => Err(ReadFault::Memory),
+        Err(_) => Err(ReadFault::Read),
+    }
+}

@@ -1,0 +1,133 @@
+// The tokens of a line: each function takes one off the front.
+
+ghost use Rattle.std.specs.Prelude.{◌≡◌, ◌≤◌, length};
+ghost use Rattle.std.specs.List.{prefix_len, list_all};
+ghost use Rattle.text.specs.Text as spec;
+ghost use Rattle.text.specs.Tokens.{Finds, capped, is_unquoted};
+ghost use Rattle.text.specs.Tokens as at;
+
+use crate::bytes::{is_blank, is_digit};
+
+// How many blanks stand in front.
+fn blanks(line: &[u8]) -> usize
+    ensures count { result ≡ prefix_len spec.is_blank line.now }
+    ensures within { result ≤ length line.now }
+{
+    line.iter().take_while(|byte| is_blank(**byte)).count()
+}
+
+// The bytes past the blanks.
+fn past_blanks(line: &[u8]) -> &[u8]
+    ensures { result.now ≡ at.past_blanks line.now }
+{
+    let (_, rest) = line.split_at(blanks(line));
+    rest
+}
+
+/// What follows the token, past the blanks.
+#[tactic(auto, unfolding(crate::specs::Tokens::sign_at))]
+pub fn sign<'a>(line: &'a [u8], token: &[u8]) -> Option<&'a [u8]>
+    ensures { Finds (λ rest. rest.now) result (at.sign_at token.now line.now) }
+{
+    past_blanks(line).strip_prefix(token)
+}
+
+// The number of these digits, or the greatest that there is.
+fn value_of(digits: &[u8]) -> u32
+    ensures { result ≡ capped (spec.value_of digits.now) }
+{
+    let mut value = 0u32;
+    for digit in digits {
+        value = value
+            .saturating_mul(10)
+            .saturating_add(u32::from(digit.saturating_sub(48)));
+    }
+    value
+}
+
+// How many digits stand in front.
+fn digits(line: &[u8]) -> usize
+    ensures count { result ≡ prefix_len spec.is_digit line.now }
+    ensures within { result ≤ length line.now }
+{
+    line.iter().take_while(|byte| is_digit(**byte)).count()
+}
+
+fn are_digits(bytes: &[u8]) -> bool
+    ensures { result ≡ list_all spec.is_digit bytes.now }
+{
+    bytes.iter().all(|byte| is_digit(*byte))
+}
+
+// Whether these digits are a number: there are some, and no 0 stands in front of another.
+fn is_numeral(digits: &[u8]) -> bool
+    ensures { result ≡ spec.is_numeral digits.now }
+{
+    match digits {
+        [] => false,
+        [only] => is_digit(*only),
+        [first, ..] => *first >= 49 && are_digits(digits),
+    }
+}
+
+/// The number past the blanks, and what follows it. A number that is too great for its type is read as the greatest one.
+#[tactic(auto, unfolding(crate::specs::Tokens::number_at))]
+pub fn number(line: &[u8]) -> Option<(u32, &[u8])>
+    ensures { Finds (λ found. (found.0, found.1.now)) result (at.number_at line.now) }
+{
+    let line = past_blanks(line);
+    let (numeral, rest) = line.split_at(digits(line));
+    if is_numeral(numeral) {
+        Some((value_of(numeral), rest))
+    } else {
+        None
+    }
+}
+
+/// The number before the token, past the blanks, and what follows both.
+#[tactic(auto, unfolding(crate::specs::Tokens::number_before))]
+pub fn number_before<'a>(line: &'a [u8], token: &[u8]) -> Option<(u32, &'a [u8])>
+    ensures { Finds (λ found. (found.0, found.1.now)) result (at.number_before token.now line.now) }
+{
+    let (number, rest) = number(line)?;
+    let rest = sign(rest, token)?;
+    Some((number, rest))
+}
+
+// How many bytes stand before the next quote.
+fn unquoted(line: &[u8]) -> usize
+    ensures count { result ≡ prefix_len is_unquoted line.now }
+    ensures within { result ≤ length line.now }
+{
+    line.iter().take_while(|byte| **byte != 34).count()
+}
+
+// The bytes before the next quote, and what follows it.
+#[tactic(auto, unfolding(crate::specs::Tokens::closed_at))]
+fn closed(line: &[u8]) -> Option<(&[u8], &[u8])>
+    ensures { Finds (λ found. (found.0.now, found.1.now)) result (at.closed_at line.now) }
+{
+    let count = unquoted(line);
+    if count >= line.len() {
+        return None;
+    }
+    let (label, _) = line.split_at(count);
+    let (_, rest) = line.split_at(count + 1);
+    Some((label, rest))
+}
+
+/// The bytes between the quotes past the blanks, and what follows them.
+#[tactic(auto, unfolding(crate::specs::Tokens::quoted_at))]
+pub fn quoted(line: &[u8]) -> Option<(&[u8], &[u8])>
+    ensures { Finds (λ found. (found.0.now, found.1.now)) result (at.quoted_at line.now) }
+{
+    let rest = sign(line, b"\"")?;
+    closed(rest)
+}
+
+/// Whether only blanks follow.
+pub fn is_end(line: &[u8]) -> bool
+    ensures { result ≡ list_all spec.is_blank line.now }
+{
+    line.iter().all(|byte| is_blank(*byte))
+}
