@@ -204,19 +204,14 @@ action_written (Names []) s = word TauWord (tt, λ m k. ap not k)
 action_written (Names (x ∷ names)) s = names_written x names s.0.0 s.0.1
 action_written (Quoted bytes) s = word (Atom bytes) (s, λ m k. refl)
 action_written (NotAct a) s = prefixed NotSign (action_text a) (reg_tokens (canon_action a)) (tt, λ m. refl) (action_written a s)
-action_written (AndAct a b) s =
-    infix' AndSign (action_text a) (action_text b) (reg_tokens (canon_action a)) (reg_tokens (canon_action b)) (tt, λ m. refl) (action_written a s.0) (action_written b s.1)
-action_written (OrAct a b) s =
-    infix' OrSign (action_text a) (action_text b) (reg_tokens (canon_action a)) (reg_tokens (canon_action b)) (tt, λ m. refl) (action_written a s.0) (action_written b s.1)
-action_written (ImpliesAct a b) s =
-    infix' ImpliesSign (action_text a) (action_text b) (reg_tokens (canon_action a)) (reg_tokens (canon_action b)) (tt, λ m. refl) (action_written a s.0) (action_written b s.1)
+action_written (AndAct a b) s = infix' AndSign _ _ _ _ (tt, λ m. refl) (action_written a s.0) (action_written b s.1)
+action_written (OrAct a b) s = infix' OrSign _ _ _ _ (tt, λ m. refl) (action_written a s.0) (action_written b s.1)
+action_written (ImpliesAct a b) s = infix' ImpliesSign _ _ _ _ (tt, λ m. refl) (action_written a s.0) (action_written b s.1)
 
 regular_written : (r : Regular) → IsSpellableRegular r → Writes (regular_text r) (reg_tokens (canon_regular r))
 regular_written (Step a) s = action_written a s
-regular_written (Then r q) s =
-    infix' Dot (regular_text r) (regular_text q) (reg_tokens (canon_regular r)) (reg_tokens (canon_regular q)) (tt, λ m. refl) (regular_written r s.0) (regular_written q s.1)
-regular_written (Either r q) s =
-    infix' ChoiceSign (regular_text r) (regular_text q) (reg_tokens (canon_regular r)) (reg_tokens (canon_regular q)) (tt, λ m. refl) (regular_written r s.0) (regular_written q s.1)
+regular_written (Then r q) s = infix' Dot _ _ _ _ (tt, λ m. refl) (regular_written r s.0) (regular_written q s.1)
+regular_written (Either r q) s = infix' ChoiceSign _ _ _ _ (tt, λ m. refl) (regular_written r s.0) (regular_written q s.1)
 regular_written (Star r) s = postfixed StarSign (regular_text r) (reg_tokens (canon_regular r)) (tt, λ m. refl) (λ m. refl) (regular_written r s)
 regular_written (Plus r) s = postfixed PlusSign (regular_text r) (reg_tokens (canon_regular r)) (tt, λ m. refl) (λ m. refl) (regular_written r s)
 
@@ -228,9 +223,7 @@ formula_written (Not f) s = prefixed NotSign (canon f) (tokens (canon_syntax f))
 formula_written (And f g) s = infix' AndSign (canon f) (canon g) (tokens (canon_syntax f)) (tokens (canon_syntax g)) (tt, λ m. refl) (formula_written f s.0) (formula_written g s.1)
 formula_written (Or f g) s = infix' OrSign (canon f) (canon g) (tokens (canon_syntax f)) (tokens (canon_syntax g)) (tt, λ m. refl) (formula_written f s.0) (formula_written g s.1)
 formula_written (Implies f g) s = infix' ImpliesSign (canon f) (canon g) (tokens (canon_syntax f)) (tokens (canon_syntax g)) (tt, λ m. refl) (formula_written f s.0) (formula_written g s.1)
-formula_written (Dia r f) s =
-    modal Less Greater (regular_text r) (canon f) (reg_tokens (canon_regular r)) (tokens (canon_syntax f)) (tt, λ m. refl) (tt, λ m. refl) (λ m. refl) (regular_written r s.0) (formula_written f s.1)
-formula_written (Box r f) s =
-    modal OpenBox CloseBox (regular_text r) (canon f) (reg_tokens (canon_regular r)) (tokens (canon_syntax f)) (tt, λ m. refl) (tt, λ m. refl) (λ m. refl) (regular_written r s.0) (formula_written f s.1)
+formula_written (Dia r f) s = modal Less Greater _ _ _ _ (tt, λ m. refl) (tt, λ m. refl) (λ m. refl) (regular_written r s.0) (formula_written f s.1)
+formula_written (Box r f) s = modal OpenBox CloseBox _ _ _ _ (tt, λ m. refl) (tt, λ m. refl) (λ m. refl) (regular_written r s.0) (formula_written f s.1)
 formula_written (Mu name f) s = binder MuWord name (canon f) (tokens (canon_syntax f)) (tt, λ m k. ap not k) s.0 (formula_written f s.1)
 formula_written (Nu name f) s = binder NuWord name (canon f) (tokens (canon_syntax f)) (tt, λ m k. ap not k) s.0 (formula_written f s.1)

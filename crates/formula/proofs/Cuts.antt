@@ -1,9 +1,10 @@
 -- How fronts of a text join.
-use Rattle.std.specs.Prelude.{◌≡◌, ℕ, ◌+◌, ◌<◌, ◌≤◌, suc, zero, Bool, true, false, not, ◌&&◌, cond, List, [], ◌∷◌, ◌++◌, length, take, drop, IsTrue, refl}
+use Rattle.std.specs.Prelude.{◌≡◌, ℕ, ◌+◌, ◌<◌, ◌≤◌, suc, zero, Bool, true, false, not, cond, List, [], ◌∷◌, ◌++◌, length, take, drop, IsTrue, refl}
 use Rattle.std.specs.List.{list_all, list_any, take_while}
 use Rattle.std.specs.Str.{bytes_eq}
 use Rattle.std.proofs.Common.{arith, sym, ◌∙◌, ap, subst, append_assoc, true≢false, get_or, add-zero}
 use Rattle.std.proofs.Math.Seq.{take-add}
+use Rattle.std.proofs.lemmas.Bool.{and_parts}
 use Rattle.std.proofs.lemmas.List.{append-nil, length-drop, drop-drop, take-append-drop, length-take-le, take_more, length-append}
 use Rattle.std.proofs.lemmas.List.Sums.{take_while-cons}
 use Rattle.lts.specs.Text.{is_name_byte, is_letter}
@@ -77,13 +78,6 @@ run-of p (x ∷ xs) = subst (λ (n : ℕ). Run p (x ∷ xs) n) (ap length (sym (
 pub word-front : (t : Token) (n : ℕ) (text : List ℕ) → take n text ≡ spelling t → n ≤ length text → IsToken t → IsTrue (token_ends t (drop n text)) → IsFront (Word t ∷ []) n text
 word-front t n text e within valid ends = record { joined = e ∙ sym (append-nil (spelling t)); within = within; cut = (valid, ends, tt) }
 
-and_true : (a b : Bool) → IsTrue (a && b) → IsTrue b
-and_true true b h = h
-and_true false b h = absurd (true≢false (sym h))
-
-not_false : (b : Bool) → b ≡ false → IsTrue (not b)
-not_false b e = ap not e
-
 letter_named : (b : ℕ) → IsTrue (is_letter b) → is_name_byte b ≡ true
 letter_named b h = grind (arith)
 
@@ -92,8 +86,8 @@ pub named-front : (text : List ℕ) (n : ℕ) (t : Token) → 0 < length text �
 named-front [] n t some letter run named free = absurd (omega arith)
 named-front (x ∷ xs) zero t some letter run named free = absurd (true≢false (sym (letter_named x letter) ∙ run.ends))
 named-front (x ∷ xs) (suc n) t some letter run named free = record {
-  front = word-front t (suc n) (x ∷ xs) (sym named.spelled) run.within (named.valid (all_true _ _ letter (and_true _ _ run.passes)) free)
-      (let e : token_ends t (drop n xs) ≡ true = named.ends (drop n xs) ∙ not_false _ run.ends in e);
+  front = word-front t (suc n) (x ∷ xs) (sym named.spelled) run.within (named.valid (all_true _ _ letter (and_parts _ _ run.passes).1) free)
+      (let e : token_ends t (drop n xs) ≡ true = named.ends (drop n xs) ∙ ap not run.ends in e);
   some = omega arith;
 }
 

@@ -1,33 +1,13 @@
 -- Which arrows enter a set that a test tells.
-use Rattle.std.proofs.Common.{◌≡◌, ℕ, zero, suc, ◌↔◌, Bool, true, false, ◌&&◌, ◌||◌, List, [], ◌∷◌, nat_eq, refl, subst, ap, ◌∙◌, arith}
+use Rattle.std.proofs.Common.{◌≡◌, ℕ, ◌↔◌, Bool, true, ◌&&◌, nat_eq, refl, subst, ap, ◌∙◌}
 use Rattle.std.specs.Prelude.{IsTrue, Contains}
-use Rattle.std.specs.List.{list_any}
-use Rattle.std.proofs.lemmas.Bool.{eqb-true, eq-eqb}
+use Rattle.std.specs.List.{list_any, Any}
+use Rattle.std.proofs.lemmas.Bool.{and_parts, eqb-true, eq-eqb}
+use Rattle.std.proofs.lemmas.List.Folds.{Any-from_list_any, list_any-from_Any}
 use Rattle.lts.specs.System.{Arrow, System}
 use Rattle.formula.specs.Tree.{Action, Step}
 use Rattle.formula.specs.Holds.{holds}
 use Rattle.formula.specs.Meaning.{Leads}
-use Rattle.formula.proofs.Telling.{and_split}
-
-any_gives : (p : Arrow → Bool) (arrows : List Arrow) → list_any p arrows ≡ true → (a : Arrow) × Contains arrows a × (p a ≡ true)
-any_gives p [] e = cc
-any_gives p (x ∷ xs) e = go (any_gives p xs) (p x) refl e
-  where
-    later : ((a : Arrow) × Contains xs a × (p a ≡ true)) → (a : Arrow) × Contains (x ∷ xs) a × (p a ≡ true)
-    later (a, (k, h, q), i) = (a, (suc k, omega arith, q), i)
-
-    go : (list_any p xs ≡ true → (a : Arrow) × Contains xs a × (p a ≡ true)) → (b : Bool) → p x ≡ b → (b || list_any p xs) ≡ true → (a : Arrow) × Contains (x ∷ xs) a × (p a ≡ true)
-    go rest true i e = (x, (0, omega arith, refl), i)
-    go rest false i e = later (rest e)
-
-or_true : (b : Bool) → (b || true) ≡ true
-or_true true = refl
-or_true false = refl
-
-gives_any : (p : Arrow → Bool) (arrows : List Arrow) (a : Arrow) → Contains arrows a → p a ≡ true → list_any p arrows ≡ true
-gives_any p [] a (k, h, q) i = absurd (omega arith)
-gives_any p (x ∷ xs) a (zero, h, q) i = ap (λ b. b || list_any p xs) (ap p q ∙ i)
-gives_any p (x ∷ xs) a (suc k, h, q) i = ap (λ b. p x || b) (gives_any p xs a (k, omega arith, q) i) ∙ or_true (p x)
 
 -- the arrow leads from s by the action into the set
 abbrev pub enters : Action → (ℕ → Bool) → ℕ → Arrow → Bool
@@ -35,15 +15,13 @@ enters act u s a = nat_eq a.source s && (holds act a.label && u a.target)
 
 -- some arrow enters where the step leads into the set
 pub enters_leads : (l : System) (act : Action) (u : ℕ → Bool) (s : ℕ) → IsTrue (list_any (enters act u s) l.arrows) ↔ ((t : ℕ) × Leads l (Step act) s t × IsTrue (u t))
-enters_leads l act u s = (λ e. there (any_gives (enters act u s) l.arrows e), back)
+enters_leads l act u s = (λ e. there (Any-from_list_any (enters act u s) l.arrows e), λ w. list_any-from_Any (enters act u s) l.arrows (back w))
   where
-    there : ((a : Arrow) × Contains l.arrows a × (enters act u s a ≡ true)) → (t : ℕ) × Leads l (Step act) s t × IsTrue (u t)
-    there (a, has, e) =
-        let one = and_split (nat_eq a.source s) (holds act a.label && u a.target) e in
-        let two = and_split (holds act a.label) (u a.target) one.1 in
-        (a.target, (a.label, subst (λ x. Contains l.arrows (record { source = x; label = a.label; target = a.target })) (eqb-true a.source s one.0) has, two.0), two.1)
+    there : Any (λ a. enters act u s a ≡ true) l.arrows → (t : ℕ) × Leads l (Step act) s t × IsTrue (u t)
+    there (k, a, h, q, e) =
+        let one = and_parts (nat_eq a.source s) (holds act a.label && u a.target) e in
+        let two = and_parts (holds act a.label) (u a.target) one.1 in
+        (a.target, (a.label, subst (λ x. Contains l.arrows (record { source = x; label = a.label; target = a.target })) (eqb-true a.source s one.0) (k, h, q), two.0), two.1)
 
-    back : ((t : ℕ) × Leads l (Step act) s t × IsTrue (u t)) → IsTrue (list_any (enters act u s) l.arrows)
-    back (t, (label, arrow, it), m) =
-        gives_any (enters act u s) l.arrows (record { source = s; label = label; target = t }) arrow
-        (ap (λ b. b && (holds act label && u t)) (eq-eqb s s refl) ∙ ap (λ b. b && u t) it ∙ m)
+    back : ((t : ℕ) × Leads l (Step act) s t × IsTrue (u t)) → Any (λ a. enters act u s a ≡ true) l.arrows
+    back (t, (label, (k, h, q), it), m) = (k, record { source = s; label = label; target = t }, h, q, ap (λ b. b && (holds act label && u t)) (eq-eqb s s refl) ∙ ap (λ b. b && u t) it ∙ m)

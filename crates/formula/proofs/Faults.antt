@@ -3,7 +3,7 @@ use Rattle.std.specs.Prelude.{◌≡◌, ℕ, ◌+◌, ◌*◌, ◌<◌, ◌≤�
 use Rattle.std.proofs.Common.{arith, sym, ap, true≢false}
 use Rattle.std.proofs.lemmas.List.{length-append}
 use Rattle.formula.specs.Token.{AndSign, OrSign, ImpliesSign, Dot, ChoiceSign, StarSign, PlusSign}
-use Rattle.formula.specs.Syntax.{RegSyntax, Anything', Nothing', Tau', Names', Quoted', Parens', Not', And', Or', Implies', Star', Plus', Then', Either', reg_tokens, more_names, counts_as_action}
+use Rattle.formula.specs.Syntax.{RegSyntax, And', Or', Implies', Star', Plus', Then', Either', reg_tokens, more_names, counts_as_action}
 use Rattle.formula.specs.Fault.{operand_fault, reg_faults}
 use Rattle.formula.specs.Written.{infixed, joins_actions, infix_token}
 use Rattle.formula.specs.Checked.{IsChecked}
@@ -19,13 +19,6 @@ some-more : {A : Type 0} (xs ys : List A) → 0 < length xs → 0 < length (xs +
 some-more xs ys h = omega (arith, length-append xs ys)
 
 pub reg-some : (r : RegSyntax) → 0 < length (reg_tokens r)
-reg-some Anything' = omega arith
-reg-some Nothing' = omega arith
-reg-some Tau' = omega arith
-reg-some (Names' name names) = omega arith
-reg-some (Quoted' bytes) = omega arith
-reg-some (Parens' r) = omega arith
-reg-some (Not' r) = omega arith
 reg-some (And' r s) = some-more (reg_tokens r) (AndSign ∷ reg_tokens s) (reg-some r)
 reg-some (Or' r s) = some-more (reg_tokens r) (OrSign ∷ reg_tokens s) (reg-some r)
 reg-some (Implies' r s) = some-more (reg_tokens r) (ImpliesSign ∷ reg_tokens s) (reg-some r)
@@ -33,6 +26,7 @@ reg-some (Star' r) = some-more (reg_tokens r) (StarSign ∷ []) (reg-some r)
 reg-some (Plus' r) = some-more (reg_tokens r) (PlusSign ∷ []) (reg-some r)
 reg-some (Then' r s) = some-more (reg_tokens r) (Dot ∷ reg_tokens s) (reg-some r)
 reg-some (Either' r s) = some-more (reg_tokens r) (ChoiceSign ∷ reg_tokens s) (reg-some r)
+reg-some _ = omega arith
 
 pub first-left : {A : Type 0} (xs ys : List A) (x : A) → slice_get xs 0 ≡ Some x → slice_get (xs ++ ys) 0 ≡ Some x
 first-left [] ys x e = cc

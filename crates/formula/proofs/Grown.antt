@@ -6,7 +6,7 @@ use Rattle.lts.specs.System.{System, IsSystem}
 use Rattle.formula.specs.Tree.{Formula, True, False, Var, Not, And, Or, Implies, Dia, Box, Mu, Nu}
 use Rattle.formula.specs.Admitted.{Scope, negated, is_free_to_stand, is_admitted_in}
 use Rattle.formula.specs.Meaning.{Env, with_set, iterate, mean}
-use Rattle.formula.proofs.Telling.{and_split}
+use Rattle.std.proofs.lemmas.Bool.{and_parts}
 use Rattle.formula.proofs.Inside.{leads_inside}
 use Rattle.formula.proofs.Fixpoints.{IsWithin}
 
@@ -52,13 +52,13 @@ module _ (l : System) (ok : IsSystem l) where
   grown (Var name) scope e d p grows s lt h = grows.0 name p s lt h
   grown (Not f) scope e d p grows s lt h = λ m. h (grown f (negated scope) d e p (turned l.states scope e d grows) s lt m)
   grown (And f g) scope e d p grows s lt h =
-      let w = and_split (is_admitted_in scope f) (is_admitted_in scope g) p in
+      let w = and_parts (is_admitted_in scope f) (is_admitted_in scope g) p in
       (grown f scope e d w.0 grows s lt h.0, grown g scope e d w.1 grows s lt h.1)
   grown (Or f g) scope e d p grows s lt h =
-      let w = and_split (is_admitted_in scope f) (is_admitted_in scope g) p in
+      let w = and_parts (is_admitted_in scope f) (is_admitted_in scope g) p in
       elim h [ inl k ↦ inl (grown f scope e d w.0 grows s lt k) | inr k ↦ inr (grown g scope e d w.1 grows s lt k) ]
   grown (Implies f g) scope e d p grows s lt h =
-      let w = and_split (is_admitted_in (negated scope) f) (is_admitted_in scope g) p in
+      let w = and_parts (is_admitted_in (negated scope) f) (is_admitted_in scope g) p in
       λ m. grown g scope e d w.1 grows s lt (h (grown f (negated scope) d e w.0 (turned l.states scope e d grows) s lt m))
   grown (Dia r f) scope e d p grows s lt h = (h.0, h.1, grown f scope e d p grows h.0 (leads_inside l ok r s h.0 lt h.1) h.2)
   grown (Box r f) scope e d p grows s lt h = λ t go. grown f scope e d p grows t (leads_inside l ok r s t lt go) (h t go)

@@ -1,10 +1,11 @@
 -- How a text is cut into decided tokens, one after another.
-use Rattle.std.specs.Prelude.{◌≡◌, ℕ, ◌+◌, ◌<◌, ◌≤◌, suc, zero, Bool, true, false, not, ◌&&◌, List, [], ◌∷◌, ◌++◌, map, length, take, drop, IsTrue, IsFalse, refl, Option, Some, slice_get, if◌then◌else◌}
+use Rattle.std.specs.Prelude.{◌≡◌, ℕ, ◌+◌, ◌<◌, ◌≤◌, suc, zero, Bool, true, false, not, List, [], ◌∷◌, ◌++◌, map, length, take, drop, IsTrue, IsFalse, refl, Option, Some, slice_get, if◌then◌else◌}
 use Rattle.std.proofs.Common.{arith, sym, ◌∙◌, ap, subst, append_assoc, true≢false, zero-add}
 use Rattle.std.proofs.lemmas.List.{append-nil, map-append, drop_all, drop-drop, length-take-le, take-append-drop}
+use Rattle.std.proofs.lemmas.Bool.{and_parts}
 use Rattle.std.proofs.lemmas.Bool.Decides.{nat_tests}
 use Rattle.lts.specs.Text.{is_letter}
-use Rattle.formula.specs.Token.{Token, Name, Reserved, Atom, TrueWord, FalseWord, MuWord, NuWord, TauWord, ImpliesSign, OrSign, AndSign, Bar, NotSign, Less, Greater, OpenBox, CloseBox, Open, Close, Dot, ChoiceSign, PlusSign, StarSign, spelling, IsToken, is_free_name, Piece, Word, text_of, Cuts, tokens_of, offsets_from, is_decided, is_after_postfix, sign_is_decided, is_reserved, begins, token_ends}
+use Rattle.formula.specs.Token.{Token, Name, Reserved, ChoiceSign, PlusSign, spelling, IsToken, is_free_name, Piece, Word, text_of, Cuts, tokens_of, offsets_from, is_decided, is_after_postfix, sign_is_decided, is_reserved, begins, token_ends}
 use Rattle.formula.specs.Written.{token_of, words}
 use Rattle.formula.specs.Cutting.{IsFront, IsGap, IsFirst, IsDecidedBy, is_postfix_before, begins_gap, Heads, IsCut, IsLexed}
 use Rattle.formula.specs.declared.token.Token.{Token as Lexeme}
@@ -33,24 +34,17 @@ alike-choice t spelled valid ends false u e = subst (λ (v : Token). Alike t v) 
 alike : (t u : Token) (next : Option ℕ) → IsDecidedBy t next u → Alike t u
 alike ChoiceSign u next e = alike-choice ChoiceSign refl (λ v. v) (λ rest. refl) (is_postfix_before next) u e
 alike PlusSign u next e = alike-choice PlusSign refl (λ v. v) (λ rest. refl) (is_postfix_before next) u e
-alike (Name bytes) u next e = alike-same _ u e
-alike (Reserved bytes) u next e = alike-same _ u e
-alike (Atom bytes) u next e = alike-same _ u e
 alike t u next e = alike-same _ u e
 
 letter_no_postfix : (b : ℕ) → IsTrue (is_letter b) → is_postfix_before (Some b) ≡ false
 letter_no_postfix b h = grind (arith, nat_tests)
-
-front_true : (a b : Bool) → IsTrue (a && b) → IsTrue a
-front_true true b h = refl
-front_true false b h = absurd (true≢false (sym h))
 
 same_byte : (b c : ℕ) (bytes more : List ℕ) → c ∷ more ≡ b ∷ bytes → b ≡ c
 same_byte b c bytes more e = cc
 
 name_first : (bytes more : List ℕ) (b : ℕ) → IsTrue (is_free_name bytes) → bytes ≡ b ∷ more → false ≡ is_postfix_before (Some b)
 name_first [] more b h e = cc
-name_first (c ∷ cs) more b h e = sym (letter_no_postfix b (subst (λ (x : ℕ). IsTrue (is_letter x)) (sym (same_byte b c more cs e)) (front_true _ _ (front_true _ _ (front_true _ _ h)))))
+name_first (c ∷ cs) more b h e = sym (letter_no_postfix b (subst (λ (x : ℕ). IsTrue (is_letter x)) (sym (same_byte b c more cs e)) (and_parts _ _ (and_parts _ _ (and_parts _ _ h).0).0).0))
 
 fixed_first : (r : Bool) (b c : ℕ) (bytes more : List ℕ) → c ∷ more ≡ b ∷ bytes → r ≡ is_postfix_before (Some c) → r ≡ is_postfix_before (Some b)
 fixed_first r b c bytes more e p = p ∙ ap (λ x. is_postfix_before (Some x)) (sym (same_byte b c bytes more e))
@@ -59,27 +53,7 @@ fixed_first r b c bytes more e p = p ∙ ap (λ x. is_postfix_before (Some x)) (
 first_tells : (t : Token) (ts : List Token) (b : ℕ) (bytes : List ℕ) → spelling t ≡ b ∷ bytes → IsToken t → is_reserved t ≡ false → is_after_postfix (t ∷ ts) ≡ is_postfix_before (Some b)
 first_tells (Name name) ts b bytes e valid free = name_first name bytes b valid e
 first_tells (Reserved name) ts b bytes e valid free = absurd (true≢false free)
-first_tells (Atom name) ts b bytes e valid free = fixed_first false b 34 bytes _ e refl
-first_tells TrueWord ts b bytes e valid free = fixed_first false b 116 bytes _ e refl
-first_tells FalseWord ts b bytes e valid free = fixed_first false b 102 bytes _ e refl
-first_tells MuWord ts b bytes e valid free = fixed_first false b 109 bytes _ e refl
-first_tells NuWord ts b bytes e valid free = fixed_first false b 110 bytes _ e refl
-first_tells TauWord ts b bytes e valid free = fixed_first false b 116 bytes _ e refl
-first_tells ImpliesSign ts b bytes e valid free = fixed_first false b 61 bytes _ e refl
-first_tells OrSign ts b bytes e valid free = fixed_first false b 124 bytes _ e refl
-first_tells AndSign ts b bytes e valid free = fixed_first false b 38 bytes _ e refl
-first_tells Bar ts b bytes e valid free = fixed_first false b 124 bytes _ e refl
-first_tells NotSign ts b bytes e valid free = fixed_first false b 33 bytes _ e refl
-first_tells Less ts b bytes e valid free = fixed_first false b 60 bytes _ e refl
-first_tells Greater ts b bytes e valid free = fixed_first true b 62 bytes _ e refl
-first_tells OpenBox ts b bytes e valid free = fixed_first false b 91 bytes _ e refl
-first_tells CloseBox ts b bytes e valid free = fixed_first true b 93 bytes _ e refl
-first_tells Open ts b bytes e valid free = fixed_first false b 40 bytes _ e refl
-first_tells Close ts b bytes e valid free = fixed_first true b 41 bytes _ e refl
-first_tells Dot ts b bytes e valid free = fixed_first true b 46 bytes _ e refl
-first_tells ChoiceSign ts b bytes e valid free = fixed_first true b 43 bytes _ e refl
-first_tells PlusSign ts b bytes e valid free = fixed_first true b 43 bytes _ e refl
-first_tells StarSign ts b bytes e valid free = fixed_first true b 42 bytes _ e refl
+first_tells t ts b bytes e valid free = fixed_first _ b _ bytes _ e refl
 
 heads_tell : (ts : List Token) (rest : List ℕ) → Heads ts rest → is_after_postfix ts ≡ is_postfix_before (slice_get rest 0)
 heads_tell [] rest e = ap (λ r. is_postfix_before (slice_get r 0)) (sym e)
@@ -95,9 +69,6 @@ same_decided t u ts e h = subst (λ (v : Token). IsTrue (sign_is_decided v ts)) 
 decided-is : (t u : Token) (next : Option ℕ) (ts : List Token) → IsDecidedBy t next u → is_after_postfix ts ≡ is_postfix_before next → IsTrue (sign_is_decided u ts)
 decided-is ChoiceSign u next ts d e = choice_decided (is_postfix_before next) u ts d e
 decided-is PlusSign u next ts d e = choice_decided (is_postfix_before next) u ts d e
-decided-is (Name bytes) u next ts d e = same_decided _ u ts d refl
-decided-is (Reserved bytes) u next ts d e = same_decided _ u ts d refl
-decided-is (Atom bytes) u next ts d e = same_decided _ u ts d refl
 decided-is t u next ts d e = same_decided _ u ts d refl
 
 get-drop : (n : ℕ) (xs : List ℕ) → slice_get (drop n xs) 0 ≡ slice_get xs n

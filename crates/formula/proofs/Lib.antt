@@ -32,9 +32,7 @@ pub mod Decided
 pub mod Binders
 pub mod Faults
 pub mod Scopes
-pub mod Sorting
 pub mod Sense
-pub mod Faultless
 pub mod NoFault
 pub mod Refusals
 pub mod Misreads

@@ -12,7 +12,7 @@ use Rattle.formula.proofs.OneCut.{no_token_fault}
 use Rattle.formula.proofs.OneFront.{no_grammar_fault}
 use Rattle.formula.proofs.Unreserved.{written_tokens}
 use Rattle.formula.proofs.OneFault.{faults, First, first, variable_first}
-use Rattle.formula.proofs.Faultless.{meant_fine, admitted_fine}
+use Rattle.formula.proofs.Sense.{meant_fine, admitted_fine}
 
 faultless : (s : Syntax) (f : Formula) → meant s ≡ Some f → IsAdmitted f → faults s ≡ []
 faultless s f m h = variable_first _ _ [] (meant_fine s 0 (subst IsSome (sym m) refl)) (admitted_fine s [] 0 f m h)

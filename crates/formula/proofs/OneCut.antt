@@ -38,16 +38,14 @@ not_others (Comment bytes) ps free = free
 not_others (Word t) ps free = right_false (is_reserved t) _ free
 
 plain_text : (p : Piece) → piece_text (plain p) ≡ piece_text p
-plain_text (Blank byte) = refl
-plain_text (Comment bytes) = refl
 plain_text (Word PlusSign) = refl
 plain_text (Word t) = refl
+plain_text _ = refl
 
 plain_reserves : (p : Piece) → Reserves (plain p) → Reserves p
-plain_reserves (Blank byte) h = h
-plain_reserves (Comment bytes) h = h
 plain_reserves (Word PlusSign) h = h
 plain_reserves (Word t) h = h
+plain_reserves _ h = h
 
 -- Two fronts of pieces, none reserved, each before a text where no more stand, are of one length.
 same_front : (ps qs : List Piece) (m n : List ℕ) → Cuts ps m → Cuts qs n → IsFalse (list_any is_reserved (tokens_of ps)) → IsFalse (list_any is_reserved (tokens_of qs)) → Blocks m → Blocks n

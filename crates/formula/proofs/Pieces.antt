@@ -189,13 +189,12 @@ one_piece p q m n hp hq ep eq e =
 
 -- a piece has some bytes
 pub some_bytes : (p : Piece) (m : List ℕ) → IsPiece p → piece_text p ++ m ≡ [] → ⊥
-some_bytes (Blank byte) m h e = cc
-some_bytes (Comment bytes) m h e = cc
 some_bytes (Word (Name [])) m h e = cc
 some_bytes (Word (Name (b ∷ bytes))) m h e = cc
 some_bytes (Word (Reserved [])) m h e = cc
 some_bytes (Word (Reserved (b ∷ bytes))) m h e = cc
 some_bytes (Word t) m h e = cc
+some_bytes _ m h e = cc
 
 -- A text is cut into pieces in one way, apart from the kind of each `+`.
 pub same_pieces : (ps qs : List Piece) → Cuts ps [] → Cuts qs [] → text_of ps ≡ text_of qs → map plain ps ≡ map plain qs

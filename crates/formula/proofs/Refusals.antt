@@ -1,6 +1,6 @@
 -- What a refusal says of its text.
-use Rattle.std.specs.Prelude.{◌≡◌, ℕ, nat_le, ◌+◌, ◌-◌, ◌<◌, ◌≤◌, List, [], ◌∷◌, ◌++◌, length, map, drop, take, Some, suc, slice_get, IsTrue}
-use Rattle.std.proofs.Common.{arith, refl, sym, ◌∙◌, ap, subst, append-nil, append_assoc, length-append, true≢false, inl, inr}
+use Rattle.std.specs.Prelude.{◌≡◌, ℕ, nat_le, ◌+◌, ◌-◌, ◌<◌, ◌≤◌, ◌⊎◌, List, [], ◌∷◌, ◌++◌, length, map, drop, take, Some, suc, slice_get, IsTrue, Result, Ok, Err, MatchResult}
+use Rattle.std.proofs.Common.{arith, refl, sym, ◌∙◌, ap, subst, append-nil, append_assoc, length-append, true≢false, inl, inr, IsErrAnd}
 use Rattle.std.specs.List.{list_any}
 use Rattle.std.proofs.lemmas.Bool.{leb-true, and_parts}
 use Rattle.formula.specs.Token.{Token, is_reserved}
@@ -9,6 +9,7 @@ use Rattle.formula.specs.Syntax.{Syntax, meant, tokens, nesting, parens, is_with
 use Rattle.formula.specs.Spells.{IsWritten, Spells, SpellsWithin}
 use Rattle.formula.specs.Admitted.{IsAdmitted}
 use Rattle.formula.specs.Fault.{BeginsWithin, IsTokens, HasFault, operand_faults, variable_faults}
+use Rattle.formula.specs.View.{formula_of}
 use Rattle.formula.specs.Written.{words, state_syntax}
 use Rattle.formula.specs.Cutting.{IsLexed, IsTokenRefusal}
 use Rattle.formula.specs.Read.{IsWhole, IsRefusal, IsState, state_tokens, state_row}
@@ -17,6 +18,7 @@ use Rattle.formula.specs.Checked.{IsTreeRefusal, IsTold, NamesOnly, is_variable_
 use Rattle.formula.specs.declared.token.Placed.{Placed}
 use Rattle.formula.specs.declared.scope.Misplaced.{Misplaced}
 use Rattle.formula.specs.declared.state.ReadState.{ReadState}
+use Rattle.formula.specs.declared.tree.State.{State}
 use Rattle.formula.specs.declared.misread.Misread.{Misread}
 use Rattle.formula.specs.declared.misread.Misread.TheVariants as misread
 use Rattle.formula.specs.declared.error.FormulaFault.{FormulaFault}
@@ -30,6 +32,7 @@ use Rattle.formula.proofs.Misreads.{Parts, IsPlace, misread-within}
 use Rattle.formula.proofs.StateSpine.{Standing, one-state}
 use Rattle.formula.proofs.StateEnds.{begun-by, same-row}
 use Rattle.formula.proofs.RegularRefusals.{words-length}
+use Rattle.formula.proofs.Sense.{admitted_in}
 use Rattle.formula.proofs.NoFault.{no_fault}
 use Rattle.formula.proofs.OneFault.{one_fault}
 
@@ -242,6 +245,25 @@ tree-told text placed s (refused.Fault fault.NotAnAction offset) short l w r =
 tree-told text placed s (refused.Fault _ offset) short l w r =
     inr (short, inr (inr (l.pieces, s, r.0, r.1, written-as text placed s l w, w.within, r.2, r.3, ap (λ places. slice_get places r.0) l.places ∙ r.4)))
 tree-told text placed s refused.Memory short l w r = tt
+
+-- an error that `?` hands on
+pub refused_on : {T E : Type 0} (r : Result T E) (e : E) (P : T → Type 0) (Q : E → Type 0) → IsErrAnd r (λ x. x ≡ e) → Q e → MatchResult r P Q
+refused_on (Ok x) e P Q h q = absurd h
+refused_on (Err x) e P Q h q = subst Q (sym h) q
+
+-- what a written formula without faults means is admitted
+pub meant-admitted : (s : Syntax) (places : List ℕ) (r : Result State FormulaError) → variable_faults [] 0 s ≡ [] → MatchResult r (λ f. meant s ≡ Some (formula_of f)) (λ e. e ≡ refused.Memory)
+    → MatchResult r (λ f. (meant s ≡ Some (formula_of f)) × IsAdmitted (formula_of f)) (λ e. (e ≡ refused.Memory) ⊎ IsTreeRefusal s places e)
+meant-admitted s places (Ok f) none m = (m, admitted_in s [] 0 (formula_of f) none m)
+meant-admitted s places (Err e) none m = inl m
+
+-- what a written formula means, or its refusal, is the text's
+pub meaning-told : (text : List ℕ) (placed : List Placed) (s : Syntax) (r : Result State FormulaError) → length text ≤ 1048576 → IsLexed text placed → IsWhole s (words placed)
+    → MatchResult r (λ f. (meant s ≡ Some (formula_of f)) × IsAdmitted (formula_of f)) (λ e. (e ≡ refused.Memory) ⊎ IsTreeRefusal s (map (λ p. p.offset) placed) e)
+    → MatchResult r (λ f. SpellsWithin text (formula_of f) × IsAdmitted (formula_of f)) (IsTold text)
+meaning-told text placed s (Ok f) short l w m = (spelled-within text placed s (formula_of f) short l w m.0, m.1)
+meaning-told text placed s (Err e) short l w (inl m) = subst (IsTold text) (sym m) tt
+meaning-told text placed s (Err e) short l w (inr r) = tree-told text placed s e short l w r
 
 -- A refusal that tells the fault of its text refuses no good text for it.
 pub told-complete : (text : List ℕ) (e : FormulaError) → IsTold text e → (f : Formula) → SpellsWithin text f → IsAdmitted f → e ≡ refused.Memory

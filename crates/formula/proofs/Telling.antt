@@ -21,7 +21,3 @@ of_or false c P Q h k = (λ e. inr (k.0 e), λ x. elim x [ inl p ↦ absurd (fal
 pub of_implies : (b c : Bool) (P Q : Type 0) → IsTrue b ↔ P → IsTrue c ↔ Q → IsTrue (not b || c) ↔ (P → Q)
 of_implies true c P Q h k = (λ e _. k.0 e, λ f. k.1 (f (h.0 refl)))
 of_implies false c P Q h k = (λ _ p. absurd (false_is_none (h.1 p)), λ _. refl)
-
-pub and_split : (b c : Bool) → IsTrue (b && c) → IsTrue b × IsTrue c
-and_split true c h = (refl, h)
-and_split false c h = absurd (false_is_none h)

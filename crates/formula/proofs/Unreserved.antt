@@ -4,7 +4,7 @@ use Rattle.std.specs.List.{list_any}
 use Rattle.std.proofs.Common.{◌∙◌, ap}
 use Rattle.std.proofs.lemmas.List.Folds.{list_any-append}
 use Rattle.formula.specs.Token.{Token, Close, AndSign, OrSign, ImpliesSign, StarSign, PlusSign, Dot, ChoiceSign, Greater, CloseBox, Piece, is_reserved}
-use Rattle.formula.specs.Syntax.{RegSyntax, Anything', Nothing', Tau', Names', Quoted', Parens', Not', And', Or', Implies', Star', Plus', Then', Either', more_names, reg_tokens, Syntax, True', False', Var', Group', Neg', Both', OneOf', If', Dia', Box', Mu', Nu', tokens}
+use Rattle.formula.specs.Syntax.{RegSyntax, Names', Parens', Not', And', Or', Implies', Star', Plus', Then', Either', more_names, reg_tokens, Syntax, Group', Neg', Both', OneOf', If', Dia', Box', Mu', Nu', tokens}
 use Rattle.formula.specs.Fault.{IsTokens}
 use Rattle.formula.specs.Spells.{IsWritten}
 
@@ -16,11 +16,7 @@ names_free [] = refl
 names_free (name ∷ names) = names_free names
 
 reg_free : (r : RegSyntax) → IsFalse (list_any is_reserved (reg_tokens r))
-reg_free Anything' = refl
-reg_free Nothing' = refl
-reg_free Tau' = refl
 reg_free (Names' name names) = names_free names
-reg_free (Quoted' bytes) = refl
 reg_free (Parens' r) = any_append (reg_tokens r) (Close ∷ []) (reg_free r) refl
 reg_free (Not' r) = reg_free r
 reg_free (And' r s) = any_append (reg_tokens r) (AndSign ∷ reg_tokens s) (reg_free r) (reg_free s)
@@ -30,11 +26,9 @@ reg_free (Star' r) = any_append (reg_tokens r) (StarSign ∷ []) (reg_free r) re
 reg_free (Plus' r) = any_append (reg_tokens r) (PlusSign ∷ []) (reg_free r) refl
 reg_free (Then' r s) = any_append (reg_tokens r) (Dot ∷ reg_tokens s) (reg_free r) (reg_free s)
 reg_free (Either' r s) = any_append (reg_tokens r) (ChoiceSign ∷ reg_tokens s) (reg_free r) (reg_free s)
+reg_free _ = refl
 
 free : (s : Syntax) → IsFalse (list_any is_reserved (tokens s))
-free True' = refl
-free False' = refl
-free (Var' name) = refl
 free (Group' f) = any_append (tokens f) (Close ∷ []) (free f) refl
 free (Neg' f) = free f
 free (Both' f g) = any_append (tokens f) (AndSign ∷ tokens g) (free f) (free g)
@@ -44,6 +38,7 @@ free (Dia' r f) = any_append (reg_tokens r) (Greater ∷ tokens f) (reg_free r) 
 free (Box' r f) = any_append (reg_tokens r) (CloseBox ∷ tokens f) (reg_free r) (free f)
 free (Mu' name f) = free f
 free (Nu' name f) = free f
+free _ = refl
 
 -- A text that is written as a formula is all tokens, none reserved.
 pub written_tokens : (text : List ℕ) (pieces : List Piece) (s : Syntax) → IsWritten text pieces s → IsTokens text pieces

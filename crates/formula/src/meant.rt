@@ -1,10 +1,11 @@
 // Makes the formula that is written, without its parentheses.
 
-ghost use Rattle.std.specs.Prelude.{◌≡◌, ◌∷◌, map, Some, IsSome, MatchResult};
+ghost use Rattle.std.specs.Prelude.{◌≡◌, ◌∷◌, map, option_map, Some, IsSome, MatchResult};
 ghost use Rattle.lts.specs.Label.{multiset as multiset_of};
-ghost use Rattle.formula.specs.Syntax.{action_meant, regular_meant, meant};
+ghost use Rattle.formula.specs.Syntax.{action_meant, regular_meant, meant, Not', Then', Either', Neg'};
+ghost use Rattle.formula.specs.Tree.{Names, Quoted, Step, Var};
 ghost use Rattle.formula.specs.View.{action_of, regular_of, formula_of};
-ghost use Rattle.formula.specs.Written.{reg_syntax, state_syntax};
+ghost use Rattle.formula.specs.Written.{reg_syntax, state_syntax, infixed, repeated, joined, modal, bound};
 
 use crate::error::FormulaError;
 use crate::room::boxed;
@@ -37,7 +38,24 @@ fn multiset(alloc: Global, first: &[u8], others: &[&[u8]]) -> Result<Vec<Vec<u8>
     Ok(names)
 }
 
+/// The action formula of these names.
+fn named(alloc: Global, first: &[u8], others: &[&[u8]]) -> Result<Act, FormulaError>
+    ensures { MatchResult result
+        (λ a. action_of a ≡ Names (multiset_of (first.now ∷ map (λ name. name.now) others.now)))
+        (λ e. e ≡ FormulaError.Memory) }
+{
+    Ok(Act::Names(multiset(alloc, first, others)?))
+}
+
+/// The action formula of a quoted atom.
+fn quoted(alloc: Global, bytes: &[u8]) -> Result<Act, FormulaError>
+    ensures { MatchResult result (λ a. action_of a ≡ Quoted bytes.now) (λ e. e ≡ FormulaError.Memory) }
+{
+    Ok(Act::Quoted(copied(alloc, bytes)?))
+}
+
 /// The action formula that is written, of one that counts as an action formula throughout.
+#[cycle(actions)]
 fn action(alloc: Global, written: &WrittenRegular) -> Result<Act, FormulaError>
     requires { IsSome (action_meant (reg_syntax written.now)) }
     ensures { MatchResult result (λ a. action_meant (reg_syntax written.now) ≡ Some (action_of a)) (λ e. e ≡ FormulaError.Memory) }
@@ -46,51 +64,144 @@ fn action(alloc: Global, written: &WrittenRegular) -> Result<Act, FormulaError>
         WrittenRegular::True => Ok(Act::True),
         WrittenRegular::False => Ok(Act::False),
         WrittenRegular::Tau => Ok(Act::Names(Vec::new(alloc))),
-        WrittenRegular::Names(first, others) => Ok(Act::Names(multiset(alloc, first, others)?)),
-        WrittenRegular::Quoted(bytes) => Ok(Act::Quoted(copied(alloc, bytes)?)),
+        WrittenRegular::Names(first, others) => named(alloc, first, others),
+        WrittenRegular::Quoted(bytes) => quoted(alloc, bytes),
         WrittenRegular::Parens(inner) => action(alloc, inner),
-        WrittenRegular::Not(inner) => Ok(Act::Not(boxed(alloc, action(alloc, inner)?)?)),
-        WrittenRegular::Joined(sign, left, right) => {
-            let left = boxed(alloc, action(alloc, left)?)?;
-            let right = boxed(alloc, action(alloc, right)?)?;
-            match sign {
-                Infix::And => Ok(Act::And(left, right)),
-                Infix::Or => Ok(Act::Or(left, right)),
-                Infix::Implies => Ok(Act::Implies(left, right)),
-                Infix::Then | Infix::Either => unreachable!(),
-            }
-        }
+        WrittenRegular::Not(inner) => negated_action(alloc, inner),
+        WrittenRegular::Joined(sign, left, right) => joined_action(alloc, *sign, left, right),
         WrittenRegular::Repeated(_, _) => unreachable!(),
     }
 }
 
+/// The action formula that is written, in a box.
+#[cycle(actions)]
+fn action_operand(alloc: Global, written: &WrittenRegular) -> Result<Box<Act>, FormulaError>
+    requires { IsSome (action_meant (reg_syntax written.now)) }
+    ensures { MatchResult result (λ a. action_meant (reg_syntax written.now) ≡ Some (action_of a.value)) (λ e. e ≡ FormulaError.Memory) }
+{
+    Ok(boxed(alloc, action(alloc, written)?)?)
+}
+
+/// The negation of an action formula.
+#[cycle(actions)]
+fn negated_action(alloc: Global, inner: &WrittenRegular) -> Result<Act, FormulaError>
+    requires { IsSome (action_meant (Not' (reg_syntax inner.now))) }
+    ensures { MatchResult result (λ a. action_meant (Not' (reg_syntax inner.now)) ≡ Some (action_of a)) (λ e. e ≡ FormulaError.Memory) }
+{
+    Ok(Act::Not(action_operand(alloc, inner)?))
+}
+
+/// Two action formulas with a sign between them.
+#[cycle(actions)]
+fn joined_action(
+    alloc: Global,
+    sign: Infix,
+    left: &WrittenRegular,
+    right: &WrittenRegular,
+) -> Result<Act, FormulaError>
+    requires { IsSome (action_meant (infixed sign (reg_syntax left.now) (reg_syntax right.now))) }
+    ensures { MatchResult result
+        (λ a. action_meant (infixed sign (reg_syntax left.now) (reg_syntax right.now)) ≡ Some (action_of a))
+        (λ e. e ≡ FormulaError.Memory) }
+{
+    let left = action_operand(alloc, left)?;
+    let right = action_operand(alloc, right)?;
+    match sign {
+        Infix::And => Ok(Act::And(left, right)),
+        Infix::Or => Ok(Act::Or(left, right)),
+        Infix::Implies => Ok(Act::Implies(left, right)),
+        Infix::Then | Infix::Either => unreachable!(),
+    }
+}
+
 /// The regular formula that is written.
+#[cycle(regulars)]
 fn regular(alloc: Global, written: &WrittenRegular) -> Result<Reg, FormulaError>
     requires { IsSome (regular_meant (reg_syntax written.now)) }
     ensures { MatchResult result (λ r. regular_meant (reg_syntax written.now) ≡ Some (regular_of r)) (λ e. e ≡ FormulaError.Memory) }
 {
     match written {
         WrittenRegular::Parens(inner) => regular(alloc, inner),
-        WrittenRegular::Repeated(repeat, inner) => {
-            let inner = boxed(alloc, regular(alloc, inner)?)?;
-            match repeat {
-                Repeat::Star => Ok(Reg::Star(inner)),
-                Repeat::Plus => Ok(Reg::Plus(inner)),
-            }
-        }
-        WrittenRegular::Joined(Infix::Then, left, right) => {
-            let left = boxed(alloc, regular(alloc, left)?)?;
-            Ok(Reg::Seq(left, boxed(alloc, regular(alloc, right)?)?))
-        }
-        WrittenRegular::Joined(Infix::Either, left, right) => {
-            let left = boxed(alloc, regular(alloc, left)?)?;
-            Ok(Reg::Choice(left, boxed(alloc, regular(alloc, right)?)?))
-        }
-        _ => Ok(Reg::Act(action(alloc, written)?)),
+        WrittenRegular::Repeated(repeat, inner) => repeated_regular(alloc, *repeat, inner),
+        WrittenRegular::Joined(Infix::Then, left, right) => sequence(alloc, left, right),
+        WrittenRegular::Joined(Infix::Either, left, right) => choice(alloc, left, right),
+        _ => step(alloc, written),
     }
 }
 
+/// The regular formula of the action formula that is written.
+fn step(alloc: Global, written: &WrittenRegular) -> Result<Reg, FormulaError>
+    requires { IsSome (action_meant (reg_syntax written.now)) }
+    ensures { MatchResult result (λ r. option_map Step (action_meant (reg_syntax written.now)) ≡ Some (regular_of r)) (λ e. e ≡ FormulaError.Memory) }
+{
+    Ok(Reg::Act(action(alloc, written)?))
+}
+
+/// A regular formula under a postfix sign.
+#[cycle(regulars)]
+fn repeated_regular(
+    alloc: Global,
+    sign: Repeat,
+    inner: &WrittenRegular,
+) -> Result<Reg, FormulaError>
+    requires { IsSome (regular_meant (repeated sign (reg_syntax inner.now))) }
+    ensures { MatchResult result
+        (λ r. regular_meant (repeated sign (reg_syntax inner.now)) ≡ Some (regular_of r))
+        (λ e. e ≡ FormulaError.Memory) }
+{
+    let inner = regular_operand(alloc, inner)?;
+    match sign {
+        Repeat::Star => Ok(Reg::Star(inner)),
+        Repeat::Plus => Ok(Reg::Plus(inner)),
+    }
+}
+
+/// One regular formula after another.
+#[cycle(regulars)]
+fn sequence(
+    alloc: Global,
+    first: &WrittenRegular,
+    second: &WrittenRegular,
+) -> Result<Reg, FormulaError>
+    requires { IsSome (regular_meant (Then' (reg_syntax first.now) (reg_syntax second.now))) }
+    ensures { MatchResult result
+        (λ r. regular_meant (Then' (reg_syntax first.now) (reg_syntax second.now)) ≡ Some (regular_of r))
+        (λ e. e ≡ FormulaError.Memory) }
+{
+    let first = regular_operand(alloc, first)?;
+    Ok(Reg::Seq(first, regular_operand(alloc, second)?))
+}
+
+/// One of two regular formulas.
+#[cycle(regulars)]
+fn choice(alloc: Global, left: &WrittenRegular, right: &WrittenRegular) -> Result<Reg, FormulaError>
+    requires { IsSome (regular_meant (Either' (reg_syntax left.now) (reg_syntax right.now))) }
+    ensures { MatchResult result
+        (λ r. regular_meant (Either' (reg_syntax left.now) (reg_syntax right.now)) ≡ Some (regular_of r))
+        (λ e. e ≡ FormulaError.Memory) }
+{
+    let left = regular_operand(alloc, left)?;
+    Ok(Reg::Choice(left, regular_operand(alloc, right)?))
+}
+
+/// The regular formula that is written, in a box.
+#[cycle(regulars)]
+fn regular_operand(alloc: Global, written: &WrittenRegular) -> Result<Box<Reg>, FormulaError>
+    requires { IsSome (regular_meant (reg_syntax written.now)) }
+    ensures { MatchResult result (λ r. regular_meant (reg_syntax written.now) ≡ Some (regular_of r.value)) (λ e. e ≡ FormulaError.Memory) }
+{
+    Ok(boxed(alloc, regular(alloc, written)?)?)
+}
+
+/// The variable of this name.
+fn variable(alloc: Global, name: &[u8]) -> Result<State, FormulaError>
+    ensures { MatchResult result (λ f. formula_of f ≡ Var name.now) (λ e. e ≡ FormulaError.Memory) }
+{
+    Ok(State::Var(copied(alloc, name)?))
+}
+
 /// The state formula that is written, of one each of whose operands inside modalities may stand there.
+#[cycle(states)]
 pub fn state(alloc: Global, written: &WrittenState) -> Result<State, FormulaError>
     requires { IsSome (meant (state_syntax written.now)) }
     ensures { MatchResult result (λ f. meant (state_syntax written.now) ≡ Some (formula_of f)) (λ e. e ≡ FormulaError.Memory) }
@@ -98,33 +209,95 @@ pub fn state(alloc: Global, written: &WrittenState) -> Result<State, FormulaErro
     match written {
         WrittenState::True => Ok(State::True),
         WrittenState::False => Ok(State::False),
-        WrittenState::Var(name) => Ok(State::Var(copied(alloc, name)?)),
+        WrittenState::Var(name) => variable(alloc, name),
         WrittenState::Group(inner) => state(alloc, inner),
-        WrittenState::Not(inner) => Ok(State::Not(boxed(alloc, state(alloc, inner)?)?)),
-        WrittenState::Joined(sign, left, right) => {
-            let left = boxed(alloc, state(alloc, left)?)?;
-            let right = boxed(alloc, state(alloc, right)?)?;
-            match sign {
-                Connective::And => Ok(State::And(left, right)),
-                Connective::Or => Ok(State::Or(left, right)),
-                Connective::Implies => Ok(State::Implies(left, right)),
-            }
-        }
-        WrittenState::Modal(brackets, inside, inner) => {
-            let inside = regular(alloc, inside)?;
-            let inner = boxed(alloc, state(alloc, inner)?)?;
-            match brackets {
-                Brackets::Diamond => Ok(State::Dia(inside, inner)),
-                Brackets::Box => Ok(State::Box(inside, inner)),
-            }
-        }
-        WrittenState::Bind(binder, name, inner) => {
-            let name = copied(alloc, name)?;
-            let inner = boxed(alloc, state(alloc, inner)?)?;
-            match binder {
-                Binder::Mu => Ok(State::Mu(name, inner)),
-                Binder::Nu => Ok(State::Nu(name, inner)),
-            }
-        }
+        WrittenState::Not(inner) => negated_state(alloc, inner),
+        WrittenState::Joined(sign, left, right) => joined_state(alloc, *sign, left, right),
+        WrittenState::Modal(brackets, inside, inner) => modal_state(
+            alloc, *brackets, inside, inner,
+        ),
+        WrittenState::Bind(binder, name, inner) => bound_state(alloc, *binder, name, inner),
+    }
+}
+
+/// The state formula that is written, in a box.
+#[cycle(states)]
+fn operand(alloc: Global, written: &WrittenState) -> Result<Box<State>, FormulaError>
+    requires { IsSome (meant (state_syntax written.now)) }
+    ensures { MatchResult result (λ f. meant (state_syntax written.now) ≡ Some (formula_of f.value)) (λ e. e ≡ FormulaError.Memory) }
+{
+    Ok(boxed(alloc, state(alloc, written)?)?)
+}
+
+/// The negation of a state formula.
+#[cycle(states)]
+fn negated_state(alloc: Global, inner: &WrittenState) -> Result<State, FormulaError>
+    requires { IsSome (meant (Neg' (state_syntax inner.now))) }
+    ensures { MatchResult result (λ f. meant (Neg' (state_syntax inner.now)) ≡ Some (formula_of f)) (λ e. e ≡ FormulaError.Memory) }
+{
+    Ok(State::Not(operand(alloc, inner)?))
+}
+
+/// Two state formulas with a sign between them.
+#[cycle(states)]
+fn joined_state(
+    alloc: Global,
+    sign: Connective,
+    left: &WrittenState,
+    right: &WrittenState,
+) -> Result<State, FormulaError>
+    requires { IsSome (meant (joined sign (state_syntax left.now) (state_syntax right.now))) }
+    ensures { MatchResult result
+        (λ f. meant (joined sign (state_syntax left.now) (state_syntax right.now)) ≡ Some (formula_of f))
+        (λ e. e ≡ FormulaError.Memory) }
+{
+    let left = operand(alloc, left)?;
+    let right = operand(alloc, right)?;
+    match sign {
+        Connective::And => Ok(State::And(left, right)),
+        Connective::Or => Ok(State::Or(left, right)),
+        Connective::Implies => Ok(State::Implies(left, right)),
+    }
+}
+
+/// A modality before a state formula.
+#[cycle(states)]
+fn modal_state(
+    alloc: Global,
+    brackets: Brackets,
+    inside: &WrittenRegular,
+    inner: &WrittenState,
+) -> Result<State, FormulaError>
+    requires { IsSome (meant (modal brackets (reg_syntax inside.now) (state_syntax inner.now))) }
+    ensures { MatchResult result
+        (λ f. meant (modal brackets (reg_syntax inside.now) (state_syntax inner.now)) ≡ Some (formula_of f))
+        (λ e. e ≡ FormulaError.Memory) }
+{
+    let inner = operand(alloc, inner)?;
+    let inside = regular(alloc, inside)?;
+    match brackets {
+        Brackets::Diamond => Ok(State::Dia(inside, inner)),
+        Brackets::Box => Ok(State::Box(inside, inner)),
+    }
+}
+
+/// A binder of a name before a state formula.
+#[cycle(states)]
+fn bound_state(
+    alloc: Global,
+    binder: Binder,
+    name: &[u8],
+    inner: &WrittenState,
+) -> Result<State, FormulaError>
+    requires { IsSome (meant (bound binder name.now (state_syntax inner.now))) }
+    ensures { MatchResult result
+        (λ f. meant (bound binder name.now (state_syntax inner.now)) ≡ Some (formula_of f))
+        (λ e. e ≡ FormulaError.Memory) }
+{
+    let name = copied(alloc, name)?;
+    let inner = operand(alloc, inner)?;
+    match binder {
+        Binder::Mu => Ok(State::Mu(name, inner)),
+        Binder::Nu => Ok(State::Nu(name, inner)),
     }
 }

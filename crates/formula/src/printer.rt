@@ -32,24 +32,25 @@ fn put_state<W: Write>(formula: &State, writer: &mut W) -> Result<(), WriteFault
         State::True => put(writer, b"true"),
         State::False => put(writer, b"false"),
         State::Var(name) => put(writer, name),
-        State::Not(operand) => {
-            put(writer, b"!")?;
-            put_state(operand, writer)
-        }
+        State::Not(operand) => put_signed(b"!", operand, writer),
         State::And(left, right) => put_pair(left, b" && ", right, writer),
         State::Or(left, right) => put_pair(left, b" || ", right, writer),
         State::Implies(left, right) => put_pair(left, b" => ", right, writer),
-        State::Dia(regular, operand) => {
-            put_modality(b"<", regular, b">", writer)?;
-            put_state(operand, writer)
-        }
-        State::Box(regular, operand) => {
-            put_modality(b"[", regular, b"]", writer)?;
-            put_state(operand, writer)
-        }
+        State::Dia(regular, operand) => put_modal(b"<", regular, b">", operand, writer),
+        State::Box(regular, operand) => put_modal(b"[", regular, b"]", operand, writer),
         State::Mu(name, body) => put_binder(b"(mu ", name, body, writer),
         State::Nu(name, body) => put_binder(b"(nu ", name, body, writer),
     }
+}
+
+/// Writes a sign and the formula after it.
+#[cycle(state_text)]
+fn put_signed<W: Write>(sign: &[u8], formula: &State, writer: &mut W) -> Result<(), WriteFault>
+    ensures wrote { Wrote (W.contents writer.old) (W.contents writer.new) result
+        (sign.now ++ canon (formula_of formula.now)) }
+{
+    put(writer, sign)?;
+    put_state(formula, writer)
 }
 
 #[cycle(state_text)]
@@ -60,12 +61,10 @@ fn put_pair<W: Write>(
     writer: &mut W,
 ) -> Result<(), WriteFault>
     ensures wrote { Wrote (W.contents writer.old) (W.contents writer.new) result
-        (codes "(" ++ (canon (formula_of left.now) ++ (sign.now ++ (canon (formula_of right.now) ++ codes ")")))) }
+        (codes "(" ++ (canon (formula_of left.now) ++ ((sign.now ++ canon (formula_of right.now)) ++ codes ")"))) }
 {
-    put(writer, b"(")?;
-    put_state(left, writer)?;
-    put(writer, sign)?;
-    put_state(right, writer)?;
+    put_signed(b"(", left, writer)?;
+    put_signed(sign, right, writer)?;
     put(writer, b")")
 }
 
@@ -81,23 +80,24 @@ fn put_binder<W: Write>(
 {
     put(writer, opening)?;
     put(writer, name)?;
-    put(writer, b". ")?;
-    put_state(body, writer)?;
+    put_signed(b". ", body, writer)?;
     put(writer, b")")
 }
 
-fn put_modality<W: Write>(
+#[cycle(state_text)]
+fn put_modal<W: Write>(
     opening: &[u8],
     regular: &Reg,
     closing: &[u8],
+    operand: &State,
     writer: &mut W,
 ) -> Result<(), WriteFault>
     ensures wrote { Wrote (W.contents writer.old) (W.contents writer.new) result
-        (opening.now ++ (regular_text (regular_of regular.now) ++ closing.now)) }
+        (opening.now ++ (regular_text (regular_of regular.now) ++ (closing.now ++ canon (formula_of operand.now)))) }
 {
     put(writer, opening)?;
     put_regular(regular, writer)?;
-    put(writer, closing)
+    put_signed(closing, operand, writer)
 }
 
 #[cycle(regular_text)]
@@ -109,15 +109,33 @@ fn put_regular<W: Write>(regular: &Reg, writer: &mut W) -> Result<(), WriteFault
         Reg::Act(action) => put_action(action, writer),
         Reg::Seq(first, second) => put_regular_pair(first, b" . ", second, writer),
         Reg::Choice(left, right) => put_regular_pair(left, b" + ", right, writer),
-        Reg::Star(operand) => {
-            put_regular(operand, writer)?;
-            put(writer, b"*")
-        }
-        Reg::Plus(operand) => {
-            put_regular(operand, writer)?;
-            put(writer, b"+")
-        }
+        Reg::Star(operand) => put_repeated(operand, b"*", writer),
+        Reg::Plus(operand) => put_repeated(operand, b"+", writer),
     }
+}
+
+/// Writes a regular formula and the sign after it.
+#[cycle(regular_text)]
+fn put_repeated<W: Write>(regular: &Reg, sign: &[u8], writer: &mut W) -> Result<(), WriteFault>
+    ensures wrote { Wrote (W.contents writer.old) (W.contents writer.new) result
+        (regular_text (regular_of regular.now) ++ sign.now) }
+{
+    put_regular(regular, writer)?;
+    put(writer, sign)
+}
+
+/// Writes a sign and the regular formula after it.
+#[cycle(regular_text)]
+fn put_signed_regular<W: Write>(
+    sign: &[u8],
+    regular: &Reg,
+    writer: &mut W,
+) -> Result<(), WriteFault>
+    ensures wrote { Wrote (W.contents writer.old) (W.contents writer.new) result
+        (sign.now ++ regular_text (regular_of regular.now)) }
+{
+    put(writer, sign)?;
+    put_regular(regular, writer)
 }
 
 #[cycle(regular_text)]
@@ -128,12 +146,10 @@ fn put_regular_pair<W: Write>(
     writer: &mut W,
 ) -> Result<(), WriteFault>
     ensures wrote { Wrote (W.contents writer.old) (W.contents writer.new) result
-        (codes "(" ++ (regular_text (regular_of left.now) ++ (sign.now ++ (regular_text (regular_of right.now) ++ codes ")")))) }
+        (codes "(" ++ (regular_text (regular_of left.now) ++ ((sign.now ++ regular_text (regular_of right.now)) ++ codes ")"))) }
 {
-    put(writer, b"(")?;
-    put_regular(left, writer)?;
-    put(writer, sign)?;
-    put_regular(right, writer)?;
+    put_signed_regular(b"(", left, writer)?;
+    put_signed_regular(sign, right, writer)?;
     put(writer, b")")
 }
 
@@ -147,14 +163,21 @@ fn put_action<W: Write>(action: &Act, writer: &mut W) -> Result<(), WriteFault>
         Act::False => put(writer, b"false"),
         Act::Names(names) => put_names(names, writer),
         Act::Quoted(bytes) => put_quoted(bytes, writer),
-        Act::Not(operand) => {
-            put(writer, b"!")?;
-            put_action(operand, writer)
-        }
+        Act::Not(operand) => put_signed_action(b"!", operand, writer),
         Act::And(left, right) => put_action_pair(left, b" && ", right, writer),
         Act::Or(left, right) => put_action_pair(left, b" || ", right, writer),
         Act::Implies(left, right) => put_action_pair(left, b" => ", right, writer),
     }
+}
+
+/// Writes a sign and the action formula after it.
+#[cycle(action_text)]
+fn put_signed_action<W: Write>(sign: &[u8], action: &Act, writer: &mut W) -> Result<(), WriteFault>
+    ensures wrote { Wrote (W.contents writer.old) (W.contents writer.new) result
+        (sign.now ++ action_text (action_of action.now)) }
+{
+    put(writer, sign)?;
+    put_action(action, writer)
 }
 
 #[cycle(action_text)]
@@ -165,12 +188,10 @@ fn put_action_pair<W: Write>(
     writer: &mut W,
 ) -> Result<(), WriteFault>
     ensures wrote { Wrote (W.contents writer.old) (W.contents writer.new) result
-        (codes "(" ++ (action_text (action_of left.now) ++ (sign.now ++ (action_text (action_of right.now) ++ codes ")")))) }
+        (codes "(" ++ (action_text (action_of left.now) ++ ((sign.now ++ action_text (action_of right.now)) ++ codes ")"))) }
 {
-    put(writer, b"(")?;
-    put_action(left, writer)?;
-    put(writer, sign)?;
-    put_action(right, writer)?;
+    put_signed_action(b"(", left, writer)?;
+    put_signed_action(sign, right, writer)?;
     put(writer, b")")
 }
 

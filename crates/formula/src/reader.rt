@@ -1,6 +1,8 @@
 // Reads formulas.
 
-ghost use Rattle.std.specs.Prelude.{◌≡◌, ℕ, ◌<◌, List, [], length, map, IfOk, IfErr, MatchResult, slice_get};
+ghost use Rattle.std.specs.Prelude.{◌≡◌, ◌⊎◌, ℕ, ◌<◌, ◌≤◌, List, [], length, map, Some, IfOk, IfErr, MatchResult, slice_get};
+ghost use Rattle.formula.specs.Syntax.{meant as meant_by};
+ghost use Rattle.formula.specs.Cutting.{IsLexed};
 ghost use Rattle.formula.specs.Written.{words, state_syntax};
 ghost use Rattle.formula.specs.Tree.{Formula};
 ghost use Rattle.formula.specs.Fault.{HasFault, operand_faults, variable_faults};
@@ -10,6 +12,7 @@ ghost use Rattle.formula.specs.Admitted.{IsAdmitted};
 ghost use Rattle.formula.specs.Checked.{IsTreeRefusal, IsTold, NamesOnly};
 ghost use Rattle.formula.specs.Spells.{Spells, SpellsWithin};
 ghost use Rattle.formula.specs.Closed.{closed_formula};
+ghost use Rattle.formula.specs.View.{formula_of};
 
 use crate::closed::Closed;
 use crate::error::{FormulaError, FormulaFault};
@@ -21,6 +24,7 @@ use crate::room::Room;
 use crate::scope::{Binders, variables};
 use crate::state::{ANY_STATE, state};
 use crate::token::Placed;
+use crate::tree::State;
 use crate::written::WrittenState;
 use std::alloc::Global;
 
@@ -97,6 +101,47 @@ fn check(tokens: &[Placed<'_>], written: &WrittenState<'_>) -> Result<(), Formul
     Ok(())
 }
 
+/// The formula that is meant by a written one, if each operand and each variable may stand where it does.
+fn meaning(
+    alloc: Global,
+    tokens: &[Placed<'_>],
+    written: &WrittenState<'_>,
+) -> Result<State, FormulaError>
+    requires { IsWhole (state_syntax written.now) (words tokens.now) }
+    ensures { let s = state_syntax written.now in MatchResult result
+        (λ f. (meant_by s ≡ Some (formula_of f)) × IsAdmitted (formula_of f))
+        (λ e. (e ≡ FormulaError.Memory) ⊎ IsTreeRefusal s (map (λ p. p.offset) tokens.now) e) }
+{
+    check(tokens, written)?;
+    meant::state(alloc, written)
+}
+
+/// The formula of a text that is cut into these tokens.
+fn formula(alloc: Global, text: &[u8], tokens: &[Placed<'_>]) -> Result<State, FormulaError>
+    requires short { length text.now ≤ 1048576 }
+    requires lexed { IsLexed text.now tokens.now }
+    ensures { MatchResult result (λ f. SpellsWithin text.now (formula_of f) × IsAdmitted (formula_of f)) (IsTold text.now) }
+{
+    match written(alloc, tokens) {
+        Ok(written) => meaning(alloc, tokens, &written),
+        Err(misread) => Err(grammar_refusal(tokens, text.len(), misread)),
+    }
+}
+
+/// The formula of a text, as a tree.
+fn tree(alloc: Global, text: &[u8]) -> Result<State, FormulaError>
+    ensures { MatchResult result (λ f. SpellsWithin text.now (formula_of f) × IsAdmitted (formula_of f)) (IsTold text.now) }
+{
+    if text.len() > LONGEST_TEXT {
+        return Err(FormulaError::Fault {
+            fault: FormulaFault::TooLarge,
+            offset: LONGEST_TEXT,
+        });
+    }
+    let tokens = tokens(alloc, text)?;
+    formula(alloc, text, &tokens)
+}
+
 /// The formula of a text, in the syntax of mCRL2's mcf without data.
 pub fn parse(alloc: Global, text: &[u8]) -> Result<Closed, FormulaError>
     ensures spelled { IfOk result (λ f. SpellsWithin text.now (closed_formula f)) }
@@ -109,17 +154,5 @@ pub fn parse(alloc: Global, text: &[u8]) -> Result<Closed, FormulaError>
     // A fault that is named is the one that decides.
     ensures fault { IfErr result (IsTold text.now) }
 {
-    if text.len() > LONGEST_TEXT {
-        return Err(FormulaError::Fault {
-            fault: FormulaFault::TooLarge,
-            offset: LONGEST_TEXT,
-        });
-    }
-    let tokens = tokens(alloc, text)?;
-    let written = match written(alloc, &tokens) {
-        Ok(written) => written,
-        Err(misread) => return Err(grammar_refusal(&tokens, text.len(), misread)),
-    };
-    check(&tokens, &written)?;
-    Ok(Closed::new(meant::state(alloc, &written)?))
+    Ok(Closed::new(tree(alloc, text)?))
 }
