@@ -1,13 +1,13 @@
 -- The successors of a modality, found by walking over the transitions of a state by target.
-use Rattle.std.proofs.Common.{◌≡◌, ◌==◌, ◌&&◌, ◌||◌, ◌+◌, ◌-◌, ◌≤◌, ◌<◌, ℕ, zero, suc, Bool, true, false, List, [], ◌∷◌, ◌++◌, length, map, filter, get_or, cond, inl, inr, refl, sym, ap, ◌∙◌, subst, arith, eq-eqb}
+use Rattle.std.proofs.Common.{◌≡◌, ◌==◌, ◌&&◌, ◌||◌, ◌+◌, ◌-◌, ◌≤◌, ◌<◌, ℕ, zero, suc, Bool, true, false, List, [], ◌∷◌, ◌++◌, length, map, filter, get_or, cond, inl, inr, refl, sym, ap, ◌∙◌, subst, arith, eq-eqb, drop, append_assoc}
 use Rattle.std.specs.Prelude.{nat_le, Some, slice_get, slice_index_or}
 use Rattle.std.specs.List.{list_any, AllByRecursion, range_with_len}
 use Rattle.std.specs.List.Sorted.{IsNonDecreasingBy, IsPermutation}
 use Rattle.std.proofs.lemmas.List.Sorted.{list_any-IsPermutation, All-permutation}
 use Rattle.std.proofs.Math.ListN.{get_or-append}
 use Rattle.std.proofs.Math.Seq.{get_or-append_seam}
-use Rattle.std.proofs.lemmas.Bool.{ne_eqb, leb-true, leb-false, and_parts, and_from, and_cases, and_left, and_right}
-use Rattle.std.proofs.lemmas.List.{length-map}
+use Rattle.std.proofs.lemmas.Bool.{ne_eqb, le-leb, lt-leb, leb-true, leb-false, and_parts, and_from, and_cases, and_left, and_right}
+use Rattle.std.proofs.lemmas.List.{drop_more, length-map}
 use Rattle.std.proofs.lemmas.List.Elements.{recursion_from_All, All-from_recursion}
 use Rattle.std.proofs.lemmas.Bool.Decides.{eqb_tells}
 use Rattle.lts.specs.System.{Arrow}
@@ -57,6 +57,31 @@ picks_rising p least limit (t ∷ row) h =
     second : (b c : Bool) → (b && c) ≡ true → c ≡ true
     second true c e = e
     second false c e = cc
+
+-- one transition of a walk: the walk so far, with what it will pick, is all
+module _ (p : Transition → Bool) (f : ℕ → ℕ) (least : ℕ) (row : List Transition) (i : ℕ) (d : Transition) (out all : List ℕ) (inside : i < length row) (before : out ++ map f (picks p least (drop i row)) ≡ all) where
+  abbrev here : Transition
+  here = get_or row i d
+
+  abbrev rest : List Transition
+  rest = drop (i + 1) row
+
+  step : (b : Bool) → (p here && nat_le least here.target) ≡ b → picks p least (drop i row) ≡ cond b (here.target ∷ picks p (here.target + 1) rest) (picks p least rest)
+  step b e = ap (picks p least) (drop_more row i d inside) ∙ ap (λ c. cond c (here.target ∷ picks p (here.target + 1) rest) (picks p least rest)) e
+
+  pub picked : p here ≡ true → least ≤ here.target → (out ++ f here.target ∷ []) ++ map f (picks p (here.target + 1) rest) ≡ all
+  picked takes le =
+      append_assoc out (f here.target ∷ []) (map f (picks p (here.target + 1) rest))
+      ∙ (ap (λ xs. out ++ map f xs) (sym (step true (and_from (p here) (nat_le least here.target) takes (le-leb least here.target le)))) ∙ before)
+
+  passed_over : (p here && nat_le least here.target) ≡ false → out ++ map f (picks p least rest) ≡ all
+  passed_over e = ap (λ xs. out ++ map f xs) (sym (step false e)) ∙ before
+
+  pub unlabelled : p here ≡ false → out ++ map f (picks p least rest) ≡ all
+  unlabelled without = passed_over (and_left (p here) (nat_le least here.target) without)
+
+  pub seen : here.target < least → out ++ map f (picks p least rest) ≡ all
+  seen lt = passed_over (and_right (p here) (nat_le least here.target) (lt-leb least here.target lt))
 
 -- some transition that passes goes there
 abbrev hits : (Transition → Bool) → List Transition → ℕ → Bool
