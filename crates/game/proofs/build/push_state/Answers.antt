@@ -5,7 +5,7 @@ use Rattle.normal.specs.View.{node_of}
 use Rattle.normal.specs.Normal.{normal_nodes}
 use Rattle.game.specs.Arena.{vertex_of}
 use Rattle.game.specs.Steps.{IsSetFor, IsRowOf, picks, is_in, vertex_by}
-use Rattle.game.proofs.Steps.{inside_below, vertex_is}
+use Rattle.game.proofs.Steps.{inside_below, node_numbered, vertex_is}
 use Rattle.game.proofs.Arenas.{vertices_more}
 use Rattle.game.proofs.build.push_state.Goals as goal
 
@@ -40,3 +40,6 @@ pub returns : goal.returns
 returns c =
     let nodes = normal_nodes c.args.form.now in
     c.loop-number.invariant ∙ ap (λ ns. c.args.builder.now ++ map (vertex_of c.args.lts.now.system (length nodes) c.args.state) ns) (take_all c.loop-number.number nodes (omega (arith, c.count-nodes.ensures.count, c.loop-number-test.false)))
+
+pub push_node-requires-clause-node : goal.push_node-requires-clause-node
+push_node-requires-clause-node c = node_numbered (normal_nodes c.args.form.now) c.count-nodes.result c.loop-number.number (node_of c.node.result.now) c.known.ensures c.count-nodes.ensures.count c.node.ensures
