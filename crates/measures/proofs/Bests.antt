@@ -10,12 +10,12 @@ use Rattle.std.proofs.lemmas.Option.{slice_get_cases}
 use Rattle.std.proofs.lemmas.Slice.Zip.{AllZip-long}
 use Rattle.game.specs.declared.player.Player.{Player}
 use Rattle.game.specs.declared.player.Player.TheVariants.{Even, Odd}
-use Rattle.game.specs.Game.{Vertex, Game, count, vertex}
+use Rattle.game.specs.Game.{Vertex, Game, IsGame, IsVertex, count, vertex}
 use Rattle.measures.specs.Measure.{Measure, Top, Counts, components, IsAtMost, IsBelow, IsMeasure, IsProg, measure_cmp}
 use Rattle.measures.specs.Progress.{IsBestFor, greater_of}
 use Rattle.measures.specs.Progs.{IsBetter, IsLiftOf, IsProgAt, IsProgUnder, bounds}
 use Rattle.measures.specs.View.{counts_of}
-use Rattle.measures.proofs.Lists.{all_weaker, contains_cases, contains_first, contains_later, contains_none}
+use Rattle.measures.proofs.Lists.{all_got, all_weaker, contains_cases, contains_first, contains_later, contains_none}
 use Rattle.measures.proofs.Measures.{at_most_both, at_most_itself, at_most_or_below, at_most_trans, below_at_most, prog, prog_more, top_prog}
 
 -- ------------------------------------------------------------------ vertices
@@ -29,6 +29,19 @@ vertex_tells {X = X} f g v y x at e = some_same (f x) y (ap (option_map f) (sym 
   where
     some_same : (a b : X) → Some a ≡ Some b → a ≡ b
     some_same a b q = cc
+
+module _ (g : Game) (game : IsGame g) (v : ℕ) (h : v < length g.vertices) where
+  here_is : (x : Vertex) × (vertex g v ≡ Some x) × IsVertex (length g.vertices) x
+  here_is = let x = vertex_here g v h in (x.0, x.1, all_got (IsVertex (length g.vertices)) g.vertices v x.0 game.vertices x.1)
+
+  pub its_priority : (p : ℕ) → option_map (λ x. x.priority) (vertex g v) ≡ Some p → p < 255
+  its_priority p e = let x = here_is in let same = vertex_tells (λ (y : Vertex). y.priority) g v p x.0 x.1 e in omega (arith, x.2.priority, same)
+
+  pub its_successors : (ts : List ℕ) → option_map (λ x. x.successors) (vertex g v) ≡ Some ts → AllByRecursion (λ t. t < length g.vertices) ts × (0 < length ts)
+  its_successors ts e =
+      let x = here_is in
+      let same = vertex_tells (λ (y : Vertex). y.successors) g v ts x.0 x.1 e in
+      (subst (AllByRecursion (λ t. t < length g.vertices)) same x.2.within, omega (arith, x.2.some, ap length same))
 
 -- ------------------------------------------------------------------ progs at a vertex
 

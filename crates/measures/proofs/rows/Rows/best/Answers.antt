@@ -40,3 +40,6 @@ loop-k-preserved c =
             (best_next_left c.args.player ms k (value c.loop-k.best) long c.loop-k.invariant.best (λ better. true≢false (sym (c.is_better.ensures.1 (rw (← order) at better)) ∙ w.if-is_better.false)));
       }
     ]
+
+pub compare-requires-clause-first : goal.compare-requires-clause-first
+compare-requires-clause-first c = all_or_inside (λ t. t < length c.args.self.now.values) c.args.places.now c.loop-k.k 0 c.requires.inside c.loop-k-test.true
