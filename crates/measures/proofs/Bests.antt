@@ -6,6 +6,7 @@ use Rattle.std.specs.declared.cmp.Ordering.{Ordering}
 use Rattle.std.specs.declared.cmp.Ordering.TheVariants.{Less, Equal, Greater}
 use Rattle.std.specs.Ordering.{is_gt, is_le}
 use Rattle.std.proofs.lemmas.List.{length-map}
+use Rattle.std.proofs.lemmas.List.Elements.{Contains-append_left, Contains-append_right}
 use Rattle.std.proofs.lemmas.Option.{slice_get_cases}
 use Rattle.std.proofs.lemmas.Slice.Zip.{AllZip-long}
 use Rattle.game.specs.declared.player.Player.{Player}
@@ -15,6 +16,7 @@ use Rattle.measures.specs.Measure.{Measure, Top, Counts, components, IsAtMost, I
 use Rattle.measures.specs.Progress.{IsBestFor, greater_of}
 use Rattle.measures.specs.Progs.{IsBetter, IsLiftOf, IsProgAt, IsProgUnder, bounds}
 use Rattle.measures.specs.View.{counts_of}
+use Rattle.game.proofs.Rows.{all_more}
 use Rattle.measures.proofs.Lists.{all_got, all_weaker, contains_cases, contains_first, contains_later, contains_none}
 use Rattle.measures.proofs.Measures.{at_most_both, at_most_itself, at_most_or_below, at_most_trans, below_at_most, prog, prog_more, top_prog}
 
@@ -70,21 +72,6 @@ pub best_single : (o : Player) (m : Measure) → IsBestFor o (m ∷ []) m
 best_single Even m = (contains_first m [], (at_most_itself m, tt))
 best_single Odd m = (contains_first m [], (at_most_itself m, tt))
 
-contains_front : {X : Type 0} (xs : List X) (x y : X) → Contains xs y → Contains (xs ++ x ∷ []) y
-contains_front [] x y c = absurd (contains_none y c)
-contains_front (z ∷ zs) x y c = elim (contains_cases z y zs c) [
-  | inl e ↦ subst (λ u. Contains (z ∷ (zs ++ x ∷ [])) u) e (contains_first z (zs ++ x ∷ []))
-  | inr d ↦ contains_later z y (zs ++ x ∷ []) (contains_front zs x y d)
-]
-
-contains_end : {X : Type 0} (xs : List X) (x : X) → Contains (xs ++ x ∷ []) x
-contains_end [] x = contains_first x []
-contains_end (z ∷ zs) x = contains_later z x (zs ++ x ∷ []) (contains_end zs x)
-
-all_end : {X : Type 0} (P : X → Type 0) (xs : List X) (x : X) → AllByRecursion P xs → P x → AllByRecursion P (xs ++ x ∷ [])
-all_end P [] x h p = (p, tt)
-all_end P (y ∷ ys) x h p = (h.0, all_end P ys x h.1 p)
-
 not_greater : (o : Ordering) → IsTrue (is_le o) → IsTrue (is_gt o) → ⊥
 not_greater Less h i = true≢false (sym i)
 not_greater Equal h i = true≢false (sym i)
@@ -101,14 +88,14 @@ greater_below a b h = elim (at_most_or_below b a) [ inl w ↦ w | inr w ↦ absu
 -- one measure more, which is better
 pub best_taken : (o : Player) (ms : List Measure) (b m : Measure) → IsBestFor o ms b → IsBetter o (measure_cmp m b) → IsBestFor o (ms ++ m ∷ []) m
 best_taken Even ms b m h better =
-    (contains_end ms m, all_end (λ k. IsAtMost m k) ms m (all_weaker (λ k. IsAtMost b k) (λ k. IsAtMost m k) ms (λ k. at_most_trans m b k (below_at_most m b better)) h.1) (at_most_itself m))
+    (Contains-append_right ms (m ∷ []) m (contains_first m []), all_more (λ k. IsAtMost m k) ms m (all_weaker (λ k. IsAtMost b k) (λ k. IsAtMost m k) ms (λ k. at_most_trans m b k (below_at_most m b better)) h.1) (at_most_itself m))
 best_taken Odd ms b m h better =
-    (contains_end ms m, all_end (λ k. IsAtMost k m) ms m (all_weaker (λ k. IsAtMost k b) (λ k. IsAtMost k m) ms (λ k l. at_most_trans k b m l (below_at_most b m (greater_below m b better))) h.1) (at_most_itself m))
+    (Contains-append_right ms (m ∷ []) m (contains_first m []), all_more (λ k. IsAtMost k m) ms m (all_weaker (λ k. IsAtMost k b) (λ k. IsAtMost k m) ms (λ k l. at_most_trans k b m l (below_at_most b m (greater_below m b better))) h.1) (at_most_itself m))
 
 -- or isn't
 pub best_left : (o : Player) (ms : List Measure) (b m : Measure) → IsBestFor o ms b → (IsBetter o (measure_cmp m b) → ⊥) → IsBestFor o (ms ++ m ∷ []) b
-best_left Even ms b m h never = (contains_front ms m b h.0, all_end (λ k. IsAtMost b k) ms m h.1 (elim (at_most_or_below m b) [ inl w ↦ absurd (never w) | inr w ↦ w ]))
-best_left Odd ms b m h never = (contains_front ms m b h.0, all_end (λ k. IsAtMost k b) ms m h.1 (not_gt (measure_cmp m b) never))
+best_left Even ms b m h never = (Contains-append_left ms (m ∷ []) b h.0, all_more (λ k. IsAtMost b k) ms m h.1 (elim (at_most_or_below m b) [ inl w ↦ absurd (never w) | inr w ↦ w ]))
+best_left Odd ms b m h never = (Contains-append_left ms (m ∷ []) b h.0, all_more (λ k. IsAtMost k b) ms m h.1 (not_gt (measure_cmp m b) never))
 
 -- the best of the first ones, and one more
 pub best_next_taken : (o : Player) (ms : List Measure) (k : ℕ) (b : Measure) → k < length ms → IsBestFor o (take k ms) b → IsBetter o (measure_cmp (slice_index_or ms k Top) b)

@@ -3,7 +3,7 @@ use Rattle.std.proofs.Common.{◌≡◌, ◌≢◌, ◌↔◌, ℕ, zero, suc, �
 use Rattle.std.specs.List.{AllByRecursion, range_with_len}
 use Rattle.std.specs.Ordering.{is_le}
 use Rattle.std.proofs.lemmas.Bool.Decides.{eqb_tells, leb_tells}
-use Rattle.std.proofs.lemmas.List.{get_or-set_other, get_or-set_same, get_or_past, length-replicate, length-set, get_or-replicate}
+use Rattle.std.proofs.lemmas.List.{drop_all, get_or-set_other, get_or-set_same, get_or_past, length-replicate, length-set, get_or-replicate}
 use Rattle.std.proofs.lemmas.List.Sums.{count_by-le-length}
 use Rattle.std.proofs.lemmas.Option.{slice_get-get_or}
 use Rattle.std.proofs.lemmas.List.FromFn.{length-range_with_len}
@@ -94,10 +94,6 @@ some_there o x e = subst (λ p. IsSome p) (sym e) refl
 all_of : {X : Type 0} (P : X → Type 0) (xs : List X) → ((x : X) → Contains xs x → P x) → AllByRecursion P xs
 all_of P [] f = tt
 all_of P (x ∷ xs) f = (f x (contains_first x xs), all_of P xs (λ y c. f y (contains_later x y xs c)))
-
-drop_all : (xs : List ℕ) → drop (length xs) xs ≡ []
-drop_all [] = refl
-drop_all (x ∷ xs) = drop_all xs
 
 -- different numbers below n are at most n
 apart_few : (n : ℕ) (seen : List ℕ) → Apart seen → AllByRecursion (λ x. x < n) seen → length seen ≤ n
@@ -264,7 +260,7 @@ module _ (g : Game) (game : IsGame g) (n wide high : ℕ) (many : n ≡ length g
   })
     where
       none_left : drop first vertices ≡ []
-      none_left = ap (λ k. drop k vertices) (start ∙ sym room_long) ∙ drop_all vertices
+      none_left = ap (λ k. drop k vertices) (start ∙ sym room_long) ∙ drop_all (length vertices) vertices (omega arith)
 
 -- ------------------------------------------------------------------ one entry more, or another in its place
 
@@ -415,4 +411,4 @@ module _ (of : Game) (values : Rows) (moves : List ℕ) (ranks new : Rows) (vert
   }
     where
       none_left : drop n vertices ≡ []
-      none_left = ap (λ k. drop k vertices) e ∙ drop_all vertices
+      none_left = ap (λ k. drop k vertices) e ∙ drop_all (length vertices) vertices (omega arith)
