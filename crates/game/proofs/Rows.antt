@@ -1,13 +1,16 @@
 -- The vertices of stored rows.
-use Rattle.std.proofs.Common.{◌≡◌, ◌==◌, ◌+◌, ◌≤◌, ◌<◌, ℕ, false, List, [], ◌∷◌, ◌++◌, length, take, drop, slice_index, cond, ap, sym, ◌∙◌, refl, arith, length-drop, length-append}
-use Rattle.std.specs.Prelude.{count_by, if◌then◌else◌}
+use Rattle.std.proofs.Common.{◌≡◌, ◌==◌, ◌+◌, ◌≤◌, ◌<◌, ℕ, false, List, [], ◌∷◌, ◌++◌, length, take, drop, slice_index, cond, ap, sym, ◌∙◌, refl, arith, map, get_or, Some, subst, length-drop, length-append}
+use Rattle.std.specs.Prelude.{count_by, if◌then◌else◌, option_map, slice_get}
 use Rattle.std.specs.List.{AllByRecursion, sum_by}
-use Rattle.std.proofs.lemmas.List.{take-append-le, drop-append-le, map-append}
+use Rattle.std.proofs.lemmas.List.{take-append-le, drop-append-le, length-map, map-append}
+use Rattle.std.proofs.lemmas.Option.{slice_get-map, slice_get_read}
 use Rattle.std.proofs.Math.Seq.{drop-append_seam}
 use Rattle.std.proofs.lemmas.List.Sums.{sum_by-append, sum_by-cons}
 use Rattle.std.proofs.lemmas.Bool.{ne_eqb}
-use Rattle.game.specs.Game.{Vertex, IsVertex}
-use Rattle.game.specs.View.{vertex_of_row, vertices_of, AreStored}
+use Rattle.std.proofs.lemmas.List.Elements.{All-from_recursion}
+use Rattle.game.specs.Game.{Game, Vertex, IsVertex, vertex}
+use Rattle.game.specs.View.{game_of, vertex_of_row, vertices_of, AreStored}
+use Rattle.game.specs.declared.graph.Game.TheInside.{Inside}
 use Rattle.game.specs.declared.graph.Row.{Row}
 
 -- what holds of each of the first and of one more holds of each
@@ -76,3 +79,22 @@ count_past n p [] h k = refl
 count_past n p (v ∷ vs) h k =
     let other : (v.priority == p) ≡ false = ne_eqb v.priority p (λ e. omega (arith, k.0.priority, e)) in
     sum_by-cons (λ (x : Vertex). cond (x.priority == p) 1 0) v vs ∙ rw (other, count_past n p vs h k.1)
+
+row_there : (i : Inside) (g : Game) (v : ℕ) → game_of i ≡ g → v < length g.vertices → v < length i.rows.items
+row_there i g v is h = omega (arith, h, length-map i.rows.items (vertex_of_row i.successors.items), ap (λ (h : Game). length h.vertices) is)
+
+-- A row's successors stand in the list.
+pub row_within : (i : Inside) (g : Game) (v : ℕ) (row : Row) → game_of i ≡ g → v < length g.vertices → row ≡ get_or i.rows.items v row → AllByRecursion (λ row. row.start + row.count ≤ length i.successors.items) i.rows.items
+    → row.start + row.count ≤ length i.successors.items
+row_within i g v row is h read within =
+    let Within = λ (r : Row). r.start + r.count ≤ length i.successors.items in
+    subst Within (sym read) (All-from_recursion Within i.rows.items within v row (row_there i g v is h))
+
+-- What is told of a vertex is told of its row.
+pub told : {X : Type 0} (f : Vertex → X) (i : Inside) (g : Game) (v : ℕ) (row : Row) → game_of i ≡ g → v < length g.vertices → row ≡ get_or i.rows.items v row → option_map f (vertex g v) ≡ Some (f (vertex_of_row i.successors.items row))
+told f i g v row is h read =
+    let rows = i.rows.items in
+    let of = vertex_of_row i.successors.items in
+    let same : map of rows ≡ g.vertices = ap (λ (h : Game). h.vertices) is in
+    let there = slice_get_read rows (length rows) v row refl (row_there i g v is h) read in
+    ap (λ xs. option_map f (slice_get xs v)) (sym same) ∙ ap (option_map f) (slice_get-map of rows v ∙ ap (option_map of) there)

@@ -1,15 +1,17 @@
 -- The successors of a modality, found by walking over the transitions of a state by target.
-use Rattle.std.proofs.Common.{◌≡◌, ◌==◌, ◌&&◌, ◌||◌, ◌+◌, ◌-◌, ◌≤◌, ◌<◌, ℕ, zero, suc, Bool, true, false, List, [], ◌∷◌, ◌++◌, length, map, filter, get_or, cond, inl, inr, refl, sym, ap, ◌∙◌, subst, arith, eq-eqb}
+use Rattle.std.proofs.Common.{◌≡◌, ◌==◌, ◌&&◌, ◌||◌, ◌+◌, ◌*◌, ◌-◌, ◌≤◌, ◌<◌, ℕ, zero, suc, Bool, true, false, List, [], ◌∷◌, ◌++◌, length, map, filter, get_or, cond, inl, inr, refl, sym, ap, ◌∙◌, subst, arith, eq-eqb, drop, append_assoc}
 use Rattle.std.specs.Prelude.{nat_le, Some, slice_get, slice_index_or}
 use Rattle.std.specs.List.{list_any, AllByRecursion, range_with_len}
 use Rattle.std.specs.List.Sorted.{IsNonDecreasingBy, IsPermutation}
 use Rattle.std.proofs.lemmas.List.Sorted.{list_any-IsPermutation, All-permutation}
 use Rattle.std.proofs.Math.ListN.{get_or-append}
 use Rattle.std.proofs.Math.Seq.{get_or-append_seam}
-use Rattle.std.proofs.lemmas.Bool.{ne_eqb, leb-true, leb-false, and_parts, and_from, and_cases, and_left, and_right}
-use Rattle.std.proofs.lemmas.List.{length-map}
+use Rattle.std.proofs.lemmas.Bool.{ne_eqb, le-leb, lt-leb, leb-true, leb-false, and_parts, and_from, and_cases, and_left, and_right}
+use Rattle.std.proofs.lemmas.List.{drop_more, length-map}
 use Rattle.std.proofs.lemmas.List.Elements.{recursion_from_All, All-from_recursion}
 use Rattle.std.proofs.lemmas.Bool.Decides.{eqb_tells}
+use Rattle.std.proofs.lemmas.Nat.{mul-add-lt}
+use Rattle.std.proofs.lemmas.Option.{get_or_from_slice_get, slice_get_within}
 use Rattle.lts.specs.System.{Arrow}
 use Rattle.lts.specs.Numbered.{Numbered, arrow_of, arrows_from, IsInside}
 use Rattle.lts.specs.declared.system.Transition.{Transition}
@@ -17,6 +19,7 @@ use Rattle.formula.specs.Tree.{Action}
 use Rattle.formula.specs.Holds.{holds}
 use Rattle.normal.specs.Tree.{Shape, ConstantNode, JunctionNode, ModalityNode, FixpointNode, VariableNode}
 use Rattle.normal.specs.Nodes.{Node}
+use Rattle.normal.specs.Form.{IsForm, IsNode}
 use Rattle.game.specs.Arena.{is_step, targets, place, or_else, owner_of, successors_of, vertex_of}
 use Rattle.game.specs.Steps.{IsSetOf, IsSetFor, IsRowOf, is_in, picks, successors_by, vertex_by}
 
@@ -57,6 +60,31 @@ picks_rising p least limit (t ∷ row) h =
     second : (b c : Bool) → (b && c) ≡ true → c ≡ true
     second true c e = e
     second false c e = cc
+
+-- one transition of a walk: the walk so far, with what it will pick, is all
+module _ (p : Transition → Bool) (f : ℕ → ℕ) (least : ℕ) (row : List Transition) (i : ℕ) (d : Transition) (out all : List ℕ) (inside : i < length row) (before : out ++ map f (picks p least (drop i row)) ≡ all) where
+  abbrev here : Transition
+  here = get_or row i d
+
+  abbrev rest : List Transition
+  rest = drop (i + 1) row
+
+  step : (b : Bool) → (p here && nat_le least here.target) ≡ b → picks p least (drop i row) ≡ cond b (here.target ∷ picks p (here.target + 1) rest) (picks p least rest)
+  step b e = ap (picks p least) (drop_more row i d inside) ∙ ap (λ c. cond c (here.target ∷ picks p (here.target + 1) rest) (picks p least rest)) e
+
+  pub picked : p here ≡ true → least ≤ here.target → (out ++ f here.target ∷ []) ++ map f (picks p (here.target + 1) rest) ≡ all
+  picked takes le =
+      append_assoc out (f here.target ∷ []) (map f (picks p (here.target + 1) rest))
+      ∙ (ap (λ xs. out ++ map f xs) (sym (step true (and_from (p here) (nat_le least here.target) takes (le-leb least here.target le)))) ∙ before)
+
+  passed_over : (p here && nat_le least here.target) ≡ false → out ++ map f (picks p least rest) ≡ all
+  passed_over e = ap (λ xs. out ++ map f xs) (sym (step false e)) ∙ before
+
+  pub unlabelled : p here ≡ false → out ++ map f (picks p least rest) ≡ all
+  unlabelled without = passed_over (and_left (p here) (nat_le least here.target) without)
+
+  pub seen : here.target < least → out ++ map f (picks p least rest) ≡ all
+  seen lt = passed_over (and_right (p here) (nat_le least here.target) (lt-leb least here.target lt))
 
 -- some transition that passes goes there
 abbrev hits : (Transition → Bool) → List Transition → ℕ → Bool
@@ -231,3 +259,16 @@ reached_few p row n child sink h = few (picks p 0 row) (rising_length 0 1000000 
 pub inside_below : (l : Numbered) (ts : List Transition) → l.system.states ≤ 1000000 → IsInside l ts → AllByRecursion (λ t. t.target < 1000000) ts
 inside_below l [] few i = tt
 inside_below l (t ∷ ts) few i = (omega (arith, i.0.target, few), inside_below l ts few i.1)
+
+pub target_low : (row : List Transition) (i : ℕ) (d : Transition) → AllByRecursion (λ t. t.target < 1000000) row → i < length row → (get_or row i d).target < 1000000
+target_low row i d h inside = All-from_recursion (λ (t : Transition). t.target < 1000000) row h i d inside
+
+-- The vertex of what is reached has a number that fits.
+pub place_low : (row : List Transition) (i nodes child : ℕ) (d : Transition) → AllByRecursion (λ t. t.target < 1000000) row → i < length row → nodes ≤ 4096 → child < nodes
+    → (get_or row i d).target * nodes + child < 4096000000
+place_low row i nodes child d h inside few below = omega (arith, few, mul-add-lt (get_or row i d).target nodes child 1000000 (target_low row i d h inside) below)
+
+-- A node of the form is within its numbers.
+pub node_numbered : (nodes : List Node) (n i : ℕ) (node : Node) → IsForm nodes → n ≡ length nodes → slice_get nodes i ≡ Some node → IsNode n node
+node_numbered nodes n i node form count is =
+    subst (λ k. IsNode k node) (sym count) (subst (IsNode (length nodes)) (get_or_from_slice_get nodes i node node is) (All-from_recursion (IsNode (length nodes)) nodes form.numbered i node (slice_get_within nodes i node is)))

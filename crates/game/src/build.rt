@@ -1,6 +1,6 @@
 // The parity game of a system and a normal form.
 
-ghost use Rattle.std.specs.Prelude.{◌≡◌, ◌+◌, ◌*◌, ◌<◌, ◌≤◌, ◌++◌, ◌∷◌, [], Bool, length, map, vec_len, IfOk, OnOk, OnErr, IfErr};
+ghost use Rattle.std.specs.Prelude.{◌≡◌, ◌+◌, ◌*◌, ◌<◌, ◌≤◌, ◌++◌, ◌∷◌, [], Bool, false, length, map, slice_index_or, vec_len, IfOk, OnOk, OnErr, IfErr};
 ghost use Rattle.std.specs.List.{AllByRecursion};
 ghost use Rattle.formula.specs.View.{action_of};
 ghost use Rattle.normal.specs.Form.{IsForm, IsNode};
@@ -57,6 +57,13 @@ fn sets(alloc: Global, lts: &Lts, form: &Normal) -> Result<Vec<Vec<bool>>, Alloc
     Ok(sets)
 }
 
+// Whether a label is in the set.
+fn has(set: &[bool], label: u32) -> bool
+    ensures { result ≡ slice_index_or set.now label false }
+{
+    set.get(label as usize).copied().unwrap_or(false)
+}
+
 // The vertices that a modality leads to, or else the sink.
 fn pick(
     reached: &mut Vec<u32>,
@@ -74,8 +81,7 @@ fn pick(
     reached.clear();
     let mut least = 0;
     for transition in row {
-        let passes = set.get(transition.label as usize).copied().unwrap_or(false);
-        if passes && least <= transition.target {
+        if has(set, transition.label) && least <= transition.target {
             reached.push(2 + (transition.target * nodes + child))?;
             least = transition.target + 1;
         }

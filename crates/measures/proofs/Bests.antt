@@ -6,16 +6,18 @@ use Rattle.std.specs.declared.cmp.Ordering.{Ordering}
 use Rattle.std.specs.declared.cmp.Ordering.TheVariants.{Less, Equal, Greater}
 use Rattle.std.specs.Ordering.{is_gt, is_le}
 use Rattle.std.proofs.lemmas.List.{length-map}
+use Rattle.std.proofs.lemmas.List.Elements.{Contains-append_left, Contains-append_right}
 use Rattle.std.proofs.lemmas.Option.{slice_get_cases}
 use Rattle.std.proofs.lemmas.Slice.Zip.{AllZip-long}
 use Rattle.game.specs.declared.player.Player.{Player}
 use Rattle.game.specs.declared.player.Player.TheVariants.{Even, Odd}
-use Rattle.game.specs.Game.{Vertex, Game, count, vertex}
+use Rattle.game.specs.Game.{Vertex, Game, IsGame, IsVertex, count, vertex}
 use Rattle.measures.specs.Measure.{Measure, Top, Counts, components, IsAtMost, IsBelow, IsMeasure, IsProg, measure_cmp}
 use Rattle.measures.specs.Progress.{IsBestFor, greater_of}
 use Rattle.measures.specs.Progs.{IsBetter, IsLiftOf, IsProgAt, IsProgUnder, bounds}
 use Rattle.measures.specs.View.{counts_of}
-use Rattle.measures.proofs.Lists.{all_weaker, contains_cases, contains_first, contains_later, contains_none}
+use Rattle.game.proofs.Rows.{all_more}
+use Rattle.measures.proofs.Lists.{all_got, all_weaker, contains_cases, contains_first, contains_later, contains_none}
 use Rattle.measures.proofs.Measures.{at_most_both, at_most_itself, at_most_or_below, at_most_trans, below_at_most, prog, prog_more, top_prog}
 
 -- ------------------------------------------------------------------ vertices
@@ -29,6 +31,19 @@ vertex_tells {X = X} f g v y x at e = some_same (f x) y (ap (option_map f) (sym 
   where
     some_same : (a b : X) → Some a ≡ Some b → a ≡ b
     some_same a b q = cc
+
+module _ (g : Game) (game : IsGame g) (v : ℕ) (h : v < length g.vertices) where
+  here_is : (x : Vertex) × (vertex g v ≡ Some x) × IsVertex (length g.vertices) x
+  here_is = let x = vertex_here g v h in (x.0, x.1, all_got (IsVertex (length g.vertices)) g.vertices v x.0 game.vertices x.1)
+
+  pub its_priority : (p : ℕ) → option_map (λ x. x.priority) (vertex g v) ≡ Some p → p < 255
+  its_priority p e = let x = here_is in let same = vertex_tells (λ (y : Vertex). y.priority) g v p x.0 x.1 e in omega (arith, x.2.priority, same)
+
+  pub its_successors : (ts : List ℕ) → option_map (λ x. x.successors) (vertex g v) ≡ Some ts → AllByRecursion (λ t. t < length g.vertices) ts × (0 < length ts)
+  its_successors ts e =
+      let x = here_is in
+      let same = vertex_tells (λ (y : Vertex). y.successors) g v ts x.0 x.1 e in
+      (subst (AllByRecursion (λ t. t < length g.vertices)) same x.2.within, omega (arith, x.2.some, ap length same))
 
 -- ------------------------------------------------------------------ progs at a vertex
 
@@ -57,21 +72,6 @@ pub best_single : (o : Player) (m : Measure) → IsBestFor o (m ∷ []) m
 best_single Even m = (contains_first m [], (at_most_itself m, tt))
 best_single Odd m = (contains_first m [], (at_most_itself m, tt))
 
-contains_front : {X : Type 0} (xs : List X) (x y : X) → Contains xs y → Contains (xs ++ x ∷ []) y
-contains_front [] x y c = absurd (contains_none y c)
-contains_front (z ∷ zs) x y c = elim (contains_cases z y zs c) [
-  | inl e ↦ subst (λ u. Contains (z ∷ (zs ++ x ∷ [])) u) e (contains_first z (zs ++ x ∷ []))
-  | inr d ↦ contains_later z y (zs ++ x ∷ []) (contains_front zs x y d)
-]
-
-contains_end : {X : Type 0} (xs : List X) (x : X) → Contains (xs ++ x ∷ []) x
-contains_end [] x = contains_first x []
-contains_end (z ∷ zs) x = contains_later z x (zs ++ x ∷ []) (contains_end zs x)
-
-all_end : {X : Type 0} (P : X → Type 0) (xs : List X) (x : X) → AllByRecursion P xs → P x → AllByRecursion P (xs ++ x ∷ [])
-all_end P [] x h p = (p, tt)
-all_end P (y ∷ ys) x h p = (h.0, all_end P ys x h.1 p)
-
 not_greater : (o : Ordering) → IsTrue (is_le o) → IsTrue (is_gt o) → ⊥
 not_greater Less h i = true≢false (sym i)
 not_greater Equal h i = true≢false (sym i)
@@ -88,14 +88,14 @@ greater_below a b h = elim (at_most_or_below b a) [ inl w ↦ w | inr w ↦ absu
 -- one measure more, which is better
 pub best_taken : (o : Player) (ms : List Measure) (b m : Measure) → IsBestFor o ms b → IsBetter o (measure_cmp m b) → IsBestFor o (ms ++ m ∷ []) m
 best_taken Even ms b m h better =
-    (contains_end ms m, all_end (λ k. IsAtMost m k) ms m (all_weaker (λ k. IsAtMost b k) (λ k. IsAtMost m k) ms (λ k. at_most_trans m b k (below_at_most m b better)) h.1) (at_most_itself m))
+    (Contains-append_right ms (m ∷ []) m (contains_first m []), all_more (λ k. IsAtMost m k) ms m (all_weaker (λ k. IsAtMost b k) (λ k. IsAtMost m k) ms (λ k. at_most_trans m b k (below_at_most m b better)) h.1) (at_most_itself m))
 best_taken Odd ms b m h better =
-    (contains_end ms m, all_end (λ k. IsAtMost k m) ms m (all_weaker (λ k. IsAtMost k b) (λ k. IsAtMost k m) ms (λ k l. at_most_trans k b m l (below_at_most b m (greater_below m b better))) h.1) (at_most_itself m))
+    (Contains-append_right ms (m ∷ []) m (contains_first m []), all_more (λ k. IsAtMost k m) ms m (all_weaker (λ k. IsAtMost k b) (λ k. IsAtMost k m) ms (λ k l. at_most_trans k b m l (below_at_most b m (greater_below m b better))) h.1) (at_most_itself m))
 
 -- or isn't
 pub best_left : (o : Player) (ms : List Measure) (b m : Measure) → IsBestFor o ms b → (IsBetter o (measure_cmp m b) → ⊥) → IsBestFor o (ms ++ m ∷ []) b
-best_left Even ms b m h never = (contains_front ms m b h.0, all_end (λ k. IsAtMost b k) ms m h.1 (elim (at_most_or_below m b) [ inl w ↦ absurd (never w) | inr w ↦ w ]))
-best_left Odd ms b m h never = (contains_front ms m b h.0, all_end (λ k. IsAtMost k b) ms m h.1 (not_gt (measure_cmp m b) never))
+best_left Even ms b m h never = (Contains-append_left ms (m ∷ []) b h.0, all_more (λ k. IsAtMost b k) ms m h.1 (elim (at_most_or_below m b) [ inl w ↦ absurd (never w) | inr w ↦ w ]))
+best_left Odd ms b m h never = (Contains-append_left ms (m ∷ []) b h.0, all_more (λ k. IsAtMost k b) ms m h.1 (not_gt (measure_cmp m b) never))
 
 -- the best of the first ones, and one more
 pub best_next_taken : (o : Player) (ms : List Measure) (k : ℕ) (b : Measure) → k < length ms → IsBestFor o (take k ms) b → IsBetter o (measure_cmp (slice_index_or ms k Top) b)

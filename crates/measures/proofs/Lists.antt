@@ -1,7 +1,9 @@
 -- Lists: what they contain, place by place.
 use Rattle.std.proofs.Common.{◌≡◌, ℕ, zero, suc, ◌+◌, ◌<◌, ◌≤◌, ◌⊎◌, List, [], ◌∷◌, length, map, refl, sym, ap, subst, ◌∙◌, inl, inr, arith, Contains, Some, slice_get, slice_index_or, Bool, true, false, cond, count_by, true≢false}
 use Rattle.std.specs.List.{AllZip, AllByRecursion}
+use Rattle.std.proofs.lemmas.List.Elements.{All-from_recursion}
 use Rattle.std.proofs.lemmas.List.Sums.{sum_by-cons}
+use Rattle.std.proofs.lemmas.Option.{get_or_from_slice_get, slice_get_within}
 
 pub contains_first : {X : Type 0} (x : X) (xs : List X) → Contains (x ∷ xs) x
 contains_first x xs = (0, omega arith, refl)
@@ -17,13 +19,10 @@ contains_cases x y xs (zero, h, q) = inl q
 contains_cases x y xs (suc k, h, q) = inr (k, omega arith, q)
 
 pub all_contained : {X : Type 0} (P : X → Type 0) (xs : List X) (x : X) → AllByRecursion P xs → Contains xs x → P x
-all_contained P [] x h c = absurd (contains_none x c)
-all_contained P (y ∷ ys) x h c = elim (contains_cases y x ys c) [ inl e ↦ subst P e h.0 | inr d ↦ all_contained P ys x h.1 d ]
+all_contained P xs x h (k, l, q) = subst P q (All-from_recursion P xs h k x l)
 
 pub all_got : {X : Type 0} (P : X → Type 0) (xs : List X) (i : ℕ) (x : X) → AllByRecursion P xs → slice_get xs i ≡ Some x → P x
-all_got P [] i x h e = cc
-all_got P (y ∷ ys) zero x h e = let q : y ≡ x = cc in subst P q h.0
-all_got P (y ∷ ys) (suc i) x h e = all_got P ys i x h.1 e
+all_got P xs i x h e = subst P (get_or_from_slice_get xs i x x e) (All-from_recursion P xs h i x (slice_get_within xs i x e))
 
 pub all_or : {X : Type 0} (P : X → Type 0) (xs : List X) (i : ℕ) (d : X) → AllByRecursion P xs → P d → P (slice_index_or xs i d)
 all_or P [] i d h p = p
@@ -99,13 +98,3 @@ all_map P f (x ∷ xs) h = (h x, all_map P f xs h)
 pub zip_from : {X Y : Type 0} (R : Y → X → Type 0) (P : X → Type 0) (f : X → Y) (ps : List X) → AllByRecursion P ps → ((p : X) → P p → R (f p) p) → AllZip R (map f ps) ps
 zip_from R P f [] h make = tt
 zip_from R P f (p ∷ ps) h make = (make p h.0, zip_from R P f ps h.1 make)
-
-pub all_or_inside : {X : Type 0} (P : X → Type 0) (xs : List X) (i : ℕ) (d : X) → AllByRecursion P xs → i < length xs → P (slice_index_or xs i d)
-all_or_inside P [] i d h l = absurd (omega arith)
-all_or_inside P (y ∷ ys) zero d h l = h.0
-all_or_inside P (y ∷ ys) (suc i) d h l = all_or_inside P ys i d h.1 (omega arith)
-
-pub index-map : {X Y : Type 0} (f : X → Y) (xs : List X) (i : ℕ) (d : X) (e : Y) → i < length xs → slice_index_or (map f xs) i e ≡ f (slice_index_or xs i d)
-index-map f [] i d e l = absurd (omega arith)
-index-map f (x ∷ xs) zero d e l = refl
-index-map f (x ∷ xs) (suc i) d e l = index-map f xs i d e (omega arith)

@@ -8,7 +8,8 @@ use Rattle.game.specs.declared.player.Player.TheVariants.{Even, Odd}
 use Rattle.game.specs.Game.{Vertex, Game, vertex, IsVertex, IsGame, opponent}
 use Rattle.game.specs.Wins.{Edge, IsOf, WinsBy, greatest_met}
 use Rattle.measures.proofs.Lists.{all_contained, all_got}
-use Rattle.measures.proofs.Searches.{both, both_hold, either_way, find_below, find_in}
+use Rattle.std.proofs.lemmas.Bool.{and_from, and_parts}
+use Rattle.measures.proofs.Searches.{either_way, find_below, find_in}
 use Rattle.measures.specs.Lifting.{total}
 use Rattle.measures.proofs.Rests.{total_same}
 use Rattle.measures.proofs.Cycles.{last_met, priority}
@@ -260,42 +261,32 @@ module _ (g : Game) (game : IsGame g) where
 
   -- ---------------------------------------------------------------- none falls
 
+  -- what is open below k has at most the priority p
+  abbrev Low : (ℕ → Option Player) → ℕ → ℕ → Type 0
+  Low done k p = (u : ℕ) → u < k → done u ≡ None → priority g u ≤ p
+
+  low_more : (done : ℕ → Option Player) (k p : ℕ) → Low done k p → (done k ≡ None → priority g k ≤ p) → Low done (suc k) p
+  low_more done k p low last u h e = elim (eqb_tells u k) [
+    | inl z ↦ subst (λ b. priority g b ≤ p) (sym z.1) (last (ap done (sym z.1) ∙ e))
+    | inr z ↦ (let m = z.1 in low u (omega arith) e)
+  ]
+
   -- the greatest priority that is open
-  peak : (done : ℕ → Option Player) (k : ℕ) → ((a : ℕ) × (a < k) × (done a ≡ None) × ((u : ℕ) → u < k → done u ≡ None → priority g u ≤ priority g a)) ⊎ ((u : ℕ) → u < k → done u ≢ None)
+  peak : (done : ℕ → Option Player) (k : ℕ) → ((a : ℕ) × (a < k) × (done a ≡ None) × Low done k (priority g a)) ⊎ ((u : ℕ) → u < k → done u ≢ None)
   peak done zero = inr (λ u h. absurd (omega arith))
   peak done (suc k) = elim (peak done k) [
-    | inl w ↦ inl (higher w)
+    | inl (a, l, o, low) ↦ elim (decided (done k)) [
+      | inr w ↦ inl (a, omega arith, o, low_more done k (priority g a) low (λ e. (let v = w.1 in absurd cc)))
+      | inl i ↦ elim (leb_tells (priority g k) (priority g a)) [
+        | inl y ↦ inl (a, omega arith, o, low_more done k (priority g a) low (λ e. y.1))
+        | inr y ↦ inl (k, omega arith, i, low_more done k (priority g k) (λ u h e. (let r = low u h e in let t = y.1 in omega arith)) (λ e. omega arith))
+      ]
+    ]
     | inr none ↦ elim (decided (done k)) [
-      | inl o ↦ inl (k, omega arith, o, λ u h e. elim (eqb_tells u k) [ inl y ↦ (let z : priority g u ≡ priority g k = ap (priority g) y.1 in omega arith) | inr y ↦ (let m = y.1 in absurd (none u (omega arith) e)) ])
+      | inl o ↦ inl (k, omega arith, o, low_more done k (priority g k) (λ u h e. absurd (none u h e)) (λ e. omega arith))
       | inr w ↦ inr (λ u h e. elim (eqb_tells u k) [ inl y ↦ (let z : done k ≡ None = ap done (sym y.1) ∙ e in let v = w.1 in absurd cc) | inr y ↦ (let m = y.1 in none u (omega arith) e) ])
     ]
   ]
-    where
-      higher : ((a : ℕ) × (a < k) × (done a ≡ None) × ((u : ℕ) → u < k → done u ≡ None → priority g u ≤ priority g a))
-          → (a : ℕ) × (a < suc k) × (done a ≡ None) × ((u : ℕ) → u < suc k → done u ≡ None → priority g u ≤ priority g a)
-      higher (a, l, o, most) = elim (decided (done k)) [
-        | inl i ↦ elim (leb_tells (priority g k) (priority g a)) [
-          | inl y ↦ (a, omega arith, o, λ u h e. elim (eqb_tells u k) [ inl z ↦ subst (λ b. priority g b ≤ priority g a) (sym z.1) y.1 | inr z ↦ (let m = z.1 in most u (omega arith) e) ])
-          | inr y ↦ (
-            k,
-            omega arith,
-            i,
-            λ u h e. elim (eqb_tells u k) [
-              | inl z ↦ (let q : priority g u ≡ priority g k = ap (priority g) z.1 in omega arith)
-              | inr z ↦ (let m = z.1 in let r = most u (omega arith) e in let t = y.1 in omega arith)
-            ],
-          )
-        ]
-        | inr i ↦ (
-          a,
-          omega arith,
-          o,
-          λ u h e. elim (eqb_tells u k) [
-            | inl z ↦ (let q : done k ≡ None = ap done (sym z.1) ∙ e in let v = i.1 in absurd cc)
-            | inr z ↦ (let m = z.1 in most u (omega arith) e)
-          ],
-        )
-      ]
 
   -- decided where the test says so
   abbrev with_all : (ℕ → Option Player) → (ℕ → Bool) → Player → ℕ → Option Player
@@ -388,7 +379,7 @@ module _ (g : Game) (game : IsGame g) where
       calm_path u [] t l h p = p
       calm_path u (m ∷ others) t l h p = (
         elim (either_way (peaks done d u)) [
-          | inl y ↦ (let e = eqb-true (priority g u) d (both (is_open (done u)) (priority g u == d) y).1 in absurd (omega arith))
+          | inl y ↦ (let e = eqb-true (priority g u) d (and_parts (is_open (done u)) (priority g u == d) y).1 in absurd (omega arith))
           | inr y ↦ calm u m y p.0
         ],
         calm_path m others t (omega arith) (omega arith) p.1,
@@ -449,10 +440,10 @@ module _ (g : Game) (game : IsGame g) where
       turning u = turn (lost u) u
 
       lost_side : (u : ℕ) → lost u ≡ true → s.side u ≡ r
-      lost_side u h = eq_yes (s.side u) r (both (is_open (done u)) (eq_player (s.side u) r) h).1
+      lost_side u h = eq_yes (s.side u) r (and_parts (is_open (done u)) (eq_player (s.side u) r) h).1
 
       is_lost : (u : ℕ) → done u ≡ None → s.side u ≡ r → lost u ≡ true
-      is_lost u e h = both_hold (is_open (done u)) (eq_player (s.side u) r) (ap is_open e) (eq_itself (s.side u) r h)
+      is_lost u e h = and_from (is_open (done u)) (eq_player (s.side u) r) (ap is_open e) (eq_itself (s.side u) r h)
 
       -- no vertex of the greatest priority is lost
       lost_low : (u : ℕ) → lost u ≡ true → peaks done d u ≡ false
@@ -567,11 +558,11 @@ module _ (g : Game) (game : IsGame g) where
       | inr firm ↦ (
           let d = priority g w.0 in
           let p = of_parity d in
-          let f = fewer done (peaks done d) p.0 w.0 w.1 w.2 (both_hold (is_open (done w.0)) (d == d) (ap is_open w.2) (eq-eqb d d refl)) in
+          let f = fewer done (peaks done d) p.0 w.0 w.1 w.2 (and_from (is_open (done w.0)) (d == d) (ap is_open w.2) (eq-eqb d d refl)) in
           let s = solve k (with_all done (peaks done d) p.0) (omega arith) in
           elim (find_below (λ u. (done u ≡ None) × (s.side u ≡ opponent p.0)) (λ u. done u ≡ None → s.side u ≡ p.0) (sided done p.0 s.side) (length g.vertices)) [
             | inl z ↦ two_sides done firm d p.0 p.1 w.3 s (solve k (with_all done (taken done s.side (opponent p.0)) (opponent p.0)) (
-                let f' = fewer done (taken done s.side (opponent p.0)) (opponent p.0) z.0 z.1 z.2.0 (both_hold (is_open (done z.0)) (eq_player (s.side z.0) (opponent p.0)) (ap is_open z.2.0) (eq_itself (s.side z.0) (opponent p.0) z.2.1)) in
+                let f' = fewer done (taken done s.side (opponent p.0)) (opponent p.0) z.0 z.1 z.2.0 (and_from (is_open (done z.0)) (eq_player (s.side z.0) (opponent p.0)) (ap is_open z.2.0) (eq_itself (s.side z.0) (opponent p.0) z.2.1)) in
                 omega arith))
             | inr all ↦ one_side done firm d p.0 p.1 w.3 s all
           ])
@@ -592,10 +583,10 @@ module _ (g : Game) (game : IsGame g) where
     within u = nat_lt u (length g.vertices) && eq_player (s.side u) p
 
     within_tells : (u : ℕ) → IsTrue (within u) → (u < length g.vertices) × (s.side u ≡ p)
-    within_tells u h = let w = both (nat_lt u (length g.vertices)) (eq_player (s.side u) p) h in (ltb-true u (length g.vertices) w.0, eq_yes (s.side u) p w.1)
+    within_tells u h = let w = and_parts (nat_lt u (length g.vertices)) (eq_player (s.side u) p) h in (ltb-true u (length g.vertices) w.0, eq_yes (s.side u) p w.1)
 
     is_within : (u : ℕ) → u < length g.vertices → s.side u ≡ p → IsTrue (within u)
-    is_within u l e = both_hold (nat_lt u (length g.vertices)) (eq_player (s.side u) p) (lt-ltb u (length g.vertices) l) (eq_itself (s.side u) p e)
+    is_within u l e = and_from (nat_lt u (length g.vertices)) (eq_player (s.side u) p) (lt-ltb u (length g.vertices) l) (eq_itself (s.side u) p e)
 
     as_step : (u t : ℕ) → s.side u ≡ p → Edge p g s.choice u t → Step (λ u. None) s.side s.choice u t
     as_step u t e w = (refl, subst (λ o. Edge o g s.choice u t) (sym e) w)

@@ -12,7 +12,7 @@ use Rattle.game.specs.Game.{Vertex, Game, vertex, IsGame, count}
 use Rattle.measures.specs.Measure.{Measure, Top, Counts, components, IsMeasure, IsAtMost, Reaches, is_odd, kept}
 use Rattle.measures.specs.Progress.{IsProgress, IsTable, value_at, zeros, opening, opening_value, opening_from}
 use Rattle.measures.proofs.Lists.{contains_first, contains_none, contains_cases}
-use Rattle.measures.proofs.Searches.{both}
+use Rattle.std.proofs.lemmas.Bool.{and_parts}
 use Rattle.measures.proofs.Order.{Over, not_over_itself, whole_to}
 use Rattle.measures.proofs.Measures.{none_bounded, none_least, over_reaches, at_most_itself, at_most_top}
 use Rattle.measures.proofs.Lifts.{even_reaches, odd_reaches, value_measure}
@@ -65,7 +65,7 @@ module _ (g : Game) (game : IsGame g) (table : List Measure) (is : IsProgress g 
     where
       by : (b : Bool) → (is_odd x.priority && pointwise nat_eq x.successors (v ∷ [])) ≡ b → IsAtMost (if b then Top else zeros g) (value_at table v)
       by true e =
-          let w = both (is_odd x.priority) (pointwise nat_eq x.successors (v ∷ [])) e in
+          let w = and_parts (is_odd x.priority) (pointwise nat_eq x.successors (v ∷ [])) e in
           let top = itself_top g x.priority (value_at table v) w.0 (loops v x at (same_text x.successors (v ∷ []) (sym w.1)) x.owner refl) in
           subst (λ m. IsAtMost Top m) (sym top) (at_most_itself Top)
       by false e = zeros_least g (value_at table v) (value_measure g table is.0.1 v)

@@ -1,14 +1,16 @@
 -- Tables whose values are at most those of every progress table.
-use Rattle.std.proofs.Common.{◌≡◌, ◌≢◌, ℕ, ◌+◌, ◌-◌, ◌<◌, ◌≤◌, Bool, true, false, List, length, replicate, sym, ap, subst, ◌∙◌, inl, inr, arith, if◌then◌else◌, slice_set}
+use Rattle.std.specs.List.{AllByRecursion}
+use Rattle.std.proofs.Common.{Some, option_map, ◌≡◌, ◌≢◌, ℕ, ◌+◌, ◌-◌, ◌<◌, ◌≤◌, Bool, true, false, List, length, replicate, sym, ap, subst, ◌∙◌, inl, inr, arith, if◌then◌else◌, slice_set}
 use Rattle.std.proofs.lemmas.Bool.Decides.{eqb_tells}
 use Rattle.std.proofs.lemmas.List.{ext_get_or, get_or-set_other, get_or-set_same, get_or-replicate, length-map, length-replicate, length-set}
 use Rattle.std.proofs.lemmas.Slice.Zip.{AllZip-long}
-use Rattle.game.specs.Game.{Game, IsGame, count, greatest}
+use Rattle.game.specs.Game.{Game, IsGame, count, greatest, vertex}
 use Rattle.measures.specs.Measure.{Measure, Top, Counts, components, IsMeasure}
 use Rattle.measures.specs.Progress.{IsProgress, greater_of, opening, opening_value, value_at, zeros}
 use Rattle.measures.specs.Progs.{bounds}
 use Rattle.measures.specs.Tables.{IsOpening, IsPlain, IsSettled, IsStored, LiesBelow, Table}
 use Rattle.measures.specs.View.{HasWidth, Rows}
+use Rattle.measures.proofs.Bests.{its_successors}
 use Rattle.measures.proofs.Carry.{none_is}
 use Rattle.measures.proofs.Components.{odd_down_long}
 use Rattle.measures.proofs.Greatest.{greatest_limit}
@@ -131,6 +133,16 @@ stored_as of g limits w values same is = (
   subst (λ (h : Game). IsPlain (record { game = h; values = values })) same is.plain,
   sym (stored_width of limits w values is ∙ (bounds_long of ∙ ap (λ (h : Game). length (components h)) same)),
 )
+
+-- what is told of a vertex by the name of the table's game
+module _ (of g : Game) (values : List Measure) (plain : IsPlain (record { game = of; values = values })) (same : of ≡ g) (v : ℕ) (h : v < length g.vertices) where
+  pub value_here : v < length values
+  value_here = omega (arith, h, plain.long, ap (λ (k : Game). length k.vertices) same)
+
+  pub values_there : (ts : List ℕ) → option_map (λ x. x.successors) (vertex g v) ≡ Some ts → AllByRecursion (λ t. t < length values) ts × (0 < length ts)
+  values_there ts e =
+      let long : length g.vertices ≡ length values = ap (λ (k : Game). length k.vertices) (sym same) ∙ sym plain.long in
+      subst (λ n. AllByRecursion (λ t. t < n) ts × (0 < length ts)) long (its_successors g (subst IsGame same plain.game) v h ts e)
 
 pub set_stored : (g : Game) (limits : List ℕ) (r new : Rows) (v : ℕ) (m : Measure) → IsStored (record { game = g; values = r.values }) limits r.width → v < length g.vertices → LiesBelow g v m
     → new ≡ record { width = r.width; values = slice_set r.values v m } → IsStored (record { game = g; values = new.values }) limits new.width

@@ -102,18 +102,17 @@ module _ (w : ℕ) (tops : List Bool) (cs : List ℕ) (now : Rows) (is : rows w 
       ap (λ (ms : List Measure). record { width = w; values = ms }) (rows_top w tops cs v)
       ∙ ap₂ (λ (r : Rows) (k : Measure). record { width = r.width; values = slice_set r.values v k }) is (sym e)
 
-  pub set_counts : (v : ℕ) (m : Measure) (c new : List ℕ) → v < length now.values → m ≢ Top → c ≡ counts_of m → HasWidth now.width m → length cs ≡ length tops * w
-      → new ≡ take (v * w) cs ++ (c ++ drop (v * w + w) cs) → rows w (slice_set tops v false) new ≡ record { width = now.width; values = slice_set now.values v m }
-  set_counts v m c new h n e wide l written =
-      let back : Counts c ≡ m = ap Counts e ∙ counts_back m n in
+  pub set_counts : (v : ℕ) (c new : List ℕ) → v < length now.values → length c ≡ now.width → length cs ≡ length tops * w → new ≡ take (v * w) cs ++ (c ++ drop (v * w + w) cs)
+      → rows w (slice_set tops v false) new ≡ record { width = now.width; values = slice_set now.values v (Counts c) }
+  set_counts v c new h wide l written =
       let same : now.width ≡ w = sym (ap (λ (r : Rows). r.width) is) in
-      let long : length c ≡ w = has_width now.width c (subst (HasWidth now.width) (sym back) wide) ∙ same in
       ap (λ (xs : List ℕ). rows w (slice_set tops v false) xs) written
-      ∙ (ap (λ (ms : List Measure). record { width = w; values = ms }) (rows_counts w tops cs v c (let k = long_is in omega arith) long l)
-      ∙ ap₂ (λ (r : Rows) (k : Measure). record { width = r.width; values = slice_set r.values v k }) is back)
-    where
-      has_width : (k : ℕ) (d : List ℕ) → HasWidth k (Counts d) → length d ≡ k
-      has_width k d h = h
+      ∙ (ap (λ (ms : List Measure). record { width = w; values = ms }) (rows_counts w tops cs v c (let k = long_is in omega arith) (wide ∙ same) l)
+      ∙ ap (λ (r : Rows). record { width = r.width; values = slice_set r.values v (Counts c) }) is)
+
+pub counts_wide : (w : ℕ) (m : Measure) → HasWidth w m → m ≢ Top → length (counts_of m) ≡ w
+counts_wide w Top h n = absurd (n refl)
+counts_wide w (Counts c) h n = h
 
 zeros_split : (n w : ℕ) → replicate {A = ℕ} (suc n * w) 0 ≡ replicate w 0 ++ replicate (n * w) 0
 zeros_split n w = let more : suc n * w ≡ w + n * w = omega arith in ap (λ k. replicate {A = ℕ} k 0) more ∙ sym (replicate-append-replicate w (n * w) 0)

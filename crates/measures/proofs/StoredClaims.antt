@@ -1,9 +1,9 @@
 -- Claims that are stored in rows.
-use Rattle.std.proofs.Common.{◌≡◌, ◌≢◌, ◌↔◌, ℕ, zero, suc, ◌+◌, ◌/◌, ◌<◌, ◌≤◌, Bool, true, false, not, List, [], ◌∷◌, length, drop, map, refl, sym, ap, subst, ◌∙◌, inl, inr, arith, true≢false, IsTrue, IsSome, Contains, Option, Some, None, slice_index, slice_set, replicate, get_or, ◌⊎◌}
+use Rattle.std.proofs.Common.{◌≡◌, ◌≢◌, ◌↔◌, ℕ, zero, suc, ◌+◌, ◌/◌, ◌<◌, ◌≤◌, Bool, true, false, not, List, [], ◌∷◌, length, drop, map, refl, sym, ap, subst, ◌∙◌, inl, inr, arith, true≢false, IsTrue, IsSome, Contains, Option, Some, None, slice_index, slice_set, replicate, get_or, if◌then◌else◌}
 use Rattle.std.specs.List.{AllByRecursion, range_with_len}
 use Rattle.std.specs.Ordering.{is_le}
 use Rattle.std.proofs.lemmas.Bool.Decides.{eqb_tells, leb_tells}
-use Rattle.std.proofs.lemmas.List.{get_or-set_other, get_or-set_same, get_or_past, length-replicate, length-set, get_or-replicate}
+use Rattle.std.proofs.lemmas.List.{drop_all, get_or-set_other, get_or-set_same, get_or_past, length-replicate, length-set, get_or-replicate}
 use Rattle.std.proofs.lemmas.List.Sums.{count_by-le-length}
 use Rattle.std.proofs.lemmas.Option.{slice_get-get_or}
 use Rattle.std.proofs.lemmas.List.FromFn.{length-range_with_len}
@@ -95,10 +95,6 @@ all_of : {X : Type 0} (P : X → Type 0) (xs : List X) → ((x : X) → Contains
 all_of P [] f = tt
 all_of P (x ∷ xs) f = (f x (contains_first x xs), all_of P xs (λ y c. f y (contains_later x y xs c)))
 
-drop_all : (xs : List ℕ) → drop (length xs) xs ≡ []
-drop_all [] = refl
-drop_all (x ∷ xs) = drop_all xs
-
 -- different numbers below n are at most n
 apart_few : (n : ℕ) (seen : List ℕ) → Apart seen → AllByRecursion (λ x. x < n) seen → length seen ≤ n
 apart_few n seen a h =
@@ -167,6 +163,12 @@ module _ (of : Game) (values : Rows) (moves : List ℕ) (ranks : Rows) (vertices
 
     pub has_entry : (v : ℕ) (top : Bool) → top ≡ is_top_of (value_at ranks.values v) → IsTrue (not top) ↔ IsSome (entry_at now.entries v)
     has_entry v top e = subst (λ o. IsTrue (not top) ↔ IsSome o) (sym (at_is v)) (entry_some (value_at values.values v) (slice_index moves v) (value_at ranks.values v) top e)
+
+    pub has_stored : (v : ℕ) (b : Bool) → (IsTrue b ↔ IsSome (entry_at now.entries v)) → IsTrue b ↔ IsSome (entry_at Entries v)
+    has_stored v b h = subst (λ (c : Claim). IsTrue b ↔ IsSome (entry_at c.entries v)) (sym is) h
+
+    pub vertex_stored : (v : ℕ) → v < length now.game.vertices → v < length of.vertices
+    vertex_stored v h = inside v (length of.vertices) h refl
 
     pub its_value : (v : ℕ) (m : Measure) → m ≡ value_at values.values v → (x : Entry) → entry_at now.entries v ≡ Some x → m ≡ x.value
     its_value v m e x at = e ∙ (parts v x at).value
@@ -258,47 +260,37 @@ module _ (g : Game) (game : IsGame g) (n wide high : ℕ) (many : n ≡ length g
   })
     where
       none_left : drop first vertices ≡ []
-      none_left = ap (λ k. drop k vertices) (start ∙ sym room_long) ∙ drop_all vertices
+      none_left = ap (λ k. drop k vertices) (start ∙ sym room_long) ∙ drop_all (length vertices) vertices (omega arith)
 
 -- ------------------------------------------------------------------ one entry more, or another in its place
 
--- the list has v, and all else is as it was
-pub record IsNoted (of of' : Game) (values values' : Rows) (moves moves' : List ℕ) (ranks ranks' : Rows) (vertices vertices' : List ℕ) (first first' v : ℕ) : Type 0 where
-  pub same_game : of' ≡ of
-  pub same_values : values' ≡ values
-  pub same_moves : moves' ≡ moves
-  pub same_ranks : ranks' ≡ ranks
-  pub long : length vertices' ≡ length vertices
-  pub within : first' ≤ first
-  pub listed : (IsSome (entry_at (entries_of values.values moves ranks.values) v) × (drop first' vertices' ≡ drop first vertices))
-      ⊎ ((IsSome (entry_at (entries_of values.values moves ranks.values) v) → ⊥) × (drop first' vertices' ≡ v ∷ drop first vertices))
-
-module _ (of of' : Game) (values values' : Rows) (moves moves' : List ℕ) (ranks ranks' : Rows) (vertices vertices' : List ℕ) (first first' v : ℕ) (stored : IsStoredClaim of values moves ranks vertices first)
-    (noted : IsNoted of of' values values' moves moves' ranks ranks' vertices vertices' first first' v) (m : Measure) (t : ℕ) (c : List ℕ) (h : v < length of.vertices) (written : Rows) (ranked : Rows)
-    (is_written : written ≡ record { width = values'.width; values = slice_set values'.values v m }) (is_ranked : ranked ≡ record { width = ranks'.width; values = slice_set ranks'.values v (Counts c) }) where
+module _ (of : Game) (values : Rows) (moves : List ℕ) (ranks : Rows) (vertices vertices' : List ℕ) (first first' v : ℕ) (stored : IsStoredClaim of values moves ranks vertices first) (has : Bool)
+    (there : IsTrue has ↔ IsSome (entry_at (entries_of values.values moves ranks.values) v)) (old new : List ℕ) (was : old ≡ vertices) (whole : vertices' ≡ new) (kept : length new ≡ length old) (within : first' ≤ first)
+    (listed : drop first' new ≡ (if has then drop first old else v ∷ drop first old)) (m : Measure) (t : ℕ) (c : List ℕ) (h : v < length of.vertices) (written ranked : Rows)
+    (is_written : written ≡ record { width = values.width; values = slice_set values.values v m }) (is_ranked : ranked ≡ record { width = ranks.width; values = slice_set ranks.values v (Counts c) }) where
   abbrev Old : List (Option Entry)
   Old = entries_of values.values moves ranks.values
 
   abbrev New : List (Option Entry)
-  New = entries_of written.values (slice_set moves' v t) ranked.values
+  New = entries_of written.values (slice_set moves v t) ranked.values
 
   abbrev Made : Entry
   Made = record { value = m; move = t; rank = c }
 
-  abbrev Listed : Type 0
-  Listed = (IsSome (entry_at Old v) × (drop first' vertices' ≡ drop first vertices)) ⊎ ((IsSome (entry_at Old v) → ⊥) × (drop first' vertices' ≡ v ∷ drop first vertices))
-
   abbrev Is : ℕ → Type 0
   Is u = IsSome (entry_at New u) ↔ Contains (drop first' vertices') u
 
+  abbrev Listed : Bool → Type 0
+  Listed b = drop first' vertices' ≡ (if b then drop first vertices else v ∷ drop first vertices)
+
   written_is : written.values ≡ slice_set values.values v m
-  written_is = ap (λ (r : Rows). r.values) is_written ∙ ap (λ (r : Rows). slice_set r.values v m) noted.same_values
+  written_is = ap (λ (r : Rows). r.values) is_written
 
   ranked_is : ranked.values ≡ slice_set ranks.values v (Counts c)
-  ranked_is = ap (λ (r : Rows). r.values) is_ranked ∙ ap (λ (r : Rows). slice_set r.values v (Counts c)) noted.same_ranks
+  ranked_is = ap (λ (r : Rows). r.values) is_ranked
 
-  moved_is : slice_set moves' v t ≡ slice_set moves v t
-  moved_is = ap (λ (ts : List ℕ). slice_set ts v t) noted.same_moves
+  listed_is : Listed has
+  listed_is = ap (drop first') whole ∙ (listed ∙ ap (λ xs. if has then drop first xs else v ∷ drop first xs) was)
 
   written_long : length written.values ≡ length of.vertices
   written_long = ap length written_is ∙ (length-set values.values v m ∙ stored.values_long)
@@ -306,16 +298,14 @@ module _ (of of' : Game) (values values' : Rows) (moves moves' : List ℕ) (rank
   ranked_long : length ranked.values ≡ length of.vertices
   ranked_long = ap length ranked_is ∙ (length-set ranks.values v (Counts c) ∙ stored.ranks_long)
 
-  moved_long : length (slice_set moves' v t) ≡ length of.vertices
-  moved_long = ap length moved_is ∙ (length-set moves v t ∙ stored.moves_long)
+  moved_long : length (slice_set moves v t) ≡ length of.vertices
+  moved_long = length-set moves v t ∙ stored.moves_long
 
   new_at : (u : ℕ) → entry_at New u ≡ entry_of (value_at (slice_set values.values v m) u) (slice_index (slice_set moves v t) u) (value_at (slice_set ranks.values v (Counts c)) u)
   new_at u =
       let a = written_long in let b = ranked_long in let d = moved_long in
-      entries_at written.values (slice_set moves' v t) ranked.values u (omega arith) (omega arith)
-      ∙ (ap (λ (ms : List Measure). entry_of (value_at ms u) (slice_index (slice_set moves' v t) u) (value_at ranked.values u)) written_is
-      ∙ (ap (λ (ts : List ℕ). entry_of (value_at (slice_set values.values v m) u) (slice_index ts u) (value_at ranked.values u)) moved_is
-      ∙ ap (λ (ms : List Measure). entry_of (value_at (slice_set values.values v m) u) (slice_index (slice_set moves v t) u) (value_at ms u)) ranked_is))
+      entries_at written.values (slice_set moves v t) ranked.values u (omega arith) (omega arith)
+      ∙ (λ i. entry_of (value_at (written_is i) u) (slice_index (slice_set moves v t) u) (value_at (ranked_is i) u))
 
   pub put_here : entry_at New v ≡ Some Made
   put_here =
@@ -337,20 +327,20 @@ module _ (of of' : Game) (values values' : Rows) (moves moves' : List ℕ) (rank
   pub put_other : (now : Claim) → record { game = of; entries = Old } ≡ now → (u : ℕ) → u ≢ v → entry_at New u ≡ entry_at now.entries u
   put_other now is u n = put_old u n ∙ ap (λ (d : Claim). entry_at d.entries u) is
 
-  pub put_stored : IsMeasure of m → IsStoredClaim of' written (slice_set moves' v t) ranked vertices' first'
-  put_stored measure = subst (λ (g : Game). IsStoredClaim g written (slice_set moves' v t) ranked vertices' first') (sym noted.same_game) (record {
+  pub put_stored : IsMeasure of m → IsStoredClaim of written (slice_set moves v t) ranked vertices' first'
+  put_stored measure = record {
     game = stored.game;
-    wide = ap (λ (r : Rows). r.width) is_written ∙ (ap (λ (r : Rows). r.width) noted.same_values ∙ stored.wide);
-    ranked = ap (λ (r : Rows). r.width) is_ranked ∙ (ap (λ (r : Rows). r.width) noted.same_ranks ∙ stored.ranked);
+    wide = ap (λ (r : Rows). r.width) is_written ∙ stored.wide;
+    ranked = ap (λ (r : Rows). r.width) is_ranked ∙ stored.ranked;
     values_long = written_long;
     moves_long = moved_long;
     ranks_long = ranked_long;
-    room_long = noted.long ∙ stored.room_long;
-    within = (let a = noted.within in let b = stored.within in omega arith);
+    room_long = ap length whole ∙ (kept ∙ (ap length was ∙ stored.room_long));
+    within = (let b = stored.within in omega arith);
     measures = measures;
-    entered = entered noted.listed;
-    apart = apart noted.listed;
-  })
+    entered = entered has there listed_is;
+    apart = apart has there listed_is;
+  }
     where
       measures : (u : ℕ) (x : Entry) → entry_at New u ≡ Some x → IsMeasure of x.value
       measures u x e = elim (eqb_tells u v) [
@@ -361,12 +351,15 @@ module _ (of of' : Game) (values values' : Rows) (moves moves' : List ℕ) (rank
       at_v : Contains (drop first' vertices') v → Is v
       at_v has = ((λ s. has), (λ s. some_there (entry_at New v) Made put_here))
 
-      entered : Listed → (u : ℕ) → Is u
-      entered (inl (some, same)) u = elim (eqb_tells u v) [
-        | inl w ↦ subst Is (sym w.1) (at_v (subst (λ xs. Contains xs v) (sym same) ((stored.entered v).0 some)))
+      free : (IsTrue false ↔ IsSome (entry_at Old v)) → IsSome (entry_at Old v) → ⊥
+      free is s = true≢false (sym (is.1 s))
+
+      entered : (b : Bool) → (IsTrue b ↔ IsSome (entry_at Old v)) → Listed b → (u : ℕ) → Is u
+      entered true is same u = elim (eqb_tells u v) [
+        | inl w ↦ subst Is (sym w.1) (at_v (subst (λ xs. Contains xs v) (sym same) ((stored.entered v).0 (is.0 refl))))
         | inr w ↦ subst (λ o. IsSome o ↔ Contains (drop first' vertices') u) (sym (put_old u w.1)) (subst (λ xs. IsSome (entry_at Old u) ↔ Contains xs u) (sym same) (stored.entered u))
       ]
-      entered (inr (free, more)) u = elim (eqb_tells u v) [
+      entered false is more u = elim (eqb_tells u v) [
         | inl w ↦ subst Is (sym w.1) (at_v (subst (λ xs. Contains xs v) (sym more) (contains_first v (drop first vertices))))
         | inr w ↦ subst (λ o. IsSome o ↔ Contains (drop first' vertices') u) (sym (put_old u w.1)) (subst (λ xs. IsSome (entry_at Old u) ↔ Contains xs u) (sym more) (
           (λ s. contains_later v u (drop first vertices) ((stored.entered u).0 s)),
@@ -374,9 +367,9 @@ module _ (of of' : Game) (values values' : Rows) (moves moves' : List ℕ) (rank
         ))
       ]
 
-      apart : Listed → Apart (drop first' vertices')
-      apart (inl (some, same)) = subst Apart (sym same) stored.apart
-      apart (inr (free, more)) = subst Apart (sym more) (all_of (λ u. v ≢ u) (drop first vertices) (λ u d e. free ((stored.entered v).1 (subst (λ k. Contains (drop first vertices) k) (sym e) d))), stored.apart)
+      apart : (b : Bool) → (IsTrue b ↔ IsSome (entry_at Old v)) → Listed b → Apart (drop first' vertices')
+      apart true is same = subst Apart (sym same) stored.apart
+      apart false is more = subst Apart (sym more) (all_of (λ u. v ≢ u) (drop first vertices) (λ u d e. free is ((stored.entered v).1 (subst (λ k. Contains (drop first vertices) k) (sym e) d))), stored.apart)
 
 -- ------------------------------------------------------------------ all entries away
 
@@ -418,4 +411,4 @@ module _ (of : Game) (values : Rows) (moves : List ℕ) (ranks new : Rows) (vert
   }
     where
       none_left : drop n vertices ≡ []
-      none_left = ap (λ k. drop k vertices) e ∙ drop_all vertices
+      none_left = ap (λ k. drop k vertices) e ∙ drop_all (length vertices) vertices (omega arith)

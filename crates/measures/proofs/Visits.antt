@@ -9,7 +9,7 @@ use Rattle.game.specs.Game.{Vertex, Game, vertex, count}
 use Rattle.game.specs.Wins.{Edge, IsStrategy, priority_at, greatest_met}
 use Rattle.measures.specs.Measure.{is_odd}
 use Rattle.measures.proofs.Lists.{contains_first, contains_later, contains_none, contains_cases, all_weaker}
-use Rattle.measures.proofs.Searches.{both}
+use Rattle.std.proofs.lemmas.Bool.{and_parts}
 use Rattle.measures.proofs.Distinct.{Apart, PassesAt, apart_count}
 use Rattle.measures.proofs.Rests.{rests}
 use Rattle.measures.proofs.Cycles.{priority, odd_or_even, last_met}
@@ -142,7 +142,7 @@ module _ (g : Game) (set : ℕ → Bool) (choice : ℕ → ℕ) (strategy : IsSt
 
   within_tells : (p v : ℕ) → within p v ≡ true → IsTrue (set v) × (priority g v ≤ p)
   within_tells p v e =
-      let w = both (set v) (nat_le (priority g v) p) e in
+      let w = and_parts (set v) (nat_le (priority g v) p) e in
       (w.0, elim (leb_tells (priority g v) p) [ inl y ↦ y.1 | inr y ↦ absurd (true≢false (sym w.1 ∙ y.0)) ])
 
   met_by : (p v n : ℕ) (f : ℕ → ℕ) → is_odd p ≡ true → ((t : ℕ) → Met p t (f t)) → (n ≡ 0) ⊎ ((t : ℕ) × Contains (moves v) t × (n ≡ f t))

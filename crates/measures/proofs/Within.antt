@@ -1,6 +1,7 @@
 -- Counts within their bounds.
 use Rattle.std.proofs.Common.{◌≡◌, ◌↔◌, ◌<◌, ◌≤◌, ℕ, zero, suc, false, Bool, IsTrue, List, [], ◌∷◌, length, map, ◌∙◌, arith, refl, subst, sym, slice_index, true≢false}
 use Rattle.std.specs.List.{AllZip}
+use Rattle.std.proofs.lemmas.List.Elements.{AllZip-get_or}
 use Rattle.game.specs.Game.{Game, count}
 use Rattle.measures.specs.Measure.{Measure, Top, Counts, IsMeasure, components}
 use Rattle.measures.specs.Progs.{bounds}
@@ -16,10 +17,7 @@ within_from (c ∷ cs) [] e h = absurd (omega arith)
 within_from (c ∷ cs) (b ∷ bs) e h = (h 0 (omega arith), within_from cs bs (omega arith) (λ i l. h (suc i) (omega arith)))
 
 pub within_at : (cs bs : List ℕ) (i : ℕ) → AllZip (λ count bound. count ≤ bound) cs bs → i < length cs → slice_index cs i ≤ slice_index bs i
-within_at [] bs i h l = absurd (omega arith)
-within_at (c ∷ cs) [] i h l = absurd h
-within_at (c ∷ cs) (b ∷ bs) zero h l = h.0
-within_at (c ∷ cs) (b ∷ bs) (suc i) h l = within_at cs bs i h.1 (omega arith)
+within_at cs bs i h l = AllZip-get_or (λ count bound. count ≤ bound) cs bs i 0 0 h l
 
 to_bounds : (f : ℕ → ℕ) (cs ps : List ℕ) → AllZip (λ k p. k ≤ f p) cs ps → AreWithin cs (map f ps)
 to_bounds f [] [] h = tt

@@ -1,6 +1,6 @@
 // Claims that values of some vertices are below, with reasons that can be tested.
 
-ghost use Rattle.std.specs.Prelude.{◌≡◌, ◌≢◌, ◌<◌, ◌≤◌, ◌↔◌, ◌-◌, ◌∷◌, ℕ, None, Contains, Some, drop, length, IfOk, IsSome, IsTrue};
+ghost use Rattle.std.specs.Prelude.{◌≡◌, ◌≢◌, ◌<◌, ◌≤◌, ◌↔◌, ◌∷◌, ℕ, None, Contains, Some, false, drop, if◌then◌else◌, length, IfOk, IsSome, IsTrue};
 ghost use Rattle.game.specs.Game.{dual};
 ghost use Rattle.measures.specs.Claim.{AreEntered, Descends, Entry, entry_at};
 ghost use Rattle.measures.specs.Measure.{IsAtMost, IsMeasure, IsProg, components};
@@ -113,9 +113,8 @@ impl Claim {
         ensures entry { entry_at self.new.entries v ≡ Some record { value = value.now; move = next; rank = rank.now } }
         ensures others { (u : ℕ) → u ≢ v → entry_at self.new.entries u ≡ entry_at self.old.entries u }
     {
-        if !self.has(v) {
-            self.first = put_before(self.vertices.as_mut_slice(), self.first, v);
-        }
+        let has = self.has(v);
+        self.first = put_before(self.vertices.as_mut_slice(), self.first, v, has);
         self.values.set(v as usize, value);
         self.moves[v as usize] = next;
         self.ranks.set_counts(v as usize, rank);
@@ -164,13 +163,16 @@ impl Claim {
     }
 }
 
-// Puts a number before those from a place on.
-fn put_before(numbers: &mut [u32], first: usize, number: u32) -> usize
-    requires some { 1 ≤ first }
+// Puts a number before those from a place on, where they don't have it.
+fn put_before(numbers: &mut [u32], first: usize, number: u32, has: bool) -> usize
+    requires some { has ≡ false → 1 ≤ first }
     requires within { first ≤ length numbers.old }
-    ensures place { result ≡ first - 1 }
-    ensures numbers { drop result numbers.new ≡ number ∷ drop first numbers.old }
+    ensures place { result ≤ first }
+    ensures numbers { drop result numbers.new ≡ (if has then drop first numbers.old else number ∷ drop first numbers.old) }
 {
+    if has {
+        return first;
+    }
     numbers[first - 1] = number;
     first - 1
 }

@@ -166,8 +166,7 @@ impl Rows {
         if m.is_top() {
             self.tops[v] = true;
         } else {
-            self.tops[v] = false;
-            write_row(self.counts.as_mut_slice(), self.width, v, m.counts());
+            self.set_counts(v, m.counts());
         }
     }
 

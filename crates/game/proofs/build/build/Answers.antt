@@ -1,5 +1,7 @@
 use Rattle.std.proofs.Common.{◌≡◌, ◌+◌, ◌*◌, ◌≤◌, ◌++◌, ◌∷◌, [], ℕ, List, Some, length, subst, sym, ap, ◌∙◌, arith}
 use Rattle.std.specs.List.{range_with_len}
+use Rattle.lts.specs.System.{System}
+use Rattle.normal.specs.Nodes.{Node}
 use Rattle.normal.specs.Normal.{normal_nodes}
 use Rattle.game.specs.Game.{Vertex, IsGame}
 use Rattle.game.specs.Arena.{arena, rows}
@@ -18,6 +20,10 @@ two_sinks none one two e f g = g ∙ ap (λ xs. xs ++ record { owner = Even; pri
 within : (a b c d : ℕ) → a ≡ c → b ≡ d → 2 + a * b ≤ 16777216 → 2 + c * d ≤ 16777216
 within a b c d e f h = subst (λ n. n ≤ 16777216) (λ i. 2 + e i * f i) h
 
+-- after the last state
+built : (l : System) (nodes : List Node) (s states : ℕ) (two builder : List Vertex) → two ≡ sinks → builder ≡ two ++ rows l nodes (range_with_len 0 s) → states ≤ s → states ≡ l.states → s ≤ states → builder ≡ (arena l nodes).vertices
+built l nodes s states two builder begun is past count most = let ended : s ≡ l.states = omega arith in is ∙ (λ i. begun i ++ rows l nodes (range_with_len 0 (ended i)))
+
 pub push_state-requires-clause-room : goal.push_state-requires-clause-room
 push_state-requires-clause-room c =
     let nodes = normal_nodes c.args.form.now in
@@ -34,6 +40,26 @@ into_game-requires c =
     let nodes = normal_nodes c.args.form.now in
     let begun = two_sinks c.new-builder.result c.push.new.self c.push-2.new.self c.new-builder.ensures c.in_ok-push.ensures.ok c.in_ok-push-2.ensures.ok in
     let few = within c.states-states.result c.count-nodes.result l.states (length nodes) c.states-states.ensures.count c.count-nodes.ensures.count (omega (arith, c.if-states-nodes.false)) in
-    let ended : c.loop-state.state ≡ l.states = omega (arith, c.states-states.ensures.count) in
-    let all : c.loop-state.builder ≡ (arena l nodes).vertices = c.loop-state.invariant ∙ (λ i. begun i ++ rows l nodes (range_with_len 0 (ended i))) in
+    let all = built l nodes c.loop-state.state c.states-states.result c.push-2.new.self c.loop-state.builder begun c.loop-state.invariant c.loop-state-test.false c.states-states.ensures.count c.loop-state.auto.state-end in
     subst IsGame (λ i. record { vertices = sym all i; named = Some (sym c.states-states.ensures.count i, sym c.count-nodes.ensures.count i) }) (arena_is_game l nodes c.known.ensures few)
+
+pub push_state-requires-clause-sets : goal.push_state-requires-clause-sets
+push_state-requires-clause-sets c = rw c.deref.ensures.value c.in_ok-sets.ensures.sets
+
+pub push_state-requires-clause-count : goal.push_state-requires-clause-count
+push_state-requires-clause-count c = c.deref.ensures.len ∙ c.in_ok-sets.ensures.count
+
+pub push_state-requires-clause-state : goal.push_state-requires-clause-state
+push_state-requires-clause-state c = omega (arith, c.loop-state-test.true, c.states-states.ensures.count)
+
+pub returns : goal.returns
+returns c =
+    let l = c.args.lts.now.system in
+    let nodes = normal_nodes c.args.form.now in
+    let begun = two_sinks c.new-builder.result c.push.new.self c.push-2.new.self c.new-builder.ensures c.in_ok-push.ensures.ok c.in_ok-push-2.ensures.ok in
+    let all = built l nodes c.loop-state.state c.states-states.result c.push-2.new.self c.loop-state.builder begun c.loop-state.invariant c.loop-state-test.false c.states-states.ensures.count c.loop-state.auto.state-end in
+    record {
+      game = c.into_game.ensures ∙ (λ i. record { vertices = all i; named = Some (c.states-states.ensures.count i, c.count-nodes.ensures.count i) });
+      within = within c.states-states.result c.count-nodes.result l.states (length nodes) c.states-states.ensures.count c.count-nodes.ensures.count (omega (arith, c.if-states-nodes.false));
+      refused = tt;
+    }

@@ -1,11 +1,11 @@
-use Rattle.std.proofs.Common.{◌≡◌, Bool, List, [], Vec, Global, length, map, slice_index_or, subst, sym, ap, ◌∙◌, arith}
-use Rattle.std.proofs.lemmas.List.{get_or-map}
+use Rattle.std.proofs.Common.{◌≡◌, ◌++◌, Bool, List, [], Vec, Global, length, length-append, length-take, map, slice_index_or, subst, sym, ap, ◌∙◌, arith}
+use Rattle.std.proofs.lemmas.List.{get_or-map, length-map, take_all}
 use Rattle.lts.specs.declared.system.Transition.{Transition}
 use Rattle.normal.specs.View.{node_of}
 use Rattle.normal.specs.Normal.{normal_nodes}
 use Rattle.game.specs.Arena.{vertex_of}
 use Rattle.game.specs.Steps.{IsSetFor, IsRowOf, picks, is_in, vertex_by}
-use Rattle.game.proofs.Steps.{vertex_is}
+use Rattle.game.proofs.Steps.{inside_below, node_numbered, vertex_is}
 use Rattle.game.proofs.Arenas.{vertices_more}
 use Rattle.game.proofs.build.push_state.Goals as goal
 
@@ -28,3 +28,18 @@ loop-number-preserved c =
     ap (λ n. vertex_by n c.args.state (picks (is_in set) 0 row) node) count ∙ vertex_is l (length nodes) c.args.state set row node of_state passes
     in
     vertices_more (vertex_of l.system (length nodes) c.args.state) nodes i node _ c.args.builder.now c.loop-number.builder c.push_node.new.builder c.node.ensures c.loop-number.invariant c.in_ok-push_node.ensures is
+
+pub push_node-requires-clause-room : goal.push_node-requires-clause-room
+push_node-requires-clause-room c =
+    omega (arith, simp (length-append, length-map, length-take) at (ap length c.loop-number.invariant), c.requires.room, c.count-nodes.ensures.count, c.loop-number-test.true)
+
+pub push_node-requires-clause-inside : goal.push_node-requires-clause-inside
+push_node-requires-clause-inside c = rw c.deref.ensures.value (inside_below c.args.lts.now _ (omega (arith, c.states-states.ensures.known)) c.in_ok-by_target.ensures.inside)
+
+pub returns : goal.returns
+returns c =
+    let nodes = normal_nodes c.args.form.now in
+    c.loop-number.invariant ∙ ap (λ ns. c.args.builder.now ++ map (vertex_of c.args.lts.now.system (length nodes) c.args.state) ns) (take_all c.loop-number.number nodes (omega (arith, c.count-nodes.ensures.count, c.loop-number-test.false)))
+
+pub push_node-requires-clause-node : goal.push_node-requires-clause-node
+push_node-requires-clause-node c = node_numbered (normal_nodes c.args.form.now) c.count-nodes.result c.loop-number.number (node_of c.node.result.now) c.known.ensures c.count-nodes.ensures.count c.node.ensures

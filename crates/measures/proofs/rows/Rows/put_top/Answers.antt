@@ -1,5 +1,5 @@
 use Rattle.std.proofs.Common.{◌<◌, arith, length, refl, slice_index}
-use Rattle.measures.proofs.Lists.{all_or_inside}
+use Rattle.std.proofs.lemmas.List.Elements.{All-from_recursion}
 use Rattle.measures.proofs.Putting.{putting_all, putting_first, putting_more}
 use Rattle.measures.proofs.rows.Rows.put_top.Goals as goal
 
@@ -9,14 +9,14 @@ loop-v-init c = putting_first c.args.self.now c.args.places.now
 pub set-requires-clause-vertex : goal.set-requires-clause-vertex
 set-requires-clause-vertex c =
     let n = c.loop-v.v-index in
-    let h = all_or_inside (λ v. v < length c.args.self.now.values) c.args.places.now n 0 c.requires (omega arith) in
+    let h = All-from_recursion (λ v. v < length c.args.self.now.values) c.args.places.now c.requires n 0 (omega arith) in
     let l = c.loop-v.invariant.long in
     omega arith
 
 pub loop-v-preserved : goal.loop-v-preserved
 loop-v-preserved c =
     let n = c.loop-v.v-index in
-    let h = all_or_inside (λ v. v < length c.args.self.now.values) c.args.places.now n 0 c.requires (omega arith) in
+    let h = All-from_recursion (λ v. v < length c.args.self.now.values) c.args.places.now c.requires n 0 (omega arith) in
     let l = c.loop-v.invariant.long in
     putting_more c.args.self.now c.args.places.now n (slice_index c.args.places.now n) c.loop-v.self c.set.new.self c.top.result c.loop-v.invariant refl (omega arith) c.top.ensures c.set.ensures
 

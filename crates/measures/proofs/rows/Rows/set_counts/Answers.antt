@@ -1,6 +1,5 @@
-use Rattle.std.proofs.Common.{◌≡◌, ◌≢◌, ◌∙◌, ◌+◌, ◌*◌, ◌++◌, ap, arith, drop, length, refl, take}
-use Rattle.std.proofs.lemmas.List.{with_items_is}
-use Rattle.measures.specs.Measure.{Counts, Top}
+use Rattle.std.proofs.Common.{◌≡◌, ◌≢◌, ◌∙◌, ◌+◌, ◌*◌, ◌++◌, ap, arith, drop, length, sym, take, false}
+use Rattle.std.proofs.lemmas.List.{length-set, with_items_is}
 use Rattle.measures.proofs.Stored.{long_is, row_inside, set_counts}
 use Rattle.measures.proofs.rows.Rows.set_counts.Goals as goal
 
@@ -20,7 +19,12 @@ pub returns : goal.returns
 returns c =
     let i = c.self.inside in
     let start = c.args.v * i.width in
-    let n : Counts c.args.counts.now ≢ Top = λ e. cc in
     let written : c.write_row.new.numbers ≡ take start i.counts.items ++ (c.args.counts.now ++ drop (start + i.width) i.counts.items) = rw c.as_mut_slice.ensures.value at c.write_row.ensures in
     let whole = with_items_is i.counts c.write_row.new.numbers (c.write_row.auto.numbers ∙ c.as_mut_slice.ensures.len) in
-    set_counts i.width i.tops.items i.counts.items c.args.self.now c.self.view_is c.args.v (Counts c.args.counts.now) c.args.counts.now _ c.requires.vertex n refl c.requires.width c.self.invariant (whole ∙ written)
+    set_counts i.width i.tops.items i.counts.items c.args.self.now c.self.view_is c.args.v c.args.counts.now _ c.requires.vertex c.requires.width c.self.invariant (whole ∙ written)
+
+pub invariant_of-self : goal.invariant_of-self
+invariant_of-self c =
+    let i = c.self.inside in
+    let whole = with_items_is i.counts c.write_row.new.numbers (c.write_row.auto.numbers ∙ c.as_mut_slice.ensures.len) in
+    ap length whole ∙ (c.write_row.auto.numbers ∙ (ap length c.as_mut_slice.ensures.value ∙ (c.self.invariant ∙ ap (λ n. n * i.width) (sym (length-set i.tops.items c.args.v false)))))

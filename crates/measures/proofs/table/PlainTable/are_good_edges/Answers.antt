@@ -1,4 +1,5 @@
-use Rattle.std.proofs.Common.{arith, refl, slice_index}
+use Rattle.std.proofs.Common.{◌<◌, arith, length, refl, slice_index}
+use Rattle.std.proofs.lemmas.List.Elements.{All-from_recursion}
 use Rattle.measures.specs.Claim.{IsGoodFrom}
 use Rattle.measures.proofs.Putting.{contained_from, more_places}
 use Rattle.measures.proofs.table.PlainTable.are_good_edges.Goals as goal
@@ -13,3 +14,6 @@ pub returns : goal.returns
 returns c =
     let t = c.args.self.now in
     ((λ yes. contained_from (IsGoodFrom t.game t.values c.args.claim.now.entries c.args.priority c.args.v) c.args.successors.now c.loop-t.t-index (omega arith) c.loop-t.invariant), (λ good. refl))
+
+pub is_good_edge-requires-clause-next : goal.is_good_edge-requires-clause-next
+is_good_edge-requires-clause-next c = All-from_recursion (λ t. t < length c.args.self.now.game.vertices) c.args.successors.now c.requires.inside c.loop-t.t-index 0 c.loop-t-test.true

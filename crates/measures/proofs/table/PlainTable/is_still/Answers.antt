@@ -1,9 +1,19 @@
 use Rattle.std.proofs.Common.{◌≡◌, ◌∙◌, ◌↔◌, IsTrue, ap, subst}
 use Rattle.measures.specs.Settling.{IsStill}
 use Rattle.measures.specs.Tables.{Table}
-use Rattle.measures.proofs.Plain.{stored_as}
+use Rattle.measures.proofs.Plain.{stored_as, values_there}
 use Rattle.measures.proofs.Settling.{reached_from, still_from}
 use Rattle.measures.proofs.table.PlainTable.is_still.Goals as goal
+
+pub best-best-requires-clause-inside : goal.best-best-requires-clause-inside
+best-best-requires-clause-inside c =
+    let i = c.self.inside in
+    (values_there i.of.value c.args.game.now i.rows.values c.self.invariant.plain (ap (λ (t : Table). t.game) c.self.view_is ∙ c.requires.same) c.args.v c.requires.vertex c.successors.result.now c.successors.ensures).0
+
+pub best-best-requires-clause-some : goal.best-best-requires-clause-some
+best-best-requires-clause-some c =
+    let i = c.self.inside in
+    (values_there i.of.value c.args.game.now i.rows.values c.self.invariant.plain (ap (λ (t : Table). t.game) c.self.view_is ∙ c.requires.same) c.args.v c.requires.vertex c.successors.result.now c.successors.ensures).1
 
 pub returns : goal.returns
 returns c =

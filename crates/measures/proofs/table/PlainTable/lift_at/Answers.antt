@@ -6,7 +6,7 @@ use Rattle.measures.specs.Progress.{value_at}
 use Rattle.measures.specs.Settling.{IsStill}
 use Rattle.measures.specs.Tables.{LiesBelow, Table}
 use Rattle.measures.specs.View.{Rows}
-use Rattle.measures.proofs.Plain.{measure_width, set_stored, stored_as, stored_width}
+use Rattle.measures.proofs.Plain.{measure_width, set_stored, stored_as, stored_width, value_here, values_there}
 use Rattle.measures.proofs.Reaching.{not_reached}
 use Rattle.measures.proofs.Settling.{lift_below, risen_lift, still_from, sum_raised}
 use Rattle.measures.proofs.table.PlainTable.lift_at.Goals as goal
@@ -62,3 +62,21 @@ returns-clause-lifts c =
     subst (λ (t : Table). sum_of g t.values < sum_of g c.set.new.self.values) c.self.view_is
     (sum_raised g values plain c.args.v c.prog_of-risen.result c.set.new.self.values c.requires.vertex lift
     (not_reached g c.priority-priority.result (value_at values c.best-best.result) (value_at values c.args.v) c.prog_of-risen.result is never) (ap (λ (r : Rows). r.values) c.set.ensures))
+
+pub best-best-requires-clause-inside : goal.best-best-requires-clause-inside
+best-best-requires-clause-inside c =
+    let i = c.self.inside in
+    (values_there i.of.value c.args.game.now i.rows.values c.self.invariant.plain (ap (λ (t : Table). t.game) c.self.view_is ∙ c.requires.same) c.args.v c.requires.vertex c.successors.result.now c.successors.ensures).0
+
+pub best-best-requires-clause-some : goal.best-best-requires-clause-some
+best-best-requires-clause-some c =
+    let i = c.self.inside in
+    (values_there i.of.value c.args.game.now i.rows.values c.self.invariant.plain (ap (λ (t : Table). t.game) c.self.view_is ∙ c.requires.same) c.args.v c.requires.vertex c.successors.result.now c.successors.ensures).1
+
+pub set-requires-clause-vertex : goal.set-requires-clause-vertex
+set-requires-clause-vertex c =
+    let i = c.self.inside in
+    value_here i.of.value c.args.game.now i.rows.values c.self.invariant.plain (ap (λ (t : Table). t.game) c.self.view_is ∙ c.requires.same) c.args.v c.requires.vertex
+
+pub prog_of-risen-requires : goal.prog_of-risen-requires
+prog_of-risen-requires c = subst (λ (t : Table). c.best-best.result < length t.values) c.self.view_is c.best-best.ensures.inside
