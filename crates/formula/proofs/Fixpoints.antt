@@ -12,7 +12,7 @@ abbrev pub IsWithin : ℕ → (ℕ → Type 0) → (ℕ → Type 0) → Type 0
 IsWithin n U V = (s : ℕ) → s < n → U s → V s
 
 -- a larger set has more, or is the same
-same_or_more : (n : ℕ) (f g : ℕ → Bool) → ((t : ℕ) → t < n → IsTrue (f t) → IsTrue (g t)) → ((t : ℕ) → t < n → IsTrue (g t) → IsTrue (f t)) ⊎ (how_many f n < how_many g n)
+pub same_or_more : (n : ℕ) (f g : ℕ → Bool) → ((t : ℕ) → t < n → IsTrue (f t) → IsTrue (g t)) → ((t : ℕ) → t < n → IsTrue (g t) → IsTrue (f t)) ⊎ (how_many f n < how_many g n)
 same_or_more zero f g h = inl (λ t lt. absurd (omega arith))
 same_or_more (suc n) f g h = decide (f n) (g n) refl refl (same_or_more n f g (λ t lt. h t (omega arith)))
   where
@@ -35,7 +35,7 @@ same_or_more (suc n) f g h = decide (f n) (g n) refl refl (same_or_more n f g (�
     decide false true p q (inl same) = inr (less (suc n) f g n (omega arith) h (λ k. true≢false (sym k ∙ p)) q)
     decide false false p q (inl same) = inl (λ t lt k. elim (at_last t lt) [ inl m ↦ same t m k | inr e ↦ absurd (true≢false (sym (subst (λ x. IsTrue (g x)) e k) ∙ q)) ])
 
-at_most_all : (n : ℕ) (f : ℕ → Bool) → how_many f n ≤ n
+pub at_most_all : (n : ℕ) (f : ℕ → Bool) → how_many f n ≤ n
 at_most_all n f = omega (arith, fewer n f (λ _. true) (λ t lt k. refl), all_pass n)
 
 module _ (n : ℕ) (F : (ℕ → Type 0) → ℕ → Type 0) (grows : (U V : ℕ → Type 0) → IsWithin n U V → IsWithin n (F U) (F V)) where

@@ -7,10 +7,11 @@ use Rattle.lts.specs.Path.{IsPath}
 use Rattle.normal.specs.Tree.{Norm, Constant, Junction, Modality, Fixpoint, Variable, size, Shape, ConstantNode, JunctionNode, ModalityNode, FixpointNode, VariableNode}
 use Rattle.game.specs.Arena.{targets}
 use Rattle.measures.specs.Measure.{is_odd}
+use Rattle.normal.proofs.Numbers.{size_some}
 use Rattle.laws.specs.Admissible.{IsEach, IsFitting}
 use Rattle.laws.proofs.Flags.{same_or_not, below_or_not}
 use Rattle.laws.proofs.Sat.{Sets, put, sat, iterates, sets, put_here, put_other}
-use Rattle.laws.proofs.Trees.{size_some, IsWithin, Binds}
+use Rattle.laws.proofs.Trees.{IsWithin, Binds}
 use Rattle.laws.proofs.NodeSets.{set_at, sets_low, true_root, left_sets, right_sets, one_sets}
 use Rattle.laws.proofs.Moves.{first, rank, choose, Step, IsLaid, seen, move_choice, left_choice, right_choice, stay}
 use Rattle.laws.proofs.Closed.{at_true, rank_found, closed}

@@ -13,10 +13,10 @@ use Rattle.measures.specs.Measure.{Measure, Top, IsAtMost}
 use Rattle.measures.specs.Progress.{IsProgress, IsLeastTable, value_at}
 use Rattle.measures.proofs.Measures.{top_last}
 use Rattle.measures.proofs.StrategyTable.{wins_table}
+use Rattle.normal.proofs.Numbers.{size_some}
 use Rattle.laws.specs.Admissible.{IsNodes}
 use Rattle.laws.specs.NodeMeaning.{node_mean}
 use Rattle.laws.specs.Laws.{EvenWinsWhereMeant, LeastTableDecides, EvenWinsFormula, LeastTableFormula, NestedWins, NestedTableDecides}
-use Rattle.laws.proofs.Trees.{size_some}
 use Rattle.laws.proofs.Vertices.{count_nodes}
 use Rattle.laws.proofs.Spelled.{root_means}
 use Rattle.laws.proofs.Sound.{tables_are_sound}

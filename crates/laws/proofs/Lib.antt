@@ -3,7 +3,6 @@ pub mod Lists
 pub mod Sat
 pub mod Trees
 pub mod Targets
-pub mod Counted
 pub mod Growth
 pub mod Settled
 pub mod NodeSets

@@ -5,13 +5,14 @@ use Rattle.lts.specs.System.{System}
 use Rattle.normal.specs.Tree.{Norm, Constant, Junction, Modality, Fixpoint, Variable, size, Shape, ConstantNode, JunctionNode, ModalityNode, FixpointNode, VariableNode, shape_at}
 use Rattle.game.specs.Arena.{targets}
 use Rattle.measures.proofs.Lists.{contains_first, contains_later}
+use Rattle.normal.proofs.Numbers.{size_some}
 use Rattle.laws.specs.Admissible.{IsEach}
 use Rattle.laws.proofs.Flags.{cases, both, same_or_not, below_or_not}
 use Rattle.laws.proofs.Lists.{all_gives}
 use Rattle.laws.proofs.Targets.{target_below}
 use Rattle.laws.proofs.Sat.{Sets, put, join, junction, modality, sat, iterates, sets, put_here, put_other, join_left, join_right}
 use Rattle.laws.proofs.Settled.{least}
-use Rattle.laws.proofs.Trees.{size_some, IsWithin, Binds}
+use Rattle.laws.proofs.Trees.{IsWithin, Binds}
 
 -- the first that passes
 abbrev pub first : (ℕ → Bool) → List ℕ → ℕ

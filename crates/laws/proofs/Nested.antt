@@ -3,6 +3,7 @@ use Rattle.std.proofs.Common.{◌≡◌, ℕ, ◌+◌, ◌≤◌, Bool, true, fa
 use Rattle.std.specs.Prelude.{◌%◌}
 use Rattle.normal.specs.Tree.{Norm, Constant, Junction, Modality, Fixpoint, Variable, size, normal_form}
 use Rattle.normal.specs.Nodes.{Node, node_at, nodes_by, nested, greatest, parity_from}
+use Rattle.normal.proofs.Numbers.{no_less}
 use Rattle.measures.specs.Measure.{is_odd}
 use Rattle.laws.specs.Admissible.{IsFree, IsEach, IsFitting, priority_or, priority_in}
 use Rattle.laws.specs.Laws.{NodesFollow, NestedIsAdmissible}
@@ -22,10 +23,6 @@ parity_is : (flag : Bool) (n : ℕ) → is_odd (parity_from flag n) ≡ flag
 parity_is true n = same_true (parity_from true n % 2) 1 (omega arith)
 parity_is false n = other_false (parity_from false n % 2) 1 (λ e. omega arith)
 
-parity_above : (flag : Bool) (n : ℕ) → n ≤ parity_from flag n
-parity_above true n = omega arith
-parity_above false n = omega arith
-
 -- the greatest priority in the tree is at most that of each binder around it whose variable is free in it
 abbrev IsUnderOuter : (ℕ → ℕ) → ℕ → Norm → Type 0
 IsUnderOuter prio at f = (b : ℕ) → IsFree b at f → greatest f ≤ prio b
@@ -40,7 +37,7 @@ nested_fits prio at (Junction flag f g) h outer = (
 nested_fits prio at (Modality flag a f) h outer = (h.0, nested_fits prio (at + 1) f h.1 outer)
 nested_fits prio at (Fixpoint flag f) h outer =
     let is : prio at ≡ parity_from flag (greatest f) = h.0 in
-    let above = parity_above flag (greatest f) in (
+    let above = no_less flag (greatest f) in (
       (ap is_odd is ∙ parity_is flag (greatest f), λ b free. let i = outer b free in omega arith),
       nested_fits prio (at + 1) f h.1 (λ b free. elim (same_or_not b at) [
         | inl e ↦ (let q = ap prio e in omega arith)

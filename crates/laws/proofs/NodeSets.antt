@@ -2,10 +2,11 @@
 use Rattle.std.proofs.Common.{◌≡◌, ℕ, ◌+◌, ◌<◌, ◌≤◌, ◌⊎◌, Bool, true, false, refl, sym, ap, ◌∙◌, inl, inr, arith}
 use Rattle.lts.specs.System.{System}
 use Rattle.normal.specs.Tree.{Norm, Constant, Junction, Modality, Fixpoint, Variable, size}
+use Rattle.normal.proofs.Numbers.{size_some}
 use Rattle.laws.proofs.Sat.{Sets, put, join, sat, body, sets, put_here, put_other, join_left, join_right}
 use Rattle.laws.proofs.Growth.{IsIn, body_mono}
 use Rattle.laws.proofs.Settled.{up, settled}
-use Rattle.laws.proofs.Trees.{size_some, IsWithin}
+use Rattle.laws.proofs.Trees.{IsWithin}
 
 -- the same set, the same answer
 pub set_at : (e d : Sets) (k s : ℕ) → e k ≡ d k → e k s ≡ true → d k s ≡ true

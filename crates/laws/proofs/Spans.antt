@@ -3,8 +3,9 @@ use Rattle.std.proofs.Common.{◌≡◌, ℕ, ◌+◌, ◌<◌, ◌≤◌, ◌�
 use Rattle.std.specs.List.{AllByRecursion}
 use Rattle.lts.specs.Path.{IsPath}
 use Rattle.normal.specs.Tree.{Norm, Constant, Junction, Modality, Fixpoint, Variable, size, Shape, shape_at}
+use Rattle.normal.proofs.Numbers.{size_some}
 use Rattle.laws.specs.Admissible.{IsFree, IsEach, IsFitting}
-use Rattle.laws.proofs.Trees.{size_some, IsWithin, each_both, each_each, each_at, from_free}
+use Rattle.laws.proofs.Trees.{IsWithin, each_both, each_each, each_at, from_free}
 use Rattle.laws.proofs.Moves.{IsNext, IsLaid, stay}
 
 -- a part's priority is at most that of each binder around it whose variable is free in it

@@ -9,12 +9,13 @@ use Rattle.formula.specs.Tree.{Action, Step, Formula}
 use Rattle.formula.specs.Meaning.{Leads, Env, no_sets, with_set, iterate, mean}
 use Rattle.normal.specs.Tree.{Norm, Constant, Junction, Modality, Fixpoint, Variable, size, binder_name, constant_formula, junction_formula, modality_formula, fixpoint_formula, formula_from}
 use Rattle.game.specs.Arena.{targets}
+use Rattle.normal.proofs.Numbers.{size_some}
 use Rattle.laws.specs.NodeMeaning.{tree_mean, node_mean}
 use Rattle.laws.proofs.Flags.{cases, same_or_not, below_or_not}
 use Rattle.formula.proofs.Inside.{leads_inside}
 use Rattle.laws.proofs.Targets.{target_below, target_leads, leads_target}
 use Rattle.laws.proofs.Sat.{Sets, put, turns, sat, body, from, sets, nothing, Joined, joined_map, junction_is, Reached, modality_is}
-use Rattle.laws.proofs.Trees.{IsWithin, size_some}
+use Rattle.laws.proofs.Trees.{IsWithin}
 use Rattle.laws.proofs.NodeSets.{set_at, at_set, root_true, true_root, left_sets, right_sets, one_sets}
 
 -- ---- names of binders

@@ -6,14 +6,6 @@ use Rattle.laws.specs.Admissible.{IsEach, IsFree}
 use Rattle.laws.proofs.Flags.{same_or_not, below_or_not}
 use Rattle.laws.proofs.Lists.{get_right}
 
--- a tree has a node
-pub size_some : (f : Norm) → 1 ≤ size f
-size_some (Constant flag) = omega arith
-size_some (Junction flag f g) = omega arith
-size_some (Modality flag a f) = omega arith
-size_some (Fixpoint flag f) = omega arith
-size_some (Variable b) = omega arith
-
 -- the numbers of a tree's parts
 pub record IsWithin (at : ℕ) (f : Norm) (k : ℕ) : Type 0 where
   pub from : at ≤ k

@@ -14,11 +14,12 @@ use Rattle.game.specs.declared.player.Player.TheVariants.{Even}
 use Rattle.game.specs.Game.{Vertex, vertex, Game}
 use Rattle.game.specs.Arena.{place, arena, owner_of, successors_of, vertex_of}
 use Rattle.game.specs.Wins.{Edge, IsStrategy, greatest_met, priority_at}
+use Rattle.normal.proofs.Numbers.{size_some}
 use Rattle.laws.specs.Admissible.{IsNodes, priority_in}
 use Rattle.laws.specs.Laws.{MeaningWins}
 use Rattle.laws.proofs.Flags.{both, and_true, either, or_right, if_false, le_true, true_le}
 use Rattle.laws.proofs.Sat.{sets, nothing}
-use Rattle.laws.proofs.Trees.{IsWithin, size_some, Binds, from_free}
+use Rattle.laws.proofs.Trees.{IsWithin, Binds, from_free}
 use Rattle.laws.proofs.Moves.{choose, IsNext, Moves, IsChoice, moves_below, stay}
 use Rattle.laws.proofs.Closed.{closed, choices}
 use Rattle.laws.proofs.Paths.{path_into, met}

@@ -1,5 +1,6 @@
 -- Marks of all states, of the others, of both and of either.
 use Rattle.std.proofs.Common.{◌≡◌, ℕ, zero, suc, ◌<◌, ◌⊎◌, ◌↔◌, Bool, true, false, not, ◌&&◌, ◌||◌, List, [], ◌∷◌, length, map, replicate, refl, subst, sym, ap, ◌∙◌, inl, inr, arith}
+use Rattle.std.proofs.lemmas.List.{length-map, length-replicate, get_or-map, get_or-replicate}
 use Rattle.std.specs.Prelude.{zip, slice_index_or, IsTrue}
 use mathlib.Core.Bool.{beq}
 use lib.Pointwise.{pointwise}
@@ -9,25 +10,11 @@ use Rattle.formula.proofs.Telling.{false_is_none, of_not, of_and, of_or}
 abbrev pub at : List Bool → ℕ → Bool
 at ms s = slice_index_or ms s false
 
-at_all : (n : ℕ) (b : Bool) (s : ℕ) → s < n → at (replicate n b) s ≡ b
-at_all zero b s h = absurd (omega arith)
-at_all (suc n) b zero h = refl
-at_all (suc n) b (suc s) h = at_all n b s (omega arith)
-
-pub at_not : (ms : List Bool) (s : ℕ) → s < length ms → at (map not ms) s ≡ not (at ms s)
-at_not [] s h = absurd (omega arith)
-at_not (m ∷ ms) zero h = refl
-at_not (m ∷ ms) (suc s) h = at_not ms s (omega arith)
-
 pub at_zip : (f : Bool × Bool → Bool) (ms ns : List Bool) (s : ℕ) → s < length ms → length ms ≡ length ns → at (map f (zip ms ns)) s ≡ f (at ms s, at ns s)
 at_zip f [] ns s h e = absurd (omega arith)
 at_zip f (m ∷ ms) [] s h e = absurd (omega arith)
 at_zip f (m ∷ ms) (n ∷ ns) zero h e = refl
 at_zip f (m ∷ ms) (n ∷ ns) (suc s) h e = at_zip f ms ns s (omega arith) (omega arith)
-
-length_not : (ms : List Bool) → length (map not ms) ≡ length ms
-length_not [] = refl
-length_not (m ∷ ms) = ap suc (length_not ms)
 
 pub length_zip : (f : Bool × Bool → Bool) (ms ns : List Bool) → length ms ≡ length ns → length (map f (zip ms ns)) ≡ length ms
 length_zip f [] [] e = refl
@@ -35,20 +22,16 @@ length_zip f [] (n ∷ ns) e = refl
 length_zip f (m ∷ ms) [] e = absurd (omega arith)
 length_zip f (m ∷ ms) (n ∷ ns) e = ap suc (length_zip f ms ns (omega arith))
 
-length_all : (n : ℕ) (b : Bool) → length (replicate n b) ≡ n
-length_all zero b = refl
-length_all (suc n) b = ap suc (length_all n b)
-
 pub marks_all : (n : ℕ) → Marks n (replicate n true) (λ s. Unit {0})
-marks_all n = record { count = length_all n true; exact = λ s h. (λ _. tt, λ _. at_all n true s h) }
+marks_all n = record { count = length-replicate n true; exact = λ s h. (λ _. tt, λ _. get_or-replicate n s true false h) }
 
 pub marks_none : (n : ℕ) → Marks n (replicate n false) (λ s. ⊥)
-marks_none n = record { count = length_all n false; exact = λ s h. (λ e. false_is_none (sym (at_all n false s h) ∙ e), λ no. absurd no) }
+marks_none n = record { count = length-replicate n false; exact = λ s h. (λ e. false_is_none (sym (get_or-replicate n s false false h) ∙ e), λ no. absurd no) }
 
 pub marks_not : (n : ℕ) (ms : List Bool) (P : ℕ → Type 0) → Marks n ms P → Marks n (map not ms) (λ s. P s → ⊥)
 marks_not n ms P m = record {
-  count = length_not ms ∙ m.count;
-  exact = λ s h. subst (λ b. IsTrue b ↔ (P s → ⊥)) (sym (at_not ms s (omega (arith, m.count)))) (of_not (at ms s) (P s) (m.exact s h));
+  count = length-map ms not ∙ m.count;
+  exact = λ s h. subst (λ b. IsTrue b ↔ (P s → ⊥)) (sym (get_or-map not ms s false false (omega (arith, m.count)))) (of_not (at ms s) (P s) (m.exact s h));
 }
 
 pub marks_and : (n : ℕ) (ms ns : List Bool) (P Q : ℕ → Type 0) → Marks n ms P → Marks n ns Q → Marks n (map (λ p. p.0 && p.1) (zip ms ns)) (λ s. P s × Q s)

@@ -1,7 +1,7 @@
 -- A loop that writes f of two lists' elements over the first list.
 use Rattle.std.proofs.Common.{◌≡◌, ℕ, zero, suc, ◌<◌, Bool, List, [], ◌∷◌, length, map, get_or, refl, ap, ◌+◌, ◌∙◌, add-one, false, arith}
 use Rattle.std.specs.Prelude.{zip, slice_set, slice_index_or}
-use Rattle.meaning.proofs.Setting.{default_free}
+use Rattle.std.proofs.lemmas.List.{get_or_default}
 
 module _ (f : Bool × Bool → Bool) where
   -- after i turns
@@ -28,7 +28,7 @@ module _ (f : Bool × Bool → Bool) where
       → slice_set now i (f (read, slice_index_or ys i false)) ≡ mixed (i + 1) xs ys
   mixed_turn i xs ys now read same at sized lt =
       let within : i < length now = omega (arith, ap length same, length-mixed i xs ys) in
-      let before : read ≡ slice_index_or (mixed i xs ys) i false = at ∙ (default_free now i read false within ∙ ap (λ ms. slice_index_or ms i false) same) in
+      let before : read ≡ slice_index_or (mixed i xs ys) i false = at ∙ (get_or_default now i read false within ∙ ap (λ ms. slice_index_or ms i false) same) in
       rw add-one
       (ap (λ b. slice_set now i (f (b, slice_index_or ys i false))) before
       ∙ ap (λ ms. slice_set ms i (f (slice_index_or (mixed i xs ys) i false, slice_index_or ys i false))) same

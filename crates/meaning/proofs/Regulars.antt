@@ -1,12 +1,13 @@
 -- Marks of where a composed regular formula leads.
 use Rattle.std.proofs.Common.{◌≡◌, ℕ, ◌<◌, ◌⊎◌, ◌↔◌, Bool, true, false, not, List, map, inl, inr, refl, sym, ap, ◌∙◌, arith}
+use Rattle.std.proofs.lemmas.List.{get_or-map}
 use Rattle.lts.specs.System.{System, IsSystem}
 use Rattle.formula.specs.Tree.{Regular, Then, Either, Star, Plus}
 use Rattle.formula.specs.Meaning.{Leads, Marks}
 use Rattle.meaning.specs.Into.{Into}
 use Rattle.formula.proofs.Inside.{leads_inside}
 use Rattle.formula.proofs.Telling.{false_is_none}
-use Rattle.meaning.proofs.Marked.{at, at_not, marks_same, marks_not}
+use Rattle.meaning.proofs.Marked.{at, marks_same, marks_not}
 
 pub into_then : (l : System) → IsSystem l → (r q : Regular) (marks middle found : List Bool) → Marks l.states middle (Into l q marks) → Marks l.states found (Into l r middle) → Marks l.states found (Into l (Then r q) marks)
 into_then l ok r q marks middle found m f = marks_same l.states found (Into l r middle) (Into l (Then r q) marks) f (λ s h. (there s h, back s h))
@@ -37,13 +38,13 @@ into_box l ok r marks found P m f = marks_same l.states (map not found) _ _ (mar
         let w = leads_inside l ok r s t h go in
         elim (at marks t) as (λ b. at marks t ≡ b → P t) [
           | true ↦ λ e. (m.exact t w).0 e
-          | false ↦ λ e. absurd (none (t, go, at_not marks t (omega (arith, w, m.count)) ∙ ap not e))
+          | false ↦ λ e. absurd (none (t, go, get_or-map not marks t false false (omega (arith, w, m.count)) ∙ ap not e))
         ] refl
 
     back : (s : ℕ) → s < l.states → ((t : ℕ) → Leads l r s t → P t) → Into l r (map not marks) s → ⊥
     back s h all (t, go, k) =
         let w = leads_inside l ok r s t h go in
-        false_is_none (ap not (sym ((m.exact t w).1 (all t go))) ∙ (sym (at_not marks t (omega (arith, w, m.count))) ∙ k))
+        false_is_none (ap not (sym ((m.exact t w).1 (all t go))) ∙ (sym (get_or-map not marks t false false (omega (arith, w, m.count))) ∙ k))
 
 pub into_dia : (l : System) → IsSystem l → (r : Regular) (marks found : List Bool) (P : ℕ → Type 0) → Marks l.states marks P → Marks l.states found (Into l r marks) → Marks l.states found (λ s. (t : ℕ) × Leads l r s t × P t)
 into_dia l ok r marks found P m f = marks_same l.states found _ _ f

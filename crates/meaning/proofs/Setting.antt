@@ -5,12 +5,6 @@ use Rattle.formula.specs.Meaning.{marked}
 use Rattle.meaning.specs.Arrivals.{unmarked}
 use Rattle.meaning.proofs.Marked.{at}
 
--- within a list it doesn't matter what stands past its end
-pub default_free : {X : Type 0} (xs : List X) (i : ℕ) (d e : X) → i < length xs → get_or xs i d ≡ get_or xs i e
-default_free [] i d e lt = absurd (omega arith)
-default_free (x ∷ xs) zero d e lt = refl
-default_free (x ∷ xs) (suc i) d e lt = default_free xs i d e (omega arith)
-
 pub set_keeps : (ms : List Bool) (i s : ℕ) → marked ms s → marked (slice_set ms i true) s
 set_keeps [] i s h = h
 set_keeps (m ∷ ms) zero zero h = refl

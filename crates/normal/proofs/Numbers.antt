@@ -17,7 +17,7 @@ VariablesBelow n (Modality flag a f) = VariablesBelow n f
 VariablesBelow n (Fixpoint flag f) = VariablesBelow n f
 VariablesBelow n (Variable binder) = binder < n
 
-size_some : (f : Norm) → 1 ≤ size f
+pub size_some : (f : Norm) → 1 ≤ size f
 size_some (Constant flag) = omega arith
 size_some (Junction flag f g) = omega arith
 size_some (Modality flag a f) = omega arith
@@ -28,7 +28,7 @@ all_append : {X : Type 0} (P : X → Type 0) (xs ys : List X) → AllByRecursion
 all_append P [] ys h k = k
 all_append P (x ∷ xs) ys h k = (h.0, all_append P xs ys h.1 k)
 
-no_less : (flag : Bool) (n : ℕ) → n ≤ parity_from flag n
+pub no_less : (flag : Bool) (n : ℕ) → n ≤ parity_from flag n
 no_less true n = omega arith
 no_less false n = omega arith
 

@@ -18,6 +18,7 @@ fn copied_names(alloc: Global, names: &[Vec<u8>]) -> Result<Vec<Vec<u8>>, AllocE
 }
 
 /// A copy of an action formula.
+#[cycle(copies)]
 pub fn copied(alloc: Global, action: &Act) -> Result<Act, AllocError>
     ensures { IfOk result (λ copy. action_of copy ≡ action_of action.now) }
 {
@@ -26,24 +27,17 @@ pub fn copied(alloc: Global, action: &Act) -> Result<Act, AllocError>
         Act::False => Ok(Act::False),
         Act::Names(names) => Ok(Act::Names(copied_names(alloc, names)?)),
         Act::Quoted(bytes) => Ok(Act::Quoted(Vec::from_slice(alloc, bytes)?)),
-        Act::Not(operand) => {
-            let operand = copied(alloc, operand)?;
-            Ok(Act::Not(Box::new(alloc, operand)?))
-        }
-        Act::And(left, right) => {
-            let left = copied(alloc, left)?;
-            let right = copied(alloc, right)?;
-            Ok(Act::And(Box::new(alloc, left)?, Box::new(alloc, right)?))
-        }
-        Act::Or(left, right) => {
-            let left = copied(alloc, left)?;
-            let right = copied(alloc, right)?;
-            Ok(Act::Or(Box::new(alloc, left)?, Box::new(alloc, right)?))
-        }
-        Act::Implies(left, right) => {
-            let left = copied(alloc, left)?;
-            let right = copied(alloc, right)?;
-            Ok(Act::Implies(Box::new(alloc, left)?, Box::new(alloc, right)?))
-        }
+        Act::Not(operand) => Ok(Act::Not(boxed(alloc, operand)?)),
+        Act::And(left, right) => Ok(Act::And(boxed(alloc, left)?, boxed(alloc, right)?)),
+        Act::Or(left, right) => Ok(Act::Or(boxed(alloc, left)?, boxed(alloc, right)?)),
+        Act::Implies(left, right) => Ok(Act::Implies(boxed(alloc, left)?, boxed(alloc, right)?)),
     }
+}
+
+#[cycle(copies)]
+fn boxed(alloc: Global, action: &Act) -> Result<Box<Act>, AllocError>
+    ensures { IfOk result (λ copy. action_of copy.value ≡ action_of action.now) }
+{
+    let copy = copied(alloc, action)?;
+    Ok(Box::new(alloc, copy)?)
 }

@@ -143,17 +143,25 @@ fn write_formula<'a>(
     ensures { IfOk result (λ s. Writes (vec_len nodes.old) (nodes_of nodes.old.items) (nodes_of nodes.new.items) (norm flag (binders_of scope.now) (formula_of formula.now) (vec_len nodes.old)) s) }
 {
     let at = nodes.len() as u32;
-    let part = |flag, f| Part::Formula(flag, f, scope);
     match formula {
         State::True => leaf(nodes, constant(flag)),
         State::False => leaf(nodes, constant(!flag)),
         State::Var(name) => leaf(nodes, Kind::Var(binder_of(scope, name))),
         State::Not(f) => write_formula(alloc, nodes, !flag, f, scope),
-        State::And(f, g) => junction(alloc, nodes, !flag, &part(flag, f), &part(flag, g)),
-        State::Or(f, g) => junction(alloc, nodes, flag, &part(flag, f), &part(flag, g)),
-        State::Implies(f, g) => junction(alloc, nodes, flag, &part(!flag, f), &part(flag, g)),
-        State::Dia(r, f) => write_modal(alloc, nodes, flag, r, &part(flag, f)),
-        State::Box(r, f) => write_modal(alloc, nodes, !flag, r, &part(flag, f)),
+        State::And(f, g) => {
+            let left = Part::Formula(flag, f, scope);
+            junction(alloc, nodes, !flag, &left, &Part::Formula(flag, g, scope))
+        }
+        State::Or(f, g) => {
+            let left = Part::Formula(flag, f, scope);
+            junction(alloc, nodes, flag, &left, &Part::Formula(flag, g, scope))
+        }
+        State::Implies(f, g) => {
+            let left = Part::Formula(!flag, f, scope);
+            junction(alloc, nodes, flag, &left, &Part::Formula(flag, g, scope))
+        }
+        State::Dia(r, f) => write_modal(alloc, nodes, flag, r, &Part::Formula(flag, f, scope)),
+        State::Box(r, f) => write_modal(alloc, nodes, !flag, r, &Part::Formula(flag, f, scope)),
         State::Mu(name, f) => {
             let scope = Scope::Binder(name, at, scope);
             fixpoint(alloc, nodes, flag, &Part::Formula(flag, f, &scope))

@@ -4,6 +4,7 @@ use Rattle.std.specs.List.{list_any}
 use Rattle.std.proofs.Math.ListN.{length-set}
 use Rattle.std.proofs.Math.Seq.{take-length}
 use Rattle.std.proofs.lemmas.List.Folds.{list_any_more}
+use Rattle.std.proofs.lemmas.List.{get_or_default}
 use Rattle.lts.specs.System.{Arrow}
 use Rattle.lts.specs.declared.system.Transition.{Transition}
 use Rattle.lts.specs.Numbered.{label_at, arrow_of}
@@ -13,7 +14,6 @@ use Rattle.formula.specs.Tree.{Step}
 use Rattle.meaning.specs.Into.{Into}
 use Rattle.meaning.proofs.Each.{none, inside}
 use Rattle.meaning.proofs.Marked.{at}
-use Rattle.meaning.proofs.Setting.{default_free}
 use Rattle.formula.proofs.Entering.{enters, enters_leads}
 use Rattle.meaning.proofs.Arrows.{one_more, any_of_map}
 use Rattle.meaning.proofs.actions.before.Goals as goal
@@ -39,7 +39,7 @@ loop-source-preserved c =
     let chosen : step.label < length c.in_ok-chosen.chosen.items = c.in_ok-chosen.ensures.count step.label ok.label c.is_chosen.ensures.fits in
     let same : (c.index-had.result.now || c.is_chosen.result && at c.args.marks.now step.target) ≡ (at found step.source || leads) =
     ap₂ (λ a b. a || b)
-    (c.index-had.ensures ∙ default_free found step.source c.index-had.result.now false within)
+    (c.index-had.ensures ∙ get_or_default found step.source c.index-had.result.now false within)
     (ap (λ a. a && at c.args.marks.now step.target) (c.is_chosen.ensures.value ∙ (ap (λ ms. at ms step.label) c.deref.ensures.value ∙ c.in_ok-chosen.ensures.each step.label chosen))) in
     record {
       count = simp length-set c.loop-source.invariant.count;

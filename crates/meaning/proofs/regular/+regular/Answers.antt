@@ -95,26 +95,24 @@ at_least_one-returns-in-Act t c =
     (λ found f. into_plus l c.requires.system r ms any found.items c.in_ok-any.ensures (subst (λ x. Marks l.states found.items (Into l r x)) c.deref.ensures.value f))
     c.before-in-Act.ensures)
 
+-- what stands before the signs behind a formula is no higher
+lower_of : (r q : Regular) → q ≡ without_signs r → height q ≤ height r
+lower_of r q e = subst (λ x. height x ≤ height r) (sym e) (no_higher r)
+
 pub leading-any_number-requires : goal.leading-any_number-requires
 leading-any_number-requires t c =
-    let r = regular_of c.deref-in-Star.result.now in
-    let is : regular_of c.args.regular.now ≡ Star r = ap regular_of c.in-Star.is ∙ sym (ap (λ a. Star (regular_of a)) c.deref-in-Star.ensures) in
-    let lower : height (regular_of c.without_signs_behind.result.now) ≤ height r = subst (λ q. height q ≤ height r) (sym c.without_signs_behind.ensures) (no_higher r) in
-    (omega (arith, ap height is, lower, c.decreases), (c.requires.system, c.requires.count))
+    let is : regular_of c.args.regular.now ≡ Star (regular_of c.deref-in-Star.result.now) = ap regular_of c.in-Star.is ∙ sym (ap (λ a. Star (regular_of a)) c.deref-in-Star.ensures) in
+    (omega (arith, ap height is, lower_of (regular_of c.deref-in-Star.result.now) (regular_of c.without_signs_behind.result.now) c.without_signs_behind.ensures, c.decreases), (c.requires.system, c.requires.count))
 
 pub leading-any_number-requires-then-has_star : goal.leading-any_number-requires-then-has_star
 leading-any_number-requires-then-has_star t c =
-    let r = regular_of c.deref-then-has_star.result.now in
-    let is : regular_of c.args.regular.now ≡ Plus r = ap regular_of c.in-Plus.is ∙ sym (ap (λ a. Plus (regular_of a)) c.deref-then-has_star.ensures) in
-    let lower : height (regular_of c.without_signs_behind-then-has_star.result.now) ≤ height r = subst (λ q. height q ≤ height r) (sym c.without_signs_behind-then-has_star.ensures) (no_higher r) in
-    (omega (arith, ap height is, lower, c.decreases), (c.requires.system, c.requires.count))
+    let is : regular_of c.args.regular.now ≡ Plus (regular_of c.deref-then-has_star.result.now) = ap regular_of c.in-Plus.is ∙ sym (ap (λ a. Plus (regular_of a)) c.deref-then-has_star.ensures) in
+    (omega (arith, ap height is, lower_of (regular_of c.deref-then-has_star.result.now) (regular_of c.without_signs_behind-then-has_star.result.now) c.without_signs_behind-then-has_star.ensures, c.decreases), (c.requires.system, c.requires.count))
 
 pub leading-at_least_one-requires : goal.leading-at_least_one-requires
 leading-at_least_one-requires t c =
-    let r = regular_of c.deref-else-has_star.result.now in
-    let is : regular_of c.args.regular.now ≡ Plus r = ap regular_of c.in-Plus.is ∙ sym (ap (λ a. Plus (regular_of a)) c.deref-else-has_star.ensures) in
-    let lower : height (regular_of c.without_signs_behind-else-has_star.result.now) ≤ height r = subst (λ q. height q ≤ height r) (sym c.without_signs_behind-else-has_star.ensures) (no_higher r) in
-    (omega (arith, ap height is, lower, c.decreases), (c.requires.system, c.requires.count))
+    let is : regular_of c.args.regular.now ≡ Plus (regular_of c.deref-else-has_star.result.now) = ap regular_of c.in-Plus.is ∙ sym (ap (λ a. Plus (regular_of a)) c.deref-else-has_star.ensures) in
+    (omega (arith, ap height is, lower_of (regular_of c.deref-else-has_star.result.now) (regular_of c.without_signs_behind-else-has_star.result.now) c.without_signs_behind-else-has_star.ensures, c.decreases), (c.requires.system, c.requires.count))
 
 pub leading-returns-in-Star : goal.leading-returns-in-Star
 leading-returns-in-Star t c =

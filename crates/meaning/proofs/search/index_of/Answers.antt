@@ -4,6 +4,7 @@ use Rattle.std.specs.List.{list_any}
 use Rattle.std.proofs.Math.Seq.{take-length}
 use Rattle.std.proofs.lemmas.Bool.{eqb-true, eq-eqb}
 use Rattle.std.proofs.lemmas.List.Folds.{list_any_more}
+use Rattle.std.proofs.lemmas.List.{get_or_default}
 use Rattle.lts.specs.System.{Arrow}
 use Rattle.lts.specs.declared.system.Transition.{Transition}
 use Rattle.lts.specs.Numbered.{label_at, arrow_of}
@@ -15,15 +16,12 @@ use Rattle.formula.proofs.Entering.{enters, enters_leads}
 use Rattle.meaning.specs.declared.arrivals.Arrival.{Arrival}
 use Rattle.meaning.specs.Arrivals.{IsOneOf, HasRoom}
 use Rattle.meaning.proofs.Each.{none, inside}
+use Rattle.meaning.proofs.Elements.{both}
 use Rattle.meaning.proofs.Marked.{at}
 use Rattle.meaning.proofs.Arrows.{any_of_map}
-use Rattle.meaning.proofs.Setting.{default_free}
 use Rattle.meaning.proofs.Indexing.{room_more, steps_more, told_chosen, told_other}
 use Rattle.meaning.proofs.search.index_of.Goals as goal
 use Rattle.meaning.proofs.search.index_of.Goals.{then-is_chosen+in_ok-push, else-is_chosen}
-
-both : {A B C : Type 0} → A ↔ B → B ↔ C → A ↔ C
-both f g = (λ a. g.0 (f.0 a), λ c. f.1 (g.1 c))
 
 pub is_chosen-requires : goal.is_chosen-requires
 is_chosen-requires c =
@@ -49,7 +47,7 @@ loop-source-preserved c =
     elim c.if-is_chosen.branch [
       | then-is_chosen+in_ok-push w ↦
           let a : Arrival = record { source = step.source; earlier = w.index.result.now } in
-          let before : a.earlier ≡ slice_index_or last step.target 0 = w.index.ensures ∙ default_free last step.target w.index.result.now 0 (omega (arith, now.room.count, ok.target)) in
+          let before : a.earlier ≡ slice_index_or last step.target 0 = w.index.ensures ∙ get_or_default last step.target w.index.result.now 0 (omega (arith, now.room.count, ok.target)) in
           let all_is : c.if-is_chosen.all.items ≡ all ++ a ∷ [] = ap (λ v. v.items) w.all-is ∙ w.in_ok-push.ensures.items in
           let long : w.len.result ≡ suc (length all) = omega (arith, w.len.ensures, ap length w.in_ok-push.ensures.items, length-append all (a ∷ [])) in
           let last_is : c.if-is_chosen.last.items ≡ slice_set last step.target (suc (length all)) = ap (λ v. v.items) w.last-is ∙ ap (λ k. slice_set last step.target k) long in

@@ -2,12 +2,13 @@ use Rattle.std.proofs.Common.{◌≡◌, ℕ, suc, ◌-◌, ◌<◌, ◌≤◌, 
 use Rattle.std.specs.Prelude.{slice_set, slice_index_or, All, Contains}
 use Rattle.std.proofs.Math.ListN.{length-set}
 use Rattle.std.proofs.lemmas.List.Elements.{All-push, Contains-append_cases, Contains-append_left, Contains-append_right}
+use Rattle.std.proofs.lemmas.List.{get_or_default}
 use Rattle.formula.specs.Meaning.{marked}
 use Rattle.meaning.specs.declared.arrivals.Arrival.{Arrival}
 use Rattle.meaning.specs.Arrivals.{nowhere, arrival_at, IsSource, IsOneOf}
 use Rattle.meaning.proofs.Marked.{at}
 use Rattle.meaning.proofs.Chains.{none_there, first_or_earlier, first, later}
-use Rattle.meaning.proofs.Setting.{default_free, set_keeps, set_there, set_adds, one_fewer}
+use Rattle.meaning.proofs.Setting.{set_keeps, set_there, set_adds, one_fewer}
 use Rattle.meaning.proofs.Elements.{only_one}
 use Rattle.meaning.proofs.search.visit.Goals as goal
 
@@ -16,14 +17,14 @@ one_step : (all : List Arrival) (next s : ℕ) (a : Arrival) → a ≡ slice_ind
 one_step all next s a is some le h =
     let k : ℕ = next - 1 in
     let there : next ≡ suc k = omega arith in
-    let e : a ≡ arrival_at all k = is ∙ default_free all k a nowhere (omega arith) in
+    let e : a ≡ arrival_at all k = is ∙ get_or_default all k a nowhere (omega arith) in
     subst (λ (b : Arrival). (b.source ≡ s) ⊎ IsOneOf all b.earlier s) (sym e) (first_or_earlier all k s (subst (λ n. IsOneOf all n s) there h))
 
 from_step : (all : List Arrival) (next s : ℕ) (a : Arrival) → a ≡ slice_index_or all (next - 1) a → 1 ≤ next → next ≤ length all → (a.source ≡ s) ⊎ IsOneOf all a.earlier s → IsOneOf all next s
 from_step all next s a is some le h =
     let k : ℕ = next - 1 in
     let there : next ≡ suc k = omega arith in
-    let e : a ≡ arrival_at all k = is ∙ default_free all k a nowhere (omega arith) in
+    let e : a ≡ arrival_at all k = is ∙ get_or_default all k a nowhere (omega arith) in
     subst (λ n. IsOneOf all n s) (sym there)
     (elim h [
       | inl same ↦ first all k s (omega arith) (ap (λ (b : Arrival). b.source) (sym e) ∙ same)
@@ -40,7 +41,7 @@ loop-next-preserved-in_ok-push c =
     let some : 1 ≤ c.loop-next.next = omega arith in
     let k : ℕ = c.loop-next.next - 1 in
     let within : k < length all = omega (arith, now.next) in
-    let is : a ≡ arrival_at all k = c.index.ensures ∙ default_free all k a nowhere within in
+    let is : a ≡ arrival_at all k = c.index.ensures ∙ get_or_default all k a nowhere within in
     let back : a.earlier ≤ k = subst (λ (b : Arrival). b.earlier ≤ k) (sym is) (c.requires.room.earlier k within) in
     let room : a.source < length c.args.found.now.items = subst (λ (b : Arrival). b.source < length c.args.found.now.items) (sym is) (c.requires.room.source k within) in
     let pushed : c.push.new.self.items ≡ waiting ++ a.source ∷ [] = c.in_ok-push.ensures.items in
@@ -70,7 +71,7 @@ loop-next-preserved-in_ok-push c =
       ];
       fewer =
           let fits : a.source < length found = omega (arith, now.count) in
-          let was : at found a.source ≡ false = default_free found a.source false c.index-in-loop-next.result.now fits ∙ (sym c.index-in-loop-next.ensures ∙ c.if-not-index.true) in
+          let was : at found a.source ≡ false = get_or_default found a.source false c.index-in-loop-next.result.now fits ∙ (sym c.index-in-loop-next.ensures ∙ c.if-not-index.true) in
           omega (arith, one_fewer found a.source fits was, now.fewer, ap length pushed, length-append waiting (a.source ∷ []));
     }
 
@@ -83,7 +84,7 @@ loop-next-preserved c =
     let some : 1 ≤ c.loop-next.next = omega arith in
     let k : ℕ = c.loop-next.next - 1 in
     let within : k < length all = omega (arith, now.next) in
-    let is : a ≡ arrival_at all k = c.index.ensures ∙ default_free all k a nowhere within in
+    let is : a ≡ arrival_at all k = c.index.ensures ∙ get_or_default all k a nowhere within in
     let back : a.earlier ≤ k = subst (λ (b : Arrival). b.earlier ≤ k) (sym is) (c.requires.room.earlier k within) in
     let room : a.source < length c.args.found.now.items = subst (λ (b : Arrival). b.source < length c.args.found.now.items) (sym is) (c.requires.room.source k within) in
     record {
@@ -96,7 +97,7 @@ loop-next-preserved c =
       sources = λ s h. elim (now.sources s h) [
         | inl m ↦ inl m
         | inr m ↦ elim (one_step all c.loop-next.next s a c.index.ensures some now.next m) [
-          | inl e ↦ inl (subst (marked found) e (default_free found a.source false c.index-in-loop-next.result.now (omega (arith, now.count)) ∙ (sym c.index-in-loop-next.ensures ∙ c.if-not-index.false)))
+          | inl e ↦ inl (subst (marked found) e (get_or_default found a.source false c.index-in-loop-next.result.now (omega (arith, now.count)) ∙ (sym c.index-in-loop-next.ensures ∙ c.if-not-index.false)))
           | inr rest ↦ inr rest
         ]
       ];
