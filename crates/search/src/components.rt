@@ -1,0 +1,182 @@
+// Strong components (Tarjan 1972), with one list for the walk's path and for what waits (Pearce 2016).
+
+use crate::edges::{is_odds, successors};
+use crate::numbers::{Numbers, Span};
+use game::graph::Game;
+use std::alloc::{AllocError, Global};
+
+// The low number of a vertex whose component is known.
+const CLOSED: u32 = u32::MAX;
+
+/// The edges among the vertices that have this number.
+#[derive(Clone, Copy)]
+pub(crate) struct Part<'g, 'n> {
+    pub(crate) game: &'g Game,
+    pub(crate) ids: &'n Numbers,
+    pub(crate) id: u32,
+    pub(crate) moves: &'n Numbers,
+    /// Whether Odd goes on by these moves only.
+    pub(crate) chosen: bool,
+}
+
+impl Part<'_, '_> {
+    /// Whether an edge leads to such a vertex.
+    pub(crate) fn has(&self, v: u32, t: u32) -> bool {
+        self.ids.get(t) == self.id
+            && (!self.chosen || !is_odds(self.game, v) || self.moves.get(v) == t)
+    }
+}
+
+/// The strong components of a part, each after those to which it leads, with the memory to find them.
+#[derive(Drop)]
+pub(crate) struct Components {
+    // When the walk came to a vertex. Zero is never.
+    number: Numbers,
+    // The least number of a vertex without a component that is known to be reached.
+    low: Numbers,
+    // How many successors the walk has seen.
+    seen: Numbers,
+    // The walk's path from the front on, and what was left without a component from the back on.
+    stack: Numbers,
+    depth: u32,
+    waiting: u32,
+    vertices: u32,
+    order: Numbers,
+    ends: Numbers,
+    length: u32,
+    last: u32,
+}
+
+impl Components {
+    pub(crate) fn new(alloc: Global, vertices: u32) -> Result<Self, AllocError> {
+        Ok(Components {
+            number: Numbers::zeros(alloc, vertices)?,
+            low: Numbers::zeros(alloc, vertices)?,
+            seen: Numbers::zeros(alloc, vertices)?,
+            stack: Numbers::zeros(alloc, vertices)?,
+            depth: 0,
+            waiting: vertices,
+            vertices,
+            order: Numbers::zeros(alloc, vertices)?,
+            ends: Numbers::zeros(alloc, vertices)?,
+            length: 0,
+            last: 0,
+        })
+    }
+
+    /// The first component of a part that was sorted.
+    pub(crate) fn first(&self, span: Span) -> Span {
+        Span {
+            from: span.from,
+            to: self.ends.get(span.from),
+        }
+    }
+
+    /// Puts the vertices between two places of the list in the order of their components.
+    pub(crate) fn sort(&mut self, part: &Part, list: &mut Numbers, span: Span) {
+        self.forget(list, span);
+        self.length = span.from;
+        for place in span.from..span.to {
+            let root = list.get(place);
+            self.walk(part, root);
+        }
+        for place in span.from..span.to {
+            list.set(place, self.order.get(place));
+        }
+    }
+
+    fn forget(&mut self, list: &Numbers, span: Span) {
+        for place in span.from..span.to {
+            self.number.set(list.get(place), 0);
+        }
+        self.last = 0;
+    }
+
+    // Walks from a vertex, unless it has been met.
+    fn walk(&mut self, part: &Part, root: u32) {
+        if self.number.get(root) != 0 {
+            return;
+        }
+        self.enter(root);
+        for _ in 0..u64::MAX {
+            if self.depth == 0 {
+                return;
+            }
+            self.go_on(part);
+        }
+    }
+
+    fn enter(&mut self, v: u32) {
+        self.last = self.last.saturating_add(1);
+        self.number.set(v, self.last);
+        self.low.set(v, self.last);
+        self.seen.set(v, 0);
+        self.stack.set(self.depth, v);
+        self.depth = self.depth.saturating_add(1);
+    }
+
+    // Sees one more successor of the path's last vertex, or leaves it.
+    fn go_on(&mut self, part: &Part) {
+        let v = self.stack.get(self.depth.saturating_sub(1));
+        let seen = self.seen.get(v);
+        match successors(part.game, v).get(seen as usize) {
+            Some(t) => {
+                self.seen.set(v, seen.saturating_add(1));
+                if part.has(v, *t) {
+                    self.see(v, *t);
+                }
+            }
+            None => self.leave(v),
+        }
+    }
+
+    fn see(&mut self, v: u32, t: u32) {
+        if self.number.get(t) == 0 {
+            self.enter(t);
+        } else {
+            let low = self.low.get(t);
+            self.lower(v, low);
+        }
+    }
+
+    fn lower(&mut self, v: u32, number: u32) {
+        if number < self.low.get(v) {
+            self.low.set(v, number);
+        }
+    }
+
+    fn leave(&mut self, v: u32) {
+        self.depth = self.depth.saturating_sub(1);
+        let low = self.low.get(v);
+        if low == self.number.get(v) {
+            self.close(v);
+        } else {
+            self.waiting = self.waiting.saturating_sub(1);
+            self.stack.set(self.waiting, v);
+            let parent = self.stack.get(self.depth.saturating_sub(1));
+            self.lower(parent, low);
+        }
+    }
+
+    // All that wait since this vertex was met are its component.
+    fn close(&mut self, v: u32) {
+        let first = self.length;
+        let number = self.number.get(v);
+        self.put(v);
+        for _ in 0..u32::MAX {
+            let next = self.stack.get(self.waiting);
+            if self.waiting >= self.vertices || self.low.get(next) < number {
+                break;
+            }
+            self.waiting = self.waiting.saturating_add(1);
+            self.put(next);
+        }
+        self.ends.set(first, self.length);
+    }
+
+    fn put(&mut self, v: u32) {
+        self.low.set(v, CLOSED);
+        self.order.set(self.length, v);
+        self.length = self.length.saturating_add(1);
+    }
+}
