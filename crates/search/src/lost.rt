@@ -1,16 +1,11 @@
 // What Odd wins, with reasons.
 
-use crate::numbers::{Numbers, Span};
+use crate::numbers::Numbers;
 use crate::ranks::Ranks;
 use crate::winners::Winners;
 use game::graph::Game;
 use lts::error::Memory;
 use std::alloc::Global;
-
-// How many vertices and edges a search looks at: this many, and so many times those of the game.
-const LEAST_BUDGET: u64 = 67_108_864;
-
-const TIMES: u64 = 64;
 
 /// The vertices that Odd was found to win, with its moves and ranks that fall along them. Nothing of it is sure before it is tested.
 #[derive(Drop)]
@@ -22,20 +17,11 @@ pub struct Lost {
 impl Lost {
     /// Searches a game, within a number of steps that is about linear in its size. It may find less than there is.
     pub fn of(alloc: Global, game: &Game) -> Result<Self, Memory> {
+        let mut ways = Winners::new(alloc, game)?.find(game);
         let mut ranks = Ranks::none(alloc, game)?;
-        let mut winners = Winners::new(alloc, game)?;
-        let size = winners.board.size();
-        let budget = size.saturating_mul(TIMES).saturating_add(LEAST_BUDGET);
-        let won = winners.find(game, budget);
-        let mut board = winners.board;
-        let all = Span {
-            from: 0,
-            to: game.vertices(),
-        };
-        let lost = board.gather(all, won.odd);
-        ranks.find(game, &mut board, lost);
+        ranks.find(game, &mut ways);
         Ok(Lost {
-            moves: board.moves,
+            moves: ways.field.moves,
             ranks,
         })
     }

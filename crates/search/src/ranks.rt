@@ -1,9 +1,6 @@
-// Why no cycle is Even's: for each even number the most vertices of this priority on a way among lesser ones.
+// Ranks: a count for each even number.
 
-use crate::board::Board;
-use crate::components::{Components, Part};
-use crate::edges::{priority, successors};
-use crate::numbers::{Numbers, Span};
+use crate::ways::Ways;
 use game::graph::Game;
 use std::alloc::{AllocError, Global};
 
@@ -62,29 +59,28 @@ impl Ranks {
         }
     }
 
-    /// Finds the counts of these vertices, of which Odd moves as the board says. If a cycle is Even's or the counts are too
-    /// many, then none is kept.
-    pub(crate) fn find(&mut self, game: &Game, board: &mut Board, span: Span) {
-        for place in span.from..span.to {
-            self.add(board.list.get(place), 1);
+    /// The counts of the vertices that Odd was found to win. If a cycle is Even's or the counts are too many, then there are none.
+    pub(crate) fn find(&mut self, game: &Game, ways: &mut Ways) {
+        for place in ways.lost.from..ways.lost.to {
+            self.add(ways.field.list.get(place), 1);
         }
-        if !self.find_all(game, board, span) {
-            self.forget(board, span);
+        if !self.find_all(game, ways) {
+            self.forget(ways);
         }
     }
 
-    fn forget(&mut self, board: &Board, span: Span) {
-        for place in span.from..span.to {
-            if let Some(sum) = self.sums.get_mut(board.list.get(place) as usize) {
+    fn forget(&mut self, ways: &Ways) {
+        for place in ways.lost.from..ways.lost.to {
+            if let Some(sum) = self.sums.get_mut(ways.field.list.get(place) as usize) {
                 *sum = 0;
             }
         }
     }
 
-    fn find_all(&mut self, game: &Game, board: &mut Board, span: Span) -> bool {
+    fn find_all(&mut self, game: &Game, ways: &mut Ways) -> bool {
         let mut unit = 1;
         for half in 0..EVEN {
-            match self.find_one(game, board, span, half, unit) {
+            match self.find_one(game, ways, half, unit) {
                 Some(next) => unit = next,
                 None => return false,
             }
@@ -93,120 +89,21 @@ impl Ranks {
     }
 
     // The counts of one even number. The answer is the next one's unit.
-    fn find_one(
-        &mut self,
-        game: &Game,
-        board: &mut Board,
-        span: Span,
-        half: u8,
-        unit: u64,
-    ) -> Option<u64> {
+    fn find_one(&mut self, game: &Game, ways: &mut Ways, half: u8, unit: u64) -> Option<u64> {
         let even = 2 * u32::from(half);
         if game.count(even) == 0 {
             return Some(unit);
         }
-        let most = longest(game, board, span, even)?;
-        let radix = u64::from(most).saturating_add(1);
+        let radix = u64::from(ways.longest(game, even)?).saturating_add(1);
         if let Some(digit) = self.digits.get_mut(usize::from(half)) {
             *digit = Digit { unit, radix };
         }
         let next = unit.checked_mul(radix)?;
-        for place in span.from..span.to {
-            let v = board.list.get(place);
-            let count = u64::from(board.left.get(v));
+        for place in ways.lost.from..ways.lost.to {
+            let v = ways.field.list.get(place);
+            let count = u64::from(ways.counts.get(v));
             self.add(v, unit.saturating_mul(count));
         }
         Some(next)
     }
-}
-
-// The most vertices of an even priority on a way from each vertex among those of no greater one. None where a cycle has one.
-fn longest(game: &Game, board: &mut Board, span: Span, even: u32) -> Option<u32> {
-    let id = board.fresh();
-    mark_low(game, board, span, even, id);
-    let low = board.gather(span, id);
-    let part = Part {
-        game,
-        ids: &board.ids,
-        id,
-        moves: &board.moves,
-        chosen: true,
-    };
-    board.components.sort(&part, &mut board.list, low);
-    let list = &board.list;
-    count_all(&part, &board.components, list, &mut board.left, low, even)
-}
-
-// Marks the vertices of no greater priority. All counts are zero.
-fn mark_low(game: &Game, board: &mut Board, span: Span, even: u32, id: u32) {
-    for place in span.from..span.to {
-        let v = board.list.get(place);
-        board.left.set(v, 0);
-        if u32::from(priority(game, v)) <= even {
-            board.ids.set(v, id);
-        }
-    }
-}
-
-fn count_all(
-    part: &Part,
-    components: &Components,
-    list: &Numbers,
-    counts: &mut Numbers,
-    span: Span,
-    even: u32,
-) -> Option<u32> {
-    let mut most = 0;
-    let mut rest = span;
-    for _ in 0..span.len() {
-        if rest.len() == 0 {
-            break;
-        }
-        let first = components.first(rest);
-        let count = count_of(part, list, counts, first, even)?;
-        for place in first.from..first.to {
-            counts.set(list.get(place), count);
-        }
-        most = count.max(most);
-        rest.from = first.to;
-    }
-    Some(most)
-}
-
-// The count of a component, whose own counts are still zero.
-fn count_of(
-    part: &Part,
-    list: &Numbers,
-    counts: &Numbers,
-    component: Span,
-    even: u32,
-) -> Option<u32> {
-    let mut most = 0;
-    let mut has = false;
-    for place in component.from..component.to {
-        let v = list.get(place);
-        has = has || u32::from(priority(part.game, v)) == even;
-        most = most_after(part, counts, v).max(most);
-    }
-    if !has {
-        Some(most)
-    } else if component.len() > 1 || has_loop(part, list.get(component.from)) {
-        None
-    } else {
-        most.checked_add(1)
-    }
-}
-
-fn has_loop(part: &Part, v: u32) -> bool {
-    successors(part.game, v).contains(&v) && part.has(v, v)
-}
-
-fn most_after(part: &Part, counts: &Numbers, v: u32) -> u32 {
-    let mut most = 0;
-    for t in successors(part.game, v) {
-        if part.has(v, *t) {
-            most = counts.get(*t).max(most);
-        }
-    }
-    most
 }

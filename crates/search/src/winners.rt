@@ -1,12 +1,20 @@
 // Who wins each vertex: by recursion on the greatest priority (Zielonka 1998) in strong components.
 
-use crate::board::{Board, Tops, Won};
+use crate::attractor::Attractors;
+use crate::components::{Components, Part};
+use crate::field::{Field, Tops, Won};
 use crate::numbers::Span;
+use crate::ways::Ways;
 use game::graph::Game;
 use std::alloc::{AllocError, Global};
 
 // How many steps of the recursion wait at most.
 const DEPTH: usize = 1024;
+
+// How many vertices and edges are looked at: this many, and so many times those of the game.
+const LEAST_BUDGET: u64 = 67_108_864;
+
+const TIMES: u64 = 64;
 
 // What the recursion still has to do.
 #[derive(Clone, Copy)]
@@ -28,7 +36,9 @@ struct Core {
 /// The recursion.
 #[derive(Drop)]
 pub(crate) struct Winners {
-    pub(crate) board: Board,
+    field: Field,
+    attractors: Attractors,
+    components: Components,
     tasks: Vec<Task>,
     depth: usize,
     spent: bool,
@@ -36,33 +46,47 @@ pub(crate) struct Winners {
 
 impl Winners {
     pub(crate) fn new(alloc: Global, game: &Game) -> Result<Self, AllocError> {
-        let none = Span { from: 0, to: 0 };
+        let span = Span { from: 0, to: 0 };
         let won = Won { even: 0, odd: 0 };
         Ok(Winners {
-            board: Board::new(alloc, game)?,
-            tasks: vec![in alloc; Task::Components { span: none, won }; DEPTH]?,
+            field: Field::new(alloc, game.vertices())?,
+            attractors: Attractors::new(alloc, game)?,
+            components: Components::new(alloc, game.vertices())?,
+            tasks: vec![in alloc; Task::Components { span, won }; DEPTH]?,
             depth: 0,
             spent: false,
         })
     }
 
-    /// Decides who wins. Past the budget of vertices and edges to look at nothing new is begun.
-    pub(crate) fn find(&mut self, game: &Game, budget: u64) -> Won {
-        let won = self.board.fresh_won();
-        let all = Span {
-            from: 0,
-            to: game.vertices(),
-        };
-        let id = self.board.fresh();
-        self.board.mark(all, id);
-        let left = self.board.settle(game, all, id, won);
-        self.decide_in_components(game, left, id, won);
+    /// Decides who wins, and leaves the vertices that Odd wins. Past a budget of vertices and edges to look at nothing new is
+    /// begun: this many, and so many times those of the game.
+    pub(crate) fn find(mut self, game: &Game) -> Ways {
+        let size = self.attractors.size();
+        let budget = size.saturating_mul(TIMES).saturating_add(LEAST_BUDGET);
+        let won = self.begin(game);
         for _ in 0..u64::MAX {
-            if self.spent || self.board.work > budget || !self.go_on(game) {
+            if self.spent || self.attractors.work > budget || !self.go_on(game) {
                 break;
             }
-            self.board.work = self.board.work.saturating_add(1);
+            self.attractors.toil(0);
         }
+        let all = all(game);
+        let lost = self.field.gather(all, won.odd);
+        Ways {
+            lost,
+            field: self.field,
+            components: self.components,
+            counts: self.attractors.into_numbers(),
+        }
+    }
+
+    fn begin(&mut self, game: &Game) -> Won {
+        let won = self.field.fresh_won();
+        let id = self.field.fresh();
+        let all = all(game);
+        self.field.mark(all, id);
+        let left = self.settle(game, all, id, won);
+        self.decide_in_components(game, left, id, won);
         won
     }
 
@@ -92,15 +116,30 @@ impl Winners {
         true
     }
 
+    fn settle(&mut self, game: &Game, span: Span, id: u32, won: Won) -> Span {
+        self.attractors.settle(game, &mut self.field, span, id, won)
+    }
+
+    fn sort(&mut self, game: &Game, span: Span, id: u32) {
+        let part = Part {
+            game,
+            ids: &self.field.ids,
+            id,
+            moves: &self.field.moves,
+            chosen: false,
+        };
+        self.components.sort(&part, &mut self.field.list, span);
+    }
+
     fn decide_in_components(&mut self, game: &Game, span: Span, id: u32, won: Won) {
         if span.len() > 0 {
-            self.board.sort(game, span, id);
+            self.sort(game, span, id);
             self.push(Task::Components { span, won });
         }
     }
 
     fn decide_first(&mut self, game: &Game, span: Span, won: Won) {
-        let first = self.board.components.first(span);
+        let first = self.components.first(span);
         let others = Span {
             from: first.to,
             to: span.to,
@@ -108,9 +147,9 @@ impl Winners {
         if others.len() > 0 {
             self.push(Task::Components { span: others, won });
         }
-        let id = self.board.fresh();
-        self.board.mark(first, id);
-        let left = self.board.settle(game, first, id, won);
+        let id = self.field.fresh();
+        self.field.mark(first, id);
+        let left = self.settle(game, first, id, won);
         self.decide_left(game, first, left, id, won);
     }
 
@@ -125,13 +164,13 @@ impl Winners {
 
     // Decides a part: what is drawn to the greatest priorities is theirs as long as the rest is.
     fn decide(&mut self, game: &Game, span: Span, id: u32, won: Won) {
-        let tops = self.board.tops(game, span);
-        let rest = self.board.draw(game, span, tops, id);
+        let tops = self.field.tops(game, span);
+        let rest = self.attractors.draw(game, &mut self.field, span, tops, id);
         if rest.len() == 0 {
-            self.board.give_all(game, span, tops, won);
+            self.field.give(game, span, tops, won);
             return;
         }
-        let inner = self.board.fresh_won();
+        let inner = self.field.fresh_won();
         let core = Core { span, tops, won };
         self.push(Task::Rest { rest, inner, core });
         self.decide_in_components(game, rest, id, inner);
@@ -140,12 +179,21 @@ impl Winners {
     // Where the other player wins some of the rest, it wins what is drawn to it, and what is left is decided anew.
     fn conclude(&mut self, game: &Game, rest: Span, inner: Won, core: Core) {
         let other = !core.tops.odd;
-        if !self.board.queue_marked(rest, inner.by(other)) {
-            self.board.give_all(game, core.span, core.tops, core.won);
+        if !self.attractors.find(&self.field, rest, inner.by(other)) {
+            self.field.give(game, core.span, core.tops, core.won);
             return;
         }
-        let id = self.board.fresh();
-        let left = self.board.give(game, core.span, id, other, core.won);
+        let id = self.field.fresh();
+        let left = self
+            .attractors
+            .give(game, &mut self.field, core.span, other, id, core.won);
         self.decide_left(game, core.span, left, id, core.won);
+    }
+}
+
+fn all(game: &Game) -> Span {
+    Span {
+        from: 0,
+        to: game.vertices(),
     }
 }
