@@ -27,40 +27,63 @@ impl Part<'_, '_> {
     }
 }
 
-/// The strong components of a part, each after those to which it leads, with the memory to find them.
+// The path of a walk from the list's front on, and what was left without a component from its back on.
 #[derive(Drop)]
-pub(crate) struct Components {
-    // When the walk came to a vertex. Zero is never.
-    number: Numbers,
-    // The least number of a vertex without a component that is known to be reached.
-    low: Numbers,
-    // How many successors the walk has seen.
-    seen: Numbers,
-    // The walk's path from the front on, and what was left without a component from the back on.
-    stack: Numbers,
+struct Path {
+    list: Numbers,
     depth: u32,
     waiting: u32,
     vertices: u32,
-    order: Numbers,
-    ends: Numbers,
-    length: u32,
-    last: u32,
 }
 
-impl Components {
-    pub(crate) fn new(alloc: Global, vertices: u32) -> Result<Self, AllocError> {
-        Ok(Components {
-            number: Numbers::zeros(alloc, vertices)?,
-            low: Numbers::zeros(alloc, vertices)?,
-            seen: Numbers::zeros(alloc, vertices)?,
-            stack: Numbers::zeros(alloc, vertices)?,
+impl Path {
+    fn new(alloc: Global, vertices: u32) -> Result<Self, AllocError> {
+        Ok(Path {
+            list: Numbers::zeros(alloc, vertices)?,
             depth: 0,
             waiting: vertices,
             vertices,
-            order: Numbers::zeros(alloc, vertices)?,
+        })
+    }
+
+    fn push(&mut self, v: u32) {
+        self.list.set(self.depth, v);
+        self.depth = self.depth.saturating_add(1);
+    }
+
+    fn last(&self) -> u32 {
+        self.list.get(self.depth.saturating_sub(1))
+    }
+
+    fn put_back(&mut self, v: u32) {
+        self.waiting = self.waiting.saturating_sub(1);
+        self.list.set(self.waiting, v);
+    }
+
+    // The vertex that waits since the shortest time.
+    fn waits(&self) -> Option<u32> {
+        if self.waiting < self.vertices {
+            Some(self.list.get(self.waiting))
+        } else {
+            None
+        }
+    }
+}
+
+/// Components one after another.
+#[derive(Drop)]
+pub(crate) struct Order {
+    list: Numbers,
+    ends: Numbers,
+    length: u32,
+}
+
+impl Order {
+    fn new(alloc: Global, vertices: u32) -> Result<Self, AllocError> {
+        Ok(Order {
+            list: Numbers::zeros(alloc, vertices)?,
             ends: Numbers::zeros(alloc, vertices)?,
             length: 0,
-            last: 0,
         })
     }
 
@@ -72,17 +95,53 @@ impl Components {
         }
     }
 
+    fn put(&mut self, v: u32) {
+        self.list.set(self.length, v);
+        self.length = self.length.saturating_add(1);
+    }
+
+    fn write(&self, list: &mut Numbers, span: Span) {
+        for place in span.from..span.to {
+            list.set(place, self.list.get(place));
+        }
+    }
+}
+
+/// The strong components of a part, each after those to which it leads, with the memory to find them.
+#[derive(Drop)]
+pub(crate) struct Components {
+    // When the walk came to a vertex. Zero is never.
+    number: Numbers,
+    // The least number of a vertex without a component that is known to be reached.
+    low: Numbers,
+    // How many successors the walk has seen.
+    seen: Numbers,
+    path: Path,
+    pub(crate) order: Order,
+    last: u32,
+}
+
+impl Components {
+    pub(crate) fn new(alloc: Global, vertices: u32) -> Result<Self, AllocError> {
+        Ok(Components {
+            number: Numbers::zeros(alloc, vertices)?,
+            low: Numbers::zeros(alloc, vertices)?,
+            seen: Numbers::zeros(alloc, vertices)?,
+            path: Path::new(alloc, vertices)?,
+            order: Order::new(alloc, vertices)?,
+            last: 0,
+        })
+    }
+
     /// Puts the vertices between two places of the list in the order of their components.
     pub(crate) fn sort(&mut self, part: &Part, list: &mut Numbers, span: Span) {
         self.forget(list, span);
-        self.length = span.from;
+        self.order.length = span.from;
         for place in span.from..span.to {
             let root = list.get(place);
             self.walk(part, root);
         }
-        for place in span.from..span.to {
-            list.set(place, self.order.get(place));
-        }
+        self.order.write(list, span);
     }
 
     fn forget(&mut self, list: &Numbers, span: Span) {
@@ -99,7 +158,7 @@ impl Components {
         }
         self.enter(root);
         for _ in 0..u64::MAX {
-            if self.depth == 0 {
+            if self.path.depth == 0 {
                 return;
             }
             self.go_on(part);
@@ -111,13 +170,12 @@ impl Components {
         self.number.set(v, self.last);
         self.low.set(v, self.last);
         self.seen.set(v, 0);
-        self.stack.set(self.depth, v);
-        self.depth = self.depth.saturating_add(1);
+        self.path.push(v);
     }
 
     // Sees one more successor of the path's last vertex, or leaves it.
     fn go_on(&mut self, part: &Part) {
-        let v = self.stack.get(self.depth.saturating_sub(1));
+        let v = self.path.last();
         let seen = self.seen.get(v);
         match successors(part.game, v).get(seen as usize) {
             Some(t) => {
@@ -146,37 +204,36 @@ impl Components {
     }
 
     fn leave(&mut self, v: u32) {
-        self.depth = self.depth.saturating_sub(1);
+        self.path.depth = self.path.depth.saturating_sub(1);
         let low = self.low.get(v);
         if low == self.number.get(v) {
             self.close(v);
         } else {
-            self.waiting = self.waiting.saturating_sub(1);
-            self.stack.set(self.waiting, v);
-            let parent = self.stack.get(self.depth.saturating_sub(1));
+            self.path.put_back(v);
+            let parent = self.path.last();
             self.lower(parent, low);
         }
     }
 
     // All that wait since this vertex was met are its component.
     fn close(&mut self, v: u32) {
-        let first = self.length;
+        let first = self.order.length;
         let number = self.number.get(v);
         self.put(v);
         for _ in 0..u32::MAX {
-            let next = self.stack.get(self.waiting);
-            if self.waiting >= self.vertices || self.low.get(next) < number {
-                break;
+            match self.path.waits() {
+                Some(next) if self.low.get(next) >= number => {
+                    self.path.waiting = self.path.waiting.saturating_add(1);
+                    self.put(next);
+                }
+                _ => break,
             }
-            self.waiting = self.waiting.saturating_add(1);
-            self.put(next);
         }
-        self.ends.set(first, self.length);
+        self.order.ends.set(first, self.order.length);
     }
 
     fn put(&mut self, v: u32) {
         self.low.set(v, CLOSED);
-        self.order.set(self.length, v);
-        self.length = self.length.saturating_add(1);
+        self.order.put(v);
     }
 }

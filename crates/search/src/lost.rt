@@ -38,8 +38,9 @@ impl Lost {
 
     /// Writes the rank of a vertex: for each even number a count, that of zero last.
     pub fn rank_into(&self, v: u32, rank: &mut [u32]) {
-        for (half, count) in rank.iter_mut().rev().enumerate() {
-            *count = self.ranks.count(v, half);
+        let width = rank.len();
+        for place in 0..width {
+            rank[place] = self.ranks.count(v, width - 1 - place);
         }
     }
 }

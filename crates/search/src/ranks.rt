@@ -98,12 +98,15 @@ impl Ranks {
         if let Some(digit) = self.digits.get_mut(usize::from(half)) {
             *digit = Digit { unit, radix };
         }
-        let next = unit.checked_mul(radix)?;
+        self.add_all(ways, unit);
+        unit.checked_mul(radix)
+    }
+
+    fn add_all(&mut self, ways: &Ways, unit: u64) {
         for place in ways.lost.from..ways.lost.to {
             let v = ways.field.list.get(place);
             let count = u64::from(ways.counts.get(v));
             self.add(v, unit.saturating_mul(count));
         }
-        Some(next)
     }
 }

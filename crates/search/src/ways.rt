@@ -62,7 +62,7 @@ fn count_all(
         if rest.len() == 0 {
             break;
         }
-        let first = components.first(rest);
+        let first = components.order.first(rest);
         let count = count_of(part, list, counts, first, even)?;
         for place in first.from..first.to {
             counts.set(list.get(place), count);

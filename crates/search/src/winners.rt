@@ -139,7 +139,7 @@ impl Winners {
     }
 
     fn decide_first(&mut self, game: &Game, span: Span, won: Won) {
-        let first = self.components.first(span);
+        let first = self.components.order.first(span);
         let others = Span {
             from: first.to,
             to: span.to,
