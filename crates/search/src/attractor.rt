@@ -2,7 +2,7 @@
 
 use crate::edges::{Predecessors, is_odds, priority};
 use crate::field::{Field, NONE, Tops, Won};
-use crate::numbers::{Numbers, Span};
+use crate::numbers::{Numbers, Queue, Span};
 use game::graph::Game;
 use std::alloc::{AllocError, Global};
 
@@ -13,8 +13,7 @@ pub(crate) struct Attractors {
     // How many successors keep a vertex from the other player.
     left: Numbers,
     // The vertices of an attractor, in the order in which they came.
-    queue: Numbers,
-    queued: u32,
+    queue: Queue,
     /// How many vertices and edges have been looked at.
     pub(crate) work: u64,
 }
@@ -24,8 +23,7 @@ impl Attractors {
         Ok(Attractors {
             predecessors: Predecessors::of(alloc, game)?,
             left: Numbers::zeros(alloc, game.vertices())?,
-            queue: Numbers::zeros(alloc, game.vertices())?,
-            queued: 0,
+            queue: Queue::new(alloc, game.vertices())?,
             work: 0,
         })
     }
@@ -45,11 +43,6 @@ impl Attractors {
         self.work = self.work.saturating_add(1).saturating_add(u64::from(edges));
     }
 
-    fn push(&mut self, v: u32) {
-        self.queue.set(self.queued, v);
-        self.queued = self.queued.saturating_add(1);
-    }
-
     /// Decides what the decided vertices around a part decide. The answer is what is left.
     pub(crate) fn settle(
         &mut self,
@@ -59,7 +52,7 @@ impl Attractors {
         id: u32,
         won: Won,
     ) -> Span {
-        self.queued = 0;
+        self.queue.clear();
         for place in span.from..span.to {
             let v = field.list.get(place);
             self.look(game, field, v, id, won);
@@ -77,13 +70,13 @@ impl Attractors {
         self.toil(left);
         if next != NONE || left == 0 {
             field.moves.set(v, next);
-            self.push(v);
+            self.queue.push(v);
         }
     }
 
     // A vertex of the queue is its owner's where there is a move.
     fn mark_decided(&mut self, game: &Game, field: &mut Field, won: Won) {
-        for place in 0..self.queued {
+        for place in 0..self.queue.len() {
             let v = self.queue.get(place);
             let odd = is_odds(game, v) == (field.moves.get(v) != NONE);
             field.ids.set(v, won.by(odd));
@@ -93,7 +86,7 @@ impl Attractors {
     // The attractors of both players at once, from the queue on.
     fn spread(&mut self, game: &Game, field: &mut Field, id: u32, won: Won) {
         for place in 0..u32::MAX {
-            if place >= self.queued {
+            if place >= self.queue.len() {
                 return;
             }
             let v = self.queue.get(place);
@@ -109,7 +102,7 @@ impl Attractors {
             let u = self.predecessors.at(place);
             if field.ids.get(u) == id && self.falls(game, field, u, v, odd) {
                 field.ids.set(u, won.by(odd));
-                self.push(u);
+                self.queue.push(u);
             }
         }
     }
@@ -151,11 +144,11 @@ impl Attractors {
     }
 
     fn mark_tops(&mut self, game: &Game, field: &mut Field, span: Span, tops: Tops, mark: u32) {
-        self.queued = 0;
+        self.queue.clear();
         for place in span.from..span.to {
             let v = field.list.get(place);
             if priority(game, v) >= tops.least {
-                self.push(v);
+                self.queue.push(v);
                 field.ids.set(v, mark);
             }
         }
@@ -163,14 +156,14 @@ impl Attractors {
 
     /// Puts the vertices of this number into the queue, and tells whether there are any.
     pub(crate) fn find(&mut self, field: &Field, span: Span, id: u32) -> bool {
-        self.queued = 0;
+        self.queue.clear();
         for place in span.from..span.to {
             let v = field.list.get(place);
             if field.ids.get(v) == id {
-                self.push(v);
+                self.queue.push(v);
             }
         }
-        self.queued > 0
+        self.queue.len() > 0
     }
 
     /// Gives what stands in the queue to a player, with all that can be forced there. The answer is what is left.
@@ -185,7 +178,7 @@ impl Attractors {
     ) -> Span {
         field.mark(span, id);
         self.count(game, field, span, id);
-        for place in 0..self.queued {
+        for place in 0..self.queue.len() {
             field.ids.set(self.queue.get(place), won.by(odd));
         }
         self.spread(game, field, id, won);

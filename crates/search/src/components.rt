@@ -1,31 +1,14 @@
 // Strong components (Tarjan 1972), with one list for the walk's path and for what waits (Pearce 2016).
 
-use crate::edges::{is_odds, successors};
+use crate::edges::successors;
 use crate::numbers::{Numbers, Span};
+use crate::order::Order;
+use crate::part::Part;
 use game::graph::Game;
 use std::alloc::{AllocError, Global};
 
 // The low number of a vertex whose component is known.
 const CLOSED: u32 = u32::MAX;
-
-/// The edges among the vertices that have this number.
-#[derive(Clone, Copy)]
-pub(crate) struct Part<'g, 'n> {
-    pub(crate) game: &'g Game,
-    pub(crate) ids: &'n Numbers,
-    pub(crate) id: u32,
-    pub(crate) moves: &'n Numbers,
-    /// Whether Odd goes on by these moves only.
-    pub(crate) chosen: bool,
-}
-
-impl Part<'_, '_> {
-    /// Whether an edge leads to such a vertex.
-    pub(crate) fn has(&self, v: u32, t: u32) -> bool {
-        self.ids.get(t) == self.id
-            && (!self.chosen || !is_odds(self.game, v) || self.moves.get(v) == t)
-    }
-}
 
 // The path of a walk from the list's front on, and what was left without a component from its back on.
 #[derive(Drop)]
@@ -66,43 +49,6 @@ impl Path {
             Some(self.list.get(self.waiting))
         } else {
             None
-        }
-    }
-}
-
-/// Components one after another.
-#[derive(Drop)]
-pub(crate) struct Order {
-    list: Numbers,
-    ends: Numbers,
-    length: u32,
-}
-
-impl Order {
-    fn new(alloc: Global, vertices: u32) -> Result<Self, AllocError> {
-        Ok(Order {
-            list: Numbers::zeros(alloc, vertices)?,
-            ends: Numbers::zeros(alloc, vertices)?,
-            length: 0,
-        })
-    }
-
-    /// The first component of a part that was sorted.
-    pub(crate) fn first(&self, span: Span) -> Span {
-        Span {
-            from: span.from,
-            to: self.ends.get(span.from),
-        }
-    }
-
-    fn put(&mut self, v: u32) {
-        self.list.set(self.length, v);
-        self.length = self.length.saturating_add(1);
-    }
-
-    fn write(&self, list: &mut Numbers, span: Span) {
-        for place in span.from..span.to {
-            list.set(place, self.list.get(place));
         }
     }
 }

@@ -38,9 +38,6 @@ impl Lost {
 
     /// Writes the rank of a vertex: for each even number a count, that of zero last.
     pub fn rank_into(&self, v: u32, rank: &mut [u32]) {
-        let width = rank.len();
-        for place in 0..width {
-            rank[place] = self.ranks.count(v, width - 1 - place);
-        }
+        self.ranks.write(v, rank);
     }
 }

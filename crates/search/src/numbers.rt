@@ -56,4 +56,46 @@ impl Span {
     pub(crate) fn len(self) -> u32 {
         self.to.saturating_sub(self.from)
     }
+
+    /// All places of a list of this length.
+    pub(crate) fn all(length: u32) -> Self {
+        Span {
+            from: 0,
+            to: length,
+        }
+    }
+}
+
+/// Numbers in the order in which they came.
+#[derive(Drop)]
+pub(crate) struct Queue {
+    list: Numbers,
+    length: u32,
+}
+
+impl Queue {
+    /// Nothing yet, with the memory for so many.
+    pub(crate) fn new(alloc: Global, most: u32) -> Result<Self, AllocError> {
+        Ok(Queue {
+            list: Numbers::zeros(alloc, most)?,
+            length: 0,
+        })
+    }
+
+    pub(crate) fn len(&self) -> u32 {
+        self.length
+    }
+
+    pub(crate) fn get(&self, place: u32) -> u32 {
+        self.list.get(place)
+    }
+
+    pub(crate) fn push(&mut self, number: u32) {
+        self.list.set(self.length, number);
+        self.length = self.length.saturating_add(1);
+    }
+
+    pub(crate) fn clear(&mut self) {
+        self.length = 0;
+    }
 }

@@ -35,8 +35,16 @@ impl Ranks {
         self.sum(v) > 0
     }
 
-    /// The count of an even number, which is given by its half.
-    pub(crate) fn count(&self, v: u32, half: usize) -> u32 {
+    /// Writes the counts of a vertex, that of zero last.
+    pub(crate) fn write(&self, v: u32, counts: &mut [u32]) {
+        let width = counts.len();
+        for place in 0..width {
+            counts[place] = self.count(v, width - 1 - place);
+        }
+    }
+
+    // The count of an even number, which is given by its half.
+    fn count(&self, v: u32, half: usize) -> u32 {
         let sum = self.sum(v).saturating_sub(1);
         let digit = self.digit(half);
         let above = sum.checked_div(digit.unit).unwrap_or(0);
@@ -59,9 +67,9 @@ impl Ranks {
         }
     }
 
-    /// The counts of the vertices that Odd was found to win. If a cycle is Even's or the counts are too many, then there are none.
+    /// The counts of these vertices. If a cycle is Even's or the counts are too many, then there are none.
     pub(crate) fn find(&mut self, game: &Game, ways: &mut Ways) {
-        for place in ways.lost.from..ways.lost.to {
+        for place in ways.span.from..ways.span.to {
             self.add(ways.field.list.get(place), 1);
         }
         if !self.find_all(game, ways) {
@@ -70,7 +78,7 @@ impl Ranks {
     }
 
     fn forget(&mut self, ways: &Ways) {
-        for place in ways.lost.from..ways.lost.to {
+        for place in ways.span.from..ways.span.to {
             if let Some(sum) = self.sums.get_mut(ways.field.list.get(place) as usize) {
                 *sum = 0;
             }
@@ -103,7 +111,7 @@ impl Ranks {
     }
 
     fn add_all(&mut self, ways: &Ways, unit: u64) {
-        for place in ways.lost.from..ways.lost.to {
+        for place in ways.span.from..ways.span.to {
             let v = ways.field.list.get(place);
             let count = u64::from(ways.counts.get(v));
             self.add(v, unit.saturating_mul(count));

@@ -1,16 +1,17 @@
 // Longest ways along the moves of Odd, by which no cycle is Even's.
 
-use crate::components::{Components, Part};
+use crate::components::Components;
 use crate::edges::{priority, successors};
 use crate::field::Field;
 use crate::numbers::{Numbers, Span};
+use crate::part::Part;
 use game::graph::Game;
 
-/// Vertices that Odd was found to win, with its moves.
+/// Vertices among which Odd moves so that no cycle is Even's.
 #[derive(Drop)]
 pub(crate) struct Ways {
     /// Where they stand in the list.
-    pub(crate) lost: Span,
+    pub(crate) span: Span,
     pub(crate) field: Field,
     pub(crate) components: Components,
     /// How many vertices of an even priority are met.
@@ -23,7 +24,7 @@ impl Ways {
     pub(crate) fn longest(&mut self, game: &Game, even: u32) -> Option<u32> {
         let id = self.field.fresh();
         self.mark_low(game, even, id);
-        let low = self.field.gather(self.lost, id);
+        let low = self.field.gather(self.span, id);
         let part = Part {
             game,
             ids: &self.field.ids,
@@ -38,7 +39,7 @@ impl Ways {
 
     // Marks the vertices of no greater priority. All counts are zero.
     fn mark_low(&mut self, game: &Game, even: u32, id: u32) {
-        for place in self.lost.from..self.lost.to {
+        for place in self.span.from..self.span.to {
             let v = self.field.list.get(place);
             self.counts.set(v, 0);
             if u32::from(priority(game, v)) <= even {
@@ -90,15 +91,11 @@ fn count_of(
     }
     if !has {
         Some(most)
-    } else if component.len() > 1 || has_loop(part, list.get(component.from)) {
+    } else if component.len() > 1 || part.has_loop(list.get(component.from)) {
         None
     } else {
         most.checked_add(1)
     }
-}
-
-fn has_loop(part: &Part, v: u32) -> bool {
-    successors(part.game, v).contains(&v) && part.has(v, v)
 }
 
 fn most_after(part: &Part, counts: &Numbers, v: u32) -> u32 {

@@ -1,9 +1,10 @@
 // Who wins each vertex: by recursion on the greatest priority (Zielonka 1998) in strong components.
 
 use crate::attractor::Attractors;
-use crate::components::{Components, Part};
+use crate::components::Components;
 use crate::field::{Field, Tops, Won};
 use crate::numbers::Span;
+use crate::part::Part;
 use crate::ways::Ways;
 use game::graph::Game;
 use std::alloc::{AllocError, Global};
@@ -70,10 +71,9 @@ impl Winners {
             }
             self.attractors.toil(0);
         }
-        let all = all(game);
-        let lost = self.field.gather(all, won.odd);
+        let lost = self.field.gather(Span::all(game.vertices()), won.odd);
         Ways {
-            lost,
+            span: lost,
             field: self.field,
             components: self.components,
             counts: self.attractors.into_numbers(),
@@ -83,7 +83,7 @@ impl Winners {
     fn begin(&mut self, game: &Game) -> Won {
         let won = self.field.fresh_won();
         let id = self.field.fresh();
-        let all = all(game);
+        let all = Span::all(game.vertices());
         self.field.mark(all, id);
         let left = self.settle(game, all, id, won);
         self.decide_in_components(game, left, id, won);
@@ -188,12 +188,5 @@ impl Winners {
             .attractors
             .give(game, &mut self.field, core.span, other, id, core.won);
         self.decide_left(game, core.span, left, id, core.won);
-    }
-}
-
-fn all(game: &Game) -> Span {
-    Span {
-        from: 0,
-        to: game.vertices(),
     }
 }
