@@ -1,0 +1,73 @@
+// What Odd can force where Even wins, with reasons.
+
+use crate::layering::Layering;
+use crate::lost::Lost;
+use crate::numbers::Numbers;
+use crate::ranks::Ranks;
+use game::graph::Game;
+use lts::error::Memory;
+use std::alloc::Global;
+
+// The greatest priority that is odd.
+const GREATEST: u8 = 31;
+
+/// For vertices that Even wins how many vertices of the greatest odd priority Odd was found to force, with its moves and
+/// ranks that fall along them. Nothing of it is sure before it is tested.
+#[derive(Drop)]
+pub struct Layers {
+    odd: u8,
+    counts: Numbers,
+    moves: Numbers,
+    ranks: Ranks,
+}
+
+impl Layers {
+    /// Searches a game of which it is known what Odd wins. It may find less than there is.
+    pub fn of(alloc: Global, game: &Game, lost: &Lost) -> Result<Self, Memory> {
+        let odd = greatest_odd(game);
+        let (mut ways, counts) = Layering::new(alloc, game, odd)?.find(game, lost);
+        let mut ranks = Ranks::none(alloc, game)?;
+        ranks.find(game, &mut ways);
+        Ok(Layers {
+            odd,
+            counts,
+            moves: ways.field.moves,
+            ranks,
+        })
+    }
+
+    /// Whether something was found of a vertex.
+    pub fn has(&self, v: u32) -> bool {
+        self.ranks.has(v)
+    }
+
+    /// Writes the value of a vertex: for each odd number a count, that of one last.
+    pub fn value_into(&self, v: u32, value: &mut [u32]) {
+        let width = value.len();
+        for place in 0..width {
+            let is_odd = width - 1 - place == usize::from(self.odd) / 2;
+            value[place] = if is_odd { self.counts.get(v) } else { 0 };
+        }
+    }
+
+    /// Where Odd goes on from a vertex of its own of which something was found.
+    pub fn next(&self, v: u32) -> u32 {
+        self.moves.get(v)
+    }
+
+    /// Writes the rank of a vertex: for each even number a count, that of zero last.
+    pub fn rank_into(&self, v: u32, rank: &mut [u32]) {
+        self.ranks.write(v, rank);
+    }
+}
+
+// The greatest odd priority of a vertex, or one.
+fn greatest_odd(game: &Game) -> u8 {
+    for back in 0..16u8 {
+        let odd = GREATEST - 2 * back;
+        if game.count(u32::from(odd)) > 0 {
+            return odd;
+        }
+    }
+    1
+}

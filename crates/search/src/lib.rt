@@ -1,0 +1,16 @@
+// A search for what Odd wins in a parity game. Nothing rests on it but time: what it finds has to be tested.
+#![tactic(auto)]
+
+mod attractor;
+mod components;
+mod edges;
+mod field;
+mod layering;
+pub mod layers;
+pub mod lost;
+mod numbers;
+mod order;
+mod part;
+mod ranks;
+mod ways;
+mod winners;

@@ -1,0 +1,101 @@
+// Lists of numbers that are never read or written out of bounds.
+
+use std::alloc::{AllocError, Global};
+
+/// A number for each place. Past the last place all are zero, and nothing is written.
+#[derive(Drop)]
+pub(crate) struct Numbers {
+    items: Vec<u32>,
+}
+
+impl Numbers {
+    pub(crate) fn zeros(alloc: Global, length: u32) -> Result<Self, AllocError> {
+        Ok(Numbers {
+            items: vec![in alloc; 0; length as usize]?,
+        })
+    }
+
+    /// Each place's own number.
+    pub(crate) fn places(alloc: Global, length: u32) -> Result<Self, AllocError> {
+        let mut numbers = Numbers::zeros(alloc, length)?;
+        for place in 0..length {
+            numbers.set(place, place);
+        }
+        Ok(numbers)
+    }
+
+    pub(crate) fn len(&self) -> u64 {
+        self.items.len() as u64
+    }
+
+    pub(crate) fn get(&self, place: u32) -> u32 {
+        self.items.get(place as usize).copied().unwrap_or(0)
+    }
+
+    pub(crate) fn set(&mut self, place: u32, number: u32) {
+        if let Some(item) = self.items.get_mut(place as usize) {
+            *item = number;
+        }
+    }
+
+    pub(crate) fn swap(&mut self, place: u32, other: u32) {
+        let number = self.get(place);
+        self.set(place, self.get(other));
+        self.set(other, number);
+    }
+}
+
+/// Places that follow each other: the first, and the one past the last.
+#[derive(Clone, Copy)]
+pub(crate) struct Span {
+    pub(crate) from: u32,
+    pub(crate) to: u32,
+}
+
+impl Span {
+    pub(crate) fn len(self) -> u32 {
+        self.to.saturating_sub(self.from)
+    }
+
+    /// All places of a list of this length.
+    pub(crate) fn all(length: u32) -> Self {
+        Span {
+            from: 0,
+            to: length,
+        }
+    }
+}
+
+/// Numbers in the order in which they came.
+#[derive(Drop)]
+pub(crate) struct Queue {
+    list: Numbers,
+    length: u32,
+}
+
+impl Queue {
+    /// Nothing yet, with the memory for so many.
+    pub(crate) fn new(alloc: Global, most: u32) -> Result<Self, AllocError> {
+        Ok(Queue {
+            list: Numbers::zeros(alloc, most)?,
+            length: 0,
+        })
+    }
+
+    pub(crate) fn len(&self) -> u32 {
+        self.length
+    }
+
+    pub(crate) fn get(&self, place: u32) -> u32 {
+        self.list.get(place)
+    }
+
+    pub(crate) fn push(&mut self, number: u32) {
+        self.list.set(self.length, number);
+        self.length = self.length.saturating_add(1);
+    }
+
+    pub(crate) fn clear(&mut self) {
+        self.length = 0;
+    }
+}

@@ -1,0 +1,192 @@
+// Who wins each vertex: by recursion on the greatest priority (Zielonka 1998) in strong components.
+
+use crate::attractor::Attractors;
+use crate::components::Components;
+use crate::field::{Field, Tops, Won};
+use crate::numbers::Span;
+use crate::part::Part;
+use crate::ways::Ways;
+use game::graph::Game;
+use std::alloc::{AllocError, Global};
+
+// How many steps of the recursion wait at most.
+const DEPTH: usize = 1024;
+
+// How many vertices and edges are looked at: this many, and so many times those of the game.
+const LEAST_BUDGET: u64 = 67_108_864;
+
+const TIMES: u64 = 64;
+
+// What the recursion still has to do.
+#[derive(Clone, Copy)]
+enum Task {
+    // To decide components, one after another.
+    Components { span: Span, won: Won },
+    // To look at who wins what isn't drawn to the greatest priorities.
+    Rest { rest: Span, inner: Won, core: Core },
+}
+
+// A part that is its own game, whose winners get these numbers.
+#[derive(Clone, Copy)]
+struct Core {
+    span: Span,
+    tops: Tops,
+    won: Won,
+}
+
+/// The recursion.
+#[derive(Drop)]
+pub(crate) struct Winners {
+    field: Field,
+    attractors: Attractors,
+    components: Components,
+    tasks: Vec<Task>,
+    depth: usize,
+    spent: bool,
+}
+
+impl Winners {
+    pub(crate) fn new(alloc: Global, game: &Game) -> Result<Self, AllocError> {
+        let span = Span { from: 0, to: 0 };
+        let won = Won { even: 0, odd: 0 };
+        Ok(Winners {
+            field: Field::new(alloc, game.vertices())?,
+            attractors: Attractors::new(alloc, game)?,
+            components: Components::new(alloc, game.vertices())?,
+            tasks: vec![in alloc; Task::Components { span, won }; DEPTH]?,
+            depth: 0,
+            spent: false,
+        })
+    }
+
+    /// Decides who wins, and leaves the vertices that Odd wins. Past a budget of vertices and edges to look at nothing new is
+    /// begun: this many, and so many times those of the game.
+    pub(crate) fn find(mut self, game: &Game) -> Ways {
+        let size = self.attractors.size();
+        let budget = size.saturating_mul(TIMES).saturating_add(LEAST_BUDGET);
+        let won = self.begin(game);
+        for _ in 0..u64::MAX {
+            if self.spent || self.attractors.work > budget || !self.go_on(game) {
+                break;
+            }
+            self.attractors.toil(0);
+        }
+        let lost = self.field.gather(Span::all(game.vertices()), won.odd);
+        Ways {
+            span: lost,
+            field: self.field,
+            components: self.components,
+            counts: self.attractors.into_numbers(),
+        }
+    }
+
+    fn begin(&mut self, game: &Game) -> Won {
+        let won = self.field.fresh_won();
+        let id = self.field.fresh();
+        let all = Span::all(game.vertices());
+        self.field.mark(all, id);
+        let left = self.settle(game, all, id, won);
+        self.decide_in_components(game, left, id, won);
+        won
+    }
+
+    fn push(&mut self, task: Task) {
+        match self.tasks.get_mut(self.depth) {
+            Some(place) => {
+                *place = task;
+                self.depth = self.depth.saturating_add(1);
+            }
+            None => self.spent = true,
+        }
+    }
+
+    fn pop(&mut self) -> Option<Task> {
+        let depth = self.depth.checked_sub(1)?;
+        self.depth = depth;
+        self.tasks.get(depth).copied()
+    }
+
+    // Does one task. The answer is whether there was one.
+    fn go_on(&mut self, game: &Game) -> bool {
+        match self.pop() {
+            Some(Task::Components { span, won }) => self.decide_first(game, span, won),
+            Some(Task::Rest { rest, inner, core }) => self.conclude(game, rest, inner, core),
+            None => return false,
+        }
+        true
+    }
+
+    fn settle(&mut self, game: &Game, span: Span, id: u32, won: Won) -> Span {
+        self.attractors.settle(game, &mut self.field, span, id, won)
+    }
+
+    fn sort(&mut self, game: &Game, span: Span, id: u32) {
+        let part = Part {
+            game,
+            ids: &self.field.ids,
+            id,
+            moves: &self.field.moves,
+            chosen: false,
+        };
+        self.components.sort(&part, &mut self.field.list, span);
+    }
+
+    fn decide_in_components(&mut self, game: &Game, span: Span, id: u32, won: Won) {
+        if span.len() > 0 {
+            self.sort(game, span, id);
+            self.push(Task::Components { span, won });
+        }
+    }
+
+    fn decide_first(&mut self, game: &Game, span: Span, won: Won) {
+        let first = self.components.order.first(span);
+        let others = Span {
+            from: first.to,
+            to: span.to,
+        };
+        if others.len() > 0 {
+            self.push(Task::Components { span: others, won });
+        }
+        let id = self.field.fresh();
+        self.field.mark(first, id);
+        let left = self.settle(game, first, id, won);
+        self.decide_left(game, first, left, id, won);
+    }
+
+    // Looks for components anew only where half has fallen.
+    fn decide_left(&mut self, game: &Game, whole: Span, left: Span, id: u32, won: Won) {
+        if left.len() <= whole.len() / 2 {
+            self.decide_in_components(game, left, id, won);
+        } else {
+            self.decide(game, left, id, won);
+        }
+    }
+
+    // Decides a part: what is drawn to the greatest priorities is theirs as long as the rest is.
+    fn decide(&mut self, game: &Game, span: Span, id: u32, won: Won) {
+        let tops = self.field.tops(game, span);
+        let rest = self.attractors.draw(game, &mut self.field, span, tops, id);
+        if rest.len() == 0 {
+            self.field.give(game, span, tops, won);
+            return;
+        }
+        let inner = self.field.fresh_won();
+        let core = Core { span, tops, won };
+        self.push(Task::Rest { rest, inner, core });
+        self.decide_in_components(game, rest, id, inner);
+    }
+
+    // Where the other player wins some of the rest, it wins what is drawn to it, and what is left is decided anew.
+    fn conclude(&mut self, game: &Game, rest: Span, inner: Won, core: Core) {
+        let other = !core.tops.odd;
+        if !self.attractors.find(&self.field, rest, inner.by(other)) {
+            self.field.give(game, core.span, core.tops, core.won);
+            return;
+        }
+        let id = self.field.fresh();
+        let left = self
+            .attractors
+            .give(game, &mut self.field, core.span, other, id, core.won);
+        self.decide_left(game, core.span, left, id, core.won);
+    }
+}
