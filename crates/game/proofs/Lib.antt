@@ -2,3 +2,5 @@ pub mod Rows
 pub mod Tests
 pub mod Steps
 pub mod Arenas
+pub mod Greatest
+pub mod Duals

@@ -2,6 +2,7 @@
 #![tactic(auto)]
 
 pub mod build;
+pub mod dual;
 pub mod error;
 #[cfg(test)]
 mod examples;

@@ -1,0 +1,50 @@
+// The game with the players exchanged.
+
+ghost use Rattle.std.specs.Prelude.{◌≡◌, ◌≤◌, IfOk, IsOkUnless};
+ghost use Rattle.game.specs.Game.{dual as dual_of, greatest, opponent as opponent_of};
+
+use crate::error::BuildError;
+use crate::graph::{Game, GameBuilder};
+use crate::player::Player;
+use std::alloc::Global;
+
+// The greatest priority that a vertex may have.
+const GREATEST: u32 = 32;
+
+/// The greatest priority that a vertex of the game has, and 0 where there is no vertex. It takes no look at the vertices.
+pub fn greatest_priority(game: &Game) -> u32
+    ensures { result ≡ greatest game.now }
+{
+    game.known();
+    for p in (0..GREATEST).rev() {
+        if game.count(p + 1) > 0 {
+            return p + 1;
+        }
+    }
+    0
+}
+
+fn opponent(player: Player) -> Player
+    ensures { result ≡ opponent_of player }
+{
+    match player {
+        Player::Even => Player::Odd,
+        Player::Odd => Player::Even,
+    }
+}
+
+/// The other player owns each vertex, and each priority is one more, so that the other player wins where one did. The
+/// vertices have no names.
+pub fn dual(alloc: Global, game: &Game) -> Result<Game, BuildError>
+    requires { greatest game.now ≤ 31 }
+    ensures game { IfOk result (λ g. g ≡ dual_of game.now) }
+    ensures memory { IsOkUnless result BuildError.Memory }
+{
+    game.known();
+    let mut builder = GameBuilder::new(alloc);
+    for v in 0..game.vertices() {
+        let owner = opponent(game.owner(v));
+        builder.push(owner, game.priority(v) + 1, game.successors(v))?;
+    }
+    Ok(builder.into_game(None))
+}
