@@ -3,8 +3,6 @@
 
 pub mod build;
 pub mod error;
-#[cfg(test)]
-mod examples;
 pub mod graph;
 pub mod name;
 pub mod player;

@@ -10,8 +10,6 @@ mod lines;
 pub mod reader;
 mod scan;
 pub mod system;
-#[cfg(test)]
-mod tests;
 pub mod write_loop;
 pub mod writer;
 
