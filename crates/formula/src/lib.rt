@@ -25,6 +25,3 @@ mod token;
 mod written;
 
 pub use reader::parse;
-
-#[cfg(test)]
-mod tests;

@@ -238,37 +238,3 @@ impl GameBuilder {
         }
     }
 }
-
-#[cfg(test)]
-mod tests {
-    use super::*;
-    use std::test::Fail;
-
-    #[test]
-    fn makes_a_game(rt: HostRuntime) -> Result<(), Fail> {
-        let mut builder = GameBuilder::new(rt.alloc());
-        builder.push(Player::Even, 0, &[0])?;
-        builder.push(Player::Odd, 1, &[0, 2])?;
-        builder.push(Player::Even, 1, &[1])?;
-        assert_eq!(rt; builder.vertices(), 3);
-        let game = builder.finish().ok_or("no game")?;
-        assert_eq!(rt; game.vertices(), 3);
-        assert_eq!(rt; game.owner(1), Player::Odd);
-        assert_eq!(rt; game.priority(2), 1);
-        assert_eq!(rt; game.successors(1), [0, 2].as_slice());
-        assert_eq!(rt; game.count(1), 2);
-        assert_eq!(rt; game.count(40), 0);
-        Ok(())
-    }
-
-    #[test]
-    fn tells_what_is_no_game(rt: HostRuntime) -> Result<(), Fail> {
-        for (priority, successors) in [(33, [0, 1]), (0, [1, 0]), (0, [1, 1]), (0, [0, 2])] {
-            let mut builder = GameBuilder::new(rt.alloc());
-            builder.push(Player::Even, priority, &successors)?;
-            builder.push(Player::Odd, 0, &[0])?;
-            assert!(rt; builder.finish().is_none());
-        }
-        Ok(())
-    }
-}

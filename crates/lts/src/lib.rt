@@ -10,8 +10,6 @@ pub mod limits;
 pub mod reader;
 mod scan;
 pub mod system;
-#[cfg(test)]
-mod tests;
 pub mod writer;
 
 pub use error::{AutError, AutFault};

@@ -9,5 +9,3 @@ mod scope;
 mod search;
 mod sets;
 mod signs;
-#[cfg(test)]
-mod tests;

@@ -10,5 +10,3 @@ pub mod progs;
 mod rows;
 pub mod settle;
 pub mod table;
-#[cfg(test)]
-mod tests;

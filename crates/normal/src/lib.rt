@@ -9,6 +9,4 @@ pub mod law;
 pub mod make;
 pub mod node;
 pub mod part;
-#[cfg(test)]
-mod tests;
 pub mod write;

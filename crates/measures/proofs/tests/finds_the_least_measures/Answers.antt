@@ -1,7 +1,0 @@
-use Rattle.std.proofs.Common.{subst, sym}
-use Rattle.game.specs.Game.{Game}
-use Rattle.measures.specs.Progress.{IsProgress}
-use Rattle.measures.proofs.tests.finds_the_least_measures.Goals as goal
-
-pub into_settled-settled-requires : goal.into_settled-settled-requires
-into_settled-settled-requires g c = subst (λ (h : Game). IsProgress h c.settle.new.table.values) (sym c.settle.ensures.game) c.settle.ensures.least.progress

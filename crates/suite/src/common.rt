@@ -1,0 +1,76 @@
+// What the tests of several topics use.
+
+use formula::closed::Closed;
+use formula::error::FormulaError;
+use formula::parse;
+use game::graph::{Game, GameBuilder, MOST_VERTICES};
+use game::player::Player;
+use lts::{AutError, Lts, read_aut};
+use normal::form::Normal;
+use normal::make::normal;
+use std::alloc::{AllocError, Global};
+use std::process::Abort;
+use std::test::Fail;
+
+/// From its first state to its second by `a`, and back by `b`.
+pub const RING: &str = "des (0,2,2)\n(0,\"a\",1)\n(1,\"b\",0)\n";
+
+/// `head`, then `part` this often, then `tail`.
+pub fn repeated(
+    alloc: Global,
+    head: &str,
+    part: &str,
+    times: usize,
+    tail: &str,
+) -> Result<String, AllocError> {
+    let mut text = String::from_str(alloc, head)?;
+    for _ in 0..times {
+        text.push_str(part)?;
+    }
+    text.push_str(tail)?;
+    Ok(text)
+}
+
+pub fn system_of(alloc: Global, text: &str) -> Result<Lts, AutError> {
+    read_aut(alloc, text.as_bytes())
+}
+
+pub fn formula_of(alloc: Global, text: &str) -> Result<Closed, FormulaError> {
+    parse(alloc, text.as_bytes())
+}
+
+/// The normal form of the text's formula, if it has one.
+pub fn form_of(alloc: Global, text: &str) -> Option<Normal> {
+    let formula = formula_of(alloc, text).ok()?;
+    normal(alloc, &formula).ok()
+}
+
+/// Of a text what was found is what was wanted.
+pub fn same(rt: &impl Abort, text: &str, found: &str, wanted: &str) {
+    assert_eq!(rt; found, wanted, "{text}");
+}
+
+/// A vertex: its owner, its priority and its successors.
+pub type Row = (Player, u8, &'static [u32]);
+
+// One more vertex.
+fn push(rt: &impl Abort, builder: &mut GameBuilder, row: Row) -> Result<(), AllocError> {
+    let (owner, priority, successors) = row;
+    assert!(rt; builder.vertices() < MOST_VERTICES);
+    assert!(rt; successors.len() <= MOST_VERTICES);
+    builder.push(owner, priority, successors)
+}
+
+/// The game of these vertices, if they make one.
+pub fn made(rt: &(impl Abort + AllocGlobal), rows: &[Row]) -> Result<Option<Game>, AllocError> {
+    let mut builder = GameBuilder::new(rt.alloc());
+    for row in rows {
+        push(rt, &mut builder, *row)?;
+    }
+    Ok(builder.finish())
+}
+
+/// The game of these vertices, which make one.
+pub fn game_of(rt: &(impl Abort + AllocGlobal), rows: &[Row]) -> Result<Game, Fail> {
+    Ok(made(rt, rows)?.ok_or("no game")?)
+}

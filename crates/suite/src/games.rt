@@ -1,0 +1,145 @@
+// Games that were worked out by hand, in the order of PGSolver's format: a vertex, its priority, its owner (0 is Even) and
+// its successors.
+
+use crate::common::{RING, Row, form_of, game_of, made, repeated, same, system_of};
+use game::build::build;
+use game::graph::Game;
+use game::player::Player;
+use lts::Lts;
+use normal::form::Normal;
+use std::alloc::{AllocError, Global};
+use std::test::Fail;
+
+// A line for each vertex.
+fn shown(alloc: Global, game: &Game) -> Result<String, AllocError> {
+    let mut text = String::new(alloc);
+    for v in 0..game.vertices() {
+        let owner = match game.owner(v) {
+            Player::Even => 0,
+            Player::Odd => 1,
+        };
+        write!(text, "{v} {} {owner}", game.priority(v))?;
+        for successor in game.successors(v) {
+            let t = *successor;
+            write!(text, " {t}")?;
+        }
+        text.push('\n')?;
+    }
+    Ok(text)
+}
+
+// The game of a system and a normal form, or the refusal.
+fn text_of(alloc: Global, lts: &Lts, form: &Normal) -> Result<String, AllocError> {
+    match build(alloc, lts, form) {
+        Ok(game) => shown(alloc, &game),
+        Err(error) => error.to_string(alloc),
+    }
+}
+
+// The same of texts, if they are a system and a formula.
+fn built(alloc: Global, system: &str, formula: &str) -> Option<String> {
+    let lts = system_of(alloc, system).ok()?;
+    let form = form_of(alloc, formula)?;
+    text_of(alloc, &lts, &form).ok()
+}
+
+// Systems, formulas, and their games.
+const GAMES: [(&str, &str, &str); 3] = [
+    (
+        RING,
+        "<a>true",
+        "0 0 0 0\n1 1 0 1\n2 0 0 5\n3 0 0 0\n4 0 0 1\n5 0 0 0\n",
+    ),
+    (
+        "des (0,0,1)\n",
+        "[true]false",
+        "0 0 0 0\n1 1 0 1\n2 0 1 0\n3 0 0 1\n",
+    ),
+    (
+        RING,
+        "nu X. mu Y. (<a>X || <b>Y)",
+        "0 0 0 0\n1 1 0 1\n2 2 0 3\n3 1 0 4\n4 0 0 5 7\n5 0 0 13\n6 0 0 2\n7 0 0 1\n8 0 0 3\n9 2 0 10\n10 1 0 11\n11 0 0 12 14\n12 0 0 1\n13 0 0 9\n14 0 0 8\n15 0 0 10\n",
+    ),
+];
+
+#[test]
+fn vertices_are_states_with_nodes(rt: HostRuntime) -> Result<(), Fail> {
+    for (system, formula, wanted) in &GAMES {
+        let told = built(rt.alloc(), system, formula).ok_or("no texts")?;
+        same(&rt, formula, told.as_str(), wanted);
+    }
+    Ok(())
+}
+
+// Each growth may be refused: then nothing but that is told. `rt try --test --fail-alloc N` refuses the Nth.
+#[test]
+fn want_of_memory_is_told_as_such(rt: HostRuntime) {
+    let (system, formula, wanted) = GAMES[0];
+    if let Some(told) = built(rt.alloc(), system, formula) {
+        assert!(rt; told.as_str() == wanted || told.as_str() == "B2", "{told}");
+    }
+}
+
+const MILLION: &str = "des (0,0,1000000)\n";
+
+// A million states with one node fit.
+#[test]
+fn a_million_states_have_vertices(rt: HostRuntime) -> Result<(), Fail> {
+    let lts = system_of(rt.alloc(), MILLION)?;
+    let form = form_of(rt.alloc(), "true").ok_or("no form")?;
+    assert!(rt; build(rt.alloc(), &lts, &form)?.vertices() == 1_000_002);
+    Ok(())
+}
+
+// The vertex of each state with each node.
+#[test]
+fn vertices_are_known_by_their_names(rt: HostRuntime) -> Result<(), Fail> {
+    let lts = system_of(rt.alloc(), RING)?;
+    let form = form_of(rt.alloc(), "<a>true").ok_or("no form")?;
+    let game = build(rt.alloc(), &lts, &form)?;
+    assert!(rt; lts.states() == 2 && form.count() == 2);
+    assert!(rt; game.vertex_of(0, 1) == 3 && game.vertex_of(1, 0) == 4);
+    Ok(())
+}
+
+// With seventeen nodes they don't.
+#[test]
+fn vertices_are_counted_before_they_are_made(rt: HostRuntime) -> Result<(), Fail> {
+    let formula = repeated(rt.alloc(), "", "<a>", 16, "true")?;
+    let told = built(rt.alloc(), MILLION, formula.as_str()).ok_or("no texts")?;
+    same(&rt, "a million states", told.as_str(), "B1");
+    Ok(())
+}
+
+const THREE: [Row; 3] = [
+    (Player::Even, 0, &[0]),
+    (Player::Odd, 1, &[0, 2]),
+    (Player::Even, 1, &[1]),
+];
+
+#[test]
+fn games_are_made_by_hand(rt: HostRuntime) -> Result<(), Fail> {
+    let game = game_of(&rt, &THREE)?;
+    let told = shown(rt.alloc(), &game)?;
+    same(&rt, "three", told.as_str(), "0 0 0 0\n1 1 1 0 2\n2 1 0 1\n");
+    assert!(rt; game.count(1) == 2 && game.count(40) == 0);
+    Ok(())
+}
+
+// The first of two vertices: a priority that is too great, successors that descend, one that stands twice, one that is no
+// vertex, and none.
+const FAULTY: [Row; 5] = [
+    (Player::Even, 33, &[0, 1]),
+    (Player::Even, 0, &[1, 0]),
+    (Player::Even, 0, &[1, 1]),
+    (Player::Even, 0, &[0, 2]),
+    (Player::Even, 0, &[]),
+];
+
+#[test]
+fn what_is_no_game_is_told(rt: HostRuntime) -> Result<(), AllocError> {
+    for faulty in FAULTY {
+        assert!(rt; made(&rt, &[faulty, (Player::Odd, 0, &[0])])?.is_none());
+    }
+    Ok(())
+}

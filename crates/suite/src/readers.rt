@@ -1,0 +1,46 @@
+// Readers that fail, and that are slow.
+
+use std::io;
+use std::io::Read;
+
+/// A reader that hands out so many bytes at a time, and then fails or ends.
+#[derive(Drop)]
+pub struct Slow<'a> {
+    pub left: &'a [u8],
+    pub step: usize,
+    pub fails: bool,
+}
+
+impl Read for Slow<'_> {
+    fn read(&mut self, buf: &mut [u8]) -> io::Result<usize> {
+        if self.left.is_empty() && self.fails {
+            return Err(io::Error::from(io::ErrorKind::BrokenPipe));
+        }
+        let count = self.step.min(self.left.len()).min(buf.len());
+        let (front, rest) = self.left.split_at(count);
+        buf[..count].copy_from_slice(front);
+        self.left = rest;
+        Ok(count)
+    }
+}
+
+/// A reader whose every second read is interrupted.
+#[derive(Drop)]
+pub struct Halting<'a> {
+    pub left: &'a [u8],
+    pub is_interrupted: bool,
+}
+
+impl Read for Halting<'_> {
+    fn read(&mut self, buf: &mut [u8]) -> io::Result<usize> {
+        self.is_interrupted = !self.is_interrupted;
+        if self.is_interrupted {
+            return Err(io::Error::from(io::ErrorKind::Interrupted));
+        }
+        let count = self.left.len().min(buf.len()).min(4);
+        let (front, rest) = self.left.split_at(count);
+        buf[..count].copy_from_slice(front);
+        self.left = rest;
+        Ok(count)
+    }
+}
