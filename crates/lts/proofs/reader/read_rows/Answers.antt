@@ -1,7 +1,12 @@
 use Rattle.std.proofs.Common.{◌≡◌, arith}
 use Rattle.std.proofs.lemmas.Result.{IfOk-weaker, IfErr-weaker}
-use Rattle.lts.proofs.Reading.{row_count}
+use Rattle.lts.proofs.Reading.{all_rows, row_count}
 use Rattle.lts.proofs.reader.read_rows.Goals as goal
+
+pub returns-clause-rows : goal.returns-clause-rows
+returns-clause-rows g c =
+    let so = c.loop-good.invariant.so_far in
+    IfOk-weaker c.read_end.result _ _ (λ _ none. (so.arrows, so.gathered, so.within, all_rows _ _ (omega arith) _ _ _ _ _ so none)) c.read_end.ensures.end
 
 pub returns-clause-within : goal.returns-clause-within
 returns-clause-within g c =
