@@ -26,28 +26,35 @@ no_line n line NoSuchState (a, is, inside) (b, same, right, past) =
     let s : a.source ≡ b.source = ap (λ (x : Arrow). x.source) e in
     let t : a.target ≡ b.target = ap (λ (x : Arrow). x.target) e in
     elim past [ inl p ↦ absurd (omega (arith, s, inside.source, p)) | inr p ↦ absurd (omega (arith, t, inside.target, p)) ]
-no_line n line BadHeader good wrong = wrong
-no_line n line OverLimit good wrong = wrong
-no_line n line WrongCount good wrong = wrong
-no_line n line BadStates good wrong = wrong
+no_line n line _ good wrong = wrong
 
-no_length : (xs : List (List ℕ)) → length xs ≡ 0 → xs ≡ []
-no_length [] e = refl
-no_length (x ∷ xs) e = absurd (omega (arith, e))
+-- what decides: a count that is wrong after the good lines, or a faulty line
+record IsStop (m n : ℕ) (rest : List (List ℕ)) (fault : AutFault) (good : ℕ) : Type 0 where
+  front : List (List ℕ)
+  back : List (List ℕ)
+  split : rest ≡ front ++ back
+  goods : AllByRecursion (IsGoodLine n) front
+  long : length front ≡ good
+  why : ((fault ≡ WrongCount) × (((back ≡ []) × (good < m)) ⊎ ((0 < length back) × (good ≡ m)))) ⊎ ((line : List ℕ) × (after : List (List ℕ)) × (back ≡ line ∷ after) × (good < m) × LineFault n line fault)
+
+some_length : (xs : List (List ℕ)) → (xs ≡ [] → ⊥) → 0 < length xs
+some_length [] h = absurd (h refl)
+some_length (x ∷ xs) h = omega arith
+
+stop_of : (m n : ℕ) (rest : List (List ℕ)) (fault : AutFault) (good : ℕ) → BodyFault m n rest fault good → IsStop m n rest fault good
+stop_of m n rest WrongCount good (front, back, split, goods, long, wrong) =
+    record { front = front; back = back; split = split; goods = goods; long = long; why = inl (refl, elim wrong [ inl w ↦ inl w | inr w ↦ inr (some_length back w.0, w.1) ]) }
+stop_of m n rest _ good body =
+    record { front = body.0; back = body.2 ∷ body.1; split = body.3; goods = body.4; long = body.5; why = inr (body.2, body.1, refl, body.6, body.7) }
 
 no_body : (m n : ℕ) (rest : List (List ℕ)) (fault : AutFault) (good : ℕ) → AllByRecursion (IsGoodLine n) rest → length rest ≡ m → BodyFault m n rest fault good → ⊥
-no_body m n rest WrongCount good all count (front, back, split, goods, long, wrong) =
-    let sum : length rest ≡ length front + length back = ap length split ∙ length-append front back in
-    elim wrong [
-      | inl w ↦ absurd (omega (arith, sum, long, count, ap length w.0, w.1))
-      | inr w ↦ w.0 (no_length back (omega (arith, sum, long, count, w.1)))
+no_body m n rest fault good all count body =
+    let stop = stop_of m n rest fault good body in
+    let sum : length rest ≡ length stop.front + length stop.back = ap length stop.split ∙ length-append stop.front stop.back in
+    elim stop.why [
+      | inl w ↦ absurd (elim w.1 [ inl k ↦ omega (arith, sum, stop.long, count, ap length k.0, k.1) | inr k ↦ omega (arith, sum, stop.long, count, k.0, k.1) ])
+      | inr w ↦ no_line n w.0 fault (all_middle (IsGoodLine n) stop.front w.0 w.1 (subst (AllByRecursion (IsGoodLine n)) (stop.split ∙ ap (λ l. stop.front ++ l) w.2) all)) w.4
     ]
-no_body m n rest BadLine good all count (front, back, line, split, goods, long, few, wrong) = no_line n line BadLine (all_middle (IsGoodLine n) front line back (subst (AllByRecursion (IsGoodLine n)) split all)) wrong
-no_body m n rest BadLabel good all count (front, back, line, split, goods, long, few, wrong) = no_line n line BadLabel (all_middle (IsGoodLine n) front line back (subst (AllByRecursion (IsGoodLine n)) split all)) wrong
-no_body m n rest NoSuchState good all count (front, back, line, split, goods, long, few, wrong) = no_line n line NoSuchState (all_middle (IsGoodLine n) front line back (subst (AllByRecursion (IsGoodLine n)) split all)) wrong
-no_body m n rest BadHeader good all count (front, back, line, split, goods, long, few, wrong) = wrong
-no_body m n rest OverLimit good all count (front, back, line, split, goods, long, few, wrong) = wrong
-no_body m n rest BadStates good all count (front, back, line, split, goods, long, few, wrong) = wrong
 
 same_header : (text : List ℕ) (l : System) (a : IsAut text l) (first : List ℕ) (rest : List (List ℕ)) (i m n : ℕ) → lines text ≡ first ∷ rest → IsHeader first i m n
     → (rest ≡ a.rest) × (i ≡ l.initial) × (m ≡ length a.rest) × (n ≡ l.states)
@@ -63,10 +70,7 @@ no_first text l OverLimit a (first, rest, i, m, n, cut, header, over) =
     elim over [ inl p ↦ absurd (omega (arith, f, a.count, p)) | inr p ↦ absurd (omega (arith, g, a.limit, p)) ]
 no_first text l BadStates a (first, rest, i, m, n, cut, header, few, small, past) =
     let (r, e, f, g) = same_header text l a first rest i m n cut header in absurd (omega (arith, e, g, a.initial, past))
-no_first text l BadLine a wrong = wrong
-no_first text l NoSuchState a wrong = wrong
-no_first text l WrongCount a wrong = wrong
-no_first text l BadLabel a wrong = wrong
+no_first text l _ a wrong = wrong
 
 pub no_fault : (text : List ℕ) (l : System) (fault : AutFault) (line : ℕ) → IsAut text l → HasFault text fault line → ⊥
 no_fault text l fault line a (inl (wrong, place)) = no_first text l fault a wrong
@@ -87,45 +91,7 @@ one_line n line BadLabel NoSuchState (a, is, bad) (b, same, right, past) = absur
 one_line n line NoSuchState BadLine (a, is, right, past) q = absurd (q a is)
 one_line n line NoSuchState BadLabel (b, same, right, past) (a, is, bad) = absurd (true≢false (sym right ∙ sym (ap (λ (x : Arrow). is_label x.label) (transition_same line a b is same)) ∙ bad))
 one_line n line NoSuchState NoSuchState p q = refl
-one_line n line BadHeader g p q = absurd p
-one_line n line OverLimit g p q = absurd p
-one_line n line WrongCount g p q = absurd p
-one_line n line BadStates g p q = absurd p
-one_line n line BadLine BadHeader p q = absurd q
-one_line n line BadLine OverLimit p q = absurd q
-one_line n line BadLine WrongCount p q = absurd q
-one_line n line BadLine BadStates p q = absurd q
-one_line n line BadLabel BadHeader p q = absurd q
-one_line n line BadLabel OverLimit p q = absurd q
-one_line n line BadLabel WrongCount p q = absurd q
-one_line n line BadLabel BadStates p q = absurd q
-one_line n line NoSuchState BadHeader p q = absurd q
-one_line n line NoSuchState OverLimit p q = absurd q
-one_line n line NoSuchState WrongCount p q = absurd q
-one_line n line NoSuchState BadStates p q = absurd q
-
--- what decides: a count that is wrong after the good lines, or a faulty line
-record IsStop (m n : ℕ) (rest : List (List ℕ)) (fault : AutFault) (good : ℕ) : Type 0 where
-  front : List (List ℕ)
-  back : List (List ℕ)
-  split : rest ≡ front ++ back
-  goods : AllByRecursion (IsGoodLine n) front
-  long : length front ≡ good
-  why : ((fault ≡ WrongCount) × (((back ≡ []) × (good < m)) ⊎ ((0 < length back) × (good ≡ m)))) ⊎ ((line : List ℕ) × (after : List (List ℕ)) × (back ≡ line ∷ after) × (good < m) × LineFault n line fault)
-
-some_length : (xs : List (List ℕ)) → (xs ≡ [] → ⊥) → 0 < length xs
-some_length [] h = absurd (h refl)
-some_length (x ∷ xs) h = omega arith
-
-stop_of : (m n : ℕ) (rest : List (List ℕ)) (fault : AutFault) (good : ℕ) → BodyFault m n rest fault good → IsStop m n rest fault good
-stop_of m n rest WrongCount good (front, back, split, goods, long, wrong) =
-    record { front = front; back = back; split = split; goods = goods; long = long; why = inl (refl, elim wrong [ inl w ↦ inl w | inr w ↦ inr (some_length back w.0, w.1) ]) }
-stop_of m n rest BadLine good (front, back, line, split, goods, long, few, wrong) = record { front = front; back = line ∷ back; split = split; goods = goods; long = long; why = inr (line, back, refl, few, wrong) }
-stop_of m n rest BadLabel good (front, back, line, split, goods, long, few, wrong) = record { front = front; back = line ∷ back; split = split; goods = goods; long = long; why = inr (line, back, refl, few, wrong) }
-stop_of m n rest NoSuchState good (front, back, line, split, goods, long, few, wrong) = record { front = front; back = line ∷ back; split = split; goods = goods; long = long; why = inr (line, back, refl, few, wrong) }
-stop_of m n rest BadHeader good (front, back, line, split, goods, long, few, wrong) = absurd wrong
-stop_of m n rest OverLimit good (front, back, line, split, goods, long, few, wrong) = absurd wrong
-stop_of m n rest BadStates good (front, back, line, split, goods, long, few, wrong) = absurd wrong
+one_line n line f g p q = absurd assumption
 
 -- a faulty line is not among the good ones of a longer front
 inside_longer : (n : ℕ) (fault : AutFault) (front back longer rest : List (List ℕ)) (line : List ℕ) → front ++ line ∷ back ≡ longer ++ rest → length front < length longer → AllByRecursion (IsGoodLine n) longer → LineFault n line fault → ⊥
@@ -192,14 +158,7 @@ one_first all BadStates OverLimit (first', rest', i', m', n', cut', h', few, sma
     let e = two_headers all first first' rest rest' i m n i' m' n' cut cut' h h' in
     elim over [ inl k ↦ absurd (omega (arith, k, few, e.1)) | inr k ↦ absurd (omega (arith, k, small, e.2)) ]
 one_first all BadStates BadStates p q = refl
-one_first all BadLine g p q = absurd p
-one_first all NoSuchState g p q = absurd p
-one_first all WrongCount g p q = absurd p
-one_first all BadLabel g p q = absurd p
-one_first all f BadLine p q = absurd q
-one_first all f NoSuchState p q = absurd q
-one_first all f WrongCount p q = absurd q
-one_first all f BadLabel p q = absurd q
+one_first all f g p q = absurd assumption
 
 -- a right header has no fault
 right_header : (all : List (List ℕ)) (fault : AutFault) (first : List ℕ) (rest : List (List ℕ)) (i m n : ℕ) → HeaderFault all fault → all ≡ first ∷ rest → IsHeader first i m n → m ≤ MOST_TRANSITIONS → n ≤ MOST_STATES → i < n → ⊥
@@ -208,10 +167,7 @@ right_header all OverLimit first rest i m n (first', rest', i', m', n', cut', h'
     let e = two_headers all first first' rest rest' i m n i' m' n' cut cut' h h' in elim over [ inl k ↦ absurd (omega (arith, k, few, e.1)) | inr k ↦ absurd (omega (arith, k, small, e.2)) ]
 right_header all BadStates first rest i m n (first', rest', i', m', n', cut', h', few', small', past) cut h few small below =
     let e = two_headers all first first' rest rest' i m n i' m' n' cut cut' h h' in absurd (omega (arith, past, below, e.0, e.2))
-right_header all BadLine first rest i m n p cut h few small below = p
-right_header all NoSuchState first rest i m n p cut h few small below = p
-right_header all WrongCount first rest i m n p cut h few small below = p
-right_header all BadLabel first rest i m n p cut h few small below = p
+right_header all _ first rest i m n p cut h few small below = p
 
 pub one_fault : (text : List ℕ) (f g : AutFault) (i j : ℕ) → HasFault text f i → HasFault text g j → (f ≡ g) × (i ≡ j)
 one_fault text f g i j (inl (p, at)) (inl (q, at')) = (one_first (lines text) f g p q, at ∙ sym at')

@@ -3,7 +3,7 @@ use Rattle.std.proofs.Common.{◌≡◌, ℕ, ◌^◌, ◌<◌, ◌≤◌, ◌�
 use Rattle.std.specs.Prelude.{IfSome}
 use Rattle.lts.specs.declared.limits.TheConstants.{MOST_TRANSITIONS}
 use Rattle.lts.specs.declared.error.AutFault.{AutFault}
-use Rattle.lts.specs.declared.error.AutFault.TheVariants.{BadHeader, BadLine, OverLimit, NoSuchState, WrongCount, BadStates, BadLabel}
+use Rattle.lts.specs.declared.error.AutFault.TheVariants.{BadHeader, OverLimit, NoSuchState, BadStates, BadLabel}
 use Rattle.lts.specs.declared.scan.Announced.{Announced}
 use Rattle.text.specs.Text.{lines}
 use Rattle.lts.specs.Label.{is_label}
@@ -69,11 +69,7 @@ over_first (Some text) (Some left) line h OverLimit taken found wrong =
 over_first (Some text) (Some left) line h BadStates taken found (few, small, past) =
     let (i, m, n, header, hi, hm, hn) = header_gives line h found in
     inl ((line, lines left, i, m, n, taken, header, omega arith, omega arith, omega arith), refl)
-over_first (Some text) (Some left) line h BadHeader taken found wrong = absurd wrong
-over_first (Some text) (Some left) line h BadLine taken found wrong = absurd wrong
-over_first (Some text) (Some left) line h NoSuchState taken found wrong = absurd wrong
-over_first (Some text) (Some left) line h WrongCount taken found wrong = absurd wrong
-over_first (Some text) (Some left) line h BadLabel taken found wrong = absurd wrong
+over_first (Some text) (Some left) line h _ taken found wrong = absurd wrong
 
 -- the header announces what a system may have
 pub right_first : (old new : Option (List ℕ)) (line : List ℕ) (h : Announced) → TakesLine old new true line → header_at line ≡ Some h → IsAdmitted h → IfKnown old new (BeginsWith h)

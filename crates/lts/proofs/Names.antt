@@ -1,5 +1,5 @@
 -- The parts of a label, and what they are read as.
-use Rattle.std.proofs.Common.{◌≡◌, ℕ, suc, ◌+◌, ◌<◌, Bool, true, false, cond, ◌&&◌, ◌||◌, ◌==◌, List, [], ◌∷◌, ◌++◌, length, drop, get_or, Option, Some, None, refl, sym, ap, ◌∙◌, append_assoc, append-nil, arith, Ordering, Less, Equal, Greater}
+use Rattle.std.proofs.Common.{◌≡◌, ℕ, suc, ◌+◌, ◌<◌, ◌≤◌, Bool, true, false, cond, ◌&&◌, ◌||◌, ◌==◌, List, [], ◌∷◌, ◌++◌, length, drop, get_or, Option, Some, None, refl, sym, ap, ◌∙◌, append_assoc, append-nil, arith, Ordering, Less, Equal, Greater}
 use Rattle.std.specs.List.{list_all, list_any, AllByRecursion}
 use Rattle.std.specs.List.Sorted.{IsSorted, IsPermutation}
 use Rattle.std.specs.Ordering.{is_lt, is_gt, is_eq}
@@ -7,8 +7,9 @@ use Rattle.std.specs.Str.{bytes_eq}
 use Rattle.std.specs.Global.{Vec}
 use Rattle.std.proofs.Math.Bool.{and-true, or-false, and-false}
 use Rattle.std.proofs.Math.Seq.{drop-cons}
+use Rattle.std.proofs.Math.ListN.{drop_of_length-le}
 use Rattle.std.proofs.lemmas.Bool.{eq-eqb, ne_eqb}
-use Rattle.std.proofs.lemmas.List.{get_or-map, length-map}
+use Rattle.std.proofs.lemmas.List.{get_or-map, length-map, map-append}
 use Rattle.std.proofs.lemmas.Cmp.{nat_list_cmp_total, nat_list_eq_equiv, upto}
 use Rattle.std.proofs.lemmas.Map.Lookups.{exact_bytes}
 use Rattle.std.proofs.lemmas.List.Sorted.{sum_by-IsPermutation, IsPermutation-map}
@@ -55,6 +56,12 @@ pub part_grows : (bytes : List ℕ) (i : ℕ) (done : List (List ℕ)) (part : L
 part_grows bytes i done part below other so =
     let next : i + 1 ≡ suc i = omega arith in
     rw next (so ∙ ap (λ l. done ++ glued part (parts_of l)) (drop-cons bytes i 0 below) ∙ ap (λ l. done ++ l) (glued_byte part (get_or bytes i 0) (drop (suc i) bytes) other))
+
+-- the last part ends with the bytes
+pub parts_end : (bytes : List ℕ) (i : ℕ) (parts new : List (Vec ℕ)) (part : Vec ℕ) → length bytes ≤ i → parts_of bytes ≡ texts parts ++ glued part.items (parts_of (drop i bytes)) → new ≡ parts ++ part ∷ [] → texts new ≡ parts_of bytes
+parts_end bytes i parts new part past so pushed =
+    ap texts pushed ∙ map-append (λ (v : Vec ℕ). v.items) parts (part ∷ [])
+    ∙ sym (so ∙ ap (λ l. texts parts ++ glued part.items (parts_of l)) (drop_of_length-le bytes past) ∙ ap (λ l. texts parts ++ l ∷ []) (append-nil part.items))
 
 -- ---- the order of names
 

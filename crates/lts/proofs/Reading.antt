@@ -4,7 +4,7 @@ use Rattle.std.specs.Prelude.{IfSome}
 use Rattle.std.specs.List.{AllZip, AllByRecursion}
 use Rattle.std.proofs.lemmas.List.{length-append, length-map}
 use Rattle.lts.specs.declared.error.AutFault.{AutFault}
-use Rattle.lts.specs.declared.error.AutFault.TheVariants.{BadHeader, BadLine, OverLimit, NoSuchState, WrongCount, BadStates, BadLabel}
+use Rattle.lts.specs.declared.error.AutFault.TheVariants.{WrongCount}
 use Rattle.lts.specs.declared.scan.Announced.{Announced}
 use Rattle.lts.specs.declared.system.Transition.{Transition}
 use Rattle.text.specs.Text.{lines}
@@ -78,16 +78,9 @@ pub bad_row : (h : Announced) (good p : ℕ) → p ≡ good → (old mid new : O
 bad_row h good p at None mid new labels ts line fault so more few wrong = tt
 bad_row h good p at (Some text) None new labels ts line fault so more few wrong = absurd so.cut
 bad_row h good p at (Some text) (Some left) None labels ts line fault so more few wrong = absurd more
-bad_row h good p at (Some text) (Some left) (Some rest) labels ts line BadLine so more few wrong =
-    (good, (so.done, lines rest, line, so.cut ∙ ap (λ l. so.done ++ l) more, good_lines h.states so.done so.arrows so.each so.within, so.count, few, wrong), ap (λ n. n + 2) at)
-bad_row h good p at (Some text) (Some left) (Some rest) labels ts line BadLabel so more few wrong =
-    (good, (so.done, lines rest, line, so.cut ∙ ap (λ l. so.done ++ l) more, good_lines h.states so.done so.arrows so.each so.within, so.count, few, wrong), ap (λ n. n + 2) at)
-bad_row h good p at (Some text) (Some left) (Some rest) labels ts line NoSuchState so more few wrong =
-    (good, (so.done, lines rest, line, so.cut ∙ ap (λ l. so.done ++ l) more, good_lines h.states so.done so.arrows so.each so.within, so.count, few, wrong), ap (λ n. n + 2) at)
-bad_row h good p at (Some text) (Some left) (Some rest) labels ts line BadHeader so more few wrong = absurd wrong
-bad_row h good p at (Some text) (Some left) (Some rest) labels ts line OverLimit so more few wrong = absurd wrong
-bad_row h good p at (Some text) (Some left) (Some rest) labels ts line BadStates so more few wrong = absurd wrong
 bad_row h good p at (Some text) (Some left) (Some rest) labels ts line WrongCount so more few wrong = absurd wrong
+bad_row h good p at (Some text) (Some left) (Some rest) labels ts line _ so more few wrong =
+    (good, (so.done, lines rest, line, so.cut ∙ ap (λ l. so.done ++ l) more, good_lines h.states so.done so.arrows so.each so.within, so.count, few, wrong), ap (λ n. n + 2) at)
 
 -- all lines were read
 pub all_rows : (h : Announced) (good : ℕ) → good ≡ h.transitions → (old mid new : Option (List ℕ)) (labels : List (List ℕ)) (ts : List Transition) (so : SoFar h.states good old mid labels ts) → IfKnown mid new HasNoLine

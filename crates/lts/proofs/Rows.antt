@@ -1,5 +1,5 @@
 -- The transitions from a state.
-use Rattle.std.proofs.Common.{◌≡◌, ◌==◌, ◌+◌, ◌-◌, ◌<◌, ℕ, Bool, true, false, List, [], ◌∷◌, length, map, filter, take, drop, get_or, ap, sym, ◌∙◌, refl, cond, arith}
+use Rattle.std.proofs.Common.{◌≡◌, ◌==◌, ◌+◌, ◌-◌, ◌<◌, ◌≤◌, ℕ, Bool, true, false, List, [], ◌∷◌, length, map, filter, take, drop, get_or, ap, sym, ◌∙◌, refl, cond, arith}
 use Rattle.std.proofs.lemmas.List.{get_or_read_under}
 use Rattle.lts.specs.System.{System}
 use Rattle.lts.specs.Numbered.{arrow_of, arrows_from}
@@ -20,3 +20,10 @@ row_is labels l starts ts us s i j is row same short first last =
     let end : j ≡ get_or starts (s + 1) 0 = get_or_read_under starts (s + 1) (length starts) j 0 last short refl in
     let cut : take (j - i) (drop i us) ≡ take (get_or starts (s + 1) 0 - get_or starts s 0) (drop (get_or starts s 0) ts) = (λ k. take (end k - start k) (drop (start k) (same k))) in
     ap (map (arrow_of labels)) (cut ∙ row.row) ∙ (sym (filter-map (λ a. a.source == s) (arrow_of labels) ts) ∙ ap (filter (λ a. a.source == s)) (sym is))
+
+-- they lie in order
+pub row_rises : (starts : List ℕ) (ts : List Transition) (s i j : ℕ) → IsRow starts ts s → s + 1 < length starts → i ≡ get_or starts s i → j ≡ get_or starts (s + 1) j → i ≤ j
+row_rises starts ts s i j row short first last =
+    let start : i ≡ get_or starts s 0 = get_or_read_under starts s (length starts) i 0 first (omega arith) refl in
+    let end : j ≡ get_or starts (s + 1) 0 = get_or_read_under starts (s + 1) (length starts) j 0 last short refl in
+    omega (arith, start, end, row.rises)

@@ -5,7 +5,7 @@ ghost use Rattle.std.specs.List.{AllByRecursion, list_all};
 ghost use Rattle.text.specs.Lines.{IfKnown};
 ghost use Rattle.text.specs.Reads.{Reads};
 ghost use Rattle.lts.specs.Label as label;
-ghost use Rattle.lts.specs.System.{Arrow, IsArrow};
+ghost use Rattle.lts.specs.System.{Arrow, IsArrow, set_of};
 ghost use Rattle.lts.specs.Aut.{IsAut, IsTransition, LineFault, HasFault, HasFaultAt};
 ghost use Rattle.lts.specs.Scan.{said};
 ghost use Rattle.lts.specs.Label.{texts};
@@ -20,6 +20,7 @@ use crate::scan::{Announced, Spelled, header, transition};
 use crate::system::{Lts, Transition};
 use std::alloc::Global;
 use std::io::{BufRead, BufReader, Read};
+use std::mem;
 use text::lines::next_line;
 
 // What is wrong with what a header announces, if anything is.
@@ -158,6 +159,28 @@ fn read_rows<B: BufRead>(
     read_end(reader, line, found)
 }
 
+// Reads what follows the header, by way of rows that have no transition yet.
+fn read_rest<B: BufRead>(
+    alloc: Global,
+    reader: &mut B,
+    line: &mut Vec<u8>,
+    found: Announced,
+    rows: &mut Rows,
+) -> Result<Lts, AutError>
+    requires admitted { IsAdmitted found }
+    requires none { Gathers (texts rows.old.labels.keys) rows.old.transitions.items [] }
+    requires unlabelled { length rows.old.labels.keys ≡ 0 }
+    ensures rest { IfOk result (λ l. (arrows : List Arrow)
+        × AllByRecursion (IsArrow found.states) arrows
+        × IfKnown (B.remaining reader.old) (B.remaining reader.new) (AreTransitions found arrows)
+        × (l.system ≡ record { states = found.states; initial = found.initial; arrows = set_of arrows })) }
+    ensures fault { IfErr result (Refuses (B.remaining reader.old) (HasRestFault found)) }
+{
+    read_rows(alloc, reader, line, found, rows)?;
+    let transitions = mem::replace(&mut rows.transitions, Vec::new(alloc));
+    Ok(assemble(alloc, found, rows.labels.as_slice(), transitions)?)
+}
+
 // Reads the whole text.
 fn read_text<B: BufRead>(alloc: Global, reader: &mut B) -> Result<Lts, AutError>
     ensures spelled { IfOk result (λ l. IfSome (B.remaining reader.old) (λ text. IsAut text l.system)) }
@@ -166,8 +189,7 @@ fn read_text<B: BufRead>(alloc: Global, reader: &mut B) -> Result<Lts, AutError>
     let mut line = Vec::new(alloc);
     let found = read_first(reader, &mut line)?;
     let mut rows = Rows::new(alloc);
-    read_rows(alloc, reader, &mut line, found, &mut rows)?;
-    Ok(assemble(alloc, found, rows)?)
+    read_rest(alloc, reader, &mut line, found, &mut rows)
 }
 
 /// Reads a system in the Aldebaran format (mCRL2 manual, .aut): its profile with quoted labels, at most 1,000,000 states and 10,000,000 transitions.

@@ -3,8 +3,8 @@
 use clap::Error as ClapError;
 use formula::error::FormulaError;
 use game::error::BuildError;
-use lts::error::AutError;
 use lts::WriteFault;
+use lts::error::AutError;
 use normal::error::NormalError;
 use thiserror::Error;
 

@@ -1,7 +1,7 @@
 use Rattle.std.proofs.Common.{sym}
 use Rattle.std.proofs.lemmas.List.{map-append}
 use Rattle.lts.specs.Label.{texts}
-use Rattle.lts.proofs.Names.{glued_none, part_ends, part_grows}
+use Rattle.lts.proofs.Names.{glued_none, part_ends, part_grows, parts_end}
 use Rattle.lts.proofs.label.parts_of.Goals as goal
 use Rattle.lts.proofs.label.parts_of.Goals.{then-byte-eq124+in_ok-push, else-byte-eq124+in_ok-push-2}
 
@@ -18,3 +18,6 @@ loop-byte-preserved c =
       | else-byte-eq124+in_ok-push-2 w ↦
           rw (w.parts-is, w.part-is, w.in_ok-push-2.ensures.items) (part_grows c.args.bytes.now c.loop-byte.byte-index done c.loop-byte.part.items c.loop-byte-test.true w.if-byte-eq124.false c.loop-byte.invariant)
     ]
+
+pub returns : goal.returns
+returns c = parts_end c.args.bytes.now c.loop-byte.byte-index c.loop-byte.parts.items _ c.loop-byte.part c.loop-byte-test.false c.loop-byte.invariant c.in_ok-push-3.ensures.items

@@ -1,7 +1,7 @@
 use Rattle.std.proofs.Common.{◌≡◌, ◌-◌, ◌<◌, subst, sym, refl, take, drop, map, arith}
 use Rattle.lts.specs.Numbered.{Numbered, arrow_of, arrows_from}
 use Rattle.lts.specs.View.{numbered, labels_of}
-use Rattle.lts.proofs.Rows.{row_is}
+use Rattle.lts.proofs.Rows.{row_is, row_rises}
 use Rattle.lts.proofs.system.Lts.from.Goals as goal
 
 pub returns-clause-arrows : goal.returns-clause-arrows
@@ -14,3 +14,8 @@ returns-clause-arrows c =
     (λ (v : Numbered). map (arrow_of v.labels) us ≡ arrows_from v.system s)
     c.self.view_is
     (row_is (labels_of i) (numbered i).system i.starts.items i.transitions.items _ s _ _ refl (c.self.invariant.rows s fits) c.deref.ensures.value (omega (arith, c.self.invariant.starts)) c.index.ensures c.index-2.ensures)
+
+pub slice_bounds-result-count : goal.slice_bounds-result-count
+slice_bounds-result-count c =
+    let fits : c.args.state < c.self.inside.states = subst (λ (v : Numbered). c.args.state < v.system.states) (sym c.self.view_is) c.requires in
+    row_rises c.self.inside.starts.items c.self.inside.transitions.items c.args.state _ _ (c.self.invariant.rows c.args.state fits) (omega (arith, c.self.invariant.starts)) c.index.ensures c.index-2.ensures
