@@ -9,11 +9,11 @@ use std::alloc::{AllocError, Global};
 /// Attractors, with the memory to find them.
 #[derive(Drop)]
 pub(crate) struct Attractors {
-    predecessors: Predecessors,
-    // How many successors keep a vertex from the other player.
-    left: Numbers,
-    // The vertices of an attractor, in the order in which they came.
-    queue: Queue,
+    pub(crate) predecessors: Predecessors,
+    /// How many successors keep a vertex from the other player.
+    pub(crate) left: Numbers,
+    /// The vertices of an attractor, in the order in which they came.
+    pub(crate) queue: Queue,
     /// How many vertices and edges have been looked at.
     pub(crate) work: u64,
 }
@@ -26,16 +26,6 @@ impl Attractors {
             queue: Queue::new(alloc, game.vertices())?,
             work: 0,
         })
-    }
-
-    /// How many vertices and edges there are.
-    pub(crate) fn size(&self) -> u64 {
-        self.predecessors.size()
-    }
-
-    /// Memory for a number for each vertex.
-    pub(crate) fn into_numbers(self) -> Numbers {
-        self.left
     }
 
     /// A vertex has been looked at, with so many edges.

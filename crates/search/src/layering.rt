@@ -1,8 +1,9 @@
 // Layers of what Even wins: how many vertices of an odd priority it meets before a greater one, or before it comes to where it
 // might stay among lesser ones. That is never more than it has to meet.
 
+use crate::attractor::Attractors;
 use crate::components::Components;
-use crate::edges::{Predecessors, is_odds, priority, successors};
+use crate::edges::{is_odds, priority, successors};
 use crate::field::Field;
 use crate::lost::Lost;
 use crate::numbers::{Numbers, Queue, Span};
@@ -19,12 +20,9 @@ const OPEN: u32 = u32::MAX;
 pub(crate) struct Layering {
     field: Field,
     components: Components,
-    predecessors: Predecessors,
+    attractors: Attractors,
     counts: Numbers,
-    // How many successors of a vertex have no count yet.
-    left: Numbers,
-    // The vertices with a count, and those that have the next one.
-    queue: Queue,
+    // The vertices that have the next count.
     later: Queue,
     odd: u8,
 }
@@ -35,10 +33,8 @@ impl Layering {
         Ok(Layering {
             field: Field::new(alloc, vertices)?,
             components: Components::new(alloc, vertices)?,
-            predecessors: Predecessors::of(alloc, game)?,
+            attractors: Attractors::new(alloc, game)?,
             counts: Numbers::zeros(alloc, vertices)?,
-            left: Numbers::zeros(alloc, vertices)?,
-            queue: Queue::new(alloc, vertices)?,
             later: Queue::new(alloc, vertices)?,
             odd,
         })
@@ -51,11 +47,12 @@ impl Layering {
         self.settle_rooms(game, id);
         self.spread(game);
         let counted = self.gather(game);
+        let attractors = self.attractors;
         let ways = Ways {
             span: counted,
             field: self.field,
             components: self.components,
-            counts: self.left,
+            counts: attractors.left,
         };
         (ways, self.counts)
     }
@@ -67,9 +64,11 @@ impl Layering {
                 continue;
             }
             let left = successors(game, v).len();
-            self.left.set(v, u32::try_from(left).unwrap_or(OPEN));
+            self.attractors
+                .left
+                .set(v, u32::try_from(left).unwrap_or(OPEN));
             if priority(game, v) > self.odd {
-                self.queue.push(v);
+                self.attractors.queue.push(v);
             } else {
                 self.counts.set(v, OPEN);
             }
@@ -109,36 +108,36 @@ impl Layering {
         for place in room.from..room.to {
             let v = self.field.list.get(place);
             self.counts.set(v, 0);
-            self.queue.push(v);
+            self.attractors.queue.push(v);
         }
     }
 
     // One count after another.
     fn spread(&mut self, game: &Game) {
         for place in 0..u32::MAX {
-            if place >= self.queue.len() {
+            if place >= self.attractors.queue.len() {
                 self.go_up();
             }
-            if place >= self.queue.len() {
+            if place >= self.attractors.queue.len() {
                 return;
             }
-            let v = self.queue.get(place);
+            let v = self.attractors.queue.get(place);
             self.spread_from(game, v);
         }
     }
 
     fn go_up(&mut self) {
         for place in 0..self.later.len() {
-            self.queue.push(self.later.get(place));
+            self.attractors.queue.push(self.later.get(place));
         }
         self.later.clear();
     }
 
     fn spread_from(&mut self, game: &Game, v: u32) {
         let count = self.counts.get(v);
-        let places = self.predecessors.places(v);
+        let places = self.attractors.predecessors.places(v);
         for place in places.from..places.to {
-            let u = self.predecessors.at(place);
+            let u = self.attractors.predecessors.at(place);
             if self.counts.get(u) == OPEN && self.falls(game, u, v) {
                 self.settle(game, u, count);
             }
@@ -151,8 +150,8 @@ impl Layering {
             return true;
         }
         self.field.moves.set(u, v);
-        let left = self.left.get(u).saturating_sub(1);
-        self.left.set(u, left);
+        let left = self.attractors.left.get(u).saturating_sub(1);
+        self.attractors.left.set(u, left);
         left == 0
     }
 
@@ -163,7 +162,7 @@ impl Layering {
             self.later.push(v);
         } else {
             self.counts.set(v, count);
-            self.queue.push(v);
+            self.attractors.queue.push(v);
         }
     }
 

@@ -8,10 +8,7 @@ use game::graph::Game;
 use lts::error::Memory;
 use std::alloc::Global;
 
-// The greatest priority that is odd.
-const GREATEST: u8 = 31;
-
-/// For vertices that Even wins how many vertices of the greatest odd priority Odd was found to force, with its moves and
+/// For vertices that Even wins how many vertices of an odd priority Odd was found to force, with its moves and
 /// ranks that fall along them. Nothing of it is sure before it is tested.
 #[derive(Drop)]
 pub struct Layers {
@@ -23,8 +20,7 @@ pub struct Layers {
 
 impl Layers {
     /// Searches a game of which it is known what Odd wins. It may find less than there is.
-    pub fn of(alloc: Global, game: &Game, lost: &Lost) -> Result<Self, Memory> {
-        let odd = greatest_odd(game);
+    pub fn of(alloc: Global, game: &Game, lost: &Lost, odd: u8) -> Result<Self, Memory> {
         let (mut ways, counts) = Layering::new(alloc, game, odd)?.find(game, lost);
         let mut ranks = Ranks::none(alloc, game)?;
         ranks.find(game, &mut ways);
@@ -59,15 +55,4 @@ impl Layers {
     pub fn rank_into(&self, v: u32, rank: &mut [u32]) {
         self.ranks.write(v, rank);
     }
-}
-
-// The greatest odd priority of a vertex, or one.
-fn greatest_odd(game: &Game) -> u8 {
-    for back in 0..16u8 {
-        let odd = GREATEST - 2 * back;
-        if game.count(u32::from(odd)) > 0 {
-            return odd;
-        }
-    }
-    1
 }

@@ -12,5 +12,6 @@ mod numbers;
 mod order;
 mod part;
 mod ranks;
+mod tasks;
 mod ways;
 mod winners;

@@ -2,37 +2,18 @@
 
 use crate::attractor::Attractors;
 use crate::components::Components;
-use crate::field::{Field, Tops, Won};
+use crate::field::{Field, Won};
 use crate::numbers::Span;
 use crate::part::Part;
+use crate::tasks::{Core, Task, Tasks};
 use crate::ways::Ways;
 use game::graph::Game;
 use std::alloc::{AllocError, Global};
-
-// How many steps of the recursion wait at most.
-const DEPTH: usize = 1024;
 
 // How many vertices and edges are looked at: this many, and so many times those of the game.
 const LEAST_BUDGET: u64 = 67_108_864;
 
 const TIMES: u64 = 64;
-
-// What the recursion still has to do.
-#[derive(Clone, Copy)]
-enum Task {
-    // To decide components, one after another.
-    Components { span: Span, won: Won },
-    // To look at who wins what isn't drawn to the greatest priorities.
-    Rest { rest: Span, inner: Won, core: Core },
-}
-
-// A part that is its own game, whose winners get these numbers.
-#[derive(Clone, Copy)]
-struct Core {
-    span: Span,
-    tops: Tops,
-    won: Won,
-}
 
 /// The recursion.
 #[derive(Drop)]
@@ -40,33 +21,27 @@ pub(crate) struct Winners {
     field: Field,
     attractors: Attractors,
     components: Components,
-    tasks: Vec<Task>,
-    depth: usize,
-    spent: bool,
+    tasks: Tasks,
 }
 
 impl Winners {
     pub(crate) fn new(alloc: Global, game: &Game) -> Result<Self, AllocError> {
-        let span = Span { from: 0, to: 0 };
-        let won = Won { even: 0, odd: 0 };
         Ok(Winners {
             field: Field::new(alloc, game.vertices())?,
             attractors: Attractors::new(alloc, game)?,
             components: Components::new(alloc, game.vertices())?,
-            tasks: vec![in alloc; Task::Components { span, won }; DEPTH]?,
-            depth: 0,
-            spent: false,
+            tasks: Tasks::new(alloc)?,
         })
     }
 
     /// Decides who wins, and leaves the vertices that Odd wins. Past a budget of vertices and edges to look at nothing new is
     /// begun: this many, and so many times those of the game.
     pub(crate) fn find(mut self, game: &Game) -> Ways {
-        let size = self.attractors.size();
+        let size = self.attractors.predecessors.size();
         let budget = size.saturating_mul(TIMES).saturating_add(LEAST_BUDGET);
         let won = self.begin(game);
         for _ in 0..u64::MAX {
-            if self.spent || self.attractors.work > budget || !self.go_on(game) {
+            if self.tasks.spent || self.attractors.work > budget || !self.go_on(game) {
                 break;
             }
             self.attractors.toil(0);
@@ -76,7 +51,7 @@ impl Winners {
             span: lost,
             field: self.field,
             components: self.components,
-            counts: self.attractors.into_numbers(),
+            counts: self.attractors.left,
         }
     }
 
@@ -90,25 +65,9 @@ impl Winners {
         won
     }
 
-    fn push(&mut self, task: Task) {
-        match self.tasks.get_mut(self.depth) {
-            Some(place) => {
-                *place = task;
-                self.depth = self.depth.saturating_add(1);
-            }
-            None => self.spent = true,
-        }
-    }
-
-    fn pop(&mut self) -> Option<Task> {
-        let depth = self.depth.checked_sub(1)?;
-        self.depth = depth;
-        self.tasks.get(depth).copied()
-    }
-
     // Does one task. The answer is whether there was one.
     fn go_on(&mut self, game: &Game) -> bool {
-        match self.pop() {
+        match self.tasks.pop() {
             Some(Task::Components { span, won }) => self.decide_first(game, span, won),
             Some(Task::Rest { rest, inner, core }) => self.conclude(game, rest, inner, core),
             None => return false,
@@ -134,7 +93,7 @@ impl Winners {
     fn decide_in_components(&mut self, game: &Game, span: Span, id: u32, won: Won) {
         if span.len() > 0 {
             self.sort(game, span, id);
-            self.push(Task::Components { span, won });
+            self.tasks.push(Task::Components { span, won });
         }
     }
 
@@ -145,7 +104,7 @@ impl Winners {
             to: span.to,
         };
         if others.len() > 0 {
-            self.push(Task::Components { span: others, won });
+            self.tasks.push(Task::Components { span: others, won });
         }
         let id = self.field.fresh();
         self.field.mark(first, id);
@@ -172,7 +131,7 @@ impl Winners {
         }
         let inner = self.field.fresh_won();
         let core = Core { span, tops, won };
-        self.push(Task::Rest { rest, inner, core });
+        self.tasks.push(Task::Rest { rest, inner, core });
         self.decide_in_components(game, rest, id, inner);
     }
 
