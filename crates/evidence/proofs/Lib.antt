@@ -12,3 +12,4 @@ pub mod Kept
 pub mod Tested
 pub mod Taken
 pub mod Reached
+pub mod Places

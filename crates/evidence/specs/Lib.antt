@@ -3,3 +3,4 @@ pub mod Best
 pub mod Verdict
 pub mod Witness
 pub mod Laws
+pub mod View

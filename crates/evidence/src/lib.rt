@@ -1,5 +1,7 @@
 // Evidence that a player wins, and what it proves.
 #![tactic(auto)]
 
+pub mod entries;
+pub mod evidence;
 pub mod law;
 pub mod verdict;
