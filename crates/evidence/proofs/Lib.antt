@@ -13,3 +13,4 @@ pub mod Tested
 pub mod Taken
 pub mod Reached
 pub mod Places
+pub mod Checked

@@ -4,3 +4,4 @@ pub mod Verdict
 pub mod Witness
 pub mod Laws
 pub mod View
+pub mod Checking

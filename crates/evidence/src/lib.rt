@@ -5,3 +5,4 @@ pub mod entries;
 pub mod evidence;
 pub mod law;
 pub mod verdict;
+pub mod verify;
