@@ -14,3 +14,5 @@ pub mod Taken
 pub mod Reached
 pub mod Places
 pub mod Checked
+pub mod Firsts
+pub mod Making

@@ -2,7 +2,9 @@
 #![tactic(auto)]
 
 pub mod entries;
+pub mod error;
 pub mod evidence;
 pub mod law;
+pub mod make;
 pub mod verdict;
 pub mod verify;
