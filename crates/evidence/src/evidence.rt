@@ -47,7 +47,7 @@ impl Evidence {
     pub fn known(&self)
         ensures { IsEvidence self.now.game self.now.evidence }
     {
-        let _ = &self.player;
+        let _ = &self.entries;
     }
 
     /// Who wins.
