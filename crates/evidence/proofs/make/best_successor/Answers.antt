@@ -1,9 +1,9 @@
 use Rattle.std.proofs.Common.{◌<◌, ◌+◌, ap, arith, length, slice_index, slice_index_or, subst, sym, true≢false, ◌∙◌}
+use Rattle.std.proofs.lemmas.List.Elements.{All-from_recursion}
 use Rattle.game.specs.Game.{Game, Vertex}
 use Rattle.measures.specs.Measure.{Measure}
 use Rattle.measures.specs.Progress.{IsLeastTable}
 use Rattle.measures.proofs.Bests.{vertex_tells}
-use Rattle.measures.proofs.Lists.{all_or_inside}
 use Rattle.evidence.proofs.Checked.{ascending_of, some_successors, successors_inside}
 use Rattle.evidence.proofs.Firsts.{IsFirstOf, first_left, first_of_all, first_one, first_taken}
 use Rattle.evidence.proofs.make.best_successor.Goals as goal
@@ -17,14 +17,14 @@ value-requires c =
     let g = c.args.game.now in
     let ts = c.successors-successors.result.now in
     subst (λ (h : Game). slice_index_or ts 0 0 < length h.vertices) (sym c.requires.same)
-    (all_or_inside (λ t. t < length g.vertices) ts 0 0 (successors_inside g c.args.v c.requires.vertex c.known.ensures ts c.successors-successors.ensures) (some_successors g c.args.v c.requires.vertex c.known.ensures ts c.successors-successors.ensures))
+    (All-from_recursion (λ t. t < length g.vertices) ts (successors_inside g c.args.v c.requires.vertex c.known.ensures ts c.successors-successors.ensures) 0 0 (some_successors g c.args.v c.requires.vertex c.known.ensures ts c.successors-successors.ensures))
 
 pub value-requires-in-loop-k : goal.value-requires-in-loop-k
 value-requires-in-loop-k c =
     let g = c.args.game.now in
     let ts = c.successors-successors.result.now in
     subst (λ (h : Game). slice_index_or ts c.loop-k.k 0 < length h.vertices) (sym c.requires.same)
-    (all_or_inside (λ t. t < length g.vertices) ts c.loop-k.k 0 (successors_inside g c.args.v c.requires.vertex c.known.ensures ts c.successors-successors.ensures) (omega arith))
+    (All-from_recursion (λ t. t < length g.vertices) ts (successors_inside g c.args.v c.requires.vertex c.known.ensures ts c.successors-successors.ensures) c.loop-k.k 0 (omega arith))
 
 pub loop-k-init : goal.loop-k-init
 loop-k-init c = λ x at.
