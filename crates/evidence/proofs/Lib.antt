@@ -12,3 +12,7 @@ pub mod Kept
 pub mod Tested
 pub mod Taken
 pub mod Reached
+pub mod Places
+pub mod Checked
+pub mod Firsts
+pub mod Making

@@ -30,7 +30,7 @@ odd_down_is (suc n) = by (odd_down_is n) (is_odd (suc n)) refl
     by h true e = ap (λ b. if b then suc (suc n) ∷ odd_down (suc n) else odd_down (suc n)) (even_after (suc n) e) ∙ h
     by h false e = ap (λ b. if b then suc (suc n) ∷ odd_down (suc n) else odd_down (suc n)) (odd_after (suc n) e) ∙ ap (λ qs. suc (suc n) ∷ qs) h
 
-count_suc : (p : ℕ) (qs : List ℕ) → count_by (λ q. nat_le (p + 1) q) (map (λ q. suc q) qs) ≡ count_by (λ q. nat_le p q) qs
+pub count_suc : (p : ℕ) (qs : List ℕ) → count_by (λ q. nat_le (p + 1) q) (map (λ q. suc q) qs) ≡ count_by (λ q. nat_le p q) qs
 count_suc p [] = refl
 count_suc p (q ∷ qs) = by (count_suc p qs)
   where

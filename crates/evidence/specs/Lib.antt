@@ -3,3 +3,5 @@ pub mod Best
 pub mod Verdict
 pub mod Witness
 pub mod Laws
+pub mod View
+pub mod Checking

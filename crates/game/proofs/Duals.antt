@@ -1,8 +1,9 @@
 -- The vertices of the game with the players exchanged.
-use Rattle.std.proofs.Common.{◌≡◌, ℕ, zero, suc, ◌+◌, ◌<◌, ◌≤◌, List, [], ◌∷◌, ◌++◌, length, map, take, sym, ap, subst, ◌∙◌, inl, inr, arith, Some, None, option_map, slice_get}
+use Rattle.std.proofs.Common.{◌≡◌, ℕ, ◌+◌, ◌<◌, ◌≤◌, List, [], ◌∷◌, ◌++◌, length, map, take, sym, ap, subst, ◌∙◌, inl, inr, arith, Some, None, option_map, slice_get}
 use Rattle.std.specs.List.{AllByRecursion}
 use Rattle.std.proofs.lemmas.List.{length-map, take_all}
-use Rattle.std.proofs.lemmas.Option.{slice_get_cases}
+use Rattle.std.proofs.lemmas.Option.{get_or_from_slice_get, slice_get_cases, slice_get_within}
+use Rattle.std.proofs.lemmas.List.Elements.{All-from_recursion}
 use Rattle.game.specs.declared.player.Player.{Player}
 use Rattle.game.specs.Game.{Vertex, Game, IsAscending, IsVertex, IsGame, dual, greatest, greatest_of, opponent, vertex}
 use Rattle.game.proofs.Arenas.{vertices_more}
@@ -40,9 +41,7 @@ vertex_few n x is = by x.successors is.ascending is.within
     by (y ∷ ys) h w = let r = ascending_few n y ys h w in omega (arith, r)
 
 vertex_all : (P : Vertex → Type 0) (vs : List Vertex) (v : ℕ) (x : Vertex) → AllByRecursion P vs → slice_get vs v ≡ Some x → P x
-vertex_all P [] v x h e = absurd cc
-vertex_all P (y ∷ vs) zero x h e = let q : y ≡ x = cc in subst P q h.0
-vertex_all P (y ∷ vs) (suc v) x h e = vertex_all P vs v x h.1 e
+vertex_all P vs v x h e = subst P (get_or_from_slice_get vs v x x e) (All-from_recursion P vs h v x (slice_get_within vs v x e))
 
 module _ (g : Game) (v : ℕ) (inside : v < length g.vertices) where
   record Told : Type 0 where
