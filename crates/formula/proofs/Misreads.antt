@@ -1,8 +1,10 @@
 -- Why tokens gave no formula, from why those of its last part gave none.
-use Rattle.std.proofs.Common.{ℕ, ◌≤◌, List, [], ◌∷◌, ◌++◌, take, subst, sym, ap, ◌∙◌, append_assoc}
+use Rattle.std.proofs.Common.{ℕ, ◌-◌, ◌≤◌, List, [], ◌∷◌, ◌++◌, take, subst, sym, ap, ◌∙◌, append_assoc, ◌≡◌, Result, Ok, Err, IsErrAnd}
+use Rattle.std.specs.Prelude.{MatchResult}
 use Rattle.formula.specs.Token.{Token}
 use Rattle.formula.specs.Misread.{Within, IsMisread}
 use Rattle.formula.specs.declared.misread.Misread.{Misread}
+use Rattle.formula.specs.declared.room.Room.{Room}
 use Rattle.formula.specs.declared.misread.Misread.TheVariants as misread
 
 -- formulas that begin with tokens, or stand at their front; how deep they nest and how many parentheses they open
@@ -52,3 +54,17 @@ misread-within begins stands begins' stands' depth inside depth' inside' before 
       (subst (Within stands depth inside) (append_assoc before h.front (h.token ∷ more)) w));
 }
 misread-within begins stands begins' stands' depth inside depth' inside' before ts misread.Memory place h = tt
+
+-- an error that is handed on
+pub handed : {T : Type 0} (P : T → Type 0) (Q : Misread → Type 0) (result : Result T Misread) (e : Misread) → IsErrAnd result (λ x. x ≡ e) → Q e → MatchResult result P Q
+handed P Q (Ok x) e h q = absurd h
+handed P Q (Err x) e h q = subst Q (sym h) q
+
+-- what was built, unless memory was refused
+pub built : {T : Type 0} (B P : T → Type 0) (Q : Misread → Type 0) (result : Result T Misread) → MatchResult result B (λ e. e ≡ misread.Memory) → Q misread.Memory → ((x : T) → B x → P x) → MatchResult result P Q
+built B P Q (Ok x) h q k = k x h
+built B P Q (Err e) h q k = subst Q (sym h) q
+
+-- what holds one level below a room, with another name for the row
+pub below-room : (P : (level depth inside : ℕ) → Type 0) (room below : Room) (n m : ℕ) → n ≡ m → below ≡ record room { depth = room.depth - 1 } → P n below.depth below.parens → P m (room.depth - 1) room.parens
+below-room P room below n m e f h = subst (λ (r : Room). P m r.depth r.parens) f (subst (λ k. P k below.depth below.parens) e h)

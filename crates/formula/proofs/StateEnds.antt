@@ -15,9 +15,9 @@ use Rattle.formula.proofs.RegularUnique.{any_form}
 use Rattle.formula.proofs.RegularSpine.{one_at}
 use Rattle.formula.proofs.RegularPlaces.{head_once, above_taken}
 use Rattle.formula.proofs.Unambiguous.{any_formula}
-use Rattle.formula.proofs.States.{joined-tokens, joined-form, joined-fits, modal-tokens, modal-form, modal-nesting, modal-parens, modal-fits}
+use Rattle.formula.proofs.States.{bound-tokens, bound-form, bound-nesting, bound-parens, bound-fits, joined-tokens, joined-form, joined-fits, modal-tokens, modal-form, modal-nesting, modal-parens, modal-fits}
 use Rattle.formula.proofs.StateSpine.{row-level, Standing, one-state, LeftOperand, spine}
-use Rattle.formula.proofs.StatePlaces.{standing, UnaryAs, unary-as, modal-as, bound-as, bound-tokens, bound-form, bound-nesting, bound-parens, bound-fits, modal-inside, closing-row}
+use Rattle.formula.proofs.StatePlaces.{standing, UnaryAs, unary-as, modal-as, bound-as, modal-inside, closing-row}
 
 -- what follows the last token that counts doesn't matter
 pub same-row : (back more : List Token) → (back ≡ [] → more ≡ []) → state_row (take 1 back ++ more) ≡ state_row back

@@ -16,7 +16,7 @@ use Rattle.formula.proofs.RegularUnique.{any_form}
 use Rattle.formula.proofs.RegularSpine.{one_at}
 use Rattle.formula.proofs.RegularPlaces.{head_once}
 use Rattle.formula.proofs.Unambiguous.{any_formula, modal_parts}
-use Rattle.formula.proofs.States.{joined-tokens, joined-form, joined-nesting, joined-parens, joined-fits, modal-tokens, modal-form, modal-nesting, modal-parens, modal-ends, modal-fits}
+use Rattle.formula.proofs.States.{joined-tokens, joined-form, joined-nesting, joined-parens, joined-fits, modal-tokens, modal-form, modal-nesting, modal-parens, modal-ends, modal-fits, bound-tokens, bound-form, bound-nesting, bound-parens, bound-fits}
 use Rattle.formula.proofs.Misreads.{Parts, IsPlace}
 use Rattle.formula.proofs.Regulars.{all_true, le_true}
 use Rattle.formula.proofs.StateSpine.{Standing, LeftOperand, spine, first-unary}
@@ -65,26 +65,6 @@ pub bound-as : (b : Binder) (s : Syntax) (rest more : List Token) → form s ≤
     → (x : List ℕ) × (f : Syntax) × (s ≡ bound b x f) × (Name x ∷ Dot ∷ (tokens f ++ rest) ≡ more)
 bound-as binder.Mu s rest more low e = unary-as s rest more MuWord low e
 bound-as binder.Nu s rest more low e = unary-as s rest more NuWord low e
-
-pub bound-tokens : (b : Binder) (x : List ℕ) (f : Syntax) → tokens (bound b x f) ≡ binder_token b ∷ Name x ∷ Dot ∷ tokens f
-bound-tokens binder.Mu x f = refl
-bound-tokens binder.Nu x f = refl
-
-pub bound-form : (b : Binder) (x : List ℕ) (f : Syntax) → form (bound b x f) ≡ 0
-bound-form binder.Mu x f = refl
-bound-form binder.Nu x f = refl
-
-pub bound-nesting : (b : Binder) (x : List ℕ) (f : Syntax) → nesting (bound b x f) ≡ 1 + nesting f
-bound-nesting binder.Mu x f = refl
-bound-nesting binder.Nu x f = refl
-
-pub bound-parens : (b : Binder) (x : List ℕ) (f : Syntax) → parens (bound b x f) ≡ parens f
-bound-parens binder.Mu x f = refl
-bound-parens binder.Nu x f = refl
-
-pub bound-fits : (b : Binder) (x : List ℕ) (f : Syntax) → fits (bound b x f) ≡ fits f
-bound-fits binder.Mu x f = refl
-bound-fits binder.Nu x f = refl
 
 pub bound-ends : (b : Binder) (x : List ℕ) (f : Syntax) → ends_in_binder (bound b x f) ≡ true
 bound-ends binder.Mu x f = refl
