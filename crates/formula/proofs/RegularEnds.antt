@@ -1,5 +1,5 @@
 -- Where the reading of a regular formula ends: a token that can't come next, or the end of the tokens.
-use Rattle.std.proofs.Common.{◌≡◌, ℕ, ◌+◌, ◌<◌, ◌≤◌, false, List, [], ◌∷◌, ◌++◌, length, take, refl, sym, ap, ◌∙◌, arith, append_assoc, append-nil, drop, true≢false}
+use Rattle.std.proofs.Common.{◌≡◌, ℕ, ◌+◌, ◌<◌, ◌≤◌, false, List, [], ◌∷◌, ◌++◌, length, take, refl, sym, ap, ◌∙◌, subst, arith, append_assoc, append-nil, drop, true≢false}
 use Rattle.std.specs.Prelude.{IsTrue, suc}
 use Rattle.formula.specs.Token.{Token, Name, TrueWord, Bar, NotSign, Open, Close}
 use Rattle.formula.specs.Syntax.{RegSyntax, Anything', Nothing', Tau', Names', Quoted', Parens', Not', reg_form, reg_fits, reg_tokens, reg_nesting, reg_parens, more_names}
@@ -13,7 +13,7 @@ use Rattle.formula.specs.declared.written.Repeat.TheVariants as repeat
 use Rattle.formula.proofs.Regulars.{all_true, le_true, infixed-tokens, infixed-form, infixed-fits, repeated-tokens, more_names-push}
 use Rattle.formula.proofs.RegularUnique.{any_form}
 use Rattle.formula.proofs.RegularSpine.{one_at, spine, postfix_spine}
-use Rattle.formula.proofs.RegularPlaces.{row_taken, above_taken, first_taken, opens_regular, opening_token, word_alone, not_part, open_part, names_part, name_next}
+use Rattle.formula.proofs.RegularPlaces.{row_taken, above_taken, first_taken, opens_regular, opening_token, word_alone, low-as, name_next}
 
 -- a formula within the limits begins with the first of its tokens
 begun : (level depth inside : ℕ) (s : RegSyntax) (front more : List Token) → IsTrue (reg_fits s) → reg_form s ≤ level → reg_nesting s ≤ depth → reg_parens s ≤ inside → reg_tokens s ≡ front ++ more
@@ -31,13 +31,13 @@ begun_none level depth inside = begun level depth inside Anything' [] (TrueWord 
 
 -- no formula has no tokens
 some_token : (s : RegSyntax) (rest : List Token) → reg_form s ≤ 1 → reg_tokens s ++ rest ≡ [] → ⊥
+some_token (Names' x xs) rest low e = cc
+some_token (Parens' r) rest low e = cc
+some_token (Not' r) rest low e = cc
+some_token (Quoted' bytes) rest low e = cc
 some_token Anything' rest low e = cc
 some_token Nothing' rest low e = cc
 some_token Tau' rest low e = cc
-some_token (Names' x xs) rest low e = cc
-some_token (Quoted' bytes) rest low e = cc
-some_token (Parens' r) rest low e = cc
-some_token (Not' r) rest low e = cc
 some_token _ rest low e = omega arith
 
 pub no_token : (depth inside : ℕ) → IsRegularMisread 1 depth inside [] (misread.Unexpected 0)
@@ -58,7 +58,7 @@ no_start depth inside t ts other = record {
   joined = refl;
   place = refl;
   begun = begun_none 1 depth inside;
-  none = λ nested opened more stop s. true≢false (sym (opening_token s.syntax s.rest t more s.row s.spelled) ∙ other);
+  none = λ nested opened more stop s. true≢false (sym (opening_token t s.syntax s.rest more (low-as s.syntax s.rest more t s.row s.spelled)) ∙ other);
 }
 
 -- a `!` where no operator may stand
@@ -71,7 +71,7 @@ not_too_deep depth inside ts full = record {
   place = refl;
   begun = begun_none 1 depth inside;
   goes_on = (1, 0, record { syntax = Not' Anything'; more = TrueWord ∷ []; grammatical = refl; row = omega arith; nests = refl; opens = refl; spelled = refl });
-  none = λ more w. let p = not_part w.it.syntax w.it.rest more w.it.grammatical w.it.row w.it.spelled in omega (arith, p.nests, w.it.nests, w.low, full);
+  none = λ more w. omega (arith, ap reg_nesting (low-as w.it.syntax w.it.rest more NotSign w.it.row w.it.spelled).1, w.it.nests, w.low, full);
 }
 
 -- a parenthesis where none may open
@@ -84,7 +84,7 @@ open_too_many depth inside ts full = record {
   place = refl;
   begun = begun_none 1 depth inside;
   goes_on = (0, 1, record { syntax = Parens' Anything'; more = TrueWord ∷ Close ∷ []; grammatical = refl; row = omega arith; nests = refl; opens = refl; spelled = refl });
-  none = λ more w. let p = open_part w.it.syntax w.it.rest more w.it.grammatical w.it.row w.it.spelled in omega (arith, p.opens, w.it.opens, w.narrow, full);
+  none = λ more w. omega (arith, ap reg_parens (low-as w.it.syntax w.it.rest more Open w.it.row w.it.spelled).1, w.it.opens, w.narrow, full);
 }
 
 -- what a bar follows where none may
@@ -100,7 +100,7 @@ word_barred depth inside r t ts e form low narrow fit word bar = record {
   joined = refl;
   place = refl;
   begun = begun 1 depth inside r (t ∷ []) [] fit (omega arith) (omega arith) (omega arith) e;
-  none = λ nested opened more stop s. not_barred ts more s.rest bar s.stops (word_alone s.syntax s.rest t (take 1 ts ++ more) s.row word s.spelled);
+  none = λ nested opened more stop s. not_barred ts more s.rest bar s.stops (word_alone t s.syntax s.rest (take 1 ts ++ more) word (low-as s.syntax s.rest (take 1 ts ++ more) t s.row s.spelled));
 }
 
 -- no closing parenthesis after what stands in parentheses
@@ -113,8 +113,8 @@ no_close depth inside r ts fit low narrow stops missing = record {
   place = refl;
   begun = begun 1 depth (inside + 1) (Parens' r) (Open ∷ reg_tokens r) (Close ∷ []) fit (omega arith) low (omega (arith, narrow)) refl;
   none = λ nested opened more stop s.
-      let p = open_part s.syntax s.rest (reg_tokens r ++ (take 1 ts ++ more)) s.grammatical s.row s.spelled in
-      let q = one_at 7 p.inner r (Close ∷ s.rest) (take 1 ts ++ more) p.grammatical fit (any_form p.inner) (any_form r) (omega arith) (above_taken 7 ts more stop stops) p.spelled in
+      let u = low-as s.syntax s.rest (reg_tokens r ++ (take 1 ts ++ more)) Open s.row s.spelled in
+      let q = one_at 7 u.0 r (Close ∷ s.rest) (take 1 ts ++ more) (subst (λ x. IsTrue (reg_fits x)) u.1 s.grammatical) fit (any_form u.0) (any_form r) (omega arith) (above_taken 7 ts more stop stops) u.2 in
       let f = first_taken ts more Close s.rest stop (sym q.1) in
       missing f.0 f.1;
 }
@@ -129,9 +129,8 @@ close_barred depth inside r ts fit low narrow bar = record {
   place = refl;
   begun = begun 1 depth (inside + 1) (Parens' r) (Open ∷ (reg_tokens r ++ Close ∷ [])) [] fit (omega arith) low (omega (arith, narrow)) (ap (λ us. Open ∷ us) (no_more (reg_tokens r ++ Close ∷ [])));
   none = λ nested opened more stop s.
-      let p = open_part s.syntax s.rest (reg_tokens r ++ Close ∷ (take 1 ts ++ more)) s.grammatical s.row
-      (s.spelled ∙ ap (λ us. Open ∷ us) (append_assoc (reg_tokens r) (Close ∷ []) (take 1 ts ++ more))) in
-      let q = one_at 7 p.inner r (Close ∷ s.rest) (Close ∷ (take 1 ts ++ more)) p.grammatical fit (any_form p.inner) (any_form r) (omega arith) (omega arith) p.spelled in
+      let u = low-as s.syntax s.rest (reg_tokens r ++ Close ∷ (take 1 ts ++ more)) Open s.row (s.spelled ∙ ap (λ us. Open ∷ us) (append_assoc (reg_tokens r) (Close ∷ []) (take 1 ts ++ more))) in
+      let q = one_at 7 u.0 r (Close ∷ s.rest) (Close ∷ (take 1 ts ++ more)) (subst (λ x. IsTrue (reg_fits x)) u.1 s.grammatical) fit (any_form u.0) (any_form r) (omega arith) (omega arith) u.2 in
       not_barred ts more s.rest bar s.stops (ap (drop 1) q.1);
 }
   where
@@ -149,7 +148,7 @@ no_name depth inside first names ts missing = record {
   begun = begun 1 depth inside (Names' first (names ++ first ∷ [])) (Name first ∷ (more_names names ++ Bar ∷ [])) (Name first ∷ []) refl (omega arith) (omega arith) (omega arith)
       (ap (λ us. Name first ∷ us) (sym (append-nil (more_names (names ++ first ∷ []))) ∙ (sym (more_names-push names first []) ∙ sym (append_assoc (more_names names) (Bar ∷ []) (Name first ∷ [])))));
   none = λ nested opened more stop s.
-      let p = names_part s.syntax s.rest first ((more_names names ++ Bar ∷ []) ++ (take 1 ts ++ more)) s.row s.spelled in
+      let p = low-as s.syntax s.rest ((more_names names ++ Bar ∷ []) ++ (take 1 ts ++ more)) (Name first) s.row s.spelled in
       let q = name_next names p.0 s.rest (take 1 ts ++ more) (omega (arith, s.stops)) (p.1 ∙ append_assoc (more_names names) (Bar ∷ []) (take 1 ts ++ more)) in
       let f = first_taken ts more (Name q.0) q.1 stop q.2 in
       missing q.0 f.0 f.1;

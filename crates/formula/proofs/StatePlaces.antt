@@ -14,7 +14,7 @@ use Rattle.formula.specs.declared.written.Binder.{Binder}
 use Rattle.formula.specs.declared.written.Binder.TheVariants as binder
 use Rattle.formula.proofs.RegularUnique.{any_form}
 use Rattle.formula.proofs.RegularSpine.{one_at}
-use Rattle.formula.proofs.RegularPlaces.{head_once}
+use Rattle.formula.proofs.RegularPlaces.{head_once, stands-part as regular-part}
 use Rattle.formula.proofs.Unambiguous.{any_formula, modal_parts}
 use Rattle.formula.proofs.States.{joined-tokens, joined-form, joined-nesting, joined-parens, joined-fits, modal-tokens, modal-form, modal-nesting, modal-parens, modal-ends, modal-fits, bound-tokens, bound-form, bound-nesting, bound-parens, bound-fits}
 use Rattle.formula.proofs.Misreads.{Parts, IsPlace}
@@ -156,22 +156,9 @@ in-brackets mark depth inside = record {
       (λ h. omega (arith, modal-nesting mark r True', b.nests, h)) (λ h. omega (arith, modal-parens mark r True', b.opens, h));
   inward = λ ts nested opened x.
       let u = modal-as mark x.syntax x.rest ts x.row x.spelled in
-      let o = modal-inside mark u.0 u.1 (subst (λ s. IsTrue (fits s)) u.2 x.grammatical) in (
-        reg_nesting u.0,
-        reg_parens u.0,
-        record {
-          syntax = u.0;
-          rest = closing mark ∷ (tokens u.1 ++ x.rest);
-          grammatical = o.1;
-          row = any_form u.0;
-          nests = refl;
-          opens = refl;
-          stops = omega (arith, closing-row mark (tokens u.1 ++ x.rest));
-          spelled = u.3;
-        },
-        λ h. omega (arith, ap nesting u.2, modal-nesting mark u.0 u.1, x.nests, h),
-        λ h. omega (arith, ap parens u.2, modal-parens mark u.0 u.1, x.opens, h),
-      );
+      let o = modal-inside mark u.0 u.1 (subst (λ s. IsTrue (fits s)) u.2 x.grammatical) in
+      regular-part nested opened (depth + 1) inside depth inside 7 u.0 (closing mark ∷ (tokens u.1 ++ x.rest)) ts o.1 (any_form u.0) (omega (arith, closing-row mark (tokens u.1 ++ x.rest))) u.3
+      (λ h. omega (arith, ap nesting u.2, modal-nesting mark u.0 u.1, x.nests, h)) (λ h. omega (arith, ap parens u.2, modal-parens mark u.0 u.1, x.opens, h));
 }
 
 -- after the brackets of a modality
