@@ -1,5 +1,5 @@
 -- Why tokens gave no formula, from why those of its last part gave none.
-use Rattle.std.proofs.Common.{ℕ, ◌-◌, ◌≤◌, List, [], ◌∷◌, ◌++◌, take, subst, sym, ap, ◌∙◌, append_assoc, ◌≡◌, Result, Ok, Err, IsErrAnd}
+use Rattle.std.proofs.Common.{ℕ, suc, length, refl, ◌-◌, ◌≤◌, List, [], ◌∷◌, ◌++◌, take, subst, sym, ap, ◌∙◌, append_assoc, ◌≡◌, Result, Ok, Err, IsErrAnd}
 use Rattle.std.specs.Prelude.{MatchResult}
 use Rattle.formula.specs.Token.{Token}
 use Rattle.formula.specs.Misread.{Within, IsMisread}
@@ -54,6 +54,21 @@ misread-within begins stands begins' stands' depth inside depth' inside' before 
       (subst (Within stands depth inside) (append_assoc before h.front (h.token ∷ more)) w));
 }
 misread-within begins stands begins' stands' depth inside depth' inside' before ts misread.Memory place h = tt
+
+-- no formula stands at the front of what begins so, up to the first of the other tokens
+abbrev pub NoneStands : (stands : Class) → (front back : List Token) → Type 0
+NoneStands stands front back = (nested opened : ℕ) (more : List Token) → (back ≡ [] → more ≡ []) → stands nested opened (front ++ (take 1 back ++ more)) → ⊥
+
+pub unexpected-here : (begins stands : Class) (depth inside : ℕ) (front back ts : List Token) (e : Misread) → front ++ back ≡ ts → e ≡ misread.Unexpected (length back) → Within begins depth inside front → NoneStands stands front back
+    → IsMisread begins stands depth inside ts e
+unexpected-here begins stands depth inside front back ts e split is begun none =
+    subst (λ (m : Misread). IsMisread begins stands depth inside ts m) (sym is) (record { front = front; back = back; joined = sym split; place = refl; begun = begun; none = none })
+
+pub too-large-here : (begins stands : Class) (depth inside nested opened : ℕ) (front : List Token) (token : Token) (back ts : List Token) (e : Misread) → front ++ token ∷ back ≡ ts → e ≡ misread.TooLarge (suc (length back))
+    → Within begins depth inside front → begins nested opened (front ++ token ∷ []) → ((more : List Token) → Within stands depth inside (front ++ token ∷ more) → ⊥) → IsMisread begins stands depth inside ts e
+too-large-here begins stands depth inside nested opened front token back ts e split is begun on none =
+    subst (λ (m : Misread). IsMisread begins stands depth inside ts m) (sym is)
+    (record { front = front; token = token; back = back; joined = sym split; place = refl; begun = begun; goes_on = (nested, opened, on); none = none })
 
 -- an error that is handed on
 pub handed : {T : Type 0} (P : T → Type 0) (Q : Misread → Type 0) (result : Result T Misread) (e : Misread) → IsErrAnd result (λ x. x ≡ e) → Q e → MatchResult result P Q
