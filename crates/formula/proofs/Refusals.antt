@@ -29,7 +29,7 @@ use Rattle.formula.proofs.Tokenless.{free_words}
 use Rattle.formula.proofs.Misreads.{Parts, IsPlace, misread-within}
 use Rattle.formula.proofs.StateSpine.{Standing, one-state}
 use Rattle.formula.proofs.StateEnds.{begun-by, same-row}
-use Rattle.formula.proofs.Regulars.{words-length}
+use Rattle.formula.proofs.RegularRefusals.{words-length}
 use Rattle.formula.proofs.NoFault.{no_fault}
 use Rattle.formula.proofs.OneFault.{one_fault}
 

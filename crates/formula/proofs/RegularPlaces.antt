@@ -135,7 +135,7 @@ stands-part nested opened depth inside depth' inside' level s rest ts fit row st
     (reg_nesting s, reg_parens s, record { syntax = s; rest = rest; grammatical = fit; row = row; nests = refl; opens = refl; stops = stop; spelled = e }, low, narrow)
 
 -- at the front of a formula of any row
-place_front : (level depth inside : ℕ) → 1 ≤ level → IsPlace (BeginsRegular level) (StandsRegular level) (BeginsRegular 1) (StandsRegular 1) depth inside depth inside []
+pub place_front : (level depth inside : ℕ) → 1 ≤ level → IsPlace (BeginsRegular level) (StandsRegular level) (BeginsRegular 1) (StandsRegular 1) depth inside depth inside []
 place_front level depth inside above = record {
   outward = λ ts nested opened b.
       begins-part nested opened depth inside depth inside level b.syntax ts b.more b.grammatical (omega (arith, b.row)) b.spelled (λ h. omega (arith, b.nests, h)) (λ h. omega (arith, b.opens, h));
@@ -145,7 +145,7 @@ place_front level depth inside above = record {
 }
 
 -- after a `!`
-place_not : (depth inside : ℕ) → IsPlace (BeginsRegular 1) (StandsRegular 1) (BeginsRegular 1) (StandsRegular 1) (depth + 1) inside depth inside (NotSign ∷ [])
+pub place_not : (depth inside : ℕ) → IsPlace (BeginsRegular 1) (StandsRegular 1) (BeginsRegular 1) (StandsRegular 1) (depth + 1) inside depth inside (NotSign ∷ [])
 place_not depth inside = record {
   outward = λ ts nested opened b.
       begins-part nested opened depth inside (depth + 1) inside 1 (Not' b.syntax) (NotSign ∷ ts) b.more (all_true _ _ (le_true (reg_form b.syntax) 1 b.row) b.grammatical) (omega arith) (ap (λ us. NotSign ∷ us) b.spelled)
@@ -157,7 +157,7 @@ place_not depth inside = record {
 }
 
 -- after an opening parenthesis
-place_open : (depth inside : ℕ) → IsPlace (BeginsRegular 1) (StandsRegular 1) (BeginsRegular 7) (StandsRegular 7) depth (inside + 1) depth inside (Open ∷ [])
+pub place_open : (depth inside : ℕ) → IsPlace (BeginsRegular 1) (StandsRegular 1) (BeginsRegular 7) (StandsRegular 7) depth (inside + 1) depth inside (Open ∷ [])
 place_open depth inside = record {
   outward = λ ts nested opened b.
       begins-part nested opened depth inside depth (inside + 1) 1 (Parens' b.syntax) (Open ∷ ts) (b.more ++ Close ∷ []) b.grammatical (omega arith)
@@ -182,18 +182,6 @@ place_sign mark level depth inside left fit below above low narrow = record {
       let p = spine mark left s.syntax s.rest ts fit below s.grammatical (omega (arith, s.stops, above)) (s.spelled ∙ append_assoc (reg_tokens left) (infix_token mark ∷ []) ts) in
       stands-part nested opened depth inside (depth - 1) inside (infix_row mark) p.right p.rest ts p.grammatical p.row p.stops p.spelled (λ h. omega (arith, p.below, s.nests, h)) (λ h. omega (arith, p.narrow, s.opens, h));
 }
-
-pub in_regular : (level depth inside : ℕ) (ts : List Token) (e : Misread) → 1 ≤ level → IsRegularMisread 1 depth inside ts e → IsRegularMisread level depth inside ts e
-in_regular level depth inside ts e above h =
-    misread-within (BeginsRegular level) (StandsRegular level) (BeginsRegular 1) (StandsRegular 1) depth inside depth inside [] ts e (place_front level depth inside above) h
-
-pub in_negated : (depth inside : ℕ) (ts : List Token) (e : Misread) → IsRegularMisread 1 depth inside ts e → IsRegularMisread 1 (depth + 1) inside (NotSign ∷ ts) e
-in_negated depth inside ts e h =
-    misread-within (BeginsRegular 1) (StandsRegular 1) (BeginsRegular 1) (StandsRegular 1) (depth + 1) inside depth inside (NotSign ∷ []) ts e (place_not depth inside) h
-
-pub in_parens : (depth inside : ℕ) (ts : List Token) (e : Misread) → IsRegularMisread 7 depth inside ts e → IsRegularMisread 1 depth (inside + 1) (Open ∷ ts) e
-in_parens depth inside ts e h =
-    misread-within (BeginsRegular 1) (StandsRegular 1) (BeginsRegular 7) (StandsRegular 7) depth (inside + 1) depth inside (Open ∷ []) ts e (place_open depth inside) h
 
 pub in_joined : (mark : Infix) (level depth inside : ℕ) (left : RegSyntax) (ts : List Token) (e : Misread) → IsTrue (reg_fits left) → reg_form left < infix_row mark → infix_row mark ≤ level → reg_nesting left < depth
     → reg_parens left ≤ inside → IsRegularMisread (infix_row mark) (depth - 1) inside ts e → IsRegularMisread level depth inside (reg_tokens left ++ infix_token mark ∷ ts) e

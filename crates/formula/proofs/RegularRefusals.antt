@@ -16,7 +16,8 @@ use Rattle.formula.specs.declared.written.Infix.{Infix}
 use Rattle.formula.specs.declared.written.Repeat.{Repeat}
 use Rattle.formula.specs.declared.written.WrittenRegular.{WrittenRegular}
 use Rattle.formula.specs.declared.regular.ReadRegular.{ReadRegular}
-use Rattle.formula.proofs.Regulars.{words-next, bar_first, words-length, low-read, all_true, le_true, repeated-tokens}
+pub use Rattle.formula.proofs.Regulars.{words-length}
+use Rattle.formula.proofs.Regulars.{words-next, bar_first, low-read, all_true, le_true, repeated-tokens}
 use Rattle.formula.proofs.RegularSpine.{sign_row, repeat_row, not_postfix}
 use Rattle.formula.proofs.RegularPlaces.{opens_regular, in_joined}
 use Rattle.formula.proofs.RegularEnds.{no_token, no_start, not_too_deep, open_too_many, word_barred, no_close, close_barred, no_name, sign_too_deep, mark_too_deep, mark_followed, repeated-fits, repeated-form, repeated-nesting, repeated-parens}

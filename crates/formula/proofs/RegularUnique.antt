@@ -150,15 +150,28 @@ names_found [] m h = none m h
     none (t ∷ ts) h = refl
 names_found (x ∷ names) m h = ap (λ p. (x ∷ p.0, p.1)) (names_found names m h)
 
--- an operator that joins two
-joins : (t : Token) (a b : RegSyntax) (j k n : ℕ) (m : List Token) → reg_level t ≡ suc (suc j) → ((x y : Found RegSyntax) → chosen t x y ≡ y) → Reads a → Reads b
-    → reg_form a ≤ suc j → reg_form b ≤ suc (suc j) → reg_size a + reg_size b < n → suc (suc j) ≤ k → reg_stops k m ≡ true
+and_three : (a b c : Bool) → (a && b && c) ≡ true → (a ≡ true) × (b ≡ true) × (c ≡ true)
+and_three a b c h = let x = and_parts (a && b) c h in let y = and_parts a b x.0 in (y.0, y.1, x.1)
+
+-- of an operator with two operands of these forms
+abbrev pub Operands : (i j : ℕ) → RegSyntax → RegSyntax → Type 0
+Operands i j r s = (reg_form r ≤ i) × (reg_form s ≤ j) × (reg_fits r ≡ true) × (reg_fits s ≡ true)
+
+pub operands : (i j : ℕ) (r s : RegSyntax) → (nat_le (reg_form r) i && nat_le (reg_form s) j && reg_fits r && reg_fits s) ≡ true → Operands i j r s
+operands i j r s h =
+    let x = and_parts (nat_le (reg_form r) i && nat_le (reg_form s) j && reg_fits r) (reg_fits s) h in
+    let y = and_three (nat_le (reg_form r) i) (nat_le (reg_form s) j) (reg_fits r) x.0 in
+    (leb-true (reg_form r) i y.0, leb-true (reg_form s) j y.1, y.2, x.1)
+
+-- a tree of two operands that an operator joins
+join_finds : (t : Token) (a b : RegSyntax) (j : ℕ) → reg_level t ≡ suc (suc j) → ((x y : Found RegSyntax) → chosen t x y ≡ y) → Operands (suc j) (suc (suc j)) a b → Reads a → Reads b
+    → (k n : ℕ) (m : List Token) → suc (suc j) ≤ k → suc (reg_size a + reg_size b) ≤ n → reg_stops k m ≡ true
     → levels (reg_read n) k ((reg_tokens a ++ t ∷ reg_tokens b) ++ m) ≡ Some (joined t a b, m)
-joins t a b j k n m level infix' ra rb fa fb size above h =
+join_finds t a b j level infix' o ra rb k n m above size h =
     let rest : List Token = reg_tokens b ++ m in
     let stop : reg_stops (suc j) (t ∷ rest) ≡ true = lt-ltb (suc j) (reg_level t) (omega (arith, level)) in
-    let left : levels (reg_read n) (suc j) (reg_tokens a ++ (t ∷ rest)) ≡ Some (a, t ∷ rest) = ra (suc j) n (t ∷ rest) fa (omega arith) stop in
-    let right : reg_read n (suc (suc j)) rest ≡ Some (b, m) = inner b rb (suc (suc j)) n m fb (omega arith) (stops_below (suc (suc j)) k m above h) in
+    let left : levels (reg_read n) (suc j) (reg_tokens a ++ (t ∷ rest)) ≡ Some (a, t ∷ rest) = ra (suc j) n (t ∷ rest) o.0 (omega arith) stop in
+    let right : reg_read n (suc (suc j)) rest ≡ Some (b, m) = inner b rb (suc (suc j)) n m o.1 (omega arith) (stops_below (suc (suc j)) k m above h) in
     let here : (reg_level t == suc (suc j)) ≡ true = eq-eqb (reg_level t) (suc (suc j)) level in
     let both : levels (reg_read n) (suc (suc j)) (reg_tokens a ++ (t ∷ rest)) ≡ Some (joined t a b, m) =
     ap (after (suc (suc j)) (reg_read n)) left
@@ -168,14 +181,14 @@ joins t a b j k n m level infix' ra rb fa fb size above h =
     ap (levels (reg_read n) k) (append_assoc (reg_tokens a) (t ∷ reg_tokens b) m)
     ∙ lifted (reg_read n) (reg_tokens a ++ (t ∷ rest)) m (joined t a b) (suc j) k above both h
 
--- a postfix sign
-marks : (t : Token) (a : RegSyntax) (n : ℕ) (m : List Token) → reg_level t ≡ 5 → ((x y : Found RegSyntax) → chosen t x y ≡ x) → ReadsOn a → reg_form a ≤ 5 → reg_size a ≤ n
-    → levels (reg_read n) 5 ((reg_tokens a ++ t ∷ []) ++ m) ≡ more 5 (reg_read n) (joined t a a) m
-marks t a n m level postfix ra fa size =
+-- a tree under a postfix sign
+mark_finds : (t : Token) (a : RegSyntax) → reg_level t ≡ 5 → ((x y : Found RegSyntax) → chosen t x y ≡ x) → reg_form a ≤ 5 → ReadsOn a
+    → (n : ℕ) (m : List Token) → suc (reg_size a) ≤ n → levels (reg_read n) 5 ((reg_tokens a ++ t ∷ []) ++ m) ≡ more 5 (reg_read n) (joined t a a) m
+mark_finds t a level postfix fa ra n m size =
     let stop : reg_stops 4 (t ∷ m) ≡ true = lt-ltb 4 (reg_level t) (omega (arith, level)) in
     let here : (reg_level t == 5) ≡ true = eq-eqb (reg_level t) 5 level in
     ap (levels (reg_read n) 5) (append_assoc (reg_tokens a) (t ∷ []) m)
-    ∙ ra n (t ∷ m) fa size stop
+    ∙ ra n (t ∷ m) fa (omega arith) stop
     ∙ ap (λ (c : Bool). if c then chosen t (more 5 (reg_read n) (joined t a a) m) (within (joined t a) (reg_read n 5 m)) else Some (a, t ∷ m)) here
     ∙ postfix (more 5 (reg_read n) (joined t a a) m) (within (joined t a) (reg_read n 5 m))
 
@@ -195,30 +208,6 @@ operand r low f = (f, reads_on r low f)
 
 whole : (r : RegSyntax) → 5 < reg_form r → Reads r → Finds r
 whole r high f = (f, λ n m low size h. absurd (omega arith))
-
-and_three : (a b c : Bool) → (a && b && c) ≡ true → (a ≡ true) × (b ≡ true) × (c ≡ true)
-and_three a b c h = let x = and_parts (a && b) c h in let y = and_parts a b x.0 in (y.0, y.1, x.1)
-
--- of an operator with two operands of these forms
-abbrev pub Operands : (i j : ℕ) → RegSyntax → RegSyntax → Type 0
-Operands i j r s = (reg_form r ≤ i) × (reg_form s ≤ j) × (reg_fits r ≡ true) × (reg_fits s ≡ true)
-
-pub operands : (i j : ℕ) (r s : RegSyntax) → (nat_le (reg_form r) i && nat_le (reg_form s) j && reg_fits r && reg_fits s) ≡ true → Operands i j r s
-operands i j r s h =
-    let x = and_parts (nat_le (reg_form r) i && nat_le (reg_form s) j && reg_fits r) (reg_fits s) h in
-    let y = and_three (nat_le (reg_form r) i) (nat_le (reg_form s) j) (reg_fits r) x.0 in
-    (leb-true (reg_form r) i y.0, leb-true (reg_form s) j y.1, y.2, x.1)
-
--- a tree of two operands that an operator joins
-join_finds : (t : Token) (a b : RegSyntax) (j : ℕ) → reg_level t ≡ suc (suc j) → ((x y : Found RegSyntax) → chosen t x y ≡ y) → Operands (suc j) (suc (suc j)) a b → Reads a → Reads b
-    → (k n : ℕ) (m : List Token) → suc (suc j) ≤ k → suc (reg_size a + reg_size b) ≤ n → reg_stops k m ≡ true
-    → levels (reg_read n) k ((reg_tokens a ++ t ∷ reg_tokens b) ++ m) ≡ Some (joined t a b, m)
-join_finds t a b j level infix' o ra rb k n m low size h = joins t a b j k n m level infix' ra rb o.0 o.1 (omega arith) low h
-
--- a tree under a postfix sign
-mark_finds : (t : Token) (a : RegSyntax) → reg_level t ≡ 5 → ((x y : Found RegSyntax) → chosen t x y ≡ x) → reg_form a ≤ 5 → ReadsOn a
-    → (n : ℕ) (m : List Token) → suc (reg_size a) ≤ n → levels (reg_read n) 5 ((reg_tokens a ++ t ∷ []) ++ m) ≡ more 5 (reg_read n) (joined t a a) m
-mark_finds t a level postfix low ra n m size = marks t a n m level postfix ra low (omega arith)
 
 settle : (n k : ℕ) (r : RegSyntax) (ts m : List Token) → 5 ≤ k → reg_stops k m ≡ true → levels (reg_read n) 5 ts ≡ more 5 (reg_read n) r m → levels (reg_read n) k ts ≡ Some (r, m)
 settle n k r ts m low h e = lifted (reg_read n) ts m r 4 k low (e ∙ settled 5 (reg_read n) r m (stops_below 5 k m low h)) h

@@ -1,6 +1,6 @@
 -- Where a state formula's parts stand in it: what begins a part begins the whole, and what stands as the whole has the part.
 use Rattle.std.proofs.Common.{◌≡◌, ℕ, ◌+◌, ◌-◌, ◌<◌, ◌≤◌, true, List, [], ◌∷◌, ◌++◌, refl, sym, ap, ◌∙◌, subst, arith, append_assoc}
-use Rattle.std.specs.Prelude.{IsTrue, nat_le, max, drop}
+use Rattle.std.specs.Prelude.{IsTrue, nat_le, drop}
 use Rattle.std.proofs.lemmas.Bool.{leb-true, and_parts}
 use Rattle.formula.specs.Token.{Token, Name, TrueWord, FalseWord, MuWord, NuWord, NotSign, Less, Greater, OpenBox, CloseBox, Open, Close, Dot}
 use Rattle.formula.specs.Syntax.{RegSyntax, reg_tokens, reg_fits, reg_nesting, reg_parens, Syntax, True', False', Var', Group', Neg', Both', OneOf', If', Dia', Box', Mu', Nu', form, ends_in_binder, fits, tokens, nesting, parens}
@@ -17,7 +17,7 @@ use Rattle.formula.proofs.RegularSpine.{one_at}
 use Rattle.formula.proofs.RegularPlaces.{head_once, stands-part as regular-part}
 use Rattle.formula.proofs.Unambiguous.{any_formula, modal_parts}
 use Rattle.formula.proofs.States.{joined-tokens, joined-form, joined-nesting, joined-parens, joined-fits, modal-tokens, modal-form, modal-nesting, modal-parens, modal-ends, modal-fits, bound-tokens, bound-form, bound-nesting, bound-parens, bound-fits}
-use Rattle.formula.proofs.Misreads.{Parts, IsPlace}
+use Rattle.formula.proofs.Misreads.{IsPlace}
 use Rattle.formula.proofs.Regulars.{all_true, le_true}
 use Rattle.formula.proofs.StateSpine.{Standing, LeftOperand, spine, first-unary}
 

@@ -1,11 +1,11 @@
 -- Why a state formula was not read, from why a part of it was not.
 use Rattle.std.specs.Prelude.{◌≡◌, ℕ, suc, ◌+◌, ◌-◌, ◌<◌, ◌≤◌, Bool, true, false, List, [], ◌∷◌, ◌++◌, length, IsFalse, Result}
 use Rattle.std.proofs.Common.{arith, refl, sym, ◌∙◌, ap, subst, append_assoc, true≢false}
-use Rattle.formula.specs.Token.{Token, Name, NotSign, Open, Close, Dot}
+use Rattle.formula.specs.Token.{Token, Name, Open, Close, Dot}
 use Rattle.formula.specs.Syntax.{reg_tokens, Syntax, tokens, form}
 use Rattle.formula.specs.Written.{token_of, words, state_syntax, reg_syntax, connective_token, connective_row, opening, closing, binder_token}
 use Rattle.formula.specs.Read.{IsState, state_tokens, state_row, is_state_word, is_prefix, prefix_token}
-use Rattle.formula.specs.Misread.{BeginsRegular, StandsRegular, IsRegularMisread, BeginsState, StandsState, IsStateMisread, ReadsRegular, ReadsState, StateOf, IsMissing}
+use Rattle.formula.specs.Misread.{BeginsState, StandsState, IsStateMisread, ReadsRegular, ReadsState, StateOf, IsMissing}
 use Rattle.formula.specs.declared.misread.Misread.{Misread}
 use Rattle.formula.specs.declared.misread.Misread.TheVariants as misread
 use Rattle.formula.specs.declared.token.Token.{Token as Lexeme}
@@ -22,24 +22,8 @@ use Rattle.formula.proofs.States.{connective-row, row-most}
 use Rattle.formula.proofs.Misreads.{misread-within}
 use Rattle.formula.proofs.Regulars.{words-length}
 use Rattle.formula.proofs.StateSpine.{Standing, LeftOperand}
-use Rattle.formula.proofs.StatePlaces.{UnaryAs, after-not, in-group, at-front, after-sign, in-brackets, after-brackets, after-dot}
+use Rattle.formula.proofs.StatePlaces.{UnaryAs, after-sign, after-brackets, after-dot}
 use Rattle.formula.proofs.StateEnds.{nothing-left, no-word, group-unclosed, modal-unclosed, sign-too-large, not-too-deep, modal-too-deep, binder-too-deep}
-
-pub within-not : (depth inside : ℕ) (ts : List Token) (e : Misread) → IsStateMisread 0 depth inside ts e → IsStateMisread 0 (depth + 1) inside (NotSign ∷ ts) e
-within-not depth inside ts e h =
-    misread-within (BeginsState 0) (StandsState 0) (BeginsState 0) (StandsState 0) (depth + 1) inside depth inside (NotSign ∷ []) ts e (after-not depth inside) h
-
-pub within-group : (depth inside : ℕ) (ts : List Token) (e : Misread) → IsStateMisread 3 depth inside ts e → IsStateMisread 0 depth (inside + 1) (Open ∷ ts) e
-within-group depth inside ts e h =
-    misread-within (BeginsState 0) (StandsState 0) (BeginsState 3) (StandsState 3) depth (inside + 1) depth inside (Open ∷ []) ts e (in-group depth inside) h
-
-pub within-front : (level depth inside : ℕ) (ts : List Token) (e : Misread) → IsStateMisread 0 depth inside ts e → IsStateMisread level depth inside ts e
-within-front level depth inside ts e h =
-    misread-within (BeginsState level) (StandsState level) (BeginsState 0) (StandsState 0) depth inside depth inside [] ts e (at-front level depth inside) h
-
-pub within-brackets : (mark : Brackets) (depth inside : ℕ) (ts : List Token) (e : Misread) → IsRegularMisread 7 depth inside ts e → IsStateMisread 0 (depth + 1) inside (opening mark ∷ ts) e
-within-brackets mark depth inside ts e h =
-    misread-within (BeginsState 0) (StandsState 0) (BeginsRegular 7) (StandsRegular 7) (depth + 1) inside depth inside (opening mark ∷ []) ts e (in-brackets mark depth inside) h
 
 pub within-modality : (mark : Brackets) (depth inside : ℕ) (r : ReadRegular) (us after : List Token) (e : Misread) → ReadsRegular 7 depth inside us r → words r.rest.now ≡ closing mark ∷ after
     → IsStateMisread 0 depth inside after e → IsStateMisread 0 (depth + 1) inside (opening mark ∷ us) e

@@ -1,6 +1,6 @@
 -- State formulas at the front of tokens: which one stands after an operand and its sign, and which unary one comes first.
 use Rattle.std.proofs.Common.{◌≡◌, ℕ, ◌+◌, ◌-◌, ◌<◌, ◌≤◌, Bool, true, false, not, List, [], ◌∷◌, ◌++◌, refl, sym, ap, ◌∙◌, subst, arith, append_assoc, inl, inr, true≢false}
-use Rattle.std.specs.Prelude.{IsTrue, nat_le, max, drop}
+use Rattle.std.specs.Prelude.{IsTrue, nat_le, drop}
 use Rattle.std.proofs.lemmas.Bool.{lt-ltb, leb-true, and_parts, not-true, cases_order}
 use Rattle.formula.specs.Token.{Token, AndSign, OrSign, ImpliesSign}
 use Rattle.formula.specs.Syntax.{Syntax, Both', OneOf', If', form, ends_in_binder, fits, tokens, nesting, parens}

@@ -6,7 +6,7 @@ use Rattle.formula.specs.Misread.{IsWholeMisread}
 use Rattle.formula.specs.declared.misread.Misread.{Misread}
 use Rattle.formula.specs.declared.misread.Misread.TheVariants as misread
 use Rattle.formula.specs.declared.error.FormulaFault.TheVariants as fault
-use Rattle.formula.proofs.Regulars.{words-length}
+use Rattle.formula.proofs.RegularRefusals.{words-length}
 use Rattle.formula.proofs.Refusals.{unfinished, unexpected, too-large}
 use Rattle.formula.proofs.reader.grammar_refusal.Goals as goal
 

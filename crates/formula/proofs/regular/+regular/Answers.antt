@@ -1,16 +1,17 @@
-use Rattle.std.proofs.Common.{rules, arith, ◌≡◌, ◌+◌, ◌∙◌, ◌≤◌, length, max, subst, ap, refl}
+use Rattle.std.proofs.Common.{rules, arith, ◌≡◌, ◌+◌, ◌∙◌, ◌≤◌, length, max, subst, ap, refl, [], ◌∷◌}
+use Rattle.formula.specs.Token.{NotSign, Open}
 use Rattle.formula.specs.Syntax.{reg_tokens}
 use Rattle.formula.specs.Written.{words, token_of, reg_syntax}
 use Rattle.formula.specs.Misread.{IsRegularMisread, ReadsRegular, RegularOf}
-use Rattle.formula.proofs.Misreads.{handed, built, below-room}
+use Rattle.formula.proofs.Misreads.{handed, built, below-room, misread-within as within}
 use Rattle.formula.proofs.Regulars.{joined-read, kept-length}
-use Rattle.formula.proofs.RegularPlaces.{in_regular, in_negated, in_parens}
+use Rattle.formula.proofs.RegularPlaces.{place_front, place_not, place_open}
 use Rattle.formula.proofs.RegularRefusals.{negation-empty, negation-deep, negation-many, negation-none, word-unbarred, parens-unbarred, parens-unclosed, not-read, at-row, some_row, may_join, join-deep, join-right}
 use Rattle.formula.proofs.regular.+regular.Goals as goal
 
 pub negated-returns-in_err-inner : goal.negated-returns-in_err-inner
 negated-returns-in_err-inner t c =
-    handed _ _ c.from_residual.result c.in_err-inner.field-0.0 c.from_residual.ensures.1 (in_negated _ _ _ _ c.in_err-inner.ensures)
+    handed _ _ c.from_residual.result c.in_err-inner.field-0.0 c.from_residual.ensures.1 (within _ _ _ _ _ _ _ _ (NotSign ∷ []) _ _ (place_not _ _) c.in_err-inner.ensures)
 
 pub negated-returns : goal.negated-returns
 negated-returns t c =
@@ -18,7 +19,7 @@ negated-returns t c =
 
 pub regular-returns-in_err-negation : goal.regular-returns-in_err-negation
 regular-returns-in_err-negation t c =
-    handed _ _ c.from_residual.result c.in_err-negation.field-0.0 c.from_residual.ensures.1 (in_regular c.args.level _ _ _ _ c.requires.above c.in_err-negation.ensures)
+    handed _ _ c.from_residual.result c.in_err-negation.field-0.0 c.from_residual.ensures.1 (within _ _ _ _ _ _ _ _ [] _ _ (place_front c.args.level _ _ c.requires.above) c.in_err-negation.ensures)
 
 pub regular-extended-requires : goal.regular-extended-requires
 regular-extended-requires t c =
@@ -52,7 +53,7 @@ negation-returns-in-None t c =
 
 pub parens-returns-in_err-inner : goal.parens-returns-in_err-inner
 parens-returns-in_err-inner t c =
-    handed _ _ c.from_residual.result c.in_err-inner.field-0.0 c.from_residual.ensures.1 (in_parens _ _ _ _ c.in_err-inner.ensures)
+    handed _ _ c.from_residual.result c.in_err-inner.field-0.0 c.from_residual.ensures.1 (within _ _ _ _ _ _ _ _ (Open ∷ []) _ _ (place_open _ _) c.in_err-inner.ensures)
 
 pub parens-returns-in_err-rest : goal.parens-returns-in_err-rest
 parens-returns-in_err-rest t c =

@@ -1,17 +1,18 @@
-use Rattle.std.proofs.Common.{◌≡◌, ◌≤◌, ◌+◌, ◌∷◌, ◌∙◌, max, sym, ap, refl, subst, arith}
-use Rattle.formula.specs.Token.{Name}
-use Rattle.formula.specs.Written.{words, token_of, modal, reg_syntax, state_syntax}
+use Rattle.std.proofs.Common.{◌≡◌, ◌≤◌, ◌+◌, [], ◌∷◌, ◌∙◌, max, sym, ap, refl, subst, arith}
+use Rattle.formula.specs.Token.{Name, NotSign, Open}
+use Rattle.formula.specs.Written.{words, token_of, opening, modal, reg_syntax, state_syntax}
 use Rattle.formula.specs.Misread.{IsStateMisread, ReadsState, StateOf}
 use Rattle.formula.specs.declared.room.Room.{Room}
-use Rattle.formula.proofs.Misreads.{handed, built, below-room}
+use Rattle.formula.proofs.Misreads.{handed, built, below-room, misread-within as within}
+use Rattle.formula.proofs.StatePlaces.{after-not, in-group, at-front, in-brackets}
 use Rattle.formula.proofs.States.{group-read, not-read, modal-read, bound-read, joined-read, word-read}
 use Rattle.formula.proofs.StateEnds.{binder-unnamed, binder-undotted, group-too-wide}
-use Rattle.formula.proofs.StateRefusals.{within-not, within-group, within-front, within-brackets, within-modality, modality-unclosed, within-binder, parenthesis-unclosed, within-sign, beyond-sign, beyond-first, none-left, none-begins, prefix-too-deep, renamed}
+use Rattle.formula.proofs.StateRefusals.{within-modality, modality-unclosed, within-binder, parenthesis-unclosed, within-sign, beyond-sign, beyond-first, none-left, none-begins, prefix-too-deep, renamed}
 use Rattle.formula.proofs.state.+state.Goals as goal
 
 pub group-returns-in_err-inner : goal.group-returns-in_err-inner
 group-returns-in_err-inner t c =
-    handed _ _ c.from_residual.result c.in_err-inner.field-0.0 c.from_residual.ensures.1 (within-group _ _ _ _ c.in_err-inner.ensures)
+    handed _ _ c.from_residual.result c.in_err-inner.field-0.0 c.from_residual.ensures.1 (within _ _ _ _ _ _ _ _ (Open ∷ []) _ _ (in-group _ _) c.in_err-inner.ensures)
 
 pub group-returns-in_err-rest : goal.group-returns-in_err-rest
 group-returns-in_err-rest t c =
@@ -23,7 +24,7 @@ group-returns t c =
 
 pub negated-returns-in_err-inner : goal.negated-returns-in_err-inner
 negated-returns-in_err-inner t c =
-    handed _ _ c.from_residual.result c.in_err-inner.field-0.0 c.from_residual.ensures.1 (within-not _ _ _ _ c.in_err-inner.ensures)
+    handed _ _ c.from_residual.result c.in_err-inner.field-0.0 c.from_residual.ensures.1 (within _ _ _ _ _ _ _ _ (NotSign ∷ []) _ _ (after-not _ _) c.in_err-inner.ensures)
 
 pub negated-returns : goal.negated-returns
 negated-returns t c =
@@ -31,7 +32,7 @@ negated-returns t c =
 
 pub modal-returns-in_err-inside : goal.modal-returns-in_err-inside
 modal-returns-in_err-inside t c =
-    handed _ _ c.from_residual.result c.in_err-inside.field-0.0 c.from_residual.ensures.1 (within-brackets c.args.brackets _ _ _ _ c.in_err-inside.ensures)
+    handed _ _ c.from_residual.result c.in_err-inside.field-0.0 c.from_residual.ensures.1 (within _ _ _ _ _ _ _ _ (opening c.args.brackets ∷ []) _ _ (in-brackets c.args.brackets _ _) c.in_err-inside.ensures)
 
 pub modal-returns-in_err-tokens : goal.modal-returns-in_err-tokens
 modal-returns-in_err-tokens t c =
@@ -73,7 +74,7 @@ bound-returns t c =
 
 pub state-returns-in_err-unary : goal.state-returns-in_err-unary
 state-returns-in_err-unary t c =
-    handed _ _ c.from_residual.result c.in_err-unary.field-0.0 c.from_residual.ensures.1 (within-front c.args.level _ _ _ _ c.in_err-unary.ensures)
+    handed _ _ c.from_residual.result c.in_err-unary.field-0.0 c.from_residual.ensures.1 (within _ _ _ _ _ _ _ _ [] _ _ (at-front c.args.level _ _) c.in_err-unary.ensures)
 
 pub joined-returns-in_err-below : goal.joined-returns-in_err-below
 joined-returns-in_err-below t c =
