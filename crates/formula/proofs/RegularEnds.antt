@@ -10,7 +10,7 @@ use Rattle.formula.specs.declared.misread.Misread.TheVariants as misread
 use Rattle.formula.specs.declared.written.Infix.{Infix}
 use Rattle.formula.specs.declared.written.Repeat.{Repeat}
 use Rattle.formula.specs.declared.written.Repeat.TheVariants as repeat
-use Rattle.formula.proofs.Regulars.{all_true, le_true, infixed-tokens, infixed-form, infixed-fits, repeated-tokens, more_names-push}
+use Rattle.formula.proofs.Regulars.{all_true, le_true, infixed-tokens, infixed-is, infixed-fits, repeated-tokens, more_names-push}
 use Rattle.formula.proofs.RegularUnique.{any_form}
 use Rattle.formula.proofs.Misreads.{unexpected-here, too-large-here}
 use Rattle.formula.proofs.RegularSpine.{one_at, spine, postfix_spine}
@@ -116,7 +116,7 @@ pub sign_too_deep : (mark : Infix) (level depth inside : ℕ) (left : RegSyntax)
     (misread.TooLarge (suc (length ts)))
 sign_too_deep mark level depth inside left ts fit below above low full narrow =
     too-large-here (BeginsRegular level) (StandsRegular level) depth inside _ _ (reg_tokens left) (infix_token mark) ts _ _ refl refl (begun_left level depth inside left fit (omega (arith, below, above)) low narrow)
-    (begins level (infixed mark left Anything') (reg_tokens left ++ infix_token mark ∷ []) (TrueWord ∷ []) (infixed-fits mark left Anything' fit refl below (omega arith)) (omega (arith, infixed-form mark left Anything', above))
+    (begins level (infixed mark left Anything') (reg_tokens left ++ infix_token mark ∷ []) (TrueWord ∷ []) (infixed-fits mark left Anything' fit refl below (omega arith)) (omega (arith, (infixed-is mark left Anything').form, above))
     (infixed-tokens mark left Anything' ∙ sym (append_assoc (reg_tokens left) (infix_token mark ∷ []) (TrueWord ∷ []))))
     (λ more w. let p = spine mark left w.it.syntax w.it.rest more fit below w.it.grammatical (omega (arith, w.it.stops, above)) w.it.spelled in omega (arith, p.left_below, w.it.nests, w.low, full))
 
@@ -124,17 +124,14 @@ pub repeated-fits : (mark : Repeat) (r : RegSyntax) → IsTrue (reg_fits r) → 
 repeated-fits repeat.Star r fit low = all_true _ _ (le_true (reg_form r) 5 low) fit
 repeated-fits repeat.Plus r fit low = all_true _ _ (le_true (reg_form r) 5 low) fit
 
-pub repeated-form : (mark : Repeat) (r : RegSyntax) → reg_form (repeated mark r) ≡ 5
-repeated-form repeat.Star r = refl
-repeated-form repeat.Plus r = refl
+pub record IsRepeated (mark : Repeat) (r : RegSyntax) : Type 0 where
+  pub form : reg_form (repeated mark r) ≡ 5
+  pub nesting : reg_nesting (repeated mark r) ≡ 1 + reg_nesting r
+  pub parens : reg_parens (repeated mark r) ≡ reg_parens r
 
-pub repeated-nesting : (mark : Repeat) (r : RegSyntax) → reg_nesting (repeated mark r) ≡ 1 + reg_nesting r
-repeated-nesting repeat.Star r = refl
-repeated-nesting repeat.Plus r = refl
-
-pub repeated-parens : (mark : Repeat) (r : RegSyntax) → reg_parens (repeated mark r) ≡ reg_parens r
-repeated-parens repeat.Star r = refl
-repeated-parens repeat.Plus r = refl
+pub repeated-is : (mark : Repeat) (r : RegSyntax) → IsRepeated mark r
+repeated-is repeat.Star r = record { form = refl; nesting = refl; parens = refl }
+repeated-is repeat.Plus r = record { form = refl; nesting = refl; parens = refl }
 
 -- a postfix sign after a formula that is as deep as formulas may be
 pub mark_too_deep : (mark : Repeat) (level depth inside : ℕ) (left : RegSyntax) (ts : List Token) → IsTrue (reg_fits left) → reg_form left ≤ 5 → 5 ≤ level
@@ -142,7 +139,7 @@ pub mark_too_deep : (mark : Repeat) (level depth inside : ℕ) (left : RegSyntax
     (misread.TooLarge (suc (length ts)))
 mark_too_deep mark level depth inside left ts fit below above low full narrow =
     too-large-here (BeginsRegular level) (StandsRegular level) depth inside _ _ (reg_tokens left) (repeat_token mark) ts _ _ refl refl (begun_left level depth inside left fit (omega (arith, below, above)) low narrow)
-    (begins level (repeated mark left) (reg_tokens left ++ repeat_token mark ∷ []) [] (repeated-fits mark left fit below) (omega (arith, repeated-form mark left, above))
+    (begins level (repeated mark left) (reg_tokens left ++ repeat_token mark ∷ []) [] (repeated-fits mark left fit below) (omega (arith, (repeated-is mark left).form, above))
     (repeated-tokens mark left ∙ sym (append-nil (reg_tokens left ++ repeat_token mark ∷ []))))
     (λ more w. let p = postfix_spine mark left w.it.syntax w.it.rest more fit below w.it.grammatical (omega (arith, w.it.stops, above)) w.it.spelled in omega (arith, p.left_below, w.it.nests, w.low, full))
 
@@ -151,8 +148,8 @@ pub mark_followed : (mark : Repeat) (level depth inside : ℕ) (left : RegSyntax
     → reg_nesting left < depth → reg_parens left ≤ inside → reg_row ts < 5 → IsRegularMisread level depth inside (reg_tokens left ++ repeat_token mark ∷ ts) (misread.Unexpected (length ts))
 mark_followed mark level depth inside left ts fit below above low narrow next =
     unexpected-here (BeginsRegular level) (StandsRegular level) depth inside (reg_tokens left ++ repeat_token mark ∷ []) ts _ _ (append_assoc (reg_tokens left) (repeat_token mark ∷ []) ts) refl
-    (begun level depth inside (repeated mark left) (reg_tokens left ++ repeat_token mark ∷ []) [] (repeated-fits mark left fit below) (omega (arith, repeated-form mark left, above))
-    (omega (arith, repeated-nesting mark left, low)) (omega (arith, repeated-parens mark left, narrow)) (repeated-tokens mark left ∙ sym (append-nil (reg_tokens left ++ repeat_token mark ∷ []))))
+    (begun level depth inside (repeated mark left) (reg_tokens left ++ repeat_token mark ∷ []) [] (repeated-fits mark left fit below) (omega (arith, (repeated-is mark left).form, above))
+    (omega (arith, (repeated-is mark left).nesting, low)) (omega (arith, (repeated-is mark left).parens, narrow)) (repeated-tokens mark left ∙ sym (append-nil (reg_tokens left ++ repeat_token mark ∷ []))))
     (λ nested opened more stop s.
     let p = postfix_spine mark left s.syntax s.rest (take 1 ts ++ more) fit below s.grammatical (omega (arith, s.stops, above)) (s.spelled ∙ append_assoc (reg_tokens left) (repeat_token mark ∷ []) (take 1 ts ++ more)) in
     omega (arith, p.stops, row_taken ts more (omega arith), next))

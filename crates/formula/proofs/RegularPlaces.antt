@@ -11,7 +11,7 @@ use Rattle.formula.specs.declared.misread.Misread.{Misread}
 use Rattle.formula.specs.declared.written.Infix.{Infix}
 use Rattle.formula.specs.declared.written.Infix.TheVariants as sign
 use Rattle.formula.proofs.Misreads.{IsPlace, misread-within}
-use Rattle.formula.proofs.Regulars.{all_true, le_true, infixed-tokens, infixed-form, infixed-nesting, infixed-parens, infixed-fits}
+use Rattle.formula.proofs.Regulars.{all_true, le_true, infixed-tokens, infixed-is, infixed-fits}
 use Rattle.formula.proofs.RegularUnique.{any_form}
 use Rattle.formula.proofs.RegularSpine.{row_first, infixed-parts, spine}
 
@@ -174,10 +174,10 @@ place_sign : (mark : Infix) (level depth inside : ℕ) (left : RegSyntax) → Is
 place_sign mark level depth inside left fit below above low narrow = record {
   outward = λ ts nested opened b.
       let r = b.syntax in
-      begins-part nested opened (depth - 1) inside depth inside level (infixed mark left r) ((reg_tokens left ++ infix_token mark ∷ []) ++ ts) b.more (infixed-fits mark left r fit b.grammatical below b.row) (omega (arith, infixed-form mark left r, above))
+      begins-part nested opened (depth - 1) inside depth inside level (infixed mark left r) ((reg_tokens left ++ infix_token mark ∷ []) ++ ts) b.more (infixed-fits mark left r fit b.grammatical below b.row) (omega (arith, (infixed-is mark left r).form, above))
       (infixed-tokens mark left r ∙ ap (λ us. reg_tokens left ++ infix_token mark ∷ us) b.spelled
       ∙ sym (append_assoc (reg_tokens left ++ infix_token mark ∷ []) ts b.more ∙ append_assoc (reg_tokens left) (infix_token mark ∷ []) (ts ++ b.more)))
-      (λ h. omega (arith, infixed-nesting mark left r, b.nests, low, h)) (λ h. omega (arith, infixed-parens mark left r, b.opens, narrow, h));
+      (λ h. omega (arith, (infixed-is mark left r).nesting, b.nests, low, h)) (λ h. omega (arith, (infixed-is mark left r).parens, b.opens, narrow, h));
   inward = λ ts nested opened s.
       let p = spine mark left s.syntax s.rest ts fit below s.grammatical (omega (arith, s.stops, above)) (s.spelled ∙ append_assoc (reg_tokens left) (infix_token mark ∷ []) ts) in
       stands-part nested opened depth inside (depth - 1) inside (infix_row mark) p.right p.rest ts p.grammatical p.row p.stops p.spelled (λ h. omega (arith, p.below, s.nests, h)) (λ h. omega (arith, p.narrow, s.opens, h));

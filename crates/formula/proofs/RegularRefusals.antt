@@ -20,7 +20,7 @@ pub use Rattle.formula.proofs.Regulars.{words-length}
 use Rattle.formula.proofs.Regulars.{words-next, bar_first, low-read, all_true, le_true, repeated-tokens}
 use Rattle.formula.proofs.RegularSpine.{sign_row, repeat_row, not_postfix}
 use Rattle.formula.proofs.RegularPlaces.{opens_regular, in_joined}
-use Rattle.formula.proofs.RegularEnds.{no_token, no_start, not_too_deep, open_too_many, word_barred, no_close, close_barred, no_name, sign_too_deep, mark_too_deep, mark_followed, repeated-fits, repeated-form, repeated-nesting, repeated-parens}
+use Rattle.formula.proofs.RegularEnds.{no_token, no_start, not_too_deep, open_too_many, word_barred, no_close, close_barred, no_name, sign_too_deep, mark_too_deep, mark_followed, repeated-fits, repeated-is}
 
 -- no token has the row 1
 pub row_not_one : (ts : List Token) → 0 < reg_row ts → 1 < reg_row ts
@@ -212,9 +212,9 @@ pub repeated-read : (mark : Repeat) (level depth inside : ℕ) (rest : List Plac
 repeated-read mark level depth inside rest left w r l on front above low stops b is =
     let f = reg_syntax left.syntax.value in
     let e : reg_syntax r.syntax.value ≡ repeated mark f = ap reg_syntax b.is ∙ is in
-    let own : reg_form (reg_syntax r.syntax.value) ≡ 5 = ap reg_form e ∙ repeated-form mark f in
+    let own : reg_form (reg_syntax r.syntax.value) ≡ 5 = ap reg_form e ∙ (repeated-is mark f).form in
     let row : reg_row (words r.rest.now) ≡ reg_row (words rest) = ap (λ ps. reg_row (words ps)) b.after in
-    let deep : reg_nesting (reg_syntax r.syntax.value) ≡ 1 + reg_nesting f = ap reg_nesting e ∙ repeated-nesting mark f in
+    let deep : reg_nesting (reg_syntax r.syntax.value) ≡ 1 + reg_nesting f = ap reg_nesting e ∙ (repeated-is mark f).nesting in
     record {
       eaten =
           ap (λ ts. ts ++ words r.rest.now) (ap reg_tokens e ∙ repeated-tokens mark f) ∙ append_assoc (reg_tokens f) (repeat_token mark ∷ []) (words r.rest.now)
@@ -224,7 +224,7 @@ repeated-read mark level depth inside rest left w r l on front above low stops b
         row = omega arith;
         height = omega (arith, b.high, l.height);
         low = omega (arith, b.high);
-        narrow = omega (arith, ap reg_parens e ∙ repeated-parens mark f, l.narrow);
+        narrow = omega (arith, ap reg_parens e ∙ (repeated-is mark f).parens, l.narrow);
       };
       onward = elim (cases_eq (reg_row (words rest)) 5) [
         | inl five ↦ inr (omega (arith, own), row ∙ five)

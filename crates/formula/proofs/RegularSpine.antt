@@ -10,7 +10,7 @@ use Rattle.formula.specs.declared.written.Infix.{Infix}
 use Rattle.formula.specs.declared.written.Infix.TheVariants as sign
 use Rattle.formula.specs.declared.written.Repeat.{Repeat}
 use Rattle.formula.specs.declared.written.Repeat.TheVariants as repeat
-use Rattle.formula.proofs.Regulars.{infixed-tokens, infixed-form, infixed-nesting, infixed-parens}
+use Rattle.formula.proofs.Regulars.{infixed-tokens, infixed-is}
 use Rattle.formula.proofs.RegularUnique.{reg_level, reg_stops, operands, one_regular, reg_read, reg_size, more_grows, postfix_found}
 
 -- the row that a token makes
@@ -128,12 +128,12 @@ along mark other left a b m ts fl low fs stop e on =
     let e' : reg_tokens a ++ n ≡ reg_tokens left ++ infix_token mark ∷ ts
     = sym (append_assoc (reg_tokens a) (infix_token other ∷ reg_tokens b) m) ∙ (ap (λ xs. xs ++ m) (sym (infixed-tokens other a b)) ∙ e) in
     let row : reg_row n ≡ infix_row other = sign_row other (reg_tokens b ++ m) in
-    let deep = infixed-nesting other a b in
-    let wide = infixed-parens other a b in
+    let deep = (infixed-is other a b).nesting in
+    let wide = (infixed-is other a b).parens in
     elim (cases_lt (infix_row mark) (infix_row other)) [
       | inl less ↦ widened mark left a (infixed other a b) ts (on n (omega (arith, row, less)) e') (omega (arith, deep)) (omega (arith, wide))
       | inr above ↦ elim (cases_lt (infix_row other) (infix_row mark)) [
-        | inl more ↦ too_low mark left (infixed other a b) m ts fl low fs (omega (arith, infixed-form other a b, more)) stop e
+        | inl more ↦ too_low mark left (infixed other a b) m ts fl low fs (omega (arith, (infixed-is other a b).form, more)) stop e
         | inr same' ↦
             let same : infix_row other ≡ infix_row mark = omega (arith, above, same') in
             let q = left_is mark left a n ts fl low o.2 (omega (arith, o.0, same)) (omega (arith, row, same)) e' in

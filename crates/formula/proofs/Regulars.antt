@@ -22,26 +22,18 @@ infixed-tokens sign.Implies r s = refl
 infixed-tokens sign.Then r s = refl
 infixed-tokens sign.Either r s = refl
 
-pub infixed-form : (mark : Infix) (r s : RegSyntax) → reg_form (infixed mark r s) ≡ infix_row mark
-infixed-form sign.And r s = refl
-infixed-form sign.Or r s = refl
-infixed-form sign.Implies r s = refl
-infixed-form sign.Then r s = refl
-infixed-form sign.Either r s = refl
+-- what a formula with a sign between two is, whatever the sign
+pub record Infixed (mark : Infix) (r s : RegSyntax) : Type 0 where
+  pub form : reg_form (infixed mark r s) ≡ infix_row mark
+  pub nesting : reg_nesting (infixed mark r s) ≡ 1 + max (reg_nesting r) (reg_nesting s)
+  pub parens : reg_parens (infixed mark r s) ≡ max (reg_parens r) (reg_parens s)
 
-pub infixed-nesting : (mark : Infix) (r s : RegSyntax) → reg_nesting (infixed mark r s) ≡ 1 + max (reg_nesting r) (reg_nesting s)
-infixed-nesting sign.And r s = refl
-infixed-nesting sign.Or r s = refl
-infixed-nesting sign.Implies r s = refl
-infixed-nesting sign.Then r s = refl
-infixed-nesting sign.Either r s = refl
-
-pub infixed-parens : (mark : Infix) (r s : RegSyntax) → reg_parens (infixed mark r s) ≡ max (reg_parens r) (reg_parens s)
-infixed-parens sign.And r s = refl
-infixed-parens sign.Or r s = refl
-infixed-parens sign.Implies r s = refl
-infixed-parens sign.Then r s = refl
-infixed-parens sign.Either r s = refl
+pub infixed-is : (mark : Infix) (r s : RegSyntax) → Infixed mark r s
+infixed-is sign.And r s = record { form = refl; nesting = refl; parens = refl }
+infixed-is sign.Or r s = record { form = refl; nesting = refl; parens = refl }
+infixed-is sign.Implies r s = record { form = refl; nesting = refl; parens = refl }
+infixed-is sign.Then r s = record { form = refl; nesting = refl; parens = refl }
+infixed-is sign.Either r s = record { form = refl; nesting = refl; parens = refl }
 
 pub all_true : (a b : Bool) → IsTrue a → IsTrue b → IsTrue (a && b)
 all_true a b p q = grind (arith)
@@ -99,9 +91,9 @@ joined-read mark level depth inside us left right w r l below front above low h 
     let f = reg_syntax left.syntax.value in
     let g = reg_syntax right.syntax.value in
     let e : reg_syntax r.syntax.value ≡ infixed mark f g = ap reg_syntax b.is ∙ is in
-    let own : reg_form (reg_syntax r.syntax.value) ≡ infix_row mark = ap reg_form e ∙ infixed-form mark f g in
-    let deep : reg_nesting (reg_syntax r.syntax.value) ≡ 1 + max (reg_nesting f) (reg_nesting g) = ap reg_nesting e ∙ infixed-nesting mark f g in
-    let wide : reg_parens (reg_syntax r.syntax.value) ≡ max (reg_parens f) (reg_parens g) = ap reg_parens e ∙ infixed-parens mark f g in
+    let own : reg_form (reg_syntax r.syntax.value) ≡ infix_row mark = ap reg_form e ∙ (infixed-is mark f g).form in
+    let deep : reg_nesting (reg_syntax r.syntax.value) ≡ 1 + max (reg_nesting f) (reg_nesting g) = ap reg_nesting e ∙ (infixed-is mark f g).nesting in
+    let wide : reg_parens (reg_syntax r.syntax.value) ≡ max (reg_parens f) (reg_parens g) = ap reg_parens e ∙ (infixed-is mark f g).parens in
     record {
       eaten =
           ap (λ ts. ts ++ words r.rest.now) (ap reg_tokens e ∙ infixed-tokens mark f g) ∙ append_assoc (reg_tokens f) (infix_token mark ∷ reg_tokens g) (words r.rest.now)

@@ -16,7 +16,7 @@ use Rattle.formula.proofs.RegularSpine.{one_at}
 use Rattle.formula.proofs.RegularPlaces.{head_once, above_taken}
 use Rattle.formula.proofs.Unambiguous.{any_formula}
 use Rattle.formula.proofs.Misreads.{NoneStands, unexpected-here, too-large-here}
-use Rattle.formula.proofs.States.{bound-tokens, bound-form, bound-nesting, bound-parens, bound-fits, joined-tokens, joined-form, joined-fits, modal-tokens, modal-form, modal-nesting, modal-parens, modal-fits}
+use Rattle.formula.proofs.States.{bound-tokens, bound-is, joined-tokens, joined-is, joined-fits, modal-tokens, modal-is, modal-fits}
 use Rattle.formula.proofs.StateSpine.{row-level, Standing, one-state, LeftOperand, spine}
 use Rattle.formula.proofs.StatePlaces.{standing, UnaryAs, unary-as, modal-as, bound-as, modal-inside, closing-row}
 
@@ -96,9 +96,9 @@ pub modal-unclosed : (mark : Brackets) (depth inside : ℕ) (r : RegSyntax) (bac
     → reg_tokens r ++ back ≡ ts → IsMissing (closing mark) back e → IsStateMisread 0 (depth + 1) inside (opening mark ∷ ts) e
 modal-unclosed mark depth inside r back ts e fit far low narrow split missing =
     let s : Syntax = modal mark r True' in
-    let own : form s ≡ 0 = modal-form mark r True' in
-    let deep : nesting s ≡ 1 + max (reg_nesting r) 0 = modal-nesting mark r True' in
-    let wide : parens s ≡ max (reg_parens r) 0 = modal-parens mark r True' in
+    let own : form s ≡ 0 = (modal-is mark r True').form in
+    let deep : nesting s ≡ 1 + max (reg_nesting r) 0 = (modal-is mark r True').nesting in
+    let wide : parens s ≡ max (reg_parens r) 0 = (modal-is mark r True').parens in
     unexpected-here (BeginsState 0) (StandsState 0) (depth + 1) inside (opening mark ∷ reg_tokens r) back (opening mark ∷ ts) e (ap (λ us. opening mark ∷ us) split) missing.0
     (begun-by 0 (depth + 1) inside s (opening mark ∷ reg_tokens r) (closing mark ∷ TrueWord ∷ []) (modal-fits mark r True' fit (omega arith) refl) (omega arith) (omega arith) (omega arith) (modal-tokens mark r True'))
     (modal_none mark r back fit far missing.1)
@@ -107,11 +107,11 @@ modal-unclosed mark depth inside r back ts e fit far low narrow split missing =
 pub binder-unnamed : (word : Binder) (depth inside : ℕ) (ts : List Token) (e : Misread) → IsNameMissing ts e → IsStateMisread 0 (depth + 1) inside (binder_token word ∷ ts) e
 binder-unnamed word depth inside ts e missing =
     let s : Syntax = bound word [] True' in
-    let own : form s ≡ 0 = bound-form word [] True' in
-    let deep : nesting s ≡ 1 + 0 = bound-nesting word [] True' in
-    let wide : parens s ≡ 0 = bound-parens word [] True' in
+    let own : form s ≡ 0 = (bound-is word [] True').form in
+    let deep : nesting s ≡ 1 + 0 = (bound-is word [] True').nesting in
+    let wide : parens s ≡ 0 = (bound-is word [] True').parens in
     unexpected-here (BeginsState 0) (StandsState 0) (depth + 1) inside (binder_token word ∷ []) ts (binder_token word ∷ ts) e refl missing.0
-    (begun-by 0 (depth + 1) inside s (binder_token word ∷ []) (Name [] ∷ Dot ∷ TrueWord ∷ []) (bound-fits word [] True') (omega arith) (omega arith) (omega arith) (bound-tokens word [] True'))
+    (begun-by 0 (depth + 1) inside s (binder_token word ∷ []) (Name [] ∷ Dot ∷ TrueWord ∷ []) ((bound-is word [] True').fits) (omega arith) (omega arith) (omega arith) (bound-tokens word [] True'))
     (λ nested opened more stop x.
     let u = bound-as word x.syntax x.rest (take 1 ts ++ more) x.row x.spelled in
     still-missing (Name u.0) ts more (Dot ∷ (tokens u.1 ++ x.rest)) stop (missing.1 u.0) u.3)
@@ -121,11 +121,11 @@ pub binder-undotted : (word : Binder) (x : List ℕ) (depth inside : ℕ) (back 
     → IsStateMisread 0 (depth + 1) inside (binder_token word ∷ ts) e
 binder-undotted word y depth inside back ts e split missing =
     let s : Syntax = bound word y True' in
-    let own : form s ≡ 0 = bound-form word y True' in
-    let deep : nesting s ≡ 1 + 0 = bound-nesting word y True' in
-    let wide : parens s ≡ 0 = bound-parens word y True' in
+    let own : form s ≡ 0 = (bound-is word y True').form in
+    let deep : nesting s ≡ 1 + 0 = (bound-is word y True').nesting in
+    let wide : parens s ≡ 0 = (bound-is word y True').parens in
     unexpected-here (BeginsState 0) (StandsState 0) (depth + 1) inside (binder_token word ∷ Name y ∷ []) back (binder_token word ∷ ts) e (ap (λ us. binder_token word ∷ us) (sym split)) missing.0
-    (begun-by 0 (depth + 1) inside s (binder_token word ∷ Name y ∷ []) (Dot ∷ TrueWord ∷ []) (bound-fits word y True') (omega arith) (omega arith) (omega arith) (bound-tokens word y True'))
+    (begun-by 0 (depth + 1) inside s (binder_token word ∷ Name y ∷ []) (Dot ∷ TrueWord ∷ []) ((bound-is word y True').fits) (omega arith) (omega arith) (omega arith) (bound-tokens word y True'))
     (λ nested opened more stop x.
     let u = bound-as word x.syntax x.rest (Name y ∷ (take 1 back ++ more)) x.row x.spelled in
     still-missing Dot back more (tokens u.1 ++ x.rest) stop missing.1 (ap (drop 1) u.3))
@@ -148,20 +148,20 @@ not-too-deep depth inside back e none is =
 
 pub modal-too-deep : (mark : Brackets) (depth inside : ℕ) (back : List Token) (e : Misread) → depth ≤ 0 → e ≡ misread.TooLarge (suc (length back)) → IsStateMisread 0 depth inside (opening mark ∷ back) e
 modal-too-deep mark depth inside back e none is =
-    let own : form (modal mark Anything' True') ≡ 0 = modal-form mark Anything' True' in
+    let own : form (modal mark Anything' True') ≡ 0 = (modal-is mark Anything' True').form in
     too-large-first depth inside (opening mark) back e (modal mark Anything' True') (TrueWord ∷ closing mark ∷ TrueWord ∷ []) is (modal-fits mark Anything' True' refl (omega arith) refl) (omega arith) (modal-tokens mark Anything' True')
     (λ x rest more row spelled low narrow.
     let u = modal-as mark x rest more row spelled in
-    let deep : nesting x ≡ 1 + max (reg_nesting u.0) (nesting u.1) = ap nesting u.2 ∙ modal-nesting mark u.0 u.1 in
+    let deep : nesting x ≡ 1 + max (reg_nesting u.0) (nesting u.1) = ap nesting u.2 ∙ (modal-is mark u.0 u.1).nesting in
     absurd (omega arith))
 
 pub binder-too-deep : (word : Binder) (depth inside : ℕ) (back : List Token) (e : Misread) → depth ≤ 0 → e ≡ misread.TooLarge (suc (length back)) → IsStateMisread 0 depth inside (binder_token word ∷ back) e
 binder-too-deep word depth inside back e none is =
-    let own : form (bound word [] True') ≡ 0 = bound-form word [] True' in
-    too-large-first depth inside (binder_token word) back e (bound word [] True') (Name [] ∷ Dot ∷ TrueWord ∷ []) is (bound-fits word [] True') (omega arith) (bound-tokens word [] True')
+    let own : form (bound word [] True') ≡ 0 = (bound-is word [] True').form in
+    too-large-first depth inside (binder_token word) back e (bound word [] True') (Name [] ∷ Dot ∷ TrueWord ∷ []) is ((bound-is word [] True').fits) (omega arith) (bound-tokens word [] True')
     (λ x rest more row spelled low narrow.
     let u = bound-as word x rest more row spelled in
-    let deep : nesting x ≡ 1 + nesting u.1 = ap nesting u.2 ∙ bound-nesting word u.0 u.1 in
+    let deep : nesting x ≡ 1 + nesting u.1 = ap nesting u.2 ∙ (bound-is word u.0 u.1).nesting in
     absurd (omega arith))
 
 pub group-too-wide : (depth inside : ℕ) (back : List Token) (e : Misread) → inside ≤ 0 → e ≡ misread.TooLarge (suc (length back)) → IsStateMisread 0 depth inside (Open ∷ back) e
@@ -174,7 +174,7 @@ pub sign-too-large : (mark : Connective) (left : Syntax) (level depth inside : �
     → depth ≤ nesting left → nesting left ≤ depth → parens left ≤ inside → tokens left ++ connective_token mark ∷ back ≡ ts → e ≡ misread.TooLarge (suc (length back)) → IsStateMisread level depth inside ts e
 sign-too-large mark left level depth inside back ts e w row lower full low narrow split is =
     let s : Syntax = joined mark left True' in
-    let own : form s ≡ connective_row mark = joined-form mark left True' in
+    let own : form s ≡ connective_row mark = (joined-is mark left True').form in
     too-large-here (BeginsState level) (StandsState level) depth inside _ _ (tokens left) (connective_token mark) back ts e split is
     (begun-by level depth inside left (tokens left) [] w.grammatical row low narrow (sym (append-nil (tokens left))))
     (begins level s (tokens left ++ connective_token mark ∷ []) (TrueWord ∷ []) (joined-fits mark left True' w.grammatical refl w.below (omega arith) (rw w.open_end refl)) (omega arith)

@@ -16,7 +16,7 @@ use Rattle.formula.proofs.RegularUnique.{any_form}
 use Rattle.formula.proofs.RegularSpine.{one_at}
 use Rattle.formula.proofs.RegularPlaces.{head_once, stands-part as regular-part}
 use Rattle.formula.proofs.Unambiguous.{any_formula, modal_parts}
-use Rattle.formula.proofs.States.{joined-tokens, joined-form, joined-nesting, joined-parens, joined-fits, modal-tokens, modal-form, modal-nesting, modal-parens, modal-ends, modal-fits, bound-tokens, bound-form, bound-nesting, bound-parens, bound-fits}
+use Rattle.formula.proofs.States.{joined-tokens, joined-is, joined-fits, modal-tokens, modal-is, modal-fits, bound-tokens, bound-is}
 use Rattle.formula.proofs.Misreads.{IsPlace}
 use Rattle.formula.proofs.Regulars.{all_true, le_true}
 use Rattle.formula.proofs.StateSpine.{Standing, LeftOperand, spine, first-unary}
@@ -65,10 +65,6 @@ pub bound-as : (b : Binder) (s : Syntax) (rest more : List Token) → form s ≤
     → (x : List ℕ) × (f : Syntax) × (s ≡ bound b x f) × (Name x ∷ Dot ∷ (tokens f ++ rest) ≡ more)
 bound-as binder.Mu s rest more low e = unary-as s rest more MuWord low e
 bound-as binder.Nu s rest more low e = unary-as s rest more NuWord low e
-
-pub bound-ends : (b : Binder) (x : List ℕ) (f : Syntax) → ends_in_binder (bound b x f) ≡ true
-bound-ends binder.Mu x f = refl
-bound-ends binder.Nu x f = refl
 
 -- what a modality is made of, each part in its row
 pub modal-inside : (b : Brackets) (r : RegSyntax) (f : Syntax) → IsTrue (fits (modal b r f)) → (form f ≤ 0) × IsTrue (reg_fits r) × IsTrue (fits f)
@@ -130,10 +126,10 @@ after-sign mark left level depth inside w lower low narrow = record {
   outward = λ ts nested opened b.
       let f = b.syntax in
       begins-part nested opened (depth - 1) inside depth inside level (joined mark left f) ((tokens left ++ connective_token mark ∷ []) ++ ts) b.more
-      (joined-fits mark left f w.grammatical b.grammatical w.below b.row (rw w.open_end refl)) (omega (arith, joined-form mark left f, lower))
+      (joined-fits mark left f w.grammatical b.grammatical w.below b.row (rw w.open_end refl)) (omega (arith, (joined-is mark left f).form, lower))
       (joined-tokens mark left f ∙ ap (λ us. tokens left ++ connective_token mark ∷ us) b.spelled
       ∙ sym (append_assoc (tokens left) (connective_token mark ∷ ts) b.more) ∙ ap (λ us. us ++ b.more) (sym (append_assoc (tokens left) (connective_token mark ∷ []) ts)))
-      (λ h. omega (arith, joined-nesting mark left f, b.nests, low, h)) (λ h. omega (arith, joined-parens mark left f, b.opens, narrow, h));
+      (λ h. omega (arith, (joined-is mark left f).nesting, b.nests, low, h)) (λ h. omega (arith, (joined-is mark left f).parens, b.opens, narrow, h));
   inward = λ ts nested opened x.
       let h = spine mark left ts x.syntax w x.rest (standing level nested opened _ x) (omega (arith, x.stops, lower)) (x.spelled ∙ append_assoc (tokens left) (connective_token mark ∷ []) ts) in
       stands-part nested opened depth inside (depth - 1) inside (connective_row mark) h.operand h.rest ts h.standing.grammatical h.row h.stops h.standing.reaches h.spelled
@@ -151,14 +147,14 @@ in-brackets mark depth inside = record {
   outward = λ ts nested opened b.
       let r = b.syntax in
       begins-part nested opened depth inside (depth + 1) inside 0 (modal mark r True') (opening mark ∷ ts) (b.more ++ closing mark ∷ TrueWord ∷ []) (modal-fits mark r True' b.grammatical (omega arith) refl)
-      (omega (arith, modal-form mark r True'))
+      (omega (arith, (modal-is mark r True').form))
       (modal-tokens mark r True' ∙ ap (λ us. opening mark ∷ us) (ap (λ us. us ++ closing mark ∷ TrueWord ∷ []) b.spelled ∙ append_assoc ts b.more (closing mark ∷ TrueWord ∷ [])))
-      (λ h. omega (arith, modal-nesting mark r True', b.nests, h)) (λ h. omega (arith, modal-parens mark r True', b.opens, h));
+      (λ h. omega (arith, (modal-is mark r True').nesting, b.nests, h)) (λ h. omega (arith, (modal-is mark r True').parens, b.opens, h));
   inward = λ ts nested opened x.
       let u = modal-as mark x.syntax x.rest ts x.row x.spelled in
       let o = modal-inside mark u.0 u.1 (subst (λ s. IsTrue (fits s)) u.2 x.grammatical) in
       regular-part nested opened (depth + 1) inside depth inside 7 u.0 (closing mark ∷ (tokens u.1 ++ x.rest)) ts o.1 (any_form u.0) (omega (arith, closing-row mark (tokens u.1 ++ x.rest))) u.3
-      (λ h. omega (arith, ap nesting u.2, modal-nesting mark u.0 u.1, x.nests, h)) (λ h. omega (arith, ap parens u.2, modal-parens mark u.0 u.1, x.opens, h));
+      (λ h. omega (arith, ap nesting u.2, (modal-is mark u.0 u.1).nesting, x.nests, h)) (λ h. omega (arith, ap parens u.2, (modal-is mark u.0 u.1).parens, x.opens, h));
 }
 
 -- after the brackets of a modality
@@ -168,17 +164,17 @@ after-brackets mark r depth inside fit low narrow = record {
   outward = λ ts nested opened b.
       let f = b.syntax in
       begins-part nested opened depth inside (depth + 1) inside 0 (modal mark r f) (opening mark ∷ ((reg_tokens r ++ closing mark ∷ []) ++ ts)) b.more (modal-fits mark r f fit b.row b.grammatical)
-      (omega (arith, modal-form mark r f))
+      (omega (arith, (modal-is mark r f).form))
       (modal-tokens mark r f ∙ ap (λ us. opening mark ∷ us) (ap (λ us. reg_tokens r ++ closing mark ∷ us) b.spelled
       ∙ sym (append_assoc (reg_tokens r) (closing mark ∷ ts) b.more) ∙ ap (λ us. us ++ b.more) (sym (append_assoc (reg_tokens r) (closing mark ∷ []) ts))))
-      (λ h. omega (arith, modal-nesting mark r f, b.nests, low, h)) (λ h. omega (arith, modal-parens mark r f, b.opens, narrow, h));
+      (λ h. omega (arith, (modal-is mark r f).nesting, b.nests, low, h)) (λ h. omega (arith, (modal-is mark r f).parens, b.opens, narrow, h));
   inward = λ ts nested opened x.
       let u = modal-as mark x.syntax x.rest ((reg_tokens r ++ closing mark ∷ []) ++ ts) x.row x.spelled in
       let o = modal-inside mark u.0 u.1 (subst (λ s. IsTrue (fits s)) u.2 x.grammatical) in
       let p = one_at 7 u.0 r (closing mark ∷ (tokens u.1 ++ x.rest)) (closing mark ∷ ts) o.1 fit (any_form u.0) (any_form r) (omega (arith, closing-row mark (tokens u.1 ++ x.rest))) (omega (arith, closing-row mark ts))
       (u.3 ∙ append_assoc (reg_tokens r) (closing mark ∷ []) ts) in
-      stands-part nested opened (depth + 1) inside depth inside 0 u.1 x.rest ts o.2 o.0 x.stops (λ e. x.reaches (ap ends_in_binder u.2 ∙ modal-ends mark u.0 u.1 ∙ e)) (ap (drop 1) p.1)
-      (λ h. omega (arith, ap nesting u.2, modal-nesting mark u.0 u.1, x.nests, h)) (λ h. omega (arith, ap parens u.2, modal-parens mark u.0 u.1, x.opens, h));
+      stands-part nested opened (depth + 1) inside depth inside 0 u.1 x.rest ts o.2 o.0 x.stops (λ e. x.reaches (ap ends_in_binder u.2 ∙ (modal-is mark u.0 u.1).ends ∙ e)) (ap (drop 1) p.1)
+      (λ h. omega (arith, ap nesting u.2, (modal-is mark u.0 u.1).nesting, x.nests, h)) (λ h. omega (arith, ap parens u.2, (modal-is mark u.0 u.1).parens, x.opens, h));
 }
 
 -- after the dot of a binder
@@ -186,11 +182,11 @@ pub after-dot : (word : Binder) (x : List ℕ) (depth inside : ℕ) → IsPlace 
 after-dot word y depth inside = record {
   outward = λ ts nested opened b.
       let f = b.syntax in
-      begins-part nested opened depth inside (depth + 1) inside 0 (bound word y f) (binder_token word ∷ Name y ∷ Dot ∷ ts) b.more (bound-fits word y f ∙ b.grammatical) (omega (arith, bound-form word y f))
-      (bound-tokens word y f ∙ ap (λ us. binder_token word ∷ Name y ∷ Dot ∷ us) b.spelled) (λ h. omega (arith, bound-nesting word y f, b.nests, h)) (λ h. omega (arith, bound-parens word y f, b.opens, h));
+      begins-part nested opened depth inside (depth + 1) inside 0 (bound word y f) (binder_token word ∷ Name y ∷ Dot ∷ ts) b.more ((bound-is word y f).fits ∙ b.grammatical) (omega (arith, (bound-is word y f).form))
+      (bound-tokens word y f ∙ ap (λ us. binder_token word ∷ Name y ∷ Dot ∷ us) b.spelled) (λ h. omega (arith, (bound-is word y f).nesting, b.nests, h)) (λ h. omega (arith, (bound-is word y f).parens, b.opens, h));
   inward = λ ts nested opened x.
       let u = bound-as word x.syntax x.rest (Name y ∷ Dot ∷ ts) x.row x.spelled in
-      let far : 3 < state_row x.rest = x.reaches (ap ends_in_binder u.2 ∙ bound-ends word u.0 u.1) in
-      stands-part nested opened (depth + 1) inside depth inside 3 u.1 x.rest ts (sym (bound-fits word u.0 u.1) ∙ subst (λ s. IsTrue (fits s)) u.2 x.grammatical) (any_formula u.1) far (λ e. far) (ap (drop 2) u.3)
-      (λ h. omega (arith, ap nesting u.2, bound-nesting word u.0 u.1, x.nests, h)) (λ h. omega (arith, ap parens u.2, bound-parens word u.0 u.1, x.opens, h));
+      let far : 3 < state_row x.rest = x.reaches (ap ends_in_binder u.2 ∙ (bound-is word u.0 u.1).ends) in
+      stands-part nested opened (depth + 1) inside depth inside 3 u.1 x.rest ts (sym ((bound-is word u.0 u.1).fits) ∙ subst (λ s. IsTrue (fits s)) u.2 x.grammatical) (any_formula u.1) far (λ e. far) (ap (drop 2) u.3)
+      (λ h. omega (arith, ap nesting u.2, (bound-is word u.0 u.1).nesting, x.nests, h)) (λ h. omega (arith, ap parens u.2, (bound-is word u.0 u.1).parens, x.opens, h));
 }

@@ -9,7 +9,7 @@ use Rattle.formula.specs.Read.{state_row}
 use Rattle.formula.specs.declared.written.Connective.{Connective}
 use Rattle.formula.specs.declared.written.Connective.TheVariants as connective
 use Rattle.formula.proofs.Unambiguous.{level, stops, binder_stops, one_tree, Operands as Parted, operands}
-use Rattle.formula.proofs.States.{joined-tokens, joined-form, joined-nesting, joined-parens, joined-ends, connective-row, row-most}
+use Rattle.formula.proofs.States.{joined-tokens, joined-is, connective-row, row-most}
 
 pub row-level : (t : Token) (ts : List Token) → state_row (t ∷ ts) ≡ level t
 row-level AndSign ts = refl
@@ -122,16 +122,16 @@ at_sign mark left l r ts w m st far e =
     let on : List Token = tokens r ++ m in
     let p = one-state (connective_row mark - 1) l left (connective_token mark ∷ on) (connective_token mark ∷ ts) (left-standing mark l on (own_left mark l r st.grammatical)) (left-standing mark left ts w)
     (omega (arith, o.below)) (omega (arith, w.below)) (omega (arith, row-some mark, connective-row mark on)) (omega (arith, row-some mark, connective-row mark ts)) (sym (joined-split mark l r m) ∙ e) in
-    let deep = joined-nesting mark l r in
+    let deep = (joined-is mark l r).nesting in
     record {
       operand = r;
       rest = m;
-      standing = record { grammatical = o.right; ended = omega (arith, o.row); reaches = λ b. st.reaches (joined-ends mark l r ∙ b) };
+      standing = record { grammatical = o.right; ended = omega (arith, o.row); reaches = λ b. st.reaches ((joined-is mark l r).ends ∙ b) };
       row = o.row;
       stops = far;
       nests = omega (arith, deep);
       beside = omega (arith, deep, ap nesting p.0);
-      opens = omega (arith, joined-parens mark l r);
+      opens = omega (arith, (joined-is mark l r).parens);
       spelled = ap (drop 1) p.1;
     }
 
@@ -140,7 +140,7 @@ before_sign : (mark mark' : Connective) (left l r : Syntax) (ts : List Token) �
 before_sign mark mark' left l r ts weaker inner m st far e =
     let on : List Token = tokens r ++ m in
     let h = inner (connective_token mark' ∷ on) (left-standing mark' l on (own_left mark' l r st.grammatical)) (omega (arith, connective-row mark' on)) (sym (joined-split mark' l r m) ∙ e) in
-    let deep = joined-nesting mark' l r in
+    let deep = (joined-is mark' l r).nesting in
     record {
       operand = h.operand;
       rest = h.rest;
@@ -149,7 +149,7 @@ before_sign mark mark' left l r ts weaker inner m st far e =
       stops = h.stops;
       nests = omega (arith, deep, h.nests);
       beside = omega (arith, deep, h.beside);
-      opens = omega (arith, joined-parens mark' l r, h.opens);
+      opens = omega (arith, (joined-is mark' l r).parens, h.opens);
       spelled = h.spelled;
     }
 
@@ -158,7 +158,7 @@ in_joined mark mark' left l r ts w inner =
     elim (cases_order (connective_row mark) (connective_row mark')) as (λ o. HasOperand mark left ts (joined mark' l r)) [
       | inl same ↦ subst (λ sign. HasOperand mark left ts (joined sign l r)) (one_sign mark mark' same) (at_sign mark left l r ts w)
       | inr (inl weaker) ↦ before_sign mark mark' left l r ts weaker inner
-      | inr (inr stronger) ↦ too_low mark left (joined mark' l r) ts w (let own : form (joined mark' l r) ≡ connective_row mark' = joined-form mark' l r in omega arith)
+      | inr (inr stronger) ↦ too_low mark left (joined mark' l r) ts w (let own : form (joined mark' l r) ≡ connective_row mark' = (joined-is mark' l r).form in omega arith)
     ]
 
 unary_low : (mark : Connective) (s : Syntax) → form s ≤ 0 → form s < connective_row mark
@@ -190,8 +190,8 @@ first_joined mark l r m st inner =
       rest = h.rest;
       standing = h.standing;
       row = h.row;
-      nests = omega (arith, joined-nesting mark l r, h.nests);
-      opens = omega (arith, joined-parens mark l r, h.opens);
+      nests = omega (arith, (joined-is mark l r).nesting, h.nests);
+      opens = omega (arith, (joined-is mark l r).parens, h.opens);
       spelled = h.spelled ∙ sym (joined-split mark l r m);
     }
 

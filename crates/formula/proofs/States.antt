@@ -23,25 +23,17 @@ joined-tokens connective.And f g = refl
 joined-tokens connective.Or f g = refl
 joined-tokens connective.Implies f g = refl
 
-pub joined-form : (mark : Connective) (f g : Syntax) → form (joined mark f g) ≡ connective_row mark
-joined-form connective.And f g = refl
-joined-form connective.Or f g = refl
-joined-form connective.Implies f g = refl
+-- what a formula with a sign between two is, whatever the sign
+pub record IsJoined (mark : Connective) (f g : Syntax) : Type 0 where
+  pub form : form (joined mark f g) ≡ connective_row mark
+  pub nesting : nesting (joined mark f g) ≡ 1 + max (nesting f) (nesting g)
+  pub parens : parens (joined mark f g) ≡ max (parens f) (parens g)
+  pub ends : ends_in_binder (joined mark f g) ≡ ends_in_binder g
 
-pub joined-nesting : (mark : Connective) (f g : Syntax) → nesting (joined mark f g) ≡ 1 + max (nesting f) (nesting g)
-joined-nesting connective.And f g = refl
-joined-nesting connective.Or f g = refl
-joined-nesting connective.Implies f g = refl
-
-pub joined-parens : (mark : Connective) (f g : Syntax) → parens (joined mark f g) ≡ max (parens f) (parens g)
-joined-parens connective.And f g = refl
-joined-parens connective.Or f g = refl
-joined-parens connective.Implies f g = refl
-
-pub joined-ends : (mark : Connective) (f g : Syntax) → ends_in_binder (joined mark f g) ≡ ends_in_binder g
-joined-ends connective.And f g = refl
-joined-ends connective.Or f g = refl
-joined-ends connective.Implies f g = refl
+pub joined-is : (mark : Connective) (f g : Syntax) → IsJoined mark f g
+joined-is connective.And f g = record { form = refl; nesting = refl; parens = refl; ends = refl }
+joined-is connective.Or f g = record { form = refl; nesting = refl; parens = refl; ends = refl }
+joined-is connective.Implies f g = record { form = refl; nesting = refl; parens = refl; ends = refl }
 
 pub connective-row : (mark : Connective) (more : List Token) → state_row (connective_token mark ∷ more) ≡ connective_row mark
 connective-row connective.And more = refl
@@ -69,21 +61,15 @@ pub modal-tokens : (mark : Brackets) (r : RegSyntax) (f : Syntax) → tokens (mo
 modal-tokens brackets.Diamond r f = refl
 modal-tokens brackets.Box r f = refl
 
-pub modal-form : (mark : Brackets) (r : RegSyntax) (f : Syntax) → form (modal mark r f) ≡ 0
-modal-form brackets.Diamond r f = refl
-modal-form brackets.Box r f = refl
+pub record IsModal (mark : Brackets) (r : RegSyntax) (f : Syntax) : Type 0 where
+  pub form : form (modal mark r f) ≡ 0
+  pub nesting : nesting (modal mark r f) ≡ 1 + max (reg_nesting r) (nesting f)
+  pub parens : parens (modal mark r f) ≡ max (reg_parens r) (parens f)
+  pub ends : ends_in_binder (modal mark r f) ≡ ends_in_binder f
 
-pub modal-nesting : (mark : Brackets) (r : RegSyntax) (f : Syntax) → nesting (modal mark r f) ≡ 1 + max (reg_nesting r) (nesting f)
-modal-nesting brackets.Diamond r f = refl
-modal-nesting brackets.Box r f = refl
-
-pub modal-parens : (mark : Brackets) (r : RegSyntax) (f : Syntax) → parens (modal mark r f) ≡ max (reg_parens r) (parens f)
-modal-parens brackets.Diamond r f = refl
-modal-parens brackets.Box r f = refl
-
-pub modal-ends : (mark : Brackets) (r : RegSyntax) (f : Syntax) → ends_in_binder (modal mark r f) ≡ ends_in_binder f
-modal-ends brackets.Diamond r f = refl
-modal-ends brackets.Box r f = refl
+pub modal-is : (mark : Brackets) (r : RegSyntax) (f : Syntax) → IsModal mark r f
+modal-is brackets.Diamond r f = record { form = refl; nesting = refl; parens = refl; ends = refl }
+modal-is brackets.Box r f = record { form = refl; nesting = refl; parens = refl; ends = refl }
 
 pub modal-fits : (mark : Brackets) (r : RegSyntax) (f : Syntax) → IsTrue (reg_fits r) → form f ≤ 0 → IsTrue (fits f) → IsTrue (fits (modal mark r f))
 modal-fits brackets.Diamond r f p q h = all_true _ _ (all_true _ _ (le_true _ _ q) p) h
@@ -93,21 +79,16 @@ pub bound-tokens : (b : Binder) (x : List ℕ) (f : Syntax) → tokens (bound b 
 bound-tokens binder.Mu x f = refl
 bound-tokens binder.Nu x f = refl
 
-pub bound-form : (b : Binder) (x : List ℕ) (f : Syntax) → form (bound b x f) ≡ 0
-bound-form binder.Mu x f = refl
-bound-form binder.Nu x f = refl
+pub record IsBound (b : Binder) (x : List ℕ) (f : Syntax) : Type 0 where
+  pub form : form (bound b x f) ≡ 0
+  pub nesting : nesting (bound b x f) ≡ 1 + nesting f
+  pub parens : parens (bound b x f) ≡ parens f
+  pub fits : fits (bound b x f) ≡ fits f
+  pub ends : ends_in_binder (bound b x f) ≡ true
 
-pub bound-nesting : (b : Binder) (x : List ℕ) (f : Syntax) → nesting (bound b x f) ≡ 1 + nesting f
-bound-nesting binder.Mu x f = refl
-bound-nesting binder.Nu x f = refl
-
-pub bound-parens : (b : Binder) (x : List ℕ) (f : Syntax) → parens (bound b x f) ≡ parens f
-bound-parens binder.Mu x f = refl
-bound-parens binder.Nu x f = refl
-
-pub bound-fits : (b : Binder) (x : List ℕ) (f : Syntax) → fits (bound b x f) ≡ fits f
-bound-fits binder.Mu x f = refl
-bound-fits binder.Nu x f = refl
+pub bound-is : (b : Binder) (x : List ℕ) (f : Syntax) → IsBound b x f
+bound-is binder.Mu x f = record { form = refl; nesting = refl; parens = refl; fits = refl; ends = refl }
+bound-is binder.Nu x f = record { form = refl; nesting = refl; parens = refl; fits = refl; ends = refl }
 
 -- each token that goes on makes some row
 some-row : (ts : List Token) → 0 < state_row ts
@@ -157,9 +138,9 @@ pub modal-read : (mark : Brackets) (depth inside : ℕ) (us : List Token) (r : R
 modal-read mark depth inside us r after inner w s b is l closed i =
     let x = reg_syntax r.syntax.value in
     let f = state_syntax inner.syntax.value in
-    let deep = modal-nesting mark x f in
-    unary-read _ _ _ w _ _ inner.rest.now s b is (modal-fits mark x f l.sound.grammatical i.sound.row i.sound.grammatical) (omega (arith, modal-form mark x f)) (omega (arith, deep, l.sound.height, i.sound.height))
-    (omega (arith, deep, l.sound.height, l.sound.low, i.sound.height, i.sound.low)) (omega (arith, modal-parens mark x f, l.sound.narrow, i.sound.narrow)) (λ h. i.sound.reaches (sym (modal-ends mark x f) ∙ h))
+    let deep = (modal-is mark x f).nesting in
+    unary-read _ _ _ w _ _ inner.rest.now s b is (modal-fits mark x f l.sound.grammatical i.sound.row i.sound.grammatical) (omega (arith, (modal-is mark x f).form)) (omega (arith, deep, l.sound.height, i.sound.height))
+    (omega (arith, deep, l.sound.height, l.sound.low, i.sound.height, i.sound.low)) (omega (arith, (modal-is mark x f).parens, l.sound.narrow, i.sound.narrow)) (λ h. i.sound.reaches (sym ((modal-is mark x f).ends) ∙ h))
     (ap (λ ts. ts ++ words inner.rest.now) (modal-tokens mark x f)
     ∙ ap (λ ts. opening mark ∷ ts) (append_assoc (reg_tokens x) (closing mark ∷ tokens f) (words inner.rest.now) ∙ ap (λ ts. reg_tokens x ++ (closing mark ∷ ts)) i.eaten ∙ ap (λ ts. reg_tokens x ++ ts) (sym closed) ∙ l.eaten))
 
@@ -168,9 +149,9 @@ pub bound-read : (word : Binder) (name : List ℕ) (depth inside : ℕ) (us afte
     → ReadsState 3 depth inside after body → ReadsState 0 (depth + 1) inside (binder_token word ∷ us) s
 bound-read word name depth inside us after body w s b is front i =
     let f = state_syntax body.syntax.value in
-    let deep = bound-nesting word name f in
-    unary-read _ _ _ w _ _ body.rest.now s b is (bound-fits word name f ∙ i.sound.grammatical) (omega (arith, bound-form word name f)) (omega (arith, deep, i.sound.height)) (omega (arith, deep, i.sound.height, i.sound.low))
-    (omega (arith, bound-parens word name f, i.sound.narrow)) (λ h. i.stops)
+    let deep = (bound-is word name f).nesting in
+    unary-read _ _ _ w _ _ body.rest.now s b is ((bound-is word name f).fits ∙ i.sound.grammatical) (omega (arith, (bound-is word name f).form)) (omega (arith, deep, i.sound.height)) (omega (arith, deep, i.sound.height, i.sound.low))
+    (omega (arith, (bound-is word name f).parens, i.sound.narrow)) (λ h. i.stops)
     (ap (λ ts. ts ++ words body.rest.now) (bound-tokens word name f) ∙ ap (λ ts. binder_token word ∷ ts) (ap (λ ts. Name name ∷ Dot ∷ ts) i.eaten ∙ sym front))
 
 -- a formula of one token
@@ -191,9 +172,9 @@ joined-read mark level depth inside us left right w s l front above low h b is =
     let open_end : IsTrue (not (ends_in_binder f)) = not_true _ (λ h. let far : 3 < state_row (words left.rest.now) = l.reaches h in absurd (omega arith)) in
     let below : form f < connective_row mark = omega (arith, l.ended) in
     let rows : state_row (words s.rest.now) ≡ state_row (words right.rest.now) = ap (λ ps. state_row (words ps)) b.after in
-    let own : form (state_syntax s.syntax.value) ≡ connective_row mark = ap form e ∙ joined-form mark f g in
-    let deep : nesting (state_syntax s.syntax.value) ≡ 1 + max (nesting f) (nesting g) = ap nesting e ∙ joined-nesting mark f g in
-    let wide : parens (state_syntax s.syntax.value) ≡ max (parens f) (parens g) = ap parens e ∙ joined-parens mark f g in
+    let own : form (state_syntax s.syntax.value) ≡ connective_row mark = ap form e ∙ (joined-is mark f g).form in
+    let deep : nesting (state_syntax s.syntax.value) ≡ 1 + max (nesting f) (nesting g) = ap nesting e ∙ (joined-is mark f g).nesting in
+    let wide : parens (state_syntax s.syntax.value) ≡ max (parens f) (parens g) = ap parens e ∙ (joined-is mark f g).parens in
     record {
       eaten =
           ap (λ ts. ts ++ words s.rest.now) (ap tokens e ∙ joined-tokens mark f g) ∙ append_assoc (tokens f) (connective_token mark ∷ tokens g) (words s.rest.now)
@@ -204,7 +185,7 @@ joined-read mark level depth inside us left right w s l front above low h b is =
         height = omega (arith, b.high, l.height, h.sound.height);
         low = omega (arith, b.high, h.sound.low);
         narrow = omega (arith, l.narrow, h.sound.narrow);
-        reaches = λ k. let far : 3 < state_row (words right.rest.now) = h.sound.reaches (sym (ap ends_in_binder e ∙ joined-ends mark f g) ∙ k) in omega arith;
+        reaches = λ k. let far : 3 < state_row (words right.rest.now) = h.sound.reaches (sym (ap ends_in_binder e ∙ (joined-is mark f g).ends) ∙ k) in omega arith;
         ended = omega (arith, h.stops);
       };
       shorter = omega (arith, ap (λ ps. length ps) b.after, no-longer (tokens g) right.rest.now us h.eaten, words-length left.rest.now, ap (λ ts. length ts) front);
