@@ -63,12 +63,9 @@ action_spellable (Names' x names) all = names_spellable x names all
 action_spellable (Quoted' bytes) all = all.0
 action_spellable (Parens' r) all = action_spellable r (both_sides (reg_tokens r) (Close ∷ []) all.1).0
 action_spellable (Not' r) all = of_one NotAct (action_meant r) IsSpellableAction IsSpellableAction (λ a h. h) (action_spellable r all.1)
-action_spellable (And' r s) all =
-    of_sign AndAct (action_meant r) (action_meant s) IsSpellableAction IsSpellableAction IsSpellableAction (reg_tokens r) (reg_tokens s) AndSign (λ a b h k. (h, k)) (λ h. action_spellable r h) (λ h. action_spellable s h) all
-action_spellable (Or' r s) all =
-    of_sign OrAct (action_meant r) (action_meant s) IsSpellableAction IsSpellableAction IsSpellableAction (reg_tokens r) (reg_tokens s) OrSign (λ a b h k. (h, k)) (λ h. action_spellable r h) (λ h. action_spellable s h) all
-action_spellable (Implies' r s) all =
-    of_sign ImpliesAct (action_meant r) (action_meant s) IsSpellableAction IsSpellableAction IsSpellableAction (reg_tokens r) (reg_tokens s) ImpliesSign (λ a b h k. (h, k)) (λ h. action_spellable r h) (λ h. action_spellable s h) all
+action_spellable (And' r s) all = of_sign AndAct _ _ IsSpellableAction IsSpellableAction IsSpellableAction _ _ AndSign (λ a b h k. (h, k)) (λ h. action_spellable r h) (λ h. action_spellable s h) all
+action_spellable (Or' r s) all = of_sign OrAct _ _ IsSpellableAction IsSpellableAction IsSpellableAction _ _ OrSign (λ a b h k. (h, k)) (λ h. action_spellable r h) (λ h. action_spellable s h) all
+action_spellable (Implies' r s) all = of_sign ImpliesAct _ _ IsSpellableAction IsSpellableAction IsSpellableAction _ _ ImpliesSign (λ a b h k. (h, k)) (λ h. action_spellable r h) (λ h. action_spellable s h) all
 action_spellable (Star' r) all = tt
 action_spellable (Plus' r) all = tt
 action_spellable (Then' r s) all = tt
@@ -82,18 +79,13 @@ regular_spellable (Names' x names) all = names_spellable x names all
 regular_spellable (Quoted' bytes) all = all.0
 regular_spellable (Parens' r) all = regular_spellable r (both_sides (reg_tokens r) (Close ∷ []) all.1).0
 regular_spellable (Not' r) all = of_one (λ a. Step (NotAct a)) (action_meant r) IsSpellableAction IsSpellableRegular (λ a h. h) (action_spellable r all.1)
-regular_spellable (And' r s) all =
-    of_sign (λ a b. Step (AndAct a b)) (action_meant r) (action_meant s) IsSpellableAction IsSpellableAction IsSpellableRegular (reg_tokens r) (reg_tokens s) AndSign (λ a b h k. (h, k)) (λ h. action_spellable r h) (λ h. action_spellable s h) all
-regular_spellable (Or' r s) all =
-    of_sign (λ a b. Step (OrAct a b)) (action_meant r) (action_meant s) IsSpellableAction IsSpellableAction IsSpellableRegular (reg_tokens r) (reg_tokens s) OrSign (λ a b h k. (h, k)) (λ h. action_spellable r h) (λ h. action_spellable s h) all
-regular_spellable (Implies' r s) all =
-    of_sign (λ a b. Step (ImpliesAct a b)) (action_meant r) (action_meant s) IsSpellableAction IsSpellableAction IsSpellableRegular (reg_tokens r) (reg_tokens s) ImpliesSign (λ a b h k. (h, k)) (λ h. action_spellable r h) (λ h. action_spellable s h) all
+regular_spellable (And' r s) all = of_sign (λ a b. Step (AndAct a b)) _ _ IsSpellableAction IsSpellableAction IsSpellableRegular _ _ AndSign (λ a b h k. (h, k)) (λ h. action_spellable r h) (λ h. action_spellable s h) all
+regular_spellable (Or' r s) all = of_sign (λ a b. Step (OrAct a b)) _ _ IsSpellableAction IsSpellableAction IsSpellableRegular _ _ OrSign (λ a b h k. (h, k)) (λ h. action_spellable r h) (λ h. action_spellable s h) all
+regular_spellable (Implies' r s) all = of_sign (λ a b. Step (ImpliesAct a b)) _ _ IsSpellableAction IsSpellableAction IsSpellableRegular _ _ ImpliesSign (λ a b h k. (h, k)) (λ h. action_spellable r h) (λ h. action_spellable s h) all
 regular_spellable (Star' r) all = of_one Star (regular_meant r) IsSpellableRegular IsSpellableRegular (λ r h. h) (regular_spellable r (both_sides (reg_tokens r) (StarSign ∷ []) all).0)
 regular_spellable (Plus' r) all = of_one Plus (regular_meant r) IsSpellableRegular IsSpellableRegular (λ r h. h) (regular_spellable r (both_sides (reg_tokens r) (PlusSign ∷ []) all).0)
-regular_spellable (Then' r s) all =
-    of_sign Then (regular_meant r) (regular_meant s) IsSpellableRegular IsSpellableRegular IsSpellableRegular (reg_tokens r) (reg_tokens s) Dot (λ a b h k. (h, k)) (λ h. regular_spellable r h) (λ h. regular_spellable s h) all
-regular_spellable (Either' r s) all =
-    of_sign Either (regular_meant r) (regular_meant s) IsSpellableRegular IsSpellableRegular IsSpellableRegular (reg_tokens r) (reg_tokens s) ChoiceSign (λ a b h k. (h, k)) (λ h. regular_spellable r h) (λ h. regular_spellable s h) all
+regular_spellable (Then' r s) all = of_sign Then _ _ IsSpellableRegular IsSpellableRegular IsSpellableRegular _ _ Dot (λ a b h k. (h, k)) (λ h. regular_spellable r h) (λ h. regular_spellable s h) all
+regular_spellable (Either' r s) all = of_sign Either _ _ IsSpellableRegular IsSpellableRegular IsSpellableRegular _ _ ChoiceSign (λ a b h k. (h, k)) (λ h. regular_spellable r h) (λ h. regular_spellable s h) all
 
 formula_spellable : (s : Syntax) → AreTokens (tokens s) → IfSome (meant s) IsSpellable
 formula_spellable True' all = tt
@@ -101,16 +93,11 @@ formula_spellable False' all = tt
 formula_spellable (Var' name) all = all.0
 formula_spellable (Group' f) all = formula_spellable f (both_sides (tokens f) (Close ∷ []) all.1).0
 formula_spellable (Neg' f) all = of_one Not (meant f) IsSpellable IsSpellable (λ f h. h) (formula_spellable f all.1)
-formula_spellable (Both' f g) all =
-    of_sign And (meant f) (meant g) IsSpellable IsSpellable IsSpellable (tokens f) (tokens g) AndSign (λ f g h k. (h, k)) (λ h. formula_spellable f h) (λ h. formula_spellable g h) all
-formula_spellable (OneOf' f g) all =
-    of_sign Or (meant f) (meant g) IsSpellable IsSpellable IsSpellable (tokens f) (tokens g) OrSign (λ f g h k. (h, k)) (λ h. formula_spellable f h) (λ h. formula_spellable g h) all
-formula_spellable (If' f g) all =
-    of_sign Implies (meant f) (meant g) IsSpellable IsSpellable IsSpellable (tokens f) (tokens g) ImpliesSign (λ f g h k. (h, k)) (λ h. formula_spellable f h) (λ h. formula_spellable g h) all
-formula_spellable (Dia' r f) all =
-    of_sign Dia (regular_meant r) (meant f) IsSpellableRegular IsSpellable IsSpellable (reg_tokens r) (tokens f) Greater (λ r f h k. (h, k)) (λ h. regular_spellable r h) (λ h. formula_spellable f h) all.1
-formula_spellable (Box' r f) all =
-    of_sign Box (regular_meant r) (meant f) IsSpellableRegular IsSpellable IsSpellable (reg_tokens r) (tokens f) CloseBox (λ r f h k. (h, k)) (λ h. regular_spellable r h) (λ h. formula_spellable f h) all.1
+formula_spellable (Both' f g) all = of_sign And _ _ IsSpellable IsSpellable IsSpellable _ _ AndSign (λ f g h k. (h, k)) (λ h. formula_spellable f h) (λ h. formula_spellable g h) all
+formula_spellable (OneOf' f g) all = of_sign Or _ _ IsSpellable IsSpellable IsSpellable _ _ OrSign (λ f g h k. (h, k)) (λ h. formula_spellable f h) (λ h. formula_spellable g h) all
+formula_spellable (If' f g) all = of_sign Implies _ _ IsSpellable IsSpellable IsSpellable _ _ ImpliesSign (λ f g h k. (h, k)) (λ h. formula_spellable f h) (λ h. formula_spellable g h) all
+formula_spellable (Dia' r f) all = of_sign Dia _ _ IsSpellableRegular IsSpellable IsSpellable _ _ Greater (λ r f h k. (h, k)) (λ h. regular_spellable r h) (λ h. formula_spellable f h) all.1
+formula_spellable (Box' r f) all = of_sign Box _ _ IsSpellableRegular IsSpellable IsSpellable _ _ CloseBox (λ r f h k. (h, k)) (λ h. regular_spellable r h) (λ h. formula_spellable f h) all.1
 formula_spellable (Mu' name f) all = of_one (Mu name) (meant f) IsSpellable IsSpellable (λ f h. (all.1.0, h)) (formula_spellable f all.1.1.1)
 formula_spellable (Nu' name f) all = of_one (Nu name) (meant f) IsSpellable IsSpellable (λ f h. (all.1.0, h)) (formula_spellable f all.1.1.1)
 
