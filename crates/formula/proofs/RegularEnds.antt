@@ -3,31 +3,30 @@ use Rattle.std.proofs.Common.{◌≡◌, ℕ, ◌+◌, ◌<◌, ◌≤◌, false
 use Rattle.std.specs.Prelude.{IsTrue, suc}
 use Rattle.formula.specs.Token.{Token, Name, TrueWord, Bar, NotSign, Open, Close}
 use Rattle.formula.specs.Syntax.{RegSyntax, Anything', Nothing', Tau', Names', Quoted', Parens', Not', reg_form, reg_fits, reg_tokens, reg_nesting, reg_parens, more_names}
-use Rattle.formula.specs.Written.{infixed, infix_token, infix_row, repeated, repeat_token}
+use Rattle.formula.specs.Written.{repeated}
 use Rattle.formula.specs.Read.{reg_row, is_word}
 use Rattle.formula.specs.Misread.{BeginsRegular, StandsRegular, Within, IsRegularMisread}
 use Rattle.formula.specs.declared.misread.Misread.TheVariants as misread
-use Rattle.formula.specs.declared.written.Infix.{Infix}
 use Rattle.formula.specs.declared.written.Repeat.{Repeat}
 use Rattle.formula.specs.declared.written.Repeat.TheVariants as repeat
-use Rattle.formula.proofs.Regulars.{all_true, le_true, infixed-tokens, infixed-is, infixed-fits, repeated-tokens, more_names-push}
+use Rattle.formula.proofs.Regulars.{all_true, le_true, more_names-push}
 use Rattle.formula.proofs.RegularUnique.{any_form}
 use Rattle.formula.proofs.Misreads.{unexpected-here, too-large-here}
-use Rattle.formula.proofs.RegularSpine.{one_at, spine, postfix_spine}
-use Rattle.formula.proofs.RegularPlaces.{row_taken, above_taken, first_taken, opens_regular, opening_token, word_alone, low-as, name_next}
+use Rattle.formula.proofs.RegularSpine.{one_at}
+use Rattle.formula.proofs.RegularPlaces.{row_taken, first_taken, opens_regular, opening_token, word_alone, low-as, name_next}
 
 -- a formula that begins with these tokens, and within the limits
-begins : (level : ℕ) (s : RegSyntax) (front more : List Token) → IsTrue (reg_fits s) → reg_form s ≤ level → reg_tokens s ≡ front ++ more → BeginsRegular level (reg_nesting s) (reg_parens s) front
+pub begins : (level : ℕ) (s : RegSyntax) (front more : List Token) → IsTrue (reg_fits s) → reg_form s ≤ level → reg_tokens s ≡ front ++ more → BeginsRegular level (reg_nesting s) (reg_parens s) front
 begins level s front more fit row e = record { syntax = s; more = more; grammatical = fit; row = row; nests = refl; opens = refl; spelled = e }
 
-begun : (level depth inside : ℕ) (s : RegSyntax) (front more : List Token) → IsTrue (reg_fits s) → reg_form s ≤ level → reg_nesting s ≤ depth → reg_parens s ≤ inside → reg_tokens s ≡ front ++ more
+pub begun : (level depth inside : ℕ) (s : RegSyntax) (front more : List Token) → IsTrue (reg_fits s) → reg_form s ≤ level → reg_nesting s ≤ depth → reg_parens s ≤ inside → reg_tokens s ≡ front ++ more
     → Within (BeginsRegular level) depth inside front
 begun level depth inside s front more fit row low narrow e = record { nested = reg_nesting s; opened = reg_parens s; it = begins level s front more fit row e; low = low; narrow = narrow }
 
 begun_none : (level depth inside : ℕ) → Within (BeginsRegular level) depth inside []
 begun_none level depth inside = begun level depth inside Anything' [] (TrueWord ∷ []) refl (omega arith) (omega arith) (omega arith) refl
 
-begun_left : (level depth inside : ℕ) (left : RegSyntax) → IsTrue (reg_fits left) → reg_form left ≤ level → reg_nesting left ≤ depth → reg_parens left ≤ inside → Within (BeginsRegular level) depth inside (reg_tokens left)
+pub begun_left : (level depth inside : ℕ) (left : RegSyntax) → IsTrue (reg_fits left) → reg_form left ≤ level → reg_nesting left ≤ depth → reg_parens left ≤ inside → Within (BeginsRegular level) depth inside (reg_tokens left)
 begun_left level depth inside left fit row low narrow = begun level depth inside left (reg_tokens left) [] fit row low narrow (sym (append-nil (reg_tokens left)))
 
 -- no formula has no tokens
@@ -74,18 +73,6 @@ word_barred depth inside r t ts e form low narrow fit word bar =
     unexpected-here (BeginsRegular 1) (StandsRegular 1) depth inside (t ∷ []) ts _ _ refl refl (begun 1 depth inside r (t ∷ []) [] fit (omega arith) (omega arith) (omega arith) e)
     (λ nested opened more stop s. not_barred ts more s.rest bar s.stops (word_alone t s.syntax s.rest (take 1 ts ++ more) word (low-as s.syntax s.rest (take 1 ts ++ more) t s.row s.spelled)))
 
--- no closing parenthesis after what stands in parentheses
-pub no_close : (depth inside : ℕ) (r : RegSyntax) (ts : List Token) → IsTrue (reg_fits r) → reg_nesting r ≤ depth → reg_parens r ≤ inside → 7 < reg_row ts → ((more : List Token) → ts ≡ Close ∷ more → ⊥)
-    → IsRegularMisread 1 depth (inside + 1) (Open ∷ (reg_tokens r ++ ts)) (misread.Unexpected (length ts))
-no_close depth inside r ts fit low narrow stops missing =
-    unexpected-here (BeginsRegular 1) (StandsRegular 1) depth (inside + 1) (Open ∷ reg_tokens r) ts _ _ refl refl
-    (begun 1 depth (inside + 1) (Parens' r) (Open ∷ reg_tokens r) (Close ∷ []) fit (omega arith) low (omega (arith, narrow)) refl)
-    (λ nested opened more stop s.
-    let u = low-as s.syntax s.rest (reg_tokens r ++ (take 1 ts ++ more)) Open s.row s.spelled in
-    let q = one_at 7 u.0 r (Close ∷ s.rest) (take 1 ts ++ more) (subst (λ x. IsTrue (reg_fits x)) u.1 s.grammatical) fit (any_form u.0) (any_form r) (omega arith) (above_taken 7 ts more stop stops) u.2 in
-    let f = first_taken ts more Close s.rest stop (sym q.1) in
-    missing f.0 f.1)
-
 -- a bar after a closing parenthesis
 pub close_barred : (depth inside : ℕ) (r : RegSyntax) (ts : List Token) → IsTrue (reg_fits r) → reg_nesting r ≤ depth → reg_parens r ≤ inside → reg_row ts ≡ 0
     → IsRegularMisread 1 depth (inside + 1) (Open ∷ (reg_tokens r ++ Close ∷ ts)) (misread.Unexpected (length ts))
@@ -110,16 +97,6 @@ no_name depth inside first names ts missing =
     let f = first_taken ts more (Name q.0) q.1 stop q.2 in
     missing q.0 f.0 f.1)
 
--- a sign between two, with a left operand that is as deep as formulas may be
-pub sign_too_deep : (mark : Infix) (level depth inside : ℕ) (left : RegSyntax) (ts : List Token) → IsTrue (reg_fits left) → reg_form left < infix_row mark → infix_row mark ≤ level
-    → reg_nesting left ≤ depth → depth ≤ reg_nesting left → reg_parens left ≤ inside → IsRegularMisread level depth inside (reg_tokens left ++ infix_token mark ∷ ts)
-    (misread.TooLarge (suc (length ts)))
-sign_too_deep mark level depth inside left ts fit below above low full narrow =
-    too-large-here (BeginsRegular level) (StandsRegular level) depth inside _ _ (reg_tokens left) (infix_token mark) ts _ _ refl refl (begun_left level depth inside left fit (omega (arith, below, above)) low narrow)
-    (begins level (infixed mark left Anything') (reg_tokens left ++ infix_token mark ∷ []) (TrueWord ∷ []) (infixed-fits mark left Anything' fit refl below (omega arith)) (omega (arith, (infixed-is mark left Anything').form, above))
-    (infixed-tokens mark left Anything' ∙ sym (append_assoc (reg_tokens left) (infix_token mark ∷ []) (TrueWord ∷ []))))
-    (λ more w. let p = spine mark left w.it.syntax w.it.rest more fit below w.it.grammatical (omega (arith, w.it.stops, above)) w.it.spelled in omega (arith, p.left_below, w.it.nests, w.low, full))
-
 pub repeated-fits : (mark : Repeat) (r : RegSyntax) → IsTrue (reg_fits r) → reg_form r ≤ 5 → IsTrue (reg_fits (repeated mark r))
 repeated-fits repeat.Star r fit low = all_true _ _ (le_true (reg_form r) 5 low) fit
 repeated-fits repeat.Plus r fit low = all_true _ _ (le_true (reg_form r) 5 low) fit
@@ -132,24 +109,3 @@ pub record IsRepeated (mark : Repeat) (r : RegSyntax) : Type 0 where
 pub repeated-is : (mark : Repeat) (r : RegSyntax) → IsRepeated mark r
 repeated-is repeat.Star r = record { form = refl; nesting = refl; parens = refl }
 repeated-is repeat.Plus r = record { form = refl; nesting = refl; parens = refl }
-
--- a postfix sign after a formula that is as deep as formulas may be
-pub mark_too_deep : (mark : Repeat) (level depth inside : ℕ) (left : RegSyntax) (ts : List Token) → IsTrue (reg_fits left) → reg_form left ≤ 5 → 5 ≤ level
-    → reg_nesting left ≤ depth → depth ≤ reg_nesting left → reg_parens left ≤ inside → IsRegularMisread level depth inside (reg_tokens left ++ repeat_token mark ∷ ts)
-    (misread.TooLarge (suc (length ts)))
-mark_too_deep mark level depth inside left ts fit below above low full narrow =
-    too-large-here (BeginsRegular level) (StandsRegular level) depth inside _ _ (reg_tokens left) (repeat_token mark) ts _ _ refl refl (begun_left level depth inside left fit (omega (arith, below, above)) low narrow)
-    (begins level (repeated mark left) (reg_tokens left ++ repeat_token mark ∷ []) [] (repeated-fits mark left fit below) (omega (arith, (repeated-is mark left).form, above))
-    (repeated-tokens mark left ∙ sym (append-nil (reg_tokens left ++ repeat_token mark ∷ []))))
-    (λ more w. let p = postfix_spine mark left w.it.syntax w.it.rest more fit below w.it.grammatical (omega (arith, w.it.stops, above)) w.it.spelled in omega (arith, p.left_below, w.it.nests, w.low, full))
-
--- a bar or a sign between action formulas right after a postfix sign
-pub mark_followed : (mark : Repeat) (level depth inside : ℕ) (left : RegSyntax) (ts : List Token) → IsTrue (reg_fits left) → reg_form left ≤ 5 → 5 ≤ level
-    → reg_nesting left < depth → reg_parens left ≤ inside → reg_row ts < 5 → IsRegularMisread level depth inside (reg_tokens left ++ repeat_token mark ∷ ts) (misread.Unexpected (length ts))
-mark_followed mark level depth inside left ts fit below above low narrow next =
-    unexpected-here (BeginsRegular level) (StandsRegular level) depth inside (reg_tokens left ++ repeat_token mark ∷ []) ts _ _ (append_assoc (reg_tokens left) (repeat_token mark ∷ []) ts) refl
-    (begun level depth inside (repeated mark left) (reg_tokens left ++ repeat_token mark ∷ []) [] (repeated-fits mark left fit below) (omega (arith, (repeated-is mark left).form, above))
-    (omega (arith, (repeated-is mark left).nesting, low)) (omega (arith, (repeated-is mark left).parens, narrow)) (repeated-tokens mark left ∙ sym (append-nil (reg_tokens left ++ repeat_token mark ∷ []))))
-    (λ nested opened more stop s.
-    let p = postfix_spine mark left s.syntax s.rest (take 1 ts ++ more) fit below s.grammatical (omega (arith, s.stops, above)) (s.spelled ∙ append_assoc (reg_tokens left) (repeat_token mark ∷ []) (take 1 ts ++ more)) in
-    omega (arith, p.stops, row_taken ts more (omega arith), next))

@@ -1,12 +1,12 @@
 -- Why the program's functions read no regular formula, by what they met.
-use Rattle.std.proofs.Common.{◌≡◌, ℕ, ◌+◌, ◌-◌, ◌<◌, ◌≤◌, inl, inr, true, false, List, [], ◌∷◌, ◌++◌, length, drop, refl, sym, ap, ◌∙◌, subst, arith, append_assoc, true≢false}
+use Rattle.std.proofs.Common.{◌≡◌, ℕ, ◌+◌, ◌-◌, ◌<◌, ◌≤◌, inl, inr, true, false, List, [], ◌∷◌, ◌++◌, length, drop, refl, sym, ap, ◌∙◌, subst, arith, append_assoc, true≢false, take, append-nil}
 use Rattle.std.specs.Prelude.{IsTrue, MatchResult, Result, Ok, Err, Some, suc}
 use Rattle.std.proofs.lemmas.Bool.{cases_eq}
-use Rattle.formula.specs.Token.{Token, Name, AndSign, OrSign, ImpliesSign, Bar, NotSign, Open, Close, Dot, ChoiceSign, PlusSign, StarSign}
-use Rattle.formula.specs.Syntax.{Names', Parens', Not', reg_form, reg_fits, reg_tokens, reg_nesting, reg_parens, more_names}
-use Rattle.formula.specs.Written.{words, token_of, reg_syntax, infix_token, infix_row, repeated, repeat_token}
+use Rattle.formula.specs.Token.{Token, Name, AndSign, OrSign, ImpliesSign, Bar, NotSign, Open, Close, Dot, ChoiceSign, PlusSign, StarSign, TrueWord}
+use Rattle.formula.specs.Syntax.{Names', Parens', Not', reg_form, reg_fits, reg_tokens, reg_nesting, reg_parens, more_names, Anything'}
+use Rattle.formula.specs.Written.{words, token_of, reg_syntax, infix_token, infix_row, repeated, repeat_token, infixed}
 use Rattle.formula.specs.Read.{reg_row, is_word, IsWordOf, IsRegular, IsRegularOf, MayGoOn, MatchBar, regular_tokens}
-use Rattle.formula.specs.Misread.{IsRegularMisread, RegularOf, ReadsRegular, LongerRegular, IsMissing, IsNameMissing}
+use Rattle.formula.specs.Misread.{IsRegularMisread, RegularOf, ReadsRegular, LongerRegular, IsMissing, IsNameMissing, BeginsRegular, StandsRegular}
 use Rattle.formula.specs.declared.token.Token.{Token as Lexeme}
 use Rattle.formula.specs.declared.token.Token.TheVariants as lexeme
 use Rattle.formula.specs.declared.token.Placed.{Placed}
@@ -17,10 +17,12 @@ use Rattle.formula.specs.declared.written.Repeat.{Repeat}
 use Rattle.formula.specs.declared.written.WrittenRegular.{WrittenRegular}
 use Rattle.formula.specs.declared.regular.ReadRegular.{ReadRegular}
 pub use Rattle.formula.proofs.Regulars.{words-length}
-use Rattle.formula.proofs.Regulars.{words-next, bar_first, low-read, all_true, le_true, repeated-tokens}
-use Rattle.formula.proofs.RegularSpine.{sign_row, repeat_row, not_postfix}
-use Rattle.formula.proofs.RegularPlaces.{opens_regular, in_joined}
-use Rattle.formula.proofs.RegularEnds.{no_token, no_start, not_too_deep, open_too_many, word_barred, no_close, close_barred, no_name, sign_too_deep, mark_too_deep, mark_followed, repeated-fits, repeated-is}
+use Rattle.formula.proofs.Regulars.{words-next, bar_first, low-read, all_true, le_true, repeated-tokens, infixed-tokens, infixed-is, infixed-fits}
+use Rattle.formula.proofs.Misreads.{unexpected-here, too-large-here}
+use Rattle.formula.proofs.RegularUnique.{any_form}
+use Rattle.formula.proofs.RegularSpine.{sign_row, repeat_row, not_postfix, one_at, spine, postfix_spine}
+use Rattle.formula.proofs.RegularPlaces.{opens_regular, in_joined, row_taken, above_taken, first_taken, low-as}
+use Rattle.formula.proofs.RegularEnds.{no_token, no_start, not_too_deep, open_too_many, word_barred, close_barred, no_name, repeated-fits, repeated-is, begins, begun, begun_left}
 
 -- no token has the row 1
 pub row_not_one : (ts : List Token) → 0 < reg_row ts → 1 < reg_row ts
@@ -108,8 +110,13 @@ pub parens-unclosed : (d i : ℕ) (us : List Token) (inner : ReadRegular) (e : M
 parens-unclosed d i us inner e s missing =
     let r = reg_syntax inner.syntax.value in
     let ts = words inner.rest.now in
-    moved 1 d (i + 1) (Open ∷ us) (Open ∷ (reg_tokens r ++ ts)) e (misread.Unexpected (length ts)) (ap (λ us. Open ∷ us) (sym s.eaten)) missing.0
-    (no_close d i r ts s.sound.grammatical (omega (arith, s.sound.height, s.sound.low)) s.sound.narrow s.stops missing.1)
+    unexpected-here (BeginsRegular 1) (StandsRegular 1) d (i + 1) (Open ∷ reg_tokens r) ts (Open ∷ us) e (ap (λ us. Open ∷ us) s.eaten) missing.0
+    (begun 1 d (i + 1) (Parens' r) (Open ∷ reg_tokens r) (Close ∷ []) s.sound.grammatical (omega arith) (omega (arith, s.sound.height, s.sound.low)) (omega (arith, s.sound.narrow)) refl)
+    (λ nested opened more stop x.
+    let u = low-as x.syntax x.rest (reg_tokens r ++ (take 1 ts ++ more)) Open x.row x.spelled in
+    let q = one_at 7 u.0 r (Close ∷ x.rest) (take 1 ts ++ more) (subst (λ y. IsTrue (reg_fits y)) u.1 x.grammatical) s.sound.grammatical (any_form u.0) (any_form r) (omega arith) (above_taken 7 ts more stop s.stops) u.2 in
+    let f = first_taken ts more Close x.rest stop (sym q.1) in
+    missing.1 f.0 f.1)
 
 -- what was read under a `!`
 pub not-read : (d i : ℕ) (us : List Token) (inner : ReadRegular) (w : WrittenRegular) (r : ReadRegular) → IsRegularOf w (inner.height + 1) inner.rest.now r → reg_syntax w ≡ Not' (reg_syntax inner.syntax.value)
@@ -181,8 +188,14 @@ pub join-deep : (mark : Infix) (level d i : ℕ) (left : ReadRegular) (us : List
     → d ≤ left.height → e ≡ misread.TooLarge (length left.rest.now) → IsRegularMisread level d i (regular_tokens left) e
 join-deep mark level d i left us e l on above front full q =
     let r = reg_syntax left.syntax.value in
-    moved level d i (regular_tokens left) (reg_tokens r ++ infix_token mark ∷ us) e (misread.TooLarge (suc (length us))) (ap (λ us. reg_tokens r ++ us) front) (q ∙ ap misread.TooLarge (at-sign left.rest.now _ us front))
-    (sign_too_deep mark level d i r us l.grammatical (may_join left us mark on front) above (omega (arith, l.height, l.low)) (omega (arith, l.height, full)) l.narrow)
+    let below = may_join left us mark on front in
+    too-large-here (BeginsRegular level) (StandsRegular level) d i _ _ (reg_tokens r) (infix_token mark) us (regular_tokens left) e (ap (λ us. reg_tokens r ++ us) (sym front)) (q ∙ ap misread.TooLarge (at-sign left.rest.now _ us front))
+    (begun_left level d i r l.grammatical (omega (arith, below, above)) (omega (arith, l.height, l.low)) l.narrow)
+    (begins level (infixed mark r Anything') (reg_tokens r ++ infix_token mark ∷ []) (TrueWord ∷ []) (infixed-fits mark r Anything' l.grammatical refl below (omega arith)) (omega (arith, (infixed-is mark r Anything').form, above))
+    (infixed-tokens mark r Anything' ∙ sym (append_assoc (reg_tokens r) (infix_token mark ∷ []) (TrueWord ∷ []))))
+    (λ more w.
+    let p = spine mark r w.it.syntax w.it.rest more l.grammatical below w.it.grammatical (omega (arith, w.it.stops, above)) w.it.spelled in
+    omega (arith, p.left_below, w.it.nests, w.low, full, l.height))
 
 pub join-right : (mark : Infix) (level d i : ℕ) (left : ReadRegular) (us : List Token) (e : Misread) → IsRegular level d i left → MayGoOn left → infix_row mark ≤ level → words left.rest.now ≡ infix_token mark ∷ us
     → left.height < d → IsRegularMisread (infix_row mark) (d - 1) i us e → IsRegularMisread level d i (regular_tokens left) e
@@ -195,15 +208,30 @@ pub repeat-deep : (mark : Repeat) (level d i : ℕ) (left : ReadRegular) (us : L
     → d ≤ left.height → e ≡ misread.TooLarge (length left.rest.now) → IsRegularMisread level d i (regular_tokens left) e
 repeat-deep mark level d i left us e l on above front full q =
     let r = reg_syntax left.syntax.value in
-    moved level d i (regular_tokens left) (reg_tokens r ++ repeat_token mark ∷ us) e (misread.TooLarge (suc (length us))) (ap (λ us. reg_tokens r ++ us) front) (q ∙ ap misread.TooLarge (at-sign left.rest.now _ us front))
-    (mark_too_deep mark level d i r us l.grammatical (may_repeat left us mark on front) above (omega (arith, l.height, l.low)) (omega (arith, l.height, full)) l.narrow)
+    let below = may_repeat left us mark on front in
+    too-large-here (BeginsRegular level) (StandsRegular level) d i _ _ (reg_tokens r) (repeat_token mark) us (regular_tokens left) e (ap (λ us. reg_tokens r ++ us) (sym front)) (q ∙ ap misread.TooLarge (at-sign left.rest.now _ us front))
+    (begun_left level d i r l.grammatical (omega (arith, below, above)) (omega (arith, l.height, l.low)) l.narrow)
+    (begins level (repeated mark r) (reg_tokens r ++ repeat_token mark ∷ []) [] (repeated-fits mark r l.grammatical below) (omega (arith, (repeated-is mark r).form, above))
+    (repeated-tokens mark r ∙ sym (append-nil (reg_tokens r ++ repeat_token mark ∷ []))))
+    (λ more w.
+    let p = postfix_spine mark r w.it.syntax w.it.rest more l.grammatical below w.it.grammatical (omega (arith, w.it.stops, above)) w.it.spelled in
+    omega (arith, p.left_below, w.it.nests, w.low, full, l.height))
 
 pub repeat-followed : (mark : Repeat) (level d i : ℕ) (left : ReadRegular) (rest : List Placed) (e : Misread) → IsRegular level d i left → MayGoOn left → 5 ≤ level → words left.rest.now ≡ repeat_token mark ∷ words rest
     → left.height < d → e ≡ misread.Unexpected (length rest) → reg_row (words rest) < 5 → IsRegularMisread level d i (regular_tokens left) e
 repeat-followed mark level d i left rest e l on above front low q next =
     let r = reg_syntax left.syntax.value in
-    moved level d i (regular_tokens left) (reg_tokens r ++ repeat_token mark ∷ words rest) e (misread.Unexpected (length (words rest))) (ap (λ us. reg_tokens r ++ us) front) (q ∙ ap misread.Unexpected (sym (words-length rest)))
-    (mark_followed mark level d i r (words rest) l.grammatical (may_repeat left (words rest) mark on front) above (omega (arith, l.height, low)) l.narrow next)
+    let ts = words rest in
+    let front' : List Token = reg_tokens r ++ repeat_token mark ∷ [] in
+    let below = may_repeat left ts mark on front in
+    let is = repeated-is mark r in
+    unexpected-here (BeginsRegular level) (StandsRegular level) d i front' ts (regular_tokens left) e (append_assoc (reg_tokens r) (repeat_token mark ∷ []) ts ∙ ap (λ us. reg_tokens r ++ us) (sym front))
+    (q ∙ ap misread.Unexpected (sym (words-length rest)))
+    (begun level d i (repeated mark r) front' [] (repeated-fits mark r l.grammatical below) (omega (arith, is.form, above)) (omega (arith, is.nesting, low, l.height)) (omega (arith, is.parens, l.narrow))
+    (repeated-tokens mark r ∙ sym (append-nil front')))
+    (λ nested opened more stop s.
+    let p = postfix_spine mark r s.syntax s.rest (take 1 ts ++ more) l.grammatical below s.grammatical (omega (arith, s.stops, above)) (s.spelled ∙ append_assoc (reg_tokens r) (repeat_token mark ∷ []) (take 1 ts ++ more)) in
+    omega (arith, p.stops, row_taken ts more (omega arith), next))
 
 -- a formula under a postfix sign, which may go on where no sign of action formulas comes next
 pub repeated-read : (mark : Repeat) (level depth inside : ℕ) (rest : List Placed) (left : ReadRegular) (w : WrittenRegular) (r : ReadRegular) → IsRegular level depth inside left → MayGoOn left
