@@ -95,3 +95,7 @@ joined-returns t c =
     built _ _ _ c.built.result c.built.ensures tt (λ r b.
     joined-read c.args.sign c.args.level _ _ _ left right _ r c.requires.left (may_join left _ c.args.sign c.requires.onward c.requires.first) c.requires.first c.requires.sign c.in_ok-below.ensures.0 read
     (record { is = b.is; high = b.high ∙ high; after = b.after }) refl)
+
+pub regular-returns : goal.regular-returns
+regular-returns t c =
+    subst (λ ts. RegularOf c.args.level c.args.room.depth c.args.room.parens ts c.extended.result) c.in_ok-negation.ensures.eaten c.extended.ensures

@@ -144,3 +144,7 @@ pub unary-returns-in-Some-word : goal.unary-returns-in-Some-word
 unary-returns-in-Some-word t c =
     renamed _ _ _ _ _ _ c.built.result refl refl (sym (ap words c.in-Some.ensures.cases.0))
     (built _ _ _ c.built.result c.built.ensures tt (λ s b. word-read _ _ _ _ c.in-Some.rest.now s b c.in-Some-word.ensures))
+
+pub state-returns : goal.state-returns
+state-returns t c =
+    subst (λ ts. StateOf c.args.level c.args.room.depth c.args.room.parens ts c.extended.result) c.in_ok-unary.ensures.eaten c.extended.ensures
