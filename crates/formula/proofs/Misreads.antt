@@ -1,8 +1,10 @@
 -- Why tokens gave no formula, from why those of its last part gave none.
-use Rattle.std.proofs.Common.{ℕ, ◌≤◌, List, [], ◌∷◌, ◌++◌, take, subst, sym, ap, ◌∙◌, append_assoc}
+use Rattle.std.proofs.Common.{ℕ, suc, length, refl, ◌-◌, ◌≤◌, List, [], ◌∷◌, ◌++◌, take, subst, sym, ap, ◌∙◌, append_assoc, ◌≡◌, Result, Ok, Err, IsErrAnd}
+use Rattle.std.specs.Prelude.{MatchResult}
 use Rattle.formula.specs.Token.{Token}
 use Rattle.formula.specs.Misread.{Within, IsMisread}
 use Rattle.formula.specs.declared.misread.Misread.{Misread}
+use Rattle.formula.specs.declared.room.Room.{Room}
 use Rattle.formula.specs.declared.misread.Misread.TheVariants as misread
 
 -- formulas that begin with tokens, or stand at their front; how deep they nest and how many parentheses they open
@@ -52,3 +54,32 @@ misread-within begins stands begins' stands' depth inside depth' inside' before 
       (subst (Within stands depth inside) (append_assoc before h.front (h.token ∷ more)) w));
 }
 misread-within begins stands begins' stands' depth inside depth' inside' before ts misread.Memory place h = tt
+
+-- no formula stands at the front of what begins so, up to the first of the other tokens
+abbrev pub NoneStands : (stands : Class) → (front back : List Token) → Type 0
+NoneStands stands front back = (nested opened : ℕ) (more : List Token) → (back ≡ [] → more ≡ []) → stands nested opened (front ++ (take 1 back ++ more)) → ⊥
+
+pub unexpected-here : (begins stands : Class) (depth inside : ℕ) (front back ts : List Token) (e : Misread) → front ++ back ≡ ts → e ≡ misread.Unexpected (length back) → Within begins depth inside front → NoneStands stands front back
+    → IsMisread begins stands depth inside ts e
+unexpected-here begins stands depth inside front back ts e split is begun none =
+    subst (λ (m : Misread). IsMisread begins stands depth inside ts m) (sym is) (record { front = front; back = back; joined = sym split; place = refl; begun = begun; none = none })
+
+pub too-large-here : (begins stands : Class) (depth inside nested opened : ℕ) (front : List Token) (token : Token) (back ts : List Token) (e : Misread) → front ++ token ∷ back ≡ ts → e ≡ misread.TooLarge (suc (length back))
+    → Within begins depth inside front → begins nested opened (front ++ token ∷ []) → ((more : List Token) → Within stands depth inside (front ++ token ∷ more) → ⊥) → IsMisread begins stands depth inside ts e
+too-large-here begins stands depth inside nested opened front token back ts e split is begun on none =
+    subst (λ (m : Misread). IsMisread begins stands depth inside ts m) (sym is)
+    (record { front = front; token = token; back = back; joined = sym split; place = refl; begun = begun; goes_on = (nested, opened, on); none = none })
+
+-- an error that is handed on
+pub handed : {T : Type 0} (P : T → Type 0) (Q : Misread → Type 0) (result : Result T Misread) (e : Misread) → IsErrAnd result (λ x. x ≡ e) → Q e → MatchResult result P Q
+handed P Q (Ok x) e h q = absurd h
+handed P Q (Err x) e h q = subst Q (sym h) q
+
+-- what was built, unless memory was refused
+pub built : {T : Type 0} (B P : T → Type 0) (Q : Misread → Type 0) (result : Result T Misread) → MatchResult result B (λ e. e ≡ misread.Memory) → Q misread.Memory → ((x : T) → B x → P x) → MatchResult result P Q
+built B P Q (Ok x) h q k = k x h
+built B P Q (Err e) h q k = subst Q (sym h) q
+
+-- what holds one level below a room, with another name for the row
+pub below-room : (P : (level depth inside : ℕ) → Type 0) (room below : Room) (n m : ℕ) → n ≡ m → below ≡ record room { depth = room.depth - 1 } → P n below.depth below.parens → P m (room.depth - 1) room.parens
+below-room P room below n m e f h = subst (λ (r : Room). P m r.depth r.parens) f (subst (λ k. P k below.depth below.parens) e h)

@@ -96,7 +96,7 @@ not_over (t ∷ back) more h e = absurd (omega (arith, ap length e))
 pub left-over : (s : ReadState) (ts : List Token) (e : Misread) → IsState 3 256 1024 s → 3 < state_row (words s.rest.now) → state_tokens s ≡ ts → 0 < length s.rest.now
     → e ≡ misread.Unexpected (length s.rest.now) → IsWholeMisread ts e
 left-over s ts e is stops eaten some at =
-    let f : Syntax = state_syntax s.syntax in
+    let f : Syntax = state_syntax s.syntax.value in
     let back : List Token = words s.rest.now in
     let count : length back ≡ length s.rest.now = words-length s.rest.now in
     let height = is.height in

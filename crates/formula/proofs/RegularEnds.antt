@@ -1,91 +1,66 @@
 -- Where the reading of a regular formula ends: a token that can't come next, or the end of the tokens.
-use Rattle.std.proofs.Common.{◌≡◌, ℕ, ◌+◌, ◌<◌, ◌≤◌, false, List, [], ◌∷◌, ◌++◌, length, take, refl, sym, ap, ◌∙◌, arith, append_assoc, append-nil, drop, true≢false}
+use Rattle.std.proofs.Common.{◌≡◌, ℕ, ◌+◌, ◌<◌, ◌≤◌, false, List, [], ◌∷◌, ◌++◌, length, take, refl, sym, ap, ◌∙◌, subst, arith, append_assoc, append-nil, drop, true≢false}
 use Rattle.std.specs.Prelude.{IsTrue, suc}
 use Rattle.formula.specs.Token.{Token, Name, TrueWord, Bar, NotSign, Open, Close}
 use Rattle.formula.specs.Syntax.{RegSyntax, Anything', Nothing', Tau', Names', Quoted', Parens', Not', reg_form, reg_fits, reg_tokens, reg_nesting, reg_parens, more_names}
-use Rattle.formula.specs.Written.{infixed, infix_token, infix_row, repeated, repeat_token}
+use Rattle.formula.specs.Written.{repeated}
 use Rattle.formula.specs.Read.{reg_row, is_word}
-use Rattle.formula.specs.Misread.{BeginsRegular, Within, IsRegularMisread}
+use Rattle.formula.specs.Misread.{BeginsRegular, StandsRegular, Within, IsRegularMisread}
 use Rattle.formula.specs.declared.misread.Misread.TheVariants as misread
-use Rattle.formula.specs.declared.written.Infix.{Infix}
 use Rattle.formula.specs.declared.written.Repeat.{Repeat}
 use Rattle.formula.specs.declared.written.Repeat.TheVariants as repeat
-use Rattle.formula.proofs.Regulars.{all_true, le_true, infixed-tokens, infixed-form, infixed-fits, repeated-tokens, more_names-push}
+use Rattle.formula.proofs.Regulars.{all_true, le_true, more_names-push}
 use Rattle.formula.proofs.RegularUnique.{any_form}
-use Rattle.formula.proofs.RegularSpine.{one_at, spine, postfix_spine}
-use Rattle.formula.proofs.RegularPlaces.{row_taken, above_taken, first_taken, opens_regular, opening_token, word_alone, not_part, open_part, names_part, name_next}
+use Rattle.formula.proofs.Misreads.{unexpected-here, too-large-here}
+use Rattle.formula.proofs.RegularSpine.{one_at}
+use Rattle.formula.proofs.RegularPlaces.{row_taken, first_taken, opens_regular, opening_token, word_alone, low-as, name_next}
 
--- a formula within the limits begins with the first of its tokens
-begun : (level depth inside : ℕ) (s : RegSyntax) (front more : List Token) → IsTrue (reg_fits s) → reg_form s ≤ level → reg_nesting s ≤ depth → reg_parens s ≤ inside → reg_tokens s ≡ front ++ more
+-- a formula that begins with these tokens, and within the limits
+pub begins : (level : ℕ) (s : RegSyntax) (front more : List Token) → IsTrue (reg_fits s) → reg_form s ≤ level → reg_tokens s ≡ front ++ more → BeginsRegular level (reg_nesting s) (reg_parens s) front
+begins level s front more fit row e = record { syntax = s; more = more; grammatical = fit; row = row; nests = refl; opens = refl; spelled = e }
+
+pub begun : (level depth inside : ℕ) (s : RegSyntax) (front more : List Token) → IsTrue (reg_fits s) → reg_form s ≤ level → reg_nesting s ≤ depth → reg_parens s ≤ inside → reg_tokens s ≡ front ++ more
     → Within (BeginsRegular level) depth inside front
-begun level depth inside s front more fit row low narrow e = record {
-  nested = reg_nesting s;
-  opened = reg_parens s;
-  it = record { syntax = s; more = more; grammatical = fit; row = row; nests = refl; opens = refl; spelled = e };
-  low = low;
-  narrow = narrow;
-}
+begun level depth inside s front more fit row low narrow e = record { nested = reg_nesting s; opened = reg_parens s; it = begins level s front more fit row e; low = low; narrow = narrow }
 
 begun_none : (level depth inside : ℕ) → Within (BeginsRegular level) depth inside []
 begun_none level depth inside = begun level depth inside Anything' [] (TrueWord ∷ []) refl (omega arith) (omega arith) (omega arith) refl
 
+pub begun_left : (level depth inside : ℕ) (left : RegSyntax) → IsTrue (reg_fits left) → reg_form left ≤ level → reg_nesting left ≤ depth → reg_parens left ≤ inside → Within (BeginsRegular level) depth inside (reg_tokens left)
+begun_left level depth inside left fit row low narrow = begun level depth inside left (reg_tokens left) [] fit row low narrow (sym (append-nil (reg_tokens left)))
+
 -- no formula has no tokens
 some_token : (s : RegSyntax) (rest : List Token) → reg_form s ≤ 1 → reg_tokens s ++ rest ≡ [] → ⊥
+some_token (Names' x xs) rest low e = cc
+some_token (Parens' r) rest low e = cc
+some_token (Not' r) rest low e = cc
+some_token (Quoted' bytes) rest low e = cc
 some_token Anything' rest low e = cc
 some_token Nothing' rest low e = cc
 some_token Tau' rest low e = cc
-some_token (Names' x xs) rest low e = cc
-some_token (Quoted' bytes) rest low e = cc
-some_token (Parens' r) rest low e = cc
-some_token (Not' r) rest low e = cc
 some_token _ rest low e = omega arith
 
 pub no_token : (depth inside : ℕ) → IsRegularMisread 1 depth inside [] (misread.Unexpected 0)
-no_token depth inside = record {
-  front = [];
-  back = [];
-  joined = refl;
-  place = refl;
-  begun = begun_none 1 depth inside;
-  none = λ nested opened more stop s. some_token s.syntax s.rest s.row (s.spelled ∙ stop refl);
-}
+no_token depth inside =
+    unexpected-here (BeginsRegular 1) (StandsRegular 1) depth inside [] [] _ _ refl refl (begun_none 1 depth inside) (λ nested opened more stop s. some_token s.syntax s.rest s.row (s.spelled ∙ stop refl))
 
 -- this token begins no atom and no negation
 pub no_start : (depth inside : ℕ) (t : Token) (ts : List Token) → opens_regular t ≡ false → IsRegularMisread 1 depth inside (t ∷ ts) (misread.Unexpected (suc (length ts)))
-no_start depth inside t ts other = record {
-  front = [];
-  back = t ∷ ts;
-  joined = refl;
-  place = refl;
-  begun = begun_none 1 depth inside;
-  none = λ nested opened more stop s. true≢false (sym (opening_token s.syntax s.rest t more s.row s.spelled) ∙ other);
-}
+no_start depth inside t ts other =
+    unexpected-here (BeginsRegular 1) (StandsRegular 1) depth inside [] (t ∷ ts) _ _ refl refl (begun_none 1 depth inside)
+    (λ nested opened more stop s. true≢false (sym (opening_token t s.syntax s.rest more (low-as s.syntax s.rest more t s.row s.spelled)) ∙ other))
 
 -- a `!` where no operator may stand
 pub not_too_deep : (depth inside : ℕ) (ts : List Token) → depth ≤ 0 → IsRegularMisread 1 depth inside (NotSign ∷ ts) (misread.TooLarge (suc (length ts)))
-not_too_deep depth inside ts full = record {
-  front = [];
-  token = NotSign;
-  back = ts;
-  joined = refl;
-  place = refl;
-  begun = begun_none 1 depth inside;
-  goes_on = (1, 0, record { syntax = Not' Anything'; more = TrueWord ∷ []; grammatical = refl; row = omega arith; nests = refl; opens = refl; spelled = refl });
-  none = λ more w. let p = not_part w.it.syntax w.it.rest more w.it.grammatical w.it.row w.it.spelled in omega (arith, p.nests, w.it.nests, w.low, full);
-}
+not_too_deep depth inside ts full =
+    too-large-here (BeginsRegular 1) (StandsRegular 1) depth inside 1 0 [] NotSign ts _ _ refl refl (begun_none 1 depth inside) (begins 1 (Not' Anything') (NotSign ∷ []) (TrueWord ∷ []) refl (omega arith) refl)
+    (λ more w. omega (arith, ap reg_nesting (low-as w.it.syntax w.it.rest more NotSign w.it.row w.it.spelled).1, w.it.nests, w.low, full))
 
 -- a parenthesis where none may open
 pub open_too_many : (depth inside : ℕ) (ts : List Token) → inside ≡ 0 → IsRegularMisread 1 depth inside (Open ∷ ts) (misread.TooLarge (suc (length ts)))
-open_too_many depth inside ts full = record {
-  front = [];
-  token = Open;
-  back = ts;
-  joined = refl;
-  place = refl;
-  begun = begun_none 1 depth inside;
-  goes_on = (0, 1, record { syntax = Parens' Anything'; more = TrueWord ∷ Close ∷ []; grammatical = refl; row = omega arith; nests = refl; opens = refl; spelled = refl });
-  none = λ more w. let p = open_part w.it.syntax w.it.rest more w.it.grammatical w.it.row w.it.spelled in omega (arith, p.opens, w.it.opens, w.narrow, full);
-}
+open_too_many depth inside ts full =
+    too-large-here (BeginsRegular 1) (StandsRegular 1) depth inside 0 1 [] Open ts _ _ refl refl (begun_none 1 depth inside) (begins 1 (Parens' Anything') (Open ∷ []) (TrueWord ∷ Close ∷ []) refl (omega arith) refl)
+    (λ more w. omega (arith, ap reg_parens (low-as w.it.syntax w.it.rest more Open w.it.row w.it.spelled).1, w.it.opens, w.narrow, full))
 
 -- what a bar follows where none may
 not_barred : (back more rest : List Token) → reg_row back ≡ 0 → 1 < reg_row rest → rest ≡ take 1 back ++ more → ⊥
@@ -94,149 +69,43 @@ not_barred back more rest bar stop e = let row : reg_row rest ≡ 0 = ap reg_row
 -- a bar after an atom of one token that is no name
 pub word_barred : (depth inside : ℕ) (r : RegSyntax) (t : Token) (ts : List Token) → reg_tokens r ≡ t ∷ [] → reg_form r ≡ 0 → reg_nesting r ≡ 0 → reg_parens r ≡ 0 → IsTrue (reg_fits r) → IsTrue (is_word t)
     → reg_row ts ≡ 0 → IsRegularMisread 1 depth inside (t ∷ ts) (misread.Unexpected (length ts))
-word_barred depth inside r t ts e form low narrow fit word bar = record {
-  front = t ∷ [];
-  back = ts;
-  joined = refl;
-  place = refl;
-  begun = begun 1 depth inside r (t ∷ []) [] fit (omega arith) (omega arith) (omega arith) e;
-  none = λ nested opened more stop s. not_barred ts more s.rest bar s.stops (word_alone s.syntax s.rest t (take 1 ts ++ more) s.row word s.spelled);
-}
-
--- no closing parenthesis after what stands in parentheses
-pub no_close : (depth inside : ℕ) (r : RegSyntax) (ts : List Token) → IsTrue (reg_fits r) → reg_nesting r ≤ depth → reg_parens r ≤ inside → 7 < reg_row ts → ((more : List Token) → ts ≡ Close ∷ more → ⊥)
-    → IsRegularMisread 1 depth (inside + 1) (Open ∷ (reg_tokens r ++ ts)) (misread.Unexpected (length ts))
-no_close depth inside r ts fit low narrow stops missing = record {
-  front = Open ∷ reg_tokens r;
-  back = ts;
-  joined = refl;
-  place = refl;
-  begun = begun 1 depth (inside + 1) (Parens' r) (Open ∷ reg_tokens r) (Close ∷ []) fit (omega arith) low (omega (arith, narrow)) refl;
-  none = λ nested opened more stop s.
-      let p = open_part s.syntax s.rest (reg_tokens r ++ (take 1 ts ++ more)) s.grammatical s.row s.spelled in
-      let q = one_at 7 p.inner r (Close ∷ s.rest) (take 1 ts ++ more) p.grammatical fit (any_form p.inner) (any_form r) (omega arith) (above_taken 7 ts more stop stops) p.spelled in
-      let f = first_taken ts more Close s.rest stop (sym q.1) in
-      missing f.0 f.1;
-}
+word_barred depth inside r t ts e form low narrow fit word bar =
+    unexpected-here (BeginsRegular 1) (StandsRegular 1) depth inside (t ∷ []) ts _ _ refl refl (begun 1 depth inside r (t ∷ []) [] fit (omega arith) (omega arith) (omega arith) e)
+    (λ nested opened more stop s. not_barred ts more s.rest bar s.stops (word_alone t s.syntax s.rest (take 1 ts ++ more) word (low-as s.syntax s.rest (take 1 ts ++ more) t s.row s.spelled)))
 
 -- a bar after a closing parenthesis
 pub close_barred : (depth inside : ℕ) (r : RegSyntax) (ts : List Token) → IsTrue (reg_fits r) → reg_nesting r ≤ depth → reg_parens r ≤ inside → reg_row ts ≡ 0
     → IsRegularMisread 1 depth (inside + 1) (Open ∷ (reg_tokens r ++ Close ∷ ts)) (misread.Unexpected (length ts))
-close_barred depth inside r ts fit low narrow bar = record {
-  front = Open ∷ (reg_tokens r ++ Close ∷ []);
-  back = ts;
-  joined = ap (λ us. Open ∷ us) (sym (append_assoc (reg_tokens r) (Close ∷ []) ts));
-  place = refl;
-  begun = begun 1 depth (inside + 1) (Parens' r) (Open ∷ (reg_tokens r ++ Close ∷ [])) [] fit (omega arith) low (omega (arith, narrow)) (ap (λ us. Open ∷ us) (no_more (reg_tokens r ++ Close ∷ [])));
-  none = λ nested opened more stop s.
-      let p = open_part s.syntax s.rest (reg_tokens r ++ Close ∷ (take 1 ts ++ more)) s.grammatical s.row
-      (s.spelled ∙ ap (λ us. Open ∷ us) (append_assoc (reg_tokens r) (Close ∷ []) (take 1 ts ++ more))) in
-      let q = one_at 7 p.inner r (Close ∷ s.rest) (Close ∷ (take 1 ts ++ more)) p.grammatical fit (any_form p.inner) (any_form r) (omega arith) (omega arith) p.spelled in
-      not_barred ts more s.rest bar s.stops (ap (drop 1) q.1);
-}
-  where
-    no_more : (us : List Token) → us ≡ us ++ []
-    no_more us = sym (append-nil us)
+close_barred depth inside r ts fit low narrow bar =
+    unexpected-here (BeginsRegular 1) (StandsRegular 1) depth (inside + 1) (reg_tokens (Parens' r)) ts _ _ (ap (λ us. Open ∷ us) (append_assoc (reg_tokens r) (Close ∷ []) ts)) refl
+    (begun_left 1 depth (inside + 1) (Parens' r) fit (omega arith) low (omega (arith, narrow)))
+    (λ nested opened more stop s.
+    let u = low-as s.syntax s.rest (reg_tokens r ++ Close ∷ (take 1 ts ++ more)) Open s.row (s.spelled ∙ ap (λ us. Open ∷ us) (append_assoc (reg_tokens r) (Close ∷ []) (take 1 ts ++ more))) in
+    let q = one_at 7 u.0 r (Close ∷ s.rest) (Close ∷ (take 1 ts ++ more)) (subst (λ x. IsTrue (reg_fits x)) u.1 s.grammatical) fit (any_form u.0) (any_form r) (omega arith) (omega arith) u.2 in
+    not_barred ts more s.rest bar s.stops (ap (drop 1) q.1))
 
 -- no name after a bar between names
 pub no_name : (depth inside : ℕ) (first : List ℕ) (names : List (List ℕ)) (ts : List Token) → ((name : List ℕ) (more : List Token) → ts ≡ Name name ∷ more → ⊥)
     → IsRegularMisread 1 depth inside (Name first ∷ (more_names names ++ Bar ∷ ts)) (misread.Unexpected (length ts))
-no_name depth inside first names ts missing = record {
-  front = Name first ∷ (more_names names ++ Bar ∷ []);
-  back = ts;
-  joined = ap (λ us. Name first ∷ us) (sym (append_assoc (more_names names) (Bar ∷ []) ts));
-  place = refl;
-  begun = begun 1 depth inside (Names' first (names ++ first ∷ [])) (Name first ∷ (more_names names ++ Bar ∷ [])) (Name first ∷ []) refl (omega arith) (omega arith) (omega arith)
-      (ap (λ us. Name first ∷ us) (sym (append-nil (more_names (names ++ first ∷ []))) ∙ (sym (more_names-push names first []) ∙ sym (append_assoc (more_names names) (Bar ∷ []) (Name first ∷ [])))));
-  none = λ nested opened more stop s.
-      let p = names_part s.syntax s.rest first ((more_names names ++ Bar ∷ []) ++ (take 1 ts ++ more)) s.row s.spelled in
-      let q = name_next names p.0 s.rest (take 1 ts ++ more) (omega (arith, s.stops)) (p.1 ∙ append_assoc (more_names names) (Bar ∷ []) (take 1 ts ++ more)) in
-      let f = first_taken ts more (Name q.0) q.1 stop q.2 in
-      missing q.0 f.0 f.1;
-}
-
--- a sign between two, with a left operand that is as deep as formulas may be
-pub sign_too_deep : (mark : Infix) (level depth inside : ℕ) (left : RegSyntax) (ts : List Token) → IsTrue (reg_fits left) → reg_form left < infix_row mark → infix_row mark ≤ level
-    → reg_nesting left ≤ depth → depth ≤ reg_nesting left → reg_parens left ≤ inside → IsRegularMisread level depth inside (reg_tokens left ++ infix_token mark ∷ ts)
-    (misread.TooLarge (suc (length ts)))
-sign_too_deep mark level depth inside left ts fit below above low full narrow = record {
-  front = reg_tokens left;
-  token = infix_token mark;
-  back = ts;
-  joined = refl;
-  place = refl;
-  begun = begun level depth inside left (reg_tokens left) [] fit (omega (arith, below, above)) low narrow (sym (append-nil (reg_tokens left)));
-  goes_on = (
-    reg_nesting (infixed mark left Anything'),
-    reg_parens (infixed mark left Anything'),
-    record {
-      syntax = infixed mark left Anything';
-      more = TrueWord ∷ [];
-      grammatical = infixed-fits mark left Anything' fit refl below (omega arith);
-      row = omega (arith, infixed-form mark left Anything', above);
-      nests = refl;
-      opens = refl;
-      spelled = infixed-tokens mark left Anything' ∙ sym (append_assoc (reg_tokens left) (infix_token mark ∷ []) (TrueWord ∷ []));
-    },
-  );
-  none = λ more w. let p = spine mark left w.it.syntax w.it.rest more fit below w.it.grammatical (omega (arith, w.it.stops, above)) w.it.spelled in omega (arith, p.left_below, w.it.nests, w.low, full);
-}
+no_name depth inside first names ts missing =
+    unexpected-here (BeginsRegular 1) (StandsRegular 1) depth inside (Name first ∷ (more_names names ++ Bar ∷ [])) ts _ _ (ap (λ us. Name first ∷ us) (append_assoc (more_names names) (Bar ∷ []) ts)) refl
+    (begun 1 depth inside (Names' first (names ++ first ∷ [])) (Name first ∷ (more_names names ++ Bar ∷ [])) (Name first ∷ []) refl (omega arith) (omega arith) (omega arith)
+    (ap (λ us. Name first ∷ us) (sym (append-nil (more_names (names ++ first ∷ []))) ∙ (sym (more_names-push names first []) ∙ sym (append_assoc (more_names names) (Bar ∷ []) (Name first ∷ []))))))
+    (λ nested opened more stop s.
+    let p = low-as s.syntax s.rest ((more_names names ++ Bar ∷ []) ++ (take 1 ts ++ more)) (Name first) s.row s.spelled in
+    let q = name_next names p.0 s.rest (take 1 ts ++ more) (omega (arith, s.stops)) (p.1 ∙ append_assoc (more_names names) (Bar ∷ []) (take 1 ts ++ more)) in
+    let f = first_taken ts more (Name q.0) q.1 stop q.2 in
+    missing q.0 f.0 f.1)
 
 pub repeated-fits : (mark : Repeat) (r : RegSyntax) → IsTrue (reg_fits r) → reg_form r ≤ 5 → IsTrue (reg_fits (repeated mark r))
 repeated-fits repeat.Star r fit low = all_true _ _ (le_true (reg_form r) 5 low) fit
 repeated-fits repeat.Plus r fit low = all_true _ _ (le_true (reg_form r) 5 low) fit
 
-pub repeated-form : (mark : Repeat) (r : RegSyntax) → reg_form (repeated mark r) ≡ 5
-repeated-form repeat.Star r = refl
-repeated-form repeat.Plus r = refl
+pub record IsRepeated (mark : Repeat) (r : RegSyntax) : Type 0 where
+  pub form : reg_form (repeated mark r) ≡ 5
+  pub nesting : reg_nesting (repeated mark r) ≡ 1 + reg_nesting r
+  pub parens : reg_parens (repeated mark r) ≡ reg_parens r
 
-pub repeated-nesting : (mark : Repeat) (r : RegSyntax) → reg_nesting (repeated mark r) ≡ 1 + reg_nesting r
-repeated-nesting repeat.Star r = refl
-repeated-nesting repeat.Plus r = refl
-
-pub repeated-parens : (mark : Repeat) (r : RegSyntax) → reg_parens (repeated mark r) ≡ reg_parens r
-repeated-parens repeat.Star r = refl
-repeated-parens repeat.Plus r = refl
-
--- a postfix sign after a formula that is as deep as formulas may be
-pub mark_too_deep : (mark : Repeat) (level depth inside : ℕ) (left : RegSyntax) (ts : List Token) → IsTrue (reg_fits left) → reg_form left ≤ 5 → 5 ≤ level
-    → reg_nesting left ≤ depth → depth ≤ reg_nesting left → reg_parens left ≤ inside → IsRegularMisread level depth inside (reg_tokens left ++ repeat_token mark ∷ ts)
-    (misread.TooLarge (suc (length ts)))
-mark_too_deep mark level depth inside left ts fit below above low full narrow = record {
-  front = reg_tokens left;
-  token = repeat_token mark;
-  back = ts;
-  joined = refl;
-  place = refl;
-  begun = begun level depth inside left (reg_tokens left) [] fit (omega (arith, below, above)) low narrow (sym (append-nil (reg_tokens left)));
-  goes_on = (
-    reg_nesting (repeated mark left),
-    reg_parens (repeated mark left),
-    record {
-      syntax = repeated mark left;
-      more = [];
-      grammatical = repeated-fits mark left fit below;
-      row = omega (arith, repeated-form mark left, above);
-      nests = refl;
-      opens = refl;
-      spelled = repeated-tokens mark left ∙ sym (append-nil (reg_tokens left ++ repeat_token mark ∷ []));
-    },
-  );
-  none = λ more w. let p = postfix_spine mark left w.it.syntax w.it.rest more fit below w.it.grammatical (omega (arith, w.it.stops, above)) w.it.spelled in omega (arith, p.left_below, w.it.nests, w.low, full);
-}
-
--- a bar or a sign between action formulas right after a postfix sign
-pub mark_followed : (mark : Repeat) (level depth inside : ℕ) (left : RegSyntax) (ts : List Token) → IsTrue (reg_fits left) → reg_form left ≤ 5 → 5 ≤ level
-    → reg_nesting left < depth → reg_parens left ≤ inside → reg_row ts < 5 → IsRegularMisread level depth inside (reg_tokens left ++ repeat_token mark ∷ ts) (misread.Unexpected (length ts))
-mark_followed mark level depth inside left ts fit below above low narrow next = record {
-  front = reg_tokens left ++ repeat_token mark ∷ [];
-  back = ts;
-  joined = sym (append_assoc (reg_tokens left) (repeat_token mark ∷ []) ts);
-  place = refl;
-  begun = begun level depth inside (repeated mark left) (reg_tokens left ++ repeat_token mark ∷ []) [] (repeated-fits mark left fit below) (omega (arith, repeated-form mark left, above))
-      (omega (arith, repeated-nesting mark left, low)) (omega (arith, repeated-parens mark left, narrow)) (repeated-tokens mark left ∙ sym (append-nil (reg_tokens left ++ repeat_token mark ∷ [])));
-  none = λ nested opened more stop s.
-      let p = postfix_spine mark left s.syntax s.rest (take 1 ts ++ more) fit below s.grammatical (omega (arith, s.stops, above))
-      (s.spelled ∙ append_assoc (reg_tokens left) (repeat_token mark ∷ []) (take 1 ts ++ more)) in
-      omega (arith, p.stops, row_taken ts more (omega arith), next);
-}
+pub repeated-is : (mark : Repeat) (r : RegSyntax) → IsRepeated mark r
+repeated-is repeat.Star r = record { form = refl; nesting = refl; parens = refl }
+repeated-is repeat.Plus r = record { form = refl; nesting = refl; parens = refl }

@@ -1,13 +1,12 @@
 -- Why the program's functions read no regular formula, by what they met.
-use Rattle.std.proofs.Common.{◌≡◌, ℕ, ◌+◌, ◌-◌, ◌<◌, ◌≤◌, inl, inr, true, false, List, [], ◌∷◌, ◌++◌, length, drop, refl, sym, ap, ◌∙◌, subst, arith, append_assoc}
-use Rattle.std.specs.Prelude.{IsTrue, IfOk, IfErr, MatchResult, Result, Ok, Err, Some, None, suc, ◌==◌, ◌||◌}
+use Rattle.std.proofs.Common.{◌≡◌, ℕ, ◌+◌, ◌-◌, ◌<◌, ◌≤◌, inl, inr, true, false, List, [], ◌∷◌, ◌++◌, length, drop, refl, sym, ap, ◌∙◌, subst, arith, append_assoc, true≢false, take, append-nil}
+use Rattle.std.specs.Prelude.{IsTrue, MatchResult, Result, Ok, Err, Some, suc}
 use Rattle.std.proofs.lemmas.Bool.{cases_eq}
-use Rattle.std.proofs.lemmas.List.{length-map}
-use Rattle.formula.specs.Token.{Token, Name, AndSign, OrSign, ImpliesSign, Bar, NotSign, Open, Close, Dot, ChoiceSign, PlusSign, StarSign}
-use Rattle.formula.specs.Syntax.{Parens', reg_form, reg_fits, reg_tokens, reg_nesting, reg_parens, more_names}
-use Rattle.formula.specs.Written.{words, token_of, reg_syntax, infix_token, infix_row, repeat_token}
-use Rattle.formula.specs.Read.{reg_row, is_word, IsWordOf, IsRegular, IsRepeated, IsJoined, IsSuffix, MayGoOn, MatchBar, regular_tokens}
-use Rattle.formula.specs.Misread.{IsRegularMisread, IsMissing, IsNameMissing}
+use Rattle.formula.specs.Token.{Token, Name, AndSign, OrSign, ImpliesSign, Bar, NotSign, Open, Close, Dot, ChoiceSign, PlusSign, StarSign, TrueWord}
+use Rattle.formula.specs.Syntax.{Names', Parens', Not', reg_form, reg_fits, reg_tokens, reg_nesting, reg_parens, more_names, Anything'}
+use Rattle.formula.specs.Written.{words, token_of, reg_syntax, infix_token, infix_row, repeated, repeat_token, infixed}
+use Rattle.formula.specs.Read.{reg_row, is_word, IsWordOf, IsRegular, IsRegularOf, MayGoOn, MatchBar, regular_tokens}
+use Rattle.formula.specs.Misread.{IsRegularMisread, RegularOf, ReadsRegular, LongerRegular, IsMissing, IsNameMissing, BeginsRegular, StandsRegular}
 use Rattle.formula.specs.declared.token.Token.{Token as Lexeme}
 use Rattle.formula.specs.declared.token.Token.TheVariants as lexeme
 use Rattle.formula.specs.declared.token.Placed.{Placed}
@@ -15,11 +14,15 @@ use Rattle.formula.specs.declared.misread.Misread.{Misread}
 use Rattle.formula.specs.declared.misread.Misread.TheVariants as misread
 use Rattle.formula.specs.declared.written.Infix.{Infix}
 use Rattle.formula.specs.declared.written.Repeat.{Repeat}
+use Rattle.formula.specs.declared.written.WrittenRegular.{WrittenRegular}
 use Rattle.formula.specs.declared.regular.ReadRegular.{ReadRegular}
-use Rattle.formula.proofs.Regulars.{words-next, bar_first, infixed-form}
-use Rattle.formula.proofs.RegularSpine.{sign_row, repeat_row, not_postfix}
-use Rattle.formula.proofs.RegularPlaces.{opens_regular, in_joined}
-use Rattle.formula.proofs.RegularEnds.{no_token, no_start, not_too_deep, open_too_many, word_barred, no_close, close_barred, no_name, sign_too_deep, mark_too_deep, mark_followed, repeated-fits, repeated-form, repeated-nesting, repeated-parens}
+pub use Rattle.formula.proofs.Regulars.{words-length}
+use Rattle.formula.proofs.Regulars.{words-next, bar_first, low-read, all_true, le_true, repeated-tokens, infixed-tokens, infixed-is, infixed-fits}
+use Rattle.formula.proofs.Misreads.{unexpected-here, too-large-here}
+use Rattle.formula.proofs.RegularUnique.{any_form}
+use Rattle.formula.proofs.RegularSpine.{sign_row, repeat_row, not_postfix, one_at, spine, postfix_spine}
+use Rattle.formula.proofs.RegularPlaces.{opens_regular, in_joined, row_taken, above_taken, first_taken, low-as}
+use Rattle.formula.proofs.RegularEnds.{no_token, no_start, not_too_deep, open_too_many, word_barred, close_barred, no_name, repeated-fits, repeated-is, begins, begun, begun_left}
 
 -- no token has the row 1
 pub row_not_one : (ts : List Token) → 0 < reg_row ts → 1 < reg_row ts
@@ -39,9 +42,6 @@ moved level d i ts us e f p q h = subst (λ x. IsRegularMisread level d i x e) (
 
 first-words : (tokens : List Placed) (first : Placed) (rest : List Placed) (t : Token) → tokens ≡ first ∷ rest → token_of first.token ≡ t → words tokens ≡ t ∷ words rest
 first-words tokens first rest t e h = ap words e ∙ ap (λ u. u ∷ words rest) h
-
-pub words-length : (tokens : List Placed) → length (words tokens) ≡ length tokens
-words-length tokens = length-map tokens (λ p. token_of p.token)
 
 left-length : (tokens : List Placed) (first : Placed) (rest : List Placed) → tokens ≡ first ∷ rest → length tokens ≡ suc (length (words rest))
 left-length tokens first rest e = ap length e ∙ ap suc (sym (words-length rest))
@@ -81,52 +81,49 @@ negation-none d i tokens first rest e split word a b c q =
 abbrev pub Unbarred : ReadRegular → Result ReadRegular Misread → Type 0
 Unbarred atom result = MatchResult result (λ r. (r ≡ atom) × (0 < reg_row (words r.rest.now))) (λ e. (e ≡ misread.Unexpected (length atom.rest.now)) × (reg_row (words atom.rest.now) ≡ 0))
 
-pub unbarred-stops : (atom : ReadRegular) (result : Result ReadRegular Misread) → Unbarred atom result → IfOk result (λ r. 1 < reg_row (words r.rest.now))
-unbarred-stops atom (Ok r) h = row_not_one (words r.rest.now) h.1
-unbarred-stops atom (Err e) h = tt
-
-pub unbarred-ok : (atom : ReadRegular) (P : ReadRegular → Type 0) (result : Result ReadRegular Misread) → Unbarred atom result → P atom → IfOk result P
-unbarred-ok atom P (Ok r) h p = subst P (sym h.0) p
-unbarred-ok atom P (Err e) h p = tt
-
-pub word-refused : (d i : ℕ) (tokens : List Placed) (first : Placed) (atom : ReadRegular) (result : Result ReadRegular Misread) → tokens ≡ first ∷ atom.rest.now → IsWordOf (token_of first.token) (Some atom.syntax)
-    → Unbarred atom result → IfErr result (IsRegularMisread 1 d i (words tokens))
-word-refused d i tokens first atom (Ok r) split w h = tt
-word-refused d i tokens first atom (Err e) split w h =
-    moved 1 d i (words tokens) (token_of first.token ∷ words atom.rest.now) e (misread.Unexpected (length (words atom.rest.now))) (ap words split)
-    (h.0 ∙ ap misread.Unexpected (sym (words-length atom.rest.now)))
-    (word_barred d i (reg_syntax atom.syntax) (token_of first.token) (words atom.rest.now) w.0 w.1 w.2 w.3 w.4 w.5 h.1)
-
-pub word-is : (d i : ℕ) (token : Token) (atom : ReadRegular) → IsWordOf token (Some atom.syntax) → atom.height ≡ 0 → IsRegular 1 d i atom
-word-is d i token atom w h = record { grammatical = w.4; row = omega (arith, w.1); height = h ∙ sym w.2; low = omega (arith, h); narrow = omega (arith, w.3) }
-
-pub word-eaten : (tokens : List Placed) (first : Placed) (atom : ReadRegular) → tokens ≡ first ∷ atom.rest.now → IsWordOf (token_of first.token) (Some atom.syntax) → regular_tokens atom ≡ words tokens
-word-eaten tokens first atom split w = ap (λ ts. ts ++ words atom.rest.now) w.0 ∙ sym (ap words split)
+pub word-unbarred : (d i : ℕ) (tokens : List Placed) (first : Placed) (rest : List Placed) (w : WrittenRegular) (atom : ReadRegular) (result : Result ReadRegular Misread) → tokens ≡ first ∷ rest
+    → IsWordOf (token_of first.token) (Some w) → IsRegularOf w 0 rest atom → Unbarred atom result → RegularOf 1 d i (words tokens) result
+word-unbarred d i tokens first rest w atom (Ok r) split word b h =
+    let above : 0 < reg_row (words rest) = omega (arith, ap (λ ps. reg_row (words ps)) b.after, ap (λ (x : ReadRegular). reg_row (words x.rest.now)) h.0, h.1) in
+    subst (ReadsRegular 1 d i (words tokens)) (sym h.0) (low-read d i (words tokens) w (reg_syntax w) 0 rest atom b refl word.4 (omega (arith, word.1)) (sym word.2) (omega (arith, word.2)) (omega (arith, word.3))
+    (row_not_one (words rest) above) (ap (λ ts. ts ++ words rest) word.0 ∙ sym (ap words split)))
+word-unbarred d i tokens first rest w atom (Err e) split word b h =
+    moved 1 d i (words tokens) (token_of first.token ∷ words rest) e (misread.Unexpected (length (words rest))) (ap words split)
+    (h.0 ∙ ap misread.Unexpected (ap (λ ps. length ps) b.after ∙ sym (words-length rest)))
+    (word_barred d i (reg_syntax w) (token_of first.token) (words rest) word.0 word.1 word.2 word.3 word.4 word.5 (sym (ap (λ ps. reg_row (words ps)) b.after) ∙ h.1))
 
 -- what was read in parentheses, and the closing one after it
-pub parens-eaten : (tokens : List Placed) (inner atom : ReadRegular) → regular_tokens inner ≡ words tokens → words inner.rest.now ≡ Close ∷ words atom.rest.now
-    → reg_syntax atom.syntax ≡ Parens' (reg_syntax inner.syntax) → regular_tokens atom ≡ Open ∷ words tokens
-parens-eaten tokens inner atom eaten close e =
-    ap (λ s. reg_tokens s ++ words atom.rest.now) e
-    ∙ ap (λ ts. Open ∷ ts) (append_assoc (reg_tokens (reg_syntax inner.syntax)) (Close ∷ []) (words atom.rest.now) ∙ (ap (λ ts. reg_tokens (reg_syntax inner.syntax) ++ ts) (sym close) ∙ eaten))
+pub parens-unbarred : (d i : ℕ) (us : List Token) (inner : ReadRegular) (rest : List Placed) (w : WrittenRegular) (atom : ReadRegular) (result : Result ReadRegular Misread) → ReadsRegular 7 d i us inner
+    → words inner.rest.now ≡ Close ∷ words rest → reg_syntax w ≡ Parens' (reg_syntax inner.syntax.value) → IsRegularOf w inner.height rest atom → Unbarred atom result → RegularOf 1 d (i + 1) (Open ∷ us) result
+parens-unbarred d i us inner rest w atom (Ok r) s close is b h =
+    let x = reg_syntax inner.syntax.value in
+    let above : 0 < reg_row (words rest) = omega (arith, ap (λ ps. reg_row (words ps)) b.after, ap (λ (x : ReadRegular). reg_row (words x.rest.now)) h.0, h.1) in
+    subst (ReadsRegular 1 d (i + 1) (Open ∷ us)) (sym h.0) (low-read d (i + 1) (Open ∷ us) w (Parens' x) inner.height rest atom b is s.sound.grammatical (omega arith) s.sound.height (omega (arith, s.sound.height, s.sound.low))
+    (omega (arith, s.sound.narrow)) (row_not_one (words rest) above) (ap (λ ts. Open ∷ ts) (append_assoc (reg_tokens x) (Close ∷ []) (words rest) ∙ (ap (λ ts. reg_tokens x ++ ts) (sym close) ∙ s.eaten))))
+parens-unbarred d i us inner rest w atom (Err e) s close is b h =
+    let x = reg_syntax inner.syntax.value in
+    moved 1 d (i + 1) (Open ∷ us) (Open ∷ (reg_tokens x ++ Close ∷ words rest)) e (misread.Unexpected (length (words rest))) (ap (λ ts. Open ∷ ts) (sym s.eaten ∙ ap (λ ts. reg_tokens x ++ ts) close))
+    (h.0 ∙ ap misread.Unexpected (ap (λ ps. length ps) b.after ∙ sym (words-length rest)))
+    (close_barred d i x (words rest) s.sound.grammatical (omega (arith, s.sound.height, s.sound.low)) s.sound.narrow (sym (ap (λ ps. reg_row (words ps)) b.after) ∙ h.1))
 
-pub parens-barred : (d i : ℕ) (tokens : List Placed) (inner atom : ReadRegular) (result : Result ReadRegular Misread) → regular_tokens inner ≡ words tokens → IsRegular 7 d i inner
-    → words inner.rest.now ≡ Close ∷ words atom.rest.now → Unbarred atom result → IfErr result (IsRegularMisread 1 d (i + 1) (Open ∷ words tokens))
-parens-barred d i tokens inner atom (Ok r) eaten s close h = tt
-parens-barred d i tokens inner atom (Err e) eaten s close h =
-    let r = reg_syntax inner.syntax in
-    let ts = words atom.rest.now in
-    moved 1 d (i + 1) (Open ∷ words tokens) (Open ∷ (reg_tokens r ++ Close ∷ ts)) e (misread.Unexpected (length ts)) (ap (λ us. Open ∷ us) (sym eaten ∙ ap (λ us. reg_tokens r ++ us) close))
-    (h.0 ∙ ap misread.Unexpected (sym (words-length atom.rest.now)))
-    (close_barred d i r ts s.grammatical (omega (arith, s.height, s.low)) s.narrow h.1)
-
-pub parens-unclosed : (d i : ℕ) (tokens : List Placed) (inner : ReadRegular) (e : Misread) → regular_tokens inner ≡ words tokens → IsRegular 7 d i inner → 7 < reg_row (words inner.rest.now)
-    → IsMissing Close (words inner.rest.now) e → IsRegularMisread 1 d (i + 1) (Open ∷ words tokens) e
-parens-unclosed d i tokens inner e eaten s stops missing =
-    let r = reg_syntax inner.syntax in
+pub parens-unclosed : (d i : ℕ) (us : List Token) (inner : ReadRegular) (e : Misread) → ReadsRegular 7 d i us inner → IsMissing Close (words inner.rest.now) e → IsRegularMisread 1 d (i + 1) (Open ∷ us) e
+parens-unclosed d i us inner e s missing =
+    let r = reg_syntax inner.syntax.value in
     let ts = words inner.rest.now in
-    moved 1 d (i + 1) (Open ∷ words tokens) (Open ∷ (reg_tokens r ++ ts)) e (misread.Unexpected (length ts)) (ap (λ us. Open ∷ us) (sym eaten)) missing.0
-    (no_close d i r ts s.grammatical (omega (arith, s.height, s.low)) s.narrow stops missing.1)
+    unexpected-here (BeginsRegular 1) (StandsRegular 1) d (i + 1) (Open ∷ reg_tokens r) ts (Open ∷ us) e (ap (λ us. Open ∷ us) s.eaten) missing.0
+    (begun 1 d (i + 1) (Parens' r) (Open ∷ reg_tokens r) (Close ∷ []) s.sound.grammatical (omega arith) (omega (arith, s.sound.height, s.sound.low)) (omega (arith, s.sound.narrow)) refl)
+    (λ nested opened more stop x.
+    let u = low-as x.syntax x.rest (reg_tokens r ++ (take 1 ts ++ more)) Open x.row x.spelled in
+    let q = one_at 7 u.0 r (Close ∷ x.rest) (take 1 ts ++ more) (subst (λ y. IsTrue (reg_fits y)) u.1 x.grammatical) s.sound.grammatical (any_form u.0) (any_form r) (omega arith) (above_taken 7 ts more stop s.stops) u.2 in
+    let f = first_taken ts more Close x.rest stop (sym q.1) in
+    missing.1 f.0 f.1)
+
+-- what was read under a `!`
+pub not-read : (d i : ℕ) (us : List Token) (inner : ReadRegular) (w : WrittenRegular) (r : ReadRegular) → IsRegularOf w (inner.height + 1) inner.rest.now r → reg_syntax w ≡ Not' (reg_syntax inner.syntax.value)
+    → ReadsRegular 1 d i us inner → ReadsRegular 1 (d + 1) i (NotSign ∷ us) r
+not-read d i us inner w r b is s =
+    low-read (d + 1) i (NotSign ∷ us) w (Not' (reg_syntax inner.syntax.value)) (inner.height + 1) inner.rest.now r b is (all_true _ _ (le_true _ _ s.sound.row) s.sound.grammatical) (omega arith) (omega (arith, s.sound.height))
+    (omega (arith, s.sound.height, s.sound.low)) s.sound.narrow s.stops (ap (λ ts. NotSign ∷ ts) s.eaten)
 
 pub names-unnamed : (d i : ℕ) (first : List ℕ) (tokens : List Placed) (n : ℕ) (names : List (List ℕ)) (e : Misread) → words tokens ≡ more_names names ++ words (drop n tokens) → MatchBar (words (drop n tokens)) true
     → IsNameMissing (words (drop (n + 1) tokens)) e → IsRegularMisread 1 d i (Name first ∷ words tokens) e
@@ -138,10 +135,35 @@ names-unnamed d i first tokens n names e whole bar missing =
     (ap (λ us. Name first ∷ us) (whole ∙ ap (λ us. more_names names ++ us) (b ∙ ap (λ us. Bar ∷ us) (sym p.1)))) missing.0
     (no_name d i first names ts missing.1)
 
+-- the last of the names, with which no bar goes on
+no_bar : (ts : List Token) → MatchBar ts false → 0 < reg_row ts
+no_bar [] h = h.1
+no_bar (Bar ∷ ts) h = absurd (true≢false (sym h))
+no_bar (t ∷ ts) h = h.1
+
+pub names-read : (d i : ℕ) (first : List ℕ) (tokens rest : List Placed) (names : List (List ℕ)) (w : WrittenRegular) (r : ReadRegular) → IsRegularOf w 0 rest r → reg_syntax w ≡ Names' first names
+    → words tokens ≡ more_names names ++ words rest → MatchBar (words rest) false → ReadsRegular 1 d i (Name first ∷ words tokens) r
+names-read d i first tokens rest names w r b is whole bar =
+    low-read d i (Name first ∷ words tokens) w (Names' first names) 0 rest r b is refl (omega arith) refl (omega arith) (omega arith) (row_not_one (words rest) (no_bar (words rest) bar)) (ap (λ ts. Name first ∷ ts) (sym whole))
+
+-- what was read is of each weaker row, and may go on
+pub at-row : (level d i : ℕ) (ts : List Token) (r : ReadRegular) → 1 ≤ level → ReadsRegular 1 d i ts r → IsRegular level d i r × MayGoOn r
+at-row level d i ts r above s = (
+  record { grammatical = s.sound.grammatical; row = omega (arith, s.sound.row); height = s.sound.height; low = s.sound.low; narrow = s.sound.narrow },
+  inl (omega (arith, s.sound.row, s.stops)),
+)
+
+-- where a formula may go on, some token comes next that goes on or none
+pub some_row : (left : ReadRegular) → MayGoOn left → 0 < reg_row (words left.rest.now)
+some_row left on = elim on [
+  | inl below ↦ omega (arith, below)
+  | inr five ↦ omega (arith, five.1)
+]
+
 -- a formula that may go on with the sign after it is an operand of that sign
-pub may_join : (left : ReadRegular) (first : Placed) (rest : List Placed) (mark : Infix) → MayGoOn left → left.rest.now ≡ first ∷ rest → token_of first.token ≡ infix_token mark → reg_form (reg_syntax left.syntax) < infix_row mark
-may_join left first rest mark on split token =
-    let row : reg_row (words left.rest.now) ≡ infix_row mark = ap reg_row (first-words left.rest.now first rest (infix_token mark) split token) ∙ sign_row mark (words rest) in
+pub may_join : (left : ReadRegular) (us : List Token) (mark : Infix) → MayGoOn left → words left.rest.now ≡ infix_token mark ∷ us → reg_form (reg_syntax left.syntax.value) < infix_row mark
+may_join left us mark on front =
+    let row : reg_row (words left.rest.now) ≡ infix_row mark = ap reg_row front ∙ sign_row mark us in
     elim on [
       | inl below ↦ omega (arith, below, row)
       | inr five ↦ elim (not_postfix mark) [
@@ -150,97 +172,91 @@ may_join left first rest mark on split token =
       ]
     ]
 
-pub may_repeat : (left : ReadRegular) (first : Placed) (rest : List Placed) (mark : Repeat) → MayGoOn left → left.rest.now ≡ first ∷ rest → token_of first.token ≡ repeat_token mark → reg_form (reg_syntax left.syntax) ≤ 5
-may_repeat left first rest mark on split token =
-    let row : reg_row (words left.rest.now) ≡ 5 = ap reg_row (first-words left.rest.now first rest (repeat_token mark) split token) ∙ repeat_row mark (words rest) in
+may_repeat : (left : ReadRegular) (us : List Token) (mark : Repeat) → MayGoOn left → words left.rest.now ≡ repeat_token mark ∷ us → reg_form (reg_syntax left.syntax.value) ≤ 5
+may_repeat left us mark on front =
+    let row : reg_row (words left.rest.now) ≡ 5 = ap reg_row front ∙ repeat_row mark us in
     elim on [
       | inl below ↦ omega (arith, below, row)
       | inr five ↦ five.0
     ]
 
-pub join-deep : (level d i : ℕ) (left : ReadRegular) (first : Placed) (rest : List Placed) (mark : Infix) (e : Misread) → IsRegular level d i left → MayGoOn left → infix_row mark ≤ level → left.rest.now ≡ first ∷ rest
-    → token_of first.token ≡ infix_token mark → d ≤ left.height → e ≡ misread.TooLarge (length left.rest.now) → IsRegularMisread level d i (regular_tokens left) e
-join-deep level d i left first rest mark e l on above split token full q =
-    let r = reg_syntax left.syntax in
-    moved level d i (regular_tokens left) (reg_tokens r ++ infix_token mark ∷ words rest) e (misread.TooLarge (suc (length (words rest))))
-    (ap (λ us. reg_tokens r ++ us) (first-words left.rest.now first rest (infix_token mark) split token)) (q ∙ ap misread.TooLarge (left-length left.rest.now first rest split))
-    (sign_too_deep mark level d i r (words rest) l.grammatical (may_join left first rest mark on split token) above (omega (arith, l.height, l.low)) (omega (arith, l.height, full)) l.narrow)
+-- the number of tokens left at a sign
+at-sign : (placed : List Placed) (t : Token) (us : List Token) → words placed ≡ t ∷ us → length placed ≡ suc (length us)
+at-sign placed t us front = sym (words-length placed) ∙ ap (λ ts. length ts) front
 
-pub join-right : (level d i : ℕ) (left : ReadRegular) (first : Placed) (rest : List Placed) (mark : Infix) (e : Misread) → IsRegular level d i left → MayGoOn left → infix_row mark ≤ level → left.rest.now ≡ first ∷ rest
-    → token_of first.token ≡ infix_token mark → left.height < d → IsRegularMisread (infix_row mark) (d - 1) i (words rest) e → IsRegularMisread level d i (regular_tokens left) e
-join-right level d i left first rest mark e l on above split token low h =
-    let r = reg_syntax left.syntax in
-    moved level d i (regular_tokens left) (reg_tokens r ++ infix_token mark ∷ words rest) e e (ap (λ us. reg_tokens r ++ us) (first-words left.rest.now first rest (infix_token mark) split token)) refl
-    (in_joined mark level d i r (words rest) e l.grammatical (may_join left first rest mark on split token) above (omega (arith, l.height, low)) l.narrow h)
+pub join-deep : (mark : Infix) (level d i : ℕ) (left : ReadRegular) (us : List Token) (e : Misread) → IsRegular level d i left → MayGoOn left → infix_row mark ≤ level → words left.rest.now ≡ infix_token mark ∷ us
+    → d ≤ left.height → e ≡ misread.TooLarge (length left.rest.now) → IsRegularMisread level d i (regular_tokens left) e
+join-deep mark level d i left us e l on above front full q =
+    let r = reg_syntax left.syntax.value in
+    let below = may_join left us mark on front in
+    too-large-here (BeginsRegular level) (StandsRegular level) d i _ _ (reg_tokens r) (infix_token mark) us (regular_tokens left) e (ap (λ us. reg_tokens r ++ us) (sym front)) (q ∙ ap misread.TooLarge (at-sign left.rest.now _ us front))
+    (begun_left level d i r l.grammatical (omega (arith, below, above)) (omega (arith, l.height, l.low)) l.narrow)
+    (begins level (infixed mark r Anything') (reg_tokens r ++ infix_token mark ∷ []) (TrueWord ∷ []) (infixed-fits mark r Anything' l.grammatical refl below (omega arith)) (omega (arith, (infixed-is mark r Anything').form, above))
+    (infixed-tokens mark r Anything' ∙ sym (append_assoc (reg_tokens r) (infix_token mark ∷ []) (TrueWord ∷ []))))
+    (λ more w.
+    let p = spine mark r w.it.syntax w.it.rest more l.grammatical below w.it.grammatical (omega (arith, w.it.stops, above)) w.it.spelled in
+    omega (arith, p.left_below, w.it.nests, w.low, full, l.height))
 
-pub repeat-deep : (level d i : ℕ) (left : ReadRegular) (first : Placed) (rest : List Placed) (mark : Repeat) (e : Misread) → IsRegular level d i left → MayGoOn left → 5 ≤ level → left.rest.now ≡ first ∷ rest
-    → token_of first.token ≡ repeat_token mark → d ≤ left.height → e ≡ misread.TooLarge (length left.rest.now) → IsRegularMisread level d i (regular_tokens left) e
-repeat-deep level d i left first rest mark e l on above split token full q =
-    let r = reg_syntax left.syntax in
-    moved level d i (regular_tokens left) (reg_tokens r ++ repeat_token mark ∷ words rest) e (misread.TooLarge (suc (length (words rest))))
-    (ap (λ us. reg_tokens r ++ us) (first-words left.rest.now first rest (repeat_token mark) split token)) (q ∙ ap misread.TooLarge (left-length left.rest.now first rest split))
-    (mark_too_deep mark level d i r (words rest) l.grammatical (may_repeat left first rest mark on split token) above (omega (arith, l.height, l.low)) (omega (arith, l.height, full)) l.narrow)
+pub join-right : (mark : Infix) (level d i : ℕ) (left : ReadRegular) (us : List Token) (e : Misread) → IsRegular level d i left → MayGoOn left → infix_row mark ≤ level → words left.rest.now ≡ infix_token mark ∷ us
+    → left.height < d → IsRegularMisread (infix_row mark) (d - 1) i us e → IsRegularMisread level d i (regular_tokens left) e
+join-right mark level d i left us e l on above front low h =
+    let r = reg_syntax left.syntax.value in
+    moved level d i (regular_tokens left) (reg_tokens r ++ infix_token mark ∷ us) e e (ap (λ us. reg_tokens r ++ us) front) refl
+    (in_joined mark level d i r us e l.grammatical (may_join left us mark on front) above (omega (arith, l.height, low)) l.narrow h)
 
-pub repeat-followed : (level d i : ℕ) (left : ReadRegular) (first : Placed) (rest : List Placed) (mark : Repeat) (e : Misread) → IsRegular level d i left → MayGoOn left → 5 ≤ level → left.rest.now ≡ first ∷ rest
-    → token_of first.token ≡ repeat_token mark → left.height < d → e ≡ misread.Unexpected (length rest) → reg_row (words rest) < 5 → IsRegularMisread level d i (regular_tokens left) e
-repeat-followed level d i left first rest mark e l on above split token low q next =
-    let r = reg_syntax left.syntax in
-    moved level d i (regular_tokens left) (reg_tokens r ++ repeat_token mark ∷ words rest) e (misread.Unexpected (length (words rest)))
-    (ap (λ us. reg_tokens r ++ us) (first-words left.rest.now first rest (repeat_token mark) split token)) (q ∙ ap misread.Unexpected (sym (words-length rest)))
-    (mark_followed mark level d i r (words rest) l.grammatical (may_repeat left first rest mark on split token) above (omega (arith, l.height, low)) l.narrow next)
+pub repeat-deep : (mark : Repeat) (level d i : ℕ) (left : ReadRegular) (us : List Token) (e : Misread) → IsRegular level d i left → MayGoOn left → 5 ≤ level → words left.rest.now ≡ repeat_token mark ∷ us
+    → d ≤ left.height → e ≡ misread.TooLarge (length left.rest.now) → IsRegularMisread level d i (regular_tokens left) e
+repeat-deep mark level d i left us e l on above front full q =
+    let r = reg_syntax left.syntax.value in
+    let below = may_repeat left us mark on front in
+    too-large-here (BeginsRegular level) (StandsRegular level) d i _ _ (reg_tokens r) (repeat_token mark) us (regular_tokens left) e (ap (λ us. reg_tokens r ++ us) (sym front)) (q ∙ ap misread.TooLarge (at-sign left.rest.now _ us front))
+    (begun_left level d i r l.grammatical (omega (arith, below, above)) (omega (arith, l.height, l.low)) l.narrow)
+    (begins level (repeated mark r) (reg_tokens r ++ repeat_token mark ∷ []) [] (repeated-fits mark r l.grammatical below) (omega (arith, (repeated-is mark r).form, above))
+    (repeated-tokens mark r ∙ sym (append-nil (reg_tokens r ++ repeat_token mark ∷ []))))
+    (λ more w.
+    let p = postfix_spine mark r w.it.syntax w.it.rest more l.grammatical below w.it.grammatical (omega (arith, w.it.stops, above)) w.it.spelled in
+    omega (arith, p.left_below, w.it.nests, w.low, full, l.height))
 
--- a formula under a postfix sign
-pub repeated-is : (level d i : ℕ) (left r : ReadRegular) (mark : Repeat) → IsRegular level d i left → reg_form (reg_syntax left.syntax) ≤ 5 → 5 ≤ level → left.height < d → IsRepeated left mark r → IsRegular level d i r
-repeated-is level d i left r mark l below above low j =
-    let e = j.syntax in
+pub repeat-followed : (mark : Repeat) (level d i : ℕ) (left : ReadRegular) (rest : List Placed) (e : Misread) → IsRegular level d i left → MayGoOn left → 5 ≤ level → words left.rest.now ≡ repeat_token mark ∷ words rest
+    → left.height < d → e ≡ misread.Unexpected (length rest) → reg_row (words rest) < 5 → IsRegularMisread level d i (regular_tokens left) e
+repeat-followed mark level d i left rest e l on above front low q next =
+    let r = reg_syntax left.syntax.value in
+    let ts = words rest in
+    let front' : List Token = reg_tokens r ++ repeat_token mark ∷ [] in
+    let below = may_repeat left ts mark on front in
+    let is = repeated-is mark r in
+    unexpected-here (BeginsRegular level) (StandsRegular level) d i front' ts (regular_tokens left) e (append_assoc (reg_tokens r) (repeat_token mark ∷ []) ts ∙ ap (λ us. reg_tokens r ++ us) (sym front))
+    (q ∙ ap misread.Unexpected (sym (words-length rest)))
+    (begun level d i (repeated mark r) front' [] (repeated-fits mark r l.grammatical below) (omega (arith, is.form, above)) (omega (arith, is.nesting, low, l.height)) (omega (arith, is.parens, l.narrow))
+    (repeated-tokens mark r ∙ sym (append-nil front')))
+    (λ nested opened more stop s.
+    let p = postfix_spine mark r s.syntax s.rest (take 1 ts ++ more) l.grammatical below s.grammatical (omega (arith, s.stops, above)) (s.spelled ∙ append_assoc (reg_tokens r) (repeat_token mark ∷ []) (take 1 ts ++ more)) in
+    omega (arith, p.stops, row_taken ts more (omega arith), next))
+
+-- a formula under a postfix sign, which may go on where no sign of action formulas comes next
+pub repeated-read : (mark : Repeat) (level depth inside : ℕ) (rest : List Placed) (left : ReadRegular) (w : WrittenRegular) (r : ReadRegular) → IsRegular level depth inside left → MayGoOn left
+    → words left.rest.now ≡ repeat_token mark ∷ words rest → 5 ≤ level → left.height < depth → 5 ≤ reg_row (words rest)
+    → IsRegularOf w (left.height + 1) rest r → reg_syntax w ≡ repeated mark (reg_syntax left.syntax.value) → LongerRegular level depth inside left r
+repeated-read mark level depth inside rest left w r l on front above low stops b is =
+    let f = reg_syntax left.syntax.value in
+    let e : reg_syntax r.syntax.value ≡ repeated mark f = ap reg_syntax b.is ∙ is in
+    let own : reg_form (reg_syntax r.syntax.value) ≡ 5 = ap reg_form e ∙ (repeated-is mark f).form in
+    let row : reg_row (words r.rest.now) ≡ reg_row (words rest) = ap (λ ps. reg_row (words ps)) b.after in
+    let deep : reg_nesting (reg_syntax r.syntax.value) ≡ 1 + reg_nesting f = ap reg_nesting e ∙ (repeated-is mark f).nesting in
     record {
-      grammatical = subst (λ s. IsTrue (reg_fits s)) (sym e) (repeated-fits mark (reg_syntax left.syntax) l.grammatical below);
-      row = let f : reg_form (reg_syntax r.syntax) ≡ 5 = ap reg_form e ∙ repeated-form mark (reg_syntax left.syntax) in omega arith;
-      height =
-          let f : reg_nesting (reg_syntax r.syntax) ≡ 1 + reg_nesting (reg_syntax left.syntax) = ap reg_nesting e ∙ repeated-nesting mark (reg_syntax left.syntax) in
-          omega (arith, j.height, l.height, f);
-      low = omega (arith, j.height, low);
-      narrow = let f : reg_parens (reg_syntax r.syntax) ≡ reg_parens (reg_syntax left.syntax) = ap reg_parens e ∙ repeated-parens mark (reg_syntax left.syntax) in omega (arith, f, l.narrow);
+      eaten =
+          ap (λ ts. ts ++ words r.rest.now) (ap reg_tokens e ∙ repeated-tokens mark f) ∙ append_assoc (reg_tokens f) (repeat_token mark ∷ []) (words r.rest.now)
+          ∙ ap (λ ps. reg_tokens f ++ (repeat_token mark ∷ words ps)) b.after ∙ ap (λ ts. reg_tokens f ++ ts) (sym front);
+      sound = record {
+        grammatical = subst (λ x. IsTrue (reg_fits x)) (sym e) (repeated-fits mark f l.grammatical (may_repeat left (words rest) mark on front));
+        row = omega arith;
+        height = omega (arith, b.high, l.height);
+        low = omega (arith, b.high);
+        narrow = omega (arith, ap reg_parens e ∙ (repeated-is mark f).parens, l.narrow);
+      };
+      onward = elim (cases_eq (reg_row (words rest)) 5) [
+        | inl five ↦ inr (omega (arith, own), row ∙ five)
+        | inr other ↦ inl (omega (arith, own, row, stops, other))
+      ];
+      shorter = omega (arith, ap (λ ps. length ps) b.after, words-length rest, at-sign left.rest.now _ (words rest) front);
     }
-
--- it may go on where no sign of action formulas comes next
-pub repeated-onward : (left r : ReadRegular) (rest : List Placed) (mark : Repeat) → IsRepeated left mark r → r.rest.now ≡ rest → 5 ≤ reg_row (words rest) → MayGoOn r
-repeated-onward left r rest mark j after stops =
-    let form : reg_form (reg_syntax r.syntax) ≡ 5 = ap reg_form j.syntax ∙ repeated-form mark (reg_syntax left.syntax) in
-    let row : reg_row (words r.rest.now) ≡ reg_row (words rest) = ap (λ ps. reg_row (words ps)) after in
-    elim (cases_eq (reg_row (words rest)) 5) [
-      | inl five ↦ inr (omega (arith, form), row ∙ five)
-      | inr other ↦ inl (omega (arith, form, row, stops, other))
-    ]
-
-pub joined-onward : (left right r : ReadRegular) (mark : Infix) → IsJoined left mark right r → r.rest.now ≡ right.rest.now → infix_row mark < reg_row (words right.rest.now) → MayGoOn r
-joined-onward left right r mark j after stops =
-    let form : reg_form (reg_syntax r.syntax) ≡ infix_row mark = ap reg_form j.syntax ∙ infixed-form mark (reg_syntax left.syntax) (reg_syntax right.syntax) in
-    let row : reg_row (words r.rest.now) ≡ reg_row (words right.rest.now) = ap (λ ps. reg_row (words ps)) after in
-    inl (omega (arith, form, row, stops))
-
-pub stops-empty : (level : ℕ) (tokens : List Placed) → length tokens ≡ 0 → level ≤ 7 → level < reg_row (words tokens)
-stops-empty level [] h low = omega (arith, low)
-stops-empty level (p ∷ ps) h low = absurd (omega arith)
-
-zero_or_eight : (n : ℕ) → IsTrue (n == 0 || n == 8) → 0 < n → n ≡ 8
-zero_or_eight n h above = grind arith
-
--- where the next token is no sign that goes on
-pub stops-none : (level : ℕ) (left : ReadRegular) (first : Placed) (rest : List Placed) → MayGoOn left → left.rest.now ≡ first ∷ rest → IsSuffix (token_of first.token) None → level ≤ 7 → level < reg_row (words left.rest.now)
-stops-none level left first rest on split none low =
-    let row : reg_row (words left.rest.now) ≡ reg_row (token_of first.token ∷ words rest) = ap (λ ps. reg_row (words ps)) split in
-    let some : 0 < reg_row (words left.rest.now) = elim on [
-      | inl below ↦ omega (arith, below)
-      | inr five ↦ omega (arith, five.1)
-    ] in
-    omega (arith, row, low, zero_or_eight (reg_row (token_of first.token ∷ words rest)) (none (words rest)) (omega (arith, row, some)))
-
--- and where it's a sign of a weaker row
-pub stops-repeat : (level : ℕ) (left : ReadRegular) (first : Placed) (rest : List Placed) (mark : Repeat) → left.rest.now ≡ first ∷ rest → token_of first.token ≡ repeat_token mark → level < 5 → level < reg_row (words left.rest.now)
-stops-repeat level left first rest mark split token low =
-    omega (arith, ap reg_row (first-words left.rest.now first rest (repeat_token mark) split token) ∙ repeat_row mark (words rest), low)
-
-pub stops-infix : (level : ℕ) (left : ReadRegular) (first : Placed) (rest : List Placed) (mark : Infix) → left.rest.now ≡ first ∷ rest → token_of first.token ≡ infix_token mark → level < infix_row mark → level < reg_row (words left.rest.now)
-stops-infix level left first rest mark split token low =
-    omega (arith, ap reg_row (first-words left.rest.now first rest (infix_token mark) split token) ∙ sign_row mark (words rest), low)

@@ -1,5 +1,5 @@
 -- A formula that begins with another one's tokens and a sign after them has that sign, with the other one before it.
-use Rattle.std.proofs.Common.{◌≡◌, ℕ, ◌+◌, ◌-◌, ◌<◌, ◌≤◌, ◌⊎◌, inl, inr, true, List, [], ◌∷◌, ◌++◌, refl, sym, ap, ◌∙◌, arith, append_assoc}
+use Rattle.std.proofs.Common.{Some, ◌≡◌, ℕ, ◌+◌, ◌-◌, ◌<◌, ◌≤◌, ◌⊎◌, inl, inr, true, List, [], ◌∷◌, ◌++◌, refl, sym, ap, ◌∙◌, arith, append_assoc}
 use Rattle.std.specs.Prelude.{IsTrue}
 use Rattle.std.proofs.lemmas.Bool.{ltb-true, lt-ltb, cases_lt, and_parts}
 use Rattle.formula.specs.Token.{Token, ImpliesSign, OrSign, AndSign, Bar, Dot, ChoiceSign, PlusSign, StarSign}
@@ -10,8 +10,8 @@ use Rattle.formula.specs.declared.written.Infix.{Infix}
 use Rattle.formula.specs.declared.written.Infix.TheVariants as sign
 use Rattle.formula.specs.declared.written.Repeat.{Repeat}
 use Rattle.formula.specs.declared.written.Repeat.TheVariants as repeat
-use Rattle.formula.proofs.Regulars.{infixed-tokens, infixed-form, infixed-nesting, infixed-parens}
-use Rattle.formula.proofs.RegularUnique.{reg_level, reg_stops, operands, one_regular, reg_read, reg_size, more_grows, postfix_found}
+use Rattle.formula.proofs.Regulars.{infixed-tokens, infixed-is}
+use Rattle.formula.proofs.RegularUnique.{reg_level, reg_stops, operands, one_regular, reg_read, reg_size, more, more_grows, postfix_found}
 
 -- the row that a token makes
 pub row_first : (t : Token) (ts : List Token) → reg_row (t ∷ ts) ≡ reg_level t
@@ -128,12 +128,12 @@ along mark other left a b m ts fl low fs stop e on =
     let e' : reg_tokens a ++ n ≡ reg_tokens left ++ infix_token mark ∷ ts
     = sym (append_assoc (reg_tokens a) (infix_token other ∷ reg_tokens b) m) ∙ (ap (λ xs. xs ++ m) (sym (infixed-tokens other a b)) ∙ e) in
     let row : reg_row n ≡ infix_row other = sign_row other (reg_tokens b ++ m) in
-    let deep = infixed-nesting other a b in
-    let wide = infixed-parens other a b in
+    let deep = (infixed-is other a b).nesting in
+    let wide = (infixed-is other a b).parens in
     elim (cases_lt (infix_row mark) (infix_row other)) [
       | inl less ↦ widened mark left a (infixed other a b) ts (on n (omega (arith, row, less)) e') (omega (arith, deep)) (omega (arith, wide))
       | inr above ↦ elim (cases_lt (infix_row other) (infix_row mark)) [
-        | inl more ↦ too_low mark left (infixed other a b) m ts fl low fs (omega (arith, infixed-form other a b, more)) stop e
+        | inl more ↦ too_low mark left (infixed other a b) m ts fl low fs (omega (arith, (infixed-is other a b).form, more)) stop e
         | inr same' ↦
             let same : infix_row other ≡ infix_row mark = omega (arith, above, same') in
             let q = left_is mark left a n ts fl low o.2 (omega (arith, o.0, same)) (omega (arith, row, same)) e' in
@@ -186,14 +186,15 @@ pub record Postfixed (left s : RegSyntax) (ts : List Token) : Type 0 where
   pub left_below : reg_nesting left + 1 ≤ reg_nesting s
   pub stops : 5 ≤ reg_row ts
 
+grown : (left post s : RegSyntax) (m ts : List Token) → reg_nesting left + 1 ≤ reg_nesting post → 5 < reg_row m → more 5 (reg_read (reg_size left + reg_size s)) post ts ≡ Some (s, m) → Postfixed left s ts
+grown left post s m ts deep stop e = let g = more_grows (reg_read (reg_size left + reg_size s)) post s ts m (stops_at 5 m stop) e in record { left_below = omega (arith, g.0, deep); stops = row_above 4 ts (omega arith) g.1 }
+
 low_postfix : (mark : Repeat) (left s : RegSyntax) (m ts : List Token) → IsTrue (reg_fits left) → reg_form left ≤ 5 → IsTrue (reg_fits s) → reg_form s ≤ 5 → 5 < reg_row m
     → reg_tokens s ++ m ≡ reg_tokens left ++ repeat_token mark ∷ ts → Postfixed left s ts
 low_postfix repeat.Star left s m ts fl low fs lows stop e =
-    let g = more_grows (reg_read (reg_size left + reg_size s)) (Star' left) s ts m (stops_at 5 m stop) (postfix_found left s (StarSign ∷ ts) m fl fs low lows refl (stops_at 5 m stop) e) in
-    record { left_below = omega (arith, g.0); stops = row_above 4 ts (omega arith) g.1 }
+    grown left (Star' left) s m ts (omega arith) stop (postfix_found left s (StarSign ∷ ts) m fl fs low lows refl (stops_at 5 m stop) e)
 low_postfix repeat.Plus left s m ts fl low fs lows stop e =
-    let g = more_grows (reg_read (reg_size left + reg_size s)) (Plus' left) s ts m (stops_at 5 m stop) (postfix_found left s (PlusSign ∷ ts) m fl fs low lows refl (stops_at 5 m stop) e) in
-    record { left_below = omega (arith, g.0); stops = row_above 4 ts (omega arith) g.1 }
+    grown left (Plus' left) s m ts (omega arith) stop (postfix_found left s (PlusSign ∷ ts) m fl fs low lows refl (stops_at 5 m stop) e)
 
 -- A formula that begins with the tokens of one and a postfix sign is deeper than that one, and no sign of action formulas follows the postfix sign.
 pub postfix_spine : (mark : Repeat) (left s : RegSyntax) (m ts : List Token) → IsTrue (reg_fits left) → reg_form left ≤ 5 → IsTrue (reg_fits s) → 5 < reg_row m

@@ -97,19 +97,7 @@ reg_size (Star' r) = suc (reg_size r)
 reg_size (Plus' r) = suc (reg_size r)
 reg_size (Then' r s) = suc (reg_size r + reg_size s)
 reg_size (Either' r s) = suc (reg_size r + reg_size s)
-reg_size _ = 1
-
-pub some_size : (r : RegSyntax) → 1 ≤ reg_size r
-some_size (Parens' r) = omega arith
-some_size (Not' r) = omega arith
-some_size (And' r s) = omega arith
-some_size (Or' r s) = omega arith
-some_size (Implies' r s) = omega arith
-some_size (Star' r) = omega arith
-some_size (Plus' r) = omega arith
-some_size (Then' r s) = omega arith
-some_size (Either' r s) = omega arith
-some_size _ = omega arith
+reg_size _ = 0
 
 -- the operand is whole where the next token cannot go on
 settled : (k : ℕ) (read : RegReader) (r : RegSyntax) (m : List Token) → reg_stops k m ≡ true → more k read r m ≡ Some (r, m)
@@ -143,15 +131,15 @@ lifted_unary read ts m r (suc k) e h = lifted read ts m r 0 (suc k) (omega arith
 
 -- the tree is found, as each form that it has
 abbrev Reads : RegSyntax → Type 0
-Reads r = (k n : ℕ) (m : List Token) → reg_form r ≤ k → reg_size r ≤ suc n → reg_stops k m ≡ true → levels (reg_read n) k (reg_tokens r ++ m) ≡ Some (r, m)
+Reads r = (k n : ℕ) (m : List Token) → reg_form r ≤ k → reg_size r ≤ n → reg_stops k m ≡ true → levels (reg_read n) k (reg_tokens r ++ m) ≡ Some (r, m)
 
 -- as an operand of postfix signs, whatever signs follow
 abbrev ReadsOn : RegSyntax → Type 0
-ReadsOn r = (n : ℕ) (m : List Token) → reg_form r ≤ 5 → reg_size r ≤ suc n → reg_stops 4 m ≡ true → levels (reg_read n) 5 (reg_tokens r ++ m) ≡ more 5 (reg_read n) r m
+ReadsOn r = (n : ℕ) (m : List Token) → reg_form r ≤ 5 → reg_size r ≤ n → reg_stops 4 m ≡ true → levels (reg_read n) 5 (reg_tokens r ++ m) ≡ more 5 (reg_read n) r m
 
-inner : (r : RegSyntax) → Reads r → (k n : ℕ) (m : List Token) → reg_form r ≤ k → reg_size r ≤ n → reg_stops k m ≡ true → reg_read n k (reg_tokens r ++ m) ≡ Some (r, m)
-inner r f k zero m a b c = absurd (omega (arith, some_size r))
-inner r f k (suc n) m a b c = f k n m a b c
+inner : (r : RegSyntax) → Reads r → (k n : ℕ) (m : List Token) → reg_form r ≤ k → reg_size r < n → reg_stops k m ≡ true → reg_read n k (reg_tokens r ++ m) ≡ Some (r, m)
+inner r f k zero m a b c = absurd (omega arith)
+inner r f k (suc n) m a b c = f k n m a (omega arith) c
 
 names_found : (names : List (List ℕ)) (m : List Token) → reg_stops 0 m ≡ true → names_read (more_names names ++ m) ≡ (names, m)
 names_found [] m h = none m h
@@ -161,52 +149,6 @@ names_found [] m h = none m h
     none (Bar ∷ ts) h = cc
     none (t ∷ ts) h = refl
 names_found (x ∷ names) m h = ap (λ p. (x ∷ p.0, p.1)) (names_found names m h)
-
--- an operator that joins two
-joins : (t : Token) (a b : RegSyntax) (j k n : ℕ) (m : List Token) → reg_level t ≡ suc (suc j) → ((x y : Found RegSyntax) → chosen t x y ≡ y) → Reads a → Reads b
-    → reg_form a ≤ suc j → reg_form b ≤ suc (suc j) → reg_size a + reg_size b ≤ n → suc (suc j) ≤ k → reg_stops k m ≡ true
-    → levels (reg_read n) k ((reg_tokens a ++ t ∷ reg_tokens b) ++ m) ≡ Some (joined t a b, m)
-joins t a b j k n m level infix' ra rb fa fb size above h =
-    let rest : List Token = reg_tokens b ++ m in
-    let stop : reg_stops (suc j) (t ∷ rest) ≡ true = lt-ltb (suc j) (reg_level t) (omega (arith, level)) in
-    let left : levels (reg_read n) (suc j) (reg_tokens a ++ (t ∷ rest)) ≡ Some (a, t ∷ rest) = ra (suc j) n (t ∷ rest) fa (omega arith) stop in
-    let right : reg_read n (suc (suc j)) rest ≡ Some (b, m) = inner b rb (suc (suc j)) n m fb (omega (arith, some_size a)) (stops_below (suc (suc j)) k m above h) in
-    let here : (reg_level t == suc (suc j)) ≡ true = eq-eqb (reg_level t) (suc (suc j)) level in
-    let both : levels (reg_read n) (suc (suc j)) (reg_tokens a ++ (t ∷ rest)) ≡ Some (joined t a b, m) =
-    ap (after (suc (suc j)) (reg_read n)) left
-    ∙ ap (λ (c : Bool). if c then chosen t (more (suc (suc j)) (reg_read n) (joined t a a) rest) (within (joined t a) (reg_read n (suc (suc j)) rest)) else Some (a, t ∷ rest)) here
-    ∙ infix' (more (suc (suc j)) (reg_read n) (joined t a a) rest) (within (joined t a) (reg_read n (suc (suc j)) rest))
-    ∙ ap (within (joined t a)) right in
-    ap (levels (reg_read n) k) (append_assoc (reg_tokens a) (t ∷ reg_tokens b) m)
-    ∙ lifted (reg_read n) (reg_tokens a ++ (t ∷ rest)) m (joined t a b) (suc j) k above both h
-
--- a postfix sign
-marks : (t : Token) (a : RegSyntax) (n : ℕ) (m : List Token) → reg_level t ≡ 5 → ((x y : Found RegSyntax) → chosen t x y ≡ x) → ReadsOn a → reg_form a ≤ 5 → reg_size a ≤ suc n
-    → levels (reg_read n) 5 ((reg_tokens a ++ t ∷ []) ++ m) ≡ more 5 (reg_read n) (joined t a a) m
-marks t a n m level postfix ra fa size =
-    let stop : reg_stops 4 (t ∷ m) ≡ true = lt-ltb 4 (reg_level t) (omega (arith, level)) in
-    let here : (reg_level t == 5) ≡ true = eq-eqb (reg_level t) 5 level in
-    ap (levels (reg_read n) 5) (append_assoc (reg_tokens a) (t ∷ []) m)
-    ∙ ra n (t ∷ m) fa size stop
-    ∙ ap (λ (c : Bool). if c then chosen t (more 5 (reg_read n) (joined t a a) m) (within (joined t a) (reg_read n 5 m)) else Some (a, t ∷ m)) here
-    ∙ postfix (more 5 (reg_read n) (joined t a a) m) (within (joined t a) (reg_read n 5 m))
-
--- what is found as an operand is found before signs
-reads_on : (r : RegSyntax) → reg_form r ≤ 4 → Reads r → ReadsOn r
-reads_on r low f n m low' size h = ap (after 5 (reg_read n)) (f 4 n m low size h)
-
--- a leaf or a negation, which is found as a unary form
-from_unary : (r : RegSyntax) → ((n : ℕ) (m : List Token) → reg_size r ≤ suc n → reg_stops (reg_form r) m ≡ true → unary (reg_read n) (reg_tokens r ++ m) ≡ Some (r, m)) → Reads r
-from_unary r f k n m low size h = lifted_unary (reg_read n) (reg_tokens r ++ m) m r k (f n m size (stops_below (reg_form r) k m low h)) h
-
-abbrev Finds : RegSyntax → Type 0
-Finds r = Reads r × ReadsOn r
-
-operand : (r : RegSyntax) → reg_form r ≤ 4 → Reads r → Finds r
-operand r low f = (f, reads_on r low f)
-
-whole : (r : RegSyntax) → 5 < reg_form r → Reads r → Finds r
-whole r high f = (f, λ n m low size h. absurd (omega arith))
 
 and_three : (a b c : Bool) → (a && b && c) ≡ true → (a ≡ true) × (b ≡ true) × (c ≡ true)
 and_three a b c h = let x = and_parts (a && b) c h in let y = and_parts a b x.0 in (y.0, y.1, x.1)
@@ -223,14 +165,49 @@ operands i j r s h =
 
 -- a tree of two operands that an operator joins
 join_finds : (t : Token) (a b : RegSyntax) (j : ℕ) → reg_level t ≡ suc (suc j) → ((x y : Found RegSyntax) → chosen t x y ≡ y) → Operands (suc j) (suc (suc j)) a b → Reads a → Reads b
-    → (k n : ℕ) (m : List Token) → suc (suc j) ≤ k → suc (reg_size a + reg_size b) ≤ suc n → reg_stops k m ≡ true
+    → (k n : ℕ) (m : List Token) → suc (suc j) ≤ k → suc (reg_size a + reg_size b) ≤ n → reg_stops k m ≡ true
     → levels (reg_read n) k ((reg_tokens a ++ t ∷ reg_tokens b) ++ m) ≡ Some (joined t a b, m)
-join_finds t a b j level infix' o ra rb k n m low size h = joins t a b j k n m level infix' ra rb o.0 o.1 (omega arith) low h
+join_finds t a b j level infix' o ra rb k n m above size h =
+    let rest : List Token = reg_tokens b ++ m in
+    let stop : reg_stops (suc j) (t ∷ rest) ≡ true = lt-ltb (suc j) (reg_level t) (omega (arith, level)) in
+    let left : levels (reg_read n) (suc j) (reg_tokens a ++ (t ∷ rest)) ≡ Some (a, t ∷ rest) = ra (suc j) n (t ∷ rest) o.0 (omega arith) stop in
+    let right : reg_read n (suc (suc j)) rest ≡ Some (b, m) = inner b rb (suc (suc j)) n m o.1 (omega arith) (stops_below (suc (suc j)) k m above h) in
+    let here : (reg_level t == suc (suc j)) ≡ true = eq-eqb (reg_level t) (suc (suc j)) level in
+    let both : levels (reg_read n) (suc (suc j)) (reg_tokens a ++ (t ∷ rest)) ≡ Some (joined t a b, m) =
+    ap (after (suc (suc j)) (reg_read n)) left
+    ∙ ap (λ (c : Bool). if c then chosen t (more (suc (suc j)) (reg_read n) (joined t a a) rest) (within (joined t a) (reg_read n (suc (suc j)) rest)) else Some (a, t ∷ rest)) here
+    ∙ infix' (more (suc (suc j)) (reg_read n) (joined t a a) rest) (within (joined t a) (reg_read n (suc (suc j)) rest))
+    ∙ ap (within (joined t a)) right in
+    ap (levels (reg_read n) k) (append_assoc (reg_tokens a) (t ∷ reg_tokens b) m)
+    ∙ lifted (reg_read n) (reg_tokens a ++ (t ∷ rest)) m (joined t a b) (suc j) k above both h
 
 -- a tree under a postfix sign
 mark_finds : (t : Token) (a : RegSyntax) → reg_level t ≡ 5 → ((x y : Found RegSyntax) → chosen t x y ≡ x) → reg_form a ≤ 5 → ReadsOn a
-    → (n : ℕ) (m : List Token) → suc (reg_size a) ≤ suc n → levels (reg_read n) 5 ((reg_tokens a ++ t ∷ []) ++ m) ≡ more 5 (reg_read n) (joined t a a) m
-mark_finds t a level postfix low ra n m size = marks t a n m level postfix ra low (omega arith)
+    → (n : ℕ) (m : List Token) → suc (reg_size a) ≤ n → levels (reg_read n) 5 ((reg_tokens a ++ t ∷ []) ++ m) ≡ more 5 (reg_read n) (joined t a a) m
+mark_finds t a level postfix fa ra n m size =
+    let stop : reg_stops 4 (t ∷ m) ≡ true = lt-ltb 4 (reg_level t) (omega (arith, level)) in
+    let here : (reg_level t == 5) ≡ true = eq-eqb (reg_level t) 5 level in
+    ap (levels (reg_read n) 5) (append_assoc (reg_tokens a) (t ∷ []) m)
+    ∙ ra n (t ∷ m) fa (omega arith) stop
+    ∙ ap (λ (c : Bool). if c then chosen t (more 5 (reg_read n) (joined t a a) m) (within (joined t a) (reg_read n 5 m)) else Some (a, t ∷ m)) here
+    ∙ postfix (more 5 (reg_read n) (joined t a a) m) (within (joined t a) (reg_read n 5 m))
+
+-- what is found as an operand is found before signs
+reads_on : (r : RegSyntax) → reg_form r ≤ 4 → Reads r → ReadsOn r
+reads_on r low f n m low' size h = ap (after 5 (reg_read n)) (f 4 n m low size h)
+
+-- a leaf or a negation, which is found as a unary form
+from_unary : (r : RegSyntax) → ((n : ℕ) (m : List Token) → reg_size r ≤ n → reg_stops (reg_form r) m ≡ true → unary (reg_read n) (reg_tokens r ++ m) ≡ Some (r, m)) → Reads r
+from_unary r f k n m low size h = lifted_unary (reg_read n) (reg_tokens r ++ m) m r k (f n m size (stops_below (reg_form r) k m low h)) h
+
+abbrev Finds : RegSyntax → Type 0
+Finds r = Reads r × ReadsOn r
+
+operand : (r : RegSyntax) → reg_form r ≤ 4 → Reads r → Finds r
+operand r low f = (f, reads_on r low f)
+
+whole : (r : RegSyntax) → 5 < reg_form r → Reads r → Finds r
+whole r high f = (f, λ n m low size h. absurd (omega arith))
 
 settle : (n k : ℕ) (r : RegSyntax) (ts m : List Token) → 5 ≤ k → reg_stops k m ≡ true → levels (reg_read n) 5 ts ≡ more 5 (reg_read n) r m → levels (reg_read n) k ts ≡ Some (r, m)
 settle n k r ts m low h e = lifted (reg_read n) ts m r 4 k low (e ∙ settled 5 (reg_read n) r m (stops_below 5 k m low h)) h
@@ -285,7 +262,7 @@ finds (Either' r s) h =
     whole (Either' r s) (omega arith) (join_finds ChoiceSign r s 5 refl (λ x y. refl) o (finds r o.2).0 (finds s o.3).0)
 
 -- The tree of a regular formula is found again at the front of its tokens, where the next token cannot go on.
-pub reg_found : (r : RegSyntax) (k n : ℕ) (m : List Token) → reg_fits r ≡ true → reg_form r ≤ k → reg_size r ≤ n → reg_stops k m ≡ true → reg_read n k (reg_tokens r ++ m) ≡ Some (r, m)
+pub reg_found : (r : RegSyntax) (k n : ℕ) (m : List Token) → reg_fits r ≡ true → reg_form r ≤ k → reg_size r < n → reg_stops k m ≡ true → reg_read n k (reg_tokens r ++ m) ≡ Some (r, m)
 reg_found r k n m fit low size stop = inner r (finds r fit).0 k n m low size stop
 
 pub some_once : {A : Type 0} (x y : A) → Some x ≡ Some y → x ≡ y
@@ -298,7 +275,7 @@ found_once x y e = let p = some_once x y e in (ap (λ q. q.0) p, ap (λ q. q.1) 
 pub one_regular : (k : ℕ) (r s : RegSyntax) (m n : List Token) → reg_fits r ≡ true → reg_fits s ≡ true → reg_form r ≤ k → reg_form s ≤ k → reg_stops k m ≡ true → reg_stops k n ≡ true
     → reg_tokens r ++ m ≡ reg_tokens s ++ n → (r ≡ s) × (m ≡ n)
 one_regular k r s m n fr fs lr ls sm sn e =
-    let size : ℕ = reg_size r + reg_size s in
+    let size : ℕ = suc (reg_size r + reg_size s) in
     found_once (r, m) (s, n) (sym (reg_found r k size m fr lr (omega arith) sm) ∙ (ap (reg_read size k) e ∙ reg_found s k size n fs ls (omega arith) sn))
 
 -- after postfix signs a formula is at least as deep, and what's left may stand after such a sign

@@ -1,11 +1,13 @@
 -- What a regular formula is that was put together from parts.
 use Rattle.std.specs.Prelude.{◌≡◌, ℕ, ◌+◌, ◌-◌, ◌<◌, ◌≤◌, Bool, true, ◌&&◌, nat_le, List, [], ◌∷◌, ◌++◌, max, length, IsTrue, refl, drop, suc}
-use Rattle.std.proofs.Common.{arith, sym, ◌∙◌, ap, subst, append_assoc, true≢false}
-use Rattle.std.proofs.lemmas.List.{drop-drop, drop-map, length-drop, length-map}
+use Rattle.std.proofs.Common.{arith, sym, ◌∙◌, ap, subst, append_assoc, true≢false, inl}
+use Rattle.std.proofs.lemmas.List.{drop-drop, drop-map, length-append, length-drop, length-map}
 use Rattle.formula.specs.Token.{Token, Name, Bar}
 use Rattle.formula.specs.Syntax.{RegSyntax, reg_tokens, reg_fits, reg_form, reg_nesting, reg_parens, more_names}
 use Rattle.formula.specs.Written.{words, token_of, reg_syntax, infixed, infix_token, infix_row, repeated, repeat_token}
-use Rattle.formula.specs.Read.{IsRegular, regular_tokens, IsJoined, IsRepeated, MatchBar}
+use Rattle.formula.specs.declared.written.WrittenRegular.{WrittenRegular}
+use Rattle.formula.specs.Read.{reg_row, IsRegular, IsRegularOf, MatchBar}
+use Rattle.formula.specs.Misread.{ReadsRegular, LongerRegular}
 use Rattle.formula.specs.declared.token.Placed.{Placed}
 use Rattle.formula.specs.declared.written.Infix.{Infix}
 use Rattle.formula.specs.declared.written.Infix.TheVariants as sign
@@ -20,26 +22,18 @@ infixed-tokens sign.Implies r s = refl
 infixed-tokens sign.Then r s = refl
 infixed-tokens sign.Either r s = refl
 
-pub infixed-form : (mark : Infix) (r s : RegSyntax) → reg_form (infixed mark r s) ≡ infix_row mark
-infixed-form sign.And r s = refl
-infixed-form sign.Or r s = refl
-infixed-form sign.Implies r s = refl
-infixed-form sign.Then r s = refl
-infixed-form sign.Either r s = refl
+-- what a formula with a sign between two is, whatever the sign
+pub record Infixed (mark : Infix) (r s : RegSyntax) : Type 0 where
+  pub form : reg_form (infixed mark r s) ≡ infix_row mark
+  pub nesting : reg_nesting (infixed mark r s) ≡ 1 + max (reg_nesting r) (reg_nesting s)
+  pub parens : reg_parens (infixed mark r s) ≡ max (reg_parens r) (reg_parens s)
 
-pub infixed-nesting : (mark : Infix) (r s : RegSyntax) → reg_nesting (infixed mark r s) ≡ 1 + max (reg_nesting r) (reg_nesting s)
-infixed-nesting sign.And r s = refl
-infixed-nesting sign.Or r s = refl
-infixed-nesting sign.Implies r s = refl
-infixed-nesting sign.Then r s = refl
-infixed-nesting sign.Either r s = refl
-
-pub infixed-parens : (mark : Infix) (r s : RegSyntax) → reg_parens (infixed mark r s) ≡ max (reg_parens r) (reg_parens s)
-infixed-parens sign.And r s = refl
-infixed-parens sign.Or r s = refl
-infixed-parens sign.Implies r s = refl
-infixed-parens sign.Then r s = refl
-infixed-parens sign.Either r s = refl
+pub infixed-is : (mark : Infix) (r s : RegSyntax) → Infixed mark r s
+infixed-is sign.And r s = record { form = refl; nesting = refl; parens = refl }
+infixed-is sign.Or r s = record { form = refl; nesting = refl; parens = refl }
+infixed-is sign.Implies r s = record { form = refl; nesting = refl; parens = refl }
+infixed-is sign.Then r s = record { form = refl; nesting = refl; parens = refl }
+infixed-is sign.Either r s = record { form = refl; nesting = refl; parens = refl }
 
 pub all_true : (a b : Bool) → IsTrue a → IsTrue b → IsTrue (a && b)
 all_true a b p q = grind (arith)
@@ -61,39 +55,59 @@ pub repeated-tokens : (mark : Repeat) (r : RegSyntax) → reg_tokens (repeated m
 repeated-tokens repeat.Star r = refl
 repeated-tokens repeat.Plus r = refl
 
--- two formulas and the sign between them
-pub joined-is : (level depth inside : ℕ) (left right r : ReadRegular) (mark : Infix) → IsRegular level depth inside left
-    → reg_form (reg_syntax left.syntax) < infix_row mark → infix_row mark ≤ level → left.height < depth
-    → IsRegular (infix_row mark) (depth - 1) inside right → IsJoined left mark right r → IsRegular level depth inside r
-joined-is level depth inside left right r mark l below row lower h j =
-    let e = j.syntax in
+-- there are as many words as tokens
+pub words-length : (tokens : List Placed) → length (words tokens) ≡ length tokens
+words-length tokens = length-map tokens (λ p. token_of p.token)
+
+-- what is left is no longer than what it was read from
+pub no-longer : (front : List Token) (rest : List Placed) (us : List Token) → front ++ words rest ≡ us → length rest ≤ length us
+no-longer front rest us e = omega (arith, ap (λ ts. length ts) e, length-append front (words rest), words-length rest)
+
+pub kept-length : (front : List Token) (rest tokens : List Placed) → front ++ words rest ≡ words tokens → length rest ≤ length tokens
+kept-length front rest tokens e = omega (arith, no-longer front rest (words tokens) e, words-length tokens)
+
+-- an atom or a negation that was read
+pub low-read : (depth inside : ℕ) (ts : List Token) (w : WrittenRegular) (x : RegSyntax) (height : ℕ) (rest : List Placed) (r : ReadRegular) → IsRegularOf w height rest r → reg_syntax w ≡ x → IsTrue (reg_fits x) → reg_form x ≤ 1
+    → height ≡ reg_nesting x → reg_nesting x ≤ depth → reg_parens x ≤ inside → 1 < reg_row (words rest) → reg_tokens x ++ words rest ≡ ts → ReadsRegular 1 depth inside ts r
+low-read depth inside ts w x height rest r b is fit low high deep wide stops eaten =
+    let e : reg_syntax r.syntax.value ≡ x = ap reg_syntax b.is ∙ is in
     record {
-      grammatical = subst (λ s. IsTrue (reg_fits s)) (sym e) (infixed-fits mark _ _ l.grammatical h.grammatical below h.row);
-      row = let f : reg_form (reg_syntax r.syntax) ≡ infix_row mark = ap reg_form e ∙ infixed-form mark _ _ in omega arith;
-      height = let f : reg_nesting (reg_syntax r.syntax) ≡ 1 + max (reg_nesting (reg_syntax left.syntax)) (reg_nesting (reg_syntax right.syntax)) = ap reg_nesting e ∙ infixed-nesting mark _ _ in omega arith;
-      low = omega arith;
-      narrow = let f : reg_parens (reg_syntax r.syntax) ≡ max (reg_parens (reg_syntax left.syntax)) (reg_parens (reg_syntax right.syntax)) = ap reg_parens e ∙ infixed-parens mark _ _ in omega arith;
+      eaten = ap (λ y. reg_tokens y ++ words r.rest.now) e ∙ (ap (λ ps. reg_tokens x ++ words ps) b.after ∙ eaten);
+      sound = record {
+        grammatical = subst (λ y. IsTrue (reg_fits y)) (sym e) fit;
+        row = omega (arith, ap reg_form e);
+        height = b.high ∙ (high ∙ ap reg_nesting (sym e));
+        low = omega (arith, b.high);
+        narrow = omega (arith, ap reg_parens e);
+      };
+      stops = subst (λ ps. 1 < reg_row (words ps)) (sym b.after) stops;
     }
 
-pub joined-eaten : (left right r : ReadRegular) (mark : Infix) (first : Placed) (rest : List Placed) → IsJoined left mark right r → r.rest.now ≡ right.rest.now
-    → left.rest.now ≡ first ∷ rest → token_of first.token ≡ infix_token mark → regular_tokens right ≡ words rest → regular_tokens r ≡ regular_tokens left
-joined-eaten left right r mark first rest j after front token eaten =
-    let step : reg_tokens (reg_syntax r.syntax) ≡ reg_tokens (reg_syntax left.syntax) ++ infix_token mark ∷ reg_tokens (reg_syntax right.syntax) = ap reg_tokens j.syntax ∙ infixed-tokens mark _ _ in
-    let left_words : words left.rest.now ≡ infix_token mark ∷ words rest = ap words front ∙ ap (λ t. t ∷ words rest) token in
-    ap (λ ts. ts ++ words r.rest.now) step
-    ∙ append_assoc (reg_tokens (reg_syntax left.syntax)) (infix_token mark ∷ reg_tokens (reg_syntax right.syntax)) (words r.rest.now)
-    ∙ ap (λ ts. reg_tokens (reg_syntax left.syntax) ++ (infix_token mark ∷ ts)) (ap (λ ps. reg_tokens (reg_syntax right.syntax) ++ words ps) after ∙ eaten)
-    ∙ ap (λ ts. reg_tokens (reg_syntax left.syntax) ++ ts) (sym left_words)
-
-pub repeated-eaten : (left r : ReadRegular) (mark : Repeat) (first : Placed) (rest : List Placed) → IsRepeated left mark r → r.rest.now ≡ rest
-    → left.rest.now ≡ first ∷ rest → token_of first.token ≡ repeat_token mark → regular_tokens r ≡ regular_tokens left
-repeated-eaten left r mark first rest j after front token =
-    let step : reg_tokens (reg_syntax r.syntax) ≡ reg_tokens (reg_syntax left.syntax) ++ repeat_token mark ∷ [] = ap reg_tokens j.syntax ∙ repeated-tokens mark _ in
-    let left_words : words left.rest.now ≡ repeat_token mark ∷ words rest = ap words front ∙ ap (λ t. t ∷ words rest) token in
-    ap (λ ts. ts ++ words r.rest.now) step
-    ∙ append_assoc (reg_tokens (reg_syntax left.syntax)) (repeat_token mark ∷ []) (words r.rest.now)
-    ∙ ap (λ ps. reg_tokens (reg_syntax left.syntax) ++ (repeat_token mark ∷ words ps)) after
-    ∙ ap (λ ts. reg_tokens (reg_syntax left.syntax) ++ ts) (sym left_words)
+-- two formulas and the sign between them
+pub joined-read : (mark : Infix) (level depth inside : ℕ) (us : List Token) (left right : ReadRegular) (w : WrittenRegular) (r : ReadRegular) → IsRegular level depth inside left → reg_form (reg_syntax left.syntax.value) < infix_row mark
+    → words left.rest.now ≡ infix_token mark ∷ us → infix_row mark ≤ level → left.height < depth → ReadsRegular (infix_row mark) (depth - 1) inside us right
+    → IsRegularOf w (max left.height right.height + 1) right.rest.now r → reg_syntax w ≡ infixed mark (reg_syntax left.syntax.value) (reg_syntax right.syntax.value) → LongerRegular level depth inside left r
+joined-read mark level depth inside us left right w r l below front above low h b is =
+    let f = reg_syntax left.syntax.value in
+    let g = reg_syntax right.syntax.value in
+    let e : reg_syntax r.syntax.value ≡ infixed mark f g = ap reg_syntax b.is ∙ is in
+    let own : reg_form (reg_syntax r.syntax.value) ≡ infix_row mark = ap reg_form e ∙ (infixed-is mark f g).form in
+    let deep : reg_nesting (reg_syntax r.syntax.value) ≡ 1 + max (reg_nesting f) (reg_nesting g) = ap reg_nesting e ∙ (infixed-is mark f g).nesting in
+    let wide : reg_parens (reg_syntax r.syntax.value) ≡ max (reg_parens f) (reg_parens g) = ap reg_parens e ∙ (infixed-is mark f g).parens in
+    record {
+      eaten =
+          ap (λ ts. ts ++ words r.rest.now) (ap reg_tokens e ∙ infixed-tokens mark f g) ∙ append_assoc (reg_tokens f) (infix_token mark ∷ reg_tokens g) (words r.rest.now)
+          ∙ ap (λ ts. reg_tokens f ++ (infix_token mark ∷ ts)) (ap (λ ps. reg_tokens g ++ words ps) b.after ∙ h.eaten) ∙ ap (λ ts. reg_tokens f ++ ts) (sym front);
+      sound = record {
+        grammatical = subst (λ x. IsTrue (reg_fits x)) (sym e) (infixed-fits mark f g l.grammatical h.sound.grammatical below h.sound.row);
+        row = omega arith;
+        height = omega (arith, b.high, l.height, h.sound.height);
+        low = omega (arith, b.high, h.sound.low);
+        narrow = omega (arith, l.narrow, h.sound.narrow);
+      };
+      onward = inl (omega (arith, ap (λ ps. reg_row (words ps)) b.after, h.stops));
+      shorter = omega (arith, ap (λ ps. length ps) b.after, no-longer (reg_tokens g) right.rest.now us h.eaten, words-length left.rest.now, ap (λ ts. length ts) front);
+    }
 
 -- one more name at the end
 pub more_names-push : (names : List (List ℕ)) (name : List ℕ) (more : List Token) → more_names names ++ Bar ∷ Name name ∷ more ≡ more_names (names ++ name ∷ []) ++ more

@@ -51,6 +51,10 @@ names_spellable x names all = (multiset_all (λ x. is_free_name x ≡ true) (x �
 sides : (ts us : List Token) (t : Token) → AreTokens (ts ++ t ∷ us) → AreTokens ts × AreTokens us
 sides ts us t all = let r = both_sides ts (t ∷ us) all in (r.0, r.1.1)
 
+of_sign : {A B C : Type 0} (f : A → B → C) (o : Option A) (p : Option B) (P : A → Type 0) (Q : B → Type 0) (R : C → Type 0) (ts us : List Token) (t : Token) → ((a : A) (b : B) → P a → Q b → R (f a b))
+    → (AreTokens ts → IfSome o P) → (AreTokens us → IfSome p Q) → AreTokens (ts ++ t ∷ us) → IfSome (option_two f o p) R
+of_sign f o p P Q R ts us t g h k all = let x = sides ts us t all in of_two f o p P Q R g (h x.0) (k x.1)
+
 action_spellable : (r : RegSyntax) → AreTokens (reg_tokens r) → IfSome (action_meant r) IsSpellableAction
 action_spellable Anything' all = tt
 action_spellable Nothing' all = tt
@@ -59,15 +63,9 @@ action_spellable (Names' x names) all = names_spellable x names all
 action_spellable (Quoted' bytes) all = all.0
 action_spellable (Parens' r) all = action_spellable r (both_sides (reg_tokens r) (Close ∷ []) all.1).0
 action_spellable (Not' r) all = of_one NotAct (action_meant r) IsSpellableAction IsSpellableAction (λ a h. h) (action_spellable r all.1)
-action_spellable (And' r s) all =
-    let x = sides (reg_tokens r) (reg_tokens s) AndSign all in
-    of_two AndAct (action_meant r) (action_meant s) IsSpellableAction IsSpellableAction IsSpellableAction (λ a b h k. (h, k)) (action_spellable r x.0) (action_spellable s x.1)
-action_spellable (Or' r s) all =
-    let x = sides (reg_tokens r) (reg_tokens s) OrSign all in
-    of_two OrAct (action_meant r) (action_meant s) IsSpellableAction IsSpellableAction IsSpellableAction (λ a b h k. (h, k)) (action_spellable r x.0) (action_spellable s x.1)
-action_spellable (Implies' r s) all =
-    let x = sides (reg_tokens r) (reg_tokens s) ImpliesSign all in
-    of_two ImpliesAct (action_meant r) (action_meant s) IsSpellableAction IsSpellableAction IsSpellableAction (λ a b h k. (h, k)) (action_spellable r x.0) (action_spellable s x.1)
+action_spellable (And' r s) all = of_sign AndAct _ _ IsSpellableAction IsSpellableAction IsSpellableAction _ _ AndSign (λ a b h k. (h, k)) (λ h. action_spellable r h) (λ h. action_spellable s h) all
+action_spellable (Or' r s) all = of_sign OrAct _ _ IsSpellableAction IsSpellableAction IsSpellableAction _ _ OrSign (λ a b h k. (h, k)) (λ h. action_spellable r h) (λ h. action_spellable s h) all
+action_spellable (Implies' r s) all = of_sign ImpliesAct _ _ IsSpellableAction IsSpellableAction IsSpellableAction _ _ ImpliesSign (λ a b h k. (h, k)) (λ h. action_spellable r h) (λ h. action_spellable s h) all
 action_spellable (Star' r) all = tt
 action_spellable (Plus' r) all = tt
 action_spellable (Then' r s) all = tt
@@ -81,23 +79,13 @@ regular_spellable (Names' x names) all = names_spellable x names all
 regular_spellable (Quoted' bytes) all = all.0
 regular_spellable (Parens' r) all = regular_spellable r (both_sides (reg_tokens r) (Close ∷ []) all.1).0
 regular_spellable (Not' r) all = of_one (λ a. Step (NotAct a)) (action_meant r) IsSpellableAction IsSpellableRegular (λ a h. h) (action_spellable r all.1)
-regular_spellable (And' r s) all =
-    let x = sides (reg_tokens r) (reg_tokens s) AndSign all in
-    of_two (λ a b. Step (AndAct a b)) (action_meant r) (action_meant s) IsSpellableAction IsSpellableAction IsSpellableRegular (λ a b h k. (h, k)) (action_spellable r x.0) (action_spellable s x.1)
-regular_spellable (Or' r s) all =
-    let x = sides (reg_tokens r) (reg_tokens s) OrSign all in
-    of_two (λ a b. Step (OrAct a b)) (action_meant r) (action_meant s) IsSpellableAction IsSpellableAction IsSpellableRegular (λ a b h k. (h, k)) (action_spellable r x.0) (action_spellable s x.1)
-regular_spellable (Implies' r s) all =
-    let x = sides (reg_tokens r) (reg_tokens s) ImpliesSign all in
-    of_two (λ a b. Step (ImpliesAct a b)) (action_meant r) (action_meant s) IsSpellableAction IsSpellableAction IsSpellableRegular (λ a b h k. (h, k)) (action_spellable r x.0) (action_spellable s x.1)
+regular_spellable (And' r s) all = of_sign (λ a b. Step (AndAct a b)) _ _ IsSpellableAction IsSpellableAction IsSpellableRegular _ _ AndSign (λ a b h k. (h, k)) (λ h. action_spellable r h) (λ h. action_spellable s h) all
+regular_spellable (Or' r s) all = of_sign (λ a b. Step (OrAct a b)) _ _ IsSpellableAction IsSpellableAction IsSpellableRegular _ _ OrSign (λ a b h k. (h, k)) (λ h. action_spellable r h) (λ h. action_spellable s h) all
+regular_spellable (Implies' r s) all = of_sign (λ a b. Step (ImpliesAct a b)) _ _ IsSpellableAction IsSpellableAction IsSpellableRegular _ _ ImpliesSign (λ a b h k. (h, k)) (λ h. action_spellable r h) (λ h. action_spellable s h) all
 regular_spellable (Star' r) all = of_one Star (regular_meant r) IsSpellableRegular IsSpellableRegular (λ r h. h) (regular_spellable r (both_sides (reg_tokens r) (StarSign ∷ []) all).0)
 regular_spellable (Plus' r) all = of_one Plus (regular_meant r) IsSpellableRegular IsSpellableRegular (λ r h. h) (regular_spellable r (both_sides (reg_tokens r) (PlusSign ∷ []) all).0)
-regular_spellable (Then' r s) all =
-    let x = sides (reg_tokens r) (reg_tokens s) Dot all in
-    of_two Then (regular_meant r) (regular_meant s) IsSpellableRegular IsSpellableRegular IsSpellableRegular (λ a b h k. (h, k)) (regular_spellable r x.0) (regular_spellable s x.1)
-regular_spellable (Either' r s) all =
-    let x = sides (reg_tokens r) (reg_tokens s) ChoiceSign all in
-    of_two Either (regular_meant r) (regular_meant s) IsSpellableRegular IsSpellableRegular IsSpellableRegular (λ a b h k. (h, k)) (regular_spellable r x.0) (regular_spellable s x.1)
+regular_spellable (Then' r s) all = of_sign Then _ _ IsSpellableRegular IsSpellableRegular IsSpellableRegular _ _ Dot (λ a b h k. (h, k)) (λ h. regular_spellable r h) (λ h. regular_spellable s h) all
+regular_spellable (Either' r s) all = of_sign Either _ _ IsSpellableRegular IsSpellableRegular IsSpellableRegular _ _ ChoiceSign (λ a b h k. (h, k)) (λ h. regular_spellable r h) (λ h. regular_spellable s h) all
 
 formula_spellable : (s : Syntax) → AreTokens (tokens s) → IfSome (meant s) IsSpellable
 formula_spellable True' all = tt
@@ -105,21 +93,11 @@ formula_spellable False' all = tt
 formula_spellable (Var' name) all = all.0
 formula_spellable (Group' f) all = formula_spellable f (both_sides (tokens f) (Close ∷ []) all.1).0
 formula_spellable (Neg' f) all = of_one Not (meant f) IsSpellable IsSpellable (λ f h. h) (formula_spellable f all.1)
-formula_spellable (Both' f g) all =
-    let x = sides (tokens f) (tokens g) AndSign all in
-    of_two And (meant f) (meant g) IsSpellable IsSpellable IsSpellable (λ f g h k. (h, k)) (formula_spellable f x.0) (formula_spellable g x.1)
-formula_spellable (OneOf' f g) all =
-    let x = sides (tokens f) (tokens g) OrSign all in
-    of_two Or (meant f) (meant g) IsSpellable IsSpellable IsSpellable (λ f g h k. (h, k)) (formula_spellable f x.0) (formula_spellable g x.1)
-formula_spellable (If' f g) all =
-    let x = sides (tokens f) (tokens g) ImpliesSign all in
-    of_two Implies (meant f) (meant g) IsSpellable IsSpellable IsSpellable (λ f g h k. (h, k)) (formula_spellable f x.0) (formula_spellable g x.1)
-formula_spellable (Dia' r f) all =
-    let x = sides (reg_tokens r) (tokens f) Greater all.1 in
-    of_two Dia (regular_meant r) (meant f) IsSpellableRegular IsSpellable IsSpellable (λ r f h k. (h, k)) (regular_spellable r x.0) (formula_spellable f x.1)
-formula_spellable (Box' r f) all =
-    let x = sides (reg_tokens r) (tokens f) CloseBox all.1 in
-    of_two Box (regular_meant r) (meant f) IsSpellableRegular IsSpellable IsSpellable (λ r f h k. (h, k)) (regular_spellable r x.0) (formula_spellable f x.1)
+formula_spellable (Both' f g) all = of_sign And _ _ IsSpellable IsSpellable IsSpellable _ _ AndSign (λ f g h k. (h, k)) (λ h. formula_spellable f h) (λ h. formula_spellable g h) all
+formula_spellable (OneOf' f g) all = of_sign Or _ _ IsSpellable IsSpellable IsSpellable _ _ OrSign (λ f g h k. (h, k)) (λ h. formula_spellable f h) (λ h. formula_spellable g h) all
+formula_spellable (If' f g) all = of_sign Implies _ _ IsSpellable IsSpellable IsSpellable _ _ ImpliesSign (λ f g h k. (h, k)) (λ h. formula_spellable f h) (λ h. formula_spellable g h) all
+formula_spellable (Dia' r f) all = of_sign Dia _ _ IsSpellableRegular IsSpellable IsSpellable _ _ Greater (λ r f h k. (h, k)) (λ h. regular_spellable r h) (λ h. formula_spellable f h) all.1
+formula_spellable (Box' r f) all = of_sign Box _ _ IsSpellableRegular IsSpellable IsSpellable _ _ CloseBox (λ r f h k. (h, k)) (λ h. regular_spellable r h) (λ h. formula_spellable f h) all.1
 formula_spellable (Mu' name f) all = of_one (Mu name) (meant f) IsSpellable IsSpellable (λ f h. (all.1.0, h)) (formula_spellable f all.1.1.1)
 formula_spellable (Nu' name f) all = of_one (Nu name) (meant f) IsSpellable IsSpellable (λ f h. (all.1.0, h)) (formula_spellable f all.1.1.1)
 

@@ -15,9 +15,10 @@ use Rattle.formula.proofs.RegularUnique.{any_form}
 use Rattle.formula.proofs.RegularSpine.{one_at}
 use Rattle.formula.proofs.RegularPlaces.{head_once, above_taken}
 use Rattle.formula.proofs.Unambiguous.{any_formula}
-use Rattle.formula.proofs.States.{joined-tokens, joined-form, joined-fits, modal-tokens, modal-form, modal-nesting, modal-parens, modal-fits}
+use Rattle.formula.proofs.Misreads.{NoneStands, unexpected-here, too-large-here}
+use Rattle.formula.proofs.States.{bound-tokens, bound-is, joined-tokens, joined-is, joined-fits, modal-tokens, modal-is, modal-fits}
 use Rattle.formula.proofs.StateSpine.{row-level, Standing, one-state, LeftOperand, spine}
-use Rattle.formula.proofs.StatePlaces.{standing, UnaryAs, unary-as, modal-as, bound-as, bound-tokens, bound-form, bound-nesting, bound-parens, bound-fits, modal-inside, closing-row}
+use Rattle.formula.proofs.StatePlaces.{standing, UnaryAs, unary-as, modal-as, bound-as, modal-inside, closing-row}
 
 -- what follows the last token that counts doesn't matter
 pub same-row : (back more : List Token) → (back ≡ [] → more ≡ []) → state_row (take 1 back ++ more) ≡ state_row back
@@ -32,40 +33,16 @@ pub still-missing : (t : Token) (back more rest : List Token) → (back ≡ [] �
 still-missing t [] more rest stop none e = cons_nil t rest (e ∙ stop refl)
 still-missing t (u ∷ back) more rest stop none e = none back (ap (λ v. v ∷ back) (sym (head_once t u rest more e)))
 
--- a formula that begins with these tokens, within the limits
+-- a formula that begins with these tokens, and within the limits
+begins : (level : ℕ) (s : Syntax) (front more : List Token) → IsTrue (fits s) → form s ≤ level → tokens s ≡ front ++ more → BeginsState level (nesting s) (parens s) front
+begins level s front more fit row e = record { syntax = s; more = more; grammatical = fit; row = row; nests = refl; opens = refl; spelled = e }
+
 pub begun-by : (level depth inside : ℕ) (s : Syntax) (front more : List Token) → IsTrue (fits s) → form s ≤ level → nesting s ≤ depth → parens s ≤ inside → tokens s ≡ front ++ more
     → Within (BeginsState level) depth inside front
-begun-by level depth inside s front more fit row low narrow e = record {
-  nested = nesting s;
-  opened = parens s;
-  it = record { syntax = s; more = more; grammatical = fit; row = row; nests = refl; opens = refl; spelled = e };
-  low = low;
-  narrow = narrow;
-}
+begun-by level depth inside s front more fit row low narrow e = record { nested = nesting s; opened = parens s; it = begins level s front more fit row e; low = low; narrow = narrow }
 
--- no formula stands at the front of what begins so, up to the first of the other tokens
-abbrev pub NoneStands : ℕ → (front back : List Token) → Type 0
-NoneStands level front back = (nested opened : ℕ) (more : List Token) → (back ≡ [] → more ≡ []) → StandsState level nested opened (front ++ (take 1 back ++ more)) → ⊥
-
-pub unexpected-here : (level depth inside : ℕ) (front back ts : List Token) (e : Misread) → front ++ back ≡ ts → e ≡ misread.Unexpected (length back) → Within (BeginsState level) depth inside front
-    → NoneStands level front back → IsStateMisread level depth inside ts e
-unexpected-here level depth inside front back ts e split is begun none =
-    subst (λ (m : Misread). IsStateMisread level depth inside ts m) (sym is) (record { front = front; back = back; joined = sym split; place = refl; begun = begun; none = none })
-
-pub too-large-here : (level depth inside : ℕ) (front : List Token) (token : Token) (back ts : List Token) (e : Misread) → front ++ token ∷ back ≡ ts → e ≡ misread.TooLarge (suc (length back))
-    → Within (BeginsState level) depth inside front → (s : Syntax) (after : List Token) → IsTrue (fits s) → form s ≤ level → tokens s ≡ (front ++ token ∷ []) ++ after
-    → ((more : List Token) → Within (StandsState level) depth inside (front ++ token ∷ more) → ⊥) → IsStateMisread level depth inside ts e
-too-large-here level depth inside front token back ts e split is begun s after fit row spelled none =
-    subst (λ (m : Misread). IsStateMisread level depth inside ts m) (sym is) (record {
-      front = front;
-      token = token;
-      back = back;
-      joined = sym split;
-      place = refl;
-      begun = begun;
-      goes_on = (nesting s, parens s, record { syntax = s; more = after; grammatical = fit; row = row; nests = refl; opens = refl; spelled = spelled });
-      none = none;
-    })
+begun-none : (level depth inside : ℕ) → Within (BeginsState level) depth inside []
+begun-none level depth inside = begun-by level depth inside True' [] (TrueWord ∷ []) refl (omega arith) (omega arith) (omega arith) refl
 
 no_tokens : (s : Syntax) (rest : List Token) → form s ≤ 0 → tokens s ++ rest ≡ [] → ⊥
 no_tokens (Both' f g) rest low e = absurd (omega (arith, low))
@@ -76,17 +53,17 @@ no_tokens s rest low e = cons_nil _ _ e
 -- no token is left
 pub nothing-left : (depth inside : ℕ) (ts : List Token) (e : Misread) → ts ≡ [] → e ≡ misread.Unexpected (length ts) → IsStateMisread 0 depth inside ts e
 nothing-left depth inside ts e none is =
-    unexpected-here 0 depth inside [] ts ts e refl is (begun-by 0 depth inside True' [] (TrueWord ∷ []) refl (omega arith) (omega arith) (omega arith) refl)
+    unexpected-here (BeginsState 0) (StandsState 0) depth inside [] ts ts e refl is (begun-none 0 depth inside)
     (λ nested opened more stop x. no_tokens x.syntax x.rest x.row (x.spelled ∙ (ap (λ us. take 1 us ++ more) none ∙ stop none)))
 
 -- no formula begins with this token
 pub no-word : (token : Token) (back : List Token) (depth inside : ℕ) (e : Misread) → ((s : Syntax) (rest more : List Token) → UnaryAs token s rest more → ⊥)
     → e ≡ misread.Unexpected (length (token ∷ back)) → IsStateMisread 0 depth inside (token ∷ back) e
 no-word token back depth inside e none is =
-    unexpected-here 0 depth inside [] (token ∷ back) (token ∷ back) e refl is (begun-by 0 depth inside True' [] (TrueWord ∷ []) refl (omega arith) (omega arith) (omega arith) refl)
+    unexpected-here (BeginsState 0) (StandsState 0) depth inside [] (token ∷ back) (token ∷ back) e refl is (begun-none 0 depth inside)
     (λ nested opened more stop x. none x.syntax x.rest more (unary-as x.syntax x.rest more token x.row x.spelled))
 
-group_none : (f : Syntax) (back : List Token) → Standing f back → 3 < state_row back → ((after : List Token) → back ≡ Close ∷ after → ⊥) → NoneStands 0 (Open ∷ tokens f) back
+group_none : (f : Syntax) (back : List Token) → Standing f back → 3 < state_row back → ((after : List Token) → back ≡ Close ∷ after → ⊥) → NoneStands (StandsState 0) (Open ∷ tokens f) back
 group_none f back st far missing nested opened more stop x =
     let u = unary-as x.syntax x.rest (tokens f ++ (take 1 back ++ more)) Open x.row x.spelled in
     let row : state_row (take 1 back ++ more) ≡ state_row back = same-row back more stop in
@@ -101,11 +78,11 @@ group_none f back st far missing nested opened more stop x =
 pub group-unclosed : (depth inside : ℕ) (f : Syntax) (back ts : List Token) (e : Misread) → Standing f back → 3 < state_row back → nesting f ≤ depth → parens f ≤ inside → tokens f ++ back ≡ ts
     → IsMissing Close back e → IsStateMisread 0 depth (inside + 1) (Open ∷ ts) e
 group-unclosed depth inside f back ts e st far low narrow split missing =
-    unexpected-here 0 depth (inside + 1) (Open ∷ tokens f) back (Open ∷ ts) e (ap (λ us. Open ∷ us) split) missing.0
+    unexpected-here (BeginsState 0) (StandsState 0) depth (inside + 1) (Open ∷ tokens f) back (Open ∷ ts) e (ap (λ us. Open ∷ us) split) missing.0
     (begun-by 0 depth (inside + 1) (Group' f) (Open ∷ tokens f) (Close ∷ []) st.grammatical (omega arith) low (omega arith) refl) (group_none f back st far missing.1)
 
 modal_none : (mark : Brackets) (r : RegSyntax) (back : List Token) → IsTrue (reg_fits r) → 7 < reg_row back → ((after : List Token) → back ≡ closing mark ∷ after → ⊥)
-    → NoneStands 0 (opening mark ∷ reg_tokens r) back
+    → NoneStands (StandsState 0) (opening mark ∷ reg_tokens r) back
 modal_none mark r back fit far missing nested opened more stop x =
     let u = modal-as mark x.syntax x.rest (reg_tokens r ++ (take 1 back ++ more)) x.row x.spelled in
     let beyond : 7 < reg_row (take 1 back ++ more) = above_taken 7 back more stop far in
@@ -119,10 +96,10 @@ pub modal-unclosed : (mark : Brackets) (depth inside : ℕ) (r : RegSyntax) (bac
     → reg_tokens r ++ back ≡ ts → IsMissing (closing mark) back e → IsStateMisread 0 (depth + 1) inside (opening mark ∷ ts) e
 modal-unclosed mark depth inside r back ts e fit far low narrow split missing =
     let s : Syntax = modal mark r True' in
-    let own : form s ≡ 0 = modal-form mark r True' in
-    let deep : nesting s ≡ 1 + max (reg_nesting r) 0 = modal-nesting mark r True' in
-    let wide : parens s ≡ max (reg_parens r) 0 = modal-parens mark r True' in
-    unexpected-here 0 (depth + 1) inside (opening mark ∷ reg_tokens r) back (opening mark ∷ ts) e (ap (λ us. opening mark ∷ us) split) missing.0
+    let own : form s ≡ 0 = (modal-is mark r True').form in
+    let deep : nesting s ≡ 1 + max (reg_nesting r) 0 = (modal-is mark r True').nesting in
+    let wide : parens s ≡ max (reg_parens r) 0 = (modal-is mark r True').parens in
+    unexpected-here (BeginsState 0) (StandsState 0) (depth + 1) inside (opening mark ∷ reg_tokens r) back (opening mark ∷ ts) e (ap (λ us. opening mark ∷ us) split) missing.0
     (begun-by 0 (depth + 1) inside s (opening mark ∷ reg_tokens r) (closing mark ∷ TrueWord ∷ []) (modal-fits mark r True' fit (omega arith) refl) (omega arith) (omega arith) (omega arith) (modal-tokens mark r True'))
     (modal_none mark r back fit far missing.1)
 
@@ -130,11 +107,11 @@ modal-unclosed mark depth inside r back ts e fit far low narrow split missing =
 pub binder-unnamed : (word : Binder) (depth inside : ℕ) (ts : List Token) (e : Misread) → IsNameMissing ts e → IsStateMisread 0 (depth + 1) inside (binder_token word ∷ ts) e
 binder-unnamed word depth inside ts e missing =
     let s : Syntax = bound word [] True' in
-    let own : form s ≡ 0 = bound-form word [] True' in
-    let deep : nesting s ≡ 1 + 0 = bound-nesting word [] True' in
-    let wide : parens s ≡ 0 = bound-parens word [] True' in
-    unexpected-here 0 (depth + 1) inside (binder_token word ∷ []) ts (binder_token word ∷ ts) e refl missing.0
-    (begun-by 0 (depth + 1) inside s (binder_token word ∷ []) (Name [] ∷ Dot ∷ TrueWord ∷ []) (bound-fits word [] True') (omega arith) (omega arith) (omega arith) (bound-tokens word [] True'))
+    let own : form s ≡ 0 = (bound-is word [] True').form in
+    let deep : nesting s ≡ 1 + 0 = (bound-is word [] True').nesting in
+    let wide : parens s ≡ 0 = (bound-is word [] True').parens in
+    unexpected-here (BeginsState 0) (StandsState 0) (depth + 1) inside (binder_token word ∷ []) ts (binder_token word ∷ ts) e refl missing.0
+    (begun-by 0 (depth + 1) inside s (binder_token word ∷ []) (Name [] ∷ Dot ∷ TrueWord ∷ []) ((bound-is word [] True').fits) (omega arith) (omega arith) (omega arith) (bound-tokens word [] True'))
     (λ nested opened more stop x.
     let u = bound-as word x.syntax x.rest (take 1 ts ++ more) x.row x.spelled in
     still-missing (Name u.0) ts more (Dot ∷ (tokens u.1 ++ x.rest)) stop (missing.1 u.0) u.3)
@@ -144,11 +121,11 @@ pub binder-undotted : (word : Binder) (x : List ℕ) (depth inside : ℕ) (back 
     → IsStateMisread 0 (depth + 1) inside (binder_token word ∷ ts) e
 binder-undotted word y depth inside back ts e split missing =
     let s : Syntax = bound word y True' in
-    let own : form s ≡ 0 = bound-form word y True' in
-    let deep : nesting s ≡ 1 + 0 = bound-nesting word y True' in
-    let wide : parens s ≡ 0 = bound-parens word y True' in
-    unexpected-here 0 (depth + 1) inside (binder_token word ∷ Name y ∷ []) back (binder_token word ∷ ts) e (ap (λ us. binder_token word ∷ us) (sym split)) missing.0
-    (begun-by 0 (depth + 1) inside s (binder_token word ∷ Name y ∷ []) (Dot ∷ TrueWord ∷ []) (bound-fits word y True') (omega arith) (omega arith) (omega arith) (bound-tokens word y True'))
+    let own : form s ≡ 0 = (bound-is word y True').form in
+    let deep : nesting s ≡ 1 + 0 = (bound-is word y True').nesting in
+    let wide : parens s ≡ 0 = (bound-is word y True').parens in
+    unexpected-here (BeginsState 0) (StandsState 0) (depth + 1) inside (binder_token word ∷ Name y ∷ []) back (binder_token word ∷ ts) e (ap (λ us. binder_token word ∷ us) (sym split)) missing.0
+    (begun-by 0 (depth + 1) inside s (binder_token word ∷ Name y ∷ []) (Dot ∷ TrueWord ∷ []) ((bound-is word y True').fits) (omega arith) (omega arith) (omega arith) (bound-tokens word y True'))
     (λ nested opened more stop x.
     let u = bound-as word x.syntax x.rest (Name y ∷ (take 1 back ++ more)) x.row x.spelled in
     still-missing Dot back more (tokens u.1 ++ x.rest) stop missing.1 (ap (drop 1) u.3))
@@ -157,7 +134,7 @@ binder-undotted word y depth inside back ts e split missing =
 too-large-first : (depth inside : ℕ) (token : Token) (back : List Token) (e : Misread) (s : Syntax) (after : List Token) → e ≡ misread.TooLarge (suc (length back)) → IsTrue (fits s) → form s ≤ 0 → tokens s ≡ token ∷ after
     → ((x : Syntax) (rest more : List Token) → form x ≤ 0 → tokens x ++ rest ≡ token ∷ more → nesting x ≤ depth → parens x ≤ inside → ⊥) → IsStateMisread 0 depth inside (token ∷ back) e
 too-large-first depth inside token back e s after is fit row spelled none =
-    too-large-here 0 depth inside [] token back (token ∷ back) e refl is (begun-by 0 depth inside True' [] (TrueWord ∷ []) refl (omega arith) (omega arith) (omega arith) refl) s after fit row spelled
+    too-large-here (BeginsState 0) (StandsState 0) depth inside _ _ [] token back (token ∷ back) e refl is (begun-none 0 depth inside) (begins 0 s (token ∷ []) after fit row spelled)
     (λ more w.
     let x = w.it in
     let low : nesting x.syntax ≤ depth = omega (arith, x.nests, w.low) in
@@ -171,20 +148,20 @@ not-too-deep depth inside back e none is =
 
 pub modal-too-deep : (mark : Brackets) (depth inside : ℕ) (back : List Token) (e : Misread) → depth ≤ 0 → e ≡ misread.TooLarge (suc (length back)) → IsStateMisread 0 depth inside (opening mark ∷ back) e
 modal-too-deep mark depth inside back e none is =
-    let own : form (modal mark Anything' True') ≡ 0 = modal-form mark Anything' True' in
+    let own : form (modal mark Anything' True') ≡ 0 = (modal-is mark Anything' True').form in
     too-large-first depth inside (opening mark) back e (modal mark Anything' True') (TrueWord ∷ closing mark ∷ TrueWord ∷ []) is (modal-fits mark Anything' True' refl (omega arith) refl) (omega arith) (modal-tokens mark Anything' True')
     (λ x rest more row spelled low narrow.
     let u = modal-as mark x rest more row spelled in
-    let deep : nesting x ≡ 1 + max (reg_nesting u.0) (nesting u.1) = ap nesting u.2 ∙ modal-nesting mark u.0 u.1 in
+    let deep : nesting x ≡ 1 + max (reg_nesting u.0) (nesting u.1) = ap nesting u.2 ∙ (modal-is mark u.0 u.1).nesting in
     absurd (omega arith))
 
 pub binder-too-deep : (word : Binder) (depth inside : ℕ) (back : List Token) (e : Misread) → depth ≤ 0 → e ≡ misread.TooLarge (suc (length back)) → IsStateMisread 0 depth inside (binder_token word ∷ back) e
 binder-too-deep word depth inside back e none is =
-    let own : form (bound word [] True') ≡ 0 = bound-form word [] True' in
-    too-large-first depth inside (binder_token word) back e (bound word [] True') (Name [] ∷ Dot ∷ TrueWord ∷ []) is (bound-fits word [] True') (omega arith) (bound-tokens word [] True')
+    let own : form (bound word [] True') ≡ 0 = (bound-is word [] True').form in
+    too-large-first depth inside (binder_token word) back e (bound word [] True') (Name [] ∷ Dot ∷ TrueWord ∷ []) is ((bound-is word [] True').fits) (omega arith) (bound-tokens word [] True')
     (λ x rest more row spelled low narrow.
     let u = bound-as word x rest more row spelled in
-    let deep : nesting x ≡ 1 + nesting u.1 = ap nesting u.2 ∙ bound-nesting word u.0 u.1 in
+    let deep : nesting x ≡ 1 + nesting u.1 = ap nesting u.2 ∙ (bound-is word u.0 u.1).nesting in
     absurd (omega arith))
 
 pub group-too-wide : (depth inside : ℕ) (back : List Token) (e : Misread) → inside ≤ 0 → e ≡ misread.TooLarge (suc (length back)) → IsStateMisread 0 depth inside (Open ∷ back) e
@@ -197,15 +174,9 @@ pub sign-too-large : (mark : Connective) (left : Syntax) (level depth inside : �
     → depth ≤ nesting left → nesting left ≤ depth → parens left ≤ inside → tokens left ++ connective_token mark ∷ back ≡ ts → e ≡ misread.TooLarge (suc (length back)) → IsStateMisread level depth inside ts e
 sign-too-large mark left level depth inside back ts e w row lower full low narrow split is =
     let s : Syntax = joined mark left True' in
-    let own : form s ≡ connective_row mark = joined-form mark left True' in
-    too-large-here level depth inside (tokens left) (connective_token mark) back ts e split is (begun-by level depth inside left (tokens left) [] w.grammatical row low narrow (sym (append-nil (tokens left))))
-    s (TrueWord ∷ []) (joined-fits mark left True' w.grammatical refl w.below (omega arith) (rw w.open_end refl)) (omega arith)
-    (joined-tokens mark left True' ∙ sym (append_assoc (tokens left) (connective_token mark ∷ []) (TrueWord ∷ [])))
-    (λ more x.
-    let it = x.it in
-    let stops = it.stops in
-    let h = spine mark left more it.syntax w it.rest (standing level x.nested x.opened _ it) (omega arith) it.spelled in
-    let beside = h.beside in
-    let nests = it.nests in
-    let within = x.low in
-    absurd (omega arith))
+    let own : form s ≡ connective_row mark = (joined-is mark left True').form in
+    too-large-here (BeginsState level) (StandsState level) depth inside _ _ (tokens left) (connective_token mark) back ts e split is
+    (begun-by level depth inside left (tokens left) [] w.grammatical row low narrow (sym (append-nil (tokens left))))
+    (begins level s (tokens left ++ connective_token mark ∷ []) (TrueWord ∷ []) (joined-fits mark left True' w.grammatical refl w.below (omega arith) (rw w.open_end refl)) (omega arith)
+    (joined-tokens mark left True' ∙ sym (append_assoc (tokens left) (connective_token mark ∷ []) (TrueWord ∷ []))))
+    (λ more x. let h = spine mark left more x.it.syntax w x.it.rest (standing level x.nested x.opened _ x.it) (omega (arith, x.it.stops)) x.it.spelled in absurd (omega (arith, h.beside, x.it.nests, x.low)))

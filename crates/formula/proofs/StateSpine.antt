@@ -1,6 +1,6 @@
 -- State formulas at the front of tokens: which one stands after an operand and its sign, and which unary one comes first.
 use Rattle.std.proofs.Common.{◌≡◌, ℕ, ◌+◌, ◌-◌, ◌<◌, ◌≤◌, Bool, true, false, not, List, [], ◌∷◌, ◌++◌, refl, sym, ap, ◌∙◌, subst, arith, append_assoc, inl, inr, true≢false}
-use Rattle.std.specs.Prelude.{IsTrue, nat_le, max, drop}
+use Rattle.std.specs.Prelude.{IsTrue, nat_le, drop}
 use Rattle.std.proofs.lemmas.Bool.{lt-ltb, leb-true, and_parts, not-true, cases_order}
 use Rattle.formula.specs.Token.{Token, AndSign, OrSign, ImpliesSign}
 use Rattle.formula.specs.Syntax.{Syntax, Both', OneOf', If', form, ends_in_binder, fits, tokens, nesting, parens}
@@ -8,8 +8,8 @@ use Rattle.formula.specs.Written.{joined, connective_token, connective_row}
 use Rattle.formula.specs.Read.{state_row}
 use Rattle.formula.specs.declared.written.Connective.{Connective}
 use Rattle.formula.specs.declared.written.Connective.TheVariants as connective
-use Rattle.formula.proofs.Unambiguous.{level, stops, binder_stops, one_tree, operands}
-use Rattle.formula.proofs.States.{joined-tokens, joined-form, joined-nesting, joined-parens, joined-ends, connective-row, row-most}
+use Rattle.formula.proofs.Unambiguous.{level, stops, binder_stops, one_tree, Operands as Parted, operands}
+use Rattle.formula.proofs.States.{joined-tokens, joined-is, connective-row, row-most}
 
 pub row-level : (t : Token) (ts : List Token) → state_row (t ∷ ts) ≡ level t
 row-level AndSign ts = refl
@@ -46,19 +46,15 @@ pub record Operands (mark : Connective) (f g : Syntax) : Type 0 where
   pub row : form g ≤ connective_row mark
   pub open_end : ends_in_binder f ≡ false
 
+as_operands : (mark : Connective) (i j : ℕ) (f g : Syntax) → i < connective_row mark → j ≤ connective_row mark → Parted i j f g → Operands mark f g
+as_operands mark i j f g low high o =
+    let l = and_parts (nat_le (form f) i) (not (ends_in_binder f)) o.0 in
+    record { left = o.2; right = o.3; below = omega (arith, leb-true (form f) i l.0, low); row = omega (arith, o.1, high); open_end = not-true (ends_in_binder f) l.1 }
+
 pub joined-operands : (mark : Connective) (f g : Syntax) → IsTrue (fits (joined mark f g)) → Operands mark f g
-joined-operands connective.And f g h =
-    let o = operands 0 1 f g h in
-    let l = and_parts (nat_le (form f) 0) (not (ends_in_binder f)) o.0 in
-    record { left = o.2; right = o.3; below = omega (arith, leb-true (form f) 0 l.0); row = o.1; open_end = not-true (ends_in_binder f) l.1 }
-joined-operands connective.Or f g h =
-    let o = operands 1 2 f g h in
-    let l = and_parts (nat_le (form f) 1) (not (ends_in_binder f)) o.0 in
-    record { left = o.2; right = o.3; below = omega (arith, leb-true (form f) 1 l.0); row = o.1; open_end = not-true (ends_in_binder f) l.1 }
-joined-operands connective.Implies f g h =
-    let o = operands 2 3 f g h in
-    let l = and_parts (nat_le (form f) 2) (not (ends_in_binder f)) o.0 in
-    record { left = o.2; right = o.3; below = omega (arith, leb-true (form f) 2 l.0); row = o.1; open_end = not-true (ends_in_binder f) l.1 }
+joined-operands connective.And f g h = as_operands connective.And 0 1 f g (omega arith) (omega arith) (operands 0 1 f g h)
+joined-operands connective.Or f g h = as_operands connective.Or 1 2 f g (omega arith) (omega arith) (operands 1 2 f g h)
+joined-operands connective.Implies f g h = as_operands connective.Implies 2 3 f g (omega arith) (omega arith) (operands 2 3 f g h)
 
 pub row-some : (mark : Connective) → 1 ≤ connective_row mark
 row-some connective.And = omega arith
@@ -67,14 +63,9 @@ row-some connective.Implies = omega arith
 
 one_sign : (m n : Connective) → connective_row m ≡ connective_row n → m ≡ n
 one_sign connective.And connective.And e = refl
-one_sign connective.And connective.Or e = absurd (omega (arith, e))
-one_sign connective.And connective.Implies e = absurd (omega (arith, e))
-one_sign connective.Or connective.And e = absurd (omega (arith, e))
 one_sign connective.Or connective.Or e = refl
-one_sign connective.Or connective.Implies e = absurd (omega (arith, e))
-one_sign connective.Implies connective.And e = absurd (omega (arith, e))
-one_sign connective.Implies connective.Or e = absurd (omega (arith, e))
 one_sign connective.Implies connective.Implies e = refl
+one_sign _ _ e = absurd (omega (arith, e))
 
 -- the tokens of a joined formula, sign by sign
 joined-split : (mark : Connective) (l r : Syntax) (m : List Token) → tokens (joined mark l r) ++ m ≡ tokens l ++ connective_token mark ∷ (tokens r ++ m)
@@ -85,6 +76,9 @@ pub record LeftOperand (mark : Connective) (left : Syntax) : Type 0 where
   pub grammatical : IsTrue (fits left)
   pub below : form left < connective_row mark
   pub open_end : ends_in_binder left ≡ false
+
+own_left : (mark : Connective) (l r : Syntax) → IsTrue (fits (joined mark l r)) → LeftOperand mark l
+own_left mark l r h = let o = joined-operands mark l r h in record { grammatical = o.left; below = o.below; open_end = o.open_end }
 
 -- a left operand stands before its sign
 pub left-standing : (mark : Connective) (left : Syntax) (ts : List Token) → LeftOperand mark left → Standing left (connective_token mark ∷ ts)
@@ -124,52 +118,38 @@ too_low mark left s ts w low m st far e =
 -- at the sign itself
 at_sign : (mark : Connective) (left l r : Syntax) (ts : List Token) → LeftOperand mark left → HasOperand mark left ts (joined mark l r)
 at_sign mark left l r ts w m st far e =
-    let some = row-some mark in
     let o = joined-operands mark l r st.grammatical in
-    let below = w.below in
-    let low = o.below in
-    let own : LeftOperand mark l = record { grammatical = o.left; below = o.below; open_end = o.open_end } in
-    let row : state_row (connective_token mark ∷ ts) ≡ connective_row mark = connective-row mark ts in
-    let row' : state_row (connective_token mark ∷ (tokens r ++ m)) ≡ connective_row mark = connective-row mark (tokens r ++ m) in
-    let p = one-state (connective_row mark - 1) l left (connective_token mark ∷ (tokens r ++ m)) (connective_token mark ∷ ts) (left-standing mark l (tokens r ++ m) own) (left-standing mark left ts w)
-    (omega arith) (omega arith) (omega arith) (omega arith) (sym (joined-split mark l r m) ∙ e) in
-    let deep : nesting (joined mark l r) ≡ 1 + max (nesting l) (nesting r) = joined-nesting mark l r in
-    let wide : parens (joined mark l r) ≡ max (parens l) (parens r) = joined-parens mark l r in
-    let same : nesting l ≡ nesting left = ap nesting p.0 in
-    let right_row = o.row in
+    let on : List Token = tokens r ++ m in
+    let p = one-state (connective_row mark - 1) l left (connective_token mark ∷ on) (connective_token mark ∷ ts) (left-standing mark l on (own_left mark l r st.grammatical)) (left-standing mark left ts w)
+    (omega (arith, o.below)) (omega (arith, w.below)) (omega (arith, row-some mark, connective-row mark on)) (omega (arith, row-some mark, connective-row mark ts)) (sym (joined-split mark l r m) ∙ e) in
+    let deep = (joined-is mark l r).nesting in
     record {
       operand = r;
       rest = m;
-      standing = record { grammatical = o.right; ended = omega arith; reaches = λ b. st.reaches (joined-ends mark l r ∙ b) };
+      standing = record { grammatical = o.right; ended = omega (arith, o.row); reaches = λ b. st.reaches ((joined-is mark l r).ends ∙ b) };
       row = o.row;
       stops = far;
-      nests = omega arith;
-      beside = omega arith;
-      opens = omega arith;
+      nests = omega (arith, deep);
+      beside = omega (arith, deep, ap nesting p.0);
+      opens = omega (arith, (joined-is mark l r).parens);
       spelled = ap (drop 1) p.1;
     }
 
 -- of a formula that is joined by a weaker sign, the left operand has it
 before_sign : (mark mark' : Connective) (left l r : Syntax) (ts : List Token) → connective_row mark < connective_row mark' → HasOperand mark left ts l → HasOperand mark left ts (joined mark' l r)
 before_sign mark mark' left l r ts weaker inner m st far e =
-    let o = joined-operands mark' l r st.grammatical in
-    let own : LeftOperand mark' l = record { grammatical = o.left; below = o.below; open_end = o.open_end } in
-    let row : state_row (connective_token mark' ∷ (tokens r ++ m)) ≡ connective_row mark' = connective-row mark' (tokens r ++ m) in
-    let h = inner (connective_token mark' ∷ (tokens r ++ m)) (left-standing mark' l (tokens r ++ m) own) (omega arith) (sym (joined-split mark' l r m) ∙ e) in
-    let deep : nesting (joined mark' l r) ≡ 1 + max (nesting l) (nesting r) = joined-nesting mark' l r in
-    let wide : parens (joined mark' l r) ≡ max (parens l) (parens r) = joined-parens mark' l r in
-    let nests = h.nests in
-    let beside = h.beside in
-    let opens = h.opens in
+    let on : List Token = tokens r ++ m in
+    let h = inner (connective_token mark' ∷ on) (left-standing mark' l on (own_left mark' l r st.grammatical)) (omega (arith, connective-row mark' on)) (sym (joined-split mark' l r m) ∙ e) in
+    let deep = (joined-is mark' l r).nesting in
     record {
       operand = h.operand;
       rest = h.rest;
       standing = h.standing;
       row = h.row;
       stops = h.stops;
-      nests = omega arith;
-      beside = omega arith;
-      opens = omega arith;
+      nests = omega (arith, deep, h.nests);
+      beside = omega (arith, deep, h.beside);
+      opens = omega (arith, (joined-is mark' l r).parens, h.opens);
       spelled = h.spelled;
     }
 
@@ -178,7 +158,7 @@ in_joined mark mark' left l r ts w inner =
     elim (cases_order (connective_row mark) (connective_row mark')) as (λ o. HasOperand mark left ts (joined mark' l r)) [
       | inl same ↦ subst (λ sign. HasOperand mark left ts (joined sign l r)) (one_sign mark mark' same) (at_sign mark left l r ts w)
       | inr (inl weaker) ↦ before_sign mark mark' left l r ts weaker inner
-      | inr (inr stronger) ↦ too_low mark left (joined mark' l r) ts w (let own : form (joined mark' l r) ≡ connective_row mark' = joined-form mark' l r in omega arith)
+      | inr (inr stronger) ↦ too_low mark left (joined mark' l r) ts w (let own : form (joined mark' l r) ≡ connective_row mark' = (joined-is mark' l r).form in omega arith)
     ]
 
 unary_low : (mark : Connective) (s : Syntax) → form s ≤ 0 → form s < connective_row mark
@@ -201,24 +181,17 @@ pub record FirstUnary (s : Syntax) (ts : List Token) : Type 0 where
   pub opens : parens operand ≤ parens s
   pub spelled : tokens operand ++ rest ≡ ts
 
-own_left : (mark : Connective) (l r : Syntax) → IsTrue (fits (joined mark l r)) → LeftOperand mark l
-own_left mark l r h = let o = joined-operands mark l r h in record { grammatical = o.left; below = o.below; open_end = o.open_end }
-
 first_joined : (mark : Connective) (l r : Syntax) (m : List Token) → Standing (joined mark l r) m → ((m : List Token) → Standing l m → FirstUnary l (tokens l ++ m))
     → FirstUnary (joined mark l r) (tokens (joined mark l r) ++ m)
 first_joined mark l r m st inner =
     let h = inner (connective_token mark ∷ (tokens r ++ m)) (left-standing mark l (tokens r ++ m) (own_left mark l r st.grammatical)) in
-    let deep : nesting (joined mark l r) ≡ 1 + max (nesting l) (nesting r) = joined-nesting mark l r in
-    let wide : parens (joined mark l r) ≡ max (parens l) (parens r) = joined-parens mark l r in
-    let nests = h.nests in
-    let opens = h.opens in
     record {
       operand = h.operand;
       rest = h.rest;
       standing = h.standing;
       row = h.row;
-      nests = omega arith;
-      opens = omega arith;
+      nests = omega (arith, (joined-is mark l r).nesting, h.nests);
+      opens = omega (arith, (joined-is mark l r).parens, h.opens);
       spelled = h.spelled ∙ sym (joined-split mark l r m);
     }
 

@@ -1,5 +1,5 @@
 -- A formula's tree is found again from its tokens, so tokens have one tree at most.
-use Rattle.std.proofs.Common.{◌≡◌, ℕ, zero, suc, ◌+◌, ◌≤◌, Bool, true, false, not, ◌&&◌, List, [], ◌∷◌, ◌++◌, Some, None, refl, sym, ap, ◌∙◌, subst, arith, append_assoc, append-nil, inl, inr}
+use Rattle.std.proofs.Common.{◌≡◌, ℕ, zero, suc, ◌+◌, ◌<◌, ◌≤◌, Bool, true, false, not, ◌&&◌, List, [], ◌∷◌, ◌++◌, Some, None, refl, sym, ap, ◌∙◌, subst, arith, append_assoc, append-nil, inl, inr}
 use Rattle.std.specs.Prelude.{nat_le, nat_lt, ◌==◌, if◌then◌else◌}
 use Rattle.std.proofs.lemmas.Bool.{leb-true, ltb-true, lt-ltb, ne_eqb, eq-eqb, and_parts, not-true, cases_eq}
 use Rattle.formula.specs.Token.{Token, Name, TrueWord, FalseWord, MuWord, NuWord, ImpliesSign, OrSign, AndSign, NotSign, Less, Greater, OpenBox, CloseBox, Open, Close, Dot}
@@ -84,19 +84,7 @@ size (Dia' r f) = suc (reg_size r + size f)
 size (Box' r f) = suc (reg_size r + size f)
 size (Mu' name f) = suc (size f)
 size (Nu' name f) = suc (size f)
-size _ = 1
-
-some_tree : (f : Syntax) → 1 ≤ size f
-some_tree (Group' f) = omega arith
-some_tree (Neg' f) = omega arith
-some_tree (Both' f g) = omega arith
-some_tree (OneOf' f g) = omega arith
-some_tree (If' f g) = omega arith
-some_tree (Dia' r f) = omega arith
-some_tree (Box' r f) = omega arith
-some_tree (Mu' name f) = omega arith
-some_tree (Nu' name f) = omega arith
-some_tree _ = omega arith
+size _ = 0
 
 pub any_formula : (f : Syntax) → form f ≤ 3
 any_formula (Both' f g) = omega arith
@@ -130,17 +118,17 @@ lifted regular read ts m f j (suc k) le e h =
 
 -- the tree is found, as each form that it has
 abbrev Reads : Syntax → Type 0
-Reads f = (k n : ℕ) (m : List Token) → form f ≤ k → size f ≤ suc n → stops k m ≡ true → binder_stops (ends_in_binder f) m ≡ true
+Reads f = (k n : ℕ) (m : List Token) → form f ≤ k → size f ≤ n → stops k m ≡ true → binder_stops (ends_in_binder f) m ≡ true
     → levels (reg_read n) (read n) k (tokens f ++ m) ≡ Some (f, m)
 
-inner : (f : Syntax) → Reads f → (k n : ℕ) (m : List Token) → form f ≤ k → size f ≤ n → stops k m ≡ true → binder_stops (ends_in_binder f) m ≡ true
+inner : (f : Syntax) → Reads f → (k n : ℕ) (m : List Token) → form f ≤ k → size f < n → stops k m ≡ true → binder_stops (ends_in_binder f) m ≡ true
     → read n k (tokens f ++ m) ≡ Some (f, m)
-inner f reads k zero m a b c d = absurd (omega (arith, some_tree f))
-inner f reads k (suc n) m a b c d = reads k n m a b c d
+inner f reads k zero m a b c d = absurd (omega arith)
+inner f reads k (suc n) m a b c d = reads k n m a (omega arith) c d
 
 -- a tree of two operands that an operator joins
 joins : (t : Token) (a b : Syntax) (j : ℕ) → level t ≡ suc j → left_fits j a ≡ true → form b ≤ suc j → Reads a → Reads b
-    → (k n : ℕ) (m : List Token) → suc j ≤ k → suc (size a + size b) ≤ suc n → stops k m ≡ true → binder_stops (ends_in_binder b) m ≡ true
+    → (k n : ℕ) (m : List Token) → suc j ≤ k → suc (size a + size b) ≤ n → stops k m ≡ true → binder_stops (ends_in_binder b) m ≡ true
     → levels (reg_read n) (read n) k ((tokens a ++ t ∷ tokens b) ++ m) ≡ Some (joined t a b, m)
 joins t a b j at left fb ra rb k n m above small h d =
     let rest : List Token = tokens b ++ m in
@@ -148,7 +136,7 @@ joins t a b j at left fb ra rb k n m above small h d =
     let stop : stops j (t ∷ rest) ≡ true = lt-ltb j (level t) (omega (arith, at)) in
     let free : binder_stops (ends_in_binder a) (t ∷ rest) ≡ true = ap (λ e. binder_stops e (t ∷ rest)) (not-true (ends_in_binder a) l.1) in
     let first : levels (reg_read n) (read n) j (tokens a ++ (t ∷ rest)) ≡ Some (a, t ∷ rest) = ra j n (t ∷ rest) (leb-true (form a) j l.0) (omega arith) stop free in
-    let second : read n (suc j) rest ≡ Some (b, m) = inner b rb (suc j) n m fb (omega (arith, some_tree a)) (stops_below (suc j) k m above h) d in
+    let second : read n (suc j) rest ≡ Some (b, m) = inner b rb (suc j) n m fb (omega arith) (stops_below (suc j) k m above h) d in
     let here : (level t == suc j) ≡ true = eq-eqb (level t) (suc j) at in
     let both : levels (reg_read n) (read n) (suc j) (tokens a ++ (t ∷ rest)) ≡ Some (joined t a b, m) =
     ap (after (suc j) (read n)) first
@@ -159,7 +147,7 @@ joins t a b j at left fb ra rb k n m above small h d =
 
 -- a tree that is found as a unary form
 from_unary : (f : Syntax)
-    → ((n : ℕ) (m : List Token) → size f ≤ suc n → stops 0 m ≡ true → binder_stops (ends_in_binder f) m ≡ true → unary (reg_read n) (read n) (tokens f ++ m) ≡ Some (f, m)) → Reads f
+    → ((n : ℕ) (m : List Token) → size f ≤ n → stops 0 m ≡ true → binder_stops (ends_in_binder f) m ≡ true → unary (reg_read n) (read n) (tokens f ++ m) ≡ Some (f, m)) → Reads f
 from_unary f found k n m low small h d = lifted (reg_read n) (read n) (tokens f ++ m) m f 0 k (omega arith) (found n m small (stops_below 0 k m (omega arith) h) d) h
 
 -- of an operator with two operands of these forms
@@ -174,7 +162,7 @@ operands i j f g h =
     (z.0, leb-true (form g) j z.1, y.1, x.1)
 
 -- after a modality, whose regular formula is found
-modal : (close : Token) (r : RegSyntax) (f : Syntax) (n : ℕ) (m : List Token) → nat_lt 7 (reg_level close) ≡ true → reg_fits r ≡ true → reg_size r ≤ n
+modal : (close : Token) (r : RegSyntax) (f : Syntax) (n : ℕ) (m : List Token) → nat_lt 7 (reg_level close) ≡ true → reg_fits r ≡ true → reg_size r < n
     → reg_read n 7 ((reg_tokens r ++ close ∷ tokens f) ++ m) ≡ Some (r, close ∷ (tokens f ++ m))
 modal close r f n m h fit small = ap (reg_read n 7) (append_assoc (reg_tokens r) (close ∷ tokens f) m) ∙ reg_found r 7 n (close ∷ (tokens f ++ m)) fit (any_form r) small h
 
@@ -234,7 +222,7 @@ reads (Nu' x f) h =
 pub one_tree : (k : ℕ) (f g : Syntax) (m n : List Token) → fits f ≡ true → fits g ≡ true → form f ≤ k → form g ≤ k → stops k m ≡ true → stops k n ≡ true
     → binder_stops (ends_in_binder f) m ≡ true → binder_stops (ends_in_binder g) n ≡ true → tokens f ++ m ≡ tokens g ++ n → (f ≡ g) × (m ≡ n)
 one_tree k f g m n ff fg lf lg sm sn bm bn e =
-    let both : ℕ = size f + size g in
+    let both : ℕ = suc (size f + size g) in
     found_once (f, m) (g, n) (sym (inner f (reads f ff) k both m lf (omega arith) sm bm) ∙ (ap (read both k) e ∙ inner g (reads g fg) k both n lg (omega arith) sn bn))
 
 -- Tokens have one tree at most.

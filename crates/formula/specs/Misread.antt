@@ -1,13 +1,16 @@
 -- Where the reading of tokens ends, and why: which formulas begin with the tokens up to there, and which stand at the front.
-use Rattle.std.specs.Prelude.{◌≡◌, ℕ, ◌<◌, ◌≤◌, true, List, [], ◌∷◌, ◌++◌, length, take, IsTrue, Some, suc, slice_get}
+use Rattle.std.specs.Prelude.{◌≡◌, ℕ, ◌<◌, ◌≤◌, true, List, [], ◌∷◌, ◌++◌, length, take, IsTrue, Some, Result, MatchResult, suc, slice_get}
 use Rattle.formula.specs.Token.{Token, Name}
 use Rattle.formula.specs.Syntax.{RegSyntax, reg_tokens, reg_fits, reg_form, reg_nesting, reg_parens, Syntax, tokens, fits, form, nesting, parens, ends_in_binder}
-use Rattle.formula.specs.Read.{reg_row, state_row}
+use Rattle.formula.specs.Written.{words}
+use Rattle.formula.specs.Read.{reg_row, state_row, regular_tokens, IsRegular, MayGoOn, state_tokens, IsState}
 use Rattle.formula.specs.Fault.{Begins, BeginsWithin}
 use Rattle.formula.specs.declared.error.FormulaFault.TheVariants as fault
 use Rattle.formula.specs.declared.error.FormulaError.{FormulaError}
 use Rattle.formula.specs.declared.error.FormulaError.TheVariants as refused
 use Rattle.formula.specs.declared.misread.Misread.{Misread}
+use Rattle.formula.specs.declared.regular.ReadRegular.{ReadRegular}
+use Rattle.formula.specs.declared.state.ReadState.{ReadState}
 use Rattle.formula.specs.declared.misread.Misread.TheVariants as misread
 
 -- a regular formula of this row that begins with these tokens; how deep it nests, and how many parentheses it opens
@@ -92,6 +95,43 @@ IsRegularMisread level depth inside ts e = IsMisread (BeginsRegular level) (Stan
 -- and with no state formula
 abbrev pub IsStateMisread : (level depth inside : ℕ) → List Token → Misread → Type 0
 IsStateMisread level depth inside ts e = IsMisread (BeginsState level) (StandsState level) depth inside ts e
+
+-- what was read of these tokens: a regular formula of this row within these limits, before a token that doesn't let it go on
+pub record ReadsRegular (level depth inside : ℕ) (ts : List Token) (r : ReadRegular) : Type 0 where
+  pub eaten : regular_tokens r ≡ ts
+  pub sound : IsRegular level depth inside r
+  pub stops : level < reg_row (words r.rest.now)
+
+-- the longest regular formula at the front of the tokens, or why there is none
+abbrev pub RegularOf : (level depth inside : ℕ) → List Token → Result ReadRegular Misread → Type 0
+RegularOf level depth inside ts result = MatchResult result (ReadsRegular level depth inside ts) (IsRegularMisread level depth inside ts)
+
+-- a regular formula of this row that begins with this one and takes more of the same tokens
+pub record LongerRegular (level depth inside : ℕ) (left r : ReadRegular) : Type 0 where
+  pub eaten : regular_tokens r ≡ regular_tokens left
+  pub sound : IsRegular level depth inside r
+  pub onward : MayGoOn r
+  pub shorter : length r.rest.now < length left.rest.now
+
+abbrev pub RegularFrom : (level depth inside : ℕ) → ReadRegular → Result ReadRegular Misread → Type 0
+RegularFrom level depth inside left result = MatchResult result (LongerRegular level depth inside left) (IsRegularMisread level depth inside (regular_tokens left))
+
+-- the same of state formulas
+pub record ReadsState (level depth inside : ℕ) (ts : List Token) (s : ReadState) : Type 0 where
+  pub eaten : state_tokens s ≡ ts
+  pub sound : IsState level depth inside s
+  pub stops : level < state_row (words s.rest.now)
+
+abbrev pub StateOf : (level depth inside : ℕ) → List Token → Result ReadState Misread → Type 0
+StateOf level depth inside ts result = MatchResult result (ReadsState level depth inside ts) (IsStateMisread level depth inside ts)
+
+pub record LongerState (level depth inside : ℕ) (left s : ReadState) : Type 0 where
+  pub eaten : state_tokens s ≡ state_tokens left
+  pub sound : IsState level depth inside s
+  pub shorter : length s.rest.now < length left.rest.now
+
+abbrev pub StateFrom : (level depth inside : ℕ) → ReadState → Result ReadState Misread → Type 0
+StateFrom level depth inside left result = MatchResult result (LongerState level depth inside left) (IsStateMisread level depth inside (state_tokens left))
 
 -- a formula that is these tokens
 pub record SpellsTokens (nested opened : ℕ) (ts : List Token) : Type 0 where

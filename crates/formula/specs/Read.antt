@@ -1,13 +1,12 @@
 -- What a parser has read, and how far what follows lets it go on.
-use Rattle.std.specs.Prelude.{◌≡◌, ◌⊎◌, ℕ, ◌+◌, ◌<◌, ◌≤◌, Bool, true, false, List, [], ◌∷◌, ◌++◌, max, IsTrue, IsFalse, ◌==◌, ◌||◌, Option, Some, None}
-use Rattle.formula.specs.Token.{Token, Name, Atom, TrueWord, FalseWord, TauWord, ImpliesSign, OrSign, AndSign, Bar, Dot, ChoiceSign, PlusSign, StarSign}
+use Rattle.std.specs.Prelude.{◌≡◌, ◌⊎◌, ℕ, ◌<◌, ◌≤◌, Bool, true, false, List, [], ◌∷◌, ◌++◌, IsTrue, IsFalse, ◌==◌, ◌||◌, Option, Some, None}
+use Rattle.formula.specs.Token.{Token, Name, Atom, TrueWord, FalseWord, MuWord, NuWord, TauWord, NotSign, Less, OpenBox, ImpliesSign, OrSign, AndSign, Bar, Dot, ChoiceSign, PlusSign, StarSign}
 use Rattle.formula.specs.Syntax.{reg_tokens, reg_fits, reg_form, reg_nesting, reg_parens, Syntax, tokens, fits, form, nesting, parens, ends_in_binder, is_within_limits}
-use Rattle.formula.specs.Written.{words, reg_syntax, state_syntax, infixed, repeated, infix_token, repeat_token, joined, connective_token}
+use Rattle.formula.specs.Written.{words, reg_syntax, state_syntax, infix_token, infix_row, repeat_token, connective_token, opening, binder_token}
 use Rattle.formula.specs.declared.error.FormulaFault.{FormulaFault}
 use Rattle.formula.specs.declared.error.FormulaError.{FormulaError}
 use Rattle.formula.specs.declared.error.FormulaError.TheVariants as refused
-use Rattle.formula.specs.declared.written.Infix.{Infix}
-use Rattle.formula.specs.declared.written.Repeat.{Repeat}
+use Rattle.formula.specs.declared.token.Placed.{Placed}
 use Rattle.formula.specs.declared.written.WrittenRegular.{WrittenRegular}
 use Rattle.formula.specs.declared.written.Connective.{Connective}
 use Rattle.formula.specs.declared.written.WrittenState.{WrittenState}
@@ -15,6 +14,8 @@ use Rattle.formula.specs.declared.regular.Suffix.{Suffix}
 use Rattle.formula.specs.declared.regular.Suffix.TheVariants as suffix
 use Rattle.formula.specs.declared.regular.ReadRegular.{ReadRegular}
 use Rattle.formula.specs.declared.state.ReadState.{ReadState}
+use Rattle.formula.specs.declared.state.Prefix.{Prefix}
+use Rattle.formula.specs.declared.state.Prefix.TheVariants as prefix
 
 -- the row of the grammar's table that the first token would make of a regular formula before it; 8 where it can't go on
 abbrev pub reg_row : List Token → ℕ
@@ -35,49 +36,58 @@ state_row (OrSign ∷ more) = 2
 state_row (ImpliesSign ∷ more) = 3
 state_row _ = 4
 
+-- what was read: this formula, of this height, before these tokens
+pub record IsRegularOf (syntax : WrittenRegular) (height : ℕ) (rest : List Placed) (r : ReadRegular) : Type 0 where
+  pub is : r.syntax.value ≡ syntax
+  pub high : r.height ≡ height
+  pub after : r.rest.now ≡ rest
+
+pub record IsStateOf (syntax : WrittenState) (height : ℕ) (rest : List Placed) (s : ReadState) : Type 0 where
+  pub is : s.syntax.value ≡ syntax
+  pub high : s.height ≡ height
+  pub after : s.rest.now ≡ rest
+
 -- the tokens of what was read, and those after it
 abbrev pub regular_tokens : ReadRegular → List Token
-regular_tokens r = reg_tokens (reg_syntax r.syntax) ++ words r.rest.now
+regular_tokens r = reg_tokens (reg_syntax r.syntax.value) ++ words r.rest.now
 
 -- a regular formula of this row, of this height, within these limits
 pub record IsRegular (level depth inside : ℕ) (r : ReadRegular) : Type 0 where
-  pub grammatical : IsTrue (reg_fits (reg_syntax r.syntax))
-  pub row : reg_form (reg_syntax r.syntax) ≤ level
-  pub height : r.height ≡ reg_nesting (reg_syntax r.syntax)
+  pub grammatical : IsTrue (reg_fits (reg_syntax r.syntax.value))
+  pub row : reg_form (reg_syntax r.syntax.value) ≤ level
+  pub height : r.height ≡ reg_nesting (reg_syntax r.syntax.value)
   pub low : r.height ≤ depth
-  pub narrow : reg_parens (reg_syntax r.syntax) ≤ inside
+  pub narrow : reg_parens (reg_syntax r.syntax.value) ≤ inside
 
 abbrev pub state_tokens : ReadState → List Token
-state_tokens s = tokens (state_syntax s.syntax) ++ words s.rest.now
+state_tokens s = tokens (state_syntax s.syntax.value) ++ words s.rest.now
 
 -- A state formula of this row, of this height, within these limits. A binder at its end reaches as far as possible.
 pub record IsState (level depth inside : ℕ) (s : ReadState) : Type 0 where
-  pub grammatical : IsTrue (fits (state_syntax s.syntax))
-  pub row : form (state_syntax s.syntax) ≤ level
-  pub height : s.height ≡ nesting (state_syntax s.syntax)
+  pub grammatical : IsTrue (fits (state_syntax s.syntax.value))
+  pub row : form (state_syntax s.syntax.value) ≤ level
+  pub height : s.height ≡ nesting (state_syntax s.syntax.value)
   pub low : s.height ≤ depth
-  pub narrow : parens (state_syntax s.syntax) ≤ inside
-  pub reaches : ends_in_binder (state_syntax s.syntax) ≡ true → 3 < state_row (words s.rest.now)
-  pub ended : form (state_syntax s.syntax) < state_row (words s.rest.now)
+  pub narrow : parens (state_syntax s.syntax.value) ≤ inside
+  pub reaches : ends_in_binder (state_syntax s.syntax.value) ≡ true → 3 < state_row (words s.rest.now)
+  pub ended : form (state_syntax s.syntax.value) < state_row (words s.rest.now)
 
 -- What was read may stand before the next token in a longer formula, if that token goes on at all.
 abbrev pub MayGoOn : ReadRegular → Type 0
-MayGoOn r = let form = reg_form (reg_syntax r.syntax) in let row = reg_row (words r.rest.now) in (form < row) ⊎ ((form ≤ 5) × (row ≡ 5))
+MayGoOn r = let form = reg_form (reg_syntax r.syntax.value) in let row = reg_row (words r.rest.now) in (form < row) ⊎ ((form ≤ 5) × (row ≡ 5))
 
--- what was read, under a postfix sign
-pub record IsRepeated (left : ReadRegular) (sign : Repeat) (r : ReadRegular) : Type 0 where
-  pub syntax : reg_syntax r.syntax ≡ repeated sign (reg_syntax left.syntax)
-  pub height : r.height ≡ left.height + 1
+-- the token of what goes on after a regular formula, and the row of the grammar's table that it makes
+abbrev pub suffix_token : Suffix → Token
+suffix_token (suffix.Infix sign) = infix_token sign
+suffix_token (suffix.Repeat sign) = repeat_token sign
 
--- what was read, with a sign between
-pub record IsJoined (left : ReadRegular) (sign : Infix) (right r : ReadRegular) : Type 0 where
-  pub syntax : reg_syntax r.syntax ≡ infixed sign (reg_syntax left.syntax) (reg_syntax right.syntax)
-  pub height : r.height ≡ max left.height right.height + 1
+abbrev pub suffix_row : Suffix → ℕ
+suffix_row (suffix.Infix sign) = infix_row sign
+suffix_row (suffix.Repeat sign) = 5
 
 -- how the token goes on after a regular formula
 abbrev pub IsSuffix : Token → Option Suffix → Type 0
-IsSuffix token (Some (suffix.Infix sign)) = token ≡ infix_token sign
-IsSuffix token (Some (suffix.Repeat sign)) = token ≡ repeat_token sign
+IsSuffix token (Some next) = token ≡ suffix_token next
 IsSuffix token None = (more : List Token) → IsTrue (reg_row (token ∷ more) == 0 || reg_row (token ∷ more) == 8)
 
 -- whether the token is an atom by itself, whatever follows
@@ -98,15 +108,28 @@ abbrev pub MatchBar : List Token → Bool → Type 0
 MatchBar (Bar ∷ more) bar = bar ≡ true
 MatchBar more bar = (bar ≡ false) × (0 < reg_row more)
 
--- what was read, with a sign between
-pub record IsStateJoined (left : ReadState) (sign : Connective) (right s : ReadState) : Type 0 where
-  pub syntax : state_syntax s.syntax ≡ joined sign (state_syntax left.syntax) (state_syntax right.syntax)
-  pub height : s.height ≡ max left.height right.height + 1
-
 -- how the token goes on after a state formula
 abbrev pub IsConnective : Token → Option Connective → Type 0
 IsConnective token (Some sign) = token ≡ connective_token sign
 IsConnective token None = (more : List Token) → state_row (token ∷ more) ≡ 4
+
+-- the first token of what stands before a unary formula
+abbrev pub prefix_token : Prefix → Token
+prefix_token prefix.Not = NotSign
+prefix_token (prefix.Modal mark) = opening mark
+prefix_token (prefix.Bind word) = binder_token word
+
+abbrev pub is_prefix : Token → Bool
+is_prefix NotSign = true
+is_prefix Less = true
+is_prefix OpenBox = true
+is_prefix MuWord = true
+is_prefix NuWord = true
+is_prefix _ = false
+
+abbrev pub IsPrefix : Token → Option Prefix → Type 0
+IsPrefix token (Some prefix) = token ≡ prefix_token prefix
+IsPrefix token None = IsFalse (is_prefix token)
 
 -- whether the token is a state formula by itself
 abbrev pub is_state_word : Token → Bool

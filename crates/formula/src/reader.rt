@@ -52,7 +52,7 @@ fn written<'a>(alloc: Global, tokens: &'a [Placed<'a>]) -> Result<WrittenState<'
     if !whole.rest.is_empty() {
         return Err(Misread::unexpected(whole.rest));
     }
-    Ok(whole.syntax)
+    Ok(Box::into_inner(whole.syntax))
 }
 
 /// The refusal of the token with this number.

@@ -1,11 +1,10 @@
 // Reads regular formulas from tokens.
 
-ghost use Rattle.std.specs.Prelude.{◌≡◌, ◌+◌, ◌-◌, ◌^◌, ◌<◌, ◌≤◌, ◌++◌, ◌∷◌, [], List, length, map, max, IfOk, IfErr, MatchOption, MatchResult, IsTrue};
+ghost use Rattle.std.specs.Prelude.{◌≡◌, ◌+◌, ◌^◌, ◌<◌, ◌≤◌, ◌∷◌, length, MatchOption, MatchResult};
 ghost use Rattle.formula.specs.Token.{Name, Bar, Close, Open, NotSign};
-ghost use Rattle.formula.specs.Syntax.{reg_tokens, more_names};
-ghost use Rattle.formula.specs.Written.{token_of, words, reg_syntax, infix_token, infix_row, infixed, repeat_token, repeated as with_repeat};
-ghost use Rattle.formula.specs.Read.{regular_tokens, IsRegular, MayGoOn, IsRepeated, IsJoined, IsSuffix, IsWordOf, MatchBar, reg_row};
-ghost use Rattle.formula.specs.Misread.{IsMissing, IsNameMissing, IsRegularMisread};
+ghost use Rattle.formula.specs.Written.{token_of, words, infix_token, infix_row, repeat_token};
+ghost use Rattle.formula.specs.Read.{regular_tokens, IsRegular, IsRegularOf, MayGoOn, IsSuffix, suffix_row, suffix_token, IsWordOf, MatchBar, reg_row};
+ghost use Rattle.formula.specs.Misread.{IsMissing, IsNameMissing, RegularOf, RegularFrom};
 
 use crate::misread::Misread;
 use crate::room::{Room, boxed};
@@ -15,7 +14,7 @@ use crate::written::{Infix, Repeat, WrittenRegular};
 /// A regular formula, how deep its signs nest, and the tokens after it.
 #[derive(Drop)]
 pub struct ReadRegular<'a> {
-    pub syntax: WrittenRegular<'a>,
+    pub syntax: Box<WrittenRegular<'a>>,
     pub height: usize,
     pub rest: &'a [Placed<'a>],
 }
@@ -33,6 +32,18 @@ enum Suffix {
     Infix(Infix),
 }
 
+impl Suffix {
+    /// The row of the grammar's table that it makes.
+    fn level(self) -> u8
+        ensures { result ≡ suffix_row self }
+    {
+        match self {
+            Suffix::Repeat(_) => POSTFIXED,
+            Suffix::Infix(sign) => sign.level(),
+        }
+    }
+}
+
 fn suffix_of(token: Token<'_>) -> Option<Suffix>
     ensures { IsSuffix (token_of token.entry) result }
 {
@@ -48,45 +59,19 @@ fn suffix_of(token: Token<'_>) -> Option<Suffix>
     }
 }
 
-/// The formula under a postfix sign, with the tokens after the sign.
-fn repeated<'a>(
+/// A formula that was read, of this height and before these tokens.
+fn built<'a>(
     room: Room,
-    left: ReadRegular<'a>,
-    repeat: Repeat,
+    syntax: WrittenRegular<'a>,
+    height: usize,
     rest: &'a [Placed<'a>],
 ) -> Result<ReadRegular<'a>, Misread>
-    requires { left.height < room.depth }
-    ensures { MatchResult result (λ r. IsRepeated left.entry repeat r × (r.rest.now ≡ rest.now)) (λ e. e ≡ Misread.Memory) }
+    ensures { MatchResult result (IsRegularOf syntax.entry height rest.now) (λ e. e ≡ Misread.Memory) }
 {
-    let syntax = WrittenRegular::Repeated(repeat, boxed(room.alloc, left.syntax)?);
     Ok(ReadRegular {
-        syntax,
-        height: left.height + 1,
-        rest,
-    })
-}
-
-/// The formula of two with a sign between them.
-fn joined<'a>(
-    room: Room,
-    left: ReadRegular<'a>,
-    sign: Infix,
-    right: ReadRegular<'a>,
-) -> Result<ReadRegular<'a>, Misread>
-    requires left { left.height < room.depth }
-    requires right { right.height < room.depth }
-    ensures { MatchResult result (λ r. IsJoined left.entry sign right.entry r × (r.rest.now ≡ right.entry.rest.now)) (λ e. e ≡ Misread.Memory) }
-{
-    let height = left.height.max(right.height) + 1;
-    let syntax = WrittenRegular::Joined(
-        sign,
-        boxed(room.alloc, left.syntax)?,
-        boxed(room.alloc, right.syntax)?,
-    );
-    Ok(ReadRegular {
-        syntax,
+        syntax: boxed(room.alloc, syntax)?,
         height,
-        rest: right.rest,
+        rest,
     })
 }
 
@@ -159,11 +144,7 @@ fn names<'a>(
     first: &'a [u8],
     tokens: &'a [Placed<'a>],
 ) -> Result<ReadRegular<'a>, Misread>
-    ensures eaten { IfOk result (λ r. regular_tokens r ≡ Name first.now ∷ words tokens.now) }
-    ensures sound { IfOk result (λ r. IsRegular 0 room.depth room.parens r) }
-    ensures refused { IfErr result (IsRegularMisread 1 room.depth room.parens (Name first.now ∷ words tokens.now)) }
-    ensures stops { IfOk result (λ r. 1 < reg_row (words r.rest.now)) }
-    ensures shorter { IfOk result (λ r. length r.rest.now ≤ length tokens.now) }
+    ensures { RegularOf 1 room.depth room.parens (Name first.now ∷ words tokens.now) result }
 {
     let mut others = Vec::new(room.alloc);
     let mut at = 0;
@@ -172,12 +153,7 @@ fn names<'a>(
         others.push(name)?;
         at += 2;
     }
-    let syntax = WrittenRegular::Names(first, others);
-    Ok(ReadRegular {
-        syntax,
-        height: 0,
-        rest: &tokens[at..],
-    })
+    built(room, WrittenRegular::Names(first, others), 0, &tokens[at..])
 }
 
 /// This atom, which no bar may follow.
@@ -212,57 +188,29 @@ fn after_repeat(rest: &[Placed<'_>]) -> Result<(), Misread>
 /// What stands after an opening parenthesis, up to the closing one.
 #[cycle(regular)]
 fn parens<'a>(room: Room, tokens: &'a [Placed<'a>]) -> Result<ReadRegular<'a>, Misread>
-    ensures eaten { IfOk result (λ r. regular_tokens r ≡ Open ∷ words tokens.now) }
-    ensures sound { IfOk result (λ r. IsRegular 0 room.depth (room.parens + 1) r) }
-    ensures refused { IfErr result (IsRegularMisread 1 room.depth (room.parens + 1) (Open ∷ words tokens.now)) }
-    ensures shorter { IfOk result (λ r. length r.rest.now < length tokens.now) }
-    ensures stops { IfOk result (λ r. 1 < reg_row (words r.rest.now)) }
+    ensures { RegularOf 1 room.depth (room.parens + 1) (Open ∷ words tokens.now) result }
 {
-    let ReadRegular {
-        syntax,
-        height,
-        rest,
-    } = regular(room, ANY_REGULAR, tokens)?;
-    let rest = after_close(rest)?;
-    let syntax = WrittenRegular::Parens(boxed(room.alloc, syntax)?);
-    unbarred(ReadRegular {
-        syntax,
-        height,
-        rest,
-    })
+    let inner = regular(room, ANY_REGULAR, tokens)?;
+    let rest = after_close(inner.rest)?;
+    let syntax = WrittenRegular::Parens(inner.syntax);
+    unbarred(built(room, syntax, inner.height, rest)?)
 }
 
 /// What stands after a `!`.
 #[cycle(regular)]
 fn negated<'a>(room: Room, tokens: &'a [Placed<'a>]) -> Result<ReadRegular<'a>, Misread>
     requires { room.depth + 1 < 2 ^ 64 }
-    ensures eaten { IfOk result (λ r. regular_tokens r ≡ NotSign ∷ words tokens.now) }
-    ensures sound { IfOk result (λ r. IsRegular 1 (room.depth + 1) room.parens r) }
-    ensures refused { IfErr result (IsRegularMisread 1 (room.depth + 1) room.parens (NotSign ∷ words tokens.now)) }
-    ensures shorter { IfOk result (λ r. length r.rest.now < length tokens.now) }
-    ensures stops { IfOk result (λ r. 1 < reg_row (words r.rest.now)) }
+    ensures { RegularOf 1 (room.depth + 1) room.parens (NotSign ∷ words tokens.now) result }
 {
-    let ReadRegular {
-        syntax,
-        height,
-        rest,
-    } = negation(room, tokens)?;
-    let syntax = WrittenRegular::Not(boxed(room.alloc, syntax)?);
-    Ok(ReadRegular {
-        syntax,
-        height: height + 1,
-        rest,
-    })
+    let inner = negation(room, tokens)?;
+    let syntax = WrittenRegular::Not(inner.syntax);
+    built(room, syntax, inner.height + 1, inner.rest)
 }
 
 /// A negation or an atom.
 #[cycle(regular)]
 fn negation<'a>(room: Room, tokens: &'a [Placed<'a>]) -> Result<ReadRegular<'a>, Misread>
-    ensures eaten { IfOk result (λ r. regular_tokens r ≡ words tokens.now) }
-    ensures sound { IfOk result (λ r. IsRegular 1 room.depth room.parens r) }
-    ensures refused { IfErr result (IsRegularMisread 1 room.depth room.parens (words tokens.now)) }
-    ensures shorter { IfOk result (λ r. length r.rest.now < length tokens.now) }
-    ensures stops { IfOk result (λ r. 1 < reg_row (words r.rest.now)) }
+    ensures { RegularOf 1 room.depth room.parens (words tokens.now) result }
 {
     let Some((first, rest)) = tokens.split_first() else {
         return Err(Misread::unexpected(tokens));
@@ -272,11 +220,7 @@ fn negation<'a>(room: Room, tokens: &'a [Placed<'a>]) -> Result<ReadRegular<'a>,
         Token::Open => parens(room.inside(tokens)?, rest),
         Token::Name(name) => names(room, name, rest),
         token => match word(token) {
-            Some(syntax) => unbarred(ReadRegular {
-                syntax,
-                height: 0,
-                rest,
-            }),
+            Some(syntax) => unbarred(built(room, syntax, 0, rest)?),
             None => Err(Misread::unexpected(tokens)),
         },
     }
@@ -291,13 +235,25 @@ pub fn regular<'a>(
 ) -> Result<ReadRegular<'a>, Misread>
     requires above { 1 ≤ level }
     requires row { level ≤ 7 }
-    ensures eaten { IfOk result (λ r. regular_tokens r ≡ words tokens.now) }
-    ensures sound { IfOk result (λ r. IsRegular level room.depth room.parens r) }
-    ensures refused { IfErr result (IsRegularMisread level room.depth room.parens (words tokens.now)) }
-    ensures shorter { IfOk result (λ r. length r.rest.now < length tokens.now) }
-    ensures stops { IfOk result (λ r. level < reg_row (words r.rest.now)) }
+    ensures { RegularOf level room.depth room.parens (words tokens.now) result }
 {
     extended(room, level, negation(room, tokens)?)
+}
+
+/// What goes on after a formula of this row, and the tokens after it.
+fn suffix_first<'a>(level: u8, tokens: &'a [Placed<'a>]) -> Option<(Suffix, &'a [Placed<'a>])>
+    requires { level ≤ 7 }
+    ensures { MatchOption result
+        (0 < reg_row (words tokens.now) → level < reg_row (words tokens.now))
+        (λ (suffix, rest). (suffix_row suffix ≤ level) × (words tokens.now ≡ suffix_token suffix ∷ words rest.now)) }
+{
+    let (first, rest) = tokens.split_first()?;
+    let suffix = suffix_of(first.token)?;
+    if suffix.level() <= level {
+        Some((suffix, rest))
+    } else {
+        None
+    }
 }
 
 /// The longest formula of this row that begins with this one.
@@ -306,29 +262,77 @@ fn extended<'a>(room: Room, level: u8, left: ReadRegular<'a>) -> Result<ReadRegu
     requires row { level ≤ 7 }
     requires left { IsRegular level room.depth room.parens left }
     requires onward { MayGoOn left }
-    ensures eaten { IfOk result (λ r. regular_tokens r ≡ regular_tokens left.entry) }
-    ensures sound { IfOk result (λ r. IsRegular level room.depth room.parens r) }
-    ensures refused { IfErr result (IsRegularMisread level room.depth room.parens (regular_tokens left.entry)) }
-    ensures shorter { IfOk result (λ r. length r.rest.now ≤ length left.entry.rest.now) }
-    ensures stops { IfOk result (λ r. level < reg_row (words r.rest.now)) }
+    ensures { RegularOf level room.depth room.parens (regular_tokens left.entry) result }
 {
-    let tokens = left.rest;
-    let Some((first, rest)) = tokens.split_first() else {
-        return Ok(left);
-    };
-    match suffix_of(first.token) {
-        Some(Suffix::Repeat(repeat)) if POSTFIXED <= level => {
-            let _ = room.below(tokens, left.height)?;
-            after_repeat(rest)?;
-            let longer = repeated(room, left, repeat, rest)?;
+    match suffix_first(level, left.rest) {
+        Some((suffix, rest)) => {
+            let longer = lengthened(room, level, left, suffix, rest)?;
             extended(room, level, longer)
         }
-        Some(Suffix::Infix(sign)) if sign.level() <= level => {
-            let below = room.below(tokens, left.height)?;
-            let right = regular(below, sign.level(), rest)?;
-            let longer = joined(room, left, sign, right)?;
-            extended(room, level, longer)
-        }
-        _ => Ok(left),
+        None => Ok(left),
     }
+}
+
+/// The formula of this one, what goes on after it and its right operand where it has one.
+#[cycle(regular)]
+fn lengthened<'a>(
+    room: Room,
+    level: u8,
+    left: ReadRegular<'a>,
+    suffix: Suffix,
+    rest: &'a [Placed<'a>],
+) -> Result<ReadRegular<'a>, Misread>
+    requires row { level ≤ 7 }
+    requires left { IsRegular level room.depth room.parens left }
+    requires onward { MayGoOn left }
+    requires sign { suffix_row suffix ≤ level }
+    requires first { words left.rest.now ≡ suffix_token suffix ∷ words rest.now }
+    ensures { RegularFrom level room.depth room.parens left.entry result }
+{
+    match suffix {
+        Suffix::Repeat(repeat) => repeated(room, level, left, repeat, rest),
+        Suffix::Infix(sign) => joined(room, level, left, sign, rest),
+    }
+}
+
+/// The formula under a postfix sign that stands after it.
+fn repeated<'a>(
+    room: Room,
+    level: u8,
+    left: ReadRegular<'a>,
+    repeat: Repeat,
+    rest: &'a [Placed<'a>],
+) -> Result<ReadRegular<'a>, Misread>
+    requires left { IsRegular level room.depth room.parens left }
+    requires onward { MayGoOn left }
+    requires sign { 5 ≤ level }
+    requires first { words left.rest.now ≡ repeat_token repeat ∷ words rest.now }
+    ensures { RegularFrom level room.depth room.parens left.entry result }
+{
+    let _ = room.below(left.rest, left.height)?;
+    after_repeat(rest)?;
+    let syntax = WrittenRegular::Repeated(repeat, left.syntax);
+    built(room, syntax, left.height + 1, rest)
+}
+
+/// The formula of this one, the sign after it and the longest one after the sign.
+#[cycle(regular)]
+fn joined<'a>(
+    room: Room,
+    level: u8,
+    left: ReadRegular<'a>,
+    sign: Infix,
+    rest: &'a [Placed<'a>],
+) -> Result<ReadRegular<'a>, Misread>
+    requires left { IsRegular level room.depth room.parens left }
+    requires onward { MayGoOn left }
+    requires sign { infix_row sign ≤ level }
+    requires first { words left.rest.now ≡ infix_token sign ∷ words rest.now }
+    ensures { RegularFrom level room.depth room.parens left.entry result }
+{
+    let below = room.below(left.rest, left.height)?;
+    let right = regular(below, sign.level(), rest)?;
+    let height = left.height.max(right.height) + 1;
+    let syntax = WrittenRegular::Joined(sign, left.syntax, right.syntax);
+    built(room, syntax, height, right.rest)
 }

@@ -1,10 +1,10 @@
 // Reads state formulas from tokens.
 
-ghost use Rattle.std.specs.Prelude.{◌≡◌, ◌+◌, ◌-◌, ◌^◌, ◌<◌, ◌≤◌, ◌++◌, ◌∷◌, [], List, length, map, max, IfOk, IfErr, MatchOption, MatchResult, IsTrue};
+ghost use Rattle.std.specs.Prelude.{◌≡◌, ◌+◌, ◌^◌, ◌<◌, ◌≤◌, ◌∷◌, MatchOption, MatchResult};
 ghost use Rattle.formula.specs.Token.{Name, Dot, Open, NotSign};
-ghost use Rattle.formula.specs.Written.{token_of, words, opening, closing, binder_token};
-ghost use Rattle.formula.specs.Read.{state_tokens, IsState, IsStateJoined, IsConnective, IsFormulaOf, state_row};
-ghost use Rattle.formula.specs.Misread.{IsMissing, IsStateMisread};
+ghost use Rattle.formula.specs.Written.{token_of, words, opening, closing, binder_token, connective_token, connective_row};
+ghost use Rattle.formula.specs.Read.{state_tokens, IsState, IsStateOf, IsConnective, IsFormulaOf, state_row, IsPrefix, prefix_token};
+ghost use Rattle.formula.specs.Misread.{IsMissing, StateOf, StateFrom};
 
 use crate::misread::Misread;
 use crate::regular::{ANY_REGULAR, after_close, name_first, regular};
@@ -15,13 +15,34 @@ use crate::written::{Binder, Brackets, Connective, WrittenState};
 /// A state formula, how deep its signs nest, and the tokens after it.
 #[derive(Drop)]
 pub struct ReadState<'a> {
-    pub syntax: WrittenState<'a>,
+    pub syntax: Box<WrittenState<'a>>,
     pub height: usize,
     pub rest: &'a [Placed<'a>],
 }
 
 /// The weakest row of the grammar's table: any state formula.
 pub const ANY_STATE: u8 = 3;
+
+/// What stands before a unary formula in a longer one.
+#[derive(Clone, Copy)]
+enum Prefix {
+    Not,
+    Modal(Brackets),
+    Bind(Binder),
+}
+
+fn prefix_of(token: Token<'_>) -> Option<Prefix>
+    ensures { IsPrefix (token_of token.entry) result }
+{
+    match token {
+        Token::NotSign => Some(Prefix::Not),
+        Token::Less => Some(Prefix::Modal(Brackets::Diamond)),
+        Token::OpenBox => Some(Prefix::Modal(Brackets::Box)),
+        Token::MuWord => Some(Prefix::Bind(Binder::Mu)),
+        Token::NuWord => Some(Prefix::Bind(Binder::Nu)),
+        _ => None,
+    }
+}
 
 fn connective(token: Token<'_>) -> Option<Connective>
     ensures { IsConnective (token_of token.entry) result }
@@ -100,48 +121,45 @@ fn after_bracket<'a>(
     }
 }
 
-/// What stands after an opening parenthesis, up to the closing one.
-#[cycle(state)]
-fn group<'a>(room: Room, tokens: &'a [Placed<'a>]) -> Result<ReadState<'a>, Misread>
-    ensures eaten { IfOk result (λ s. state_tokens s ≡ Open ∷ words tokens.now) }
-    ensures sound { IfOk result (λ s. IsState 0 room.depth (room.parens + 1) s) }
-    ensures refused { IfErr result (IsStateMisread 0 room.depth (room.parens + 1) (Open ∷ words tokens.now)) }
-    ensures shorter { IfOk result (λ s. length s.rest.now < length tokens.now) }
+/// A formula that was read, of this height and before these tokens.
+fn built<'a>(
+    room: Room,
+    syntax: WrittenState<'a>,
+    height: usize,
+    rest: &'a [Placed<'a>],
+) -> Result<ReadState<'a>, Misread>
+    ensures { MatchResult result (IsStateOf syntax.entry height rest.now) (λ e. e ≡ Misread.Memory) }
 {
-    let ReadState {
-        syntax,
-        height,
-        rest,
-    } = state(room, ANY_STATE, tokens)?;
-    let rest = after_close(rest)?;
-    let syntax = WrittenState::Group(boxed(room.alloc, syntax)?);
     Ok(ReadState {
-        syntax,
+        syntax: boxed(room.alloc, syntax)?,
         height,
         rest,
     })
+}
+
+/// What stands after an opening parenthesis, up to the closing one.
+#[cycle(state)]
+fn group<'a>(room: Room, tokens: &'a [Placed<'a>]) -> Result<ReadState<'a>, Misread>
+    ensures { StateOf 0 room.depth (room.parens + 1) (Open ∷ words tokens.now) result }
+{
+    let inner = state(room, ANY_STATE, tokens)?;
+    let rest = after_close(inner.rest)?;
+    built(room, WrittenState::Group(inner.syntax), inner.height, rest)
 }
 
 /// What stands after a `!`.
 #[cycle(state)]
 fn negated<'a>(room: Room, tokens: &'a [Placed<'a>]) -> Result<ReadState<'a>, Misread>
     requires { room.depth + 1 < 2 ^ 64 }
-    ensures eaten { IfOk result (λ s. state_tokens s ≡ NotSign ∷ words tokens.now) }
-    ensures sound { IfOk result (λ s. IsState 0 (room.depth + 1) room.parens s) }
-    ensures refused { IfErr result (IsStateMisread 0 (room.depth + 1) room.parens (NotSign ∷ words tokens.now)) }
-    ensures shorter { IfOk result (λ s. length s.rest.now < length tokens.now) }
+    ensures { StateOf 0 (room.depth + 1) room.parens (NotSign ∷ words tokens.now) result }
 {
-    let ReadState {
-        syntax,
-        height,
-        rest,
-    } = unary(room, tokens)?;
-    let syntax = WrittenState::Not(boxed(room.alloc, syntax)?);
-    Ok(ReadState {
-        syntax,
-        height: height + 1,
-        rest,
-    })
+    let inner = unary(room, tokens)?;
+    built(
+        room,
+        WrittenState::Not(inner.syntax),
+        inner.height + 1,
+        inner.rest,
+    )
 }
 
 /// What stands after the bracket that opens a modality.
@@ -152,73 +170,64 @@ fn modal<'a>(
     tokens: &'a [Placed<'a>],
 ) -> Result<ReadState<'a>, Misread>
     requires { room.depth + 1 < 2 ^ 64 }
-    ensures eaten { IfOk result (λ s. state_tokens s ≡ opening brackets ∷ words tokens.now) }
-    ensures sound { IfOk result (λ s. IsState 0 (room.depth + 1) room.parens s) }
-    ensures refused { IfErr result (IsStateMisread 0 (room.depth + 1) room.parens (opening brackets ∷ words tokens.now)) }
-    ensures shorter { IfOk result (λ s. length s.rest.now < length tokens.now) }
+    ensures { StateOf 0 (room.depth + 1) room.parens (opening brackets ∷ words tokens.now) result }
 {
     let inside = regular(room, ANY_REGULAR, tokens)?;
     let tokens = after_bracket(brackets, inside.rest)?;
-    let ReadState {
-        syntax,
-        height,
-        rest,
-    } = unary(room, tokens)?;
-    let height = inside.height.max(height) + 1;
-    let syntax = WrittenState::Modal(brackets, inside.syntax, boxed(room.alloc, syntax)?);
-    Ok(ReadState {
-        syntax,
-        height,
-        rest,
-    })
+    let inner = unary(room, tokens)?;
+    let height = inside.height.max(inner.height) + 1;
+    let regular = Box::into_inner(inside.syntax);
+    let syntax = WrittenState::Modal(brackets, regular, inner.syntax);
+    built(room, syntax, height, inner.rest)
 }
 
 /// What stands after the word of a binder.
 #[cycle(state)]
 fn bound<'a>(room: Room, binder: Binder, tokens: &'a [Placed<'a>]) -> Result<ReadState<'a>, Misread>
     requires { room.depth + 1 < 2 ^ 64 }
-    ensures eaten { IfOk result (λ s. state_tokens s ≡ binder_token binder ∷ words tokens.now) }
-    ensures sound { IfOk result (λ s. IsState 0 (room.depth + 1) room.parens s) }
-    ensures refused { IfErr result (IsStateMisread 0 (room.depth + 1) room.parens (binder_token binder ∷ words tokens.now)) }
-    ensures shorter { IfOk result (λ s. length s.rest.now < length tokens.now) }
+    ensures { StateOf 0 (room.depth + 1) room.parens (binder_token binder ∷ words tokens.now) result }
 {
     let (name, tokens) = name_first(tokens)?;
     let tokens = after_dot(tokens)?;
     let body = state(room, ANY_STATE, tokens)?;
-    let syntax = WrittenState::Bind(binder, name, boxed(room.alloc, body.syntax)?);
-    Ok(ReadState {
-        syntax,
-        height: body.height + 1,
-        rest: body.rest,
-    })
+    let syntax = WrittenState::Bind(binder, name, body.syntax);
+    built(room, syntax, body.height + 1, body.rest)
+}
+
+/// What stands after what is written before a unary formula.
+#[cycle(state)]
+fn prefixed<'a>(
+    room: Room,
+    prefix: Prefix,
+    tokens: &'a [Placed<'a>],
+) -> Result<ReadState<'a>, Misread>
+    requires { room.depth + 1 < 2 ^ 64 }
+    ensures { StateOf 0 (room.depth + 1) room.parens (prefix_token prefix ∷ words tokens.now) result }
+{
+    match prefix {
+        Prefix::Not => negated(room, tokens),
+        Prefix::Modal(brackets) => modal(room, brackets, tokens),
+        Prefix::Bind(binder) => bound(room, binder, tokens),
+    }
 }
 
 /// A unary formula.
 #[cycle(state)]
 fn unary<'a>(room: Room, tokens: &'a [Placed<'a>]) -> Result<ReadState<'a>, Misread>
-    ensures eaten { IfOk result (λ s. state_tokens s ≡ words tokens.now) }
-    ensures sound { IfOk result (λ s. IsState 0 room.depth room.parens s) }
-    ensures refused { IfErr result (IsStateMisread 0 room.depth room.parens (words tokens.now)) }
-    ensures shorter { IfOk result (λ s. length s.rest.now < length tokens.now) }
+    ensures { StateOf 0 room.depth room.parens (words tokens.now) result }
 {
     let Some((first, rest)) = tokens.split_first() else {
         return Err(Misread::unexpected(tokens));
     };
-    match first.token {
-        Token::NotSign => negated(room.below(tokens, 0)?, rest),
-        Token::Less => modal(room.below(tokens, 0)?, Brackets::Diamond, rest),
-        Token::OpenBox => modal(room.below(tokens, 0)?, Brackets::Box, rest),
-        Token::MuWord => bound(room.below(tokens, 0)?, Binder::Mu, rest),
-        Token::NuWord => bound(room.below(tokens, 0)?, Binder::Nu, rest),
-        Token::Open => group(room.inside(tokens)?, rest),
-        token => match word(token) {
-            Some(syntax) => Ok(ReadState {
-                syntax,
-                height: 0,
-                rest,
-            }),
-            None => Err(Misread::unexpected(tokens)),
-        },
+    if let Some(prefix) = prefix_of(first.token) {
+        return prefixed(room.below(tokens, 0)?, prefix, rest);
+    }
+    if let Token::Open = first.token {
+        return group(room.inside(tokens)?, rest);
+    }
+    match word(first.token) {
+        Some(syntax) => built(room, syntax, 0, rest),
+        None => Err(Misread::unexpected(tokens)),
     }
 }
 
@@ -226,13 +235,25 @@ fn unary<'a>(room: Room, tokens: &'a [Placed<'a>]) -> Result<ReadState<'a>, Misr
 #[cycle(state)]
 pub fn state<'a>(room: Room, level: u8, tokens: &'a [Placed<'a>]) -> Result<ReadState<'a>, Misread>
     requires { level ≤ 3 }
-    ensures eaten { IfOk result (λ s. state_tokens s ≡ words tokens.now) }
-    ensures sound { IfOk result (λ s. IsState level room.depth room.parens s) }
-    ensures refused { IfErr result (IsStateMisread level room.depth room.parens (words tokens.now)) }
-    ensures shorter { IfOk result (λ s. length s.rest.now < length tokens.now) }
-    ensures stops { IfOk result (λ s. level < state_row (words s.rest.now)) }
+    ensures { StateOf level room.depth room.parens (words tokens.now) result }
 {
     extended(room, level, unary(room, tokens)?)
+}
+
+/// The sign that goes on after a formula of this row, and the tokens after it.
+fn sign_first<'a>(level: u8, tokens: &'a [Placed<'a>]) -> Option<(Connective, &'a [Placed<'a>])>
+    requires { level ≤ 3 }
+    ensures { MatchOption result
+        (level < state_row (words tokens.now))
+        (λ (sign, rest). (connective_row sign ≤ level) × (words tokens.now ≡ connective_token sign ∷ words rest.now)) }
+{
+    let (first, rest) = tokens.split_first()?;
+    let sign = connective(first.token)?;
+    if sign.level() <= level {
+        Some((sign, rest))
+    } else {
+        None
+    }
 }
 
 /// The longest formula of this row that begins with this one.
@@ -240,47 +261,34 @@ pub fn state<'a>(room: Room, level: u8, tokens: &'a [Placed<'a>]) -> Result<Read
 fn extended<'a>(room: Room, level: u8, left: ReadState<'a>) -> Result<ReadState<'a>, Misread>
     requires level { level ≤ 3 }
     requires left { IsState level room.depth room.parens left }
-    ensures eaten { IfOk result (λ s. state_tokens s ≡ state_tokens left.entry) }
-    ensures sound { IfOk result (λ s. IsState level room.depth room.parens s) }
-    ensures refused { IfErr result (IsStateMisread level room.depth room.parens (state_tokens left.entry)) }
-    ensures shorter { IfOk result (λ s. length s.rest.now ≤ length left.entry.rest.now) }
-    ensures stops { IfOk result (λ s. level < state_row (words s.rest.now)) }
+    ensures { StateOf level room.depth room.parens (state_tokens left.entry) result }
 {
-    let tokens = left.rest;
-    let Some((first, rest)) = tokens.split_first() else {
-        return Ok(left);
-    };
-    match connective(first.token) {
-        Some(sign) if sign.level() <= level => {
-            let below = room.below(tokens, left.height)?;
-            let right = state(below, sign.level(), rest)?;
-            let longer = joined(room, left, sign, right)?;
+    match sign_first(level, left.rest) {
+        Some((sign, rest)) => {
+            let longer = joined(room, level, left, sign, rest)?;
             extended(room, level, longer)
         }
-        _ => Ok(left),
+        None => Ok(left),
     }
 }
 
-/// The formula of two with a sign between them.
+/// The formula of this one, the sign after it and the longest one after the sign.
+#[cycle(state)]
 fn joined<'a>(
     room: Room,
+    level: u8,
     left: ReadState<'a>,
     sign: Connective,
-    right: ReadState<'a>,
+    rest: &'a [Placed<'a>],
 ) -> Result<ReadState<'a>, Misread>
-    requires left { left.height < room.depth }
-    requires right { right.height < room.depth }
-    ensures { MatchResult result (λ s. IsStateJoined left.entry sign right.entry s × (s.rest.now ≡ right.entry.rest.now)) (λ e. e ≡ Misread.Memory) }
+    requires left { IsState level room.depth room.parens left }
+    requires sign { connective_row sign ≤ level }
+    requires first { words left.rest.now ≡ connective_token sign ∷ words rest.now }
+    ensures { StateFrom level room.depth room.parens left.entry result }
 {
+    let below = room.below(left.rest, left.height)?;
+    let right = state(below, sign.level(), rest)?;
     let height = left.height.max(right.height) + 1;
-    let syntax = WrittenState::Joined(
-        sign,
-        boxed(room.alloc, left.syntax)?,
-        boxed(room.alloc, right.syntax)?,
-    );
-    Ok(ReadState {
-        syntax,
-        height,
-        rest: right.rest,
-    })
+    let syntax = WrittenState::Joined(sign, left.syntax, right.syntax);
+    built(room, syntax, height, right.rest)
 }

@@ -15,7 +15,7 @@ returns-in_err-whole c =
     let result = c.from_residual.result in
     let p = err_from_is_err_and result c.from_residual.ensures.1 in
     let e = c.in_err-whole.field-0.0 in
-    subst (λ (r : Result WrittenState Misread). MatchResult r (λ written. IsWhole (state_syntax written) ts) (IsWholeMisread ts)) (sym (p.1 ∙ ap Err p.2)) (whole-misread ts e c.in_err-whole.ensures.refused)
+    subst (λ (r : Result WrittenState Misread). MatchResult r (λ written. IsWhole (state_syntax written) ts) (IsWholeMisread ts)) (sym (p.1 ∙ ap Err p.2)) (whole-misread ts e c.in_err-whole.ensures)
 
 pub returns-then-not-is_empty : goal.returns-then-not-is_empty
 returns-then-not-is_empty c =

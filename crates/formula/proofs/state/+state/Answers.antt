@@ -1,196 +1,150 @@
-use Rattle.std.proofs.Common.{rules, ◌≡◌, IfOk, IfErr, ap, refl, subst, List, ℕ, ◌-◌, ◌<◌}
-use Rattle.formula.specs.Token.{Token}
-use Rattle.formula.specs.Written.{connective_row, words, modal, reg_syntax, state_syntax}
+use Rattle.std.proofs.Common.{◌≡◌, ◌≤◌, ◌+◌, [], ◌∷◌, ◌∙◌, max, sym, ap, refl, subst, arith}
+use Rattle.formula.specs.Token.{Name, NotSign, Open}
+use Rattle.formula.specs.Written.{words, token_of, opening, modal, reg_syntax, state_syntax}
+use Rattle.formula.specs.Misread.{IsStateMisread, ReadsState, StateOf}
 use Rattle.formula.specs.declared.room.Room.{Room}
-use Rattle.formula.specs.Read.{state_tokens, IsState, state_row}
-use Rattle.formula.proofs.States.{state-joined-is, state-joined-eaten, modal-eaten, modal-is}
-use Rattle.formula.specs.Misread.{IsStateMisread}
-use Rattle.formula.specs.declared.written.Binder.TheVariants as binder
-use Rattle.formula.specs.declared.written.Brackets.TheVariants as brackets
-use Rattle.formula.proofs.StateEnds.{not-too-deep, modal-too-deep, binder-too-deep, group-too-wide, binder-unnamed, binder-undotted}
-use Rattle.lts.proofs.PassedOn.{passed_on}
-use Rattle.formula.proofs.StateRefusals.{within-not, within-group, within-front, within-brackets, within-modality, modality-unclosed, within-binder, parenthesis-unclosed, within-sign, beyond-sign, beyond-first, none-left, none-begins}
+use Rattle.formula.proofs.Misreads.{handed, built, below-room, misread-within as within}
+use Rattle.formula.proofs.StatePlaces.{after-not, in-group, at-front, in-brackets}
+use Rattle.formula.proofs.States.{group-read, not-read, modal-read, bound-read, joined-read, word-read}
+use Rattle.formula.proofs.StateEnds.{binder-unnamed, binder-undotted, group-too-wide}
+use Rattle.formula.proofs.StateRefusals.{within-modality, modality-unclosed, within-binder, parenthesis-unclosed, within-sign, beyond-sign, beyond-first, none-left, none-begins, prefix-too-deep, renamed}
 use Rattle.formula.proofs.state.+state.Goals as goal
 
-pub extended-extended-requires : goal.extended-extended-requires
-extended-extended-requires t c =
+pub group-returns-in_err-inner : goal.group-returns-in_err-inner
+group-returns-in_err-inner t c =
+    handed _ _ c.from_residual.result c.in_err-inner.field-0.0 c.from_residual.ensures.1 (within _ _ _ _ _ _ _ _ (Open ∷ []) _ _ (in-group _ _) c.in_err-inner.ensures)
+
+pub group-returns-in_err-rest : goal.group-returns-in_err-rest
+group-returns-in_err-rest t c =
+    handed _ _ c.from_residual-in_err-rest.result c.in_err-rest.field-0.0 c.from_residual-in_err-rest.ensures.1 (parenthesis-unclosed _ _ _ _ _ c.in_ok-inner.ensures c.in_err-rest.ensures)
+
+pub group-returns : goal.group-returns
+group-returns t c =
+    built _ _ _ c.built.result c.built.ensures tt (λ s b. group-read _ _ _ c.in_ok-inner.inner _ c.in_ok-rest.rest.now s b refl c.in_ok-inner.ensures c.in_ok-rest.ensures)
+
+pub negated-returns-in_err-inner : goal.negated-returns-in_err-inner
+negated-returns-in_err-inner t c =
+    handed _ _ c.from_residual.result c.in_err-inner.field-0.0 c.from_residual.ensures.1 (within _ _ _ _ _ _ _ _ (NotSign ∷ []) _ _ (after-not _ _) c.in_err-inner.ensures)
+
+pub negated-returns : goal.negated-returns
+negated-returns t c =
+    built _ _ _ c.built.result c.built.ensures tt (λ s b. not-read _ _ _ c.in_ok-inner.inner _ s b refl c.in_ok-inner.ensures)
+
+pub modal-returns-in_err-inside : goal.modal-returns-in_err-inside
+modal-returns-in_err-inside t c =
+    handed _ _ c.from_residual.result c.in_err-inside.field-0.0 c.from_residual.ensures.1 (within _ _ _ _ _ _ _ _ (opening c.args.brackets ∷ []) _ _ (in-brackets c.args.brackets _ _) c.in_err-inside.ensures)
+
+pub modal-returns-in_err-tokens : goal.modal-returns-in_err-tokens
+modal-returns-in_err-tokens t c =
+    handed _ _ c.from_residual-in_err-tokens.result c.in_err-tokens.field-0.0 c.from_residual-in_err-tokens.ensures.1 (
+    modality-unclosed c.args.brackets _ _ _ _ _ c.in_ok-inside.ensures c.in_err-tokens.ensures)
+
+pub modal-returns-in_err-inner : goal.modal-returns-in_err-inner
+modal-returns-in_err-inner t c =
+    handed _ _ c.from_residual-in_err-inner.result c.in_err-inner.field-0.0 c.from_residual-in_err-inner.ensures.1 (
+    within-modality c.args.brackets _ _ _ _ _ _ c.in_ok-inside.ensures c.in_ok-tokens.ensures c.in_err-inner.ensures)
+
+pub modal-returns : goal.modal-returns
+modal-returns t c =
+    let inside = c.in_ok-inside.inside in
+    let inner = c.in_ok-inner.inner in
+    let high : c.max-height.result + 1 ≡ max inside.height inner.height + 1 = omega (arith, c.max-height.ensures) in
+    built _ _ _ c.built.result c.built.ensures tt (λ s b.
+    modal-read c.args.brackets _ _ _ inside _ inner _ s (record { is = b.is; high = b.high ∙ high; after = b.after }) (ap (λ r. modal c.args.brackets (reg_syntax r) (state_syntax inner.syntax.value)) c.into_inner-regular.ensures)
+    c.in_ok-inside.ensures c.in_ok-tokens.ensures c.in_ok-inner.ensures)
+
+pub bound-returns-in_err-name : goal.bound-returns-in_err-name
+bound-returns-in_err-name t c =
+    handed _ _ c.from_residual.result c.in_err-name.field-0.0 c.from_residual.ensures.1 (binder-unnamed c.args.binder _ _ _ _ c.in_err-name.ensures)
+
+pub bound-returns-in_err-tokens : goal.bound-returns-in_err-tokens
+bound-returns-in_err-tokens t c =
+    handed _ _ c.from_residual-in_err-tokens.result c.in_err-tokens.field-0.0 c.from_residual-in_err-tokens.ensures.1 (
+    binder-undotted c.args.binder c.in_ok-name.name.now _ _ _ _ _ c.in_ok-name.ensures c.in_err-tokens.ensures)
+
+pub bound-returns-in_err-body : goal.bound-returns-in_err-body
+bound-returns-in_err-body t c =
+    handed _ _ c.from_residual-in_err-body.result c.in_err-body.field-0.0 c.from_residual-in_err-body.ensures.1 (
+    within-binder c.args.binder c.in_ok-name.name.now _ _ _ _ _ _ c.in_ok-name.ensures c.in_ok-tokens.ensures c.in_err-body.ensures)
+
+pub bound-returns : goal.bound-returns
+bound-returns t c =
+    built _ _ _ c.built.result c.built.ensures tt (λ s b.
+    bound-read c.args.binder c.in_ok-name.name.now _ _ _ (words c.in_ok-tokens.tokens.now) c.in_ok-body.body _ s b refl (c.in_ok-name.ensures ∙ ap (λ ts. Name c.in_ok-name.name.now ∷ ts) c.in_ok-tokens.ensures) c.in_ok-body.ensures)
+
+pub state-returns-in_err-unary : goal.state-returns-in_err-unary
+state-returns-in_err-unary t c =
+    handed _ _ c.from_residual.result c.in_err-unary.field-0.0 c.from_residual.ensures.1 (within _ _ _ _ _ _ _ _ [] _ _ (at-front c.args.level _ _) c.in_err-unary.ensures)
+
+pub joined-returns-in_err-below : goal.joined-returns-in_err-below
+joined-returns-in_err-below t c =
+    handed _ _ c.from_residual.result c.in_err-below.field-0.0 c.from_residual.ensures.1 (
+    beyond-sign c.args.sign c.args.level _ _ c.args.left _ _ c.requires.left c.requires.first c.requires.sign c.in_err-below.ensures.0 c.in_err-below.ensures.1)
+
+pub joined-returns-in_err-right : goal.joined-returns-in_err-right
+joined-returns-in_err-right t c =
+    let e = c.in_err-right.field-0.0 in
+    let below = below-room (λ level depth inside. IsStateMisread level depth inside (words c.args.rest.now) e) c.args.room c.in_ok-below.below _ _ c.level.ensures c.in_ok-below.ensures.1 c.in_err-right.ensures in
+    handed _ _ c.from_residual-in_err-right.result e c.from_residual-in_err-right.ensures.1 (
+    within-sign c.args.sign c.args.level _ _ c.args.left _ e c.requires.left c.requires.first c.requires.sign c.in_ok-below.ensures.0 below)
+
+pub joined-returns : goal.joined-returns
+joined-returns t c =
     let left = c.args.left in
-    let right = c.in_ok-right-in-Some-connective.right in
-    let sign = c.in-Some-connective.sign in
-    let P : Room → Type 0 = λ room. IsState (connective_row sign) room.depth room.parens right in
-    let Q : ℕ → Type 0 = λ row. IsState row c.in_ok-below-in-Some-connective.below.depth c.in_ok-below-in-Some-connective.below.parens right in
-    let R : ℕ → Type 0 = λ row. row < state_row (words right.rest.now) in
-    let is : IsState (connective_row sign) (c.args.room.depth - 1) c.args.room.parens right
-    = subst P c.in_ok-below-in-Some-connective.ensures.1 (subst Q c.level-in-Some-connective.ensures c.in_ok-right-in-Some-connective.ensures.sound) in
-    let stops : connective_row sign < state_row (words right.rest.now) = subst R c.level-in-Some-connective.ensures c.in_ok-right-in-Some-connective.ensures.stops in (
-      search rules,
-      (
-        c.requires.level,
-        state-joined-is _ _ _ left right c.in_ok-longer-in-Some-connective.longer sign c.in-Some.first.now c.in-Some.rest.now c.requires.left c.in-Some.ensures.cases.0 c.in-Some-connective.ensures (search rules) (search rules) is stops c.in_ok-longer-in-Some-connective.ensures.0 c.in_ok-longer-in-Some-connective.ensures.1,
-      ),
-    )
+    let right = c.in_ok-right.right in
+    let read = below-room (λ level depth inside. ReadsState level depth inside (words c.args.rest.now) right) c.args.room c.in_ok-below.below _ _ c.level.ensures c.in_ok-below.ensures.1 c.in_ok-right.ensures in
+    let high : c.max-height.result + 1 ≡ max left.height right.height + 1 = omega (arith, c.max-height.ensures) in
+    built _ _ _ c.built.result c.built.ensures tt (λ s b.
+    joined-read c.args.sign c.args.level _ _ _ left right _ s c.requires.left c.requires.first c.requires.sign c.in_ok-below.ensures.0 read (record { is = b.is; high = b.high ∙ high; after = b.after }) refl)
 
-pub extended-returns-in_ok-longer-in-Some-connective-clause-eaten :
-    goal.extended-returns-in_ok-longer-in-Some-connective-clause-eaten
-extended-returns-in_ok-longer-in-Some-connective-clause-eaten t c =
-    let e : state_tokens c.in_ok-longer-in-Some-connective.longer ≡ state_tokens c.args.left
-    = state-joined-eaten c.args.left c.in_ok-right-in-Some-connective.right c.in_ok-longer-in-Some-connective.longer c.in-Some-connective.sign c.in-Some.first.now c.in-Some.rest.now c.in_ok-longer-in-Some-connective.ensures.0 c.in_ok-longer-in-Some-connective.ensures.1 c.in-Some.ensures.cases.0 c.in-Some-connective.ensures c.in_ok-right-in-Some-connective.ensures.eaten in
-    let P : List Token → Type 0 = λ ts. IfOk c.extended.result (λ s. state_tokens s ≡ ts) in
-    subst P e c.extended.ensures.eaten
+pub extended-returns-in_err-longer-in-Some : goal.extended-returns-in_err-longer-in-Some
+extended-returns-in_err-longer-in-Some t c =
+    handed _ _ c.from_residual.result c.in_err-longer-in-Some.field-0.0 c.from_residual.ensures.1 c.in_err-longer-in-Some.ensures
 
-pub modal-returns-clause-eaten : goal.modal-returns-clause-eaten
-modal-returns-clause-eaten t c =
-    let f = c.in_ok-syntax.field-0 in
-    let held : state_syntax c.in_ok-boxed.field-0.value ≡ state_syntax f.syntax = ap state_syntax (search rules) in
-    let wrap = modal c.args.brackets (reg_syntax c.in_ok-inside.inside.syntax) in
-    modal-eaten c.args.brackets c.in_ok-inside.inside f (wrap (state_syntax c.in_ok-boxed.field-0.value)) c.args.tokens.now c.in_ok-tokens.tokens.now (ap wrap held) c.in_ok-inside.ensures.eaten c.in_ok-tokens.ensures c.in_ok-syntax.ensures.eaten
+pub extended-returns-in_ok-longer-in-Some : goal.extended-returns-in_ok-longer-in-Some
+extended-returns-in_ok-longer-in-Some t c =
+    subst (λ ts. StateOf c.args.level c.args.room.depth c.args.room.parens ts c.extended.result) c.in_ok-longer-in-Some.ensures.eaten c.extended.ensures
 
-pub modal-returns-clause-sound : goal.modal-returns-clause-sound
-modal-returns-clause-sound t c =
-    let f = c.in_ok-syntax.field-0 in
-    let held : state_syntax c.in_ok-boxed.field-0.value ≡ state_syntax f.syntax = ap state_syntax (search rules) in
-    modal-is _ _ _ c.args.brackets c.in_ok-inside.inside f _ (ap (modal c.args.brackets (reg_syntax c.in_ok-inside.inside.syntax)) held) refl (search rules) c.in_ok-inside.ensures.sound c.in_ok-syntax.ensures.sound
+pub extended-returns-in-None : goal.extended-returns-in-None
+extended-returns-in-None t c = record { eaten = refl; sound = c.requires.left; stops = c.in-None.ensures }
 
-pub group-returns-in_err-syntax-clause-refused :
-    goal.group-returns-in_err-syntax-clause-refused
-group-returns-in_err-syntax-clause-refused t c =
-    passed_on c.from_residual.result c.in_err-syntax.field-0.0 _ c.from_residual.ensures.1 (
-    within-group c.args.room.depth c.args.room.parens (words c.args.tokens.now) _ c.in_err-syntax.ensures.refused)
-
-pub group-returns-in_err-rest-clause-refused :
-    goal.group-returns-in_err-rest-clause-refused
-group-returns-in_err-rest-clause-refused t c =
-    passed_on c.from_residual-in_err-rest.result c.in_err-rest.field-0.0 _ c.from_residual-in_err-rest.ensures.1 (
-    parenthesis-unclosed c.args.room.depth c.args.room.parens c.in_ok-syntax.field-0 (words c.args.tokens.now) _ c.in_ok-syntax.ensures.sound c.in_ok-syntax.ensures.stops c.in_ok-syntax.ensures.eaten c.in_err-rest.ensures)
-
-pub negated-returns-in_err-syntax-clause-refused :
-    goal.negated-returns-in_err-syntax-clause-refused
-negated-returns-in_err-syntax-clause-refused t c =
-    passed_on c.from_residual.result c.in_err-syntax.field-0.0 _ c.from_residual.ensures.1 (
-    within-not c.args.room.depth c.args.room.parens (words c.args.tokens.now) _ c.in_err-syntax.ensures.refused)
-
-pub modal-returns-in_err-inside-clause-refused :
-    goal.modal-returns-in_err-inside-clause-refused
-modal-returns-in_err-inside-clause-refused t c =
-    passed_on c.from_residual.result c.in_err-inside.field-0.0 _ c.from_residual.ensures.1 (
-    within-brackets c.args.brackets c.args.room.depth c.args.room.parens (words c.args.tokens.now) _ c.in_err-inside.ensures.refused)
-
-pub modal-returns-in_err-tokens-clause-refused :
-    goal.modal-returns-in_err-tokens-clause-refused
-modal-returns-in_err-tokens-clause-refused t c =
-    passed_on c.from_residual-in_err-tokens.result c.in_err-tokens.field-0.0 _ c.from_residual-in_err-tokens.ensures.1 (
-    modality-unclosed c.args.brackets c.args.room.depth c.args.room.parens c.in_ok-inside.inside (words c.args.tokens.now) _ c.in_ok-inside.ensures.sound c.in_ok-inside.ensures.stops c.in_ok-inside.ensures.eaten c.in_err-tokens.ensures)
-
-pub modal-returns-in_err-syntax-clause-refused :
-    goal.modal-returns-in_err-syntax-clause-refused
-modal-returns-in_err-syntax-clause-refused t c =
-    passed_on c.from_residual-in_err-syntax.result c.in_err-syntax.field-0.0 _ c.from_residual-in_err-syntax.ensures.1 (
-    within-modality c.args.brackets c.args.room.depth c.args.room.parens c.in_ok-inside.inside (words c.args.tokens.now) (words c.in_ok-tokens.tokens.now) _ c.in_ok-inside.ensures.sound c.in_ok-inside.ensures.eaten c.in_ok-tokens.ensures c.in_err-syntax.ensures.refused)
-
-pub bound-returns-in_err-name-clause-refused :
-    goal.bound-returns-in_err-name-clause-refused
-bound-returns-in_err-name-clause-refused t c =
-    passed_on c.from_residual.result c.in_err-name.field-0.0 _ c.from_residual.ensures.1 (
-    binder-unnamed c.args.binder c.args.room.depth c.args.room.parens (words c.args.tokens.now) _ c.in_err-name.ensures)
-
-pub bound-returns-in_err-tokens-clause-refused :
-    goal.bound-returns-in_err-tokens-clause-refused
-bound-returns-in_err-tokens-clause-refused t c =
-    passed_on c.from_residual-in_err-tokens.result c.in_err-tokens.field-0.0 _ c.from_residual-in_err-tokens.ensures.1 (
-    binder-undotted c.args.binder c.in_ok-name.name.now c.args.room.depth c.args.room.parens (words c.in_ok-name.tokens.now) (words c.args.tokens.now) _ c.in_ok-name.ensures c.in_err-tokens.ensures)
-
-pub bound-returns-in_err-body-clause-refused :
-    goal.bound-returns-in_err-body-clause-refused
-bound-returns-in_err-body-clause-refused t c =
-    passed_on c.from_residual-in_err-body.result c.in_err-body.field-0.0 _ c.from_residual-in_err-body.ensures.1 (
-    within-binder c.args.binder c.in_ok-name.name.now c.args.room.depth c.args.room.parens (words c.args.tokens.now) (words c.in_ok-name.tokens.now) (words c.in_ok-tokens.tokens.now) _ c.in_ok-name.ensures c.in_ok-tokens.ensures c.in_err-body.ensures.refused)
-
-pub unary-returns-in_err-below-in-NotSign-clause-refused :
-    goal.unary-returns-in_err-below-in-NotSign-clause-refused
-unary-returns-in_err-below-in-NotSign-clause-refused t c =
-    passed_on c.from_residual.result c.in_err-below-in-NotSign.field-0.0 _ c.from_residual.ensures.1 (
-    beyond-first _ c.args.room.depth c.args.room.parens c.args.tokens.now c.in-Some.first.now c.in-Some.rest.now _ c.in-Some.ensures.cases.0 c.in-NotSign.is c.in_err-below-in-NotSign.ensures.1
-    (λ back is. not-too-deep c.args.room.depth c.args.room.parens back _ c.in_err-below-in-NotSign.ensures.0 is))
-
-pub unary-returns-in_err-below-in-Less-clause-refused :
-    goal.unary-returns-in_err-below-in-Less-clause-refused
-unary-returns-in_err-below-in-Less-clause-refused t c =
-    passed_on c.from_residual-in_err-below-in-Less.result c.in_err-below-in-Less.field-0.0 _ c.from_residual-in_err-below-in-Less.ensures.1 (
-    beyond-first _ c.args.room.depth c.args.room.parens c.args.tokens.now c.in-Some.first.now c.in-Some.rest.now _ c.in-Some.ensures.cases.0 c.in-Less.is c.in_err-below-in-Less.ensures.1
-    (λ back is. modal-too-deep brackets.Diamond c.args.room.depth c.args.room.parens back _ c.in_err-below-in-Less.ensures.0 is))
-
-pub unary-returns-in_err-below-in-OpenBox-clause-refused :
-    goal.unary-returns-in_err-below-in-OpenBox-clause-refused
-unary-returns-in_err-below-in-OpenBox-clause-refused t c =
-    passed_on c.from_residual-in_err-below-in-OpenBox.result c.in_err-below-in-OpenBox.field-0.0 _ c.from_residual-in_err-below-in-OpenBox.ensures.1 (
-    beyond-first _ c.args.room.depth c.args.room.parens c.args.tokens.now c.in-Some.first.now c.in-Some.rest.now _ c.in-Some.ensures.cases.0 c.in-OpenBox.is c.in_err-below-in-OpenBox.ensures.1
-    (λ back is. modal-too-deep brackets.Box c.args.room.depth c.args.room.parens back _ c.in_err-below-in-OpenBox.ensures.0 is))
-
-pub unary-returns-in_err-below-in-MuWord-clause-refused :
-    goal.unary-returns-in_err-below-in-MuWord-clause-refused
-unary-returns-in_err-below-in-MuWord-clause-refused t c =
-    passed_on c.from_residual-in_err-below-in-MuWord.result c.in_err-below-in-MuWord.field-0.0 _ c.from_residual-in_err-below-in-MuWord.ensures.1 (
-    beyond-first _ c.args.room.depth c.args.room.parens c.args.tokens.now c.in-Some.first.now c.in-Some.rest.now _ c.in-Some.ensures.cases.0 c.in-MuWord.is c.in_err-below-in-MuWord.ensures.1
-    (λ back is. binder-too-deep binder.Mu c.args.room.depth c.args.room.parens back _ c.in_err-below-in-MuWord.ensures.0 is))
-
-pub unary-returns-in_err-below-in-NuWord-clause-refused :
-    goal.unary-returns-in_err-below-in-NuWord-clause-refused
-unary-returns-in_err-below-in-NuWord-clause-refused t c =
-    passed_on c.from_residual-in_err-below-in-NuWord.result c.in_err-below-in-NuWord.field-0.0 _ c.from_residual-in_err-below-in-NuWord.ensures.1 (
-    beyond-first _ c.args.room.depth c.args.room.parens c.args.tokens.now c.in-Some.first.now c.in-Some.rest.now _ c.in-Some.ensures.cases.0 c.in-NuWord.is c.in_err-below-in-NuWord.ensures.1
-    (λ back is. binder-too-deep binder.Nu c.args.room.depth c.args.room.parens back _ c.in_err-below-in-NuWord.ensures.0 is))
-
-pub unary-returns-in_err-inside-in-Open-clause-refused :
-    goal.unary-returns-in_err-inside-in-Open-clause-refused
-unary-returns-in_err-inside-in-Open-clause-refused t c =
-    passed_on c.from_residual-in_err-inside-in-Open.result c.in_err-inside-in-Open.field-0.0 _ c.from_residual-in_err-inside-in-Open.ensures.1 (
-    beyond-first _ c.args.room.depth c.args.room.parens c.args.tokens.now c.in-Some.first.now c.in-Some.rest.now _ c.in-Some.ensures.cases.0 c.in-Open.is c.in_err-inside-in-Open.ensures.1
-    (λ back is. group-too-wide c.args.room.depth c.args.room.parens back _ (search (rules, c.in_err-inside-in-Open.ensures.0)) is))
-
-pub unary-returns-in_default-clause-refused :
-    goal.unary-returns-in_default-clause-refused
-unary-returns-in_default-clause-refused t c =
+pub unary-returns-in_default : goal.unary-returns-in_default
+unary-returns-in_default t c =
     none-left c.args.room.depth c.args.room.parens c.args.tokens.now _ c.in_default.ensures.cases c.unexpected.ensures
 
-pub unary-returns-in-None :
-    goal.unary-returns-in-None
+pub unary-returns-in_err-below : goal.unary-returns-in_err-below
+unary-returns-in_err-below t c =
+    handed _ _ c.from_residual.result c.in_err-below.field-0.0 c.from_residual.ensures.1 (
+    beyond-first _ _ _ c.args.tokens.now c.in-Some.first.now c.in-Some.rest.now _ c.in-Some.ensures.cases.0 c.in-Some-prefix_of.ensures c.in_err-below.ensures.1
+    (λ back is. prefix-too-deep c.in-Some-prefix_of.prefix _ _ back _ c.in_err-below.ensures.0 is))
+
+pub unary-returns-in-Some-prefix_of : goal.unary-returns-in-Some-prefix_of
+unary-returns-in-Some-prefix_of t c =
+    let deep : c.in_ok-below.field-0.depth + 1 ≡ c.args.room.depth = omega (arith, ap (λ (r : Room). r.depth) c.in_ok-below.ensures.1, c.in_ok-below.ensures.0) in
+    renamed _ _ _ _ _ _ c.prefixed.result deep (ap (λ (r : Room). r.parens) c.in_ok-below.ensures.1)
+    (sym (ap words c.in-Some.ensures.cases.0 ∙ ap (λ u. u ∷ words c.in-Some.rest.now) c.in-Some-prefix_of.ensures)) c.prefixed.ensures
+
+pub unary-returns-in_err-inside : goal.unary-returns-in_err-inside
+unary-returns-in_err-inside t c =
+    handed _ _ c.from_residual-in_err-inside.result c.in_err-inside.field-0.0 c.from_residual-in_err-inside.ensures.1 (
+    beyond-first _ _ _ c.args.tokens.now c.in-Some.first.now c.in-Some.rest.now _ c.in-Some.ensures.cases.0 (ap token_of c.in-Open.is) c.in_err-inside.ensures.1
+    (λ back is. let none : c.args.room.parens ≤ 0 = omega (arith, c.in_err-inside.ensures.0) in group-too-wide _ _ back _ none is))
+
+pub unary-returns-in-Open : goal.unary-returns-in-Open
+unary-returns-in-Open t c =
+    let wide : c.in_ok-inside.field-0.parens + 1 ≡ c.args.room.parens = omega (arith, ap (λ (r : Room). r.parens) c.in_ok-inside.ensures.1, c.in_ok-inside.ensures.0) in
+    renamed _ _ _ _ _ _ c.group.result (ap (λ (r : Room). r.depth) c.in_ok-inside.ensures.1) wide
+    (sym (ap words c.in-Some.ensures.cases.0 ∙ ap (λ u. token_of u ∷ words c.in-Some.rest.now) c.in-Open.is)) c.group.ensures
+
+pub unary-returns-in-None : goal.unary-returns-in-None
 unary-returns-in-None t c =
-    let d = c.in_default-token in
-    record {
-      eaten = tt;
-      sound = tt;
-      refused = none-begins c.args.room.depth c.args.room.parens c.args.tokens.now c.in-Some.first.now c.in-Some.rest.now _ c.in-Some.ensures.cases.0 d.not-MuWord d.not-NuWord d.not-NotSign d.not-Less d.not-OpenBox d.not-Open c.in-None.ensures c.unexpected-in-None.ensures;
-      shorter = tt;
-    }
+    none-begins _ _ c.args.tokens.now c.in-Some.first.now c.in-Some.rest.now _ c.in-Some.ensures.cases.0 (rw c.in_default-prefix_of.is at c.prefix_of.ensures) c.in_default-token.not-Open c.in-None.ensures c.unexpected-in-None.ensures
 
-pub state-returns-in_err-unary-clause-refused :
-    goal.state-returns-in_err-unary-clause-refused
-state-returns-in_err-unary-clause-refused t c =
-    passed_on c.from_residual.result c.in_err-unary.field-0.0 _ c.from_residual.ensures.1 (
-    within-front c.args.level c.args.room.depth c.args.room.parens (words c.args.tokens.now) _ c.in_err-unary.ensures.refused)
+pub unary-returns-in-Some-word : goal.unary-returns-in-Some-word
+unary-returns-in-Some-word t c =
+    renamed _ _ _ _ _ _ c.built.result refl refl (sym (ap words c.in-Some.ensures.cases.0))
+    (built _ _ _ c.built.result c.built.ensures tt (λ s b. word-read _ _ _ _ c.in-Some.rest.now s b c.in-Some-word.ensures))
 
-pub extended-returns-in_err-below-in-Some-connective-clause-refused :
-    goal.extended-returns-in_err-below-in-Some-connective-clause-refused
-extended-returns-in_err-below-in-Some-connective-clause-refused t c =
-    passed_on c.from_residual.result c.in_err-below-in-Some-connective.field-0.0 _ c.from_residual.ensures.1 (
-    beyond-sign c.in-Some-connective.sign c.args.level c.args.room.depth c.args.room.parens c.args.left c.in-Some.first.now c.in-Some.rest.now _ c.requires.left c.in-Some.ensures.cases.0 c.in-Some-connective.ensures (search rules) c.in_err-below-in-Some-connective.ensures.0 c.in_err-below-in-Some-connective.ensures.1)
-
-pub extended-returns-in_err-right-in-Some-connective-clause-refused :
-    goal.extended-returns-in_err-right-in-Some-connective-clause-refused
-extended-returns-in_err-right-in-Some-connective-clause-refused t c =
-    let sign = c.in-Some-connective.sign in
-    let e = c.in_err-right-in-Some-connective.field-0.0 in
-    let P : Room → Type 0 = λ room. IsStateMisread (connective_row sign) room.depth room.parens (words c.in-Some.rest.now) e in
-    let Q : ℕ → Type 0 = λ row. IsStateMisread row c.in_ok-below-in-Some-connective.below.depth c.in_ok-below-in-Some-connective.below.parens (words c.in-Some.rest.now) e in
-    let refused : IsStateMisread (connective_row sign) (c.args.room.depth - 1) c.args.room.parens (words c.in-Some.rest.now) e
-    = subst P c.in_ok-below-in-Some-connective.ensures.1 (subst Q c.level-in-Some-connective.ensures c.in_err-right-in-Some-connective.ensures.refused) in
-    passed_on c.from_residual-in_err-right-in-Some-connective.result c.in_err-right-in-Some-connective.field-0.0 _ c.from_residual-in_err-right-in-Some-connective.ensures.1 (
-    within-sign sign c.args.level c.args.room.depth c.args.room.parens c.args.left c.in-Some.first.now c.in-Some.rest.now e c.requires.left c.in-Some.ensures.cases.0 c.in-Some-connective.ensures (search rules) c.in_ok-below-in-Some-connective.ensures.0 refused)
-
-pub extended-returns-in_ok-longer-in-Some-connective-clause-refused :
-    goal.extended-returns-in_ok-longer-in-Some-connective-clause-refused
-extended-returns-in_ok-longer-in-Some-connective-clause-refused t c =
-    let e : state_tokens c.in_ok-longer-in-Some-connective.longer ≡ state_tokens c.args.left
-    = state-joined-eaten c.args.left c.in_ok-right-in-Some-connective.right c.in_ok-longer-in-Some-connective.longer c.in-Some-connective.sign c.in-Some.first.now c.in-Some.rest.now c.in_ok-longer-in-Some-connective.ensures.0 c.in_ok-longer-in-Some-connective.ensures.1 c.in-Some.ensures.cases.0 c.in-Some-connective.ensures c.in_ok-right-in-Some-connective.ensures.eaten in
-    let P : List Token → Type 0 = λ ts. IfErr c.extended.result (IsStateMisread c.args.level c.args.room.depth c.args.room.parens ts) in
-    subst P e c.extended.ensures.refused
+pub state-returns : goal.state-returns
+state-returns t c =
+    subst (λ ts. StateOf c.args.level c.args.room.depth c.args.room.parens ts c.extended.result) c.in_ok-unary.ensures.eaten c.extended.ensures
