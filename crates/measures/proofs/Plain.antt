@@ -1,15 +1,5 @@
 -- Tables whose values are at most those of every progress table.
-use Rattle.std.specs.List.{AllByRecursion}
-use Rattle.std.proofs.Common.{Some, option_map, ◌≡◌, ◌≢◌, ℕ, ◌+◌, ◌-◌, ◌<◌, ◌≤◌, Bool, true, false, List, length, replicate, sym, ap, subst, ◌∙◌, inl, inr, arith, if◌then◌else◌, slice_set}
-use Rattle.std.proofs.lemmas.Bool.Decides.{eqb_tells}
-use Rattle.std.proofs.lemmas.List.{ext_get_or, get_or-set_other, get_or-set_same, get_or-replicate, length-map, length-replicate, length-set}
-use Rattle.std.proofs.lemmas.Slice.Zip.{AllZip-long}
-use Rattle.game.specs.Game.{Game, IsGame, count, greatest, vertex}
-use Rattle.measures.specs.Measure.{Measure, Top, Counts, components, IsMeasure}
-use Rattle.measures.specs.Progress.{IsProgress, greater_of, opening, opening_value, value_at, zeros}
-use Rattle.measures.specs.Progs.{bounds}
-use Rattle.measures.specs.Tables.{IsOpening, IsPlain, IsSettled, IsStored, LiesBelow, Table}
-use Rattle.measures.specs.View.{HasWidth, Rows}
+use Rattle.measures.proofs.Common.{AllByRecursion, Some, option_map, ◌≡◌, ◌≢◌, ℕ, ◌+◌, ◌-◌, ◌<◌, ◌≤◌, Bool, true, false, List, length, replicate, sym, ap, subst, ◌∙◌, inl, inr, arith, if◌then◌else◌, slice_set, eqb_tells, ext_get_or, get_or-set_other, get_or-set_same, get_or-replicate, length-map, length-replicate, length-set, AllZip-long, Game, IsGame, count, greatest, vertex, Measure, Top, Counts, components, IsMeasure, IsProgress, greater_of, opening, opening_value, value_at, zeros, bounds, IsOpening, IsPlain, IsSettled, IsStored, LiesBelow, Table, HasWidth, Rows}
 use Rattle.measures.proofs.Bests.{its_successors}
 use Rattle.measures.proofs.Carry.{none_is}
 use Rattle.measures.proofs.Components.{odd_down_long}

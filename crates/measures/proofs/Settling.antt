@@ -1,15 +1,5 @@
 -- Raising vertices to their lifts until no lift raises one.
-use Rattle.std.proofs.Common.{◌≡◌, ◌≢◌, ◌↔◌, ℕ, ◌+◌, ◌*◌, ◌<◌, ◌≤◌, Bool, true, false, List, length, map, refl, sym, ap, subst, ◌∙◌, inl, inr, arith, Some, option_map, slice_set, IsTrue, not, MatchBool, true≢false, lt_trans}
-use Rattle.std.proofs.lemmas.Bool.Decides.{eqb_tells, leb_tells}
-use Rattle.std.proofs.lemmas.List.{get_or_past, length-set}
-use Rattle.std.proofs.lemmas.Option.{slice_get_within}
-use Rattle.game.specs.declared.player.Player.{Player}
-use Rattle.game.specs.Game.{Vertex, Game, IsGame, vertex}
-use Rattle.measures.specs.Lifting.{IsLifted, height, rank, sum_of}
-use Rattle.measures.specs.Measure.{Measure, Top, IsAtMost, IsBelow, IsMeasure, IsProg, Reaches}
-use Rattle.measures.specs.Progress.{IsBestFor, IsLeastTable, IsLiftAt, IsProgress, IsTable, greater_of, value_at}
-use Rattle.measures.specs.Settling.{IsStill, Sweeps}
-use Rattle.measures.specs.Tables.{IsPlain, LiesBelow, Table}
+use Rattle.measures.proofs.Common.{◌≡◌, ◌≢◌, ◌↔◌, ℕ, ◌+◌, ◌*◌, ◌<◌, ◌≤◌, Bool, true, false, List, length, map, refl, sym, ap, subst, ◌∙◌, inl, inr, arith, Some, option_map, slice_set, IsTrue, not, MatchBool, true≢false, lt_trans, eqb_tells, leb_tells, get_or_past, length-set, slice_get_within, Player, Vertex, Game, IsGame, vertex, IsLifted, height, rank, sum_of, Measure, Top, IsAtMost, IsBelow, IsMeasure, IsProg, Reaches, IsBestFor, IsLeastTable, IsLiftAt, IsProgress, IsTable, greater_of, value_at, IsStill, Sweeps, IsPlain, LiesBelow, Table}
 use Rattle.measures.proofs.Bests.{best_prog, vertex_here, vertex_tells}
 use Rattle.measures.proofs.Lifting.{sum_rises}
 use Rattle.measures.proofs.Lifts.{value_measure}

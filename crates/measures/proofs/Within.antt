@@ -1,11 +1,5 @@
 -- Counts within their bounds.
-use Rattle.std.proofs.Common.{◌≡◌, ◌↔◌, ◌<◌, ◌≤◌, ℕ, zero, suc, false, Bool, IsTrue, List, [], ◌∷◌, length, map, ◌∙◌, arith, refl, subst, sym, slice_index, true≢false}
-use Rattle.std.specs.List.{AllZip}
-use Rattle.std.proofs.lemmas.List.Elements.{AllZip-get_or}
-use Rattle.game.specs.Game.{Game, count}
-use Rattle.measures.specs.Measure.{Measure, Top, Counts, IsMeasure, components}
-use Rattle.measures.specs.Progs.{bounds}
-use Rattle.measures.specs.View.{counts_of}
+use Rattle.measures.proofs.Common.{◌≡◌, ◌↔◌, ◌<◌, ◌≤◌, ℕ, zero, suc, false, Bool, IsTrue, List, [], ◌∷◌, length, map, ◌∙◌, arith, refl, subst, sym, slice_index, true≢false, AllZip, AllZip-get_or, Game, count, Measure, Top, Counts, IsMeasure, components, bounds, counts_of}
 
 abbrev AreWithin : List ℕ → List ℕ → Type 0
 AreWithin cs bs = AllZip (λ count bound. count ≤ bound) cs bs

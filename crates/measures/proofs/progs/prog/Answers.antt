@@ -1,5 +1,4 @@
-use Rattle.std.proofs.Common.{◌≢◌, ap, sym, ◌∙◌, length, true≢false}
-use Rattle.measures.specs.Measure.{Top}
+use Rattle.measures.proofs.Common.{◌≢◌, ap, sym, ◌∙◌, length, true≢false, Top}
 use Rattle.measures.proofs.Bests.{counts_bounds, prog_at_top}
 use Rattle.measures.proofs.progs.prog.Goals as goal
 

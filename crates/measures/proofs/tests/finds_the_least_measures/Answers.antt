@@ -1,6 +1,4 @@
-use Rattle.std.proofs.Common.{subst, sym}
-use Rattle.game.specs.Game.{Game}
-use Rattle.measures.specs.Progress.{IsProgress}
+use Rattle.measures.proofs.Common.{subst, sym, Game, IsProgress}
 use Rattle.measures.proofs.tests.finds_the_least_measures.Goals as goal
 
 pub into_settled-settled-requires : goal.into_settled-settled-requires

@@ -1,6 +1,4 @@
-use Rattle.std.proofs.Common.{◌∙◌, subst, sym}
-use Rattle.game.specs.Game.{Game}
-use Rattle.measures.specs.Tables.{LiesBelow}
+use Rattle.measures.proofs.Common.{◌∙◌, subst, sym, Game, LiesBelow}
 use Rattle.measures.proofs.tests.raises_one_vertex.Goals as goal
 
 pub raise-requires-clause-below : goal.raise-requires-clause-below

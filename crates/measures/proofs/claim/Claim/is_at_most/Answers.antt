@@ -1,5 +1,4 @@
-use Rattle.std.proofs.Common.{◌∙◌, ap}
-use Rattle.std.specs.Ordering.{is_le}
+use Rattle.measures.proofs.Common.{◌∙◌, ap, is_le}
 use Rattle.measures.proofs.StoredClaims.{at_most_is}
 use Rattle.measures.proofs.claim.Claim.is_at_most.Goals as goal
 

@@ -1,5 +1,4 @@
-use Rattle.std.proofs.Common.{◌≡◌, ◌∙◌, ap, arith, length, sym}
-use Rattle.measures.specs.Progs.{bounds}
+use Rattle.measures.proofs.Common.{◌≡◌, ◌∙◌, ap, arith, length, sym, bounds}
 use Rattle.measures.proofs.Plain.{bounds_few, bounds_long}
 use Rattle.measures.proofs.StoredClaims.{counts_ask, game_is, top_asks}
 use Rattle.measures.proofs.claim.Claim.prog_of.Goals as goal

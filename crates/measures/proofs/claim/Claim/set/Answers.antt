@@ -1,7 +1,4 @@
-use Rattle.std.proofs.Common.{◌∙◌, subst, sym, true≢false}
-use Rattle.std.proofs.lemmas.List.{with_items_is}
-use Rattle.game.specs.Game.{Game}
-use Rattle.measures.specs.Measure.{IsMeasure}
+use Rattle.measures.proofs.Common.{◌∙◌, subst, sym, true≢false, with_items_is, Game, IsMeasure}
 use Rattle.measures.proofs.Plain.{bounds_long, measure_width}
 use Rattle.measures.proofs.StoredClaims.{game_is, has_stored, put_here, put_other, put_stored, room, vertex_stored}
 use Rattle.measures.proofs.claim.Claim.set.Goals as goal

@@ -1,5 +1,4 @@
-use Rattle.std.proofs.Common.{◌∙◌, ◌-◌, ap, arith, drop, length, length-drop}
-use Rattle.std.proofs.lemmas.List.{take_all}
+use Rattle.measures.proofs.Common.{◌∙◌, ◌-◌, ap, arith, drop, length, length-drop, take_all}
 use Rattle.measures.proofs.StoredClaims.{entered_inside}
 use Rattle.measures.proofs.claim.Claim.vertices.Goals as goal
 

@@ -1,5 +1,4 @@
-use Rattle.std.proofs.Common.{ap, ◌∙◌}
-use Rattle.measures.specs.View.{rows_of}
+use Rattle.measures.proofs.Common.{ap, ◌∙◌, rows_of}
 use Rattle.measures.proofs.Stored.{rows_tops}
 use Rattle.measures.proofs.rows.Rows.tops.Goals as goal
 

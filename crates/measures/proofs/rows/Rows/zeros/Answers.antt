@@ -1,5 +1,4 @@
-use Rattle.std.proofs.Common.{ap₂, ◌∙◌}
-use Rattle.measures.specs.View.{rows_of}
+use Rattle.measures.proofs.Common.{ap₂, ◌∙◌, rows_of}
 use Rattle.measures.proofs.Stored.{rows_zeros}
 use Rattle.measures.proofs.rows.Rows.zeros.Goals as goal
 

@@ -1,6 +1,4 @@
-use Rattle.std.proofs.Common.{subst, sym}
-use Rattle.game.specs.Game.{Game}
-use Rattle.measures.specs.Claim.{IsGoodClaim}
+use Rattle.measures.proofs.Common.{subst, sym, Game, IsGoodClaim}
 use Rattle.measures.proofs.Claims.{claims_lie_below}
 use Rattle.measures.proofs.table.PlainTable.jump.Goals as goal
 
