@@ -74,6 +74,7 @@ impl Claim {
     }
 
     /// Whether a vertex has an entry.
+    #[tactic(auto, using(crate::proofs::StoredClaims::has_entry))]
     pub fn has(&self, v: u32) -> bool
         requires { v < length self.now.game.vertices }
         ensures { IsTrue result ↔ IsSome (entry_at self.now.entries v) }
@@ -143,6 +144,7 @@ impl Claim {
     }
 
     /// Whether what is claimed of a vertex is at most this.
+    #[tactic(auto, using(crate::proofs::StoredClaims::at_most_is))]
     pub(crate) fn is_at_most(&self, v: u32, m: &Measure) -> bool
         requires vertex { v < length self.now.game.vertices }
         requires entry { IsSome (entry_at self.now.entries v) }
