@@ -69,6 +69,7 @@ impl Rows {
         self.width
     }
 
+    #[tactic(auto, using(crate::proofs::Stored::top_is, crate::proofs::Stored::long_is))]
     pub(crate) fn is_top(&self, v: usize) -> bool
         requires { v < length self.now.values }
         ensures { result ≡ is_top_of (value_at self.now.values v) }
@@ -77,6 +78,7 @@ impl Rows {
     }
 
     /// The counts of a measure. Those of top are any.
+    #[tactic(auto, using(crate::proofs::Stored::row_value, crate::proofs::Stored::row_long, crate::proofs::Stored::row_inside))]
     pub(crate) fn counts(&self, v: usize) -> &[u32]
         requires { v < length self.now.values }
         ensures value { measure_of (is_top_of (value_at self.now.values v)) result.now ≡ value_at self.now.values v }

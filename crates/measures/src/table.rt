@@ -81,6 +81,7 @@ impl PlainTable {
     }
 
     /// The measure of a vertex.
+    #[tactic(auto, using(crate::proofs::Plain::bounds_few))]
     pub fn value(&self, v: u32) -> Measure
         requires { v < length self.now.game.vertices }
         ensures value { result ≡ value_at self.now.values v }
