@@ -1,6 +1,5 @@
 -- Measures that are stored in one list of counts.
-use Rattle.measures.proofs.Common.{◌≡◌, ◌≢◌, ℕ, zero, suc, ◌+◌, ◌*◌, ◌<◌, ◌≤◌, Bool, true, false, List, [], ◌∷◌, ◌++◌, length, take, drop, refl, sym, ap, ap₂, subst, ◌∙◌, arith, slice_index_or, slice_set, mul-le-mul_right, append_assoc, length-take-le, length-drop, replicate, length-replicate, replicate-append-replicate, take-add, take-append_seam, drop-append_seam, Measure, Top, Counts, value_at, HasWidth, Rows, counts_of, is_top_of, measure_of, rows_of}
-use Rattle.measures.proofs.Bests.{counts_back}
+use Rattle.measures.proofs.Common.{◌≡◌, ◌≢◌, ℕ, zero, suc, ◌+◌, ◌*◌, ◌<◌, ◌≤◌, Bool, true, false, List, [], ◌∷◌, ◌++◌, length, take, drop, refl, sym, ap, ap₂, ◌∙◌, arith, slice_index_or, slice_set, mul-le-mul_right, append_assoc, length-take-le, length-drop, replicate, length-replicate, replicate-append-replicate, take-add, take-append_seam, drop-append_seam, Measure, Top, Counts, value_at, HasWidth, Rows, counts_of, is_top_of, measure_of, rows_of}
 
 pub rows_long : (w : ℕ) (tops : List Bool) (cs : List ℕ) → length (rows_of w tops cs) ≡ length tops
 rows_long w [] cs = refl

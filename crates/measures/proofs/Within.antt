@@ -1,5 +1,5 @@
 -- Counts within their bounds.
-use Rattle.measures.proofs.Common.{◌≡◌, ◌↔◌, ◌<◌, ◌≤◌, ℕ, zero, suc, false, Bool, IsTrue, List, [], ◌∷◌, length, map, ◌∙◌, arith, refl, subst, sym, slice_index, true≢false, AllZip, AllZip-get_or, Game, count, Measure, Top, Counts, IsMeasure, components, bounds, counts_of}
+use Rattle.measures.proofs.Common.{◌≡◌, ◌↔◌, ◌<◌, ◌≤◌, ℕ, suc, false, Bool, IsTrue, List, [], ◌∷◌, length, map, ◌∙◌, arith, refl, subst, sym, slice_index, true≢false, AllZip, AllZip-get_or, Game, count, Measure, Top, Counts, IsMeasure, components, bounds, counts_of}
 
 abbrev AreWithin : List ℕ → List ℕ → Type 0
 AreWithin cs bs = AllZip (λ count bound. count ≤ bound) cs bs

@@ -66,6 +66,7 @@ impl Claim {
     }
 
     /// The vertices that have entries, each once.
+    #[tactic(auto, using(crate::proofs::StoredClaims::entered_is))]
     pub fn vertices(&self) -> &[u32]
         ensures entered { AreEntered self.now.entries result.now }
         ensures inside { (v : ℕ) → Contains result.now v → v < length self.now.game.vertices }
@@ -131,6 +132,7 @@ impl Claim {
     }
 
     /// What a vertex of this priority asks for where its play goes on at one with an entry.
+    #[tactic(auto, using(crate::proofs::StoredClaims::game_is, crate::proofs::Plain::bounds_few, crate::proofs::Plain::bounds_long))]
     pub(crate) fn prog_of(&self, bounds: &[u32], priority: u8, next: u32) -> Measure
         requires vertex { next < length self.now.game.vertices }
         requires bounds { bounds.now ≡ bounds_of self.now.game }

@@ -35,6 +35,7 @@ impl Model for Rows {
 
 impl Rows {
     /// So many measures whose counts are zero.
+    #[tactic(auto, using(crate::proofs::Stored::rows_zeros))]
     pub(crate) fn zeros(alloc: Global, length: usize, width: usize) -> Result<Self, AllocError>
         requires vertices { length ≤ MOST_VERTICES }
         requires width { width ≤ COMPONENTS }
@@ -49,6 +50,7 @@ impl Rows {
     }
 
     /// So many measures, all of them top.
+    #[tactic(auto, using(crate::proofs::Stored::rows_tops))]
     pub(crate) fn tops(alloc: Global, length: usize, width: usize) -> Result<Self, AllocError>
         requires vertices { length ≤ MOST_VERTICES }
         requires width { width ≤ COMPONENTS + 1 }

@@ -1,10 +1,6 @@
 use Rattle.measures.proofs.Common.{◌∙◌, ◌-◌, ap, arith, drop, length, length-drop, take_all}
-use Rattle.measures.proofs.StoredClaims.{entered_inside, entered_is}
+use Rattle.measures.proofs.StoredClaims.{entered_inside}
 use Rattle.measures.proofs.claim.Claim.vertices.Goals as goal
-
-pub slice_bounds-result-count : goal.slice_bounds-result-count
-slice_bounds-result-count c =
-    let w = c.self.invariant.within in let l = c.self.invariant.room_long in let e = ap length c.deref.ensures.value in omega arith
 
 pub returns-clause-inside : goal.returns-clause-inside
 returns-clause-inside c =
@@ -12,10 +8,3 @@ returns-clause-inside c =
     let xs = c.deref.result.now in
     let all = take_all (length xs - i.first) (drop i.first xs) (omega (arith, length-drop i.first xs)) in
     entered_inside i.of.value i.values i.moves.items i.ranks i.vertices.items i.first c.self.invariant c.args.self.now c.self.view_is _ (all ∙ ap (λ ys. drop i.first ys) c.deref.ensures.value)
-
-pub returns-clause-entered : goal.returns-clause-entered
-returns-clause-entered c =
-    let i = c.self.inside in
-    let xs = c.deref.result.now in
-    let all = take_all (length xs - i.first) (drop i.first xs) (omega (arith, length-drop i.first xs)) in
-    entered_is i.of.value i.values i.moves.items i.ranks i.vertices.items i.first c.self.invariant c.args.self.now c.self.view_is _ (all ∙ ap (λ ys. drop i.first ys) c.deref.ensures.value)
