@@ -136,9 +136,6 @@ module _ (of : Game) (values : Rows) (moves : List ℕ) (ranks : Rows) (vertices
     inside : (v n : ℕ) → v < length now.game.vertices → n ≡ length of.vertices → v < n
     inside v n h e = let q : length of.vertices ≡ length now.game.vertices = ap (λ (g : Game). length g.vertices) game_is in omega arith
 
-    pub values_inside : (v : ℕ) → v < length now.game.vertices → v < length values.values
-    values_inside v h = inside v (length values.values) h stored.values_long
-
     pub moves_inside : (v : ℕ) → v < length now.game.vertices → v < length moves
     moves_inside v h = inside v (length moves) h stored.moves_long
 
@@ -205,9 +202,6 @@ module _ (of : Game) (values : Rows) (moves : List ℕ) (ranks : Rows) (vertices
               r.1 (subst (λ (k : Measure). Reaches (dual now.game) (p + 1) k (value_at ranks.values v)) (sym (parts t y.0 y.1).rank)
               (subst (λ (k : Measure). Reaches (dual now.game) (p + 1) (Counts y.0.rank) k) (sym (parts v x.0 x.1).rank) (f x.0 y.0 x.1 y.1)))),
         )
-
-pub descends_free : (c : Claim) (p v t : ℕ) → (IsSome (entry_at c.entries t) → ⊥) → Descends c p v t
-descends_free c p v t none x y at next = absurd (none (some_there (entry_at c.entries t) y next))
 
 -- ------------------------------------------------------------------ no entries yet
 
