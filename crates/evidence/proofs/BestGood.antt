@@ -11,7 +11,7 @@ use Rattle.measures.specs.Progress.{IsLeastTable, value_at}
 use Rattle.measures.specs.Laws.{IsLeastSuccessor}
 use Rattle.measures.proofs.Dual.{dual_wins, long_dual, wins_dual}
 use Rattle.measures.proofs.Bests.{vertex_here}
-use Rattle.measures.proofs.DualTop.{dual_game}
+use Rattle.laws.proofs.DualTop.{dual_game}
 use Rattle.measures.proofs.LeastDecides.{least_decides}
 use Rattle.measures.proofs.Lists.{all_contained, all_got}
 use Rattle.measures.proofs.Lifts.{even_reaches, odd_reaches, value_measure}

@@ -11,8 +11,8 @@ use Rattle.measures.specs.Measure.{Counts, IsAtMost, IsBelow, IsProg, Measure, T
 use Rattle.measures.specs.Progress.{IsLeastTable, value_at}
 use Rattle.measures.specs.Laws.{IsLeastSuccessor}
 use Rattle.measures.proofs.Bests.{vertex_here}
-use Rattle.measures.proofs.DualTop.{dual_game}
-use Rattle.measures.proofs.LeastExists.{least_exists, least_unique}
+use Rattle.laws.proofs.DualTop.{dual_game}
+use Rattle.laws.proofs.LeastExists.{least_exists, least_unique}
 use Rattle.measures.proofs.Lifts.{value_measure}
 use Rattle.measures.proofs.Lists.{all_contained, all_got, best_of}
 use Rattle.measures.proofs.Measures.{at_most_itself, at_most_or_below, at_most_trans, below_at_most, not_below, prog, prog_more}

@@ -1,21 +1,8 @@
 -- The vertices of a system with a normal form.
-use Rattle.std.proofs.Common.{◌≡◌, ◌+◌, ◌*◌, ◌≤◌, ◌<◌, ℕ, zero, suc, Bool, true, false, List, [], ◌∷◌, ◌++◌, Option, Some, None, length, map, filter, take, get_or, cond, refl, sym, ap, ◌∙◌, subst, arith, length-append, append_assoc}
-use Rattle.std.specs.Prelude.{slice_get, option_map}
-use Rattle.std.specs.List.{AllByRecursion, range_with_len}
-use Rattle.std.proofs.lemmas.List.{length-map, map-append, take_more, append-nil}
+use Rattle.game.proofs.Common.{◌≡◌, ◌+◌, ◌*◌, ◌≤◌, ◌<◌, ℕ, zero, suc, Bool, true, false, List, [], ◌∷◌, ◌++◌, Option, Some, None, length, map, filter, take, get_or, cond, refl, sym, ap, ◌∙◌, subst, arith, length-append, append_assoc, slice_get, option_map, AllByRecursion, range_with_len, length-map, map-append, take_more, append-nil, mul-add-lt, slice_get-map, slice_get_read, slice_get_within, get_or_from_slice_get, Shape, ConstantNode, JunctionNode, ModalityNode, FixpointNode, VariableNode, Node, node_of, nodes_of, IsShape, IsNode, IsForm, System, Vertex, IsVertex, IsAscending, IsGame, is_step, targets, place, or_else, sink, successors_of, vertex_of, rows, arena, Even}
 use Rattle.std.proofs.lemmas.List.FromFn.{length-range_with_len}
-use Rattle.std.proofs.lemmas.Nat.{mul-add-lt}
 use Rattle.std.proofs.Math.Nat.{mul-le-mul_left}
-use Rattle.std.proofs.lemmas.Option.{slice_get-map, slice_get_read, slice_get_within, get_or_from_slice_get}
-use Rattle.normal.specs.Tree.{Shape, ConstantNode, JunctionNode, ModalityNode, FixpointNode, VariableNode}
-use Rattle.normal.specs.Nodes.{Node}
-use Rattle.normal.specs.View.{node_of, nodes_of}
 use Rattle.normal.specs.declared.node as declared
-use Rattle.normal.specs.Form.{IsShape, IsNode, IsForm}
-use Rattle.lts.specs.System.{System}
-use Rattle.game.specs.Game.{Vertex, IsVertex, IsAscending, IsGame}
-use Rattle.game.specs.Arena.{is_step, targets, place, or_else, sink, successors_of, vertex_of, rows, arena}
-use Rattle.game.specs.declared.player.Player.TheVariants.{Even}
 use Rattle.game.proofs.Steps.{Rising}
 
 -- The node of a number is what stands there.

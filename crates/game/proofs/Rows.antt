@@ -1,17 +1,7 @@
 -- The vertices of stored rows.
-use Rattle.std.proofs.Common.{◌≡◌, ◌==◌, ◌+◌, ◌≤◌, ◌<◌, ℕ, false, List, [], ◌∷◌, ◌++◌, length, take, drop, slice_index, cond, ap, sym, ◌∙◌, refl, arith, map, get_or, Some, subst, length-drop, length-append}
-use Rattle.std.specs.Prelude.{count_by, if◌then◌else◌, option_map, slice_get}
-use Rattle.std.specs.List.{AllByRecursion, sum_by}
-use Rattle.std.proofs.lemmas.List.{take-append-le, drop-append-le, length-map, map-append}
-use Rattle.std.proofs.lemmas.Option.{slice_get-map, slice_get_read}
-use Rattle.std.proofs.Math.Seq.{drop-append_seam}
+use Rattle.game.proofs.Common.{◌≡◌, ◌==◌, ◌+◌, ◌≤◌, ◌<◌, ℕ, false, List, [], ◌∷◌, ◌++◌, length, take, drop, slice_index, cond, ap, sym, ◌∙◌, refl, arith, map, get_or, Some, subst, length-drop, length-append, count_by, if◌then◌else◌, option_map, slice_get, AllByRecursion, sum_by, take-append-le, drop-append-le, length-map, map-append, slice_get-map, slice_get_read, drop-append_seam, ne_eqb, All-from_recursion, Game, Vertex, IsVertex, vertex, game_of, vertex_of_row, vertices_of, AreStored, Row}
 use Rattle.std.proofs.lemmas.List.Sums.{sum_by-append, sum_by-cons}
-use Rattle.std.proofs.lemmas.Bool.{ne_eqb}
-use Rattle.std.proofs.lemmas.List.Elements.{All-from_recursion}
-use Rattle.game.specs.Game.{Game, Vertex, IsVertex, vertex}
-use Rattle.game.specs.View.{game_of, vertex_of_row, vertices_of, AreStored}
 use Rattle.game.specs.declared.graph.Game.TheInside.{Inside}
-use Rattle.game.specs.declared.graph.Row.{Row}
 
 -- what holds of each of the first and of one more holds of each
 pub all_more : {X : Type 0} (P : X → Type 0) (xs : List X) (x : X) → AllByRecursion P xs → P x → AllByRecursion P (xs ++ x ∷ [])

@@ -1,27 +1,8 @@
 -- The successors of a modality, found by walking over the transitions of a state by target.
-use Rattle.std.proofs.Common.{◌≡◌, ◌==◌, ◌&&◌, ◌||◌, ◌+◌, ◌*◌, ◌-◌, ◌≤◌, ◌<◌, ℕ, zero, suc, Bool, true, false, List, [], ◌∷◌, ◌++◌, length, map, filter, get_or, cond, inl, inr, refl, sym, ap, ◌∙◌, subst, arith, eq-eqb, drop, append_assoc}
-use Rattle.std.specs.Prelude.{nat_le, Some, slice_get, slice_index_or}
-use Rattle.std.specs.List.{list_any, AllByRecursion, range_with_len}
+use Rattle.game.proofs.Common.{◌≡◌, ◌==◌, ◌&&◌, ◌||◌, ◌+◌, ◌*◌, ◌-◌, ◌≤◌, ◌<◌, ℕ, zero, suc, Bool, true, false, List, [], ◌∷◌, ◌++◌, length, map, filter, get_or, cond, inl, inr, refl, sym, ap, ◌∙◌, subst, arith, eq-eqb, drop, append_assoc, nat_le, Some, slice_get, slice_index_or, list_any, AllByRecursion, range_with_len, list_any-IsPermutation, All-permutation, get_or-append_seam, ne_eqb, le-leb, lt-leb, leb-true, leb-false, and_parts, and_from, and_cases, and_left, and_right, drop_more, length-map, recursion_from_All, All-from_recursion, eqb_tells, mul-add-lt, get_or_from_slice_get, slice_get_within, Arrow, Numbered, arrow_of, arrows_from, IsInside, Transition, holds, Shape, ConstantNode, JunctionNode, ModalityNode, FixpointNode, VariableNode, Node, IsForm, IsNode, is_step, targets, place, or_else, owner_of, successors_of, vertex_of, IsSetOf, IsSetFor, IsRowOf, is_in, picks, successors_by, vertex_by}
 use Rattle.std.specs.List.Sorted.{IsNonDecreasingBy, IsPermutation}
-use Rattle.std.proofs.lemmas.List.Sorted.{list_any-IsPermutation, All-permutation}
 use Rattle.std.proofs.Math.ListN.{get_or-append}
-use Rattle.std.proofs.Math.Seq.{get_or-append_seam}
-use Rattle.std.proofs.lemmas.Bool.{ne_eqb, le-leb, lt-leb, leb-true, leb-false, and_parts, and_from, and_cases, and_left, and_right}
-use Rattle.std.proofs.lemmas.List.{drop_more, length-map}
-use Rattle.std.proofs.lemmas.List.Elements.{recursion_from_All, All-from_recursion}
-use Rattle.std.proofs.lemmas.Bool.Decides.{eqb_tells}
-use Rattle.std.proofs.lemmas.Nat.{mul-add-lt}
-use Rattle.std.proofs.lemmas.Option.{get_or_from_slice_get, slice_get_within}
-use Rattle.lts.specs.System.{Arrow}
-use Rattle.lts.specs.Numbered.{Numbered, arrow_of, arrows_from, IsInside}
-use Rattle.lts.specs.declared.system.Transition.{Transition}
 use Rattle.formula.specs.Tree.{Action}
-use Rattle.formula.specs.Holds.{holds}
-use Rattle.normal.specs.Tree.{Shape, ConstantNode, JunctionNode, ModalityNode, FixpointNode, VariableNode}
-use Rattle.normal.specs.Nodes.{Node}
-use Rattle.normal.specs.Form.{IsForm, IsNode}
-use Rattle.game.specs.Arena.{is_step, targets, place, or_else, owner_of, successors_of, vertex_of}
-use Rattle.game.specs.Steps.{IsSetOf, IsSetFor, IsRowOf, is_in, picks, successors_by, vertex_by}
 
 -- One set more.
 pub sets_more : (labels : List (List ℕ)) (nodes : List Node) (xs : List (List Bool)) (y : List Bool) (i : ℕ) → length xs ≡ i

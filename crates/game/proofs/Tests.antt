@@ -1,14 +1,6 @@
 -- What the test of a finished game says.
-use Rattle.std.proofs.Common.{◌≡◌, ◌==◌, ◌&&◌, ◌+◌, ◌≤◌, ◌<◌, ℕ, Bool, true, false, List, [], ◌∷◌, length, None, ap, sym, ◌∙◌, refl, arith}
-use Rattle.std.specs.Prelude.{nat_le, nat_lt, not}
-use Rattle.std.specs.List.{AllByRecursion, list_all}
-use Rattle.std.proofs.lemmas.Bool.{ltb-true, leb-true, lt-ltb, le-leb, and_parts, and_from, ne_eqb, eqb-false}
-use Rattle.std.proofs.lemmas.List.{length-map}
+use Rattle.game.proofs.Common.{◌≡◌, ◌==◌, ◌&&◌, ◌+◌, ◌≤◌, ◌<◌, ℕ, Bool, true, false, List, [], ◌∷◌, length, None, ap, sym, ◌∙◌, refl, arith, nat_le, nat_lt, not, AllByRecursion, list_all, ltb-true, leb-true, lt-ltb, le-leb, and_parts, and_from, ne_eqb, eqb-false, length-map, Vertex, IsVertex, IsGame, IsAscending, rises, vertex_of_row, vertices_of, Row}
 use Rattle.std.proofs.lemmas.List.Folds.{list_all-map}
-use Rattle.game.specs.Game.{Vertex, IsVertex, IsGame, IsAscending}
-use Rattle.game.specs.Rises.{rises}
-use Rattle.game.specs.View.{vertex_of_row, vertices_of}
-use Rattle.game.specs.declared.graph.Row.{Row}
 
 -- what the test of one vertex says
 abbrev pub is_vertex : ℕ → Vertex → Bool

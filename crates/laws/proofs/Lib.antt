@@ -1,3 +1,6 @@
+pub mod LeastExists
+pub mod OneWins
+pub mod DualTop
 pub mod Flags
 pub mod Lists
 pub mod Sat

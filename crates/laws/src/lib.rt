@@ -16,6 +16,8 @@ ghost use Rattle.laws.specs.Laws.{
   TablesAreSound,
 };
 
+pub mod games;
+
 /// The normal form of an admitted formula holds at the states where the formula does (Kozen 1983, Results on the propositional mu-calculus,
 /// has the equations behind it).
 pub fn normal_form_means()

@@ -1,21 +1,5 @@
 -- The lift of a vertex by the best of its successors' values.
-use Rattle.std.proofs.Common.{◌≡◌, ◌≢◌, ℕ, ◌+◌, ◌<◌, ◌≤◌, List, [], ◌∷◌, ◌++◌, length, take, refl, sym, ap, subst, ◌∙◌, inl, inr, arith, true≢false, IsTrue, Contains, Some, option_map, slice_index_or, add-one}
-use Rattle.std.proofs.Math.Seq.{take-suc}
-use Rattle.std.specs.List.{AllZip, AllByRecursion}
-use Rattle.std.specs.declared.cmp.Ordering.{Ordering}
-use Rattle.std.specs.declared.cmp.Ordering.TheVariants.{Less, Equal, Greater}
-use Rattle.std.specs.Ordering.{is_gt, is_le}
-use Rattle.std.proofs.lemmas.List.{length-map}
-use Rattle.std.proofs.lemmas.List.Elements.{Contains-append_left, Contains-append_right}
-use Rattle.std.proofs.lemmas.Option.{slice_get_cases}
-use Rattle.std.proofs.lemmas.Slice.Zip.{AllZip-long}
-use Rattle.game.specs.declared.player.Player.{Player}
-use Rattle.game.specs.declared.player.Player.TheVariants.{Even, Odd}
-use Rattle.game.specs.Game.{Vertex, Game, IsGame, IsVertex, count, vertex}
-use Rattle.measures.specs.Measure.{Measure, Top, Counts, components, IsAtMost, IsBelow, IsMeasure, IsProg, measure_cmp}
-use Rattle.measures.specs.Progress.{IsBestFor, greater_of}
-use Rattle.measures.specs.Progs.{IsBetter, IsLiftOf, IsProgAt, IsProgUnder, bounds}
-use Rattle.measures.specs.View.{counts_of}
+use Rattle.measures.proofs.Common.{◌≡◌, ◌≢◌, ℕ, ◌+◌, ◌<◌, ◌≤◌, List, [], ◌∷◌, ◌++◌, length, take, refl, sym, ap, subst, ◌∙◌, inl, inr, arith, true≢false, IsTrue, Contains, Some, option_map, slice_index_or, add-one, take-suc, AllZip, AllByRecursion, Ordering, Less, Equal, Greater, is_gt, is_le, length-map, Contains-append_left, Contains-append_right, slice_get_cases, AllZip-long, Player, Even, Odd, Vertex, Game, IsGame, IsVertex, count, vertex, Measure, Top, Counts, components, IsAtMost, IsBelow, IsMeasure, IsProg, measure_cmp, IsBestFor, greater_of, IsBetter, IsLiftOf, IsProgAt, IsProgUnder, bounds, counts_of}
 use Rattle.game.proofs.Rows.{all_more}
 use Rattle.measures.proofs.Lists.{all_got, all_weaker, contains_cases, contains_first, contains_later, contains_none}
 use Rattle.measures.proofs.Measures.{at_most_both, at_most_itself, at_most_or_below, at_most_trans, below_at_most, prog, prog_more, top_prog}

@@ -1,10 +1,5 @@
 -- The least counts over others: the last component with room takes one more, and those below it nothing.
-use Rattle.std.proofs.Common.{◌≡◌, ℕ, zero, suc, ◌+◌, ◌-◌, ◌/◌, ◌%◌, ◌≢◌, ◌<◌, ◌≤◌, true, false, List, [], ◌∷◌, ◌++◌, length, map, take, drop, replicate, refl, sym, ap, subst, ◌∙◌, inl, inr, arith, true≢false, slice_index, append_assoc, length-append, length-take-le}
-use Rattle.std.proofs.lemmas.List.{length-map}
-use Rattle.std.proofs.lemmas.Slice.Zip.{AllZip-long}
-use Rattle.game.specs.Game.{Game, count}
-use Rattle.measures.specs.Measure.{Top, Counts, components, kept, is_odd, IsMeasure, IsProg}
-use Rattle.measures.specs.Progs.{AreFull, bounds}
+use Rattle.measures.proofs.Common.{◌≡◌, ℕ, zero, suc, ◌+◌, ◌-◌, ◌/◌, ◌%◌, ◌≢◌, ◌<◌, ◌≤◌, true, false, List, [], ◌∷◌, ◌++◌, length, map, take, drop, replicate, refl, sym, ap, subst, ◌∙◌, inl, inr, arith, true≢false, slice_index, append_assoc, length-append, length-take-le, length-map, AllZip-long, Game, count, Top, Counts, components, kept, is_odd, IsMeasure, IsProg, AreFull, bounds}
 use Rattle.measures.proofs.Cycles.{odd_or_even}
 use Rattle.measures.proofs.Components.{kept_is}
 use Rattle.measures.proofs.Measures.{Bounded, IsLeastOver, NoneOver, none, none_bounded, none_least, raised, deeper, full, no_counts, least_prog, none_prog}

@@ -1,14 +1,5 @@
 -- Good claims lie below.
-use Rattle.std.proofs.Common.{◌≡◌, ℕ, ◌+◌, ◌%◌, ◌<◌, true, List, length, refl, sym, ap, subst, ◌∙◌, inl, inr, arith, true≢false, Contains, Option, Some, None}
-use Rattle.std.proofs.lemmas.Option.{slice_get_within}
-use Rattle.game.specs.declared.player.Player.{Player}
-use Rattle.game.specs.declared.player.Player.TheVariants.{Even, Odd}
-use Rattle.game.specs.Game.{Vertex, Game, vertex, IsVertex, dual}
-use Rattle.game.specs.Wins.{priority_at, greatest_met}
-use Rattle.measures.specs.Measure.{Measure, Top, Counts, IsAtMost, IsBelow, IsMeasure, Reaches, is_odd}
-use Rattle.measures.specs.Progress.{IsProgress, value_at}
-use Rattle.measures.specs.Tables.{IsPlain, LiesBelow, Table}
-use Rattle.measures.specs.Claim.{Entry, GoesOn, IsGoodClaim, IsGoodEntry, claimed_at, entry_at, value_or}
+use Rattle.measures.proofs.Common.{◌≡◌, ℕ, ◌+◌, ◌%◌, ◌<◌, true, List, length, refl, sym, ap, subst, ◌∙◌, inl, inr, arith, true≢false, Contains, Option, Some, None, slice_get_within, Player, Even, Odd, Vertex, Game, vertex, IsVertex, dual, priority_at, greatest_met, Measure, Top, Counts, IsAtMost, IsBelow, IsMeasure, Reaches, is_odd, IsProgress, value_at, IsPlain, LiesBelow, Table, Entry, GoesOn, IsGoodClaim, IsGoodEntry, claimed_at, entry_at, value_or}
 use Rattle.measures.proofs.Lists.{all_contained, all_got}
 use Rattle.measures.proofs.Measures.{at_most_or_below, at_most_trans, not_below, prog, prog_more}
 use Rattle.measures.proofs.Lifts.{even_reaches, odd_reaches, value_measure}

@@ -1,10 +1,5 @@
 -- The components, and measures that have a count for each of them.
-use Rattle.std.proofs.Common.{append_assoc, ◌++◌, ◌≡◌, ℕ, zero, suc, ◌+◌, ◌-◌, ◌/◌, ◌%◌, length, ◌<◌, ◌≤◌, ◌⊎◌, Bool, true, false, List, [], ◌∷◌, map, refl, sym, ap, subst, ◌∙◌, inl, inr, arith, true≢false, if◌then◌else◌, count_by, None, nat_le}
-use Rattle.std.specs.List.{AllByRecursion}
-use Rattle.std.proofs.lemmas.Bool.Decides.{leb_tells}
-use Rattle.game.specs.Game.{Vertex, Game, vertex, greatest, greatest_of}
-use Rattle.game.specs.Wins.{priority_at}
-use Rattle.measures.specs.Measure.{components, is_odd, kept, odd_down}
+use Rattle.measures.proofs.Common.{append_assoc, ◌++◌, ◌≡◌, ℕ, zero, suc, ◌+◌, ◌-◌, ◌/◌, ◌%◌, length, ◌<◌, ◌≤◌, ◌⊎◌, Bool, true, false, List, [], ◌∷◌, map, refl, sym, ap, subst, ◌∙◌, inl, inr, arith, true≢false, if◌then◌else◌, count_by, None, nat_le, AllByRecursion, leb_tells, Vertex, Game, vertex, greatest, greatest_of, priority_at, components, is_odd, kept, odd_down}
 use Rattle.measures.proofs.Lists.{count_yes, count_no}
 use Rattle.measures.proofs.Order.{Over}
 use Rattle.measures.proofs.Cycles.{priority, odd_or_even}

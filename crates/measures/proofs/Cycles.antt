@@ -1,10 +1,5 @@
 -- Along edges at which measures reach, no cycle's greatest priority is odd.
-use Rattle.std.proofs.Common.{◌≡◌, ◌≢◌, ℕ, ◌%◌, ◌<◌, ◌≤◌, ◌⊎◌, max, Bool, true, false, List, [], ◌∷◌, refl, sym, ap, subst, ◌∙◌, inl, inr, arith, true≢false, nat_le}
-use Rattle.std.proofs.lemmas.Bool.Decides.{leb_tells, eqb_tells}
-use Rattle.lts.specs.Path.{IsPath}
-use Rattle.game.specs.Game.{Game, vertex}
-use Rattle.game.specs.Wins.{priority_at, greatest_met}
-use Rattle.measures.specs.Measure.{Measure, Top, Counts, components, kept, Reaches, is_odd}
+use Rattle.measures.proofs.Common.{◌≡◌, ◌≢◌, ℕ, ◌%◌, ◌<◌, ◌≤◌, ◌⊎◌, max, Bool, true, false, List, [], ◌∷◌, refl, sym, ap, subst, ◌∙◌, inl, inr, arith, true≢false, nat_le, leb_tells, eqb_tells, IsPath, Game, vertex, priority_at, greatest_met, Measure, Top, Counts, components, kept, Reaches, is_odd}
 use Rattle.measures.proofs.Lists.{count_more}
 use Rattle.measures.proofs.Order.{Over, over_trans, over_fewer, over_itself, not_over_itself}
 use Rattle.measures.proofs.Measures.{over_reaches}

@@ -1,6 +1,5 @@
 -- Different places of a list at which a test passes are at most as many as it counts.
-use Rattle.std.proofs.Common.{◌≡◌, ◌≢◌, ℕ, zero, suc, ◌≤◌, Bool, true, false, List, [], ◌∷◌, length, refl, sym, ap, ◌∙◌, arith, true≢false, count_by, Some, slice_get}
-use Rattle.std.specs.List.{AllByRecursion}
+use Rattle.measures.proofs.Common.{◌≡◌, ◌≢◌, ℕ, zero, suc, ◌≤◌, Bool, true, false, List, [], ◌∷◌, length, refl, sym, ap, ◌∙◌, arith, true≢false, count_by, Some, slice_get, AllByRecursion}
 pub use Rattle.measures.specs.StoredClaim.{Apart}
 use Rattle.measures.proofs.Lists.{count_yes, count_no}
 

@@ -1,13 +1,5 @@
 -- The game with the players exchanged.
-use Rattle.std.proofs.Common.{◌≡◌, ◌≢◌, ℕ, ◌+◌, ◌<◌, List, [], ◌∷◌, length, refl, sym, ap, subst, ◌∙◌, inl, inr, arith, IsTrue, Contains, Some, None, Option, option_map}
-use Rattle.std.specs.List.{AllByRecursion}
-use Rattle.std.proofs.lemmas.List.{length-map}
-use Rattle.std.proofs.lemmas.Option.{slice_get-map, slice_get_cases}
-use Rattle.lts.specs.Path.{IsPath}
-use Rattle.game.specs.declared.player.Player.{Player}
-use Rattle.game.specs.declared.player.Player.TheVariants.{Even, Odd}
-use Rattle.game.specs.Game.{Vertex, Game, vertex, opponent, dual}
-use Rattle.game.specs.Wins.{Edge, IsOf, WinsBy, greatest_met, priority_at}
+use Rattle.measures.proofs.Common.{◌≡◌, ◌≢◌, ℕ, ◌+◌, ◌<◌, List, [], ◌∷◌, length, refl, sym, ap, subst, ◌∙◌, inl, inr, arith, IsTrue, Contains, Some, None, Option, option_map, AllByRecursion, length-map, slice_get-map, slice_get_cases, IsPath, Player, Even, Odd, Vertex, Game, vertex, opponent, dual, Edge, IsOf, WinsBy, greatest_met, priority_at}
 use Rattle.measures.proofs.Cycles.{priority}
 use Rattle.measures.proofs.Lists.{all_weaker}
 use Rattle.measures.proofs.NotBoth.{path_weaker}

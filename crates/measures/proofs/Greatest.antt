@@ -1,8 +1,5 @@
 -- The greatest priority of a game, and the bounds of its counts.
-use Rattle.std.proofs.Common.{◌≡◌, ℕ, ◌<◌, ◌≤◌, ◌⊎◌, max, List, [], ◌∷◌, length, refl, sym, subst, inl, inr, arith, count_by, ◌==◌, eq-eqb}
-use Rattle.std.specs.List.{AllByRecursion}
-use Rattle.std.proofs.lemmas.Bool.Decides.{eqb_tells, leb_tells}
-use Rattle.game.specs.Game.{Vertex, Game, IsVertex, IsGame, count, greatest, greatest_of}
+use Rattle.measures.proofs.Common.{◌≡◌, ℕ, ◌<◌, ◌≤◌, ◌⊎◌, max, List, [], ◌∷◌, length, refl, sym, subst, inl, inr, arith, count_by, ◌==◌, eq-eqb, AllByRecursion, eqb_tells, leb_tells, Vertex, Game, IsVertex, IsGame, count, greatest, greatest_of}
 use Rattle.measures.proofs.Lists.{count_yes, count_no}
 
 -- a priority that is counted is at most the greatest

@@ -1,10 +1,5 @@
 -- Testing claims, and raising a table by them.
-use Rattle.std.proofs.Common.{◌≡◌, ◌≢◌, ◌↔◌, ℕ, ◌+◌, ◌<◌, ◌≤◌, ◌⊎◌, Bool, false, List, length, refl, sym, ap, subst, ◌∙◌, inl, inr, arith, true≢false, IsTrue, Option, Some, None, slice_index, slice_set}
-use Rattle.std.proofs.lemmas.Bool.Decides.{eqb_tells}
-use Rattle.game.specs.Game.{Game, dual}
-use Rattle.measures.specs.Measure.{Counts, IsAtMost, IsProg, Measure, Reaches}
-use Rattle.measures.specs.Progress.{greater_of, value_at}
-use Rattle.measures.specs.Claim.{AreEntered, AreRaised, Claim, Descends, Entry, IsGoodAt, IsGoodClaim, IsGoodFrom, claimed_at, entry_at, raised_by}
+use Rattle.measures.proofs.Common.{◌≡◌, ◌≢◌, ◌↔◌, ℕ, ◌+◌, ◌<◌, ◌≤◌, ◌⊎◌, Bool, false, List, length, refl, sym, ap, subst, ◌∙◌, inl, inr, arith, true≢false, IsTrue, Option, Some, None, slice_index, slice_set, eqb_tells, Game, dual, Counts, IsAtMost, IsProg, Measure, Reaches, greater_of, value_at, AreEntered, AreRaised, Claim, Descends, Entry, IsGoodAt, IsGoodClaim, IsGoodFrom, claimed_at, entry_at, raised_by}
 use Rattle.measures.proofs.Measures.{at_most_itself, at_most_or_below, at_most_trans, greater_taken, own_greater, prog_more}
 use Rattle.measures.proofs.Plain.{value_set_other, value_set_same}
 use Rattle.measures.proofs.Putting.{contained_from}

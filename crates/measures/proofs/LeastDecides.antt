@@ -1,9 +1,5 @@
 -- The least progress table tells who wins.
-use Rattle.std.proofs.Common.{◌≢◌, ◌↔◌, ℕ, List, subst}
-use Rattle.game.specs.Game.{Game, IsGame}
-use Rattle.game.specs.Wins.{Wins}
-use Rattle.measures.specs.Measure.{Measure, Top, IsAtMost}
-use Rattle.measures.specs.Progress.{IsLeastTable, value_at}
+use Rattle.measures.proofs.Common.{◌≢◌, ◌↔◌, ℕ, List, subst, Game, IsGame, Wins, Measure, Top, IsAtMost, IsLeastTable, value_at}
 use Rattle.measures.proofs.Measures.{top_last}
 use Rattle.measures.proofs.TableWins.{table_wins}
 use Rattle.measures.proofs.StrategyTable.{wins_table}

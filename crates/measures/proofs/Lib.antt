@@ -1,3 +1,4 @@
+pub mod Common
 pub mod Order
 pub mod Measures
 pub mod Lists
@@ -23,11 +24,8 @@ pub mod NotBoth
 pub mod Monotone
 pub mod Ranks
 pub mod Opening
-pub mod LeastExists
 pub mod Lifting
-pub mod OneWins
 pub mod Dual
-pub mod DualTop
 pub mod Claims
 pub mod Putting
 pub mod StoredClaims

@@ -1,11 +1,5 @@
 -- Lifting one vertex after another.
-use Rattle.std.proofs.Common.{◌≢◌, ℕ, ◌+◌, ◌*◌, ◌<◌, ◌≤◌, List, [], ◌∷◌, length, sym, subst, ◌∙◌, inl, inr, arith}
-use Rattle.std.proofs.lemmas.Bool.Decides.{leb_tells, eqb_tells}
-use Rattle.std.proofs.lemmas.List.{ext_get_or}
-use Rattle.game.specs.Game.{Game, IsGame}
-use Rattle.measures.specs.Measure.{Measure, Top, IsMeasure, IsAtMost}
-use Rattle.measures.specs.Progress.{IsLeastTable, IsProgress, IsTable, opening, value_at}
-use Rattle.measures.specs.Lifting.{sum_of, IsLifted, AreLifts, AreRises, height, rank}
+use Rattle.measures.proofs.Common.{◌≢◌, ℕ, ◌+◌, ◌*◌, ◌<◌, ◌≤◌, List, [], ◌∷◌, length, sym, subst, ◌∙◌, inl, inr, arith, leb_tells, eqb_tells, ext_get_or, Game, IsGame, Measure, Top, IsMeasure, IsAtMost, IsLeastTable, IsProgress, IsTable, opening, value_at, sum_of, IsLifted, AreLifts, AreRises, height, rank}
 use Rattle.measures.proofs.Lists.{all_from}
 use Rattle.measures.proofs.Measures.{at_most_itself}
 use Rattle.measures.proofs.Lifts.{value_measure}

@@ -1,15 +1,6 @@
 -- What a progress table says of a vertex and its successors.
-use Rattle.std.proofs.Common.{◌≡◌, ℕ, ◌≤◌, List, length, map, refl, subst, ◌∙◌, arith, Contains, Some}
-use Rattle.std.specs.List.{AllZip, AllByRecursion}
-use Rattle.std.proofs.lemmas.Slice.Zip.{AllZip-long}
-use Rattle.std.proofs.lemmas.List.{length-map}
-use Rattle.game.specs.declared.player.Player.{Player}
-use Rattle.game.specs.declared.player.Player.TheVariants.{Even, Odd}
-use Rattle.game.specs.Game.{Vertex, Game, vertex, IsVertex, IsGame}
-use Rattle.measures.specs.Measure.{Measure, Top, IsMeasure, IsAtMost, Reaches, IsProg}
-use Rattle.measures.specs.Progress.{greater_of, IsBestFor, IsProgress, value_at}
+use Rattle.measures.proofs.Common.{◌≡◌, ℕ, ◌≤◌, List, length, map, refl, subst, ◌∙◌, arith, Contains, Some, AllZip, AllByRecursion, AllZip-long, length-map, Player, Even, Odd, Vertex, Game, vertex, IsVertex, IsGame, Measure, Top, IsMeasure, IsAtMost, Reaches, IsProg, greater_of, IsBestFor, IsProgress, value_at, IsLeastSuccessor}
 use Rattle.measures.proofs.Lists.{all_got, all_or, zip_back, zip_on, zip_made, best_of}
-use Rattle.measures.specs.Laws.{IsLeastSuccessor}
 use Rattle.measures.proofs.Measures.{at_most_itself, at_most_trans, at_most_either, greater_own, reaches_up, prog, prog_more}
 
 pub value_measure : (g : Game) (table : List Measure) → AllByRecursion (IsMeasure g) table → (v : ℕ) → IsMeasure g (value_at table v)

@@ -1,14 +1,5 @@
 -- Measures: their order, and the least one that reaches another.
-use Rattle.std.proofs.Common.{◌≡◌, ℕ, zero, suc, ◌+◌, ◌≤◌, ◌⊎◌, Bool, true, false, List, [], ◌∷◌, length, map, take, refl, sym, ap, subst, ◌∙◌, inl, inr, arith, IsTrue, true≢false, MatchBool, if◌then◌else◌}
-use Rattle.std.specs.List.{AllZip}
-use Rattle.std.specs.declared.cmp.Ordering.{Ordering}
-use Rattle.std.specs.Ordering.{nat_cmp, is_lt, is_le}
-use Rattle.std.specs.Cmp.Lexicographic.{slice_cmp}
-use Rattle.std.proofs.lemmas.Bool.Decides.{leb_tells}
-use Rattle.std.proofs.lemmas.Slice.Zip.{AllZip-long}
-use Rattle.game.specs.Game.{Game, count}
-use Rattle.measures.specs.Measure.{Measure, Top, Counts, components, IsMeasure, measure_cmp, IsAtMost, IsBelow, kept, Reaches, IsProg, is_odd}
-use Rattle.measures.specs.Progress.{greater_of}
+use Rattle.measures.proofs.Common.{◌≡◌, ℕ, zero, suc, ◌+◌, ◌≤◌, ◌⊎◌, Bool, true, false, List, [], ◌∷◌, length, map, take, refl, sym, ap, subst, ◌∙◌, inl, inr, arith, IsTrue, true≢false, MatchBool, if◌then◌else◌, AllZip, Ordering, nat_cmp, is_lt, is_le, slice_cmp, leb_tells, AllZip-long, Game, count, Measure, Top, Counts, components, IsMeasure, measure_cmp, IsAtMost, IsBelow, kept, Reaches, IsProg, is_odd, greater_of}
 use Rattle.measures.proofs.Order.{Over, Passes, over_from, over_to, over_trans, over_fewer, over_itself, not_over_itself, over_either, over_same, whole_to, whole_from, whole_fewer}
 
 -- every measure is at most itself

@@ -1,14 +1,5 @@
 -- Lifts of greater tables are greater.
-use Rattle.std.proofs.Common.{◌≡◌, ℕ, ◌≤◌, Bool, true, false, if◌then◌else◌, List, [], ◌∷◌, length, map, refl, sym, ap, subst, ◌∙◌, arith, Contains, Some}
-use Rattle.std.specs.List.{AllZip, AllByRecursion}
-use Rattle.std.specs.Ordering.{is_lt}
-use Rattle.std.proofs.lemmas.List.{length-map}
-use Rattle.std.proofs.lemmas.Slice.Zip.{AllZip-long}
-use Rattle.game.specs.declared.player.Player.{Player}
-use Rattle.game.specs.declared.player.Player.TheVariants.{Even, Odd}
-use Rattle.game.specs.Game.{Vertex, Game, vertex, IsVertex, IsGame}
-use Rattle.measures.specs.Measure.{Measure, IsMeasure, measure_cmp, IsAtMost, IsProg}
-use Rattle.measures.specs.Progress.{greater_of, IsBestFor, IsLiftAt, IsProgress, IsTable, value_at}
+use Rattle.measures.proofs.Common.{◌≡◌, ℕ, ◌≤◌, Bool, true, false, if◌then◌else◌, List, [], ◌∷◌, length, map, refl, sym, ap, subst, ◌∙◌, arith, Contains, Some, AllZip, AllByRecursion, is_lt, length-map, AllZip-long, Player, Even, Odd, Vertex, Game, vertex, IsVertex, IsGame, Measure, IsMeasure, measure_cmp, IsAtMost, IsProg, greater_of, IsBestFor, IsLiftAt, IsProgress, IsTable, value_at}
 use Rattle.measures.proofs.Lists.{all_got, all_contained, zip_back, zip_on, zip_made}
 use Rattle.measures.proofs.Measures.{at_most_both, at_most_itself, at_most_trans, below_at_most, prog, prog_more}
 use Rattle.measures.proofs.Lifts.{best_for, settled, value_measure}

@@ -1,15 +1,5 @@
 -- No vertex is won by both: both strategies together run into a cycle.
-use Rattle.std.proofs.Common.{◌≡◌, ◌≢◌, ℕ, zero, suc, ◌+◌, ◌%◌, ◌<◌, ◌≤◌, ◌⊎◌, true, List, [], ◌∷◌, ◌++◌, length, refl, sym, subst, ◌∙◌, inl, inr, arith, IsTrue, Some, get_or}
-use Rattle.std.specs.List.{AllByRecursion, range_with_len}
-use Rattle.std.proofs.lemmas.Bool.Decides.{eqb_tells}
-use Rattle.std.proofs.lemmas.List.Sums.{count_by-le-length}
-use Rattle.std.proofs.lemmas.Option.{slice_get_cases, slice_get-get_or}
-use Rattle.std.proofs.lemmas.List.FromFn.{length-range_with_len}
-use Rattle.lts.specs.Path.{IsPath}
-use Rattle.game.specs.declared.player.Player.{Player}
-use Rattle.game.specs.declared.player.Player.TheVariants.{Even, Odd}
-use Rattle.game.specs.Game.{Vertex, Game, vertex}
-use Rattle.game.specs.Wins.{Edge, Wins, OddWins, greatest_met}
+use Rattle.measures.proofs.Common.{◌≡◌, ◌≢◌, ℕ, zero, suc, ◌+◌, ◌%◌, ◌<◌, ◌≤◌, ◌⊎◌, true, List, [], ◌∷◌, ◌++◌, length, refl, sym, subst, ◌∙◌, inl, inr, arith, IsTrue, Some, get_or, AllByRecursion, range_with_len, eqb_tells, count_by-le-length, slice_get_cases, slice_get-get_or, length-range_with_len, IsPath, Player, Even, Odd, Vertex, Game, vertex, Edge, Wins, OddWins, greatest_met}
 use Rattle.measures.proofs.Lists.{all_weaker}
 use Rattle.measures.proofs.Distinct.{Apart, PassesAt, apart_count}
 

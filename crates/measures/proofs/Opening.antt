@@ -1,18 +1,7 @@
 -- The table that lifting begins with.
-use Rattle.std.proofs.Common.{◌≡◌, ℕ, zero, suc, ◌+◌, ◌≤◌, Bool, true, false, ◌&&◌, if◌then◌else◌, List, [], ◌∷◌, length, map, refl, sym, ap, subst, ◌∙◌, inl, inr, arith, Contains, Some, nat_eq, slice_get, slice_index_or}
-use Rattle.std.specs.List.{AllByRecursion}
-use Rattle.std.specs.Cmp.Lexicographic.{same_text}
-use Rattle.std.proofs.lemmas.List.{get_or_past, length-map}
-use Rattle.std.proofs.lemmas.Slice.Zip.{AllZip-long}
-use Rattle.std.proofs.lemmas.Option.{slice_get_cases}
+use Rattle.measures.proofs.Common.{◌≡◌, ℕ, zero, suc, ◌+◌, ◌≤◌, Bool, true, false, ◌&&◌, if◌then◌else◌, List, [], ◌∷◌, length, map, refl, sym, ap, subst, ◌∙◌, inl, inr, arith, Contains, Some, nat_eq, slice_get, slice_index_or, AllByRecursion, same_text, get_or_past, length-map, AllZip-long, slice_get_cases, Player, Even, Odd, Vertex, Game, vertex, IsGame, count, Measure, Top, Counts, components, IsMeasure, IsAtMost, Reaches, is_odd, kept, IsProgress, IsTable, value_at, zeros, opening, opening_value, opening_from, and_parts}
 use lib.Pointwise.{pointwise}
-use Rattle.game.specs.declared.player.Player.{Player}
-use Rattle.game.specs.declared.player.Player.TheVariants.{Even, Odd}
-use Rattle.game.specs.Game.{Vertex, Game, vertex, IsGame, count}
-use Rattle.measures.specs.Measure.{Measure, Top, Counts, components, IsMeasure, IsAtMost, Reaches, is_odd, kept}
-use Rattle.measures.specs.Progress.{IsProgress, IsTable, value_at, zeros, opening, opening_value, opening_from}
 use Rattle.measures.proofs.Lists.{contains_first, contains_none, contains_cases}
-use Rattle.std.proofs.lemmas.Bool.{and_parts}
 use Rattle.measures.proofs.Order.{Over, not_over_itself, whole_to}
 use Rattle.measures.proofs.Measures.{none_bounded, none_least, over_reaches, at_most_itself, at_most_top}
 use Rattle.measures.proofs.Lifts.{even_reaches, odd_reaches, value_measure}

@@ -1,21 +1,10 @@
 -- Tables whose values are at most those of every progress table.
-use Rattle.std.specs.List.{AllByRecursion}
-use Rattle.std.proofs.Common.{Some, option_map, ◌≡◌, ◌≢◌, ℕ, ◌+◌, ◌-◌, ◌<◌, ◌≤◌, Bool, true, false, List, length, replicate, sym, ap, subst, ◌∙◌, inl, inr, arith, if◌then◌else◌, slice_set}
-use Rattle.std.proofs.lemmas.Bool.Decides.{eqb_tells}
-use Rattle.std.proofs.lemmas.List.{ext_get_or, get_or-set_other, get_or-set_same, get_or-replicate, length-map, length-replicate, length-set}
-use Rattle.std.proofs.lemmas.Slice.Zip.{AllZip-long}
-use Rattle.game.specs.Game.{Game, IsGame, count, greatest, vertex}
-use Rattle.measures.specs.Measure.{Measure, Top, Counts, components, IsMeasure}
-use Rattle.measures.specs.Progress.{IsProgress, greater_of, opening, opening_value, value_at, zeros}
-use Rattle.measures.specs.Progs.{bounds}
-use Rattle.measures.specs.Tables.{IsOpening, IsPlain, IsSettled, IsStored, LiesBelow, Table}
-use Rattle.measures.specs.View.{HasWidth, Rows}
+use Rattle.measures.proofs.Common.{AllByRecursion, Some, option_map, ◌≡◌, ◌≢◌, ℕ, ◌+◌, ◌-◌, ◌<◌, ◌≤◌, Bool, true, false, List, length, replicate, sym, ap, subst, ◌∙◌, inl, inr, arith, if◌then◌else◌, slice_set, eqb_tells, ext_get_or, get_or-set_other, get_or-set_same, get_or-replicate, length-map, length-replicate, length-set, AllZip-long, Game, IsGame, count, greatest, vertex, Measure, Top, Counts, components, IsMeasure, IsProgress, opening, opening_value, value_at, zeros, bounds, IsOpening, IsPlain, IsSettled, IsStored, LiesBelow, Table, HasWidth, Rows}
 use Rattle.measures.proofs.Bests.{its_successors}
 use Rattle.measures.proofs.Carry.{none_is}
 use Rattle.measures.proofs.Components.{odd_down_long}
 use Rattle.measures.proofs.Greatest.{greatest_limit}
 use Rattle.measures.proofs.Lifts.{value_measure}
-use Rattle.measures.proofs.Monotone.{greater_has}
 use Rattle.measures.proofs.Opening.{opening_at, opening_table, opening_under}
 
 pub bounds_long : (g : Game) → length (bounds g) ≡ length (components g)
@@ -151,13 +140,3 @@ set_stored g limits r new v m is h below e = subst (λ (s : Rows). IsStored (rec
   bounded = is.bounded;
   wide = is.wide;
 })
-
--- ------------------------------------------------------------------ for tables of other kinds
-
--- of two values that are below the greater is
-pub greater_lies_below : (g : Game) (v : ℕ) (m r : Measure) → LiesBelow g v m → LiesBelow g v r → LiesBelow g v (greater_of m r)
-greater_lies_below g v m r h i = greater_has (LiesBelow g v) m r h i
-
--- each opening value is below
-pub opening_lies_below : (g : Game) (v : ℕ) → IsGame g → LiesBelow g v (value_at (opening g) v)
-opening_lies_below g v game = record { measure = value_measure g (opening g) (opening_table g).1 v; under = λ table is. opening_under g game table is v }

@@ -1,10 +1,5 @@
 -- Top in many places of rows.
-use Rattle.std.proofs.Common.{◌≡◌, ◌≢◌, ℕ, ◌+◌, ◌<◌, ◌≤◌, ◌⊎◌, List, length, refl, sym, ap, subst, ◌∙◌, inl, inr, arith, Contains, slice_index, slice_set}
-use Rattle.std.proofs.lemmas.Bool.Decides.{eqb_tells}
-use Rattle.std.proofs.lemmas.List.{get_or_default, length-set}
-use Rattle.measures.specs.Measure.{Measure, Top}
-use Rattle.measures.specs.Progress.{value_at}
-use Rattle.measures.specs.View.{ArePut, Rows}
+use Rattle.measures.proofs.Common.{◌≡◌, ◌≢◌, ℕ, ◌+◌, ◌<◌, ◌≤◌, ◌⊎◌, List, length, refl, sym, ap, subst, ◌∙◌, inl, inr, arith, Contains, slice_index, slice_set, eqb_tells, get_or_default, length-set, Measure, Top, value_at, ArePut, Rows}
 use Rattle.measures.proofs.Plain.{value_set_other, value_set_same}
 
 -- what a list contains by place, and from all places

@@ -1,12 +1,5 @@
 -- Measures as numbers, in their order.
-use Rattle.std.proofs.Common.{◌≡◌, ℕ, suc, ◌+◌, ◌*◌, ◌/◌, ◌%◌, ◌<◌, ◌≤◌, map, subst, ◌∙◌, AllPairs, Contains, slice_index_or, true, List, [], ◌∷◌, length, sym, ap, inl, inr, arith, true≢false, mul-le-mul_right}
-use Rattle.std.specs.List.{range_with_len}
-use Rattle.std.proofs.lemmas.Bool.Decides.{leb_tells}
-use Rattle.std.proofs.lemmas.List.FromFn.{length-map-range_with_len, get_or-map-range_with_len}
-use Rattle.std.proofs.lemmas.Slice.Zip.{AllZip-long}
-use Rattle.game.specs.Game.{Game, count}
-use Rattle.measures.specs.Measure.{Measure, Top, Counts, components, IsMeasure, IsAtMost, IsBelow, IsRank}
-use Rattle.measures.specs.Lifting.{code, height, rank, size}
+use Rattle.measures.proofs.Common.{◌≡◌, ℕ, suc, ◌+◌, ◌*◌, ◌/◌, ◌%◌, ◌<◌, ◌≤◌, map, subst, ◌∙◌, AllPairs, Contains, slice_index_or, true, List, [], ◌∷◌, length, sym, ap, inl, inr, arith, true≢false, mul-le-mul_right, range_with_len, leb_tells, length-map-range_with_len, get_or-map-range_with_len, AllZip-long, Game, count, Measure, Top, Counts, components, IsMeasure, IsAtMost, IsBelow, IsRank, code, height, rank, size}
 use Rattle.measures.proofs.Order.{Over, whole_from}
 use Rattle.measures.proofs.Measures.{Bounded, at_most_both, at_most_or_below}
 

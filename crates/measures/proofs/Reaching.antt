@@ -1,11 +1,5 @@
 -- Whether a measure reaches another, by comparing their first counts.
-use Rattle.std.proofs.Common.{◌≡◌, ◌≢◌, ◌↔◌, ℕ, ◌-◌, ◌/◌, ◌%◌, Bool, false, List, length, take, sym, ap, subst, ◌∙◌, inl, inr, arith, IsTrue, MatchBool}
-use Rattle.std.specs.declared.cmp.Ordering.{Ordering}
-use Rattle.std.specs.Ordering.{is_le, is_lt, nat_cmp}
-use Rattle.std.specs.Cmp.Lexicographic.{slice_cmp}
-use Rattle.game.specs.Game.{Game}
-use Rattle.measures.specs.Measure.{Measure, Counts, IsAtMost, IsBelow, IsProg, Reaches, components, is_odd, kept}
-use Rattle.measures.specs.View.{is_top_of, measure_of}
+use Rattle.measures.proofs.Common.{◌≡◌, ◌≢◌, ◌↔◌, ℕ, ◌-◌, ◌/◌, ◌%◌, Bool, false, List, length, take, sym, ap, subst, ◌∙◌, inl, inr, arith, IsTrue, MatchBool, Ordering, is_le, is_lt, nat_cmp, slice_cmp, Game, Measure, Counts, IsAtMost, IsBelow, IsProg, Reaches, components, is_odd, kept, is_top_of, measure_of}
 use Rattle.measures.proofs.Carry.{even_is, odd_is}
 use Rattle.measures.proofs.Components.{kept_is}
 use Rattle.measures.proofs.Measures.{at_most_or_below, reaches_up}

@@ -1,6 +1,5 @@
 -- Tests, and searches among finitely many numbers.
-use Rattle.std.proofs.Common.{◌≡◌, ℕ, zero, suc, ◌<◌, ◌⊎◌, Bool, true, false, ◌&&◌, List, [], ◌∷◌, refl, sym, subst, inl, inr, arith, true≢false, Contains}
-use Rattle.std.proofs.lemmas.Bool.Decides.{eqb_tells}
+use Rattle.measures.proofs.Common.{◌≡◌, ℕ, zero, suc, ◌<◌, ◌⊎◌, Bool, true, false, List, [], ◌∷◌, refl, sym, subst, inl, inr, arith, Contains, eqb_tells}
 use Rattle.measures.proofs.Lists.{contains_cases, contains_first, contains_later, contains_none}
 
 pub either_way : (b : Bool) → (b ≡ true) ⊎ (b ≡ false)

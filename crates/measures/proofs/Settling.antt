@@ -1,15 +1,5 @@
 -- Raising vertices to their lifts until no lift raises one.
-use Rattle.std.proofs.Common.{◌≡◌, ◌≢◌, ◌↔◌, ℕ, ◌+◌, ◌*◌, ◌<◌, ◌≤◌, Bool, true, false, List, length, map, refl, sym, ap, subst, ◌∙◌, inl, inr, arith, Some, option_map, slice_set, IsTrue, not, MatchBool, true≢false, lt_trans}
-use Rattle.std.proofs.lemmas.Bool.Decides.{eqb_tells, leb_tells}
-use Rattle.std.proofs.lemmas.List.{get_or_past, length-set}
-use Rattle.std.proofs.lemmas.Option.{slice_get_within}
-use Rattle.game.specs.declared.player.Player.{Player}
-use Rattle.game.specs.Game.{Vertex, Game, IsGame, vertex}
-use Rattle.measures.specs.Lifting.{IsLifted, height, rank, sum_of}
-use Rattle.measures.specs.Measure.{Measure, Top, IsAtMost, IsBelow, IsMeasure, IsProg, Reaches}
-use Rattle.measures.specs.Progress.{IsBestFor, IsLeastTable, IsLiftAt, IsProgress, IsTable, greater_of, value_at}
-use Rattle.measures.specs.Settling.{IsStill, Sweeps}
-use Rattle.measures.specs.Tables.{IsPlain, LiesBelow, Table}
+use Rattle.measures.proofs.Common.{◌≡◌, ◌≢◌, ◌↔◌, ℕ, ◌+◌, ◌*◌, ◌<◌, ◌≤◌, Bool, true, false, List, length, map, refl, sym, ap, subst, ◌∙◌, inl, inr, arith, Some, option_map, slice_set, IsTrue, not, MatchBool, true≢false, eqb_tells, leb_tells, get_or_past, length-set, slice_get_within, Player, Vertex, Game, IsGame, vertex, IsLifted, height, rank, sum_of, Measure, Top, IsAtMost, IsBelow, IsMeasure, IsProg, Reaches, IsBestFor, IsLeastTable, IsLiftAt, IsProgress, IsTable, greater_of, value_at, IsStill, Sweeps, IsPlain, LiesBelow, Table}
 use Rattle.measures.proofs.Bests.{best_prog, vertex_here, vertex_tells}
 use Rattle.measures.proofs.Lifting.{sum_rises}
 use Rattle.measures.proofs.Lifts.{value_measure}
@@ -110,13 +100,6 @@ module _ (g : Game) (values : List Measure) (plain : IsPlain (record { game = g;
 abbrev pub Swept : Game → ℕ → List Measure → List Measure → Bool → Type 0
 Swept g v old new rose = MatchBool rose (sum_of g old < sum_of g new) ((new ≡ old) × ((u : ℕ) → v ≤ u → u < length g.vertices → IsStill g new u))
 
-pub swept_first : (g : Game) (v : ℕ) (old : List Measure) → length g.vertices ≤ v → Swept g v old old false
-swept_first g v old h = (refl, λ u l m. absurd (omega arith))
-
-pub swept_rose : (g : Game) (v : ℕ) (old mid new : List Measure) (rose : Bool) → Swept g v old mid rose → sum_of g mid < sum_of g new → Swept g v old new true
-swept_rose g v old mid new true h l = lt_trans h l
-swept_rose g v old mid new false h l = subst (λ (ms : List Measure). sum_of g ms < sum_of g new) h.0 l
-
 pub swept_still : (g : Game) (v w : ℕ) (old mid new : List Measure) (rose : Bool) → Swept g v old mid rose → v ≡ w + 1 → new ≡ mid → IsStill g new w → Swept g w old new rose
 swept_still g v w old mid new true h e same still = subst (λ (ms : List Measure). sum_of g old < sum_of g ms) (sym same) h
 swept_still g v w old mid new false h e same still = (
@@ -136,10 +119,6 @@ swept_whole g v old new false plain h e = all_still g new plain (λ u l. h.1 u (
 pub swept_least : (g : Game) (old new : List Measure) (rose : Bool) → IsPlain (record { game = g; values = new }) → Sweeps g old new rose → rose ≡ false → IsLeastTable g new
 swept_least g old new true plain h e = absurd (true≢false e)
 swept_least g old new false plain h e = record { progress = h; under = λ v l. (plain.below v l).under }
-
-pub swept_rises : (g : Game) (old new : List Measure) (rose : Bool) → Sweeps g old new rose → rose ≡ true → sum_of g old < sum_of g new
-swept_rises g old new true h e = h
-swept_rises g old new false h e = absurd (true≢false (sym e))
 
 -- in a progress table every vertex is still
 pub progress_still : (g : Game) (values : List Measure) → IsGame g → IsProgress g values → (v : ℕ) → v < length g.vertices → IsStill g values v

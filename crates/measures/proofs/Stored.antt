@@ -1,11 +1,5 @@
 -- Measures that are stored in one list of counts.
-use Rattle.std.proofs.Common.{◌≡◌, ◌≢◌, ℕ, zero, suc, ◌+◌, ◌*◌, ◌<◌, ◌≤◌, Bool, true, false, List, [], ◌∷◌, ◌++◌, length, take, drop, refl, sym, ap, ap₂, subst, ◌∙◌, arith, slice_index_or, slice_set, mul-le-mul_right, append_assoc, length-take-le, length-drop, replicate}
-use Rattle.std.proofs.lemmas.List.{length-replicate, replicate-append-replicate}
-use Rattle.std.proofs.Math.Seq.{take-add, take-append_seam, drop-append_seam}
-use Rattle.measures.specs.Measure.{Measure, Top, Counts}
-use Rattle.measures.specs.Progress.{value_at}
-use Rattle.measures.specs.View.{HasWidth, Rows, counts_of, is_top_of, measure_of, rows_of}
-use Rattle.measures.proofs.Bests.{counts_back}
+use Rattle.measures.proofs.Common.{◌≡◌, ◌≢◌, ℕ, zero, suc, ◌+◌, ◌*◌, ◌<◌, ◌≤◌, Bool, true, false, List, [], ◌∷◌, ◌++◌, length, take, drop, refl, sym, ap, ap₂, ◌∙◌, arith, slice_index_or, slice_set, mul-le-mul_right, append_assoc, length-take-le, length-drop, replicate, length-replicate, replicate-append-replicate, take-add, take-append_seam, drop-append_seam, Measure, Top, Counts, value_at, HasWidth, Rows, counts_of, is_top_of, measure_of, rows_of}
 
 pub rows_long : (w : ℕ) (tops : List Bool) (cs : List ℕ) → length (rows_of w tops cs) ≡ length tops
 rows_long w [] cs = refl

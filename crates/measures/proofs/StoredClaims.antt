@@ -1,18 +1,5 @@
 -- Claims that are stored in rows.
-use Rattle.std.proofs.Common.{◌≡◌, ◌≢◌, ◌↔◌, ℕ, zero, suc, ◌+◌, ◌/◌, ◌<◌, ◌≤◌, Bool, true, false, not, List, [], ◌∷◌, length, drop, map, refl, sym, ap, subst, ◌∙◌, inl, inr, arith, true≢false, IsTrue, IsSome, Contains, Option, Some, None, slice_index, slice_set, replicate, get_or, if◌then◌else◌}
-use Rattle.std.specs.List.{AllByRecursion, range_with_len}
-use Rattle.std.specs.Ordering.{is_le}
-use Rattle.std.proofs.lemmas.Bool.Decides.{eqb_tells, leb_tells}
-use Rattle.std.proofs.lemmas.List.{drop_all, get_or-set_other, get_or-set_same, get_or_past, length-replicate, length-set, get_or-replicate}
-use Rattle.std.proofs.lemmas.List.Sums.{count_by-le-length}
-use Rattle.std.proofs.lemmas.Option.{slice_get-get_or}
-use Rattle.std.proofs.lemmas.List.FromFn.{length-range_with_len}
-use Rattle.game.specs.Game.{Game, IsGame, Vertex, dual, greatest, greatest_of}
-use Rattle.measures.specs.Measure.{Counts, IsAtMost, IsMeasure, IsProg, Measure, Reaches, Top, components, measure_cmp}
-use Rattle.measures.specs.Progress.{value_at}
-use Rattle.measures.specs.Progs.{IsProgUnder, bounds}
-use Rattle.measures.specs.View.{ArePut, ReachesAt, Rows, is_top_of, measure_of}
-use Rattle.measures.specs.Claim.{AreEntered, Claim, Descends, Entry, entry_at}
+use Rattle.measures.proofs.Common.{◌≡◌, ◌≢◌, ◌↔◌, ℕ, zero, suc, ◌+◌, ◌/◌, ◌<◌, ◌≤◌, Bool, true, false, not, List, [], ◌∷◌, length, drop, map, refl, sym, ap, subst, ◌∙◌, inl, inr, arith, true≢false, IsTrue, IsSome, Contains, Option, Some, None, slice_index, slice_set, replicate, get_or, if◌then◌else◌, AllByRecursion, range_with_len, is_le, eqb_tells, leb_tells, drop_all, get_or-set_other, get_or-set_same, get_or_past, length-replicate, length-set, get_or-replicate, count_by-le-length, slice_get-get_or, length-range_with_len, Game, IsGame, Vertex, dual, greatest, greatest_of, Counts, IsAtMost, IsMeasure, IsProg, Measure, Reaches, Top, components, measure_cmp, value_at, IsProgUnder, bounds, ArePut, ReachesAt, Rows, is_top_of, measure_of, AreEntered, Claim, Descends, Entry, entry_at}
 use Rattle.measures.specs.StoredClaim.{Apart, IsStoredClaim, entries_of, entry_of}
 use Rattle.measures.proofs.Lists.{all_weaker, contains_cases, contains_first, contains_later, contains_none}
 use Rattle.measures.proofs.Distinct.{PassesAt, apart_count}
@@ -149,9 +136,6 @@ module _ (of : Game) (values : Rows) (moves : List ℕ) (ranks : Rows) (vertices
     inside : (v n : ℕ) → v < length now.game.vertices → n ≡ length of.vertices → v < n
     inside v n h e = let q : length of.vertices ≡ length now.game.vertices = ap (λ (g : Game). length g.vertices) game_is in omega arith
 
-    pub values_inside : (v : ℕ) → v < length now.game.vertices → v < length values.values
-    values_inside v h = inside v (length values.values) h stored.values_long
-
     pub moves_inside : (v : ℕ) → v < length now.game.vertices → v < length moves
     moves_inside v h = inside v (length moves) h stored.moves_long
 
@@ -218,9 +202,6 @@ module _ (of : Game) (values : Rows) (moves : List ℕ) (ranks : Rows) (vertices
               r.1 (subst (λ (k : Measure). Reaches (dual now.game) (p + 1) k (value_at ranks.values v)) (sym (parts t y.0 y.1).rank)
               (subst (λ (k : Measure). Reaches (dual now.game) (p + 1) (Counts y.0.rank) k) (sym (parts v x.0 x.1).rank) (f x.0 y.0 x.1 y.1)))),
         )
-
-pub descends_free : (c : Claim) (p v t : ℕ) → (IsSome (entry_at c.entries t) → ⊥) → Descends c p v t
-descends_free c p v t none x y at next = absurd (none (some_there (entry_at c.entries t) y next))
 
 -- ------------------------------------------------------------------ no entries yet
 

@@ -1,14 +1,5 @@
 -- A strategy that wins for Even gives a progress table that isn't top on its set.
-use Rattle.std.proofs.Common.{◌≡◌, ◌≢◌, ℕ, ◌<◌, ◌≤◌, Bool, true, false, List, length, map, refl, sym, ap, subst, ◌∙◌, inl, inr, arith, IsTrue, Some}
-use Rattle.std.specs.List.{AllZip, range_with_len}
-use Rattle.std.proofs.lemmas.List.FromFn.{length-map-range_with_len, get_or-map-range_with_len}
-use Rattle.std.proofs.lemmas.Option.{slice_get_within}
-use Rattle.game.specs.declared.player.Player.{Player}
-use Rattle.game.specs.declared.player.Player.TheVariants.{Even, Odd}
-use Rattle.game.specs.Game.{Vertex, Game, vertex, count, greatest}
-use Rattle.game.specs.Wins.{Edge, IsStrategy, Wins, priority_at}
-use Rattle.measures.specs.Measure.{Measure, Top, Counts, components, IsMeasure, IsAtMost, Reaches, IsProg, is_odd}
-use Rattle.measures.specs.Progress.{IsBestFor, IsProgress, IsTable, IsLiftAt, value_at}
+use Rattle.measures.proofs.Common.{◌≡◌, ◌≢◌, ℕ, ◌<◌, ◌≤◌, Bool, true, false, List, length, map, refl, sym, ap, subst, ◌∙◌, inl, inr, arith, IsTrue, Some, AllZip, range_with_len, length-map-range_with_len, get_or-map-range_with_len, slice_get_within, Player, Even, Odd, Vertex, Game, vertex, count, greatest, Edge, IsStrategy, Wins, priority_at, Measure, Top, Counts, components, IsMeasure, IsAtMost, Reaches, IsProg, is_odd, IsBestFor, IsProgress, IsTable, IsLiftAt, value_at}
 use Rattle.measures.proofs.Lists.{all_map, zip_back, zip_from, zip_on}
 use Rattle.measures.proofs.Measures.{at_most_top, at_most_trans, own_greater, reaches_over}
 use Rattle.measures.proofs.Cycles.{priority}

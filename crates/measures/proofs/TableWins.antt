@@ -1,14 +1,5 @@
 -- A progress table wins for Even wherever its value isn't top.
-use Rattle.std.proofs.Common.{◌≡◌, ◌≢◌, ℕ, ◌<◌, Bool, true, false, List, [], length, refl, sym, ap, subst, ◌∙◌, inl, inr, arith, Some, None, Option, IsTrue, true≢false}
-use Rattle.std.proofs.lemmas.List.{get_or_past}
-use Rattle.std.proofs.lemmas.Bool.Decides.{leb_tells}
-use Rattle.game.specs.declared.player.Player.{Player}
-use Rattle.game.specs.declared.player.Player.TheVariants.{Even, Odd}
-use Rattle.game.specs.Game.{Vertex, Game, vertex, IsGame}
-use Rattle.game.specs.Wins.{Edge, Wins, priority_at, greatest_met}
-use Rattle.measures.specs.Measure.{Measure, Top, Counts, Reaches}
-use Rattle.measures.specs.Progress.{IsProgress, value_at}
-use Rattle.measures.specs.Laws.{IsLeastSuccessor}
+use Rattle.measures.proofs.Common.{◌≡◌, ◌≢◌, ℕ, ◌<◌, Bool, true, false, List, [], length, refl, sym, ap, subst, ◌∙◌, inl, inr, arith, Some, None, Option, IsTrue, true≢false, get_or_past, leb_tells, Player, Even, Odd, Vertex, Game, vertex, IsGame, Edge, Wins, priority_at, greatest_met, Measure, Top, Counts, Reaches, IsProgress, value_at, IsLeastSuccessor}
 use Rattle.measures.proofs.Lifts.{even_reaches, odd_reaches}
 use Rattle.measures.proofs.Cycles.{priority, odd_or_even, no_odd_cycle}
 

@@ -1,15 +1,6 @@
 -- How often a priority is met at most along a strategy, before a greater one.
-use Rattle.std.proofs.Common.{◌≡◌, ◌≢◌, ℕ, zero, suc, ◌%◌, ◌<◌, ◌≤◌, ◌⊎◌, max, Bool, true, false, ◌&&◌, List, [], ◌∷◌, length, map, refl, sym, ap, subst, ◌∙◌, inl, inr, arith, true≢false, IsTrue, Contains, Some, None, Option, nat_le, ◌==◌, eqb-true, eq-eqb, le-leb, le_trans, lt_of_lt_of_le, lt_of_le_of_lt}
-use Rattle.std.specs.List.{AllByRecursion}
-use Rattle.std.proofs.lemmas.Bool.Decides.{leb_tells}
-use Rattle.lts.specs.Path.{IsPath}
-use Rattle.game.specs.declared.player.Player.{Player}
-use Rattle.game.specs.declared.player.Player.TheVariants.{Even, Odd}
-use Rattle.game.specs.Game.{Vertex, Game, vertex, count}
-use Rattle.game.specs.Wins.{Edge, IsStrategy, priority_at, greatest_met}
-use Rattle.measures.specs.Measure.{is_odd}
+use Rattle.measures.proofs.Common.{◌≡◌, ◌≢◌, ℕ, zero, suc, ◌%◌, ◌<◌, ◌≤◌, ◌⊎◌, max, Bool, true, false, ◌&&◌, List, [], ◌∷◌, length, map, refl, sym, ap, subst, ◌∙◌, inl, inr, arith, true≢false, IsTrue, Contains, Some, None, Option, nat_le, ◌==◌, eqb-true, eq-eqb, le-leb, le_trans, lt_of_lt_of_le, lt_of_le_of_lt, AllByRecursion, leb_tells, IsPath, Player, Even, Odd, Vertex, Game, vertex, count, Edge, IsStrategy, priority_at, greatest_met, is_odd, and_parts}
 use Rattle.measures.proofs.Lists.{contains_first, contains_later, contains_none, contains_cases, all_weaker}
-use Rattle.std.proofs.lemmas.Bool.{and_parts}
 use Rattle.measures.proofs.Distinct.{Apart, PassesAt, apart_count}
 use Rattle.measures.proofs.Rests.{rests}
 use Rattle.measures.proofs.Cycles.{priority, odd_or_even, last_met}

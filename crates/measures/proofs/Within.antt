@@ -1,11 +1,5 @@
 -- Counts within their bounds.
-use Rattle.std.proofs.Common.{◌≡◌, ◌↔◌, ◌<◌, ◌≤◌, ℕ, zero, suc, false, Bool, IsTrue, List, [], ◌∷◌, length, map, ◌∙◌, arith, refl, subst, sym, slice_index, true≢false}
-use Rattle.std.specs.List.{AllZip}
-use Rattle.std.proofs.lemmas.List.Elements.{AllZip-get_or}
-use Rattle.game.specs.Game.{Game, count}
-use Rattle.measures.specs.Measure.{Measure, Top, Counts, IsMeasure, components}
-use Rattle.measures.specs.Progs.{bounds}
-use Rattle.measures.specs.View.{counts_of}
+use Rattle.measures.proofs.Common.{◌≡◌, ◌↔◌, ◌<◌, ◌≤◌, ℕ, suc, false, Bool, IsTrue, List, [], ◌∷◌, length, map, ◌∙◌, arith, refl, subst, sym, slice_index, true≢false, AllZip, Game, count, Measure, Top, Counts, IsMeasure, components, bounds, counts_of}
 
 abbrev AreWithin : List ℕ → List ℕ → Type 0
 AreWithin cs bs = AllZip (λ count bound. count ≤ bound) cs bs
@@ -15,9 +9,6 @@ within_from [] [] e h = tt
 within_from [] (b ∷ bs) e h = absurd (omega arith)
 within_from (c ∷ cs) [] e h = absurd (omega arith)
 within_from (c ∷ cs) (b ∷ bs) e h = (h 0 (omega arith), within_from cs bs (omega arith) (λ i l. h (suc i) (omega arith)))
-
-pub within_at : (cs bs : List ℕ) (i : ℕ) → AllZip (λ count bound. count ≤ bound) cs bs → i < length cs → slice_index cs i ≤ slice_index bs i
-within_at cs bs i h l = AllZip-get_or (λ count bound. count ≤ bound) cs bs i 0 0 h l
 
 to_bounds : (f : ℕ → ℕ) (cs ps : List ℕ) → AllZip (λ k p. k ≤ f p) cs ps → AreWithin cs (map f ps)
 to_bounds f [] [] h = tt

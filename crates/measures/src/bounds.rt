@@ -39,6 +39,7 @@ pub(crate) fn bounds(game: &Game) -> ArrayVec<u32, 16>
 }
 
 /// How many components the dual game has.
+#[tactic(auto, using(crate::proofs::StoredClaims::dual_long, crate::proofs::StoredClaims::dual_none))]
 pub(crate) fn dual_width(game: &Game) -> usize
     ensures { result ≡ length (components (dual game.now)) }
 {

@@ -66,6 +66,7 @@ impl Claim {
     }
 
     /// The vertices that have entries, each once.
+    #[tactic(auto, using(crate::proofs::StoredClaims::entered_is))]
     pub fn vertices(&self) -> &[u32]
         ensures entered { AreEntered self.now.entries result.now }
         ensures inside { (v : ℕ) → Contains result.now v → v < length self.now.game.vertices }
@@ -74,6 +75,7 @@ impl Claim {
     }
 
     /// Whether a vertex has an entry.
+    #[tactic(auto, using(crate::proofs::StoredClaims::has_entry))]
     pub fn has(&self, v: u32) -> bool
         requires { v < length self.now.game.vertices }
         ensures { IsTrue result ↔ IsSome (entry_at self.now.entries v) }
@@ -130,6 +132,7 @@ impl Claim {
     }
 
     /// What a vertex of this priority asks for where its play goes on at one with an entry.
+    #[tactic(auto, using(crate::proofs::StoredClaims::game_is, crate::proofs::Plain::bounds_few, crate::proofs::Plain::bounds_long))]
     pub(crate) fn prog_of(&self, bounds: &[u32], priority: u8, next: u32) -> Measure
         requires vertex { next < length self.now.game.vertices }
         requires bounds { bounds.now ≡ bounds_of self.now.game }
@@ -143,6 +146,7 @@ impl Claim {
     }
 
     /// Whether what is claimed of a vertex is at most this.
+    #[tactic(auto, using(crate::proofs::StoredClaims::at_most_is))]
     pub(crate) fn is_at_most(&self, v: u32, m: &Measure) -> bool
         requires vertex { v < length self.now.game.vertices }
         requires entry { IsSome (entry_at self.now.entries v) }

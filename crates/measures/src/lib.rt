@@ -3,7 +3,6 @@
 
 mod bounds;
 pub mod claim;
-pub mod law;
 pub mod measure;
 mod pending;
 pub mod progs;

@@ -100,24 +100,22 @@ impl Walk {
     }
 
     fn enter(&mut self, vertex: u32) {
-        let Some(entered) = self.entered.get_mut(vertex as usize) else {
-            return;
-        };
-        if *entered {
+        let place = vertex as usize;
+        if place >= self.entered.len() || self.entered[place] {
             return;
         }
-        *entered = true;
-        if let Some(step) = self.path.get_mut(self.depth) {
-            *step = Step { vertex, seen: 0 };
-            self.depth = self.depth.saturating_add(1);
+        self.entered[place] = true;
+        if self.depth < self.path.len() {
+            self.path[self.depth] = Step { vertex, seen: 0 };
+            self.depth += 1;
         }
     }
 
     fn leave(&mut self, vertex: u32) {
         self.depth = self.depth.saturating_sub(1);
         self.unplaced = self.unplaced.saturating_sub(1);
-        if let Some(place) = self.list.get_mut(self.unplaced) {
-            *place = vertex;
+        if self.unplaced < self.list.len() {
+            self.list[self.unplaced] = vertex;
         }
     }
 
@@ -157,8 +155,9 @@ fn walked(alloc: Global, game: &Game, edges: usize) -> Result<Vec<u32>, AllocErr
 fn numbered(alloc: Global, vertices: u32) -> Result<Vec<u32>, AllocError> {
     let mut list = vec![in alloc; 0; vertices as usize]?;
     for v in 0..vertices {
-        if let Some(place) = list.get_mut(v as usize) {
-            *place = v;
+        let place = v as usize;
+        if place < list.len() {
+            list[place] = v;
         }
     }
     Ok(list)
@@ -184,14 +183,11 @@ impl Stack {
     }
 
     fn push(&mut self, v: u32) {
-        let room = self.list.len();
-        let Some(mark) = self.marks.get_mut(v as usize) else {
-            return;
-        };
-        if *mark || self.waiting >= room {
+        let place = v as usize;
+        if place >= self.marks.len() || self.marks[place] || self.waiting >= self.list.len() {
             return;
         }
-        *mark = true;
+        self.marks[place] = true;
         self.list[self.waiting] = v;
         self.waiting += 1;
     }
@@ -202,8 +198,9 @@ impl Stack {
         }
         self.waiting -= 1;
         let v = self.list[self.waiting];
-        if let Some(mark) = self.marks.get_mut(v as usize) {
-            *mark = false;
+        let place = v as usize;
+        if place < self.marks.len() {
+            self.marks[place] = false;
         }
         Some(v)
     }

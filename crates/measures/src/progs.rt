@@ -60,6 +60,7 @@ fn raised(counts: &[u32], at: usize) -> ArrayVec<u32, 16>
 
 /// The least measure that a vertex may have where its play goes on at one with this measure: at least as great in the
 /// counts at or above the vertex's priority, and greater where that priority is odd.
+#[tactic(auto, using(crate::proofs::Bests::prog_at_top, crate::proofs::Bests::prog_at_counts, crate::proofs::Bests::counts_bounds))]
 pub fn prog(game: &Game, v: u32, m: &Measure) -> Measure
     requires vertex { v < length game.now.vertices }
     requires measure { IsMeasure game.now m.now }
@@ -83,6 +84,7 @@ pub(crate) fn is_better(player: Player, order: Ordering) -> bool
 }
 
 // Whether there is a count for each bound, and none above it.
+#[tactic(auto, using(crate::proofs::Within::within_from))]
 fn are_within(counts: &[u32], bounds: &[u32]) -> bool
     ensures { IsTrue result ↔ AllZip (λ count bound. count ≤ bound) counts.now bounds.now }
 {

@@ -35,6 +35,7 @@ impl Model for Rows {
 
 impl Rows {
     /// So many measures whose counts are zero.
+    #[tactic(auto, using(crate::proofs::Stored::rows_zeros))]
     pub(crate) fn zeros(alloc: Global, length: usize, width: usize) -> Result<Self, AllocError>
         requires vertices { length ≤ MOST_VERTICES }
         requires width { width ≤ COMPONENTS }
@@ -49,6 +50,7 @@ impl Rows {
     }
 
     /// So many measures, all of them top.
+    #[tactic(auto, using(crate::proofs::Stored::rows_tops))]
     pub(crate) fn tops(alloc: Global, length: usize, width: usize) -> Result<Self, AllocError>
         requires vertices { length ≤ MOST_VERTICES }
         requires width { width ≤ COMPONENTS + 1 }
@@ -69,6 +71,7 @@ impl Rows {
         self.width
     }
 
+    #[tactic(auto, using(crate::proofs::Stored::top_is, crate::proofs::Stored::long_is))]
     pub(crate) fn is_top(&self, v: usize) -> bool
         requires { v < length self.now.values }
         ensures { result ≡ is_top_of (value_at self.now.values v) }
@@ -77,6 +80,7 @@ impl Rows {
     }
 
     /// The counts of a measure. Those of top are any.
+    #[tactic(auto, using(crate::proofs::Stored::row_value, crate::proofs::Stored::row_long, crate::proofs::Stored::row_inside))]
     pub(crate) fn counts(&self, v: usize) -> &[u32]
         requires { v < length self.now.values }
         ensures value { measure_of (is_top_of (value_at self.now.values v)) result.now ≡ value_at self.now.values v }

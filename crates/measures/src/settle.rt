@@ -47,6 +47,7 @@ fn drain(game: &Game, table: &mut PlainTable)
 /// Leaves the least progress table. It takes no memory.
 ///
 /// It drains the list of what may rise, which is fast, and ends when a sweep over all vertices raises none.
+#[tactic(auto, using(crate::proofs::Settling::swept_least))]
 pub fn settle(game: &Game, table: &mut PlainTable)
     requires { table.old.game ≡ game.now }
     ensures game { table.new.game ≡ game.now }

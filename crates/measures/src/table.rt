@@ -81,6 +81,7 @@ impl PlainTable {
     }
 
     /// The measure of a vertex.
+    #[tactic(auto, using(crate::proofs::Plain::bounds_few))]
     pub fn value(&self, v: u32) -> Measure
         requires { v < length self.now.game.vertices }
         ensures value { result ≡ value_at self.now.values v }
@@ -245,6 +246,7 @@ impl PlainTable {
 
     /// Raises each value to what is claimed of its vertex, where the claim is good, and else leaves the table as it is. The
     /// answer says whether it is good. It takes no memory, and looks at each edge of each entry once.
+    #[tactic(auto, using(crate::proofs::Claims::claims_lie_below))]
     pub fn jump(&mut self, game: &Game, claim: &Claim) -> bool
         requires same { self.old.game ≡ game.now }
         requires claim { claim.now.game ≡ game.now }
@@ -268,6 +270,7 @@ impl PlainTable {
     }
 
     /// The table again, where it is a progress table: no other one is less.
+    #[tactic(auto, using(crate::proofs::Plain::plain_settled))]
     pub fn into_settled(self) -> Settled
         requires { IsProgress self.game self.values }
         ensures { result ≡ self }

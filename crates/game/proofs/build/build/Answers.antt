@@ -1,11 +1,4 @@
-use Rattle.std.proofs.Common.{◌≡◌, ◌+◌, ◌*◌, ◌≤◌, ◌++◌, ◌∷◌, [], ℕ, List, Some, length, subst, sym, ap, ◌∙◌, arith}
-use Rattle.std.specs.List.{range_with_len}
-use Rattle.lts.specs.System.{System}
-use Rattle.normal.specs.Nodes.{Node}
-use Rattle.normal.specs.Normal.{normal_nodes}
-use Rattle.game.specs.Game.{Vertex, IsGame}
-use Rattle.game.specs.Arena.{arena, rows}
-use Rattle.game.specs.declared.player.Player.TheVariants.{Even}
+use Rattle.game.proofs.Common.{◌≡◌, ◌+◌, ◌*◌, ◌≤◌, ◌++◌, ◌∷◌, [], ℕ, List, Some, length, subst, sym, ap, ◌∙◌, arith, range_with_len, System, Node, normal_nodes, Vertex, IsGame, arena, rows, Even}
 use Rattle.game.proofs.Arenas.{rows_more, rows_fit, arena_is_game}
 use Rattle.game.proofs.build.build.Goals as goal
 

@@ -1,7 +1,4 @@
-use Rattle.std.proofs.Common.{◌≡◌, ◌++◌}
-use Rattle.std.specs.List.{range_with_len}
-use Rattle.normal.specs.Normal.{normal_nodes}
-use Rattle.game.specs.Arena.{rows}
+use Rattle.game.proofs.Common.{◌≡◌, ◌++◌, range_with_len, normal_nodes, rows}
 use Rattle.game.proofs.build.build.Given as goal
 
 abbrev pub invariant-loop-state : goal.invariant-loop-state

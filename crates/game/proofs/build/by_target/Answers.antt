@@ -1,8 +1,4 @@
-use Rattle.std.proofs.Common.{◌≡◌, List, map, subst, sym, arith, rules}
-use Rattle.std.proofs.lemmas.Grind.{common_steps}
-use Rattle.std.proofs.lemmas.List.Sorted.{IsNonDecreasingBy-from_sort_by_key}
-use Rattle.lts.specs.Numbered.{arrow_of, arrows_from, IsInside}
-use Rattle.lts.specs.declared.system.Transition.{Transition}
+use Rattle.game.proofs.Common.{◌≡◌, List, map, subst, sym, arith, rules, common_steps, IsNonDecreasingBy-from_sort_by_key, arrow_of, arrows_from, IsInside, Transition}
 use Rattle.game.proofs.Rows.{all_more}
 use Rattle.game.proofs.Steps.{row_of}
 use Rattle.game.proofs.build.by_target.Goals as goal

@@ -1,5 +1,4 @@
-use Rattle.std.proofs.Common.{◌≡◌, ◌<◌, take}
-use Rattle.std.specs.List.{AllByRecursion}
+use Rattle.game.proofs.Common.{◌≡◌, ◌<◌, take, AllByRecursion}
 use Rattle.game.proofs.build.by_target.Given as goal
 
 abbrev pub invariant-loop-transition : goal.invariant-loop-transition

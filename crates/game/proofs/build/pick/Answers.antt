@@ -1,7 +1,4 @@
-use Rattle.std.proofs.Common.{◌∙◌, arith, sym, ℕ}
-use Rattle.lts.specs.declared.system.Transition.{Transition}
-use Rattle.game.specs.Arena.{place}
-use Rattle.game.specs.Steps.{is_in}
+use Rattle.game.proofs.Common.{◌∙◌, arith, sym, ℕ, Transition, place, is_in}
 use Rattle.game.proofs.Steps.{picked, place_low, seen, target_low, unlabelled}
 use Rattle.game.proofs.build.pick.Goals as goal
 use Rattle.game.proofs.build.pick.Goals.{then-has+then-least-transition+in_ok-push, else-has, else-has-via-then-has+else-least-transition, else-has-via-else-has}

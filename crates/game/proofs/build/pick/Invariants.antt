@@ -1,6 +1,4 @@
-use Rattle.std.proofs.Common.{◌≡◌, ◌++◌, drop, map}
-use Rattle.game.specs.Arena.{place}
-use Rattle.game.specs.Steps.{picks, is_in}
+use Rattle.game.proofs.Common.{◌≡◌, ◌++◌, drop, map, place, picks, is_in}
 use Rattle.game.proofs.build.pick.Given as goal
 
 abbrev pub invariant-loop-transition : goal.invariant-loop-transition

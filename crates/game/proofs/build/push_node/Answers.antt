@@ -1,5 +1,4 @@
-use Rattle.std.proofs.Common.{ap, ◌∙◌, length, arith}
-use Rattle.game.specs.Steps.{is_in}
+use Rattle.game.proofs.Common.{ap, ◌∙◌, length, arith, is_in}
 use Rattle.game.proofs.Steps.{reached_few}
 use Rattle.game.proofs.build.push_node.Goals as goal
 

@@ -1,10 +1,4 @@
-use Rattle.std.proofs.Common.{◌≡◌, ◌++◌, Bool, List, [], Vec, Global, length, length-append, length-take, map, slice_index_or, subst, sym, ap, ◌∙◌, arith}
-use Rattle.std.proofs.lemmas.List.{get_or-map, length-map, take_all}
-use Rattle.lts.specs.declared.system.Transition.{Transition}
-use Rattle.normal.specs.View.{node_of}
-use Rattle.normal.specs.Normal.{normal_nodes}
-use Rattle.game.specs.Arena.{vertex_of}
-use Rattle.game.specs.Steps.{IsSetFor, IsRowOf, picks, is_in, vertex_by}
+use Rattle.game.proofs.Common.{◌≡◌, ◌++◌, Bool, List, [], Vec, Global, length, length-append, length-take, map, slice_index_or, subst, sym, ap, ◌∙◌, arith, get_or-map, length-map, take_all, Transition, node_of, normal_nodes, vertex_of, IsSetFor, IsRowOf, picks, is_in, vertex_by}
 use Rattle.game.proofs.Steps.{inside_below, node_numbered, vertex_is}
 use Rattle.game.proofs.Arenas.{vertices_more}
 use Rattle.game.proofs.build.push_state.Goals as goal

@@ -1,6 +1,4 @@
-use Rattle.std.proofs.Common.{◌≡◌, ◌++◌, length, map, take}
-use Rattle.normal.specs.Normal.{normal_nodes}
-use Rattle.game.specs.Arena.{vertex_of}
+use Rattle.game.proofs.Common.{◌≡◌, ◌++◌, length, map, take, normal_nodes, vertex_of}
 use Rattle.game.proofs.build.push_state.Given as goal
 
 abbrev pub invariant-loop-number : goal.invariant-loop-number

@@ -1,7 +1,5 @@
-use Rattle.std.proofs.Common.{◌≡◌, ◌<◌, ℕ, false, vec_len, slice_index_or}
-use Rattle.formula.specs.Holds.{holds}
+use Rattle.game.proofs.Common.{◌≡◌, ◌<◌, ℕ, false, vec_len, slice_index_or, holds, label_at}
 use Rattle.formula.specs.View.{action_of}
-use Rattle.lts.specs.Numbered.{label_at}
 use Rattle.game.proofs.build.set_of.Given as goal
 
 abbrev pub invariant-loop-number : goal.invariant-loop-number

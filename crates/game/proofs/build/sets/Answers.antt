@@ -1,11 +1,4 @@
-use Rattle.std.proofs.Common.{◌≡◌, ◌+◌, ◌<◌, ◌∷◌, [], ◌++◌, ℕ, Bool, List, Some, Vec, Global, length, map, slice_index_or, subst, sym, ap, ◌∙◌, arith, rules}
-use Rattle.std.specs.Prelude.{slice_get}
-use Rattle.std.proofs.lemmas.List.{length-map, map-append}
-use Rattle.std.proofs.lemmas.Option.{slice_get_within}
-use Rattle.normal.specs.Nodes.{Node}
-use Rattle.normal.specs.View.{node_of}
-use Rattle.normal.specs.Normal.{normal_nodes}
-use Rattle.game.specs.Steps.{IsSetFor}
+use Rattle.game.proofs.Common.{◌≡◌, ◌+◌, ◌<◌, ◌∷◌, [], ◌++◌, ℕ, Bool, List, Some, Vec, Global, length, map, slice_index_or, subst, sym, ap, ◌∙◌, arith, rules, slice_get, length-map, map-append, slice_get_within, Node, node_of, normal_nodes, IsSetFor}
 use Rattle.game.proofs.Steps.{sets_more}
 use Rattle.game.proofs.Arenas.{read_node}
 use Rattle.game.proofs.build.sets.Goals as goal

@@ -1,8 +1,4 @@
-use Rattle.std.proofs.Common.{◌≡◌, ◌<◌, ℕ, [], Some, vec_len, map, slice_index_or}
-use Rattle.std.specs.Prelude.{slice_get}
-use Rattle.normal.specs.Nodes.{Node}
-use Rattle.normal.specs.Normal.{normal_nodes}
-use Rattle.game.specs.Steps.{IsSetFor}
+use Rattle.game.proofs.Common.{◌≡◌, ◌<◌, ℕ, [], Some, vec_len, map, slice_index_or, slice_get, Node, normal_nodes, IsSetFor}
 use Rattle.game.proofs.build.sets.Given as goal
 
 abbrev pub invariant-loop-node : goal.invariant-loop-node

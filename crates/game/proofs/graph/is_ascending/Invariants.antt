@@ -1,5 +1,4 @@
-use Rattle.std.proofs.Common.{◌≡◌, drop}
-use Rattle.game.specs.Rises.{rises}
+use Rattle.game.proofs.Common.{◌≡◌, drop, rises}
 use Rattle.game.proofs.graph.is_ascending.Given as goal
 
 abbrev pub invariant-loop-number : goal.invariant-loop-number

@@ -1,5 +1,4 @@
-use Rattle.std.proofs.Common.{arith, refl, ◌-◌}
-use Rattle.game.specs.Game.{count}
+use Rattle.measures.proofs.Common.{arith, refl, ◌-◌, count}
 use Rattle.measures.proofs.Components.{map_odd_down}
 use Rattle.measures.proofs.Greatest.{greatest_limit}
 use Rattle.measures.proofs.bounds.bounds.Goals as goal

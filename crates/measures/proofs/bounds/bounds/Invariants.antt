@@ -1,6 +1,4 @@
-use Rattle.std.proofs.Common.{◌≡◌, ◌+◌, ◌*◌, ◌%◌, ◌≤◌, ◌++◌, length, map}
-use Rattle.game.specs.Game.{count, greatest}
-use Rattle.measures.specs.Measure.{odd_down}
+use Rattle.measures.proofs.Common.{◌≡◌, ◌+◌, ◌*◌, ◌%◌, ◌≤◌, ◌++◌, length, map, count, greatest, odd_down}
 use Rattle.measures.proofs.bounds.bounds.Given as goal
 
 abbrev pub invariant-loop-p : goal.invariant-loop-p

@@ -1,6 +1,4 @@
-use Rattle.std.proofs.Common.{◌≡◌, ◌+◌, ◌-◌, inl, inr, arith, refl, sym, subst, ◌<◌, ◌∙◌, ℕ}
-use Rattle.std.proofs.lemmas.Bool.Decides.{eqb_tells}
-use Rattle.game.specs.Game.{count}
+use Rattle.measures.proofs.Common.{◌≡◌, ◌+◌, ◌-◌, inl, inr, arith, refl, sym, subst, ◌<◌, ◌∙◌, ℕ, eqb_tells, count}
 use Rattle.measures.proofs.Greatest.{greatest_is}
 use Rattle.measures.proofs.bounds.greatest.Goals as goal
 

@@ -1,5 +1,4 @@
-use Rattle.std.proofs.Common.{◌≡◌, ℕ, ◌<◌, ◌≤◌}
-use Rattle.game.specs.Game.{count}
+use Rattle.measures.proofs.Common.{◌≡◌, ℕ, ◌<◌, ◌≤◌, count}
 use Rattle.measures.proofs.bounds.greatest.Given as goal
 
 abbrev pub invariant-loop-p : goal.invariant-loop-p

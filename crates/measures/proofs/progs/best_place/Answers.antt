@@ -1,7 +1,4 @@
-use Rattle.std.proofs.Common.{◌≡◌, ◌+◌, arith, ap, sym, ◌∙◌, slice_index_or, true≢false, subst, ℕ, take}
-use Rattle.std.proofs.lemmas.List.{get_or_default}
-use Rattle.measures.specs.Measure.{Measure, Top, measure_cmp}
-use Rattle.measures.specs.Progress.{IsBestFor}
+use Rattle.measures.proofs.Common.{◌≡◌, ◌+◌, arith, ap, sym, ◌∙◌, slice_index_or, true≢false, subst, ℕ, take, get_or_default, Measure, Top, measure_cmp, IsBestFor}
 use Rattle.measures.proofs.Bests.{best_first, best_next_left, best_next_taken}
 use Rattle.measures.proofs.progs.best_place.Goals as goal
 use Rattle.measures.proofs.progs.best_place.Goals.{then-is_better, else-is_better}

@@ -1,6 +1,4 @@
-use Rattle.std.proofs.Common.{◌<◌, slice_index_or, take}
-use Rattle.measures.specs.Measure.{Top}
-use Rattle.measures.specs.Progress.{IsBestFor}
+use Rattle.measures.proofs.Common.{◌<◌, slice_index_or, take, Top, IsBestFor}
 use Rattle.measures.proofs.progs.best_place.Given as goal
 
 abbrev pub invariant-loop-k : goal.invariant-loop-k

@@ -1,7 +1,4 @@
-use Rattle.std.proofs.Common.{◌≡◌, sym, ◌∙◌, slice_index_or, subst, true≢false}
-use Rattle.std.proofs.lemmas.List.{get_or_default}
-use Rattle.measures.specs.Measure.{Measure, Top}
-use Rattle.measures.specs.Progress.{IsBestFor}
+use Rattle.measures.proofs.Common.{◌≡◌, sym, ◌∙◌, slice_index_or, subst, true≢false, get_or_default, Measure, Top, IsBestFor}
 use Rattle.measures.proofs.Bests.{lift_of_best}
 use Rattle.measures.proofs.Measures.{greater_left, greater_taken}
 use Rattle.measures.proofs.progs.lift.Goals as goal

@@ -1,5 +1,4 @@
-use Rattle.std.proofs.Common.{◌≡◌, ◌≤◌}
-use Rattle.measures.specs.Lifting.{sum_of}
+use Rattle.measures.proofs.Common.{◌≡◌, ◌≤◌, sum_of}
 use Rattle.measures.proofs.settle.drain.Given as goal
 
 abbrev pub invariant-loop : goal.invariant-loop

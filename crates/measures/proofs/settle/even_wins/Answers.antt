@@ -1,7 +1,4 @@
-use Rattle.std.proofs.Common.{◌≡◌}
-use Rattle.game.specs.Wins.{Wins}
-use Rattle.measures.specs.Measure.{Top}
-use Rattle.measures.specs.Progress.{value_at}
+use Rattle.measures.proofs.Common.{◌≡◌, Wins, Top, value_at}
 use Rattle.measures.proofs.LeastDecides.{least_decides}
 use Rattle.measures.proofs.Settling.{not_top_is}
 use Rattle.measures.proofs.settle.even_wins.Goals as goal

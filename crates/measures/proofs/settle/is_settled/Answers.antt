@@ -1,5 +1,4 @@
-use Rattle.std.proofs.Common.{arith, below_more, refl, sym, true≢false, ◌∙◌}
-use Rattle.measures.specs.Settling.{IsStill}
+use Rattle.measures.proofs.Common.{arith, below_more, refl, sym, true≢false, ◌∙◌, IsStill}
 use Rattle.measures.proofs.Settling.{all_still, move_plain, progress_still}
 use Rattle.measures.proofs.settle.is_settled.Goals as goal
 

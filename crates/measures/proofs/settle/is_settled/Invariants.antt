@@ -1,5 +1,4 @@
-use Rattle.std.proofs.Common.{◌<◌, ℕ}
-use Rattle.measures.specs.Settling.{IsStill}
+use Rattle.measures.proofs.Common.{◌<◌, ℕ, IsStill}
 use Rattle.measures.proofs.settle.is_settled.Given as goal
 
 abbrev pub invariant-loop-v : goal.invariant-loop-v

@@ -1,5 +1,4 @@
-use Rattle.std.proofs.Common.{◌≡◌, ◌-◌, ◌*◌, length}
-use Rattle.measures.specs.Lifting.{height, sum_of}
+use Rattle.measures.proofs.Common.{◌≡◌, ◌-◌, ◌*◌, length, height, sum_of}
 use Rattle.measures.proofs.settle.settle.Given as goal
 
 abbrev pub invariant-loop-table : goal.invariant-loop-table

@@ -1,6 +1,4 @@
-use Rattle.std.proofs.Common.{subst, sym}
-use Rattle.game.specs.Game.{Game}
-use Rattle.measures.specs.Progress.{IsProgress}
+use Rattle.measures.proofs.Common.{subst, sym, Game, IsProgress}
 use Rattle.measures.proofs.settle.solve_one.Goals as goal
 
 pub into_settled-requires : goal.into_settled-requires

@@ -1,7 +1,4 @@
-use Rattle.std.proofs.Common.{◌∙◌, ◌+◌, ◌<◌, ap, arith, length, subst, sym}
-use Rattle.game.specs.Game.{Game}
-use Rattle.measures.specs.Tables.{IsStored}
-use Rattle.measures.specs.View.{Rows}
+use Rattle.measures.proofs.Common.{◌∙◌, ◌+◌, ◌<◌, ap, arith, length, subst, sym, Game, IsStored, Rows}
 use Rattle.measures.proofs.Plain.{IsOpened, opened_first, opened_left, opened_top, opened_whole, opening_plain}
 use Rattle.measures.proofs.table.opening.Goals as goal
 use Rattle.measures.proofs.table.opening.Goals.{then-turns_odd, else-turns_odd}

@@ -1,9 +1,4 @@
-use Rattle.std.proofs.Common.{◌≡◌, inl, inr, sym, ap, ◌∙◌, length, slice_index, arith}
-use Rattle.std.proofs.lemmas.Grind.{common_steps}
-use Rattle.std.proofs.lemmas.List.{get_or_past}
-use Rattle.std.proofs.lemmas.Bool.Decides.{leb_tells}
-use Rattle.game.specs.Game.{Game, count}
-use Rattle.game.specs.View.{vertices_of}
+use Rattle.game.proofs.Common.{◌≡◌, inl, inr, sym, ap, ◌∙◌, length, slice_index, arith, common_steps, get_or_past, leb_tells, Game, count, vertices_of}
 use Rattle.game.proofs.Rows.{count_past}
 use Rattle.game.proofs.graph.Game.count.Goals as goal
 

@@ -1,6 +1,4 @@
-use Rattle.std.proofs.Common.{◌<◌, ◌+◌, ◌*◌, subst, sym, ap, ◌∙◌, arith, MatchOption}
-use Rattle.std.proofs.lemmas.Nat.{mul-add-lt}
-use Rattle.game.specs.Game.{Game}
+use Rattle.game.proofs.Common.{◌<◌, ◌+◌, ◌*◌, subst, sym, ap, ◌∙◌, arith, MatchOption, mul-add-lt, Game}
 use Rattle.game.proofs.graph.Game.vertex_of.Goals as goal
 
 -- the vertex is one of the game's

@@ -1,8 +1,4 @@
-use Rattle.std.proofs.Common.{◌≡◌, ◌≤◌, true, false, length, drop, sym, ap, ◌∙◌, arith, rules, true≢false}
-use Rattle.std.proofs.lemmas.Grind.{common_steps}
-use Rattle.std.specs.List.{list_all}
-use Rattle.std.proofs.lemmas.List.{length-map}
-use Rattle.game.specs.View.{vertex_of_row}
+use Rattle.game.proofs.Common.{◌≡◌, ◌≤◌, true, false, length, drop, sym, ap, ◌∙◌, arith, rules, true≢false, common_steps, list_all, length-map, vertex_of_row}
 use Rattle.game.proofs.Tests.{is_fit, tested, game_from, game_to}
 use Rattle.game.proofs.graph.GameBuilder.is_game.Goals as goal
 use Rattle.game.proofs.graph.GameBuilder.is_game.Goals.{then-from-ge-PRIORITIES-via-then-from-ge-PRIORITIES, then-from-ge-PRIORITIES-via-else-from-ge-PRIORITIES+then-is_empty, then-from-ge-PRIORITIES-via-else-from-ge-PRIORITIES+else-is_empty+then-not-is_ascending}

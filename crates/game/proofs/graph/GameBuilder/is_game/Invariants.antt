@@ -1,5 +1,4 @@
-use Rattle.std.proofs.Common.{◌≡◌, drop}
-use Rattle.std.specs.List.{list_all}
+use Rattle.game.proofs.Common.{◌≡◌, drop, list_all}
 use Rattle.game.proofs.Tests.{is_fit}
 use Rattle.game.proofs.graph.GameBuilder.is_game.Given as goal
 

@@ -1,5 +1,4 @@
-use Rattle.std.proofs.Common.{arith}
-use Rattle.std.proofs.lemmas.List.{get_or-replicate}
+use Rattle.game.proofs.Common.{arith, get_or-replicate}
 use Rattle.game.proofs.graph.GameBuilder.new.Goals as goal
 
 pub invariant_of-result : goal.invariant_of-result

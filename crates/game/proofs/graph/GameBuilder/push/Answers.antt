@@ -1,9 +1,5 @@
-use Rattle.std.proofs.Common.{◌≡◌, ◌∷◌, [], ◌++◌, List, ℕ, length, subst, sym, ap, ◌∙◌, refl, arith, rules, length-append}
-use Rattle.std.proofs.lemmas.List.{length-map}
+use Rattle.game.proofs.Common.{◌≡◌, ◌∷◌, [], ◌++◌, List, ℕ, length, subst, sym, ap, ◌∙◌, refl, arith, rules, length-append, length-map, Vertex, AreStored, vertices_of, vertex_of_row, Row}
 use Rattle.std.proofs.lemmas.Result.{err_from_is_err_and}
-use Rattle.game.specs.Game.{Vertex}
-use Rattle.game.specs.View.{AreStored, vertices_of, vertex_of_row}
-use Rattle.game.specs.declared.graph.Row.{Row}
 use Rattle.game.proofs.Rows.{stored_longer, stored_more, vertices_more, rows_same}
 use Rattle.game.proofs.graph.GameBuilder.push.Goals as goal
 

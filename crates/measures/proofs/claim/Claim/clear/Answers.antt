@@ -1,5 +1,4 @@
-use Rattle.std.proofs.Common.{◌-◌, ◌∙◌, ap, arith, drop, length, length-drop, sym}
-use Rattle.std.proofs.lemmas.List.{take_all}
+use Rattle.measures.proofs.Common.{◌-◌, ◌∙◌, ap, arith, drop, length, length-drop, sym, take_all}
 use Rattle.measures.proofs.StoredClaims.{cleared_none, cleared_places, cleared_stored}
 use Rattle.measures.proofs.claim.Claim.clear.Goals as goal
 

@@ -1,5 +1,4 @@
-use Rattle.std.proofs.Common.{◌∙◌, ap, arith, length, refl}
-use Rattle.std.proofs.lemmas.List.{length-replicate}
+use Rattle.measures.proofs.Common.{◌∙◌, ap, arith, length, refl, length-replicate}
 use Rattle.measures.proofs.StoredClaims.{dual_few, new_none, new_stored}
 use Rattle.measures.proofs.claim.Claim.new.Goals as goal
 

@@ -1,5 +1,4 @@
-use Rattle.std.proofs.Common.{◌∙◌}
-use Rattle.std.proofs.lemmas.List.{get_or_default}
+use Rattle.measures.proofs.Common.{◌∙◌, get_or_default}
 use Rattle.measures.proofs.StoredClaims.{its_move, moves_inside}
 use Rattle.measures.proofs.claim.Claim.next.Goals as goal
 

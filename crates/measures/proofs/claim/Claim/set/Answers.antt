@@ -1,9 +1,6 @@
-use Rattle.std.proofs.Common.{◌∙◌, subst, sym, true≢false}
-use Rattle.std.proofs.lemmas.List.{with_items_is}
-use Rattle.game.specs.Game.{Game}
-use Rattle.measures.specs.Measure.{IsMeasure}
+use Rattle.measures.proofs.Common.{◌∙◌, subst, sym, true≢false, with_items_is, Game, IsMeasure, refl}
 use Rattle.measures.proofs.Plain.{bounds_long, measure_width}
-use Rattle.measures.proofs.StoredClaims.{game_is, has_stored, put_here, put_other, put_stored, room, vertex_stored}
+use Rattle.measures.proofs.StoredClaims.{game_is, has_stored, put_here, put_other, put_stored, ranks_inside, room, vertex_stored, width_is}
 use Rattle.measures.proofs.claim.Claim.set.Goals as goal
 
 pub put_before-self-inside-requires-clause-some : goal.put_before-self-inside-requires-clause-some
@@ -42,3 +39,9 @@ returns-clause-others c =
     put_other i.of.value i.values i.moves.items i.ranks i.vertices.items _ i.first c.put_before-self-inside.result c.args.v c.self.invariant c.has-has.result (has_stored i.of.value i.values i.moves.items i.ranks i.vertices.items i.first c.self.invariant c.args.self.now c.self.view_is c.args.v c.has-has.result c.has-has.ensures)
     c.as_mut_slice.result.now c.put_before-self-inside.new.numbers c.as_mut_slice.ensures.value whole c.put_before-self-inside.auto.numbers c.put_before-self-inside.ensures.place c.put_before-self-inside.ensures.numbers c.args.value.now c.args.next c.args.rank.now
     (vertex_stored i.of.value i.values i.moves.items i.ranks i.vertices.items i.first c.self.invariant c.args.self.now c.self.view_is c.args.v c.requires.vertex) c.set.new.self c.set_counts.new.self c.set.ensures c.set_counts.ensures c.args.self.now c.self.view_is
+
+pub set_counts-requires-clause-width : goal.set_counts-requires-clause-width
+set_counts-requires-clause-width c = let i = c.self.inside in c.requires.rank ∙ sym (width_is i.of.value i.values i.moves.items i.ranks i.vertices.items i.first c.self.invariant c.args.self.now c.self.view_is i.ranks.width refl)
+
+pub set_counts-requires-clause-vertex : goal.set_counts-requires-clause-vertex
+set_counts-requires-clause-vertex c = let i = c.self.inside in ranks_inside i.of.value i.values i.moves.items i.ranks i.vertices.items i.first c.self.invariant c.args.self.now c.self.view_is c.args.v c.requires.vertex

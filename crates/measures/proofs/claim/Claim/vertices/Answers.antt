@@ -1,11 +1,6 @@
-use Rattle.std.proofs.Common.{◌∙◌, ◌-◌, ap, arith, drop, length, length-drop}
-use Rattle.std.proofs.lemmas.List.{take_all}
+use Rattle.measures.proofs.Common.{◌∙◌, ◌-◌, ap, arith, drop, length, length-drop, take_all}
 use Rattle.measures.proofs.StoredClaims.{entered_inside}
 use Rattle.measures.proofs.claim.Claim.vertices.Goals as goal
-
-pub slice_bounds-result-count : goal.slice_bounds-result-count
-slice_bounds-result-count c =
-    let w = c.self.invariant.within in let l = c.self.invariant.room_long in let e = ap length c.deref.ensures.value in omega arith
 
 pub returns-clause-inside : goal.returns-clause-inside
 returns-clause-inside c =

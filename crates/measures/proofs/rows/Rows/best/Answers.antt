@@ -1,8 +1,4 @@
-use Rattle.std.proofs.Common.{◌≡◌, ◌+◌, ◌<◌, ◌∙◌, ℕ, ap, arith, length, map, slice_index_or, subst, sym, take, true≢false}
-use Rattle.std.proofs.lemmas.List.{get_or-map, length-map}
-use Rattle.std.proofs.lemmas.List.Elements.{All-from_recursion}
-use Rattle.measures.specs.Measure.{Measure, Top, measure_cmp}
-use Rattle.measures.specs.Progress.{IsBestFor, value_at}
+use Rattle.measures.proofs.Common.{◌≡◌, ◌+◌, ◌<◌, ◌∙◌, ℕ, ap, arith, length, map, slice_index_or, subst, sym, take, true≢false, get_or-map, length-map, All-from_recursion, Measure, Top, measure_cmp, IsBestFor, value_at}
 use Rattle.measures.proofs.Bests.{best_first, best_next_left, best_next_taken}
 use Rattle.measures.proofs.rows.Rows.best.Goals as goal
 use Rattle.measures.proofs.rows.Rows.best.Goals.{then-is_better, else-is_better}

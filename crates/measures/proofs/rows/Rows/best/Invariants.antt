@@ -1,5 +1,4 @@
-use Rattle.std.proofs.Common.{◌<◌, length, map, take}
-use Rattle.measures.specs.Progress.{IsBestFor, value_at}
+use Rattle.measures.proofs.Common.{◌<◌, length, map, take, IsBestFor, value_at}
 use Rattle.measures.proofs.rows.Rows.best.Given as goal
 
 abbrev pub invariant-loop-k : goal.invariant-loop-k

@@ -1,5 +1,4 @@
-use Rattle.std.proofs.Common.{◌<◌, arith, length, refl, slice_index}
-use Rattle.std.proofs.lemmas.List.Elements.{All-from_recursion}
+use Rattle.measures.proofs.Common.{◌<◌, arith, length, refl, slice_index, All-from_recursion}
 use Rattle.measures.proofs.Putting.{putting_all, putting_first, putting_more}
 use Rattle.measures.proofs.rows.Rows.put_top.Goals as goal
 

@@ -1,6 +1,4 @@
-use Rattle.std.proofs.Common.{ap, sym, ◌∙◌}
-use Rattle.measures.specs.Progress.{value_at}
-use Rattle.measures.specs.View.{Rows}
+use Rattle.measures.proofs.Common.{ap, sym, ◌∙◌, value_at, Rows}
 use Rattle.measures.proofs.Reaching.{counts_are, even_reaches_is, odd_reaches_is}
 use Rattle.measures.proofs.rows.Rows.reaches.Goals as goal
 

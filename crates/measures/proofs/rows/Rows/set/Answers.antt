@@ -1,5 +1,4 @@
-use Rattle.std.proofs.Common.{◌∙◌, ap, arith, length, slice_set, sym, true≢false}
-use Rattle.measures.specs.Measure.{Counts, Measure}
+use Rattle.measures.proofs.Common.{◌∙◌, ap, arith, length, slice_set, sym, true≢false, Counts, Measure}
 use Rattle.measures.proofs.Bests.{counts_back}
 use Rattle.measures.proofs.Stored.{counts_wide, long_is, set_top}
 use Rattle.measures.proofs.rows.Rows.set.Goals as goal

@@ -1,5 +1,4 @@
-use Rattle.std.proofs.Common.{◌≡◌, ◌≢◌, ◌∙◌, ◌+◌, ◌*◌, ◌++◌, ap, arith, drop, length, sym, take, false}
-use Rattle.std.proofs.lemmas.List.{length-set, with_items_is}
+use Rattle.measures.proofs.Common.{◌≡◌, ◌∙◌, ◌+◌, ◌*◌, ◌++◌, ap, arith, drop, length, sym, take, false, length-set, with_items_is}
 use Rattle.measures.proofs.Stored.{long_is, row_inside, set_counts}
 use Rattle.measures.proofs.rows.Rows.set_counts.Goals as goal
 

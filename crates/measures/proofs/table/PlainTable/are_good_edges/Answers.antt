@@ -1,6 +1,4 @@
-use Rattle.std.proofs.Common.{◌<◌, arith, length, refl, slice_index}
-use Rattle.std.proofs.lemmas.List.Elements.{All-from_recursion}
-use Rattle.measures.specs.Claim.{IsGoodFrom}
+use Rattle.measures.proofs.Common.{◌<◌, arith, length, refl, slice_index, All-from_recursion, IsGoodFrom}
 use Rattle.measures.proofs.Putting.{contained_from, more_places}
 use Rattle.measures.proofs.table.PlainTable.are_good_edges.Goals as goal
 

@@ -1,5 +1,4 @@
-use Rattle.std.proofs.Common.{◌<◌, ℕ, slice_index}
-use Rattle.measures.specs.Claim.{IsGoodFrom}
+use Rattle.measures.proofs.Common.{◌<◌, ℕ, slice_index, IsGoodFrom}
 use Rattle.measures.proofs.table.PlainTable.are_good_edges.Given as goal
 
 abbrev pub invariant-loop-t : goal.invariant-loop-t

@@ -1,5 +1,4 @@
-use Rattle.std.proofs.Common.{◌<◌, arith, length, refl, subst, slice_index}
-use Rattle.game.specs.Game.{Game}
+use Rattle.measures.proofs.Common.{◌<◌, arith, length, refl, subst, slice_index, Game}
 use Rattle.measures.proofs.Putting.{place_contained}
 use Rattle.measures.proofs.Jumping.{all_good}
 use Rattle.measures.proofs.table.PlainTable.is_good_claim.Goals as goal

@@ -1,5 +1,4 @@
-use Rattle.std.proofs.Common.{◌<◌, ℕ, slice_index}
-use Rattle.measures.specs.Claim.{IsGoodAt}
+use Rattle.measures.proofs.Common.{◌<◌, ℕ, slice_index, IsGoodAt}
 use Rattle.measures.proofs.table.PlainTable.is_good_claim.Given as goal
 
 abbrev pub invariant-loop-v : goal.invariant-loop-v

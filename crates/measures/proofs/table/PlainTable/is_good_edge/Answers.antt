@@ -1,5 +1,4 @@
-use Rattle.std.proofs.Common.{◌∙◌, sym, true≢false}
-use Rattle.measures.specs.Claim.{IsGoodFrom}
+use Rattle.measures.proofs.Common.{◌∙◌, sym, true≢false, IsGoodFrom}
 use Rattle.measures.proofs.Jumping.{edge_falls, edge_good, edge_low, told_false}
 use Rattle.measures.proofs.table.PlainTable.is_good_edge.Goals as goal
 

@@ -1,6 +1,4 @@
-use Rattle.std.proofs.Common.{◌<◌, Contains, length, rules, subst, sym}
-use Rattle.std.specs.List.{AllByRecursion}
-use Rattle.game.specs.Game.{Game}
+use Rattle.measures.proofs.Common.{◌<◌, Contains, length, rules, subst, sym, AllByRecursion, Game}
 use Rattle.measures.proofs.Bests.{its_priority, its_successors}
 use Rattle.measures.proofs.Lists.{all_contained}
 use Rattle.measures.proofs.table.PlainTable.is_good_entry.Goals as goal

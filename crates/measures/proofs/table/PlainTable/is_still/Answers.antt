@@ -1,6 +1,4 @@
-use Rattle.std.proofs.Common.{◌≡◌, ◌∙◌, ◌↔◌, IsTrue, ap, subst}
-use Rattle.measures.specs.Settling.{IsStill}
-use Rattle.measures.specs.Tables.{Table}
+use Rattle.measures.proofs.Common.{◌≡◌, ◌∙◌, ◌↔◌, IsTrue, ap, subst, IsStill, Table}
 use Rattle.measures.proofs.Plain.{stored_as, values_there}
 use Rattle.measures.proofs.Settling.{reached_from, still_from}
 use Rattle.measures.proofs.table.PlainTable.is_still.Goals as goal

@@ -1,11 +1,4 @@
-use Rattle.std.proofs.Common.{◌≡◌, ◌∙◌, ◌<◌, ap, length, refl, subst, sym, true≢false}
-use Rattle.game.specs.Game.{Game}
-use Rattle.measures.specs.Lifting.{sum_of}
-use Rattle.measures.specs.Measure.{IsProg, Reaches}
-use Rattle.measures.specs.Progress.{value_at}
-use Rattle.measures.specs.Settling.{IsStill}
-use Rattle.measures.specs.Tables.{LiesBelow, Table}
-use Rattle.measures.specs.View.{Rows}
+use Rattle.measures.proofs.Common.{◌≡◌, ◌∙◌, ◌<◌, ap, length, refl, subst, sym, true≢false, Game, sum_of, IsProg, Reaches, value_at, IsStill, LiesBelow, Table, Rows}
 use Rattle.measures.proofs.Plain.{measure_width, set_stored, stored_as, stored_width, value_here, values_there}
 use Rattle.measures.proofs.Reaching.{not_reached}
 use Rattle.measures.proofs.Settling.{lift_below, risen_lift, still_from, sum_raised}

@@ -1,5 +1,4 @@
-use Rattle.std.proofs.Common.{length, subst, sym, ◌<◌}
-use Rattle.measures.specs.Tables.{LiesBelow, Table}
+use Rattle.measures.proofs.Common.{length, subst, sym, ◌<◌, LiesBelow, Table}
 use Rattle.measures.proofs.Plain.{measure_width, set_stored, stored_width}
 use Rattle.measures.proofs.table.PlainTable.raise.Goals as goal
 

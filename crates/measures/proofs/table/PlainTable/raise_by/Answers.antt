@@ -1,7 +1,4 @@
-use Rattle.std.proofs.Common.{◌<◌, ◌∙◌, arith, length, refl, subst, sym, slice_index}
-use Rattle.game.specs.Game.{Game}
-use Rattle.measures.specs.Measure.{Measure}
-use Rattle.measures.specs.Tables.{LiesBelow}
+use Rattle.measures.proofs.Common.{◌<◌, ◌∙◌, arith, length, refl, subst, sym, slice_index, Game, Measure, LiesBelow}
 use Rattle.measures.proofs.StoredClaims.{entry_there}
 use Rattle.measures.proofs.Putting.{place_contained}
 use Rattle.measures.proofs.Jumping.{raised_all, raising_more}

@@ -1,13 +1,8 @@
 -- One of the two least tables tells of each vertex, the game's or its dual's.
-use Rattle.std.proofs.Common.{◌≡◌, ◌≢◌, ◌↔◌, ℕ, ◌<◌, ◌≤◌, ◌⊎◌, List, [], ◌∷◌, length, map, refl, sym, subst, inl, inr, arith}
-use Rattle.std.specs.List.{AllByRecursion}
-use Rattle.game.specs.declared.player.Player.TheVariants.{Odd}
-use Rattle.game.specs.Game.{Vertex, Game, IsVertex, IsGame, dual, greatest, greatest_of}
-use Rattle.measures.specs.Measure.{Measure, Top, Counts}
-use Rattle.measures.specs.Progress.{IsLeastTable, value_at}
+use Rattle.measures.proofs.Common.{◌≡◌, ◌≢◌, ◌↔◌, ℕ, ◌<◌, ◌≤◌, ◌⊎◌, List, [], ◌∷◌, length, map, refl, sym, subst, inl, inr, arith, AllByRecursion, Odd, Vertex, Game, IsVertex, IsGame, dual, greatest, greatest_of, Measure, Top, Counts, IsLeastTable, value_at}
 use Rattle.measures.proofs.LeastDecides.{least_decides}
 use Rattle.measures.proofs.NotBoth.{not_both_win}
-use Rattle.measures.proofs.OneWins.{one_wins}
+use Rattle.laws.proofs.OneWins.{one_wins}
 use Rattle.measures.proofs.Dual.{turned, long_dual, wins_dual, dual_wins}
 
 turned_all : (n m : ℕ) (vs : List Vertex) → n ≡ m → AllByRecursion (IsVertex n) vs → greatest_of vs ≤ 31 → AllByRecursion (IsVertex m) (map turned vs)

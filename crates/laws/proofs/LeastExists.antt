@@ -1,14 +1,5 @@
 -- Lifting from the opening table ends in the least progress table.
-use Rattle.std.proofs.Common.{◌≡◌, ℕ, zero, suc, ◌<◌, ◌≤◌, List, length, map, sym, subst, ◌∙◌, inl, inr, arith}
-use Rattle.std.specs.List.{range_with_len}
-use Rattle.std.proofs.lemmas.Bool.Decides.{leb_tells}
-use Rattle.std.proofs.lemmas.List.{get_or_past, ext_get_or}
-use Rattle.std.proofs.lemmas.List.FromFn.{length-map-range_with_len, get_or-map-range_with_len}
-use Rattle.std.proofs.lemmas.Option.{slice_get_within, slice_get_cases}
-use Rattle.game.specs.Game.{Game, IsGame}
-use Rattle.measures.specs.Measure.{Measure, Top, IsMeasure, IsAtMost}
-use Rattle.measures.specs.Progress.{IsLeastTable, IsProgress, IsTable, IsLiftAt, value_at, opening}
-use Rattle.measures.specs.Lifting.{height, rank}
+use Rattle.measures.proofs.Common.{◌≡◌, ℕ, zero, suc, ◌<◌, ◌≤◌, List, length, map, sym, subst, ◌∙◌, inl, inr, arith, range_with_len, leb_tells, get_or_past, ext_get_or, length-map-range_with_len, get_or-map-range_with_len, slice_get_within, slice_get_cases, Game, IsGame, Measure, Top, IsMeasure, IsAtMost, IsLeastTable, IsProgress, IsTable, IsLiftAt, value_at, opening, height, rank}
 use Rattle.measures.proofs.Lifts.{value_measure}
 use Rattle.measures.proofs.Rests.{rests}
 use Rattle.measures.proofs.Lists.{all_map}

@@ -1,16 +1,7 @@
 -- Each vertex is won by one of the players.
-use Rattle.std.proofs.Common.{◌≡◌, ◌≢◌, ℕ, zero, suc, ◌%◌, ◌<◌, ◌≤◌, ◌⊎◌, Bool, true, false, ◌&&◌, List, [], ◌∷◌, length, refl, sym, ap, subst, ◌∙◌, inl, inr, arith, true≢false, IsTrue, Contains, Some, None, Option, ◌==◌, nat_lt, eqb-true, eq-eqb, ltb-true, lt-ltb}
-use Rattle.std.proofs.lemmas.Bool.Decides.{eqb_tells, leb_tells}
-use Rattle.std.proofs.lemmas.Option.{slice_get_within}
-use Rattle.lts.specs.Path.{IsPath}
-use Rattle.game.specs.declared.player.Player.{Player}
-use Rattle.game.specs.declared.player.Player.TheVariants.{Even, Odd}
-use Rattle.game.specs.Game.{Vertex, Game, vertex, IsVertex, IsGame, opponent}
-use Rattle.game.specs.Wins.{Edge, IsOf, WinsBy, greatest_met}
+use Rattle.measures.proofs.Common.{◌≡◌, ◌≢◌, ℕ, zero, suc, ◌%◌, ◌<◌, ◌≤◌, ◌⊎◌, Bool, true, false, ◌&&◌, List, [], ◌∷◌, length, refl, sym, ap, subst, ◌∙◌, inl, inr, arith, true≢false, IsTrue, Contains, Some, None, Option, ◌==◌, nat_lt, eqb-true, eq-eqb, ltb-true, lt-ltb, eqb_tells, leb_tells, slice_get_within, IsPath, Player, Even, Odd, Vertex, Game, vertex, IsVertex, IsGame, opponent, Edge, IsOf, WinsBy, greatest_met, and_from, and_parts, total}
 use Rattle.measures.proofs.Lists.{all_contained, all_got}
-use Rattle.std.proofs.lemmas.Bool.{and_from, and_parts}
 use Rattle.measures.proofs.Searches.{either_way, find_below, find_in}
-use Rattle.measures.specs.Lifting.{total}
 use Rattle.measures.proofs.Rests.{total_same}
 use Rattle.measures.proofs.Cycles.{last_met, priority}
 use Rattle.measures.proofs.NotBoth.{path_weaker}

@@ -1,5 +1,5 @@
 use Rattle.measures.proofs.StrategyTable.{wins_table}
-use Rattle.measures.proofs.law.wins_have_tables.Goals as goal
+use Rattle.laws.proofs.games.wins_have_tables.Goals as goal
 
 abbrev pub returns : goal.returns
 returns c = λ g v w. wins_table g v w

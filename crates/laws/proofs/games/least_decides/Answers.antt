@@ -1,5 +1,5 @@
 use Rattle.measures.proofs.LeastDecides.{least_decides}
-use Rattle.measures.proofs.law.least_decides.Goals as goal
+use Rattle.laws.proofs.games.least_decides.Goals as goal
 
 abbrev pub returns : goal.returns
 returns c = λ g game table is v. least_decides g game table is v
