@@ -31,6 +31,7 @@ pub mod Grown
 pub mod Decided
 pub mod Binders
 pub mod Faults
+pub mod Handed
 pub mod Scopes
 pub mod Sense
 pub mod NoFault

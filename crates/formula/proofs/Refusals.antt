@@ -1,6 +1,6 @@
 -- What a refusal says of its text.
 use Rattle.std.specs.Prelude.{◌≡◌, ℕ, nat_le, ◌+◌, ◌-◌, ◌<◌, ◌≤◌, ◌⊎◌, List, [], ◌∷◌, ◌++◌, length, map, drop, take, Some, suc, slice_get, IsTrue, Result, Ok, Err, MatchResult}
-use Rattle.std.proofs.Common.{arith, refl, sym, ◌∙◌, ap, subst, append-nil, append_assoc, length-append, true≢false, inl, inr, IsErrAnd}
+use Rattle.std.proofs.Common.{arith, refl, sym, ◌∙◌, ap, subst, append-nil, append_assoc, length-append, true≢false, inl, inr}
 use Rattle.std.specs.List.{list_any}
 use Rattle.std.proofs.lemmas.Bool.{leb-true, and_parts}
 use Rattle.formula.specs.Token.{Token, is_reserved}
@@ -245,11 +245,6 @@ tree-told text placed s (refused.Fault fault.NotAnAction offset) short l w r =
 tree-told text placed s (refused.Fault _ offset) short l w r =
     inr (short, inr (inr (l.pieces, s, r.0, r.1, written-as text placed s l w, w.within, r.2, r.3, ap (λ places. slice_get places r.0) l.places ∙ r.4)))
 tree-told text placed s refused.Memory short l w r = tt
-
--- an error that `?` hands on
-pub refused_on : {T E : Type 0} (r : Result T E) (e : E) (P : T → Type 0) (Q : E → Type 0) → IsErrAnd r (λ x. x ≡ e) → Q e → MatchResult r P Q
-refused_on (Ok x) e P Q h q = absurd h
-refused_on (Err x) e P Q h q = subst Q (sym h) q
 
 -- what a written formula without faults means is admitted
 pub meant-admitted : (s : Syntax) (places : List ℕ) (r : Result State FormulaError) → variable_faults [] 0 s ≡ [] → MatchResult r (λ f. meant s ≡ Some (formula_of f)) (λ e. e ≡ refused.Memory)
