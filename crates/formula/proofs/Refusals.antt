@@ -33,8 +33,7 @@ use Rattle.formula.proofs.StateSpine.{Standing, one-state}
 use Rattle.formula.proofs.StateEnds.{begun-by, same-row}
 use Rattle.formula.proofs.RegularRefusals.{words-length}
 use Rattle.formula.proofs.Sense.{admitted_in}
-use Rattle.formula.proofs.NoFault.{no_fault}
-use Rattle.formula.proofs.OneFault.{one_fault}
+use Rattle.formula.proofs.OneText.{no_fault, one_fault}
 
 first_is : {A : Type 0} (xs : List A) (x : A) → slice_get xs 0 ≡ Some x → xs ≡ x ∷ drop 1 xs
 first_is [] x e = cc
