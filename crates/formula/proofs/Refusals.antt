@@ -58,8 +58,6 @@ variable-refused s places found (refused.Fault other offset) none h v r =
     subst (λ (f : FormulaFault). IsTreeRefusal s places (refused.Fault f offset)) (sym r.0) (variable-refusal s places found.fault found.place offset none h v r.1)
 variable-refused s places found refused.Memory none h v r = absurd r
 
-pub ruleset tree_refusals = (operand-refused, variable-refused)
-
 -- a formula that is the tokens stands at their front, and nothing is after it
 whole_in : (ts : List Token) → Parts SpellsTokens (StandsState 3) 256 1024 256 1024 ts ts
 whole_in ts nested opened x = (
