@@ -1,7 +1,6 @@
 pub mod Regulars
 pub mod States
 pub mod Cuts
-pub mod Gaps
 pub mod Lexed
 pub mod Tokenless
 pub mod RegularUnique
@@ -15,7 +14,6 @@ pub mod OneText
 pub mod OneCut
 pub mod OneFront
 pub mod Unreserved
-pub mod OneFault
 pub mod Telling
 pub mod Counted
 pub mod Fixpoints
@@ -31,9 +29,9 @@ pub mod Grown
 pub mod Decided
 pub mod Binders
 pub mod Faults
+pub mod Handed
 pub mod Scopes
 pub mod Sense
-pub mod NoFault
 pub mod Refusals
 pub mod Misreads
 pub mod StateSpine

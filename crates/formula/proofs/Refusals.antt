@@ -1,6 +1,6 @@
 -- What a refusal says of its text.
 use Rattle.std.specs.Prelude.{◌≡◌, ℕ, nat_le, ◌+◌, ◌-◌, ◌<◌, ◌≤◌, ◌⊎◌, List, [], ◌∷◌, ◌++◌, length, map, drop, take, Some, suc, slice_get, IsTrue, Result, Ok, Err, MatchResult}
-use Rattle.std.proofs.Common.{arith, refl, sym, ◌∙◌, ap, subst, append-nil, append_assoc, length-append, true≢false, inl, inr, IsErrAnd}
+use Rattle.std.proofs.Common.{arith, refl, sym, ◌∙◌, ap, subst, append-nil, append_assoc, length-append, true≢false, inl, inr}
 use Rattle.std.specs.List.{list_any}
 use Rattle.std.proofs.lemmas.Bool.{leb-true, and_parts}
 use Rattle.formula.specs.Token.{Token, is_reserved}
@@ -33,8 +33,7 @@ use Rattle.formula.proofs.StateSpine.{Standing, one-state}
 use Rattle.formula.proofs.StateEnds.{begun-by, same-row}
 use Rattle.formula.proofs.RegularRefusals.{words-length}
 use Rattle.formula.proofs.Sense.{admitted_in}
-use Rattle.formula.proofs.NoFault.{no_fault}
-use Rattle.formula.proofs.OneFault.{one_fault}
+use Rattle.formula.proofs.OneText.{no_fault, one_fault}
 
 first_is : {A : Type 0} (xs : List A) (x : A) → slice_get xs 0 ≡ Some x → xs ≡ x ∷ drop 1 xs
 first_is [] x e = cc
@@ -58,8 +57,6 @@ pub variable-refused : (s : Syntax) (places : List ℕ) (found : Misplaced) (e :
 variable-refused s places found (refused.Fault other offset) none h v r =
     subst (λ (f : FormulaFault). IsTreeRefusal s places (refused.Fault f offset)) (sym r.0) (variable-refusal s places found.fault found.place offset none h v r.1)
 variable-refused s places found refused.Memory none h v r = absurd r
-
-pub ruleset tree_refusals = (operand-refused, variable-refused)
 
 -- a formula that is the tokens stands at their front, and nothing is after it
 whole_in : (ts : List Token) → Parts SpellsTokens (StandsState 3) 256 1024 256 1024 ts ts
@@ -245,11 +242,6 @@ tree-told text placed s (refused.Fault fault.NotAnAction offset) short l w r =
 tree-told text placed s (refused.Fault _ offset) short l w r =
     inr (short, inr (inr (l.pieces, s, r.0, r.1, written-as text placed s l w, w.within, r.2, r.3, ap (λ places. slice_get places r.0) l.places ∙ r.4)))
 tree-told text placed s refused.Memory short l w r = tt
-
--- an error that `?` hands on
-pub refused_on : {T E : Type 0} (r : Result T E) (e : E) (P : T → Type 0) (Q : E → Type 0) → IsErrAnd r (λ x. x ≡ e) → Q e → MatchResult r P Q
-refused_on (Ok x) e P Q h q = absurd h
-refused_on (Err x) e P Q h q = subst Q (sym h) q
 
 -- what a written formula without faults means is admitted
 pub meant-admitted : (s : Syntax) (places : List ℕ) (r : Result State FormulaError) → variable_faults [] 0 s ≡ [] → MatchResult r (λ f. meant s ≡ Some (formula_of f)) (λ e. e ≡ refused.Memory)

@@ -1,11 +1,10 @@
 // Makes the formula that is written, without its parentheses.
 
-ghost use Rattle.std.specs.Prelude.{◌≡◌, ◌∷◌, map, option_map, Some, IsSome, MatchResult};
+ghost use Rattle.std.specs.Prelude.{◌≡◌, ◌∷◌, map, Some, IsSome, MatchResult};
 ghost use Rattle.lts.specs.Label.{multiset as multiset_of};
-ghost use Rattle.formula.specs.Syntax.{action_meant, regular_meant, meant, Not', Then', Either', Neg'};
-ghost use Rattle.formula.specs.Tree.{Names, Quoted, Step, Var};
+ghost use Rattle.formula.specs.Syntax.{action_meant, regular_meant, meant};
 ghost use Rattle.formula.specs.View.{action_of, regular_of, formula_of};
-ghost use Rattle.formula.specs.Written.{reg_syntax, state_syntax, infixed, repeated, joined, modal, bound};
+ghost use Rattle.formula.specs.Written.{reg_syntax, state_syntax, infixed, joined, modal, bound};
 
 use crate::error::FormulaError;
 use crate::room::boxed;
@@ -38,22 +37,6 @@ fn multiset(alloc: Global, first: &[u8], others: &[&[u8]]) -> Result<Vec<Vec<u8>
     Ok(names)
 }
 
-/// The action formula of these names.
-fn named(alloc: Global, first: &[u8], others: &[&[u8]]) -> Result<Act, FormulaError>
-    ensures { MatchResult result
-        (λ a. action_of a ≡ Names (multiset_of (first.now ∷ map (λ name. name.now) others.now)))
-        (λ e. e ≡ FormulaError.Memory) }
-{
-    Ok(Act::Names(multiset(alloc, first, others)?))
-}
-
-/// The action formula of a quoted atom.
-fn quoted(alloc: Global, bytes: &[u8]) -> Result<Act, FormulaError>
-    ensures { MatchResult result (λ a. action_of a ≡ Quoted bytes.now) (λ e. e ≡ FormulaError.Memory) }
-{
-    Ok(Act::Quoted(copied(alloc, bytes)?))
-}
-
 /// The action formula that is written, of one that counts as an action formula throughout.
 #[cycle(actions)]
 fn action(alloc: Global, written: &WrittenRegular) -> Result<Act, FormulaError>
@@ -64,10 +47,10 @@ fn action(alloc: Global, written: &WrittenRegular) -> Result<Act, FormulaError>
         WrittenRegular::True => Ok(Act::True),
         WrittenRegular::False => Ok(Act::False),
         WrittenRegular::Tau => Ok(Act::Names(Vec::new(alloc))),
-        WrittenRegular::Names(first, others) => named(alloc, first, others),
-        WrittenRegular::Quoted(bytes) => quoted(alloc, bytes),
+        WrittenRegular::Names(first, others) => Ok(Act::Names(multiset(alloc, first, others)?)),
+        WrittenRegular::Quoted(bytes) => Ok(Act::Quoted(copied(alloc, bytes)?)),
         WrittenRegular::Parens(inner) => action(alloc, inner),
-        WrittenRegular::Not(inner) => negated_action(alloc, inner),
+        WrittenRegular::Not(inner) => Ok(Act::Not(action_operand(alloc, inner)?)),
         WrittenRegular::Joined(sign, left, right) => joined_action(alloc, *sign, left, right),
         WrittenRegular::Repeated(_, _) => unreachable!(),
     }
@@ -80,15 +63,6 @@ fn action_operand(alloc: Global, written: &WrittenRegular) -> Result<Box<Act>, F
     ensures { MatchResult result (λ a. action_meant (reg_syntax written.now) ≡ Some (action_of a.value)) (λ e. e ≡ FormulaError.Memory) }
 {
     Ok(boxed(alloc, action(alloc, written)?)?)
-}
-
-/// The negation of an action formula.
-#[cycle(actions)]
-fn negated_action(alloc: Global, inner: &WrittenRegular) -> Result<Act, FormulaError>
-    requires { IsSome (action_meant (Not' (reg_syntax inner.now))) }
-    ensures { MatchResult result (λ a. action_meant (Not' (reg_syntax inner.now)) ≡ Some (action_of a)) (λ e. e ≡ FormulaError.Memory) }
-{
-    Ok(Act::Not(action_operand(alloc, inner)?))
 }
 
 /// Two action formulas with a sign between them.
@@ -122,66 +96,22 @@ fn regular(alloc: Global, written: &WrittenRegular) -> Result<Reg, FormulaError>
 {
     match written {
         WrittenRegular::Parens(inner) => regular(alloc, inner),
-        WrittenRegular::Repeated(repeat, inner) => repeated_regular(alloc, *repeat, inner),
-        WrittenRegular::Joined(Infix::Then, left, right) => sequence(alloc, left, right),
-        WrittenRegular::Joined(Infix::Either, left, right) => choice(alloc, left, right),
-        _ => step(alloc, written),
+        WrittenRegular::Repeated(Repeat::Star, inner) => Ok(Reg::Star(regular_operand(
+            alloc, inner,
+        )?)),
+        WrittenRegular::Repeated(Repeat::Plus, inner) => Ok(Reg::Plus(regular_operand(
+            alloc, inner,
+        )?)),
+        WrittenRegular::Joined(Infix::Then, left, right) => {
+            let (left, right) = regular_operands(alloc, left, right)?;
+            Ok(Reg::Seq(left, right))
+        }
+        WrittenRegular::Joined(Infix::Either, left, right) => {
+            let (left, right) = regular_operands(alloc, left, right)?;
+            Ok(Reg::Choice(left, right))
+        }
+        _ => Ok(Reg::Act(action(alloc, written)?)),
     }
-}
-
-/// The regular formula of the action formula that is written.
-fn step(alloc: Global, written: &WrittenRegular) -> Result<Reg, FormulaError>
-    requires { IsSome (action_meant (reg_syntax written.now)) }
-    ensures { MatchResult result (λ r. option_map Step (action_meant (reg_syntax written.now)) ≡ Some (regular_of r)) (λ e. e ≡ FormulaError.Memory) }
-{
-    Ok(Reg::Act(action(alloc, written)?))
-}
-
-/// A regular formula under a postfix sign.
-#[cycle(regulars)]
-fn repeated_regular(
-    alloc: Global,
-    sign: Repeat,
-    inner: &WrittenRegular,
-) -> Result<Reg, FormulaError>
-    requires { IsSome (regular_meant (repeated sign (reg_syntax inner.now))) }
-    ensures { MatchResult result
-        (λ r. regular_meant (repeated sign (reg_syntax inner.now)) ≡ Some (regular_of r))
-        (λ e. e ≡ FormulaError.Memory) }
-{
-    let inner = regular_operand(alloc, inner)?;
-    match sign {
-        Repeat::Star => Ok(Reg::Star(inner)),
-        Repeat::Plus => Ok(Reg::Plus(inner)),
-    }
-}
-
-/// One regular formula after another.
-#[cycle(regulars)]
-fn sequence(
-    alloc: Global,
-    first: &WrittenRegular,
-    second: &WrittenRegular,
-) -> Result<Reg, FormulaError>
-    requires { IsSome (regular_meant (Then' (reg_syntax first.now) (reg_syntax second.now))) }
-    ensures { MatchResult result
-        (λ r. regular_meant (Then' (reg_syntax first.now) (reg_syntax second.now)) ≡ Some (regular_of r))
-        (λ e. e ≡ FormulaError.Memory) }
-{
-    let first = regular_operand(alloc, first)?;
-    Ok(Reg::Seq(first, regular_operand(alloc, second)?))
-}
-
-/// One of two regular formulas.
-#[cycle(regulars)]
-fn choice(alloc: Global, left: &WrittenRegular, right: &WrittenRegular) -> Result<Reg, FormulaError>
-    requires { IsSome (regular_meant (Either' (reg_syntax left.now) (reg_syntax right.now))) }
-    ensures { MatchResult result
-        (λ r. regular_meant (Either' (reg_syntax left.now) (reg_syntax right.now)) ≡ Some (regular_of r))
-        (λ e. e ≡ FormulaError.Memory) }
-{
-    let left = regular_operand(alloc, left)?;
-    Ok(Reg::Choice(left, regular_operand(alloc, right)?))
 }
 
 /// The regular formula that is written, in a box.
@@ -193,11 +123,21 @@ fn regular_operand(alloc: Global, written: &WrittenRegular) -> Result<Box<Reg>, 
     Ok(boxed(alloc, regular(alloc, written)?)?)
 }
 
-/// The variable of this name.
-fn variable(alloc: Global, name: &[u8]) -> Result<State, FormulaError>
-    ensures { MatchResult result (λ f. formula_of f ≡ Var name.now) (λ e. e ≡ FormulaError.Memory) }
+/// The two regular formulas that are written, in boxes.
+#[cycle(regulars)]
+fn regular_operands(
+    alloc: Global,
+    left: &WrittenRegular,
+    right: &WrittenRegular,
+) -> Result<(Box<Reg>, Box<Reg>), FormulaError>
+    requires left { IsSome (regular_meant (reg_syntax left.now)) }
+    requires right { IsSome (regular_meant (reg_syntax right.now)) }
+    ensures { MatchResult result
+        (λ (r, q). (regular_meant (reg_syntax left.now) ≡ Some (regular_of r.value)) × (regular_meant (reg_syntax right.now) ≡ Some (regular_of q.value)))
+        (λ e. e ≡ FormulaError.Memory) }
 {
-    Ok(State::Var(copied(alloc, name)?))
+    let left = regular_operand(alloc, left)?;
+    Ok((left, regular_operand(alloc, right)?))
 }
 
 /// The state formula that is written, of one each of whose operands inside modalities may stand there.
@@ -209,9 +149,9 @@ pub fn state(alloc: Global, written: &WrittenState) -> Result<State, FormulaErro
     match written {
         WrittenState::True => Ok(State::True),
         WrittenState::False => Ok(State::False),
-        WrittenState::Var(name) => variable(alloc, name),
+        WrittenState::Var(name) => Ok(State::Var(copied(alloc, name)?)),
         WrittenState::Group(inner) => state(alloc, inner),
-        WrittenState::Not(inner) => negated_state(alloc, inner),
+        WrittenState::Not(inner) => Ok(State::Not(operand(alloc, inner)?)),
         WrittenState::Joined(sign, left, right) => joined_state(alloc, *sign, left, right),
         WrittenState::Modal(brackets, inside, inner) => modal_state(
             alloc, *brackets, inside, inner,
@@ -227,15 +167,6 @@ fn operand(alloc: Global, written: &WrittenState) -> Result<Box<State>, FormulaE
     ensures { MatchResult result (λ f. meant (state_syntax written.now) ≡ Some (formula_of f.value)) (λ e. e ≡ FormulaError.Memory) }
 {
     Ok(boxed(alloc, state(alloc, written)?)?)
-}
-
-/// The negation of a state formula.
-#[cycle(states)]
-fn negated_state(alloc: Global, inner: &WrittenState) -> Result<State, FormulaError>
-    requires { IsSome (meant (Neg' (state_syntax inner.now))) }
-    ensures { MatchResult result (λ f. meant (Neg' (state_syntax inner.now)) ≡ Some (formula_of f)) (λ e. e ≡ FormulaError.Memory) }
-{
-    Ok(State::Not(operand(alloc, inner)?))
 }
 
 /// Two state formulas with a sign between them.

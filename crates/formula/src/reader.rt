@@ -85,7 +85,6 @@ fn grammar_refusal(tokens: &[Placed<'_>], end: usize, misread: Misread) -> Formu
 }
 
 /// Whether each operand inside a modality and each variable may stand where it does; else the refusal of the first.
-#[tactic(auto, using(crate::proofs::Refusals::tree_refusals))]
 fn check(tokens: &[Placed<'_>], written: &WrittenState<'_>) -> Result<(), FormulaError>
     requires { IsWhole (state_syntax written.now) (words tokens.now) }
     ensures { let s = state_syntax written.now in MatchResult result

@@ -3,7 +3,7 @@
 ghost use Rattle.std.specs.Prelude.{◌≡◌, ℕ, ◌+◌, ◌<◌, ◌^◌, List, [], ◌∷◌, length, MatchOption, IsTrue};
 ghost use Rattle.formula.specs.Syntax.{tokens, reg_tokens};
 ghost use Rattle.formula.specs.Fault.{variable_fault as fault_of, variable_faults};
-ghost use Rattle.formula.specs.Written.{reg_syntax, state_syntax};
+ghost use Rattle.formula.specs.Written.{reg_syntax, state_syntax, joined};
 ghost use Rattle.formula.specs.Checked.{AreChecked, scope_of, left_parity, is_variable_fault};
 
 use crate::error::FormulaFault;
@@ -72,6 +72,7 @@ fn token_count(regular: &WrittenRegular) -> usize
 }
 
 /// The place after a formula that begins at this place, or its first variable that may not stand where it does.
+#[cycle(variables)]
 pub fn variables(
     state: &WrittenState,
     scope: &Binders,
@@ -90,8 +91,7 @@ pub fn variables(
         WrittenState::Group(inner) => Ok(variables(inner, scope, parity, at + 1)? + 1),
         WrittenState::Not(inner) => variables(inner, scope, !parity, at + 1),
         WrittenState::Joined(sign, left, right) => {
-            let place = variables(left, scope, parity_left_of(*sign, parity), at)?;
-            variables(right, scope, parity, place + 1)
+            variables_of_both(left, *sign, right, scope, parity, at)
         }
         WrittenState::Modal(_, regular, inner) => variables(
             inner,
@@ -106,4 +106,22 @@ pub fn variables(
             at + 3,
         ),
     }
+}
+
+/// The same of two formulas with a sign between them.
+#[cycle(variables)]
+fn variables_of_both(
+    left: &WrittenState,
+    sign: Connective,
+    right: &WrittenState,
+    scope: &Binders,
+    parity: bool,
+    at: usize,
+) -> Result<usize, Misplaced>
+    requires { at + length (tokens (joined sign (state_syntax left.now) (state_syntax right.now))) < 2 ^ 64 }
+    ensures { let s = joined sign (state_syntax left.now) (state_syntax right.now) in
+        AreChecked (variable_faults (scope_of scope.now parity) at s) at (length (tokens s)) result }
+{
+    let place = variables(left, scope, parity_left_of(sign, parity), at)?;
+    variables(right, scope, parity, place + 1)
 }

@@ -1,4 +1,4 @@
-use Rattle.formula.proofs.NoFault as none
+use Rattle.formula.proofs.OneText as none
 use Rattle.formula.proofs.law.no_fault.Goals as goal
 
 pub returns : goal.returns

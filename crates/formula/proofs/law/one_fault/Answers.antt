@@ -1,4 +1,4 @@
-use Rattle.formula.proofs.OneFault as one
+use Rattle.formula.proofs.OneText as one
 use Rattle.formula.proofs.law.one_fault.Goals as goal
 
 pub returns : goal.returns

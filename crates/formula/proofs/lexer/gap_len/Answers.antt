@@ -3,7 +3,7 @@ use Rattle.std.specs.Prelude.{◌==◌}
 use Rattle.std.specs.List.{take_while}
 use Rattle.std.proofs.lemmas.List.{take_rest}
 use Rattle.formula.specs.Cutting.{IsGap}
-use Rattle.formula.proofs.Gaps.{gap-blank, gap-comment}
+use Rattle.formula.proofs.Cuts.{gap-blank, gap-comment}
 use Rattle.formula.proofs.lexer.gap_len.Goals as goal
 
 pub gap-preserved-then-is_blank : goal.gap-preserved-then-is_blank

@@ -11,6 +11,3 @@ decreases-action_operand l = 1 + 3 * size-WrittenRegular l.written.now
 
 abbrev pub decreases-joined_action : goal.decreases-joined_action
 decreases-joined_action l = 2 + 3 * max (size-WrittenRegular l.left.now) (size-WrittenRegular l.right.now)
-
-abbrev pub decreases-negated_action : goal.decreases-negated_action
-decreases-negated_action l = 2 + 3 * size-WrittenRegular l.inner.now

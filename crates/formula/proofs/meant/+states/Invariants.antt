@@ -17,6 +17,3 @@ decreases-modal_state l = 2 + 3 * size-WrittenState l.inner.now
 
 abbrev pub decreases-bound_state : goal.decreases-bound_state
 decreases-bound_state l = 2 + 3 * size-WrittenState l.inner.now
-
-abbrev pub decreases-negated_state : goal.decreases-negated_state
-decreases-negated_state l = 2 + 3 * size-WrittenState l.inner.now

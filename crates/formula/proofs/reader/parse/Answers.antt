@@ -1,8 +1,7 @@
 use Rattle.std.proofs.Common.{rules, sym, ◌∙◌}
 use Rattle.lts.proofs.PassedOn.{passed_on}
 use Rattle.formula.specs.View.{formula_of}
-use Rattle.formula.proofs.OneText.{one_formula}
-use Rattle.formula.proofs.NoFault.{no_fault}
+use Rattle.formula.proofs.OneText.{one_formula, no_fault}
 use Rattle.formula.proofs.Refusals.{told-complete, told-exact, without_limits}
 use Rattle.formula.proofs.reader.parse.Goals as goal
 
