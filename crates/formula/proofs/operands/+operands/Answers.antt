@@ -1,10 +1,9 @@
-use Rattle.std.proofs.Common.{rules, arith, ◌≡◌, ◌+◌, ◌^◌, ◌<◌, ℕ, true, false, length, map, subst, sym, ap, ◌∙◌}
-use Rattle.std.specs.Prelude.{Result, Err}
-use Rattle.std.proofs.lemmas.Result.{err_from_is_err_and}
+use Rattle.std.proofs.Common.{rules, arith, ◌≡◌, ◌+◌, ◌^◌, ◌<◌, ℕ, false, length, map, subst, sym, ap, ◌∙◌, IsErrAnd}
+use Rattle.std.specs.Prelude.{Result, Ok, Err}
 use Rattle.std.proofs.lemmas.List.{length-map}
 use Rattle.formula.specs.Syntax.{RegSyntax, reg_tokens, more_names, counts_as_action}
 use Rattle.formula.specs.Fault.{reg_faults}
-use Rattle.formula.specs.Written.{reg_syntax, infixed, joins_actions}
+use Rattle.formula.specs.Written.{reg_syntax, infixed}
 use Rattle.formula.specs.Checked.{IsChecked}
 use Rattle.formula.proofs.Faults.{operand-first, names-count, actions-first, regulars-first}
 use Rattle.formula.proofs.operands.+operands.Goals as goal
@@ -25,37 +24,28 @@ regular_operands-overflow_add-result-in-Names t c =
     let n : c.len.result ≡ length c.in-Names.others.items = c.len.ensures ∙ search rules in
     omega arith
 
-pub regular_operands-returns-in_err-place-in-Joined :
-    goal.regular_operands-returns-in_err-place-in-Joined
+-- what a left operand is refused for, the whole is
+left-refused : (s x : RegSyntax) (at place : ℕ) (result : Result ℕ ℕ) → s ≡ x → IsErrAnd result (λ e. e ≡ place) → IsChecked (reg_faults at x) at (length (reg_tokens x)) (Err place)
+    → IsChecked (reg_faults at s) at (length (reg_tokens s)) result
+left-refused s x at place (Ok n) e h k = absurd h
+left-refused s x at place (Err p) e h k =
+    subst (λ y. IsChecked (reg_faults at y) at (length (reg_tokens y)) (Err p)) (sym e) (subst (λ q. IsChecked (reg_faults at x) at (length (reg_tokens x)) (Err q)) (sym h) k)
+
+pub regular_operands-returns-in_err-place-in-Joined : goal.regular_operands-returns-in_err-place-in-Joined
 regular_operands-returns-in_err-place-in-Joined t c =
-    let p = err_from_is_err_and c.from_residual-in_err-place-in-Joined.result c.from_residual-in_err-place-in-Joined.ensures.1 in
-    let result = c.from_residual-in_err-place-in-Joined.result in
-    let place = c.in_err-place-in-Joined.field-0.0 in
     let left = c.deref-then-joins_actions.result.now in
     let right = c.in-Joined.right.value in
     let mark = c.in-Joined.sign in
-    let joins : joins_actions mark ≡ true = sym c.if-joins_actions.ensures in
-    let whole : reg_syntax c.args.regular.now ≡ infixed mark (reg_syntax left) (reg_syntax right)
-    = ap reg_syntax c.in-Joined.is ∙ ap (λ l. infixed mark (reg_syntax l) (reg_syntax right)) (sym c.deref-then-joins_actions.ensures) in
-    let P : RegSyntax → Type 0 = λ x. IsChecked (reg_faults c.args.at x) c.args.at (length (reg_tokens x)) result in
-    let Q : Result ℕ ℕ → Type 0 = λ r. let x = infixed mark (reg_syntax left) (reg_syntax right) in IsChecked (reg_faults c.args.at x) c.args.at (length (reg_tokens x)) r in
-    subst P (sym whole) (subst Q (sym (p.1 ∙ ap Err p.2)) (actions-first mark (reg_syntax left) (reg_syntax right) c.args.at place joins c.in_err-place-in-Joined.ensures))
+    left-refused _ _ _ _ c.from_residual-in_err-place-in-Joined.result (ap reg_syntax c.in-Joined.is ∙ ap (λ l. infixed mark (reg_syntax l) (reg_syntax right)) (sym c.deref-then-joins_actions.ensures))
+    c.from_residual-in_err-place-in-Joined.ensures.1 (actions-first mark (reg_syntax left) (reg_syntax right) c.args.at _ (sym c.if-joins_actions.ensures) c.in_err-place-in-Joined.ensures)
 
-pub regular_operands-returns-in_err-place-in-Joined-2 :
-    goal.regular_operands-returns-in_err-place-in-Joined-2
+pub regular_operands-returns-in_err-place-in-Joined-2 : goal.regular_operands-returns-in_err-place-in-Joined-2
 regular_operands-returns-in_err-place-in-Joined-2 t c =
-    let p = err_from_is_err_and c.from_residual-in_err-place-in-Joined-2.result c.from_residual-in_err-place-in-Joined-2.ensures.1 in
-    let result = c.from_residual-in_err-place-in-Joined-2.result in
-    let place = c.in_err-place-in-Joined-2.field-0.0 in
     let left = c.deref-else-joins_actions.result.now in
     let right = c.in-Joined.right.value in
     let mark = c.in-Joined.sign in
-    let joins : joins_actions mark ≡ false = sym c.if-joins_actions.ensures in
-    let whole : reg_syntax c.args.regular.now ≡ infixed mark (reg_syntax left) (reg_syntax right)
-    = ap reg_syntax c.in-Joined.is ∙ ap (λ l. infixed mark (reg_syntax l) (reg_syntax right)) (sym c.deref-else-joins_actions.ensures) in
-    let P : RegSyntax → Type 0 = λ x. IsChecked (reg_faults c.args.at x) c.args.at (length (reg_tokens x)) result in
-    let Q : Result ℕ ℕ → Type 0 = λ r. let x = infixed mark (reg_syntax left) (reg_syntax right) in IsChecked (reg_faults c.args.at x) c.args.at (length (reg_tokens x)) r in
-    subst P (sym whole) (subst Q (sym (p.1 ∙ ap Err p.2)) (regulars-first mark (reg_syntax left) (reg_syntax right) c.args.at place joins c.in_err-place-in-Joined-2.ensures))
+    left-refused _ _ _ _ c.from_residual-in_err-place-in-Joined-2.result (ap reg_syntax c.in-Joined.is ∙ ap (λ l. infixed mark (reg_syntax l) (reg_syntax right)) (sym c.deref-else-joins_actions.ensures))
+    c.from_residual-in_err-place-in-Joined-2.ensures.1 (regulars-first mark (reg_syntax left) (reg_syntax right) c.args.at _ (sym c.if-joins_actions.ensures) c.in_err-place-in-Joined-2.ensures)
 
 pub regular_operands-returns-in-Names : goal.regular_operands-returns-in-Names
 regular_operands-returns-in-Names t c =
