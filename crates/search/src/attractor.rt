@@ -1,8 +1,9 @@
 // Attractors: what the players can force to vertices that are theirs.
 
-use crate::edges::{Predecessors, is_odds, priority};
+use crate::edges::{is_odds, priority};
 use crate::field::{Field, NONE, Tops, Won};
 use crate::numbers::{Numbers, Queue, Span};
+use crate::predecessors::Predecessors;
 use game::graph::Game;
 use std::alloc::{AllocError, Global};
 

@@ -11,6 +11,7 @@ pub mod lost;
 mod numbers;
 mod order;
 mod part;
+pub mod predecessors;
 mod ranks;
 mod tasks;
 mod ways;

@@ -24,8 +24,13 @@ impl Numbers {
         Ok(numbers)
     }
 
-    pub(crate) fn len(&self) -> u64 {
-        self.items.len() as u64
+    pub(crate) fn len(&self) -> usize {
+        self.items.len()
+    }
+
+    pub(crate) fn slice(&self, span: Span) -> &[u32] {
+        let places = span.from as usize..span.to as usize;
+        self.items.get(places).unwrap_or(&[])
     }
 
     pub(crate) fn get(&self, place: u32) -> u32 {

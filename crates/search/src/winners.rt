@@ -37,8 +37,7 @@ impl Winners {
     /// Decides who wins, and leaves the vertices that Odd wins. Past a budget of vertices and edges to look at nothing new is
     /// begun: this many, and so many times those of the game.
     pub(crate) fn find(mut self, game: &Game) -> Ways {
-        let size = self.attractors.predecessors.size();
-        let budget = size.saturating_mul(TIMES).saturating_add(LEAST_BUDGET);
+        let budget = self.budget(game);
         let won = self.begin(game);
         for _ in 0..u64::MAX {
             if self.tasks.spent || self.attractors.work > budget || !self.go_on(game) {
@@ -53,6 +52,12 @@ impl Winners {
             components: self.components,
             counts: self.attractors.left,
         }
+    }
+
+    fn budget(&self, game: &Game) -> u64 {
+        let edges = self.attractors.predecessors.edges() as u64;
+        let size = u64::from(game.vertices()).saturating_add(edges);
+        size.saturating_mul(TIMES).saturating_add(LEAST_BUDGET)
     }
 
     fn begin(&mut self, game: &Game) -> Won {
