@@ -34,11 +34,11 @@ spelled_of first second known_first known_second l f e d system only_system form
 }
 
 -- a check that came to its report
-pub report_of : (first second : List ℕ) (old new : Option (List ℕ)) (l : System) (f : Formula) (marks : List Bool) (r : Result Bool MuError) → AreSpelled first second l f
-    → Marks l.states marks (Satisfies l f) → Reported old new (report l f marks) (slice_index_or marks l.initial false) r → IfOk r (HasReported first second old new)
-report_of first second old new l f marks (Ok answer) spelled exact h =
-    record { l = l; f = f; marks = marks; spelled = spelled; exact = exact; reported = h.0; answered = h.1 }
-report_of first second old new l f marks (Err e) spelled exact h = tt
+pub report_of : (first second : List ℕ) (old new : Option (List ℕ)) (l : System) (f : Formula) (found marks : List Bool) (r : Result Bool MuError) → marks ≡ found → AreSpelled first second l f
+    → Marks l.states found (Satisfies l f) → Reported old new (report l f marks) (slice_index_or marks l.initial false) r → IfOk r (HasReported first second old new)
+report_of first second old new l f found marks (Ok answer) same spelled exact h =
+    record { l = l; f = f; marks = marks; spelled = spelled; exact = subst (λ m. Marks l.states m (Satisfies l f)) (sym same) exact; reported = h.0; answered = h.1 }
+report_of first second old new l f found marks (Err e) same spelled exact h = tt
 
 -- a report is refused for a write fault alone
 written_of : (old new : Option (List ℕ)) (text : List ℕ) (answer : Bool) (e : MuError) → Reported old new text answer (Err e) → (w : WriteFault) × (e ≡ error.Write w) × WroteFront old new text
@@ -52,12 +52,13 @@ written_of old new text answer (error.Formula e) h = absurd h
 written_of old new text answer (error.Normal e) h = absurd h
 written_of old new text answer (error.Build e) h = absurd h
 
-pub fault_of : (first second : List ℕ) (old new : Option (List ℕ)) (l : System) (f : Formula) (marks : List Bool) (r : Result Bool MuError) → AreSpelled first second l f
-    → Marks l.states marks (Satisfies l f) → Reported old new (report l f marks) (slice_index_or marks l.initial false) r → IfErr r (HasRefused first second old new)
-fault_of first second old new l f marks (Ok answer) spelled exact h = tt
-fault_of first second old new l f marks (Err e) spelled exact h =
+pub fault_of : (first second : List ℕ) (old new : Option (List ℕ)) (l : System) (f : Formula) (found marks : List Bool) (r : Result Bool MuError) → marks ≡ found → AreSpelled first second l f
+    → Marks l.states found (Satisfies l f) → Reported old new (report l f marks) (slice_index_or marks l.initial false) r → IfErr r (HasRefused first second old new)
+fault_of first second old new l f found marks (Ok answer) same spelled exact h = tt
+fault_of first second old new l f found marks (Err e) same spelled exact h =
     let w = written_of old new (report l f marks) (slice_index_or marks l.initial false) e h in
-    subst (HasRefused first second old new) (sym w.1) (record { l = l; f = f; marks = marks; spelled = spelled; exact = exact; begun = w.2 })
+    subst (HasRefused first second old new) (sym w.1)
+    (record { l = l; f = f; marks = marks; spelled = spelled; exact = subst (λ m. Marks l.states m (Satisfies l f)) (sym same) exact; begun = w.2 })
 
 pub plain_of : (old new : Option (List ℕ)) (text : List ℕ) (answer : Bool) (r : Result Bool MuError) → Reported old new text answer r → IfErr r IsPlain
 plain_of old new text answer (Ok marked) h = tt

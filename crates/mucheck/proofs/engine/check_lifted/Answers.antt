@@ -1,7 +1,5 @@
-use Rattle.std.proofs.Common.{sym, subst}
 use Rattle.lts.proofs.PassedOn.{passed_on}
 use Rattle.formula.specs.Closed.{closed_formula}
-use Rattle.formula.specs.Meaning.{Marks, Satisfies}
 use Rattle.mucheck.specs.Check.{HasRefused}
 use Rattle.mucheck.proofs.Checks.{report_of, fault_of, gameless_of}
 use Rattle.mucheck.proofs.engine.check_lifted.Goals as goal
@@ -22,15 +20,11 @@ returns-in_err-marks-clause-refusal g c =
 pub returns-clause-report : goal.returns-clause-report
 returns-clause-report g c =
     λ first second known also.
-    let l = c.in_ok-texts.texts.system.system in
-    let f = closed_formula c.in_ok-texts.texts.formula in
-    let exact = subst (λ m. Marks l.states m (Satisfies l f)) (sym c.deref.ensures.value) c.in_ok-marks.ensures.meaning in
-    report_of first second _ _ l f c.deref.result.now c.reported.result (c.in_ok-texts.ensures.spelled first second known also) exact c.reported.ensures
+    report_of first second _ _ c.in_ok-texts.texts.system.system (closed_formula c.in_ok-texts.texts.formula) c.in_ok-marks.marks.items c.deref.result.now c.reported.result c.deref.ensures.value
+    (c.in_ok-texts.ensures.spelled first second known also) c.in_ok-marks.ensures.meaning c.reported.ensures
 
 pub returns-clause-refusal : goal.returns-clause-refusal
 returns-clause-refusal g c =
     λ first second known also.
-    let l = c.in_ok-texts.texts.system.system in
-    let f = closed_formula c.in_ok-texts.texts.formula in
-    let exact = subst (λ m. Marks l.states m (Satisfies l f)) (sym c.deref.ensures.value) c.in_ok-marks.ensures.meaning in
-    fault_of first second _ _ l f c.deref.result.now c.reported.result (c.in_ok-texts.ensures.spelled first second known also) exact c.reported.ensures
+    fault_of first second _ _ c.in_ok-texts.texts.system.system (closed_formula c.in_ok-texts.texts.formula) c.in_ok-marks.marks.items c.deref.result.now c.reported.result c.deref.ensures.value
+    (c.in_ok-texts.ensures.spelled first second known also) c.in_ok-marks.ensures.meaning c.reported.ensures
