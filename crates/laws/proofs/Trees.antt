@@ -2,6 +2,7 @@
 use Rattle.std.proofs.Common.{◌≡◌, ℕ, ◌+◌, ◌<◌, ◌≤◌, ◌⊎◌, List, [], ◌∷◌, ◌++◌, length, map, refl, sym, ap, ap₂, ◌∙◌, subst, inl, inr, append_assoc, append-nil, length-append, arith}
 use Rattle.std.specs.Prelude.{Some, slice_get}
 use Rattle.normal.specs.Tree.{Norm, Constant, Junction, Modality, Fixpoint, Variable, size, preorder}
+use Rattle.normal.proofs.Writing.{preorder_length}
 use Rattle.laws.specs.Admissible.{IsEach, IsFree}
 use Rattle.laws.proofs.Flags.{same_or_not, below_or_not}
 use Rattle.laws.proofs.Lists.{get_right}
@@ -89,17 +90,6 @@ binds_map P Q at f h x = from_free Q at f (λ b free. h b (to_free P at f x b fr
 
 -- ---- lists of the parts
 
--- as many items as nodes
-pub length_preorder : {A : Type 0} (say : ℕ → Norm → A) (at : ℕ) (f : Norm) → length (preorder say at f) ≡ size f
-length_preorder say at (Constant flag) = refl
-length_preorder say at (Junction flag f g) =
-    let a = length_preorder say (at + 1) f in
-    let b = length_preorder say (at + 1 + size f) g in
-    let c = length-append (preorder say (at + 1) f) (preorder say (at + 1 + size f) g) in omega arith
-length_preorder say at (Modality flag a f) = let i = length_preorder say (at + 1) f in omega arith
-length_preorder say at (Fixpoint flag f) = let i = length_preorder say (at + 1) f in omega arith
-length_preorder say at (Variable b) = refl
-
 map_append : {A B : Type 0} (h : A → B) (xs ys : List A) → map h (xs ++ ys) ≡ map h xs ++ map h ys
 map_append h [] ys = refl
 map_append h (x ∷ xs) ys = ap (λ zs. h x ∷ zs) (map_append h xs ys)
@@ -149,7 +139,7 @@ module _ {A : Type 0} (say : ℕ → Norm → A) (all : List A) where
       let x : A = say at (Junction flag f g) in (
         first_said pre x ((xs ++ ys) ++ post) at e h,
         said_on (at + 1) f (pre ++ (x ∷ [])) (ys ++ post) (e ∙ left_on pre x xs ys post) (length_one pre x at h),
-        said_on (at + 1 + size f) g (pre ++ (x ∷ xs)) post (e ∙ right_on pre x xs ys post) (length_more pre x xs at (size f) h (length_preorder say (at + 1) f)),
+        said_on (at + 1 + size f) g (pre ++ (x ∷ xs)) post (e ∙ right_on pre x xs ys post) (length_more pre x xs at (size f) h (preorder_length say (at + 1) f)),
       )
   said_on at (Modality flag a f) pre post e h =
       (first_said pre (say at (Modality flag a f)) (preorder say (at + 1) f ++ post) at e h, one_said at f (say at (Modality flag a f)) pre post e h (said_on (at + 1) f))

@@ -9,9 +9,10 @@ use Rattle.normal.specs.Nodes.{Node}
 use Rattle.game.specs.declared.player.Player.TheVariants.{Even}
 use Rattle.game.specs.Game.{vertex}
 use Rattle.game.specs.Arena.{place, vertex_of, rows, arena}
+use Rattle.normal.proofs.Writing.{preorder_length}
 use Rattle.laws.specs.Admissible.{IsEach, IsNodes, priority_in, shapes_of}
 use Rattle.laws.proofs.Lists.{get_left, get_right, get_map, map_get, get_range}
-use Rattle.laws.proofs.Trees.{each_map, length_preorder, IsSaid, said}
+use Rattle.laws.proofs.Trees.{each_map, IsSaid, said}
 use Rattle.laws.proofs.Moves.{IsLaid}
 
 -- ---- nodes by number
@@ -52,7 +53,7 @@ laid f nodes is = each_map (IsPlaced nodes) (λ k g. shape_in nodes k ≡ shape_
 
 -- as many nodes as the tree has
 pub count_nodes : (f : Norm) (nodes : List Node) → IsNodes f nodes → length nodes ≡ size f
-count_nodes f nodes is = sym (length-map nodes (λ (node : Node). node.shape)) ∙ (ap length is.shapes ∙ length_preorder shape_at 0 f)
+count_nodes f nodes is = sym (length-map nodes (λ (node : Node). node.shape)) ∙ (ap length is.shapes ∙ preorder_length shape_at 0 f)
 
 -- ---- vertices
 

@@ -1,18 +1,17 @@
--- What holds of each element.
-use Rattle.std.proofs.Common.{ℕ, zero, suc, ◌<◌, List, [], ◌∷◌, length, get_or, arith}
-use Rattle.std.specs.List.{AllByRecursion}
+-- What holds of each transition.
+use Rattle.std.proofs.Common.{◌≡◌, ℕ, ◌<◌, ◌^◌, Bool, List, length, get_or, ap, arith}
+use Rattle.std.proofs.lemmas.List.Elements.{All-from_recursion, All-get_or}
 use Rattle.lts.specs.declared.system.Transition.{Transition}
 use Rattle.lts.specs.Numbered.{Numbered, IsTransitionOf, IsInside}
-
--- of the one at an index too
-each_at : {X : Type 0} (P : X → Type 0) (xs : List X) (i : ℕ) (d : X) → AllByRecursion P xs → i < length xs → P (get_or xs i d)
-each_at P [] i d all lt = absurd (omega arith)
-each_at P (x ∷ xs) zero d all lt = all.0
-each_at P (x ∷ xs) (suc i) d all lt = each_at P xs i d all.1 (omega arith)
 
 abbrev pub none : Transition
 none = record { source = 0; label = 0; target = 0 }
 
 -- the transition at an index
 pub inside : (l : Numbered) (steps : List Transition) (i : ℕ) → IsInside l steps → i < length steps → IsTransitionOf l (get_or steps i none)
-inside l steps i all lt = each_at (IsTransitionOf l) steps i none all lt
+inside l steps i all lt = All-get_or (IsTransitionOf l) steps i none lt (All-from_recursion (IsTransitionOf l) steps all)
+
+-- its label is among the decided ones
+pub decided : (l : Numbered) (steps : List Transition) (i : ℕ) (chosen seen : List Bool) → IsInside l steps → i < length steps → seen ≡ chosen
+    → ((k : ℕ) → k < length l.labels → k < 2 ^ 32 → k < length chosen) → (get_or steps i none).label < 2 ^ 32 → (get_or steps i none).label < length seen
+decided l steps i chosen seen all lt e count fits = let step = inside l steps i all lt in omega (arith, ap length e, count (get_or steps i none).label step.label fits)

@@ -1,6 +1,7 @@
 -- Marks of all states, of the others, of both and of either.
 use Rattle.std.proofs.Common.{◌≡◌, ℕ, zero, suc, ◌<◌, ◌⊎◌, ◌↔◌, Bool, true, false, not, ◌&&◌, ◌||◌, List, [], ◌∷◌, length, map, replicate, refl, subst, sym, ap, ◌∙◌, inl, inr, arith}
 use Rattle.std.proofs.lemmas.List.{length-map, length-replicate, get_or-map, get_or-replicate}
+use Rattle.std.proofs.lemmas.Slice.Zip.{length-zip, get_or-zip}
 use Rattle.std.specs.Prelude.{zip, slice_index_or, IsTrue}
 use mathlib.Core.Bool.{beq}
 use lib.Pointwise.{pointwise}
@@ -11,16 +12,10 @@ abbrev pub at : List Bool → ℕ → Bool
 at ms s = slice_index_or ms s false
 
 pub at_zip : (f : Bool × Bool → Bool) (ms ns : List Bool) (s : ℕ) → s < length ms → length ms ≡ length ns → at (map f (zip ms ns)) s ≡ f (at ms s, at ns s)
-at_zip f [] ns s h e = absurd (omega arith)
-at_zip f (m ∷ ms) [] s h e = absurd (omega arith)
-at_zip f (m ∷ ms) (n ∷ ns) zero h e = refl
-at_zip f (m ∷ ms) (n ∷ ns) (suc s) h e = at_zip f ms ns s (omega arith) (omega arith)
+at_zip f ms ns s h e = get_or-map f (zip ms ns) s (false, false) false (omega (arith, length-zip ms ns)) ∙ ap f (get_or-zip ms ns s (false, false) h (omega arith))
 
 pub length_zip : (f : Bool × Bool → Bool) (ms ns : List Bool) → length ms ≡ length ns → length (map f (zip ms ns)) ≡ length ms
-length_zip f [] [] e = refl
-length_zip f [] (n ∷ ns) e = refl
-length_zip f (m ∷ ms) [] e = absurd (omega arith)
-length_zip f (m ∷ ms) (n ∷ ns) e = ap suc (length_zip f ms ns (omega arith))
+length_zip f ms ns e = omega (arith, length-map (zip ms ns) f, length-zip ms ns)
 
 pub marks_all : (n : ℕ) → Marks n (replicate n true) (λ s. Unit {0})
 marks_all n = record { count = length-replicate n true; exact = λ s h. (λ _. tt, λ _. get_or-replicate n s true false h) }

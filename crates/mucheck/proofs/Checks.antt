@@ -1,9 +1,11 @@
 -- What a check has found out.
-use Rattle.std.proofs.Common.{◌≡◌, ℕ, List, Bool, false, Some, Ok, Err, subst, sym, slice_index_or}
+use Rattle.std.proofs.Common.{◌≡◌, ℕ, List, Bool, false, Some, Ok, Err, refl, subst, sym, slice_index_or}
 use Rattle.std.proofs.KnownBytes.{Keeps-refl}
 use Rattle.std.specs.Prelude.{IfSome, IfOk, IfErr, IsErrAnd, MatchResult, Option, Result}
 use Rattle.std.proofs.lemmas.Result.{IfOk-weaker}
 use Rattle.lts.specs.System.{System}
+use Rattle.lts.specs.Wrote.{WroteFront}
+use Rattle.lts.specs.declared.write_loop.WriteFault.{WriteFault}
 use Rattle.lts.specs.Aut.{IsAut}
 use Rattle.formula.specs.Tree.{Formula}
 use Rattle.formula.specs.Spells.{Spells}
@@ -32,42 +34,35 @@ spelled_of first second known_first known_second l f e d system only_system form
 }
 
 -- a check that came to its report
-pub report_of : (first second : List ℕ) (old new : Option (List ℕ)) (l : System) (f : Formula) (marks : List Bool) (r : Result Bool MuError) → AreSpelled first second l f
-    → Marks l.states marks (Satisfies l f) → Reported old new (report l f marks) (slice_index_or marks l.initial false) r → IfOk r (HasReported first second old new)
-report_of first second old new l f marks (Ok answer) spelled exact h =
-    record { l = l; f = f; marks = marks; spelled = spelled; exact = exact; reported = h.0; answered = h.1 }
-report_of first second old new l f marks (Err e) spelled exact h = tt
-
--- a write fault came in the report
-pub begun_of : (first second : List ℕ) (old new : Option (List ℕ)) (l : System) (f : Formula) (marks : List Bool) (e : MuError) → AreSpelled first second l f
-    → Marks l.states marks (Satisfies l f) → Reported old new (report l f marks) (slice_index_or marks l.initial false) (Err e) → HasRefused first second old new e
-begun_of first second old new l f marks (error.Write e) spelled exact h = record { l = l; f = f; marks = marks; spelled = spelled; exact = exact; begun = h }
-begun_of first second old new l f marks (error.Arguments e) spelled exact h = absurd h
-begun_of first second old new l f marks error.File spelled exact h = absurd h
-begun_of first second old new l f marks error.Read spelled exact h = absurd h
-begun_of first second old new l f marks error.Memory spelled exact h = absurd h
-begun_of first second old new l f marks (error.System e) spelled exact h = absurd h
-begun_of first second old new l f marks (error.Formula e) spelled exact h = absurd h
-begun_of first second old new l f marks (error.Normal e) spelled exact h = absurd h
-begun_of first second old new l f marks (error.Build e) spelled exact h = absurd h
-
-pub fault_of : (first second : List ℕ) (old new : Option (List ℕ)) (l : System) (f : Formula) (marks : List Bool) (r : Result Bool MuError) → AreSpelled first second l f
-    → Marks l.states marks (Satisfies l f) → Reported old new (report l f marks) (slice_index_or marks l.initial false) r → IfErr r (HasRefused first second old new)
-fault_of first second old new l f marks (Ok answer) spelled exact h = tt
-fault_of first second old new l f marks (Err e) spelled exact h = begun_of first second old new l f marks e spelled exact h
+pub report_of : (first second : List ℕ) (old new : Option (List ℕ)) (l : System) (f : Formula) (found marks : List Bool) (r : Result Bool MuError) → marks ≡ found → AreSpelled first second l f
+    → Marks l.states found (Satisfies l f) → Reported old new (report l f marks) (slice_index_or marks l.initial false) r → IfOk r (HasReported first second old new)
+report_of first second old new l f found marks (Ok answer) same spelled exact h =
+    record { l = l; f = f; marks = marks; spelled = spelled; exact = subst (λ m. Marks l.states m (Satisfies l f)) (sym same) exact; reported = h.0; answered = h.1 }
+report_of first second old new l f found marks (Err e) same spelled exact h = tt
 
 -- a report is refused for a write fault alone
+written_of : (old new : Option (List ℕ)) (text : List ℕ) (answer : Bool) (e : MuError) → Reported old new text answer (Err e) → (w : WriteFault) × (e ≡ error.Write w) × WroteFront old new text
+written_of old new text answer (error.Write w) h = (w, refl, h)
+written_of old new text answer (error.Arguments e) h = absurd h
+written_of old new text answer error.File h = absurd h
+written_of old new text answer error.Read h = absurd h
+written_of old new text answer error.Memory h = absurd h
+written_of old new text answer (error.System e) h = absurd h
+written_of old new text answer (error.Formula e) h = absurd h
+written_of old new text answer (error.Normal e) h = absurd h
+written_of old new text answer (error.Build e) h = absurd h
+
+pub fault_of : (first second : List ℕ) (old new : Option (List ℕ)) (l : System) (f : Formula) (found marks : List Bool) (r : Result Bool MuError) → marks ≡ found → AreSpelled first second l f
+    → Marks l.states found (Satisfies l f) → Reported old new (report l f marks) (slice_index_or marks l.initial false) r → IfErr r (HasRefused first second old new)
+fault_of first second old new l f found marks (Ok answer) same spelled exact h = tt
+fault_of first second old new l f found marks (Err e) same spelled exact h =
+    let w = written_of old new (report l f marks) (slice_index_or marks l.initial false) e h in
+    subst (HasRefused first second old new) (sym w.1)
+    (record { l = l; f = f; marks = marks; spelled = spelled; exact = subst (λ m. Marks l.states m (Satisfies l f)) (sym same) exact; begun = w.2 })
+
 pub plain_of : (old new : Option (List ℕ)) (text : List ℕ) (answer : Bool) (r : Result Bool MuError) → Reported old new text answer r → IfErr r IsPlain
 plain_of old new text answer (Ok marked) h = tt
-plain_of old new text answer (Err (error.Write e)) h = tt
-plain_of old new text answer (Err (error.Arguments e)) h = absurd h
-plain_of old new text answer (Err error.File) h = absurd h
-plain_of old new text answer (Err error.Read) h = absurd h
-plain_of old new text answer (Err error.Memory) h = absurd h
-plain_of old new text answer (Err (error.System e)) h = absurd h
-plain_of old new text answer (Err (error.Formula e)) h = absurd h
-plain_of old new text answer (Err (error.Normal e)) h = absurd h
-plain_of old new text answer (Err (error.Build e)) h = absurd h
+plain_of old new text answer (Err e) h = subst IsPlain (sym (written_of old new text answer e h).1) tt
 
 -- The refusal of a formula's text comes where the first text spells a system.
 pub unread_of : (first second : List ℕ) (here : Option (List ℕ)) (e : MuError) → SpellsSystem first → IsReadRefusal second e → HasRefused first second here here e

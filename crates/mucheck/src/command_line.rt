@@ -38,17 +38,19 @@ Example:\n  mucheck check examples/first/system.aut examples/first/formula.mcf";
 pub fn command<'a>(alloc: Global, words: &'a [String]) -> Result<Command<'a>, MuError>
     ensures complete { IfOk result IsComplete }
 {
-    let matches = parser(alloc)
-        .map_err(|_| MuError::Memory)?
-        .try_get_matches_from(words)
-        .map_err(refused)?;
-    let check = matches
-        .subcommand_matches("check")
-        .ok_or(MuError::Arguments(ArgumentError::NoCommand))?;
-    match checked(check) {
-        Ok(check) => Ok(Command::Check(check)),
-        Err(error) => Err(MuError::Arguments(error)),
+    let matches = matches_of(alloc, words)?;
+    match matches.subcommand_matches("check") {
+        Some(check) => match checked(check) {
+            Ok(check) => Ok(Command::Check(check)),
+            Err(error) => Err(MuError::Arguments(error)),
+        },
+        None => Err(MuError::Arguments(ArgumentError::NoCommand)),
     }
+}
+
+fn matches_of<'a>(alloc: Global, words: &'a [String]) -> Result<ArgMatches<'a>, MuError> {
+    let parser = parser(alloc).map_err(|_| MuError::Memory)?;
+    parser.try_get_matches_from(words).map_err(refused)
 }
 
 /// The refusal for what `clap` answers in place of matches; want of memory is the engine's.
@@ -60,42 +62,74 @@ fn refused(error: ClapError) -> MuError {
 }
 
 fn parser<'a>(alloc: Global) -> Result<Parser<'a>, AllocError> {
+    let check = check_parser(alloc)?;
     Parser::new(alloc, "mucheck")
         .about(ABOUT)
         .subcommand_required(true)
         .disable_help_subcommand(true)
-        .subcommand(check_parser(alloc)?)
+        .subcommand(check)
+}
+
+fn check_parser<'a>(alloc: Global) -> Result<Parser<'a>, AllocError> {
+    let parser = Parser::new(alloc, "check")
+        .about(CHECK_ABOUT)
+        .after_help(CHECK_AFTER);
+    with_options(alloc, with_files(alloc, parser)?)
+}
+
+fn with_files<'a>(alloc: Global, parser: Parser<'a>) -> Result<Parser<'a>, AllocError> {
+    parser
+        .arg(file(
+            alloc,
+            SYSTEM,
+            "The system's file, in the Aldebaran format (.aut)",
+        ))?
+        .arg(file(
+            alloc,
+            FORMULA,
+            "The formula's file, in the mu-calculus format (.mcf)",
+        ))
+}
+
+fn file<'a>(alloc: Global, id: &'a str, help: &'a str) -> Arg<'a> {
+    Arg::new(alloc, id).required(true).help(help)
 }
 
 /// Workers, shards and board have no effect on what is served today, so the help leaves them out.
-fn check_parser<'a>(alloc: Global) -> Result<Parser<'a>, AllocError> {
-    let system = Arg::new(alloc, SYSTEM)
-        .required(true)
-        .help("The system's file, in the Aldebaran format (.aut)");
-    let formula = Arg::new(alloc, FORMULA)
-        .required(true)
-        .help("The formula's file, in the mu-calculus format (.mcf)");
-    let plain = Arg::new(alloc, PLAIN)
-        .long(PLAIN)
-        .action(ArgAction::SetTrue)
-        .help("Evaluate the formula over sets of states, without a game");
-    Parser::new(alloc, "check")
-        .about(CHECK_ABOUT)
-        .after_help(CHECK_AFTER)
-        .arg(system)?
-        .arg(formula)?
-        .arg(plain)?
-        .arg(plain_number(alloc, WORKERS, "1 to 64")?.value_parser(clap::value_parser!(u32).range(
-            1..=64,
-        )))?
-        .arg(plain_number(alloc, SHARDS, "1 to 256")?.value_parser(clap::value_parser!(u32).range(
-            1..=256,
-        )))?
-        .arg(plain_number(alloc, BOARD, "kind")?.value_parser(BOARDS.as_slice()))
+fn with_options<'a>(alloc: Global, parser: Parser<'a>) -> Result<Parser<'a>, AllocError> {
+    let parser = with_plain(alloc, parser)?;
+    let parser = with_number(alloc, parser, WORKERS, "1 to 64", 64)?;
+    let parser = with_number(alloc, parser, SHARDS, "1 to 256", 256)?;
+    with_board(alloc, parser)
+}
+
+fn with_plain<'a>(alloc: Global, parser: Parser<'a>) -> Result<Parser<'a>, AllocError> {
+    parser.arg(
+        Arg::new(alloc, PLAIN)
+            .long(PLAIN)
+            .action(ArgAction::SetTrue)
+            .help("Evaluate the formula over sets of states, without a game"),
+    )
+}
+
+fn with_number<'a>(
+    alloc: Global,
+    parser: Parser<'a>,
+    name: &'a str,
+    value: &'a str,
+    most: i64,
+) -> Result<Parser<'a>, AllocError> {
+    let option = plain_option(alloc, name, value)?;
+    parser.arg(option.value_parser(clap::value_parser!(u32).range(1..=most)))
+}
+
+fn with_board<'a>(alloc: Global, parser: Parser<'a>) -> Result<Parser<'a>, AllocError> {
+    let option = plain_option(alloc, BOARD, "kind")?;
+    parser.arg(option.value_parser(BOARDS.as_slice()))
 }
 
 /// An option that has a value and goes with `--plain` alone.
-fn plain_number<'a>(alloc: Global, name: &'a str, value: &'a str) -> Result<Arg<'a>, AllocError> {
+fn plain_option<'a>(alloc: Global, name: &'a str, value: &'a str) -> Result<Arg<'a>, AllocError> {
     Arg::new(alloc, name)
         .long(name)
         .value_name(value)

@@ -1,11 +1,12 @@
 // The engines: from both texts to the report.
 
-ghost use Rattle.std.specs.Prelude.{◌≡◌, ℕ, List, false, length, take, IfOk, IfErr, IfSome, IsErrAnd, Some, slice_index_or};
+ghost use Rattle.std.specs.Prelude.{◌≡◌, ℕ, List, false, length, take, IfOk, IfErr, IfSome, IsErrAnd, Option, Some, slice_index_or};
 ghost use Rattle.std.specs.Io.KnownBytes.{Keeps};
 ghost use Rattle.formula.specs.Closed.{closed_formula};
+ghost use Rattle.formula.specs.Meaning.{Marks, Satisfies};
 ghost use Rattle.formula.specs.Spells.{Spells};
 ghost use Rattle.formula.specs.Tree.{Formula};
-ghost use Rattle.mucheck.specs.Check.{IsServed, IsUnserved, IsArguments, IsPlain, HasReported, HasRefused, Reported, IsReadRefusal, IsReadFault, IsReading};
+ghost use Rattle.mucheck.specs.Check.{AreSpelled, IsServed, IsUnserved, IsArguments, IsPlain, HasReported, HasRefused, Reported, IsReadRefusal, IsReadFault, IsReading};
 ghost use Rattle.mucheck.specs.Report.{report};
 
 use crate::error::{ArgumentError, MuError};
@@ -22,6 +23,13 @@ use std::io::{ErrorKind, Read, Write};
 
 /// One byte more than the longest text of a formula: nothing behind it is read.
 const FORMULA_BYTES: u64 = 1_048_577;
+
+/// A system and a formula that were read.
+#[derive(Drop)]
+struct Texts {
+    system: Lts,
+    formula: Closed,
+}
 
 /// Checks a formula at each state of a system by sets of states, without a game, and reports. It answers whether the
 /// initial state satisfies the formula. The system is read first; nothing is written before all memory was taken.
@@ -40,10 +48,18 @@ pub fn check_plain<R: Read + Drop, S: Read + Drop, W: Write>(
         → IfErr result (HasRefused first second (W.contents out.old) (W.contents out.new)) }
     ensures plain { IfErr result IsPlain }
 {
-    let system = read_aut(alloc, aut).map_err(MuError::System)?;
-    let closed = read_formula(alloc, formula)?;
-    let marks = plain_states(alloc, &system, &closed).map_err(|_| MuError::Memory)?;
-    reported(&system, &closed, &marks, out)
+    let texts = read_both(alloc, aut, formula)?;
+    let marks = plain_marks(alloc, &texts)?;
+    reported(&texts, &marks, out)
+}
+
+/// A mark for each state, true where it satisfies the formula, by sets of states.
+fn plain_marks(alloc: Global, texts: &Texts) -> Result<Vec<bool>, MuError>
+    ensures meaning { IfOk result (λ marks. Marks texts.now.system.system.states marks.items
+        (Satisfies texts.now.system.system (closed_formula texts.now.formula))) }
+    ensures refusal { IfErr result (λ e. e ≡ MuError.Memory) }
+{
+    plain_states(alloc, &texts.system, &texts.formula).map_err(|_| MuError::Memory)
 }
 
 /// Checks a formula at each state of a system and reports. It answers whether the initial state satisfies the formula.
@@ -110,27 +126,38 @@ fn check_lifted<R: Read + Drop, S: Read + Drop, W: Write>(
     ensures refusal { (first second : List ℕ) → R.remaining aut ≡ Some first → S.remaining formula ≡ Some second
         → IfErr result (HasRefused first second (W.contents out.old) (W.contents out.new)) }
 {
-    let system = read_aut(alloc, aut).map_err(MuError::System)?;
-    let closed = read_formula(alloc, formula)?;
-    let marks = lifted_states(alloc, &system, &closed)?;
-    reported(&system, &closed, &marks, out)
+    let texts = read_both(alloc, aut, formula)?;
+    let marks = lifted_states(alloc, &texts.system, &texts.formula)?;
+    reported(&texts, &marks, out)
 }
 
 /// Writes the report, and answers the initial state's mark.
-fn reported<W: Write>(
-    system: &Lts,
-    formula: &Closed,
-    marks: &[bool],
-    out: &mut W,
-) -> Result<bool, MuError>
-    requires { length marks.now ≡ system.now.system.states }
+fn reported<W: Write>(texts: &Texts, marks: &[bool], out: &mut W) -> Result<bool, MuError>
+    requires { length marks.now ≡ texts.now.system.system.states }
     ensures { Reported (W.contents out.old) (W.contents out.new)
-        (report system.now.system (closed_formula formula.now) marks.now)
-        (slice_index_or marks.now system.now.system.initial false) result }
+        (report texts.now.system.system (closed_formula texts.now.formula) marks.now)
+        (slice_index_or marks.now texts.now.system.system.initial false) result }
 {
-    let initial = system.initial() as usize;
-    write_report(system, formula, marks, out).map_err(MuError::Write)?;
+    let initial = texts.system.initial() as usize;
+    write_report(&texts.system, &texts.formula, marks, out).map_err(MuError::Write)?;
     Ok(marks[initial])
+}
+
+/// Reads the system and then the formula.
+fn read_both<R: Read + Drop, S: Read + Drop>(
+    alloc: Global,
+    aut: R,
+    formula: S,
+) -> Result<Texts, MuError>
+    ensures spelled { (first second : List ℕ) → R.remaining aut ≡ Some first → S.remaining formula ≡ Some second
+        → IfOk result (λ texts. AreSpelled first second texts.system.system (closed_formula texts.formula)) }
+    ensures refusal { (first second : List ℕ) → R.remaining aut ≡ Some first → S.remaining formula ≡ Some second
+        → (here : Option (List ℕ)) → IfErr result (HasRefused first second here here) }
+    ensures plain { IfErr result IsPlain }
+{
+    let system = read_aut(alloc, aut).map_err(MuError::System)?;
+    let formula = read_formula(alloc, formula)?;
+    Ok(Texts { system, formula })
 }
 
 /// Reads a formula. Of a text that is too long no more is read than shows it.

@@ -18,6 +18,7 @@ use crate::error::{ArgumentError, MuError};
 use crate::request::{Check, Command};
 use crate::status::status;
 use lts::WriteFault;
+use std::alloc::Global;
 use std::fs::File;
 use std::io::{BufWriter, ErrorKind, Write};
 use std::process::ExitCode;
@@ -55,25 +56,28 @@ fn run_check(rt: &HostRuntime, request: &Check<'_>) -> Result<bool, MuError> {
     let system = open(rt, request.system)?;
     let formula = open(rt, request.formula)?;
     let mut out = BufWriter::new(rt.alloc(), io::writer(rt)).map_err(|_| MuError::Memory)?;
-    let answer = if request.plain {
-        check_plain(rt.alloc(), system, formula, &mut out)?
-    } else {
-        let no_game: Option<&mut File> = None;
-        let no_evidence: Option<(&mut File, &mut File)> = None;
-        check(
-            rt.alloc(),
-            system,
-            formula,
-            &request.options,
-            &mut out,
-            no_game,
-            no_evidence,
-        )?
-    };
+    let answer = answered(rt.alloc(), request, system, formula, &mut out)?;
     match out.flush() {
         Ok(()) => Ok(answer),
         Err(_) => Err(MuError::Write(WriteFault)),
     }
+}
+
+/// The answer of the engine that is asked for.
+fn answered<W: Write>(
+    alloc: Global,
+    request: &Check<'_>,
+    system: File,
+    formula: File,
+    out: &mut W,
+) -> Result<bool, MuError> {
+    if request.plain {
+        return check_plain(alloc, system, formula, out);
+    }
+    let no_game: Option<&mut File> = None;
+    let no_evidence: Option<(&mut File, &mut File)> = None;
+    let options = &request.options;
+    check(alloc, system, formula, options, out, no_game, no_evidence)
 }
 
 fn open(rt: &HostRuntime, name: &str) -> Result<File, MuError> {

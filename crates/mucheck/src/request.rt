@@ -3,7 +3,7 @@
 ghost use Rattle.std.specs.Prelude.{◌≤◌};
 
 /// Which board the workers share.
-#[derive(Clone, Copy, Debug, PartialEq, Eq)]
+#[derive(Clone, Copy, PartialEq, Eq)]
 pub enum BoardKind {
     /// Packed where the ranks fit a word, and else locked.
     Auto,
@@ -12,7 +12,7 @@ pub enum BoardKind {
 }
 
 /// Workers, locked shards and board of a check.
-#[derive(Clone, Copy, Debug)]
+#[derive(Clone, Copy)]
 pub struct Options {
     pub workers: u32,
     pub shards: u32,
@@ -24,13 +24,13 @@ pub struct Options {
 }
 
 /// What the program is asked to do.
-#[derive(Clone, Copy, Debug)]
+#[derive(Clone, Copy)]
 pub enum Command<'a> {
     Check(Check<'a>),
 }
 
 /// A check of a formula at each state of a system. The files are named as on the command line.
-#[derive(Clone, Copy, Debug)]
+#[derive(Clone, Copy)]
 pub struct Check<'a> {
     pub system: &'a str,
     pub formula: &'a str,

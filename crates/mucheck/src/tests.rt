@@ -439,7 +439,7 @@ fn takes_command_lines(rt: HostRuntime) -> Result<(), Fail> {
     let Command::Check(request) = command(rt.alloc(), &line)?;
     assert!(rt; request.system == "s" && request.formula == "f" && request.plain);
     assert_eq!(rt; request.options.workers, 64);
-    assert_eq!(rt; request.options.board, BoardKind::Packed);
+    assert!(rt; request.options.board == BoardKind::Packed);
     let line = words(rt.alloc(), "mucheck check s f")?;
     let Command::Check(request) = command(rt.alloc(), &line)?;
     assert!(rt; !request.plain);

@@ -12,7 +12,7 @@ use Rattle.formula.specs.View.{action_of}
 use Rattle.formula.specs.Holds.{holds}
 use Rattle.formula.specs.Tree.{Step}
 use Rattle.meaning.specs.Into.{Into}
-use Rattle.meaning.proofs.Each.{none, inside}
+use Rattle.meaning.proofs.Each.{none, inside, decided}
 use Rattle.meaning.proofs.Marked.{at}
 use Rattle.formula.proofs.Entering.{enters, enters_leads}
 use Rattle.meaning.proofs.Arrows.{one_more, any_of_map}
@@ -20,10 +20,8 @@ use Rattle.meaning.proofs.actions.before.Goals as goal
 
 pub is_chosen-requires : goal.is_chosen-requires
 is_chosen-requires c =
-    let steps = c.all-source-items.result.now in
-    let i = c.loop-source.source-index in
-    let step = inside c.args.lts.now steps i c.all-source-items.ensures.inside c.loop-source-test.true in
-    λ fits. omega (arith, ap length c.deref.ensures.value, c.in_ok-chosen.ensures.count (get_or steps i none).label step.label fits)
+    decided c.args.lts.now c.all-source-items.result.now c.loop-source.source-index c.in_ok-chosen.chosen.items c.deref.result.now c.all-source-items.ensures.inside c.loop-source-test.true c.deref.ensures.value
+    c.in_ok-chosen.ensures.count
 
 pub loop-source-preserved : goal.loop-source-preserved
 loop-source-preserved c =

@@ -1,5 +1,6 @@
-use Rattle.std.proofs.Common.{◌≡◌, ◌<◌, ◌≤◌, arith, length, ◌||◌, ap, ap₂, sym, ◌∙◌, subst, IfOk}
+use Rattle.std.proofs.Common.{◌≡◌, ◌↔◌, ℕ, ◌<◌, ◌≤◌, Bool, List, Result, Vec, Global, arith, length, ◌||◌, ap, ap₂, sym, ◌∙◌, subst, IfOk}
 use Rattle.std.proofs.lemmas.Result.{IfOk-weaker}
+use Rattle.lts.specs.System.{System}
 use Rattle.formula.specs.View.{action_of, regular_of}
 use Rattle.formula.specs.Tree.{Regular, Step, Then, Either, Star, Plus}
 use Rattle.formula.specs.Meaning.{Marks, marked}
@@ -114,40 +115,35 @@ leading-at_least_one-requires t c =
     let is : regular_of c.args.regular.now ≡ Plus (regular_of c.deref-else-has_star.result.now) = ap regular_of c.in-Plus.is ∙ sym (ap (λ a. Plus (regular_of a)) c.deref-else-has_star.ensures) in
     (omega (arith, ap height is, lower_of (regular_of c.deref-else-has_star.result.now) (regular_of c.without_signs_behind-else-has_star.result.now) c.without_signs_behind-else-has_star.ensures, c.decreases), (c.requires.system, c.requires.count))
 
+-- a call's marks are those of a formula that leads to the set from the same states
+led_by : {E : Type 0} (l : System) (x y z : Regular) (ms : List Bool) (r : Result (Vec Bool Global) E) → x ≡ y → ((s : ℕ) → Into l z ms s ↔ Into l y ms s)
+    → IfOk r (λ found. Marks l.states found.items (Into l z ms)) → IfOk r (λ found. Marks l.states found.items (Into l x ms))
+led_by l x y z ms r is same h =
+    subst (λ (q : Regular). IfOk r (λ found. Marks l.states found.items (Into l q ms))) (sym is)
+    (IfOk-weaker r (λ found. Marks l.states found.items (Into l z ms)) _ (λ found f. marks_same l.states found.items (Into l z ms) (Into l y ms) f (λ s h. same s)) h)
+
 pub leading-returns-in-Star : goal.leading-returns-in-Star
 leading-returns-in-Star t c =
     let l = c.args.lts.now.system in
     let r = regular_of c.deref-in-Star.result.now in
     let ms = c.args.marks.now in
-    let is : regular_of c.args.regular.now ≡ Star r = ap regular_of c.in-Star.is ∙ sym (ap (λ a. Star (regular_of a)) c.deref-in-Star.ensures) in
-    subst (λ (x : Regular). IfOk c.any_number.result (λ found. Marks l.states found.items (Into l x ms))) (sym is)
-    (IfOk-weaker c.any_number.result (λ found. Marks l.states found.items (Into l (Star (regular_of c.without_signs_behind.result.now)) ms)) _
-    (λ found f. marks_same l.states found.items (Into l (Star (without_signs r)) ms) (Into l (Star r) ms) (subst (λ x. Marks l.states found.items (Into l (Star x) ms)) c.without_signs_behind.ensures f)
-    (λ s h. into_any l r ms s))
-    c.any_number.ensures)
+    led_by l _ (Star r) (Star (regular_of c.without_signs_behind.result.now)) ms c.any_number.result (ap regular_of c.in-Star.is ∙ sym (ap (λ a. Star (regular_of a)) c.deref-in-Star.ensures))
+    (λ s. subst (λ x. Into l (Star x) ms s ↔ Into l (Star r) ms s) (sym c.without_signs_behind.ensures) (into_any l r ms s)) c.any_number.ensures
 
 pub leading-returns-then-has_star : goal.leading-returns-then-has_star
 leading-returns-then-has_star t c =
     let l = c.args.lts.now.system in
     let r = regular_of c.deref-then-has_star.result.now in
     let ms = c.args.marks.now in
-    let is : regular_of c.args.regular.now ≡ Plus r = ap regular_of c.in-Plus.is ∙ sym (ap (λ a. Plus (regular_of a)) c.deref-then-has_star.ensures) in
     let starred : c.has_star.result ≡ has_star r = c.has_star.ensures ∙ ap (λ x. has_star (regular_of x)) (c.deref-in-Plus.ensures ∙ sym c.deref-then-has_star.ensures) in
-    subst (λ (x : Regular). IfOk c.any_number-then-has_star.result (λ found. Marks l.states found.items (Into l x ms))) (sym is)
-    (IfOk-weaker c.any_number-then-has_star.result (λ found. Marks l.states found.items (Into l (Star (regular_of c.without_signs_behind-then-has_star.result.now)) ms)) _
-    (λ found f. marks_same l.states found.items (Into l (Star (without_signs r)) ms) (Into l (Plus r) ms) (subst (λ x. Marks l.states found.items (Into l (Star x) ms)) c.without_signs_behind-then-has_star.ensures f)
-    (λ s h. into_starred l r ms s (sym starred ∙ c.if-has_star.true)))
-    c.any_number-then-has_star.ensures)
+    led_by l _ (Plus r) (Star (regular_of c.without_signs_behind-then-has_star.result.now)) ms c.any_number-then-has_star.result (ap regular_of c.in-Plus.is ∙ sym (ap (λ a. Plus (regular_of a)) c.deref-then-has_star.ensures))
+    (λ s. subst (λ x. Into l (Star x) ms s ↔ Into l (Plus r) ms s) (sym c.without_signs_behind-then-has_star.ensures) (into_starred l r ms s (sym starred ∙ c.if-has_star.true))) c.any_number-then-has_star.ensures
 
 pub leading-returns-else-has_star : goal.leading-returns-else-has_star
 leading-returns-else-has_star t c =
     let l = c.args.lts.now.system in
     let r = regular_of c.deref-else-has_star.result.now in
     let ms = c.args.marks.now in
-    let is : regular_of c.args.regular.now ≡ Plus r = ap regular_of c.in-Plus.is ∙ sym (ap (λ a. Plus (regular_of a)) c.deref-else-has_star.ensures) in
     let starred : c.has_star.result ≡ has_star r = c.has_star.ensures ∙ ap (λ x. has_star (regular_of x)) (c.deref-in-Plus.ensures ∙ sym c.deref-else-has_star.ensures) in
-    subst (λ (x : Regular). IfOk c.at_least_one.result (λ found. Marks l.states found.items (Into l x ms))) (sym is)
-    (IfOk-weaker c.at_least_one.result (λ found. Marks l.states found.items (Into l (Plus (regular_of c.without_signs_behind-else-has_star.result.now)) ms)) _
-    (λ found f. marks_same l.states found.items (Into l (Plus (without_signs r)) ms) (Into l (Plus r) ms) (subst (λ x. Marks l.states found.items (Into l (Plus x) ms)) c.without_signs_behind-else-has_star.ensures f)
-    (λ s h. into_unstarred l r ms s (sym starred ∙ c.if-has_star.false)))
-    c.at_least_one.ensures)
+    led_by l _ (Plus r) (Plus (regular_of c.without_signs_behind-else-has_star.result.now)) ms c.at_least_one.result (ap regular_of c.in-Plus.is ∙ sym (ap (λ a. Plus (regular_of a)) c.deref-else-has_star.ensures))
+    (λ s. subst (λ x. Into l (Plus x) ms s ↔ Into l (Plus r) ms s) (sym c.without_signs_behind-else-has_star.ensures) (into_unstarred l r ms s (sym starred ∙ c.if-has_star.false))) c.at_least_one.ensures

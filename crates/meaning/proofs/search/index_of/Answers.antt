@@ -15,7 +15,7 @@ use Rattle.formula.specs.Meaning.{Leads}
 use Rattle.formula.proofs.Entering.{enters, enters_leads}
 use Rattle.meaning.specs.declared.arrivals.Arrival.{Arrival}
 use Rattle.meaning.specs.Arrivals.{IsOneOf, HasRoom}
-use Rattle.meaning.proofs.Each.{none, inside}
+use Rattle.meaning.proofs.Each.{none, inside, decided}
 use Rattle.meaning.proofs.Elements.{both}
 use Rattle.meaning.proofs.Marked.{at}
 use Rattle.meaning.proofs.Arrows.{any_of_map}
@@ -25,10 +25,8 @@ use Rattle.meaning.proofs.search.index_of.Goals.{then-is_chosen+in_ok-push, else
 
 pub is_chosen-requires : goal.is_chosen-requires
 is_chosen-requires c =
-    let steps = c.all-source-items.result.now in
-    let i = c.loop-source.source-index in
-    let step = inside c.args.lts.now steps i c.all-source-items.ensures.inside c.loop-source-test.true in
-    λ fits. omega (arith, ap length c.deref.ensures.value, c.in_ok-chosen.ensures.count (get_or steps i none).label step.label fits)
+    decided c.args.lts.now c.all-source-items.result.now c.loop-source.source-index c.in_ok-chosen.chosen.items c.deref.result.now c.all-source-items.ensures.inside c.loop-source-test.true c.deref.ensures.value
+    c.in_ok-chosen.ensures.count
 
 pub loop-source-preserved : goal.loop-source-preserved
 loop-source-preserved c =

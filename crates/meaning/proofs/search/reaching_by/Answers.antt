@@ -1,14 +1,13 @@
 use Rattle.std.proofs.Common.{◌≡◌, ℕ, ◌<◌, ◌⊎◌, Bool, List, [], ◌∷◌, ◌++◌, length, Option, Some, None, refl, sym, ◌∙◌, ap, subst, inl, inr, arith}
 use Rattle.std.specs.Prelude.{All, Contains, MatchOption}
 use Rattle.std.specs.Option.{option_to_list}
-use Rattle.std.proofs.lemmas.List.Elements.{Contains-append_cases, Contains-append_right}
+use Rattle.std.proofs.lemmas.List.Elements.{Contains-push, Contains-push_cases}
 use Rattle.lts.specs.Path.{IsPath}
 use Rattle.lts.specs.System.{System, IsSystem}
 use Rattle.formula.specs.View.{action_of}
 use Rattle.formula.specs.Tree.{Action, Step}
 use Rattle.formula.specs.Meaning.{Leads, marked}
 use Rattle.formula.proofs.Inside.{leads_inside}
-use Rattle.meaning.proofs.Elements.{only_one}
 use Rattle.meaning.proofs.search.reaching_by.Goals as goal
 
 no_more : (o : Option ℕ) (P : Type 0) (Q : ℕ → Type 0) → MatchOption o P Q → ((x : ℕ) → o ≡ Some x → ⊥) → P
@@ -19,12 +18,12 @@ no_more (Some x) P Q h none = absurd (none x refl)
 waited : (before after : List ℕ) (o : Option ℕ) (state : ℕ) → before ≡ after ++ option_to_list o → o ≡ Some state → (t : ℕ) → Contains before t → Contains after t ⊎ (state ≡ t)
 waited before after o state e is t h =
     let all : before ≡ after ++ state ∷ [] = e ∙ ap (λ x. after ++ option_to_list x) is in
-    elim (Contains-append_cases after (state ∷ []) t (subst (λ xs. Contains xs t) all h)) [ inl k ↦ inl k | inr k ↦ inr (only_one state t k) ]
+    Contains-push_cases after state t (subst (λ xs. Contains xs t) all h)
 
 here : (before after : List ℕ) (o : Option ℕ) (state : ℕ) → before ≡ after ++ option_to_list o → o ≡ Some state → Contains before state
 here before after o state e is =
     let all : before ≡ after ++ state ∷ [] = e ∙ ap (λ x. after ++ option_to_list x) is in
-    subst (λ xs. Contains xs state) (sym all) (Contains-append_right after (state ∷ []) state (0, omega arith, refl))
+    subst (λ xs. Contains xs state) (sym all) (Contains-push after state)
 
 pub loop-state-preserved : goal.loop-state-preserved
 loop-state-preserved c =

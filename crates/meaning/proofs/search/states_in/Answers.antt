@@ -1,8 +1,8 @@
 use Rattle.std.proofs.Common.{◌≡◌, ◌<◌, [], ◌∷◌, ◌++◌, length, length-append, sym, ◌∙◌, ap, subst, inl, inr, arith, true≢false}
 use Rattle.std.specs.Prelude.{All, Contains}
-use Rattle.std.proofs.lemmas.List.Elements.{All-push, Contains-append_cases, Contains-append_left, Contains-append_right}
+use Rattle.std.proofs.lemmas.List.Elements.{All-push, Contains-push, Contains-push_cases, Contains-append_left}
 use Rattle.formula.specs.Meaning.{marked}
-use Rattle.meaning.proofs.Elements.{only_one, last_or_less}
+use Rattle.meaning.proofs.Elements.{last_or_less}
 use Rattle.meaning.proofs.search.states_in.Goals as goal
 use Rattle.meaning.proofs.search.states_in.Goals.{then-mark+in_ok-push, else-mark}
 
@@ -17,13 +17,13 @@ loop-state-preserved c =
           let pushed : c.if-mark.states.items ≡ states ++ state ∷ [] = ap (λ v. v.items) w.states-is ∙ w.in_ok-push.ensures.items in
           record {
             inside = subst (All (λ t. t < length marks)) (sym pushed) (All-push (λ t. t < length marks) states state now.inside c.loop-state-test.true);
-            only = λ t h. elim (Contains-append_cases states (state ∷ []) t (subst (λ xs. Contains xs t) pushed h)) [
+            only = λ t h. elim (Contains-push_cases states state t (subst (λ xs. Contains xs t) pushed h)) [
               | inl k ↦ now.only t k
-              | inr k ↦ subst (marked marks) (only_one state t k) w.if-mark.true
+              | inr k ↦ subst (marked marks) k w.if-mark.true
             ];
             every = λ t lt m. subst (λ xs. Contains xs t) (sym pushed) (elim (last_or_less t state (omega arith)) [
               | inl less ↦ Contains-append_left states (state ∷ []) t (now.every t less m)
-              | inr e ↦ Contains-append_right states (state ∷ []) t (0, omega arith, sym e)
+              | inr e ↦ subst (Contains (states ++ state ∷ [])) (sym e) (Contains-push states state)
             ]);
             few = omega (arith, now.few, ap length pushed, length-append states (state ∷ []));
           }

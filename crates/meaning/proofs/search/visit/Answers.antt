@@ -1,7 +1,7 @@
 use Rattle.std.proofs.Common.{◌≡◌, ℕ, suc, ◌-◌, ◌<◌, ◌≤◌, ◌⊎◌, true, false, List, [], ◌∷◌, ◌++◌, length, length-append, sym, ◌∙◌, ap, subst, inl, inr, arith}
 use Rattle.std.specs.Prelude.{slice_set, slice_index_or, All, Contains}
 use Rattle.std.proofs.Math.ListN.{length-set}
-use Rattle.std.proofs.lemmas.List.Elements.{All-push, Contains-append_cases, Contains-append_left, Contains-append_right}
+use Rattle.std.proofs.lemmas.List.Elements.{All-push, Contains-push, Contains-push_cases, Contains-append_left}
 use Rattle.std.proofs.lemmas.List.{get_or_default}
 use Rattle.formula.specs.Meaning.{marked}
 use Rattle.meaning.specs.declared.arrivals.Arrival.{Arrival}
@@ -9,7 +9,6 @@ use Rattle.meaning.specs.Arrivals.{nowhere, arrival_at, IsSource, IsOneOf}
 use Rattle.meaning.proofs.Marked.{at}
 use Rattle.meaning.proofs.Chains.{none_there, first_or_earlier, first, later}
 use Rattle.meaning.proofs.Setting.{set_keeps, set_there, set_adds, one_fewer}
-use Rattle.meaning.proofs.Elements.{only_one}
 use Rattle.meaning.proofs.search.visit.Goals as goal
 
 -- the step of this number, plus 1
@@ -51,9 +50,9 @@ loop-next-preserved-in_ok-push c =
       next = omega arith;
       count = simp length-set now.count;
       inside = subst (All (λ t. t < length c.args.found.now.items)) (sym pushed) (All-push (λ t. t < length c.args.found.now.items) waiting a.source now.inside room);
-      known = λ s h. elim (Contains-append_cases waiting (a.source ∷ []) s (subst (λ ws. Contains ws s) pushed h)) [
+      known = λ s h. elim (Contains-push_cases waiting a.source s (subst (λ ws. Contains ws s) pushed h)) [
         | inl old ↦ set_keeps found a.source s (now.known s old)
-        | inr new ↦ subst (marked (slice_set found a.source true)) (only_one a.source s new) (set_there found a.source (omega (arith, now.count)))
+        | inr new ↦ subst (marked (slice_set found a.source true)) new (set_there found a.source (omega (arith, now.count)))
       ];
       kept = λ s h. set_keeps found a.source s (now.kept s h);
       waits = λ s h. subst (λ ws. Contains ws s) (sym pushed) (Contains-append_left waiting (a.source ∷ []) s (now.waits s h));
@@ -67,7 +66,7 @@ loop-next-preserved-in_ok-push c =
       origin = λ s h. source s (inr h);
       fresh = λ s h. elim (set_adds found a.source s h) [
         | inl m ↦ elim (now.fresh s m) [ inl old ↦ inl old | inr w ↦ inr (subst (λ ws. Contains ws s) (sym pushed) (Contains-append_left waiting (a.source ∷ []) s w.0), w.1) ]
-        | inr e ↦ inr (subst (λ ws. Contains ws s) (sym pushed) (Contains-append_right waiting (a.source ∷ []) s (0, omega arith, e)), source s (inl e))
+        | inr e ↦ inr (subst (λ ws. Contains ws s) (sym pushed) (subst (Contains (waiting ++ a.source ∷ [])) e (Contains-push waiting a.source)), source s (inl e))
       ];
       fewer =
           let fits : a.source < length found = omega (arith, now.count) in

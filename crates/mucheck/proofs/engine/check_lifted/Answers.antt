@@ -1,40 +1,30 @@
-use Rattle.std.proofs.Common.{sym, subst}
 use Rattle.lts.proofs.PassedOn.{passed_on}
 use Rattle.formula.specs.Closed.{closed_formula}
-use Rattle.formula.specs.Meaning.{Marks, Satisfies}
 use Rattle.mucheck.specs.Check.{HasRefused}
-use Rattle.mucheck.proofs.Checks.{spelled_of, report_of, fault_of, gameless_of, ok_before}
+use Rattle.mucheck.proofs.Checks.{report_of, fault_of, gameless_of}
 use Rattle.mucheck.proofs.engine.check_lifted.Goals as goal
+
+pub returns-in_err-texts-clause-refusal : goal.returns-in_err-texts-clause-refusal
+returns-in_err-texts-clause-refusal g c =
+    λ first second known also.
+    passed_on c.from_residual.result c.in_err-texts.field-0.0 (HasRefused first second _ _) c.from_residual.ensures.1 (c.in_err-texts.ensures.refusal first second known also _)
 
 pub returns-in_err-marks-clause-refusal : goal.returns-in_err-marks-clause-refusal
 returns-in_err-marks-clause-refusal g c =
     λ first second known also.
-    let l = c.in_ok-system.system.system in
-    let f = closed_formula c.in_ok-closed.closed in
-    let told = ok_before c.read_aut.result c.in_ok-system.system _ c.in_ok-system.ensures.cases c.read_aut.ensures.spelled in
-    let only = ok_before c.read_aut.result c.in_ok-system.system _ c.in_ok-system.ensures.cases c.read_aut.ensures.only in
-    let spelled = spelled_of first second _ _ l f known also told only c.in_ok-closed.ensures.spelled c.in_ok-closed.ensures.only c.in_ok-closed.closed.admitted in
+    let l = c.in_ok-texts.texts.system.system in
+    let f = closed_formula c.in_ok-texts.texts.formula in
     passed_on c.from_residual-in_err-marks.result c.in_err-marks.field-0.0 (HasRefused first second _ _) c.from_residual-in_err-marks.ensures.1
-    (gameless_of first second _ l f c.in_err-marks.field-0.0 spelled c.in_err-marks.ensures.refusal)
+    (gameless_of first second _ l f c.in_err-marks.field-0.0 (c.in_ok-texts.ensures.spelled first second known also) c.in_err-marks.ensures.refusal)
 
 pub returns-clause-report : goal.returns-clause-report
 returns-clause-report g c =
     λ first second known also.
-    let l = c.in_ok-system.system.system in
-    let f = closed_formula c.in_ok-closed.closed in
-    let told = ok_before c.read_aut.result c.in_ok-system.system _ c.in_ok-system.ensures.cases c.read_aut.ensures.spelled in
-    let only = ok_before c.read_aut.result c.in_ok-system.system _ c.in_ok-system.ensures.cases c.read_aut.ensures.only in
-    let spelled = spelled_of first second _ _ l f known also told only c.in_ok-closed.ensures.spelled c.in_ok-closed.ensures.only c.in_ok-closed.closed.admitted in
-    let exact = subst (λ m. Marks l.states m (Satisfies l f)) (sym c.deref.ensures.value) c.in_ok-marks.ensures.meaning in
-    report_of first second _ _ l f c.deref.result.now c.reported.result spelled exact c.reported.ensures
+    report_of first second _ _ c.in_ok-texts.texts.system.system (closed_formula c.in_ok-texts.texts.formula) c.in_ok-marks.marks.items c.deref.result.now c.reported.result c.deref.ensures.value
+    (c.in_ok-texts.ensures.spelled first second known also) c.in_ok-marks.ensures.meaning c.reported.ensures
 
 pub returns-clause-refusal : goal.returns-clause-refusal
 returns-clause-refusal g c =
     λ first second known also.
-    let l = c.in_ok-system.system.system in
-    let f = closed_formula c.in_ok-closed.closed in
-    let told = ok_before c.read_aut.result c.in_ok-system.system _ c.in_ok-system.ensures.cases c.read_aut.ensures.spelled in
-    let only = ok_before c.read_aut.result c.in_ok-system.system _ c.in_ok-system.ensures.cases c.read_aut.ensures.only in
-    let spelled = spelled_of first second _ _ l f known also told only c.in_ok-closed.ensures.spelled c.in_ok-closed.ensures.only c.in_ok-closed.closed.admitted in
-    let exact = subst (λ m. Marks l.states m (Satisfies l f)) (sym c.deref.ensures.value) c.in_ok-marks.ensures.meaning in
-    fault_of first second _ _ l f c.deref.result.now c.reported.result spelled exact c.reported.ensures
+    fault_of first second _ _ c.in_ok-texts.texts.system.system (closed_formula c.in_ok-texts.texts.formula) c.in_ok-marks.marks.items c.deref.result.now c.reported.result c.deref.ensures.value
+    (c.in_ok-texts.ensures.spelled first second known also) c.in_ok-marks.ensures.meaning c.reported.ensures
