@@ -2,21 +2,11 @@
 // ended; all that matters stands in the engines.
 #![tactic(auto)]
 
-mod command_line;
-mod engine;
-mod error;
-mod lifting;
-mod report;
-mod request;
-mod status;
-#[cfg(test)]
-mod tests;
-
-use crate::command_line::command;
-use crate::engine::{check, check_plain};
-use crate::error::{ArgumentError, MuError};
-use crate::request::{Check, Command};
-use crate::status::status;
+use engines::command_line::command;
+use engines::engine::{check, check_plain};
+use engines::error::{ArgumentError, MuError};
+use engines::request::{Check, Command};
+use engines::status::status;
 use lts::WriteFault;
 use std::alloc::Global;
 use std::fs::File;

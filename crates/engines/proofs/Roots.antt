@@ -1,0 +1,67 @@
+-- The vertices of the states with the root node.
+use Rattle.std.proofs.Common.{◌≡◌, ◌+◌, ◌*◌, ◌<◌, ◌≤◌, ℕ, Bool, false, List, [], ◌∷◌, ◌++◌, length, Some, get_or, refl, sym, ap, ◌∙◌, subst, inl, inr, length-append, arith}
+use Rattle.std.specs.Prelude.{MatchOption, IsTrue, ◌↔◌, option_map}
+use Rattle.std.proofs.Math.Nat.{mul-lt-mul_of_pos_right}
+use Rattle.game.specs.Game.{Game, IsGame}
+use Rattle.game.specs.Arena.{AreNames, arena, place, place_in}
+use Rattle.game.specs.Wins.{Wins}
+use Rattle.std.proofs.Math.ListN.{get_or-append}
+use Rattle.std.proofs.Math.Seq.{get_or-append_seam}
+use Rattle.std.proofs.lemmas.Bool.{cases_order}
+use Rattle.formula.specs.Meaning.{marked, Marks, Satisfies}
+use Rattle.formula.specs.Tree.{Formula}
+use Rattle.formula.specs.Admitted.{IsAdmitted}
+use Rattle.lts.specs.System.{System, IsSystem}
+use Rattle.normal.specs.Nodes.{Node, nodes}
+use Rattle.laws.specs.Laws.{NestedWins}
+use Rattle.engines.specs.Roots.{HasRoots, WinsRoot}
+
+pub root_names : (states s : ℕ) (g : Game) → HasRoots states g → s < states → AreNames g s 0
+root_names states s g (nodes, some, named) h = subst (λ n. MatchOption n ⊥ (λ m. (s < m.0) × (0 < m.1))) (sym named) (h, omega (arith, some))
+
+some_same : (a b : ℕ) → Some a ≡ Some b → a ≡ b
+some_same a b e = cc
+
+-- the vertex of a state with the root node
+pub root_is : (nodes s v : ℕ) (g : Game) (states : ℕ) → g.named ≡ Some (states, nodes) → place_in g s 0 ≡ Some v → place nodes s 0 ≡ v
+root_is nodes s v g states named at = some_same (place nodes s 0) v (sym (ap (option_map (λ n. place n.1 s 0)) named) ∙ at)
+
+pub root_below : (states s v : ℕ) (g : Game) → IsGame g → HasRoots states g → s < states → place_in g s 0 ≡ Some v → v < length g.vertices
+root_below states s v g is (nodes, some, named) h at =
+    let e = root_is nodes s v g states named at in
+    let size = is.named states nodes named in
+    let room : s * nodes < states * nodes = mul-lt-mul_of_pos_right h some in
+    omega (arith, e, size, room)
+
+-- the marks of one state more
+pub marks_more : (n : ℕ) (marks : List Bool) (mark : Bool) (P : ℕ → Type 0) → Marks n marks P → IsTrue mark ↔ P n → Marks (n + 1) (marks ++ mark ∷ []) P
+marks_more n marks mark P m here = record { count = omega (arith, m.count, length-append marks (mark ∷ [])); exact = at }
+  where
+    at : (s : ℕ) → s < n + 1 → marked (marks ++ mark ∷ []) s ↔ P s
+    at s h = elim (cases_order s n) [
+      | inl e ↦ let seam : get_or (marks ++ mark ∷ []) s false ≡ mark = subst (λ k. get_or (marks ++ mark ∷ []) k false ≡ mark) (m.count ∙ sym e) (get_or-append_seam marks mark [] false) in
+          subst (λ b. IsTrue b ↔ P s) (sym seam) (subst (λ k. IsTrue mark ↔ P k) (sym e) here)
+      | inr w ↦ elim w [
+        | inl lt ↦ subst (λ b. IsTrue b ↔ P s) (sym (get_or-append marks (mark ∷ []) false s (omega (arith, m.count, lt)))) (m.exact s lt)
+        | inr gt ↦ absurd (omega (arith, h, gt))
+      ]
+    ]
+
+-- that Even wins a state's vertex with the root node
+pub wins_root : (s v : ℕ) (g : Game) (mark : Bool) → place_in g s 0 ≡ Some v → IsTrue mark ↔ Wins g v → IsTrue mark ↔ WinsRoot g s
+wins_root s v g mark at w = (λ m. (v, at, w.0 m), λ h. w.1 (subst (Wins g) (some_same h.0 v (sym h.1 ∙ at)) h.2))
+
+-- the arena of a system and these nodes has roots
+pub arena_roots : (l : System) (ns : List Node) (g : Game) (n : ℕ) → g ≡ arena l ns → n ≡ l.states → 1 ≤ length ns → HasRoots n g
+arena_roots l ns g n e h some = (length ns, some, ap (λ (x : Game). x.named) e ∙ ap (λ k. Some (k, length ns)) (sym h))
+
+-- The marks of the states whose root vertex Even wins are those of the formula's states.
+pub roots_mean : (l : System) (f : Formula) (g : Game) (marks : List Bool) → NestedWins → IsSystem l → IsAdmitted f → g ≡ arena l (nodes f)
+    → Marks l.states marks (WinsRoot g) → Marks l.states marks (Satisfies l f)
+roots_mean l f g marks wins is admitted e m = record { count = m.count; exact = exact }
+  where
+    exact : (s : ℕ) → s < l.states → marked marks s ↔ Satisfies l f s
+    exact s h =
+        let there = subst (λ x. marked marks s ↔ WinsRoot x s) e (m.exact s h) in
+        let decided = wins l f is admitted s h in
+        (λ mark. (let w = there.0 mark in decided.0 (subst (Wins (arena l (nodes f))) (sym (some_same _ _ w.1)) w.2)), λ x. there.1 (_, refl, decided.1 x))

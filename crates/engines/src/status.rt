@@ -1,0 +1,39 @@
+// The exit status of the program.
+
+ghost use Rattle.std.specs.Prelude.{◌≡◌};
+ghost use Rattle.engines.specs.Status.{error_status as status_of_error, status_of};
+
+use crate::error::MuError;
+use formula::error::FormulaError;
+use game::error::BuildError;
+use lts::error::AutError;
+use normal::error::NormalError;
+
+/// 0 for yes, 1 for no, 2 where the input is at fault, 3 where memory, a file, a read or a write failed.
+pub fn status(answer: &Result<bool, MuError>) -> u8
+    ensures { result ≡ status_of answer.now }
+{
+    match answer {
+        Ok(true) => 0,
+        Ok(false) => 1,
+        Err(error) => error_status(error),
+    }
+}
+
+fn error_status(error: &MuError) -> u8
+    ensures { result ≡ status_of_error error.now }
+{
+    match error {
+        MuError::Arguments(_) => 2,
+        MuError::System(AutError::Fault { fault: _, line: _ }) => 2,
+        MuError::Formula(
+            FormulaError::Fault {
+                fault: _,
+                offset: _,
+            },
+        ) => 2,
+        MuError::Normal(NormalError::TooManyNodes | NormalError::PriorityTooGreat) => 2,
+        MuError::Build(BuildError::TooManyVertices) => 2,
+        _ => 3,
+    }
+}

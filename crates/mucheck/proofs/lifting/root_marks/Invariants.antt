@@ -1,6 +1,0 @@
-use Rattle.formula.specs.Meaning.{Marks}
-use Rattle.mucheck.specs.Roots.{WinsRoot}
-use Rattle.mucheck.proofs.lifting.root_marks.Given as goal
-
-abbrev pub invariant-loop-state : goal.invariant-loop-state
-invariant-loop-state l = Marks l.state l.marks.items (WinsRoot l.game)
