@@ -3,6 +3,7 @@
 
 mod bounds;
 pub mod claim;
+mod jumps;
 pub mod law;
 pub mod measure;
 mod pending;
