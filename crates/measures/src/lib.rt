@@ -3,6 +3,7 @@
 
 mod bounds;
 pub mod claim;
+mod jumps;
 pub mod measure;
 mod pending;
 pub mod progs;

@@ -3,69 +3,8 @@
 ghost use Rattle.std.specs.Prelude.{◌≤◌, vec_len};
 
 use game::graph::Game;
+use search::predecessors::Predecessors;
 use std::alloc::{AllocError, Global};
-
-// For each vertex those that have it among their successors, one vertex after another.
-#[derive(Drop)]
-struct Predecessors {
-    starts: Vec<usize>,
-    vertices: Vec<u32>,
-}
-
-impl Predecessors {
-    fn of(alloc: Global, game: &Game) -> Result<Self, AllocError> {
-        game.known();
-        let mut starts = vec![in alloc; 0; game.vertices() as usize + 1]?;
-        for v in 0..game.vertices() {
-            count_edges(&mut starts, game.successors(v));
-        }
-        let edges = sum_up(&mut starts);
-        let mut vertices = vec![in alloc; 0; edges]?;
-        for v in 0..game.vertices() {
-            place_edges(&mut starts, &mut vertices, v, game.successors(v));
-        }
-        Ok(Predecessors { starts, vertices })
-    }
-
-    fn get(&self, v: u32) -> &[u32] {
-        let v = v as usize;
-        match (self.starts.get(v), self.starts.get(v + 1)) {
-            (Some(start), Some(end)) => self.vertices.get(*start..*end).unwrap_or(&[]),
-            _ => &[],
-        }
-    }
-}
-
-// One edge more for each of these.
-fn count_edges(counts: &mut [usize], successors: &[u32]) {
-    for t in successors {
-        if let Some(count) = counts.get_mut(*t as usize) {
-            *count = count.saturating_add(1);
-        }
-    }
-}
-
-// Turns the number of each vertex's edges into where they end, and tells how many there are in all.
-fn sum_up(counts: &mut [usize]) -> usize {
-    let mut sum: usize = 0;
-    for count in counts.iter_mut() {
-        sum = sum.saturating_add(*count);
-        *count = sum;
-    }
-    sum
-}
-
-// Puts a vertex before the predecessors of each of its successors that stand there already.
-fn place_edges(starts: &mut [usize], vertices: &mut [u32], v: u32, successors: &[u32]) {
-    for t in successors {
-        if let Some(start) = starts.get_mut(*t as usize) {
-            *start = start.saturating_sub(1);
-            if let Some(place) = vertices.get_mut(*start) {
-                *place = v;
-            }
-        }
-    }
-}
 
 // A vertex on a walk's path, and how many of its successors the walk has seen.
 #[derive(Clone, Copy)]
@@ -219,7 +158,7 @@ impl Pending {
     pub(crate) fn of(alloc: Global, game: &Game, climbs: bool) -> Result<Self, AllocError> {
         let predecessors = Predecessors::of(alloc, game)?;
         let list = if climbs {
-            walked(alloc, game, predecessors.vertices.len())?
+            walked(alloc, game, predecessors.edges())?
         } else {
             numbered(alloc, game.vertices())?
         };

@@ -6,6 +6,7 @@ ghost use Rattle.measures.specs.Lifting.{height, sum_of};
 ghost use Rattle.measures.specs.Progress.{IsLeastTable, IsProgress};
 ghost use Rattle.measures.specs.Settling.{Sweeps};
 
+use crate::jumps::jump_ahead;
 use crate::table::{PlainTable, Settled, opening};
 use game::graph::Game;
 use lts::error::Memory;
@@ -83,6 +84,7 @@ pub fn solve_one(alloc: Global, game: &Game) -> Result<Settled, Memory>
     ensures least { IfOk result (λ s. IsLeastTable game.now s.values) }
 {
     let mut table = opening(alloc, game)?;
+    jump_ahead(alloc, game, &mut table);
     settle(game, &mut table);
     Ok(table.into_settled())
 }
