@@ -31,6 +31,17 @@ pub fn repeated(
     Ok(text)
 }
 
+/// A ring whose first step is `a` and whose others are `b`.
+pub fn ring(alloc: Global, states: usize) -> Result<String, AllocError> {
+    let mut text = format!(in alloc; "des (0,{states},{states})\n")?;
+    for state in 0..states {
+        let label = if state == 0 { "a" } else { "b" };
+        let next = if state + 1 < states { state + 1 } else { 0 };
+        write!(text, "({state},\"{label}\",{next})\n")?;
+    }
+    Ok(text)
+}
+
 pub fn system_of(alloc: Global, text: &str) -> Result<Lts, AutError> {
     read_aut(alloc, text.as_bytes())
 }

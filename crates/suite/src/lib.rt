@@ -6,6 +6,8 @@ mod canonical_texts;
 #[cfg(test)]
 mod claims;
 #[cfg(test)]
+mod command_lines;
+#[cfg(test)]
 mod common;
 #[cfg(test)]
 mod formula_texts;
@@ -21,6 +23,8 @@ mod normal_forms;
 mod progress_measures;
 #[cfg(test)]
 mod readers;
+#[cfg(test)]
+mod reports;
 #[cfg(test)]
 mod system_texts;
 #[cfg(test)]

@@ -1,7 +1,7 @@
 // The states at which formulas hold, by sets of states: what each means by Kozen 1983 and, for regular formulas, by the
 // mCRL2 manual, worked out by hand.
 
-use crate::common::{RING, formula_of, repeated, same, system_of};
+use crate::common::{RING, formula_of, repeated, ring, same, system_of};
 use formula::closed::Closed;
 use lts::Lts;
 use meaning::plain::plain_states;
@@ -99,17 +99,6 @@ fn large_formulas_hold_too(rt: HostRuntime) -> Result<(), Fail> {
         );
     }
     Ok(())
-}
-
-// A ring whose first step is `a` and whose others are `b`.
-fn ring(alloc: Global, states: usize) -> Result<String, AllocError> {
-    let mut text = format!(in alloc; "des (0,{states},{states})\n")?;
-    for state in 0..states {
-        let label = if state == 0 { "a" } else { "b" };
-        let next = if state + 1 < states { state + 1 } else { 0 };
-        write!(text, "({state},\"{label}\",{next})\n")?;
-    }
-    Ok(text)
 }
 
 #[test]

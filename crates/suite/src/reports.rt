@@ -1,15 +1,14 @@
-// Checks on small systems, whose answers were worked out by hand, and command lines.
+// Reports and refusals of each engine, on small systems whose answers were worked out by hand (Kozen 1983; the mCRL2 manual on regular formulas).
 
-use crate::command_line::command;
-use crate::engine::{check, check_one, check_plain};
-use crate::error::MuError;
-use crate::request::{BoardKind, Command, Options};
-use crate::status::status;
+use crate::common::{RING, repeated, ring};
+use crate::writers::Narrow;
+use engines::engine::{check, check_one, check_plain};
+use engines::error::MuError;
+use engines::request::{BoardKind, Options};
+use engines::status::status;
 use std::alloc::{AllocError, Global};
 use std::io;
 use std::test::Fail;
-
-const RING: &str = "des (0,2,2)\n(0,\"a\",1)\n(1,\"b\",0)\n";
 
 const LOOP: &str = "des (0,2,2)\n(0,\"a\",1)\n(1,\"b\",1)\n";
 
@@ -190,19 +189,9 @@ fn shown(alloc: Global, answer: Result<bool, MuError>) -> Result<String, AllocEr
     }
 }
 
-/// `part` this often, and then `tail`.
-fn repeated(alloc: Global, part: &str, times: usize, tail: &str) -> Result<String, Fail> {
-    let mut text = String::new(alloc);
-    for _ in 0..times {
-        text.push_str(part)?;
-    }
-    text.push_str(tail)?;
-    Ok(text)
-}
-
 #[test]
 fn passes_refusals_on(rt: HostRuntime) -> Result<(), Fail> {
-    let negations = repeated(rt.alloc(), "!", 257, "true")?;
+    let negations = repeated(rt.alloc(), "", "!", 257, "true")?;
     let rows = [
         ("des (0,2,2)\n(0,\"a\",1)\n", "true", "A5 at line 3"),
         ("des (0,2,2)\n(0,\"a\",1)\n(1,\"b", "true", "A2 at line 3"),
@@ -239,10 +228,10 @@ fn passes_refusals_on(rt: HostRuntime) -> Result<(), Fail> {
 #[test]
 fn refuses_what_is_too_large_for_a_game(rt: HostRuntime) -> Result<(), Fail> {
     let million = "des (0,0,1000000)\n";
-    let diamonds = repeated(rt.alloc(), "<a>", 16, "true")?;
-    let choices = repeated(rt.alloc(), "(a+b).", 9, "(a+b)")?;
+    let diamonds = repeated(rt.alloc(), "", "<a>", 16, "true")?;
+    let choices = repeated(rt.alloc(), "", "(a+b).", 9, "(a+b)")?;
     let nodes = format!(in rt.alloc(); "<c><c><c><c><{choices}>true")?;
-    let binders = repeated(rt.alloc(), "nu X. mu X. ", 16, "true")?;
+    let binders = repeated(rt.alloc(), "", "nu X. mu X. ", 16, "true")?;
     let rows = [
         (million, diamonds.as_str(), "B1"),
         (RING, nodes.as_str(), "N1"),
@@ -277,10 +266,10 @@ fn is_reported_by_all(
 
 #[test]
 fn answers_as_many_nodes_as_may_be(rt: HostRuntime) -> Result<(), Fail> {
-    let choices = repeated(rt.alloc(), "(a+b).", 9, "(a+b)")?;
+    let choices = repeated(rt.alloc(), "", "(a+b).", 9, "(a+b)")?;
     let formula = format!(in rt.alloc(); "<c><c><c><{choices}>true")?;
-    let written = repeated(rt.alloc(), "((a + b) . ", 9, "(a + b)")?;
-    let ends = repeated(rt.alloc(), ")", 9, ">true")?;
+    let written = repeated(rt.alloc(), "", "((a + b) . ", 9, "(a + b)")?;
+    let ends = repeated(rt.alloc(), "", ")", 9, ">true")?;
     let canonical = format!(in rt.alloc(); "<c><c><c><{written}{ends}")?;
     assert!(rt; is_reported_by_all(rt.alloc(), formula.as_str(), canonical.as_str(), "nn")?);
     Ok(())
@@ -288,10 +277,10 @@ fn answers_as_many_nodes_as_may_be(rt: HostRuntime) -> Result<(), Fail> {
 
 #[test]
 fn answers_as_many_binders_as_may_be(rt: HostRuntime) -> Result<(), Fail> {
-    let binders = repeated(rt.alloc(), "nu X. mu X. ", 15, "true")?;
+    let binders = repeated(rt.alloc(), "", "nu X. mu X. ", 15, "true")?;
     let formula = format!(in rt.alloc(); "mu X. {binders}")?;
-    let written = repeated(rt.alloc(), "(nu X. (mu X. ", 15, "true")?;
-    let ends = repeated(rt.alloc(), ")", 31, "")?;
+    let written = repeated(rt.alloc(), "", "(nu X. (mu X. ", 15, "true")?;
+    let ends = repeated(rt.alloc(), "", ")", 31, "")?;
     let canonical = format!(in rt.alloc(); "(mu X. {written}{ends}")?;
     assert!(rt; is_reported_by_all(rt.alloc(), formula.as_str(), canonical.as_str(), "yy")?);
     Ok(())
@@ -299,7 +288,7 @@ fn answers_as_many_binders_as_may_be(rt: HostRuntime) -> Result<(), Fail> {
 
 #[test]
 fn answers_as_many_negations_as_may_be(rt: HostRuntime) -> Result<(), Fail> {
-    let formula = repeated(rt.alloc(), "!", 256, "true")?;
+    let formula = repeated(rt.alloc(), "", "!", 256, "true")?;
     assert!(rt; is_reported_by_all(rt.alloc(), formula.as_str(), formula.as_str(), "yy")?);
     Ok(())
 }
@@ -339,17 +328,6 @@ fn a_million_states_by_a_game(rt: HostRuntime) -> Result<(), Fail> {
     Ok(())
 }
 
-/// States in a ring, of whose transitions the first has the label `a` and all others `b`.
-fn ring(alloc: Global, states: usize) -> Result<String, Fail> {
-    let mut text = format!(in alloc; "des (0,{states},{states})\n")?;
-    for state in 0..states {
-        let label = if state == 0 { 'a' } else { 'b' };
-        let next = (state + 1) % states;
-        write!(text, "({state},\"{label}\",{next})\n")?;
-    }
-    Ok(text)
-}
-
 #[test]
 fn reports_a_ring_of_many_states(rt: HostRuntime) -> Result<(), Fail> {
     let system = ring(rt.alloc(), 2500)?;
@@ -371,117 +349,18 @@ fn reports_a_ring_of_many_states(rt: HostRuntime) -> Result<(), Fail> {
     Ok(())
 }
 
-/// A writer that takes so many bytes and then fails.
-#[derive(Drop)]
-struct Stingy {
-    taken: Vec<u8>,
-    left: usize,
-}
-
-impl io::Write for Stingy {
-    fn write(&mut self, bytes: &[u8]) -> io::Result<usize> {
-        let count = bytes.len().min(self.left);
-        if count == 0 && !bytes.is_empty() {
-            return Err(io::Error::from(io::ErrorKind::StorageFull));
-        }
-        self.taken.extend_from_slice(&bytes[..count])?;
-        self.left -= count;
-        Ok(count)
-    }
-
-    fn flush(&mut self) -> io::Result<()> {
-        Ok(())
-    }
-}
-
 #[test]
 fn a_write_fault_leaves_a_beginning(rt: HostRuntime) -> Result<(), Fail> {
     let want =
         "system 2 states 2 transitions initial 0\nformula <a>true\nyes 1 of 2\ninitial yes\n0 yes\n1 no\n";
     for left in 0..want.len() {
         for engine in ENGINES {
-            let mut out = Stingy {
-                taken: Vec::new(rt.alloc()),
-                left,
-            };
+            let mut out = Narrow::new(rt.alloc(), want.len(), left);
             let answer = run(rt.alloc(), RING, "<a>true", engine, &mut out);
             assert_eq!(rt; status(&answer), 3);
             assert_eq!(rt; shown(rt.alloc(), answer)?.as_str(), "W1", "by {engine:?}");
             assert_eq!(rt; out.taken.as_slice(), &want.as_bytes()[..left]);
         }
-    }
-    Ok(())
-}
-
-#[test]
-fn statuses_are_those_of_the_table(rt: HostRuntime) {
-    assert_eq!(rt; status(&Ok(true)), 0);
-    assert_eq!(rt; status(&Ok(false)), 1);
-    assert_eq!(rt; status(&Err(MuError::File)), 3);
-    assert_eq!(rt; status(&Err(MuError::Memory)), 3);
-}
-
-/// The words of a command line.
-fn words(alloc: Global, line: &str) -> Result<Vec<String>, Fail> {
-    let mut words = Vec::new(alloc);
-    for word in line.split(' ') {
-        words.push(String::from_str(alloc, word)?)?;
-    }
-    Ok(words)
-}
-
-#[test]
-fn takes_command_lines(rt: HostRuntime) -> Result<(), Fail> {
-    let line = words(
-        rt.alloc(),
-        "mucheck check s f --plain --workers 64 --board packed",
-    )?;
-    let Command::Check(request) = command(rt.alloc(), &line)?;
-    assert!(rt; request.system == "s" && request.formula == "f" && request.plain);
-    assert_eq!(rt; request.options.workers, 64);
-    assert!(rt; request.options.board == BoardKind::Packed);
-    let line = words(rt.alloc(), "mucheck check s f")?;
-    let Command::Check(request) = command(rt.alloc(), &line)?;
-    assert!(rt; !request.plain);
-    assert_eq!(rt; request.options.shards, 16);
-    Ok(())
-}
-
-#[test]
-fn refuses_command_lines(rt: HostRuntime) -> Result<(), Fail> {
-    let lines = [
-        "mucheck",
-        "mucheck check s",
-        "mucheck check s f --plain --workers 65",
-        "mucheck check s f --plain --workers 0",
-        "mucheck check s f --workers 2",
-        "mucheck check s f --game g",
-        "mucheck solve g",
-        "mucheck check  f",
-        "mucheck check --help",
-    ];
-    for line in lines {
-        let words = words(rt.alloc(), line)?;
-        match command(rt.alloc(), &words) {
-            Ok(_) => assert!(rt; false, "{line} is taken"),
-            Err(error) => assert!(rt; matches!(&error, MuError::Arguments(_)), "{line}"),
-        }
-    }
-    Ok(())
-}
-
-#[test]
-fn help_shows_what_is_served(rt: HostRuntime) -> Result<(), Fail> {
-    let line = words(rt.alloc(), "mucheck check --help")?;
-    match command(rt.alloc(), &line) {
-        Err(MuError::Arguments(argument)) => {
-            let text = format!(in rt.alloc(); "{argument}")?;
-            for part in ["SYSTEM", "FORMULA", "--plain", "Example:"] {
-                assert!(rt; text.contains(part), "{part}");
-            }
-            assert!(rt; !text.contains("--workers"));
-        }
-        _ => assert!(rt; false, "help is no command"),
     }
     Ok(())
 }
