@@ -3,7 +3,7 @@ use Rattle.std.proofs.Common.{◌≡◌, ℕ, true, false, not, ◌&&◌, List, 
 use Rattle.std.specs.List.{list_all, list_any, AllByRecursion, join_with_byte}
 use Rattle.std.specs.Str.{bytes_eq}
 use Rattle.std.proofs.lemmas.Bool.{ne_eqb, and_parts, true≢false}
-use Rattle.lts.specs.Text.{is_name, is_name_byte, is_letter}
+use Rattle.text.specs.Text.{is_name, is_name_byte, is_letter}
 use Rattle.lts.specs.Label.{is_label, multiset}
 use Rattle.formula.specs.Tree.{Action, Anything, Nothing, Names, Quoted, NotAct, AndAct, OrAct, ImpliesAct, Regular, Step, Then, Either, Star, Plus, Formula, True, False, Var, Not, And, Or, Implies, Dia, Box, Mu, Nu}
 use Rattle.formula.specs.Canon.{infix_text, binder_text, action_text, regular_text, canon}

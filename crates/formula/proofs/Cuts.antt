@@ -7,7 +7,7 @@ use Rattle.std.proofs.Math.Seq.{take-add}
 use Rattle.std.proofs.lemmas.Bool.{and_parts}
 use Rattle.std.proofs.lemmas.List.{append-nil, length-drop, drop-drop, take-append-drop, length-take-le, take_more, length-append, drop_more}
 use Rattle.std.proofs.lemmas.List.Sums.{take_while-cons}
-use Rattle.lts.specs.Text.{is_name_byte, is_letter}
+use Rattle.text.specs.Text.{is_name_byte, is_letter}
 use Rattle.lts.specs.Label.{is_label_byte}
 use Rattle.formula.specs.Token.{Token, Atom, spelling, reserved_words, IsToken, Piece, Blank, Comment, Word, piece_text, piece_ends, begins, token_ends, text_of, Cuts, tokens_of, offsets_from}
 use Rattle.formula.specs.Cutting.{IsFront, IsFirst, IsNamed, IsGap}

@@ -4,7 +4,7 @@ use Rattle.std.proofs.Common.{arith, sym, ◌∙◌, ap, subst, append_assoc, tr
 use Rattle.std.proofs.lemmas.List.{append-nil, map-append, drop_all, drop-drop, length-take-le, take-append-drop}
 use Rattle.std.proofs.lemmas.Bool.{and_parts}
 use Rattle.std.proofs.lemmas.Bool.Decides.{nat_tests}
-use Rattle.lts.specs.Text.{is_letter}
+use Rattle.text.specs.Text.{is_letter}
 use Rattle.formula.specs.Token.{Token, Name, Reserved, ChoiceSign, PlusSign, spelling, IsToken, is_free_name, Piece, Word, text_of, Cuts, tokens_of, offsets_from, is_decided, is_after_postfix, sign_is_decided, is_reserved, begins, token_ends}
 use Rattle.formula.specs.Written.{token_of, words}
 use Rattle.formula.specs.Cutting.{IsFront, IsGap, IsFirst, IsDecidedBy, is_postfix_before, begins_gap, Heads, IsCut, IsLexed}

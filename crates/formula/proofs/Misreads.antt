@@ -1,5 +1,5 @@
 -- Why tokens gave no formula, from why those of its last part gave none.
-use Rattle.std.proofs.Common.{ℕ, suc, length, refl, ◌-◌, ◌≤◌, List, [], ◌∷◌, ◌++◌, take, subst, sym, ap, ◌∙◌, append_assoc, ◌≡◌, Result, Ok, Err, IsErrAnd}
+use Rattle.std.proofs.Common.{ℕ, suc, length, refl, ◌-◌, ◌≤◌, List, [], ◌∷◌, ◌++◌, take, subst, sym, ap, ◌∙◌, append_assoc, ◌≡◌, Result, Ok, Err}
 use Rattle.std.specs.Prelude.{MatchResult}
 use Rattle.formula.specs.Token.{Token}
 use Rattle.formula.specs.Misread.{Within, IsMisread}
@@ -69,11 +69,6 @@ pub too-large-here : (begins stands : Class) (depth inside nested opened : ℕ) 
 too-large-here begins stands depth inside nested opened front token back ts e split is begun on none =
     subst (λ (m : Misread). IsMisread begins stands depth inside ts m) (sym is)
     (record { front = front; token = token; back = back; joined = sym split; place = refl; begun = begun; goes_on = (nested, opened, on); none = none })
-
--- an error that is handed on
-pub handed : {T : Type 0} (P : T → Type 0) (Q : Misread → Type 0) (result : Result T Misread) (e : Misread) → IsErrAnd result (λ x. x ≡ e) → Q e → MatchResult result P Q
-handed P Q (Ok x) e h q = absurd h
-handed P Q (Err x) e h q = subst Q (sym h) q
 
 -- what was built, unless memory was refused
 pub built : {T : Type 0} (B P : T → Type 0) (Q : Misread → Type 0) (result : Result T Misread) → MatchResult result B (λ e. e ≡ misread.Memory) → Q misread.Memory → ((x : T) → B x → P x) → MatchResult result P Q

@@ -1,20 +1,25 @@
 -- What a refusal says of its text.
-use Rattle.std.specs.Prelude.{◌≡◌, ℕ, nat_le, ◌+◌, ◌-◌, ◌<◌, ◌≤◌, ◌⊎◌, List, [], ◌∷◌, ◌++◌, length, map, drop, take, Some, suc, slice_get, IsTrue, Result, Ok, Err, MatchResult}
+use Rattle.std.specs.Prelude.{◌≡◌, ℕ, nat_le, ◌+◌, ◌-◌, ◌<◌, ◌≤◌, ◌⊎◌, List, [], ◌∷◌, ◌++◌, length, map, drop, take, Some, suc, slice_get, IsTrue, Result, Ok, Err, IfOk, IfErr, MatchResult}
 use Rattle.std.proofs.Common.{arith, refl, sym, ◌∙◌, ap, subst, append-nil, append_assoc, length-append, true≢false, inl, inr}
 use Rattle.std.specs.List.{list_any}
 use Rattle.std.proofs.lemmas.Bool.{leb-true, and_parts}
+use Rattle.std.proofs.lemmas.Result.{IfOk-weaker}
+use Rattle.text.specs.Reads.{Reads}
+use Rattle.text.proofs.Promised.{AreLaws, keeps}
 use Rattle.formula.specs.Token.{Token, is_reserved}
 use Rattle.formula.specs.Tree.{Formula}
 use Rattle.formula.specs.Syntax.{Syntax, meant, tokens, nesting, parens, is_within_limits}
 use Rattle.formula.specs.Spells.{IsWritten, Spells, SpellsWithin}
 use Rattle.formula.specs.Admitted.{IsAdmitted}
-use Rattle.formula.specs.Fault.{BeginsWithin, IsTokens, HasFault, operand_faults, variable_faults}
+use Rattle.formula.specs.Fault.{BeginsWithin, IsTokens, HasFaultAt, operand_faults, variable_faults}
 use Rattle.formula.specs.View.{formula_of}
 use Rattle.formula.specs.Written.{words, state_syntax}
 use Rattle.formula.specs.Cutting.{IsLexed, IsTokenRefusal}
 use Rattle.formula.specs.Read.{IsWhole, IsRefusal, IsState, state_tokens, state_row}
 use Rattle.formula.specs.Misread.{BeginsState, StandsState, Within, SpellsTokens, IsStateMisread, IsWholeMisread, IsGrammarRefusal}
-use Rattle.formula.specs.Checked.{IsTreeRefusal, IsTold, NamesOnly, is_variable_fault}
+use Rattle.formula.specs.Checked.{IsTreeRefusal, IsTold, named, is_variable_fault}
+use Rattle.formula.specs.Closed.{closed_formula}
+use Rattle.formula.specs.declared.closed.Closed.{Closed}
 use Rattle.formula.specs.declared.token.Placed.{Placed}
 use Rattle.formula.specs.declared.scope.Misplaced.{Misplaced}
 use Rattle.formula.specs.declared.state.ReadState.{ReadState}
@@ -33,7 +38,7 @@ use Rattle.formula.proofs.StateSpine.{Standing, one-state}
 use Rattle.formula.proofs.StateEnds.{begun-by, same-row}
 use Rattle.formula.proofs.RegularRefusals.{words-length}
 use Rattle.formula.proofs.Sense.{admitted_in}
-use Rattle.formula.proofs.OneText.{no_fault, one_fault}
+use Rattle.formula.proofs.OneText.{one_formula, no_fault, one_fault}
 
 first_is : {A : Type 0} (xs : List A) (x : A) → slice_get xs 0 ≡ Some x → xs ≡ x ∷ drop 1 xs
 first_is [] x e = cc
@@ -257,16 +262,23 @@ meaning-told text placed s (Ok f) short l w m = (spelled-within text placed s (f
 meaning-told text placed s (Err e) short l w (inl m) = subst (IsTold text) (sym m) tt
 meaning-told text placed s (Err e) short l w (inr r) = tree-told text placed s e short l w r
 
--- A refusal that tells the fault of its text refuses no good text for it.
-pub told-complete : (text : List ℕ) (e : FormulaError) → IsTold text e → (f : Formula) → SpellsWithin text f → IsAdmitted f → e ≡ refused.Memory
-told-complete text (refused.Fault fault place) t f s a = absurd (no_fault text f fault place s a t)
-told-complete text refused.Memory t f s a = refl
-
--- and tells no other
-pub told-exact : (text : List ℕ) (e : FormulaError) → IsTold text e → (fault : FormulaFault) (place : ℕ) → HasFault text fault place → NamesOnly fault place e
-told-exact text (refused.Fault named offset) t fault place h = one_fault text named fault offset place t h
-told-exact text refused.Memory t fault place h = tt
-
 -- what is spelled within the limits is spelled
-pub without_limits : (text : List ℕ) (f : Formula) → SpellsWithin text f → Spells text f
+without_limits : (text : List ℕ) (f : Formula) → SpellsWithin text f → Spells text f
 without_limits text f s = record { pieces = s.pieces; syntax = s.syntax; written = s.written; stands_for = s.stands_for }
+
+abbrev IsDue : List ℕ → Formula → Type 0
+IsDue text f = SpellsWithin text f × IsAdmitted f
+
+laws : AreLaws Spells IsDue IsDue HasFaultAt
+laws = record {
+  one_value = λ text f g a b. one_formula text g f b (without_limits text f a.0);
+  no_fault = λ text f told a h. no_fault text f told.0 told.1 a.0 a.1 h;
+  none_due = λ text f told a h. no_fault text f told.0 told.1 a.0 a.1 h;
+  one_fault = λ text f g h k. let e = one_fault text f.0 g.0 f.1 g.1 h k in λ i. (e.0 i, e.1 i);
+}
+
+-- all that the reader promises
+pub promised : (text : List ℕ) (r : Result Closed FormulaError) → IfOk r (λ f. IsDue text (closed_formula f)) → IfErr r (IsTold text) → Reads Spells SpellsWithin IsDue HasFaultAt closed_formula named (Some text) r
+promised text r due told =
+    let k = keeps Spells IsDue IsDue HasFaultAt closed_formula named laws (Some text) r due told in
+    record { spelled = IfOk-weaker r _ _ (λ f d. d.0) due; only = k.only; complete = k.complete; none = k.none; exact = k.exact; fault = k.fault }

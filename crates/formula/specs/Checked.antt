@@ -1,12 +1,12 @@
 -- What a walk over a written formula finds.
-use Rattle.std.specs.Prelude.{◌≡◌, ℕ, ◌+◌, ◌<◌, Bool, true, false, not, List, [], ◌∷◌, Some, Result, MatchResult, slice_get, IsTrue}
+use Rattle.std.specs.Prelude.{◌≡◌, ℕ, ◌+◌, ◌<◌, Bool, true, false, not, List, [], ◌∷◌, Option, Some, None, Result, MatchResult, IfSome, slice_get, IsTrue}
 use Rattle.formula.specs.Admitted.{Scope}
 use Rattle.formula.specs.declared.error.FormulaFault.{FormulaFault}
 use Rattle.formula.specs.declared.error.FormulaFault.TheVariants as fault
 use Rattle.formula.specs.declared.error.FormulaError.{FormulaError}
 use Rattle.formula.specs.declared.error.FormulaError.TheVariants as refused
 use Rattle.formula.specs.Syntax.{Syntax}
-use Rattle.formula.specs.Fault.{HasFault, operand_faults, variable_faults}
+use Rattle.formula.specs.Fault.{HasFaultAt, operand_faults, variable_faults}
 use Rattle.formula.specs.declared.written.Connective.{Connective}
 use Rattle.formula.specs.declared.written.Connective.TheVariants as connective
 use Rattle.formula.specs.declared.scope.Binders.{Binders}
@@ -53,12 +53,11 @@ IsTreeRefusal s places (refused.Fault other offset) =
     (first : ℕ) × (others : List (ℕ × FormulaFault)) × (operand_faults 0 s ≡ []) × (variable_faults [] 0 s ≡ (first, other) ∷ others) × (slice_get places first ≡ Some offset)
 IsTreeRefusal s places refused.Memory = ⊥
 
--- the fault that is named is the one that decides
-abbrev pub IsTold : List ℕ → FormulaError → Type 0
-IsTold text (refused.Fault fault offset) = HasFault text fault offset
-IsTold text refused.Memory = Unit {0}
+-- the fault that an error tells, with its place: none for want of memory
+abbrev pub named : FormulaError → Option (FormulaFault × ℕ)
+named (refused.Fault fault offset) = Some (fault, offset)
+named refused.Memory = None
 
--- the error names this fault and place, if it names one
-abbrev pub NamesOnly : FormulaFault → ℕ → FormulaError → Type 0
-NamesOnly fault place (refused.Fault named offset) = (named ≡ fault) × (offset ≡ place)
-NamesOnly fault place refused.Memory = Unit {0}
+-- the fault that is told, if one is, decides
+abbrev pub IsTold : List ℕ → FormulaError → Type 0
+IsTold text e = IfSome (named e) (HasFaultAt text)

@@ -2,7 +2,7 @@
 use Rattle.std.specs.Prelude.{◌≡◌, ℕ, ◌<◌, ◌≤◌, Bool, false, not, List, [], ◌∷◌, ◌++◌, map, length, take, drop, IsTrue, IsFalse, Option, Some, None, slice_get, ◌==◌, ◌&&◌, ◌||◌, if◌then◌else◌}
 use Rattle.std.specs.List.{list_any}
 use Rattle.std.specs.Str.{bytes_eq}
-use Rattle.lts.specs.Text.{is_name, is_name_byte}
+use Rattle.text.specs.Text.{is_name, is_name_byte}
 use Rattle.formula.specs.Token.{Token, Reserved, Atom, ChoiceSign, PlusSign, spelling, reserved_words, IsToken, Piece, Word, begins, token_ends, text_of, Cuts, tokens_of, offsets_from, is_decided, is_reserved}
 use Rattle.formula.specs.Written.{words}
 use Rattle.formula.specs.Fault.{TokenFault}

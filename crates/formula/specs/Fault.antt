@@ -113,3 +113,7 @@ abbrev pub HasFault : List ℕ → FormulaFault → ℕ → Type 0
 HasFault text fault place =
     ((1048576 < length text) × (fault ≡ TooLarge) × (place ≡ 1048576))
     ⊎ ((length text ≤ 1048576) × (TokenFault text fault place ⊎ (GrammarFault text fault place ⊎ TreeFault text fault place)))
+
+-- the same of the fault with its place
+abbrev pub HasFaultAt : List ℕ → FormulaFault × ℕ → Type 0
+HasFaultAt text told = HasFault text told.0 told.1

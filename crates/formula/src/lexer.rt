@@ -3,7 +3,7 @@
 ghost use Rattle.std.specs.Prelude.{◌≡◌, ℕ, ◌+◌, ◌-◌, ◌<◌, ◌≤◌, Bool, true, false, not, List, [], ◌∷◌, length, take, drop, IsTrue, IsFalse, MatchOption, MatchResult, Option, slice_index, slice_get, if◌then◌else◌, ◌==◌, ◌&&◌, ◌||◌};
 ghost use Rattle.std.specs.List.{take_while, list_any};
 ghost use Rattle.std.specs.Str.{bytes_eq};
-ghost use Rattle.lts.specs.Text.{is_letter as is_letter_of, is_name_byte as is_name_byte_of, is_name};
+ghost use Rattle.text.specs.Text.{is_letter as is_letter_of, is_name_byte as is_name_byte_of};
 ghost use Rattle.lts.specs.Label.{is_label_byte as is_label_byte_of};
 ghost use Rattle.formula.specs.Token.{ChoiceSign, PlusSign, reserved_words, begins};
 ghost use Rattle.formula.specs.Written.{token_of};
@@ -12,21 +12,10 @@ ghost use Rattle.formula.specs.Cutting.{IsGap, IsFirst, IsSingle, IsDouble, IsNa
 use crate::error::{FormulaError, FormulaFault};
 use crate::token::{Placed, Token};
 use std::alloc::Global;
+use text::bytes::{is_letter, is_name_byte};
 
 /// The longest quoted atom, in bytes between its quotes.
 const LONGEST_ATOM: usize = 4096;
-
-fn is_letter(byte: u8) -> bool
-    ensures { result ≡ is_letter_of byte }
-{
-    (byte >= b'A' && byte <= b'Z') || (byte >= b'a' && byte <= b'z') || byte == b'_'
-}
-
-fn is_name_byte(byte: u8) -> bool
-    ensures { result ≡ is_name_byte_of byte }
-{
-    is_letter(byte) || (byte >= b'0' && byte <= b'9')
-}
 
 fn is_label_byte(byte: u8) -> bool
     ensures { result ≡ is_label_byte_of byte }

@@ -1,15 +1,15 @@
 // Reads formulas.
 
-ghost use Rattle.std.specs.Prelude.{◌≡◌, ◌⊎◌, ℕ, ◌<◌, ◌≤◌, List, [], length, map, Some, IfOk, IfErr, MatchResult, slice_get};
+ghost use Rattle.std.specs.Prelude.{◌≡◌, ◌⊎◌, ◌<◌, ◌≤◌, [], length, map, Some, MatchResult, slice_get};
+ghost use Rattle.text.specs.Reads.{Reads};
 ghost use Rattle.formula.specs.Syntax.{meant as meant_by};
 ghost use Rattle.formula.specs.Cutting.{IsLexed};
 ghost use Rattle.formula.specs.Written.{words, state_syntax};
-ghost use Rattle.formula.specs.Tree.{Formula};
-ghost use Rattle.formula.specs.Fault.{HasFault, operand_faults, variable_faults};
+ghost use Rattle.formula.specs.Fault.{HasFaultAt, operand_faults, variable_faults};
 ghost use Rattle.formula.specs.Read.{IsWhole, IsRefusal};
 ghost use Rattle.formula.specs.Misread.{IsWholeMisread, IsGrammarRefusal};
 ghost use Rattle.formula.specs.Admitted.{IsAdmitted};
-ghost use Rattle.formula.specs.Checked.{IsTreeRefusal, IsTold, NamesOnly};
+ghost use Rattle.formula.specs.Checked.{IsTreeRefusal, IsTold, named};
 ghost use Rattle.formula.specs.Spells.{Spells, SpellsWithin};
 ghost use Rattle.formula.specs.Closed.{closed_formula};
 ghost use Rattle.formula.specs.View.{formula_of};
@@ -142,16 +142,11 @@ fn tree(alloc: Global, text: &[u8]) -> Result<State, FormulaError>
 }
 
 /// The formula of a text, in the syntax of mCRL2's mcf without data.
+///
+/// # Errors
+/// The fault that decides. A text without one is refused for want of memory alone.
 pub fn parse(alloc: Global, text: &[u8]) -> Result<Closed, FormulaError>
-    ensures spelled { IfOk result (λ f. SpellsWithin text.now (closed_formula f)) }
-    ensures only { IfOk result (λ f. (other : Formula) → Spells text.now other → other ≡ closed_formula f) }
-    // A text that spells an admitted formula within the limits is refused for want of memory alone.
-    ensures complete { IfErr result (λ e. (f : Formula) → SpellsWithin text.now f → IsAdmitted f → e ≡ FormulaError.Memory) }
-    // A text with a deciding fault is never answered, and no other fault or place is named.
-    ensures none { IfOk result (λ _. (fault : FormulaFault) (place : ℕ) → HasFault text.now fault place → ⊥) }
-    ensures exact { IfErr result (λ e. (fault : FormulaFault) (place : ℕ) → HasFault text.now fault place → NamesOnly fault place e) }
-    // A fault that is named is the one that decides.
-    ensures fault { IfErr result (IsTold text.now) }
+    ensures { Reads Spells SpellsWithin (λ bytes f. SpellsWithin bytes f × IsAdmitted f) HasFaultAt closed_formula named (Some text.now) result }
 {
     Ok(Closed::new(tree(alloc, text)?))
 }

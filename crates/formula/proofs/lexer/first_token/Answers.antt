@@ -1,6 +1,6 @@
 use Rattle.std.proofs.Common.{◌≡◌, ◌∙◌, ℕ, false, List, get_or, sym}
 use Rattle.std.specs.Prelude.{Result, Ok, Err, MatchResult}
-use Rattle.lts.specs.Text.{is_letter}
+use Rattle.text.specs.Text.{is_letter}
 use Rattle.formula.specs.Written.{token_of}
 use Rattle.formula.specs.Cutting.{IsFirst, IsAtomless, BeginsReserved, IsSignless, IsTokenless}
 use Rattle.formula.specs.declared.token.Token.{Token}

@@ -1,7 +1,7 @@
 use Rattle.std.proofs.Common.{◌≡◌, ℕ, true, false, subst, sym, ◌∙◌, take}
 use Rattle.std.specs.List.{list_any}
 use Rattle.std.specs.Str.{bytes_eq}
-use Rattle.lts.specs.Text.{is_name_byte}
+use Rattle.text.specs.Text.{is_name_byte}
 use Rattle.formula.specs.Token.{reserved_words}
 use Rattle.formula.specs.Written.{token_of}
 use Rattle.formula.proofs.Cuts.{named-front, run-of, Run}

@@ -3,7 +3,8 @@ use Rattle.formula.specs.Token.{NotSign, Open}
 use Rattle.formula.specs.Syntax.{reg_tokens}
 use Rattle.formula.specs.Written.{words, token_of, reg_syntax}
 use Rattle.formula.specs.Misread.{IsRegularMisread, ReadsRegular, RegularOf}
-use Rattle.formula.proofs.Misreads.{handed, built, below-room, misread-within as within}
+use Rattle.formula.proofs.Handed.{refused_on}
+use Rattle.formula.proofs.Misreads.{built, below-room, misread-within as within}
 use Rattle.formula.proofs.Regulars.{joined-read, kept-length}
 use Rattle.formula.proofs.RegularPlaces.{place_front, place_not, place_open}
 use Rattle.formula.proofs.RegularRefusals.{negation-empty, negation-deep, negation-many, negation-none, word-unbarred, parens-unbarred, parens-unclosed, not-read, at-row, some_row, may_join, join-deep, join-right}
@@ -11,7 +12,7 @@ use Rattle.formula.proofs.regular.+regular.Goals as goal
 
 pub negated-returns-in_err-inner : goal.negated-returns-in_err-inner
 negated-returns-in_err-inner t c =
-    handed _ _ c.from_residual.result c.in_err-inner.field-0.0 c.from_residual.ensures.1 (within _ _ _ _ _ _ _ _ (NotSign ∷ []) _ _ (place_not _ _) c.in_err-inner.ensures)
+    refused_on _ _ _ _ c.from_residual.ensures.1 (within _ _ _ _ _ _ _ _ (NotSign ∷ []) _ _ (place_not _ _) c.in_err-inner.ensures)
 
 pub negated-returns : goal.negated-returns
 negated-returns t c =
@@ -19,7 +20,7 @@ negated-returns t c =
 
 pub regular-returns-in_err-negation : goal.regular-returns-in_err-negation
 regular-returns-in_err-negation t c =
-    handed _ _ c.from_residual.result c.in_err-negation.field-0.0 c.from_residual.ensures.1 (within _ _ _ _ _ _ _ _ [] _ _ (place_front c.args.level _ _ c.requires.above) c.in_err-negation.ensures)
+    refused_on _ _ _ _ c.from_residual.ensures.1 (within _ _ _ _ _ _ _ _ [] _ _ (place_front c.args.level _ _ c.requires.above) c.in_err-negation.ensures)
 
 pub regular-extended-requires : goal.regular-extended-requires
 regular-extended-requires t c =
@@ -34,12 +35,12 @@ negation-returns-in_default t c =
 
 pub negation-returns-in_err-below-in-NotSign : goal.negation-returns-in_err-below-in-NotSign
 negation-returns-in_err-below-in-NotSign t c =
-    handed _ _ c.from_residual.result c.in_err-below-in-NotSign.field-0.0 c.from_residual.ensures.1 (
+    refused_on _ _ _ _ c.from_residual.ensures.1 (
     negation-deep _ _ c.args.tokens.now c.in-Some.first.now c.in-Some.rest.now _ c.in-Some.ensures.cases.0 (ap token_of c.in-NotSign.is) c.in_err-below-in-NotSign.ensures.0 c.in_err-below-in-NotSign.ensures.1)
 
 pub negation-returns-in_err-inside-in-Open : goal.negation-returns-in_err-inside-in-Open
 negation-returns-in_err-inside-in-Open t c =
-    handed _ _ c.from_residual-in_err-inside-in-Open.result c.in_err-inside-in-Open.field-0.0 c.from_residual-in_err-inside-in-Open.ensures.1 (
+    refused_on _ _ _ _ c.from_residual-in_err-inside-in-Open.ensures.1 (
     negation-many _ _ c.args.tokens.now c.in-Some.first.now c.in-Some.rest.now _ c.in-Some.ensures.cases.0 (ap token_of c.in-Open.is) c.in_err-inside-in-Open.ensures.0 c.in_err-inside-in-Open.ensures.1)
 
 pub negation-returns-in_ok-built-in-Some-word : goal.negation-returns-in_ok-built-in-Some-word
@@ -53,11 +54,11 @@ negation-returns-in-None t c =
 
 pub parens-returns-in_err-inner : goal.parens-returns-in_err-inner
 parens-returns-in_err-inner t c =
-    handed _ _ c.from_residual.result c.in_err-inner.field-0.0 c.from_residual.ensures.1 (within _ _ _ _ _ _ _ _ (Open ∷ []) _ _ (place_open _ _) c.in_err-inner.ensures)
+    refused_on _ _ _ _ c.from_residual.ensures.1 (within _ _ _ _ _ _ _ _ (Open ∷ []) _ _ (place_open _ _) c.in_err-inner.ensures)
 
 pub parens-returns-in_err-rest : goal.parens-returns-in_err-rest
 parens-returns-in_err-rest t c =
-    handed _ _ c.from_residual-in_err-rest.result c.in_err-rest.field-0.0 c.from_residual-in_err-rest.ensures.1 (parens-unclosed _ _ _ c.in_ok-inner.inner _ c.in_ok-inner.ensures c.in_err-rest.ensures)
+    refused_on _ _ _ _ c.from_residual-in_err-rest.ensures.1 (parens-unclosed _ _ _ c.in_ok-inner.inner _ c.in_ok-inner.ensures c.in_err-rest.ensures)
 
 pub parens-returns : goal.parens-returns
 parens-returns t c =
@@ -65,7 +66,7 @@ parens-returns t c =
 
 pub extended-returns-in_err-longer-in-Some : goal.extended-returns-in_err-longer-in-Some
 extended-returns-in_err-longer-in-Some t c =
-    handed _ _ c.from_residual.result c.in_err-longer-in-Some.field-0.0 c.from_residual.ensures.1 c.in_err-longer-in-Some.ensures
+    refused_on _ _ _ _ c.from_residual.ensures.1 c.in_err-longer-in-Some.ensures
 
 pub extended-returns-in_ok-longer-in-Some : goal.extended-returns-in_ok-longer-in-Some
 extended-returns-in_ok-longer-in-Some t c =
@@ -76,14 +77,14 @@ extended-returns-in-None t c = record { eaten = refl; sound = c.requires.left; s
 
 pub joined-returns-in_err-below : goal.joined-returns-in_err-below
 joined-returns-in_err-below t c =
-    handed _ _ c.from_residual.result c.in_err-below.field-0.0 c.from_residual.ensures.1 (
+    refused_on _ _ _ _ c.from_residual.ensures.1 (
     join-deep c.args.sign c.args.level _ _ c.args.left _ _ c.requires.left c.requires.onward c.requires.sign c.requires.first c.in_err-below.ensures.0 c.in_err-below.ensures.1)
 
 pub joined-returns-in_err-right : goal.joined-returns-in_err-right
 joined-returns-in_err-right t c =
     let e = c.in_err-right.field-0.0 in
     let below = below-room (λ level depth inside. IsRegularMisread level depth inside (words c.args.rest.now) e) c.args.room c.in_ok-below.below _ _ c.level.ensures c.in_ok-below.ensures.1 c.in_err-right.ensures in
-    handed _ _ c.from_residual-in_err-right.result e c.from_residual-in_err-right.ensures.1 (
+    refused_on _ _ _ _ c.from_residual-in_err-right.ensures.1 (
     join-right c.args.sign c.args.level _ _ c.args.left _ e c.requires.left c.requires.onward c.requires.sign c.requires.first c.in_ok-below.ensures.0 below)
 
 pub joined-returns : goal.joined-returns

@@ -5,7 +5,8 @@ use Rattle.formula.specs.Syntax.{more_names}
 use Rattle.formula.specs.Written.{words}
 use Rattle.formula.specs.Read.{MatchBar}
 use Rattle.formula.proofs.Regulars.{names-more}
-use Rattle.formula.proofs.Misreads.{handed, built}
+use Rattle.formula.proofs.Handed.{refused_on}
+use Rattle.formula.proofs.Misreads.{built}
 use Rattle.formula.proofs.RegularRefusals.{names-unnamed, names-read}
 use Rattle.formula.proofs.regular.names.Goals as goal
 
@@ -20,7 +21,7 @@ names-preserved c =
 pub returns-in_err-name : goal.returns-in_err-name
 returns-in_err-name c =
     let bar : MatchBar (words (drop c.names.at c.args.tokens.now)) true = rw take_rest at c.names-test.ensures in
-    handed _ _ c.from_residual.result c.in_err-name.field-0.0 c.from_residual.ensures.1
+    refused_on _ _ _ _ c.from_residual.ensures.1
     (names-unnamed _ _ c.args.first.now c.args.tokens.now c.names.at (map (λ name. name.now) c.names.others.items) _ c.names.invariant.1 bar (rw take_rest at c.in_err-name.ensures))
 
 pub returns : goal.returns

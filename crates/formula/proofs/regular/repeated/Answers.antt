@@ -1,17 +1,18 @@
 use Rattle.std.proofs.Common.{refl}
-use Rattle.formula.proofs.Misreads.{handed, built}
+use Rattle.formula.proofs.Handed.{refused_on}
+use Rattle.formula.proofs.Misreads.{built}
 use Rattle.formula.proofs.RegularRefusals.{repeat-deep, repeat-followed, repeated-read}
 use Rattle.formula.proofs.regular.repeated.Goals as goal
 
 pub returns-in_err-below : goal.returns-in_err-below
 returns-in_err-below c =
-    handed _ _ c.from_residual.result c.in_err-below.field-0.0 c.from_residual.ensures.1 (
+    refused_on _ _ _ _ c.from_residual.ensures.1 (
     repeat-deep c.args.repeat c.args.level _ _ c.args.left _ _ c.requires.left c.requires.onward c.requires.sign c.requires.first c.in_err-below.ensures.0 c.in_err-below.ensures.1)
 
 pub returns-in_err-after_repeat : goal.returns-in_err-after_repeat
 returns-in_err-after_repeat c =
     let e = c.in_err-after_repeat.ensures in
-    handed _ _ c.from_residual-in_err-after_repeat.result c.in_err-after_repeat.field-0.0 c.from_residual-in_err-after_repeat.ensures.1 (
+    refused_on _ _ _ _ c.from_residual-in_err-after_repeat.ensures.1 (
     repeat-followed c.args.repeat c.args.level _ _ c.args.left c.args.rest.now _ c.requires.left c.requires.onward c.requires.sign c.requires.first c.in_ok-below.ensures.0 e.0 e.1)
 
 pub returns : goal.returns

@@ -3,7 +3,8 @@ use Rattle.formula.specs.Token.{Name, NotSign, Open}
 use Rattle.formula.specs.Written.{words, token_of, opening, modal, reg_syntax, state_syntax}
 use Rattle.formula.specs.Misread.{IsStateMisread, ReadsState, StateOf}
 use Rattle.formula.specs.declared.room.Room.{Room}
-use Rattle.formula.proofs.Misreads.{handed, built, below-room, misread-within as within}
+use Rattle.formula.proofs.Handed.{refused_on}
+use Rattle.formula.proofs.Misreads.{built, below-room, misread-within as within}
 use Rattle.formula.proofs.StatePlaces.{after-not, in-group, at-front, in-brackets}
 use Rattle.formula.proofs.States.{group-read, not-read, modal-read, bound-read, joined-read, word-read}
 use Rattle.formula.proofs.StateEnds.{binder-unnamed, binder-undotted, group-too-wide}
@@ -12,11 +13,11 @@ use Rattle.formula.proofs.state.+state.Goals as goal
 
 pub group-returns-in_err-inner : goal.group-returns-in_err-inner
 group-returns-in_err-inner t c =
-    handed _ _ c.from_residual.result c.in_err-inner.field-0.0 c.from_residual.ensures.1 (within _ _ _ _ _ _ _ _ (Open ∷ []) _ _ (in-group _ _) c.in_err-inner.ensures)
+    refused_on _ _ _ _ c.from_residual.ensures.1 (within _ _ _ _ _ _ _ _ (Open ∷ []) _ _ (in-group _ _) c.in_err-inner.ensures)
 
 pub group-returns-in_err-rest : goal.group-returns-in_err-rest
 group-returns-in_err-rest t c =
-    handed _ _ c.from_residual-in_err-rest.result c.in_err-rest.field-0.0 c.from_residual-in_err-rest.ensures.1 (parenthesis-unclosed _ _ _ _ _ c.in_ok-inner.ensures c.in_err-rest.ensures)
+    refused_on _ _ _ _ c.from_residual-in_err-rest.ensures.1 (parenthesis-unclosed _ _ _ _ _ c.in_ok-inner.ensures c.in_err-rest.ensures)
 
 pub group-returns : goal.group-returns
 group-returns t c =
@@ -24,7 +25,7 @@ group-returns t c =
 
 pub negated-returns-in_err-inner : goal.negated-returns-in_err-inner
 negated-returns-in_err-inner t c =
-    handed _ _ c.from_residual.result c.in_err-inner.field-0.0 c.from_residual.ensures.1 (within _ _ _ _ _ _ _ _ (NotSign ∷ []) _ _ (after-not _ _) c.in_err-inner.ensures)
+    refused_on _ _ _ _ c.from_residual.ensures.1 (within _ _ _ _ _ _ _ _ (NotSign ∷ []) _ _ (after-not _ _) c.in_err-inner.ensures)
 
 pub negated-returns : goal.negated-returns
 negated-returns t c =
@@ -32,16 +33,16 @@ negated-returns t c =
 
 pub modal-returns-in_err-inside : goal.modal-returns-in_err-inside
 modal-returns-in_err-inside t c =
-    handed _ _ c.from_residual.result c.in_err-inside.field-0.0 c.from_residual.ensures.1 (within _ _ _ _ _ _ _ _ (opening c.args.brackets ∷ []) _ _ (in-brackets c.args.brackets _ _) c.in_err-inside.ensures)
+    refused_on _ _ _ _ c.from_residual.ensures.1 (within _ _ _ _ _ _ _ _ (opening c.args.brackets ∷ []) _ _ (in-brackets c.args.brackets _ _) c.in_err-inside.ensures)
 
 pub modal-returns-in_err-tokens : goal.modal-returns-in_err-tokens
 modal-returns-in_err-tokens t c =
-    handed _ _ c.from_residual-in_err-tokens.result c.in_err-tokens.field-0.0 c.from_residual-in_err-tokens.ensures.1 (
+    refused_on _ _ _ _ c.from_residual-in_err-tokens.ensures.1 (
     modality-unclosed c.args.brackets _ _ _ _ _ c.in_ok-inside.ensures c.in_err-tokens.ensures)
 
 pub modal-returns-in_err-inner : goal.modal-returns-in_err-inner
 modal-returns-in_err-inner t c =
-    handed _ _ c.from_residual-in_err-inner.result c.in_err-inner.field-0.0 c.from_residual-in_err-inner.ensures.1 (
+    refused_on _ _ _ _ c.from_residual-in_err-inner.ensures.1 (
     within-modality c.args.brackets _ _ _ _ _ _ c.in_ok-inside.ensures c.in_ok-tokens.ensures c.in_err-inner.ensures)
 
 pub modal-returns : goal.modal-returns
@@ -55,16 +56,16 @@ modal-returns t c =
 
 pub bound-returns-in_err-name : goal.bound-returns-in_err-name
 bound-returns-in_err-name t c =
-    handed _ _ c.from_residual.result c.in_err-name.field-0.0 c.from_residual.ensures.1 (binder-unnamed c.args.binder _ _ _ _ c.in_err-name.ensures)
+    refused_on _ _ _ _ c.from_residual.ensures.1 (binder-unnamed c.args.binder _ _ _ _ c.in_err-name.ensures)
 
 pub bound-returns-in_err-tokens : goal.bound-returns-in_err-tokens
 bound-returns-in_err-tokens t c =
-    handed _ _ c.from_residual-in_err-tokens.result c.in_err-tokens.field-0.0 c.from_residual-in_err-tokens.ensures.1 (
+    refused_on _ _ _ _ c.from_residual-in_err-tokens.ensures.1 (
     binder-undotted c.args.binder c.in_ok-name.name.now _ _ _ _ _ c.in_ok-name.ensures c.in_err-tokens.ensures)
 
 pub bound-returns-in_err-body : goal.bound-returns-in_err-body
 bound-returns-in_err-body t c =
-    handed _ _ c.from_residual-in_err-body.result c.in_err-body.field-0.0 c.from_residual-in_err-body.ensures.1 (
+    refused_on _ _ _ _ c.from_residual-in_err-body.ensures.1 (
     within-binder c.args.binder c.in_ok-name.name.now _ _ _ _ _ _ c.in_ok-name.ensures c.in_ok-tokens.ensures c.in_err-body.ensures)
 
 pub bound-returns : goal.bound-returns
@@ -74,18 +75,18 @@ bound-returns t c =
 
 pub state-returns-in_err-unary : goal.state-returns-in_err-unary
 state-returns-in_err-unary t c =
-    handed _ _ c.from_residual.result c.in_err-unary.field-0.0 c.from_residual.ensures.1 (within _ _ _ _ _ _ _ _ [] _ _ (at-front c.args.level _ _) c.in_err-unary.ensures)
+    refused_on _ _ _ _ c.from_residual.ensures.1 (within _ _ _ _ _ _ _ _ [] _ _ (at-front c.args.level _ _) c.in_err-unary.ensures)
 
 pub joined-returns-in_err-below : goal.joined-returns-in_err-below
 joined-returns-in_err-below t c =
-    handed _ _ c.from_residual.result c.in_err-below.field-0.0 c.from_residual.ensures.1 (
+    refused_on _ _ _ _ c.from_residual.ensures.1 (
     beyond-sign c.args.sign c.args.level _ _ c.args.left _ _ c.requires.left c.requires.first c.requires.sign c.in_err-below.ensures.0 c.in_err-below.ensures.1)
 
 pub joined-returns-in_err-right : goal.joined-returns-in_err-right
 joined-returns-in_err-right t c =
     let e = c.in_err-right.field-0.0 in
     let below = below-room (λ level depth inside. IsStateMisread level depth inside (words c.args.rest.now) e) c.args.room c.in_ok-below.below _ _ c.level.ensures c.in_ok-below.ensures.1 c.in_err-right.ensures in
-    handed _ _ c.from_residual-in_err-right.result e c.from_residual-in_err-right.ensures.1 (
+    refused_on _ _ _ _ c.from_residual-in_err-right.ensures.1 (
     within-sign c.args.sign c.args.level _ _ c.args.left _ e c.requires.left c.requires.first c.requires.sign c.in_ok-below.ensures.0 below)
 
 pub joined-returns : goal.joined-returns
@@ -99,7 +100,7 @@ joined-returns t c =
 
 pub extended-returns-in_err-longer-in-Some : goal.extended-returns-in_err-longer-in-Some
 extended-returns-in_err-longer-in-Some t c =
-    handed _ _ c.from_residual.result c.in_err-longer-in-Some.field-0.0 c.from_residual.ensures.1 c.in_err-longer-in-Some.ensures
+    refused_on _ _ _ _ c.from_residual.ensures.1 c.in_err-longer-in-Some.ensures
 
 pub extended-returns-in_ok-longer-in-Some : goal.extended-returns-in_ok-longer-in-Some
 extended-returns-in_ok-longer-in-Some t c =
@@ -114,7 +115,7 @@ unary-returns-in_default t c =
 
 pub unary-returns-in_err-below : goal.unary-returns-in_err-below
 unary-returns-in_err-below t c =
-    handed _ _ c.from_residual.result c.in_err-below.field-0.0 c.from_residual.ensures.1 (
+    refused_on _ _ _ _ c.from_residual.ensures.1 (
     beyond-first _ _ _ c.args.tokens.now c.in-Some.first.now c.in-Some.rest.now _ c.in-Some.ensures.cases.0 c.in-Some-prefix_of.ensures c.in_err-below.ensures.1
     (λ back is. prefix-too-deep c.in-Some-prefix_of.prefix _ _ back _ c.in_err-below.ensures.0 is))
 
@@ -126,7 +127,7 @@ unary-returns-in-Some-prefix_of t c =
 
 pub unary-returns-in_err-inside : goal.unary-returns-in_err-inside
 unary-returns-in_err-inside t c =
-    handed _ _ c.from_residual-in_err-inside.result c.in_err-inside.field-0.0 c.from_residual-in_err-inside.ensures.1 (
+    refused_on _ _ _ _ c.from_residual-in_err-inside.ensures.1 (
     beyond-first _ _ _ c.args.tokens.now c.in-Some.first.now c.in-Some.rest.now _ c.in-Some.ensures.cases.0 (ap token_of c.in-Open.is) c.in_err-inside.ensures.1
     (λ back is. let none : c.args.room.parens ≤ 0 = omega (arith, c.in_err-inside.ensures.0) in group-too-wide _ _ back _ none is))
 
