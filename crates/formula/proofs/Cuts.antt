@@ -8,6 +8,7 @@ use Rattle.std.proofs.lemmas.Bool.{and_parts}
 use Rattle.std.proofs.lemmas.List.{append-nil, length-drop, drop-drop, take-append-drop, length-take-le, take_more, length-append, drop_more}
 use Rattle.std.proofs.lemmas.List.Sums.{take_while-cons}
 use Rattle.text.specs.Text.{is_name_byte, is_letter}
+use Rattle.lts.specs.declared.limits.TheConstants.{LONGEST_LABEL}
 use Rattle.lts.specs.Label.{is_label_byte}
 use Rattle.formula.specs.Token.{Token, Atom, spelling, reserved_words, IsToken, Piece, Blank, Comment, Word, piece_text, piece_ends, begins, token_ends, text_of, Cuts, tokens_of, offsets_from}
 use Rattle.formula.specs.Cutting.{IsFront, IsFirst, IsNamed, IsGap}
@@ -91,7 +92,7 @@ named-front (x ∷ xs) (suc n) t some letter run named free = record {
   some = omega arith;
 }
 
-pub atom-front : (text : List ℕ) (n : ℕ) → 0 < length text → get_or text 0 0 ≡ 34 → Run is_label_byte (drop 1 text) n → 0 < n → n ≤ 4096
+pub atom-front : (text : List ℕ) (n : ℕ) → 0 < length text → get_or text 0 0 ≡ 34 → Run is_label_byte (drop 1 text) n → 0 < n → n ≤ LONGEST_LABEL
     → n < length (drop 1 text) → get_or (drop 1 text) n 0 ≡ 34 → IsFirst (Atom (take n (drop 1 text))) (n + 2) text
 atom-front [] n some quote run few many inside closed = absurd (omega arith)
 atom-front (x ∷ xs) n some quote run few many inside closed =
@@ -100,7 +101,7 @@ atom-front (x ∷ xs) n some quote run few many inside closed =
     let bytes : take (n + 2) (x ∷ xs) ≡ spelling (Atom (take n xs))
     = ap (λ k. take k (x ∷ xs)) two ∙ ap (λ t. x ∷ t) (take_more xs n 0 inside ∙ ap (λ b. take n xs ++ b ∷ []) closed) ∙ ap (λ b. b ∷ (take n xs ++ 34 ∷ [])) quote in
     record {
-      front = word-front (Atom (take n xs)) (n + 2) (x ∷ xs) bytes (omega arith) (all_true _ _ (all_true _ _ (le_true 1 (length (take n xs)) (omega arith)) (le_true (length (take n xs)) 4096 (omega arith))) run.passes) refl;
+      front = word-front (Atom (take n xs)) (n + 2) (x ∷ xs) bytes (omega arith) (all_true _ _ (all_true _ _ (le_true 1 (length (take n xs)) (omega arith)) (le_true (length (take n xs)) LONGEST_LABEL (omega arith))) run.passes) refl;
       some = omega arith;
     }
 

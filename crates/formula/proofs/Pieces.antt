@@ -6,6 +6,7 @@ use Rattle.std.specs.Str.{bytes_eq}
 use Rattle.std.proofs.lemmas.Bool.{eqb-true, and_parts, or_cases, not-true, and_from}
 use Rattle.std.proofs.lemmas.Slice.Eq.{bytes_eq-Decides}
 use Rattle.text.specs.Text.{is_name, is_name_byte, is_letter, is_digit}
+use Rattle.lts.specs.declared.limits.TheConstants.{LONGEST_LABEL}
 use Rattle.lts.specs.Label.{is_label_byte}
 use Rattle.formula.specs.Token.{Token, Name, Reserved, Atom, TrueWord, FalseWord, MuWord, NuWord, TauWord, ImpliesSign, OrSign, AndSign, Bar, NotSign, Less, Greater, OpenBox, CloseBox, Open, Close, Dot, ChoiceSign, PlusSign, StarSign, spelling, words, reserved_words, is_free_name, IsToken, Piece, Blank, Comment, Word, piece_text, IsPiece, begins, token_ends, piece_ends, text_of, Cuts, tokens_of, is_after_postfix, sign_is_decided, is_decided}
 
@@ -156,7 +157,7 @@ token_found (Reserved bytes) m h k =
     let p = reserved_word bytes h in
     name_found bytes m p.0 (not-true _ k) ∙ ap (λ t. (Word t, m)) p.1
 token_found (Atom bytes) m h k =
-    let p = and_parts (nat_le 1 (length bytes) && nat_le (length bytes) 4096) (list_all is_label_byte bytes) h in
+    let p = and_parts (nat_le 1 (length bytes) && nat_le (length bytes) LONGEST_LABEL) (list_all is_label_byte bytes) h in
     let free = labels_unquoted bytes p.1 in
     ap (λ text. cut_at (34 ∷ text)) (append_assoc bytes (34 ∷ []) m)
     ∙ (λ i. (Word (Atom (front_is unquoted bytes (34 ∷ m) free refl i)), after_one (rest_is unquoted bytes (34 ∷ m) free refl i)))

@@ -19,6 +19,7 @@ use Rattle.formula.specs.Read.{IsWhole, IsRefusal, IsState, state_tokens, state_
 use Rattle.formula.specs.Misread.{BeginsState, StandsState, Within, SpellsTokens, IsStateMisread, IsWholeMisread, IsGrammarRefusal}
 use Rattle.formula.specs.Checked.{IsTreeRefusal, IsTold, named, is_variable_fault}
 use Rattle.formula.specs.Closed.{closed_formula}
+use Rattle.formula.specs.declared.limits.TheConstants.{LONGEST_TEXT, DEEPEST, MOST_PARENS}
 use Rattle.formula.specs.declared.closed.Closed.{Closed}
 use Rattle.formula.specs.declared.token.Placed.{Placed}
 use Rattle.formula.specs.declared.scope.Misplaced.{Misplaced}
@@ -64,7 +65,7 @@ variable-refused s places found (refused.Fault other offset) none h v r =
 variable-refused s places found refused.Memory none h v r = absurd r
 
 -- a formula that is the tokens stands at their front, and nothing is after it
-whole_in : (ts : List Token) → Parts SpellsTokens (StandsState 3) 256 1024 256 1024 ts ts
+whole_in : (ts : List Token) → Parts SpellsTokens (StandsState 3) DEEPEST MOST_PARENS DEEPEST MOST_PARENS ts ts
 whole_in ts nested opened x = (
   nested,
   opened,
@@ -83,19 +84,19 @@ whole_in ts nested opened x = (
   λ h. h,
 )
 
-whole_place : IsPlace (BeginsState 3) SpellsTokens (BeginsState 3) (StandsState 3) 256 1024 256 1024 []
+whole_place : IsPlace (BeginsState 3) SpellsTokens (BeginsState 3) (StandsState 3) DEEPEST MOST_PARENS DEEPEST MOST_PARENS []
 whole_place = record { outward = λ ts nested opened b. (nested, opened, b, λ h. h, λ h. h); inward = whole_in }
 
 -- where no formula stands at the front, the tokens are none
-pub whole-misread : (ts : List Token) (e : Misread) → IsStateMisread 3 256 1024 ts e → IsWholeMisread ts e
-whole-misread ts e h = misread-within (BeginsState 3) SpellsTokens (BeginsState 3) (StandsState 3) 256 1024 256 1024 [] ts e whole_place h
+pub whole-misread : (ts : List Token) (e : Misread) → IsStateMisread 3 DEEPEST MOST_PARENS ts e → IsWholeMisread ts e
+whole-misread ts e h = misread-within (BeginsState 3) SpellsTokens (BeginsState 3) (StandsState 3) DEEPEST MOST_PARENS DEEPEST MOST_PARENS [] ts e whole_place h
 
 not_over : (back more : List Token) → 0 < length back → [] ≡ take 1 back ++ more → ⊥
 not_over [] more h e = absurd (omega (arith, h))
 not_over (t ∷ back) more h e = absurd (omega (arith, ap length e))
 
 -- After a whole formula a token is left.
-pub left-over : (s : ReadState) (ts : List Token) (e : Misread) → IsState 3 256 1024 s → 3 < state_row (words s.rest.now) → state_tokens s ≡ ts → 0 < length s.rest.now
+pub left-over : (s : ReadState) (ts : List Token) (e : Misread) → IsState 3 DEEPEST MOST_PARENS s → 3 < state_row (words s.rest.now) → state_tokens s ≡ ts → 0 < length s.rest.now
     → e ≡ misread.Unexpected (length s.rest.now) → IsWholeMisread ts e
 left-over s ts e is stops eaten some at =
     let f : Syntax = state_syntax s.syntax.value in
@@ -108,7 +109,7 @@ left-over s ts e is stops eaten some at =
       back = back;
       joined = sym eaten;
       place = refl;
-      begun = begun-by 3 256 1024 f (tokens f) [] is.grammatical is.row (omega arith) is.narrow (sym (append-nil (tokens f)));
+      begun = begun-by 3 DEEPEST MOST_PARENS f (tokens f) [] is.grammatical is.row (omega arith) is.narrow (sym (append-nil (tokens f)));
       none = λ nested opened more stop x.
           let row : state_row (take 1 back ++ more) ≡ state_row back = same-row back more stop in
           let own = any_formula x.syntax in
@@ -119,14 +120,14 @@ left-over s ts e is stops eaten some at =
           not_over back more (omega arith) p.1;
     })
 
-within_limits : (front : List Token) → Within (BeginsState 3) 256 1024 front → BeginsWithin front
+within_limits : (front : List Token) → Within (BeginsState 3) DEEPEST MOST_PARENS front → BeginsWithin front
 within_limits front w =
-    let low : nesting w.it.syntax ≤ 256 = omega (arith, w.it.nests, w.low) in
-    let narrow : parens w.it.syntax ≤ 1024 = omega (arith, w.it.opens, w.narrow) in
+    let low : nesting w.it.syntax ≤ DEEPEST = omega (arith, w.it.nests, w.low) in
+    let narrow : parens w.it.syntax ≤ MOST_PARENS = omega (arith, w.it.opens, w.narrow) in
     (w.it.syntax, w.it.more, w.it.grammatical, all_true _ _ (le_true _ _ low) (le_true _ _ narrow), w.it.spelled)
 
-split_limits : (s : Syntax) → IsTrue (is_within_limits s) → (nesting s ≤ 256) × (parens s ≤ 1024)
-split_limits s h = let o = and_parts (nat_le (nesting s) 256) (nat_le (parens s) 1024) h in (leb-true (nesting s) 256 o.0, leb-true (parens s) 1024 o.1)
+split_limits : (s : Syntax) → IsTrue (is_within_limits s) → (nesting s ≤ DEEPEST) × (parens s ≤ MOST_PARENS)
+split_limits s h = let o = and_parts (nat_le (nesting s) DEEPEST) (nat_le (parens s) MOST_PARENS) h in (leb-true (nesting s) DEEPEST o.0, leb-true (parens s) MOST_PARENS o.1)
 
 first_of : (back : List Token) → 0 < length back → (token : Token) × (others : List Token) × (back ≡ token ∷ others)
 first_of [] h = absurd (omega (arith, h))
@@ -214,7 +215,7 @@ too-large ts places end left (refused.Fault other offset) h r =
     subst (λ (f : FormulaFault). IsGrammarRefusal ts places end (refused.Fault f offset)) (sym r.0) (too_large_at ts places end left offset h r.1)
 too-large ts places end left refused.Memory h r = tt
 
-pub token-told : (text : List ℕ) (e : FormulaError) → length text ≤ 1048576 → IsTokenRefusal text e → IsTold text e
+pub token-told : (text : List ℕ) (e : FormulaError) → length text ≤ LONGEST_TEXT → IsTokenRefusal text e → IsTold text e
 token-told text (refused.Fault f offset) short r = inr (short, inl r)
 token-told text refused.Memory short r = tt
 
@@ -222,7 +223,7 @@ token-told text refused.Memory short r = tt
 lexed_tokens : (text : List ℕ) (placed : List Placed) (l : IsLexed text placed) → IsTokens text l.pieces
 lexed_tokens text placed l = record { joined = l.joined; cut = l.cut; decided = l.decided; free = ap (list_any is_reserved) l.spelled ∙ free_words placed }
 
-pub grammar-told : (text : List ℕ) (placed : List Placed) (e : FormulaError) → length text ≤ 1048576 → IsLexed text placed
+pub grammar-told : (text : List ℕ) (placed : List Placed) (e : FormulaError) → length text ≤ LONGEST_TEXT → IsLexed text placed
     → IsGrammarRefusal (words placed) (map (λ p. p.offset) placed) (length text) e → IsTold text e
 grammar-told text placed (refused.Fault fault.Unexpected offset) short l r =
     inr (short, inr (inl (l.pieces, r.0, r.1, r.2, lexed_tokens text placed l, l.spelled ∙ r.3, r.4, r.5, ap (λ places. slice_get places (length r.0)) l.places ∙ r.6)))
@@ -236,11 +237,11 @@ grammar-told text placed refused.Memory short l r = tt
 pub written-as : (text : List ℕ) (placed : List Placed) (s : Syntax) (l : IsLexed text placed) → IsWhole s (words placed) → IsWritten text l.pieces s
 written-as text placed s l w = record { joined = l.joined; cut = l.cut; decided = l.decided; spelled = l.spelled ∙ sym w.spelled; grammatical = w.grammatical }
 
-pub spelled-within : (text : List ℕ) (placed : List Placed) (s : Syntax) (f : Formula) → length text ≤ 1048576 → IsLexed text placed → IsWhole s (words placed) → meant s ≡ Some f → SpellsWithin text f
+pub spelled-within : (text : List ℕ) (placed : List Placed) (s : Syntax) (f : Formula) → length text ≤ LONGEST_TEXT → IsLexed text placed → IsWhole s (words placed) → meant s ≡ Some f → SpellsWithin text f
 spelled-within text placed s f short l w m =
     record { pieces = l.pieces; syntax = s; written = written-as text placed s l w; stands_for = m; within = w.within; short = short }
 
-pub tree-told : (text : List ℕ) (placed : List Placed) (s : Syntax) (e : FormulaError) → length text ≤ 1048576 → IsLexed text placed → IsWhole s (words placed)
+pub tree-told : (text : List ℕ) (placed : List Placed) (s : Syntax) (e : FormulaError) → length text ≤ LONGEST_TEXT → IsLexed text placed → IsWhole s (words placed)
     → IsTreeRefusal s (map (λ p. p.offset) placed) e → IsTold text e
 tree-told text placed s (refused.Fault fault.NotAnAction offset) short l w r =
     inr (short, inr (inr (l.pieces, s, r.0, r.1, written-as text placed s l w, w.within, r.2, ap (λ places. slice_get places r.0) l.places ∙ r.3)))
@@ -255,7 +256,7 @@ meant-admitted s places (Ok f) none m = (m, admitted_in s [] 0 (formula_of f) no
 meant-admitted s places (Err e) none m = inl m
 
 -- what a written formula means, or its refusal, is the text's
-pub meaning-told : (text : List ℕ) (placed : List Placed) (s : Syntax) (r : Result State FormulaError) → length text ≤ 1048576 → IsLexed text placed → IsWhole s (words placed)
+pub meaning-told : (text : List ℕ) (placed : List Placed) (s : Syntax) (r : Result State FormulaError) → length text ≤ LONGEST_TEXT → IsLexed text placed → IsWhole s (words placed)
     → MatchResult r (λ f. (meant s ≡ Some (formula_of f)) × IsAdmitted (formula_of f)) (λ e. (e ≡ refused.Memory) ⊎ IsTreeRefusal s (map (λ p. p.offset) placed) e)
     → MatchResult r (λ f. SpellsWithin text (formula_of f) × IsAdmitted (formula_of f)) (IsTold text)
 meaning-told text placed s (Ok f) short l w m = (spelled-within text placed s (formula_of f) short l w m.0, m.1)

@@ -4,6 +4,7 @@ use Rattle.std.specs.Prelude.{nat_le, IfSome}
 use Rattle.std.specs.List.{AllByRecursion}
 use Rattle.std.proofs.lemmas.Bool.{leb-true, le-leb, and_parts, and_from}
 use Rattle.lts.specs.Label.{multiset}
+use Rattle.formula.specs.declared.limits.TheConstants.{LONGEST_TEXT, DEEPEST, MOST_PARENS}
 use Rattle.formula.specs.Tree.{Action, Anything, Nothing, Names, Quoted, NotAct, AndAct, OrAct, ImpliesAct, Regular, Step, Then, Either, Star, Plus, Formula, True, False, Var, Not, And, Or, Implies, Dia, Box, Mu, Nu}
 use Rattle.formula.specs.Canon.{canon}
 use Rattle.formula.specs.Token.{Token, Name, ImpliesSign, OrSign, AndSign, Greater, CloseBox, Close, Dot, ChoiceSign, PlusSign, StarSign, is_free_name, IsToken, Piece, Blank, Comment, Word, Cuts, tokens_of}
@@ -242,16 +243,16 @@ spelled_spellable text f a =
 pub canon_spells : (text : List ℕ) (f : Formula) → Spells text f → Spells (canon f) f
 canon_spells text f a = canon_spelled f (spelled_spellable text f a)
 
-pub canon_within : (text : List ℕ) (f : Formula) → SpellsWithin text f → length (canon f) ≤ 1048576 → SpellsWithin (canon f) f
+pub canon_within : (text : List ℕ) (f : Formula) → SpellsWithin text f → length (canon f) ≤ LONGEST_TEXT → SpellsWithin (canon f) f
 canon_within text f a short =
     let s = spelled_spellable text f (record { pieces = a.pieces; syntax = a.syntax; written = a.written; stands_for = a.stands_for }) in
-    let limits = and_parts (nat_le (nesting a.syntax) 256) (nat_le (parens a.syntax) 1024) a.within in
-    let nest : nesting (canon_syntax f) ≤ 256 = omega (arith, same_nesting a.syntax (canon_syntax f) f a.stands_for (formula_again f s), leb-true (nesting a.syntax) 256 limits.0) in
+    let limits = and_parts (nat_le (nesting a.syntax) DEEPEST) (nat_le (parens a.syntax) MOST_PARENS) a.within in
+    let nest : nesting (canon_syntax f) ≤ DEEPEST = omega (arith, same_nesting a.syntax (canon_syntax f) f a.stands_for (formula_again f s), leb-true (nesting a.syntax) DEEPEST limits.0) in
     record {
       pieces = _;
       syntax = canon_syntax f;
       written = canon_is_written f s;
       stands_for = formula_again f s;
-      within = and_from _ _ (le-leb (nesting (canon_syntax f)) 256 nest) (le-leb (parens (canon_syntax f)) 1024 (omega (arith, formula_parens f)));
+      within = and_from _ _ (le-leb (nesting (canon_syntax f)) DEEPEST nest) (le-leb (parens (canon_syntax f)) MOST_PARENS (omega (arith, formula_parens f)));
       short = short;
     }

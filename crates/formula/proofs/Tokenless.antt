@@ -8,6 +8,7 @@ use Rattle.std.proofs.Math.Seq.{get_or-append_seam}
 use Rattle.std.proofs.lemmas.List.{length-append, length-drop, take-append-drop}
 use Rattle.std.proofs.lemmas.List.Sums.{take_while-cons}
 use Rattle.text.specs.Text.{is_name, is_name_byte, is_letter}
+use Rattle.lts.specs.declared.limits.TheConstants.{LONGEST_LABEL}
 use Rattle.lts.specs.Label.{is_label_byte}
 use Rattle.formula.specs.Token.{Token, Name, Reserved, Atom, TrueWord, FalseWord, MuWord, NuWord, TauWord, ImpliesSign, OrSign, AndSign, spelling, reserved_words, IsToken, Blank, Comment, Word, begins, text_of, Cuts, tokens_of, is_reserved}
 use Rattle.formula.specs.Written.{words}
@@ -32,18 +33,18 @@ passing p (x ∷ xs) ys h k =
 -- so many bytes of a quoted atom stand between its quotes
 pub record IsQuoted (n : ℕ) (inside : List ℕ) : Type 0 where
   pub some : 0 < n
-  pub few : n ≤ 4096
+  pub few : n ≤ LONGEST_LABEL
   pub within : n < length inside
   pub closed : get_or inside n 0 ≡ 34
 
 quoted : (bytes rest : List ℕ) → IsToken (Atom bytes) → IsQuoted (length (take_while is_label_byte (bytes ++ 34 ∷ rest))) (bytes ++ 34 ∷ rest)
 quoted bytes rest valid =
-    let p = and_parts (nat_le 1 (length bytes) && nat_le (length bytes) 4096) (list_all is_label_byte bytes) valid in
-    let q = and_parts (nat_le 1 (length bytes)) (nat_le (length bytes) 4096) p.0 in
+    let p = and_parts (nat_le 1 (length bytes) && nat_le (length bytes) LONGEST_LABEL) (list_all is_label_byte bytes) valid in
+    let q = and_parts (nat_le 1 (length bytes)) (nat_le (length bytes) LONGEST_LABEL) p.0 in
     let l = length-append bytes (34 ∷ rest) in
     subst (λ (n : ℕ). IsQuoted n (bytes ++ 34 ∷ rest)) (sym (passing is_label_byte bytes (34 ∷ rest) p.1 refl)) (record {
       some = leb-true 1 (length bytes) q.0;
-      few = leb-true (length bytes) 4096 q.1;
+      few = leb-true (length bytes) LONGEST_LABEL q.1;
       within = omega arith;
       closed = get_or-append_seam bytes 34 rest 0;
     })

@@ -2,6 +2,7 @@
 use Rattle.std.specs.Prelude.{◌≡◌, ◌≢◌, ◌⊎◌, ℕ, ◌+◌, ◌<◌, ◌≤◌, true, List, [], ◌∷◌, ◌++◌, length, if◌then◌else◌, IsTrue, IsFalse, Some, slice_get}
 use Rattle.std.specs.List.{list_any}
 use Rattle.std.specs.Str.{bytes_eq}
+use Rattle.formula.specs.declared.limits.TheConstants.{LONGEST_TEXT}
 use Rattle.formula.specs.Token.{Token, Reserved, Piece, Word, IsPiece, piece_text, piece_ends, Cuts, text_of, tokens_of, offsets_from, is_decided, is_reserved}
 use Rattle.formula.specs.Admitted.{Scope, negated}
 use Rattle.formula.specs.Syntax.{RegSyntax, Parens', Not', And', Or', Implies', Star', Plus', Then', Either', reg_tokens, counts_as_action, Syntax, Var', Group', Neg', Both', OneOf', If', Dia', Box', Mu', Nu', fits, tokens, is_within_limits}
@@ -111,8 +112,8 @@ TreeFault text fault place =
 -- The first of these decides: the text is too long; no token, or a reserved word; the grammar and its limits; an operand; a variable.
 abbrev pub HasFault : List ℕ → FormulaFault → ℕ → Type 0
 HasFault text fault place =
-    ((1048576 < length text) × (fault ≡ TooLarge) × (place ≡ 1048576))
-    ⊎ ((length text ≤ 1048576) × (TokenFault text fault place ⊎ (GrammarFault text fault place ⊎ TreeFault text fault place)))
+    ((LONGEST_TEXT < length text) × (fault ≡ TooLarge) × (place ≡ LONGEST_TEXT))
+    ⊎ ((length text ≤ LONGEST_TEXT) × (TokenFault text fault place ⊎ (GrammarFault text fault place ⊎ TreeFault text fault place)))
 
 -- the same of the fault with its place
 abbrev pub HasFaultAt : List ℕ → FormulaFault × ℕ → Type 0

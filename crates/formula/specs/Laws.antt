@@ -1,5 +1,6 @@
 -- What holds of all texts of formulas.
 use Rattle.std.specs.Prelude.{◌≡◌, ℕ, ◌≤◌, List, length}
+use Rattle.formula.specs.declared.limits.TheConstants.{LONGEST_TEXT}
 use Rattle.formula.specs.Tree.{Formula}
 use Rattle.formula.specs.Canon.{canon}
 use Rattle.formula.specs.Spells.{Spells, SpellsWithin}
@@ -15,9 +16,9 @@ OneFormula = (text : List ℕ) (f g : Formula) → Spells text f → Spells text
 abbrev pub CanonSpells : Type 0
 CanonSpells = (text : List ℕ) (f : Formula) → Spells text f → Spells (canon f) f
 
--- So it is within the limits, where it has at most 1,048,576 bytes: it nests like every text of the formula, and opens no more parentheses.
+-- So it is within the limits, where it is not too long: it nests like every text of the formula, and opens no more parentheses.
 abbrev pub CanonSpellsWithin : Type 0
-CanonSpellsWithin = (text : List ℕ) (f : Formula) → SpellsWithin text f → length (canon f) ≤ 1048576 → SpellsWithin (canon f) f
+CanonSpellsWithin = (text : List ℕ) (f : Formula) → SpellsWithin text f → length (canon f) ≤ LONGEST_TEXT → SpellsWithin (canon f) f
 
 -- A text that spells an admitted formula within the limits has no deciding fault.
 abbrev pub NoFault : Type 0

@@ -1,5 +1,6 @@
 -- Where the reading of tokens ends, and why: which formulas begin with the tokens up to there, and which stand at the front.
 use Rattle.std.specs.Prelude.{◌≡◌, ℕ, ◌<◌, ◌≤◌, true, List, [], ◌∷◌, ◌++◌, length, take, IsTrue, Some, Result, MatchResult, suc, slice_get}
+use Rattle.formula.specs.declared.limits.TheConstants.{DEEPEST, MOST_PARENS}
 use Rattle.formula.specs.Token.{Token, Name}
 use Rattle.formula.specs.Syntax.{RegSyntax, reg_tokens, reg_fits, reg_form, reg_nesting, reg_parens, Syntax, tokens, fits, form, nesting, parens, ends_in_binder}
 use Rattle.formula.specs.Written.{words}
@@ -143,7 +144,7 @@ pub record SpellsTokens (nested opened : ℕ) (ts : List Token) : Type 0 where
 
 -- why the tokens are no formula within the limits
 abbrev pub IsWholeMisread : List Token → Misread → Type 0
-IsWholeMisread ts e = IsMisread (BeginsState 3) SpellsTokens 256 1024 ts e
+IsWholeMisread ts e = IsMisread (BeginsState 3) SpellsTokens DEEPEST MOST_PARENS ts e
 
 -- this token, which had to come next, doesn't
 abbrev pub IsMissing : Token → List Token → Misread → Type 0

@@ -11,11 +11,9 @@ ghost use Rattle.formula.specs.Cutting.{IsGap, IsFirst, IsSingle, IsDouble, IsNa
 
 use crate::error::{FormulaError, FormulaFault};
 use crate::token::{Placed, Token};
+use lts::limits::LONGEST_LABEL;
 use std::alloc::Global;
 use text::bytes::{is_letter, is_name_byte};
-
-/// The longest quoted atom, in bytes between its quotes.
-const LONGEST_ATOM: usize = 4096;
 
 fn is_label_byte(byte: u8) -> bool
     ensures { result ≡ is_label_byte_of byte }
@@ -113,7 +111,7 @@ fn atom(text: &[u8]) -> Result<(Token<'_>, usize), FormulaFault>
 {
     let inside = &text[1..];
     let len = label_len(inside);
-    if len == 0 || len > LONGEST_ATOM || len >= inside.len() || inside[len] != b'"' {
+    if len == 0 || len > LONGEST_LABEL || len >= inside.len() || inside[len] != b'"' {
         return Err(FormulaFault::NoToken);
     }
     Ok((Token::Atom(&inside[..len]), len + 2))

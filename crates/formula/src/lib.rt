@@ -5,6 +5,7 @@ pub mod closed;
 pub mod error;
 pub mod label;
 pub mod law;
+pub mod limits;
 pub mod meaning_law;
 pub mod printer;
 pub mod tree;

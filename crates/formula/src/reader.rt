@@ -17,6 +17,7 @@ ghost use Rattle.formula.specs.View.{formula_of};
 use crate::closed::Closed;
 use crate::error::{FormulaError, FormulaFault};
 use crate::lexer::tokens;
+use crate::limits::{DEEPEST, LONGEST_TEXT, MOST_PARENS};
 use crate::meant;
 use crate::misread::Misread;
 use crate::operands::state_operands;
@@ -27,15 +28,6 @@ use crate::token::Placed;
 use crate::tree::State;
 use crate::written::WrittenState;
 use std::alloc::Global;
-
-/// The longest text of a formula, in bytes.
-pub const LONGEST_TEXT: usize = 1_048_576;
-
-/// How deep a formula may nest.
-pub const DEEPEST: usize = 256;
-
-/// How many parentheses may be open at once.
-pub const MOST_PARENS: usize = 1_024;
 
 /// The formula that the tokens are, as it is written.
 fn written<'a>(alloc: Global, tokens: &'a [Placed<'a>]) -> Result<WrittenState<'a>, Misread>
@@ -117,7 +109,7 @@ fn meaning(
 
 /// The formula of a text that is cut into these tokens.
 fn formula(alloc: Global, text: &[u8], tokens: &[Placed<'_>]) -> Result<State, FormulaError>
-    requires short { length text.now ≤ 1048576 }
+    requires short { length text.now ≤ LONGEST_TEXT }
     requires lexed { IsLexed text.now tokens.now }
     ensures { MatchResult result (λ f. SpellsWithin text.now (formula_of f) × IsAdmitted (formula_of f)) (IsTold text.now) }
 {

@@ -2,12 +2,13 @@ use Rattle.std.proofs.Common.{rules, arith, ◌≡◌, ◌+◌, ◌-◌, ◌<◌
 use Rattle.std.specs.Prelude.{◌⊎◌, ◌≢◌}
 use Rattle.std.specs.List.{take_while}
 use Rattle.std.proofs.lemmas.List.{take_rest}
+use Rattle.lts.specs.declared.limits.TheConstants.{LONGEST_LABEL}
 use Rattle.lts.specs.Label.{is_label_byte}
 use Rattle.formula.specs.Token.{Atom}
 use Rattle.formula.specs.Cutting.{IsFirst}
 use Rattle.formula.proofs.Cuts.{atom-front, run-of, Run}
 use Rattle.formula.proofs.Tokenless.{IsQuoted, atom-stands}
-use Rattle.formula.proofs.lexer.atom.Goals.{then-len-eq0-via-then-len-eq0, then-len-eq0-via-else-len-eq0+then-len-gt-LONGEST_ATOM, then-len-eq0-via-else-len-eq0+else-len-gt-LONGEST_ATOM+then-len-inside, then-len-eq0-via-else-len-eq0+else-len-gt-LONGEST_ATOM+else-len-inside+then-inside-len-ne34}
+use Rattle.formula.proofs.lexer.atom.Goals.{then-len-eq0-via-then-len-eq0, then-len-eq0-via-else-len-eq0+then-len-gt-LONGEST_LABEL, then-len-eq0-via-else-len-eq0+else-len-gt-LONGEST_LABEL+then-len-inside, then-len-eq0-via-else-len-eq0+else-len-gt-LONGEST_LABEL+else-len-inside+then-inside-len-ne34}
 use Rattle.formula.proofs.lexer.atom.Goals as goal
 
 pub returns : goal.returns
@@ -24,9 +25,9 @@ returns c =
     subst P (sym e) (atom-front text n c.requires.some c.requires.quoted run (omega arith) (omega arith) inside closed)
 
 -- the bytes that fail one of the tests are no quoted atom
-unquoted : (n : ℕ) (inside : List ℕ) → IsQuoted n inside → (n ≡ 0) ⊎ ((4096 < n) ⊎ ((length inside ≤ n) ⊎ (get_or inside n 0 ≢ 34))) → ⊥
+unquoted : (n : ℕ) (inside : List ℕ) → IsQuoted n inside → (n ≡ 0) ⊎ ((LONGEST_LABEL < n) ⊎ ((length inside ≤ n) ⊎ (get_or inside n 0 ≢ 34))) → ⊥
 unquoted n inside q (inl a) = let h : 0 < n = q.some in omega arith
-unquoted n inside q (inr (inl a)) = let h : n ≤ 4096 = q.few in omega arith
+unquoted n inside q (inr (inl a)) = let h : n ≤ LONGEST_LABEL = q.few in omega arith
 unquoted n inside q (inr (inr (inl a))) = let h : n < length inside = q.within in omega arith
 unquoted n inside q (inr (inr (inr a))) = a q.closed
 
@@ -42,8 +43,8 @@ returns-then-len-eq0 c = (
       let q : IsQuoted n inside = subst (λ (k : ℕ). IsQuoted k inside) (sym c.label_len-len.ensures) there in
       unquoted n inside q (elim c.then-len-eq0.branch [
         | then-len-eq0-via-then-len-eq0 w ↦ inl w.if-len-eq0.true
-        | then-len-eq0-via-else-len-eq0+then-len-gt-LONGEST_ATOM w ↦ inr (inl w.if-len-gt-LONGEST_ATOM.true)
-        | then-len-eq0-via-else-len-eq0+else-len-gt-LONGEST_ATOM+then-len-inside w ↦ inr (inr (inl w.if-len-inside.true))
-        | then-len-eq0-via-else-len-eq0+else-len-gt-LONGEST_ATOM+else-len-inside+then-inside-len-ne34 w ↦ inr (inr (inr w.if-inside-len-ne34.true))
+        | then-len-eq0-via-else-len-eq0+then-len-gt-LONGEST_LABEL w ↦ inr (inl w.if-len-gt-LONGEST_LABEL.true)
+        | then-len-eq0-via-else-len-eq0+else-len-gt-LONGEST_LABEL+then-len-inside w ↦ inr (inr (inl w.if-len-inside.true))
+        | then-len-eq0-via-else-len-eq0+else-len-gt-LONGEST_LABEL+else-len-inside+then-inside-len-ne34 w ↦ inr (inr (inr w.if-inside-len-ne34.true))
       ]),
 )
