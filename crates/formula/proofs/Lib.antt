@@ -24,7 +24,6 @@ pub mod Ascending
 pub mod Canonical
 pub mod CanonicalText
 pub mod Spellable
-pub mod Printing
 pub mod Grown
 pub mod Decided
 pub mod Binders

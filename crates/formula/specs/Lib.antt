@@ -1,9 +1,9 @@
-pub mod Tree
-pub mod View
-pub mod Holds
+pub use Rattle.trees.specs.Tree
+pub use Rattle.trees.specs.View
+pub use Rattle.trees.specs.Holds
+pub use Rattle.trees.specs.Canon
 pub mod Meaning
 pub mod Admitted
-pub mod Canon
 pub mod Token
 pub mod Syntax
 pub mod Spells

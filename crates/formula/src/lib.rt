@@ -3,15 +3,13 @@
 
 pub mod closed;
 pub mod error;
-pub mod label;
 pub mod law;
 pub mod limits;
 pub mod meaning_law;
 pub mod printer;
-pub mod tree;
 
-pub use label::holds;
 pub use printer::print;
+pub use trees::{holds, label, tree};
 
 mod lexer;
 mod meant;

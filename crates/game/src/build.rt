@@ -14,12 +14,12 @@ ghost use Rattle.game.specs.Refused.{HasRefusal};
 use crate::error::BuildError;
 use crate::graph::{Game, GameBuilder, MOST_VERTICES};
 use crate::player::Player;
-use formula::label::holds;
-use formula::tree::Act;
 use lts::system::{Lts, Transition};
 use normal::form::Normal;
 use normal::node::{Kind, Node};
 use std::alloc::{AllocError, Global};
+use trees::holds;
+use trees::tree::Act;
 
 // For each label whether the action formula holds of it.
 fn set_of(alloc: Global, lts: &Lts, action: &Act) -> Result<Vec<bool>, AllocError>

@@ -13,10 +13,10 @@ use crate::regular::leading;
 use crate::scope::Scope;
 use crate::sets::{all, complement, intersection, union};
 use formula::closed::Closed;
-use formula::tree::State;
 use lts::error::Memory;
 use lts::system::Lts;
 use std::alloc::{AllocError, Global};
+use trees::tree::State;
 
 /// The set of a variable, none if the scope has none.
 fn set_of(

@@ -4,7 +4,7 @@ ghost use Rattle.std.specs.Prelude.{◌≡◌, ◌<◌, ◌≤◌, MatchOption};
 ghost use Rattle.formula.specs.View.{regular_of, formula_of};
 ghost use Rattle.normal.specs.Tree.{count as count_of, modal_count as modal_count_of};
 
-use formula::tree::{Reg, State};
+use trees::tree::{Reg, State};
 
 /// How many nodes a normal form has at most.
 pub const MOST_NODES: usize = 4096;

@@ -1,6 +1,6 @@
 // The nodes of a normal form.
 
-use formula::tree::Act;
+use trees::tree::Act;
 
 /// What a node is, with its children's numbers, or for a variable the number of its binder.
 #[derive(Drop)]

@@ -2,7 +2,7 @@
 
 ghost use Rattle.std.specs.Prelude.{◌≡◌};
 
-use formula::tree::{Reg, State};
+use trees::tree::{Reg, State};
 
 /// The binders around a place, the innermost first, with the numbers of their nodes.
 #[derive(Clone, Copy)]

@@ -11,8 +11,8 @@ ghost use Rattle.normal.specs.Writes.{Writes};
 use crate::action::copied;
 use crate::node::{Kind, Node};
 use crate::part::{Part, Scope, binder_of};
-use formula::tree::{Act, Reg, State};
 use std::alloc::{AllocError, Global};
+use trees::tree::{Act, Reg, State};
 
 /// What is known of a part whose nodes are written.
 #[derive(Clone, Copy)]
