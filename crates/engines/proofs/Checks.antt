@@ -1,11 +1,10 @@
 -- What a check has found out.
-use Rattle.std.proofs.Common.{◌≡◌, ℕ, List, Bool, false, Some, Ok, Err, refl, subst, sym, slice_index_or}
+use Rattle.std.proofs.Common.{◌≡◌, ℕ, List, Bool, false, Some, Ok, Err, subst, sym, slice_index_or}
 use Rattle.std.proofs.KnownBytes.{Keeps-refl}
 use Rattle.std.specs.Prelude.{IfSome, IfOk, IfErr, IsErrAnd, MatchResult, Option, Result}
 use Rattle.std.proofs.lemmas.Result.{IfOk-weaker}
 use Rattle.lts.specs.System.{System}
 use Rattle.lts.specs.Wrote.{WroteFront}
-use Rattle.lts.specs.declared.write_loop.WriteFault.{WriteFault}
 use Rattle.lts.specs.Aut.{IsAut}
 use Rattle.formula.specs.Tree.{Formula}
 use Rattle.formula.specs.Spells.{Spells}
@@ -40,29 +39,29 @@ report_of first second old new l f found marks (Ok answer) same spelled exact h 
     record { l = l; f = f; marks = marks; spelled = spelled; exact = subst (λ m. Marks l.states m (Satisfies l f)) (sym same) exact; reported = h.0; answered = h.1 }
 report_of first second old new l f found marks (Err e) same spelled exact h = tt
 
--- a report is refused for a write fault alone
-written_of : (old new : Option (List ℕ)) (text : List ℕ) (answer : Bool) (e : MuError) → Reported old new text answer (Err e) → (w : WriteFault) × (e ≡ error.Write w) × WroteFront old new text
-written_of old new text answer (error.Write w) h = (w, refl, h)
-written_of old new text answer (error.Arguments e) h = absurd h
-written_of old new text answer error.File h = absurd h
-written_of old new text answer error.Read h = absurd h
-written_of old new text answer error.Memory h = absurd h
-written_of old new text answer (error.System e) h = absurd h
-written_of old new text answer (error.Formula e) h = absurd h
-written_of old new text answer (error.Normal e) h = absurd h
-written_of old new text answer (error.Build e) h = absurd h
+-- A report is refused for a write fault alone.
+on_write : (old new : Option (List ℕ)) (text : List ℕ) (answer : Bool) (P : MuError → Type 0) (e : MuError) → Reported old new text answer (Err e) → ((w : _) → WroteFront old new text → P (error.Write w)) → P e
+on_write old new text answer P (error.Write w) h f = f w h
+on_write old new text answer P (error.Arguments e) h f = absurd h
+on_write old new text answer P error.File h f = absurd h
+on_write old new text answer P error.Read h f = absurd h
+on_write old new text answer P error.Memory h f = absurd h
+on_write old new text answer P (error.System e) h f = absurd h
+on_write old new text answer P (error.Formula e) h f = absurd h
+on_write old new text answer P (error.Normal e) h f = absurd h
+on_write old new text answer P (error.Build e) h f = absurd h
 
 pub fault_of : (first second : List ℕ) (old new : Option (List ℕ)) (l : System) (f : Formula) (found marks : List Bool) (r : Result Bool MuError) → marks ≡ found → AreSpelled first second l f
     → Marks l.states found (Satisfies l f) → Reported old new (report l f marks) (slice_index_or marks l.initial false) r → IfErr r (HasRefused first second old new)
 fault_of first second old new l f found marks (Ok answer) same spelled exact h = tt
 fault_of first second old new l f found marks (Err e) same spelled exact h =
-    let w = written_of old new (report l f marks) (slice_index_or marks l.initial false) e h in
-    subst (HasRefused first second old new) (sym w.1)
-    (record { l = l; f = f; marks = marks; spelled = spelled; exact = subst (λ m. Marks l.states m (Satisfies l f)) (sym same) exact; begun = w.2 })
+    let exact_here = subst (λ m. Marks l.states m (Satisfies l f)) (sym same) exact in
+    on_write old new (report l f marks) (slice_index_or marks l.initial false) (HasRefused first second old new) e h
+    (λ w begun. record { l = l; f = f; marks = marks; spelled = spelled; exact = exact_here; begun = begun })
 
 pub plain_of : (old new : Option (List ℕ)) (text : List ℕ) (answer : Bool) (r : Result Bool MuError) → Reported old new text answer r → IfErr r IsPlain
 plain_of old new text answer (Ok marked) h = tt
-plain_of old new text answer (Err e) h = subst IsPlain (sym (written_of old new text answer e h).1) tt
+plain_of old new text answer (Err e) h = on_write old new text answer IsPlain e h (λ w begun. tt)
 
 -- The refusal of a formula's text comes where the first text spells a system.
 pub unread_of : (first second : List ℕ) (here : Option (List ℕ)) (e : MuError) → SpellsSystem first → IsReadRefusal second e → HasRefused first second here here e

@@ -5,6 +5,7 @@ ghost use Rattle.engines.specs.Command.{IsComplete};
 
 use crate::error::{ArgumentError, MuError};
 use crate::request::{BoardKind, Check, Command, Options};
+use clap::builder::ValueParser;
 use clap::error::ErrorKind;
 use clap::{Arg, ArgAction, ArgMatches, Command as Parser, Error as ClapError};
 use std::alloc::{AllocError, Global};
@@ -98,9 +99,12 @@ fn file<'a>(alloc: Global, id: &'a str, help: &'a str) -> Arg<'a> {
 /// Workers, shards and board have no effect on what is served today, so the help leaves them out.
 fn with_options<'a>(alloc: Global, parser: Parser<'a>) -> Result<Parser<'a>, AllocError> {
     let parser = with_plain(alloc, parser)?;
-    let parser = with_number(alloc, parser, WORKERS, "1 to 64", 64)?;
-    let parser = with_number(alloc, parser, SHARDS, "1 to 256", 256)?;
-    with_board(alloc, parser)
+    let workers = clap::value_parser!(u32).range(1..=64);
+    let parser = with_hidden(alloc, parser, WORKERS, "1 to 64", workers)?;
+    let shards = clap::value_parser!(u32).range(1..=256);
+    let parser = with_hidden(alloc, parser, SHARDS, "1 to 256", shards)?;
+    let boards = ValueParser::from(BOARDS.as_slice());
+    with_hidden(alloc, parser, BOARD, "kind", boards)
 }
 
 fn with_plain<'a>(alloc: Global, parser: Parser<'a>) -> Result<Parser<'a>, AllocError> {
@@ -112,23 +116,17 @@ fn with_plain<'a>(alloc: Global, parser: Parser<'a>) -> Result<Parser<'a>, Alloc
     )
 }
 
-fn with_number<'a>(
+fn with_hidden<'a>(
     alloc: Global,
     parser: Parser<'a>,
     name: &'a str,
     value: &'a str,
-    most: i64,
+    values: ValueParser<'a>,
 ) -> Result<Parser<'a>, AllocError> {
-    let option = plain_option(alloc, name, value)?;
-    parser.arg(option.value_parser(clap::value_parser!(u32).range(1..=most)))
+    parser.arg(plain_option(alloc, name, value)?.value_parser(values))
 }
 
-fn with_board<'a>(alloc: Global, parser: Parser<'a>) -> Result<Parser<'a>, AllocError> {
-    let option = plain_option(alloc, BOARD, "kind")?;
-    parser.arg(option.value_parser(BOARDS.as_slice()))
-}
-
-/// An option that has a value and goes with `--plain` alone.
+/// An option that has a value, goes with `--plain` alone and is hidden from the help.
 fn plain_option<'a>(alloc: Global, name: &'a str, value: &'a str) -> Result<Arg<'a>, AllocError> {
     Arg::new(alloc, name)
         .long(name)

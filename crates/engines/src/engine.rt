@@ -48,9 +48,22 @@ pub fn check_plain<R: Read + Drop, S: Read + Drop, W: Write>(
         → IfErr result (HasRefused first second (W.contents out.old) (W.contents out.new)) }
     ensures plain { IfErr result IsPlain }
 {
-    let texts = read_both(alloc, aut, formula)?;
-    let marks = plain_marks(alloc, &texts)?;
-    reported(&texts, &marks, out)
+    match read_both(alloc, aut, formula) {
+        Ok(texts) => report_plain(alloc, &texts, out),
+        Err(error) => Err(error),
+    }
+}
+
+/// Reports what `plain_marks` finds.
+fn report_plain<W: Write>(alloc: Global, texts: &Texts, out: &mut W) -> Result<bool, MuError>
+    ensures report { (first second : List ℕ) → AreSpelled first second texts.now.system.system (closed_formula texts.now.formula)
+        → IfOk result (HasReported first second (W.contents out.old) (W.contents out.new)) }
+    ensures refusal { (first second : List ℕ) → AreSpelled first second texts.now.system.system (closed_formula texts.now.formula)
+        → IfErr result (HasRefused first second (W.contents out.old) (W.contents out.new)) }
+    ensures plain { IfErr result IsPlain }
+{
+    let marks = plain_marks(alloc, texts)?;
+    reported(texts, &marks, out)
 }
 
 /// A mark for each state, true where it satisfies the formula, by sets of states.
@@ -126,9 +139,21 @@ fn check_lifted<R: Read + Drop, S: Read + Drop, W: Write>(
     ensures refusal { (first second : List ℕ) → R.remaining aut ≡ Some first → S.remaining formula ≡ Some second
         → IfErr result (HasRefused first second (W.contents out.old) (W.contents out.new)) }
 {
-    let texts = read_both(alloc, aut, formula)?;
+    match read_both(alloc, aut, formula) {
+        Ok(texts) => report_lifted(alloc, &texts, out),
+        Err(error) => Err(error),
+    }
+}
+
+/// Reports what `lifted_states` finds.
+fn report_lifted<W: Write>(alloc: Global, texts: &Texts, out: &mut W) -> Result<bool, MuError>
+    ensures report { (first second : List ℕ) → AreSpelled first second texts.now.system.system (closed_formula texts.now.formula)
+        → IfOk result (HasReported first second (W.contents out.old) (W.contents out.new)) }
+    ensures refusal { (first second : List ℕ) → AreSpelled first second texts.now.system.system (closed_formula texts.now.formula)
+        → IfErr result (HasRefused first second (W.contents out.old) (W.contents out.new)) }
+{
     let marks = lifted_states(alloc, &texts.system, &texts.formula)?;
-    reported(&texts, &marks, out)
+    reported(texts, &marks, out)
 }
 
 /// Writes the report, and answers the initial state's mark.

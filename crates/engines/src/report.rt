@@ -1,6 +1,6 @@
 // The report of a check.
 
-ghost use Rattle.std.specs.Prelude.{◌≡◌, ◌++◌, length, count_by, codes, decimal, List, ℕ};
+ghost use Rattle.std.specs.Prelude.{◌≡◌, ◌++◌, length, count_by, decimal, slice_index_or, false};
 ghost use Rattle.lts.specs.Wrote.{Wrote};
 ghost use Rattle.formula.specs.Closed.{closed_formula};
 ghost use Rattle.engines.specs.Report.{report, system_line, formula_line, yes_line, initial_line, state_lines, yes_or_no};
@@ -8,7 +8,7 @@ ghost use Rattle.engines.specs.Report.{report, system_line, formula_line, yes_li
 use formula::closed::Closed;
 use formula::print;
 use lts::system::Lts;
-use lts::{WriteFault, put, put_number};
+use lts::{Piece, WriteFault, put, put_pieces};
 use std::io::Write;
 
 /// Writes the report: what was read, how many states satisfy the formula, whether the initial one does, and a line for
@@ -23,28 +23,29 @@ pub fn write_report<W: Write>(
     ensures { Wrote (W.contents out.old) (W.contents out.new) result
         (report lts.now.system (closed_formula formula.now) marks.now) }
 {
-    let states = lts.states();
-    let initial = lts.initial();
-    write_system_line(states, lts.transitions(), initial, out)?;
+    write_system_line(lts, out)?;
     write_formula_line(formula, out)?;
-    write_yes_line(marked(marks), states, out)?;
-    write_initial_line(marks[initial as usize], out)?;
+    write_yes_line(lts, marks, out)?;
+    write_initial_line(lts, marks, out)?;
     write_state_lines(marks, out)
 }
 
-fn write_system_line<W: Write>(
-    states: u32,
-    transitions: usize,
-    initial: u32,
-    out: &mut W,
-) -> Result<(), WriteFault>
+fn write_system_line<W: Write>(lts: &Lts, out: &mut W) -> Result<(), WriteFault>
     ensures { Wrote (W.contents out.old) (W.contents out.new) result
-        (system_line states transitions initial) }
+        (system_line lts.now.system.states (length lts.now.system.arrows) lts.now.system.initial) }
 {
-    put_number(out, b"system ", states)?;
-    put_number(out, b" states ", transitions)?;
-    put_number(out, b" transitions initial ", initial)?;
-    put(out, b"\n")
+    put_pieces(
+        out,
+        &[
+            Piece::Bytes(b"system "),
+            Piece::Number(u64::from(lts.states())),
+            Piece::Bytes(b" states "),
+            Piece::Number(lts.transitions() as u64),
+            Piece::Bytes(b" transitions initial "),
+            Piece::Number(u64::from(lts.initial())),
+            Piece::Bytes(b"\n"),
+        ],
+    )
 }
 
 fn write_formula_line<W: Write>(formula: &Closed, out: &mut W) -> Result<(), WriteFault>
@@ -56,29 +57,50 @@ fn write_formula_line<W: Write>(formula: &Closed, out: &mut W) -> Result<(), Wri
     put(out, b"\n")
 }
 
-fn write_yes_line<W: Write>(yes: usize, states: u32, out: &mut W) -> Result<(), WriteFault>
-    ensures { Wrote (W.contents out.old) (W.contents out.new) result (yes_line yes states) }
+fn write_yes_line<W: Write>(lts: &Lts, marks: &[bool], out: &mut W) -> Result<(), WriteFault>
+    ensures { Wrote (W.contents out.old) (W.contents out.new) result
+        (yes_line (count_by (λ mark. mark) marks.now) lts.now.system.states) }
 {
-    put_number(out, b"yes ", yes)?;
-    put_number(out, b" of ", states)?;
-    put(out, b"\n")
+    put_pieces(
+        out,
+        &[
+            Piece::Bytes(b"yes "),
+            Piece::Number(marked(marks) as u64),
+            Piece::Bytes(b" of "),
+            Piece::Number(u64::from(lts.states())),
+            Piece::Bytes(b"\n"),
+        ],
+    )
 }
 
-fn write_initial_line<W: Write>(mark: bool, out: &mut W) -> Result<(), WriteFault>
-    ensures { Wrote (W.contents out.old) (W.contents out.new) result (initial_line mark) }
+fn write_initial_line<W: Write>(lts: &Lts, marks: &[bool], out: &mut W) -> Result<(), WriteFault>
+    requires { length marks.now ≡ lts.now.system.states }
+    ensures { Wrote (W.contents out.old) (W.contents out.new) result
+        (initial_line (slice_index_or marks.now lts.now.system.initial false)) }
 {
-    put(out, b"initial")?;
-    put(out, answer_line(mark))
+    let mark = marks[lts.initial() as usize];
+    put_pieces(
+        out,
+        &[Piece::Bytes(b"initial"), Piece::Bytes(answer_line(mark))],
+    )
 }
 
 fn write_state_lines<W: Write>(marks: &[bool], out: &mut W) -> Result<(), WriteFault>
     ensures { Wrote (W.contents out.old) (W.contents out.new) result (state_lines 0 marks.now) }
 {
     for (state, mark) in marks.iter().enumerate() {
-        put_number(out, b"", state)?;
-        put(out, answer_line(*mark))?;
+        write_state_line(state, *mark, out)?;
     }
     Ok(())
+}
+
+fn write_state_line<W: Write>(state: usize, mark: bool, out: &mut W) -> Result<(), WriteFault>
+    ensures { Wrote (W.contents out.old) (W.contents out.new) result (decimal state ++ yes_or_no mark) }
+{
+    put_pieces(
+        out,
+        &[Piece::Number(state as u64), Piece::Bytes(answer_line(mark))],
+    )
 }
 
 /// How many are marked.

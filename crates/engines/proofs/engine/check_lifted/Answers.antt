@@ -1,30 +1,10 @@
-use Rattle.lts.proofs.PassedOn.{passed_on}
-use Rattle.formula.specs.Closed.{closed_formula}
-use Rattle.engines.specs.Check.{HasRefused}
-use Rattle.engines.proofs.Checks.{report_of, fault_of, gameless_of}
 use Rattle.engines.proofs.engine.check_lifted.Goals as goal
 
-pub returns-in_err-texts-clause-refusal : goal.returns-in_err-texts-clause-refusal
-returns-in_err-texts-clause-refusal g c =
-    λ first second known also.
-    passed_on c.from_residual.result c.in_err-texts.field-0.0 (HasRefused first second _ _) c.from_residual.ensures.1 (c.in_err-texts.ensures.refusal first second known also _)
+pub returns-in-Ok-clause-report : goal.returns-in-Ok-clause-report
+returns-in-Ok-clause-report g c = λ first second known also. c.report_lifted.ensures.report first second (c.in-Ok.ensures.spelled first second known also)
 
-pub returns-in_err-marks-clause-refusal : goal.returns-in_err-marks-clause-refusal
-returns-in_err-marks-clause-refusal g c =
-    λ first second known also.
-    let l = c.in_ok-texts.texts.system.system in
-    let f = closed_formula c.in_ok-texts.texts.formula in
-    passed_on c.from_residual-in_err-marks.result c.in_err-marks.field-0.0 (HasRefused first second _ _) c.from_residual-in_err-marks.ensures.1
-    (gameless_of first second _ l f c.in_err-marks.field-0.0 (c.in_ok-texts.ensures.spelled first second known also) c.in_err-marks.ensures.refusal)
+pub returns-in-Ok-clause-refusal : goal.returns-in-Ok-clause-refusal
+returns-in-Ok-clause-refusal g c = λ first second known also. c.report_lifted.ensures.refusal first second (c.in-Ok.ensures.spelled first second known also)
 
-pub returns-clause-report : goal.returns-clause-report
-returns-clause-report g c =
-    λ first second known also.
-    report_of first second _ _ c.in_ok-texts.texts.system.system (closed_formula c.in_ok-texts.texts.formula) c.in_ok-marks.marks.items c.deref.result.now c.reported.result c.deref.ensures.value
-    (c.in_ok-texts.ensures.spelled first second known also) c.in_ok-marks.ensures.meaning c.reported.ensures
-
-pub returns-clause-refusal : goal.returns-clause-refusal
-returns-clause-refusal g c =
-    λ first second known also.
-    fault_of first second _ _ c.in_ok-texts.texts.system.system (closed_formula c.in_ok-texts.texts.formula) c.in_ok-marks.marks.items c.deref.result.now c.reported.result c.deref.ensures.value
-    (c.in_ok-texts.ensures.spelled first second known also) c.in_ok-marks.ensures.meaning c.reported.ensures
+pub returns-in-Err-clause-refusal : goal.returns-in-Err-clause-refusal
+returns-in-Err-clause-refusal g c = λ first second known also. c.in-Err.ensures.refusal first second known also _

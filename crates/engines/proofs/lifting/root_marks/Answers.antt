@@ -16,4 +16,4 @@ loop-state-preserved c =
     let state = c.loop-state.state in
     let wins = subst (λ (g : Game). IsTrue c.even_wins.result ↔ Wins g c.vertex_of.result) c.requires.same c.even_wins.ensures in
     let root = wins_root state c.vertex_of.result c.args.game.now c.even_wins.result c.vertex_of.ensures wins in
-    subst (λ (ms : List Bool). Marks (state + 1) ms (WinsRoot c.args.game.now)) (sym c.in_ok-push.ensures.items) (marks_more state c.loop-state.marks.items c.even_wins.result (WinsRoot c.args.game.now) c.loop-state.invariant root)
+    subst (λ (ms : List Bool). Marks (state + 1) ms (WinsRoot c.args.game.now)) (sym {A = List Bool} c.in_ok-push.ensures.items) (marks_more state c.loop-state.marks.items c.even_wins.result (WinsRoot c.args.game.now) c.loop-state.invariant root)
