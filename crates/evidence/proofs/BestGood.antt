@@ -9,9 +9,9 @@ use Rattle.game.specs.Wins.{Wins}
 use Rattle.measures.specs.Measure.{Counts, IsMeasure, Measure, Reaches, Top, components}
 use Rattle.measures.specs.Progress.{IsLeastTable, value_at}
 use Rattle.measures.specs.Laws.{IsLeastSuccessor}
-use Rattle.measures.proofs.Dual.{dual_wins, long_dual, wins_dual}
+use Rattle.measures.proofs.Dual.{dual_wins, wins_dual}
 use Rattle.measures.proofs.Bests.{vertex_here}
-use Rattle.laws.proofs.DualTop.{dual_game}
+use Rattle.game.proofs.Duals.{dual_game, long_dual}
 use Rattle.measures.proofs.LeastDecides.{least_decides}
 use Rattle.measures.proofs.Lists.{all_contained, all_got}
 use Rattle.measures.proofs.Lifts.{even_reaches, odd_reaches, value_measure}

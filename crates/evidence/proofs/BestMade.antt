@@ -11,7 +11,7 @@ use Rattle.measures.specs.Measure.{Counts, IsAtMost, IsBelow, IsProg, Measure, T
 use Rattle.measures.specs.Progress.{IsLeastTable, value_at}
 use Rattle.measures.specs.Laws.{IsLeastSuccessor}
 use Rattle.measures.proofs.Bests.{vertex_here}
-use Rattle.laws.proofs.DualTop.{dual_game}
+use Rattle.game.proofs.Duals.{dual_game}
 use Rattle.laws.proofs.LeastExists.{least_exists, least_unique}
 use Rattle.measures.proofs.Lifts.{value_measure}
 use Rattle.measures.proofs.Lists.{all_contained, all_got, best_of}

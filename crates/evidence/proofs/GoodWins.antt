@@ -9,7 +9,8 @@ use Rattle.game.specs.Game.{Game, Vertex, dual, vertex}
 use Rattle.game.specs.Wins.{Edge, Wins, WinsBy, greatest_met, priority_at}
 use Rattle.measures.specs.Measure.{Counts, Measure, Reaches, Top}
 use Rattle.measures.proofs.Cycles.{no_odd_cycle, odd_or_even, priority}
-use Rattle.measures.proofs.Dual.{dual_wins, long_dual}
+use Rattle.game.proofs.Duals.{long_dual}
+use Rattle.measures.proofs.Dual.{dual_wins}
 use Rattle.evidence.specs.Evidence.{Entry, Evidence, GoesTo, IsGood, entry_at, has}
 use Rattle.evidence.specs.Laws.{GoodEvidenceWins}
 use Rattle.evidence.specs.declared.verdict.Fault.TheVariants.{Leaves, Move, Rank}

@@ -5,7 +5,7 @@ use Rattle.std.proofs.lemmas.List.{length-map}
 use Rattle.game.specs.Game.{Game, Vertex, dual, greatest, greatest_of}
 use Rattle.measures.specs.Measure.{components, is_odd, kept, odd_down}
 use Rattle.measures.proofs.Cycles.{odd_or_even}
-use Rattle.measures.proofs.Dual.{turned}
+use Rattle.game.proofs.Duals.{turned}
 use Rattle.measures.proofs.Lists.{count_no, count_yes}
 use Rattle.evidence.specs.Evidence.{even_down}
 

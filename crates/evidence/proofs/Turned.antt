@@ -4,7 +4,7 @@ use Rattle.std.proofs.lemmas.Option.{slice_get-map, slice_get_within}
 use Rattle.game.specs.declared.player.Player.{Player}
 use Rattle.game.specs.declared.player.Player.TheVariants.{Even, Odd}
 use Rattle.game.specs.Game.{Game, Vertex, dual, opponent, vertex}
-use Rattle.measures.proofs.Dual.{turned}
+use Rattle.game.proofs.Duals.{turned}
 use Rattle.evidence.specs.Evidence.{Entry, Evidence, GoesTo, IsFree, IsGood}
 use Rattle.evidence.specs.declared.verdict.Fault.{Fault}
 use Rattle.evidence.specs.declared.verdict.Fault.TheVariants.{Leaves, Move, Rank}

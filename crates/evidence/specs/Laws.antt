@@ -6,6 +6,7 @@ use Rattle.formula.specs.Admitted.{IsAdmitted}
 use Rattle.formula.specs.Meaning.{Satisfies}
 use Rattle.normal.specs.Tree.{normal_form}
 use Rattle.normal.specs.Nodes.{Node}
+use Rattle.normal.specs.declared.limits.TheConstants.{GREATEST_PRIORITY}
 use Rattle.game.specs.Arena.{arena, place}
 use Rattle.game.specs.declared.player.Player.TheVariants.{Even, Odd}
 use Rattle.game.specs.Game.{Game, IsGame, dual, greatest}
@@ -39,7 +40,7 @@ OneAnswer = (g : Game) (e f : Evidence) → ((a : Both) × IsBoth g e f a) × ((
 
 -- Each game has Even's evidence of this kind, and Odd's where the dual game has no priority above the limit.
 abbrev pub BestExists : Type 0
-BestExists = (g : Game) → IsGame g → ((e : Evidence) × IsEvenOf g e) × (greatest g ≤ 31 → (e : Evidence) × IsOddOf g e)
+BestExists = (g : Game) → IsGame g → ((e : Evidence) × IsEvenOf g e) × (greatest g ≤ GREATEST_PRIORITY → (e : Evidence) × IsOddOf g e)
 
 -- There is one such evidence of each.
 abbrev pub BestIsOne : Type 0
@@ -51,7 +52,7 @@ EvenEvidenceIsGood = (g : Game) → IsGame g → (e : Evidence) → IsEvenOf g e
 
 -- Odd's has none either, and holds exactly those that Odd wins.
 abbrev pub OddEvidenceIsGood : Type 0
-OddEvidenceIsGood = (g : Game) → IsGame g → greatest g ≤ 31 → (e : Evidence) → IsOddOf g e → IsEvidence g e × IsGood g e × ((v : ℕ) → IsTrue (has e v) ↔ OddWins g v)
+OddEvidenceIsGood = (g : Game) → IsGame g → greatest g ≤ GREATEST_PRIORITY → (e : Evidence) → IsOddOf g e → IsEvidence g e × IsGood g e × ((v : ℕ) → IsTrue (has e v) ↔ OddWins g v)
 
 -- Good evidence of Even and of Odd has no vertex in common.
 abbrev pub NoneInBoth : Type 0
@@ -62,7 +63,7 @@ NoneInBoth =
 -- Even's and Odd's of the least tables have every vertex.
 abbrev pub AllInOne : Type 0
 AllInOne =
-    (g : Game) → IsGame g → greatest g ≤ 31 → (e f : Evidence) → IsEvenOf g e → IsOddOf g f → (v : ℕ) → v < length g.vertices → IsTrue (has e v) ⊎ IsTrue (has f v)
+    (g : Game) → IsGame g → greatest g ≤ GREATEST_PRIORITY → (e f : Evidence) → IsEvenOf g e → IsOddOf g f → (v : ℕ) → v < length g.vertices → IsTrue (has e v) ⊎ IsTrue (has f v)
 
 -- Where the answer of two is yes, each holds exactly the vertices that its player wins, and none is in both.
 abbrev pub YesDecides : Type 0
@@ -72,7 +73,7 @@ YesDecides =
 
 -- It is yes of those of the least tables, in either order.
 abbrev pub BestIsYes : Type 0
-BestIsYes = (g : Game) → IsGame g → greatest g ≤ 31 → (e f : Evidence) → IsEvenOf g e → IsOddOf g f → IsBoth g e f Yes × IsBoth g f e Yes
+BestIsYes = (g : Game) → IsGame g → greatest g ≤ GREATEST_PRIORITY → (e f : Evidence) → IsEvenOf g e → IsOddOf g f → IsBoth g e f Yes × IsBoth g f e Yes
 
 -- What is reached from a vertex of good evidence is closed.
 abbrev pub ReachedIsClosed : Type 0

@@ -3,7 +3,7 @@
 ghost use Rattle.std.specs.Prelude.{◌≡◌, ◌<◌, ◌≤◌, ◌+◌, ◌*◌, ◌++◌, ℕ, List, None, Some, drop, length, replicate, slice_index_or, slice_set, take, IfOk, MatchOption};
 ghost use Rattle.evidence.specs.View.{entry_of};
 
-use game::graph::MOST_VERTICES;
+use game::limits::MOST_VERTICES;
 use std::alloc::{AllocError, Global};
 use std::marker::Model;
 

@@ -23,6 +23,7 @@ ghost use Rattle.evidence.specs.Laws.{
 };
 
 /// Where no fault stands anywhere, the player wins each vertex of the set.
+#[tactic(auto, using(crate::proofs::GoodWins::good_wins))]
 pub fn good_evidence_wins()
     ensures { GoodEvidenceWins }
 {}
@@ -53,21 +54,25 @@ pub fn best_is_one()
 {}
 
 /// Even's has no fault, and holds exactly the vertices that Even wins.
+#[tactic(auto, using(crate::proofs::BestGood::even_is_good))]
 pub fn even_evidence_is_good()
     ensures { EvenEvidenceIsGood }
 {}
 
 /// Odd's has none either, and holds exactly those that Odd wins.
+#[tactic(auto, using(crate::proofs::BestGood::odd_is_good))]
 pub fn odd_evidence_is_good()
     ensures { OddEvidenceIsGood }
 {}
 
 /// Good evidence of Even and of Odd has no vertex in common.
+#[tactic(auto, using(crate::proofs::Sides::none_in_both))]
 pub fn none_in_both()
     ensures { NoneInBoth }
 {}
 
 /// Even's and Odd's of the least tables have every vertex (positional determinacy).
+#[tactic(auto, using(crate::proofs::Sides::all_in_one))]
 pub fn all_in_one()
     ensures { AllInOne }
 {}
@@ -83,11 +88,13 @@ pub fn best_is_yes()
 {}
 
 /// What is reached from a vertex of good evidence is closed.
+#[tactic(auto, using(crate::proofs::Cutting::reached_closed))]
 pub fn reached_is_closed()
     ensures { ReachedIsClosed }
 {}
 
 /// There is a test of what is reached.
+#[tactic(auto, using(crate::proofs::Reached::reached_exists))]
 pub fn reached_exists()
     ensures { ReachedExists }
 {}
@@ -98,6 +105,7 @@ pub fn arrows_keep_steps()
 {}
 
 /// The arrows that pass a test make a system, and a part.
+#[tactic(auto, using(crate::proofs::Kept::parts_are_systems))]
 pub fn parts_are_systems()
     ensures { PartsAreSystems }
 {}
@@ -108,6 +116,7 @@ pub fn witness_wins()
 {}
 
 /// At the root the part says of the formula what the evidence says.
+#[tactic(auto, using(crate::proofs::Parts::witness_means))]
 pub fn witness_means()
     ensures { WitnessMeans }
 {}

@@ -17,6 +17,7 @@ use lts::error::Memory;
 use measures::progs::prog;
 use measures::settle::solve_one;
 use measures::table::Settled;
+use normal::limits::GREATEST_PRIORITY;
 use std::alloc::Global;
 
 // The least successor among those with the least prog.
@@ -98,7 +99,7 @@ pub fn even_evidence(
 
 /// Evidence of all that Odd wins: Even's of the dual game, read for Odd.
 pub fn odd_evidence(alloc: Global, game: &Game) -> Result<Evidence, EvidenceError>
-    requires { greatest game.now ≤ 31 }
+    requires { greatest game.now ≤ GREATEST_PRIORITY }
     ensures game { IfOk result (λ e. e.game ≡ game.now) }
     ensures memory { IsOkUnless result EvidenceError.Memory }
     ensures odd { IfOk result (λ e. IsOddOf game.now e.evidence) }

@@ -1,6 +1,7 @@
 -- What a game of the program stands for.
 use Rattle.std.specs.Prelude.{◌≡◌, ℕ, ◌+◌, ◌≤◌, List, length, map, take, drop, count_by, slice_index, ◌==◌}
 use Rattle.std.specs.List.{AllByRecursion}
+use Rattle.game.specs.declared.limits.TheConstants.{MOST_VERTICES}
 use Rattle.game.specs.Game.{Vertex, Game, IsGame}
 use Rattle.game.specs.declared.graph.Row.{Row}
 use Rattle.game.specs.declared.graph.Game.TheInside as game
@@ -29,5 +30,5 @@ abbrev pub vertices_in : builder.Inside → List Vertex
 vertices_in a = vertices_of a.rows.items a.successors.items
 
 pub record IsStoredBuilder (a : builder.Inside) : Type 0 where
-  pub limit : length a.rows.items ≤ 16777216
+  pub limit : length a.rows.items ≤ MOST_VERTICES
   pub stored : AreStored a.rows.items a.successors.items a.counts

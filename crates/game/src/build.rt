@@ -12,10 +12,12 @@ ghost use Rattle.game.specs.Steps.{IsSetOf, IsSetFor, AreSets, IsRowOf, picks, i
 ghost use Rattle.game.specs.Refused.{HasRefusal};
 
 use crate::error::BuildError;
-use crate::graph::{Game, GameBuilder, MOST_VERTICES};
+use crate::graph::{Game, GameBuilder};
+use crate::limits::MOST_VERTICES;
 use crate::player::Player;
 use lts::system::{Lts, Transition};
 use normal::form::Normal;
+use normal::limits::MOST_NODES;
 use normal::node::{Kind, Node};
 use std::alloc::{AllocError, Global};
 use trees::holds;
@@ -73,7 +75,7 @@ fn pick(
     child: u32,
     sink: u32,
 ) -> Result<(), AllocError>
-    requires nodes { nodes ≤ 4096 }
+    requires nodes { nodes ≤ MOST_NODES }
     requires child { child < nodes }
     requires inside { AllByRecursion (λ t. t.target < 1000000) row.now }
     ensures { OnOk result (reached.new.items ≡ or_else (map (λ t. place nodes t child) (picks (is_in set.now) 0 row.now)) sink) }
@@ -117,7 +119,7 @@ fn push_node(
     reached: &mut Vec<u32>,
 ) -> Result<(), AllocError>
     requires room { length builder.old < MOST_VERTICES }
-    requires nodes { nodes ≤ 4096 }
+    requires nodes { nodes ≤ MOST_NODES }
     requires node { IsNode nodes (node_of node.now) }
     requires state { state < 1000000 }
     requires inside { AllByRecursion (λ t. t.target < 1000000) row.now }

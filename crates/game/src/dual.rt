@@ -6,6 +6,7 @@ ghost use Rattle.game.specs.Game.{dual as dual_of, greatest, opponent as opponen
 use crate::error::BuildError;
 use crate::graph::{Game, GameBuilder};
 use crate::player::Player;
+use normal::limits::GREATEST_PRIORITY;
 use std::alloc::Global;
 
 // The greatest priority that a vertex may have.
@@ -36,7 +37,7 @@ fn opponent(player: Player) -> Player
 /// The other player owns each vertex, and each priority is one more, so that the other player wins where one did. The
 /// vertices have no names.
 pub fn dual(alloc: Global, game: &Game) -> Result<Game, BuildError>
-    requires { greatest game.now ≤ 31 }
+    requires { greatest game.now ≤ GREATEST_PRIORITY }
     ensures game { IfOk result (λ g. g ≡ dual_of game.now) }
     ensures memory { IsOkUnless result BuildError.Memory }
 {

@@ -6,15 +6,13 @@ ghost use Rattle.game.specs.Game.{IsGame, IsVertex, vertex, count as count_of};
 ghost use Rattle.game.specs.Arena.{AreNames, place_in};
 ghost use Rattle.game.specs.Rises.{rises};
 
+use crate::limits::MOST_VERTICES;
 use crate::player::Player;
 use std::alloc::{AllocError, Global};
 use std::marker::Model;
 
 // One more than the greatest priority of a game.
 const PRIORITIES: usize = 33;
-
-/// How many vertices a game has at most.
-pub const MOST_VERTICES: usize = 16_777_216;
 
 // What is stored of a vertex. Its successors are `count` many from `start` on.
 #[derive(Clone, Copy)]

@@ -5,5 +5,6 @@ pub mod build;
 pub mod dual;
 pub mod error;
 pub mod graph;
+pub mod limits;
 pub mod name;
 pub mod player;

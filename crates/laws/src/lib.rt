@@ -20,6 +20,7 @@ pub mod games;
 
 /// The normal form of an admitted formula holds at the states where the formula does (Kozen 1983, Results on the propositional mu-calculus,
 /// has the equations behind it).
+#[tactic(auto, using(crate::proofs::Normed::normal_form_means))]
 pub fn normal_form_means()
     ensures { NormalFormMeans }
 {}
@@ -30,6 +31,7 @@ pub fn nodes_follow()
 {}
 
 /// Priorities are admissible exactly where each binder's is at least that of each binder inside it in whose subformula its variable is free.
+#[tactic(auto, using(crate::proofs::Inner::admissible_from_inside))]
 pub fn admissible_from_inside()
     ensures { AdmissibleFromInside }
 {}
@@ -40,11 +42,13 @@ pub fn nested_is_admissible()
 {}
 
 /// Where the value of a progress table isn't top, least or not, the state is in the meaning of the node.
+#[tactic(auto, using(crate::proofs::Sound::tables_are_sound))]
 pub fn tables_are_sound()
     ensures { TablesAreSound }
 {}
 
 /// By one choice Even wins at each state with each node in whose meaning the state is, and nowhere else but at the true sink.
+#[tactic(auto, using(crate::proofs::Wins::meaning_wins))]
 pub fn meaning_wins()
     ensures { MeaningWins }
 {}
@@ -56,6 +60,7 @@ pub fn even_wins_where_meant()
 {}
 
 /// The least progress table isn't top exactly where the state is in the meaning of the node: for every admissible assignment of priorities.
+#[tactic(auto, using(crate::proofs::Decided::least_table_decides, crate::proofs::Decided::least_table_formula))]
 pub fn least_table_decides()
     ensures node { LeastTableDecides }
     ensures root { LeastTableFormula }

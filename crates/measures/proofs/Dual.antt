@@ -1,11 +1,9 @@
 -- The game with the players exchanged.
-use Rattle.measures.proofs.Common.{◌≡◌, ◌≢◌, ℕ, ◌+◌, ◌<◌, List, [], ◌∷◌, length, refl, sym, ap, subst, ◌∙◌, inl, inr, arith, IsTrue, Contains, Some, None, Option, option_map, AllByRecursion, length-map, slice_get-map, slice_get_cases, IsPath, Player, Even, Odd, Vertex, Game, vertex, opponent, dual, Edge, IsOf, WinsBy, greatest_met, priority_at}
+use Rattle.measures.proofs.Common.{◌≡◌, ◌≢◌, ℕ, ◌+◌, ◌<◌, List, [], ◌∷◌, length, refl, sym, ap, subst, ◌∙◌, inl, inr, arith, IsTrue, Contains, Some, None, Option, option_map, AllByRecursion, slice_get-map, slice_get_cases, IsPath, Player, Even, Odd, Vertex, Game, vertex, opponent, dual, Edge, IsOf, WinsBy, greatest_met, priority_at}
+use Rattle.game.proofs.Duals.{long_dual, turned}
 use Rattle.measures.proofs.Cycles.{priority}
 use Rattle.measures.proofs.Lists.{all_weaker}
 use Rattle.measures.proofs.NotBoth.{path_weaker}
-
-abbrev pub turned : Vertex → Vertex
-turned v = record { owner = opponent v.owner; priority = v.priority + 1; successors = v.successors }
 
 back : (p : Player) → opponent (opponent p) ≡ p
 back Even = refl
@@ -65,9 +63,6 @@ module _ (g : Game) (p : Player) (choice : ℕ → ℕ) where
   pub met_of : (others : List ℕ) → others ≢ [] → AllByRecursion (λ u. u < length g.vertices) others → greatest_met (dual g) others ≡ greatest_met g others + 1
   met_of [] m h = absurd (m refl)
   met_of (o ∷ others) m h = met_dual o others h
-
-pub long_dual : (g : Game) → length (dual g).vertices ≡ length g.vertices
-long_dual g = length-map g.vertices turned
 
 -- all places of a path lie in the set
 pub path_in : (R : ℕ → ℕ → Type 0) (P : ℕ → Type 0) → ((u t : ℕ) → P u → R u t → P t) → (u : ℕ) (others : List ℕ) (t : ℕ) → P u → IsPath R u others t → AllByRecursion P others

@@ -11,7 +11,6 @@ pub mod Rests
 pub mod Visits
 pub mod Components
 pub mod Carry
-pub mod Greatest
 pub mod Bests
 pub mod Stored
 pub mod Plain

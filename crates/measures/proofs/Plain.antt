@@ -3,7 +3,7 @@ use Rattle.measures.proofs.Common.{AllByRecursion, Some, option_map, ◌≡◌, 
 use Rattle.measures.proofs.Bests.{its_successors}
 use Rattle.measures.proofs.Carry.{none_is}
 use Rattle.measures.proofs.Components.{odd_down_long}
-use Rattle.measures.proofs.Greatest.{greatest_limit}
+use Rattle.game.proofs.Greatest.{greatest_limit}
 use Rattle.measures.proofs.Lifts.{value_measure}
 use Rattle.measures.proofs.Opening.{opening_at, opening_table, opening_under}
 

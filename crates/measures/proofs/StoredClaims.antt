@@ -4,8 +4,8 @@ use Rattle.measures.specs.StoredClaim.{Apart, IsStoredClaim, entries_of, entry_o
 use Rattle.measures.proofs.Lists.{all_weaker, contains_cases, contains_first, contains_later, contains_none}
 use Rattle.measures.proofs.Distinct.{PassesAt, apart_count}
 use Rattle.measures.proofs.Components.{odd_down_long}
-use Rattle.measures.proofs.Dual.{turned}
-use Rattle.measures.proofs.Greatest.{greatest_limit}
+use Rattle.game.proofs.Duals.{turned}
+use Rattle.game.proofs.Greatest.{greatest_limit}
 use Rattle.measures.proofs.Measures.{top_prog}
 use Rattle.measures.proofs.Plain.{bounds_long, value_set_other, value_set_same}
 

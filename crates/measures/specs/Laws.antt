@@ -1,6 +1,7 @@
 -- What holds of all parity games and their progress measures (Jurdziński 2000).
 use Rattle.std.specs.Prelude.{◌≡◌, ◌≢◌, ◌<◌, ◌⊎◌, ◌↔◌, ◌≤◌, ◌*◌, ℕ, Contains, List, Option, Some, length}
 use Rattle.game.specs.declared.player.Player.TheVariants.{Even}
+use Rattle.normal.specs.declared.limits.TheConstants.{GREATEST_PRIORITY}
 use Rattle.game.specs.Game.{Game, IsGame, Vertex, dual, greatest, vertex}
 use Rattle.game.specs.Wins.{OddWins, Wins}
 use Rattle.measures.specs.Measure.{IsAtMost, IsMeasure, IsProg, IsRank, Measure, Top}
@@ -55,7 +56,7 @@ DualWins = (g : Game) (v : ℕ) → Wins (dual g) v ↔ OddWins g v
 -- The least table is top exactly where that of the dual game isn't.
 abbrev pub DualTop : Type 0
 DualTop =
-    (g : Game) → IsGame g → greatest g ≤ 31 → (table other : List Measure) → IsLeastTable g table → IsLeastTable (dual g) other
+    (g : Game) → IsGame g → greatest g ≤ GREATEST_PRIORITY → (table other : List Measure) → IsLeastTable g table → IsLeastTable (dual g) other
     → (v : ℕ) → v < length g.vertices → (value_at table v ≡ Top) ↔ (value_at other v ≢ Top)
 
 -- Lifts from the opening table, at one vertex after another in any order, come to no progress table but the least.

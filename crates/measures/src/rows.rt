@@ -8,7 +8,7 @@ ghost use Rattle.measures.specs.View.{ArePut, HasWidth, ReachesAt, Rows, is_top_
 
 use crate::measure::{COMPONENTS, Measure, compare};
 use crate::progs::is_better;
-use game::graph::MOST_VERTICES;
+use game::limits::MOST_VERTICES;
 use game::player::Player;
 use std::alloc::{AllocError, Global};
 use std::cmp::Ordering;

@@ -2,6 +2,7 @@
 use Rattle.std.specs.Prelude.{ℕ, ◌<◌, ◌≤◌, List, length}
 use Rattle.std.specs.List.{AllByRecursion, AllByRecursion-prop}
 use Rattle.std.specs.Coded.{×_prop, Unit-prop, le_prop}
+use Rattle.normal.specs.declared.limits.TheConstants.{MOST_NODES, GREATEST_PRIORITY}
 use Rattle.normal.specs.Tree.{Shape, ConstantNode, JunctionNode, ModalityNode, FixpointNode, VariableNode}
 use Rattle.normal.specs.Nodes.{Node}
 
@@ -14,14 +15,14 @@ IsShape n (FixpointNode flag child) = child < n
 IsShape n (VariableNode binder) = binder < n
 
 abbrev pub IsNode : ℕ → Node → Type 0
-IsNode n node = (node.priority ≤ 31) × IsShape n node.shape
+IsNode n node = (node.priority ≤ GREATEST_PRIORITY) × IsShape n node.shape
 
 abbrev pub AreNumbered : List Node → Type 0
 AreNumbered nodes = AllByRecursion (IsNode (length nodes)) nodes
 
 pub record IsForm (nodes : List Node) : Type 0 where
   pub some : 1 ≤ length nodes
-  pub limit : length nodes ≤ 4096
+  pub limit : length nodes ≤ MOST_NODES
   pub numbered : AreNumbered nodes
 
 pub IsShape-prop : (n : ℕ) (s : Shape) → IsProp (IsShape n s)

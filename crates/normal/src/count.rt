@@ -4,14 +4,12 @@ ghost use Rattle.std.specs.Prelude.{◌≡◌, ◌<◌, ◌≤◌, MatchOption};
 ghost use Rattle.formula.specs.View.{regular_of, formula_of};
 ghost use Rattle.normal.specs.Tree.{count as count_of, modal_count as modal_count_of};
 
+use crate::limits::MOST_NODES;
 use trees::tree::{Reg, State};
-
-/// How many nodes a normal form has at most.
-pub const MOST_NODES: usize = 4096;
 
 // The number, where it is within the limit.
 fn within(number: u32) -> Option<u32>
-    ensures { MatchOption result (4096 < number) (λ n. (n ≡ number) × (n ≤ 4096)) }
+    ensures { MatchOption result (MOST_NODES < number) (λ n. (n ≡ number) × (n ≤ MOST_NODES)) }
 {
     if number as usize <= MOST_NODES {
         Some(number)
@@ -23,7 +21,7 @@ fn within(number: u32) -> Option<u32>
 /// How many nodes the normal form has, or nothing where there are more than the limit allows. It stops where the limit is passed.
 #[tactic(auto, using(crate::proofs::Counts::modal_count_grows))]
 pub fn count(formula: &State) -> Option<u32>
-    ensures { MatchOption result (4096 < count_of (formula_of formula.now)) (λ n. (n ≡ count_of (formula_of formula.now)) × (n ≤ 4096)) }
+    ensures { MatchOption result (MOST_NODES < count_of (formula_of formula.now)) (λ n. (n ≡ count_of (formula_of formula.now)) × (n ≤ MOST_NODES)) }
 {
     match formula {
         State::True | State::False | State::Var(_) => Some(1),
@@ -47,8 +45,8 @@ pub fn count(formula: &State) -> Option<u32>
 // The same for a modality, whose operand has so many nodes.
 #[tactic(auto, using(crate::proofs::Counts::modal_count_grows))]
 fn modal_count(regular: &Reg, operand: u32) -> Option<u32>
-    requires { operand ≤ 4096 }
-    ensures { MatchOption result (4096 < modal_count_of (regular_of regular.now) operand) (λ n. (n ≡ modal_count_of (regular_of regular.now) operand) × (n ≤ 4096)) }
+    requires { operand ≤ MOST_NODES }
+    ensures { MatchOption result (MOST_NODES < modal_count_of (regular_of regular.now) operand) (λ n. (n ≡ modal_count_of (regular_of regular.now) operand) × (n ≤ MOST_NODES)) }
 {
     match regular {
         Reg::Act(_) => within(1 + operand),

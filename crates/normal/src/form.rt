@@ -1,14 +1,11 @@
 // Normal forms.
 
 ghost use Rattle.std.specs.Prelude.{◌≡◌, ◌<◌, ◌≤◌, length, vec_len, slice_get, option_map};
+ghost use Rattle.normal.specs.declared.limits.TheConstants.{MOST_NODES};
 ghost use Rattle.normal.specs.Form.{AreNumbered, AreNumbered-prop, IsForm};
 ghost use Rattle.normal.specs.View.{node_of, nodes_of};
 
-use crate::count::MOST_NODES;
 use crate::node::Node;
-
-/// The greatest priority that a node may have.
-pub const GREATEST_PRIORITY: u32 = 31;
 
 /// A normal form: its nodes in preorder, each known by its number, and how deep its binders alternate.
 #[derive(Drop)]
@@ -16,7 +13,7 @@ pub struct Normal {
     nodes: Vec<Node>,
     depth: u32,
     ghost some: { 1 ≤ vec_len nodes },
-    ghost limit: { vec_len nodes ≤ 4096 },
+    ghost limit: { vec_len nodes ≤ MOST_NODES },
     ghost numbered: { AreNumbered (nodes_of nodes.items) } by { AreNumbered-prop (nodes_of nodes.items) },
 }
 

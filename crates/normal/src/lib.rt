@@ -6,6 +6,7 @@ pub mod count;
 pub mod error;
 pub mod form;
 pub mod law;
+pub mod limits;
 pub mod make;
 pub mod node;
 pub mod part;

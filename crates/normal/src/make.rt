@@ -9,7 +9,8 @@ ghost use Rattle.normal.specs.Refused.{HasRefusal};
 
 use crate::count::count;
 use crate::error::NormalError;
-use crate::form::{GREATEST_PRIORITY, Normal};
+use crate::form::Normal;
+use crate::limits::{GREATEST_PRIORITY, MOST_NODES};
 use crate::part::{Part, Scope};
 use crate::write::write;
 use formula::closed::Closed;
@@ -19,7 +20,7 @@ use std::alloc::Global;
 pub fn normal(alloc: Global, formula: &Closed) -> Result<Normal, NormalError>
     ensures nodes { IfOk result (λ n. normal_nodes n ≡ nodes (formula_of formula.now.tree)) }
     ensures depth { IfOk result (λ n. normal_depth n ≡ depth (normal_form (formula_of formula.now.tree))) }
-    ensures count { OnOk result (count_of (formula_of formula.now.tree) ≤ 4096) }
+    ensures count { OnOk result (count_of (formula_of formula.now.tree) ≤ MOST_NODES) }
     ensures refused { IfErr result (HasRefusal (formula_of formula.now.tree)) }
 {
     let tree = formula.tree();

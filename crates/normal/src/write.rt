@@ -9,6 +9,7 @@ ghost use Rattle.normal.specs.Part.{tree_of, binders_of};
 ghost use Rattle.normal.specs.Writes.{Writes};
 
 use crate::action::copied;
+use crate::limits::MOST_NODES;
 use crate::node::{Kind, Node};
 use crate::part::{Part, Scope, binder_of};
 use std::alloc::{AllocError, Global};
@@ -119,7 +120,7 @@ pub fn write<'a>(
     nodes: &mut Vec<Node>,
     part: &'a Part<'a>,
 ) -> Result<Summary, AllocError>
-    requires { vec_len nodes.old + size (tree_of part.now (vec_len nodes.old)) ≤ 4096 }
+    requires { vec_len nodes.old + size (tree_of part.now (vec_len nodes.old)) ≤ MOST_NODES }
     ensures { IfOk result (λ s. Writes (vec_len nodes.old) (nodes_of nodes.old.items) (nodes_of nodes.new.items) (tree_of part.now (vec_len nodes.old)) s) }
 {
     match part {
@@ -139,7 +140,7 @@ fn write_formula<'a>(
     formula: &'a State,
     scope: &'a Scope<'a>,
 ) -> Result<Summary, AllocError>
-    requires { vec_len nodes.old + size (norm flag (binders_of scope.now) (formula_of formula.now) (vec_len nodes.old)) ≤ 4096 }
+    requires { vec_len nodes.old + size (norm flag (binders_of scope.now) (formula_of formula.now) (vec_len nodes.old)) ≤ MOST_NODES }
     ensures { IfOk result (λ s. Writes (vec_len nodes.old) (nodes_of nodes.old.items) (nodes_of nodes.new.items) (norm flag (binders_of scope.now) (formula_of formula.now) (vec_len nodes.old)) s) }
 {
     let at = nodes.len() as u32;
@@ -181,7 +182,7 @@ fn write_modal<'a>(
     regular: &'a Reg,
     operand: &'a Part<'a>,
 ) -> Result<Summary, AllocError>
-    requires { vec_len nodes.old + size (modal flag (regular_of regular.now) (tree_of operand.now) (vec_len nodes.old)) ≤ 4096 }
+    requires { vec_len nodes.old + size (modal flag (regular_of regular.now) (tree_of operand.now) (vec_len nodes.old)) ≤ MOST_NODES }
     ensures { IfOk result (λ s. Writes (vec_len nodes.old) (nodes_of nodes.old.items) (nodes_of nodes.new.items) (modal flag (regular_of regular.now) (tree_of operand.now) (vec_len nodes.old)) s) }
 {
     match regular {
@@ -207,7 +208,7 @@ fn write_loop<'a>(
     regular: &'a Reg,
     operand: &'a Part<'a>,
 ) -> Result<Summary, AllocError>
-    requires { vec_len nodes.old + size (loop_of flag (modal flag (regular_of regular.now)) (tree_of operand.now) (vec_len nodes.old)) ≤ 4096 }
+    requires { vec_len nodes.old + size (loop_of flag (modal flag (regular_of regular.now)) (tree_of operand.now) (vec_len nodes.old)) ≤ MOST_NODES }
     ensures { IfOk result (λ s. Writes (vec_len nodes.old) (nodes_of nodes.old.items) (nodes_of nodes.new.items) (loop_of flag (modal flag (regular_of regular.now)) (tree_of operand.now) (vec_len nodes.old)) s) }
 {
     let at = nodes.len() as u32;
@@ -231,7 +232,7 @@ fn junction<'a>(
     left: &'a Part<'a>,
     right: &'a Part<'a>,
 ) -> Result<Summary, AllocError>
-    requires { vec_len nodes.old + size (two flag (tree_of left.now) (tree_of right.now) (vec_len nodes.old)) ≤ 4096 }
+    requires { vec_len nodes.old + size (two flag (tree_of left.now) (tree_of right.now) (vec_len nodes.old)) ≤ MOST_NODES }
     ensures { IfOk result (λ s. Writes (vec_len nodes.old) (nodes_of nodes.old.items) (nodes_of nodes.new.items) (two flag (tree_of left.now) (tree_of right.now) (vec_len nodes.old)) s) }
 {
     let at = nodes.len();
@@ -251,7 +252,7 @@ fn modality<'a>(
     action: &'a Act,
     operand: &'a Part<'a>,
 ) -> Result<Summary, AllocError>
-    requires { vec_len nodes.old + size (Modality flag (action_of action.now) (tree_of operand.now (vec_len nodes.old + 1))) ≤ 4096 }
+    requires { vec_len nodes.old + size (Modality flag (action_of action.now) (tree_of operand.now (vec_len nodes.old + 1))) ≤ MOST_NODES }
     ensures { IfOk result (λ s. Writes (vec_len nodes.old) (nodes_of nodes.old.items) (nodes_of nodes.new.items) (Modality flag (action_of action.now) (tree_of operand.now (vec_len nodes.old + 1))) s) }
 {
     let at = nodes.len() as u32;
@@ -267,7 +268,7 @@ fn fixpoint<'a>(
     flag: bool,
     operand: &'a Part<'a>,
 ) -> Result<Summary, AllocError>
-    requires { vec_len nodes.old + size (Fixpoint flag (tree_of operand.now (vec_len nodes.old + 1))) ≤ 4096 }
+    requires { vec_len nodes.old + size (Fixpoint flag (tree_of operand.now (vec_len nodes.old + 1))) ≤ MOST_NODES }
     ensures { IfOk result (λ s. Writes (vec_len nodes.old) (nodes_of nodes.old.items) (nodes_of nodes.new.items) (Fixpoint flag (tree_of operand.now (vec_len nodes.old + 1))) s) }
 {
     let at = nodes.len();

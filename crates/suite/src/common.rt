@@ -3,7 +3,8 @@
 use formula::closed::Closed;
 use formula::error::FormulaError;
 use formula::parse;
-use game::graph::{Game, GameBuilder, MOST_VERTICES};
+use game::graph::{Game, GameBuilder};
+use game::limits::MOST_VERTICES;
 use game::player::Player;
 use lts::{AutError, Lts, read_aut};
 use normal::form::Normal;

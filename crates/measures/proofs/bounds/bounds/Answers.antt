@@ -1,12 +1,12 @@
 use Rattle.measures.proofs.Common.{arith, refl, ◌-◌, count}
 use Rattle.measures.proofs.Components.{map_odd_down}
-use Rattle.measures.proofs.Greatest.{greatest_limit}
+use Rattle.game.proofs.Greatest.{greatest_limit}
 use Rattle.measures.proofs.bounds.bounds.Goals as goal
 
 pub loop-p-init : goal.loop-p-init
 loop-p-init c = let limit = greatest_limit c.args.game.now c.known.ensures in record {
-  rest = rw (c.new-bounds.ensures, c.greatest-p.ensures) refl;
-  few = rw (c.new-bounds.ensures, c.greatest-p.ensures) (omega arith);
+  rest = rw (c.new-bounds.ensures, c.greatest_priority-p.ensures) refl;
+  few = rw (c.new-bounds.ensures, c.greatest_priority-p.ensures) (omega arith);
 }
 
 pub loop-p-preserved-then-p-eq0 : goal.loop-p-preserved-then-p-eq0
