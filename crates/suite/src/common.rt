@@ -65,9 +65,14 @@ pub fn same(rt: &impl Abort, text: &str, found: &str, wanted: &str) {
 /// A vertex: its owner, its priority and its successors.
 pub type Row = (Player, u8, &'static [u32]);
 
-// One more vertex.
-fn push(rt: &impl Abort, builder: &mut GameBuilder, row: Row) -> Result<(), AllocError> {
-    let (owner, priority, successors) = row;
+/// One more vertex.
+pub fn push(
+    rt: &impl Abort,
+    builder: &mut GameBuilder,
+    owner: Player,
+    priority: u8,
+    successors: &[u32],
+) -> Result<(), AllocError> {
     assert!(rt; builder.vertices() < MOST_VERTICES);
     assert!(rt; successors.len() <= MOST_VERTICES);
     builder.push(owner, priority, successors)
@@ -76,8 +81,8 @@ fn push(rt: &impl Abort, builder: &mut GameBuilder, row: Row) -> Result<(), Allo
 /// The game of these vertices, if they make one.
 pub fn made(rt: &(impl Abort + AllocGlobal), rows: &[Row]) -> Result<Option<Game>, AllocError> {
     let mut builder = GameBuilder::new(rt.alloc());
-    for row in rows {
-        push(rt, &mut builder, *row)?;
+    for (owner, priority, successors) in rows {
+        push(rt, &mut builder, *owner, *priority, successors)?;
     }
     Ok(builder.finish())
 }

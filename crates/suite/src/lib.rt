@@ -14,7 +14,13 @@ mod formula_texts;
 #[cfg(test)]
 mod games;
 #[cfg(test)]
+mod good_evidence;
+#[cfg(test)]
 mod labels;
+#[cfg(test)]
+mod lines_and_tokens;
+#[cfg(test)]
+mod lost_vertices;
 #[cfg(test)]
 mod meanings;
 #[cfg(test)]

@@ -1,6 +1,6 @@
 // Reports and refusals of each engine, on small systems whose answers were worked out by hand (Kozen 1983; the mCRL2 manual on regular formulas).
 
-use crate::common::{RING, repeated, ring};
+use crate::common::{RING, repeated, ring, same};
 use crate::writers::Narrow;
 use engines::engine::{check, check_one, check_plain};
 use engines::error::MuError;
@@ -8,7 +8,7 @@ use engines::request::{BoardKind, Options};
 use engines::status::status;
 use std::alloc::{AllocError, Global};
 use std::io;
-use std::test::Fail;
+use std::process::Abort;
 
 const LOOP: &str = "des (0,2,2)\n(0,\"a\",1)\n(1,\"b\",1)\n";
 
@@ -38,8 +38,10 @@ const DEFAULTS: Options = Options {
     board: BoardKind::Auto,
 };
 
-/// Systems, formulas, what each is written as, and the marks of the states.
-const WORKED_OUT: [(&str, &str, &str, &str); 30] = [
+/// A system, a formula, what that is written as, and the marks of the states.
+type Row<'a> = (&'a str, &'a str, &'a str, &'a str);
+
+const WORKED_OUT: [Row<'static>; 30] = [
     (RING, "<a>true", "<a>true", "yn"),
     (RING, "mu X. X", "(mu X. X)", "nn"),
     (RING, "nu X. X", "(nu X. X)", "yy"),
@@ -135,231 +137,302 @@ fn run<W: io::Write>(
     }
 }
 
-/// A report, but for its first line.
-fn below_the_first_line(alloc: Global, canonical: &str, marks: &str) -> Result<String, Fail> {
-    let mut text = String::new(alloc);
-    let yes = marks.bytes().filter(|mark| *mark == b'y').count();
-    let states = marks.len();
-    let initial = if marks.starts_with('y') { "yes" } else { "no" };
-    write!(
-        text,
-        "formula {canonical}\nyes {yes} of {states}\ninitial {initial}\n"
-    )?;
-    for (state, mark) in marks.bytes().enumerate() {
-        let word = if mark == b'y' { "yes" } else { "no" };
+fn word(mark: u8) -> &'static str {
+    if mark == b'y' { "yes" } else { "no" }
+}
+
+fn count_of_yes(marks: &[u8]) -> usize {
+    marks.iter().filter(|mark| **mark == b'y').count()
+}
+
+/// The lines of the states.
+fn write_states(text: &mut String, marks: &[u8]) -> Result<(), AllocError> {
+    for (state, mark) in marks.iter().enumerate() {
+        let word = word(*mark);
         write!(text, "{state} {word}\n")?;
     }
+    Ok(())
+}
+
+/// The report with these marks.
+fn report_of(alloc: Global, row: &Row<'_>) -> Result<String, AllocError> {
+    let (system, _, canonical, marks) = *row;
+    let first = first_line(system);
+    let yes = count_of_yes(marks.as_bytes());
+    let states = marks.len();
+    let initial = if marks.starts_with('y') { "yes" } else { "no" };
+    let mut text = format!(in alloc;
+        "{first}formula {canonical}\nyes {yes} of {states}\ninitial {initial}\n"
+    )?;
+    write_states(&mut text, marks.as_bytes())?;
     Ok(text)
 }
 
-/// Whether the report is the one with these marks, and the answer the first of them.
+/// Whether the engine answers so, and writes this.
 fn is_reported(
     alloc: Global,
     system: &str,
     formula: &str,
-    canonical: &str,
-    marks: &str,
     engine: Engine,
-) -> Result<bool, Fail> {
-    let mut want = String::from_str(alloc, first_line(system))?;
-    want.push_str(below_the_first_line(alloc, canonical, marks)?.as_str())?;
+    wanted: (bool, &str),
+) -> bool {
+    let (initial, report) = wanted;
     let mut out = Vec::new(alloc);
-    let answer = run(alloc, system, formula, engine, &mut out)?;
-    Ok(answer == marks.starts_with('y') && out.as_slice() == want.as_bytes())
+    let answer = run(alloc, system, formula, engine, &mut out).ok();
+    answer == Some(initial) && out.as_slice() == report.as_bytes()
+}
+
+/// Each engine gives this report.
+fn report(rt: &(impl Abort + AllocGlobal), system: &str, formula: &str, wanted: (bool, &str)) {
+    for engine in &ENGINES {
+        assert!(rt;
+            is_reported(rt.alloc(), system, formula, *engine, wanted),
+            "{formula} by {engine:?}"
+        );
+    }
+}
+
+/// Each engine gives the report with these marks.
+fn reports(rt: &(impl Abort + AllocGlobal), row: &Row<'_>) -> Result<(), AllocError> {
+    let (system, formula, _, marks) = *row;
+    let text = report_of(rt.alloc(), row)?;
+    report(rt, system, formula, (marks.starts_with('y'), text.as_str()));
+    Ok(())
 }
 
 #[test]
-fn reports_what_was_worked_out(rt: HostRuntime) -> Result<(), Fail> {
-    for (system, formula, canonical, marks) in WORKED_OUT {
-        for engine in ENGINES {
-            assert!(rt;
-                is_reported(rt.alloc(), system, formula, canonical, marks, engine)?,
-                "{formula} by {engine:?}"
-            );
-        }
+fn reports_what_was_worked_out(rt: HostRuntime) -> Result<(), AllocError> {
+    for row in &WORKED_OUT {
+        reports(&rt, row)?;
     }
     Ok(())
 }
 
 /// The code and place of a refusal.
-fn shown(alloc: Global, answer: Result<bool, MuError>) -> Result<String, AllocError> {
+fn shown(alloc: Global, answer: &Result<bool, MuError>) -> Result<String, AllocError> {
     match answer {
         Ok(_) => String::from_str(alloc, "answered"),
-        Err(error) => format!(in alloc; "{error}"),
+        Err(error) => error.to_string(alloc),
     }
 }
 
+/// Systems, formulas, and what is refused.
+const REFUSED: [(&str, &str, &str); 14] = [
+    ("des (0,2,2)\n(0,\"a\",1)\n", "true", "A5 at line 3"),
+    ("des (0,2,2)\n(0,\"a\",1)\n(1,\"b", "true", "A2 at line 3"),
+    (
+        "des (0,2,2)\n(0,\"a\",2)\n(1,\"b\",0)\n",
+        "true",
+        "A4 at line 2",
+    ),
+    ("des (0,0,0)\n", "true", "A6 at line 1"),
+    ("", "true", "A1 at line 1"),
+    ("des (0,0,1000001)\n", "true", "A3 at line 1"),
+    (RING, "mu X. !X", "F6 at offset 7"),
+    (RING, "mu X. Y", "F5 at offset 6"),
+    (RING, "<a|tau>true", "F2 at offset 3"),
+    (RING, "<(a.b) && c>true", "F7 at offset 1"),
+    (RING, "<a", "F3 at offset 2"),
+    (RING, "", "F3 at offset 0"),
+    (RING, "forall", "F4 at offset 0"),
+    (RING, "true & true", "F1 at offset 5"),
+];
+
+/// An engine refuses so, and writes nothing.
+fn refuses_by(
+    rt: &(impl Abort + AllocGlobal),
+    texts: (&str, &str),
+    refusal: &str,
+    engine: Engine,
+) -> Result<(), AllocError> {
+    let (system, formula) = texts;
+    let mut out = Vec::new(rt.alloc());
+    let answer = run(rt.alloc(), system, formula, engine, &mut out);
+    assert!(rt; out.is_empty(), "written by {engine:?}");
+    let text = shown(rt.alloc(), &answer)?;
+    same(rt, "refusal", text.as_str(), refusal);
+    Ok(())
+}
+
+fn refuses(
+    rt: &(impl Abort + AllocGlobal),
+    texts: (&str, &str),
+    refusal: &str,
+    engines: &[Engine],
+) -> Result<(), AllocError> {
+    for engine in engines {
+        refuses_by(rt, texts, refusal, *engine)?;
+    }
+    Ok(())
+}
+
 #[test]
-fn passes_refusals_on(rt: HostRuntime) -> Result<(), Fail> {
+fn passes_refusals_on(rt: HostRuntime) -> Result<(), AllocError> {
+    for (system, formula, refusal) in &REFUSED {
+        refuses(&rt, (system, formula), refusal, &ENGINES)?;
+    }
     let negations = repeated(rt.alloc(), "", "!", 257, "true")?;
-    let rows = [
-        ("des (0,2,2)\n(0,\"a\",1)\n", "true", "A5 at line 3"),
-        ("des (0,2,2)\n(0,\"a\",1)\n(1,\"b", "true", "A2 at line 3"),
-        (
-            "des (0,2,2)\n(0,\"a\",2)\n(1,\"b\",0)\n",
-            "true",
-            "A4 at line 2",
-        ),
-        ("des (0,0,0)\n", "true", "A6 at line 1"),
-        ("", "true", "A1 at line 1"),
-        ("des (0,0,1000001)\n", "true", "A3 at line 1"),
-        (RING, "mu X. !X", "F6 at offset 7"),
-        (RING, "mu X. Y", "F5 at offset 6"),
-        (RING, "<a|tau>true", "F2 at offset 3"),
-        (RING, "<(a.b) && c>true", "F7 at offset 1"),
-        (RING, "<a", "F3 at offset 2"),
-        (RING, "", "F3 at offset 0"),
-        (RING, "forall", "F4 at offset 0"),
-        (RING, "true & true", "F1 at offset 5"),
-        (RING, negations.as_str(), "F8 at offset 256"),
-    ];
-    for (system, formula, refusal) in rows {
-        for engine in ENGINES {
-            let mut out = Vec::new(rt.alloc());
-            let answer = run(rt.alloc(), system, formula, engine, &mut out);
-            let text = shown(rt.alloc(), answer)?;
-            assert_eq!(rt; text.as_str(), refusal, "by {engine:?}");
-            assert_eq!(rt; out.len(), 0, "written");
-        }
-    }
-    Ok(())
+    refuses(
+        &rt,
+        (RING, negations.as_str()),
+        "F8 at offset 256",
+        &ENGINES,
+    )
+}
+
+/// A formula: a beginning, a piece and how often it stands, and an end.
+type Parts = (&'static str, &'static str, usize, &'static str);
+
+/// Systems, formulas, and how a game is refused.
+const TOO_LARGE: [(&str, Parts, &str); 3] = [
+    ("des (0,0,1000000)\n", ("", "<a>", 16, "true"), "B1"),
+    (RING, ("<c><c><c><c><", "(a+b).", 9, "(a+b)>true"), "N1"),
+    (RING, ("", "nu X. mu X. ", 16, "true"), "N2"),
+];
+
+fn formula_of(alloc: Global, parts: &Parts) -> Result<String, AllocError> {
+    let (head, part, times, tail) = *parts;
+    repeated(alloc, head, part, times, tail)
 }
 
 #[test]
-fn refuses_what_is_too_large_for_a_game(rt: HostRuntime) -> Result<(), Fail> {
-    let million = "des (0,0,1000000)\n";
-    let diamonds = repeated(rt.alloc(), "", "<a>", 16, "true")?;
-    let choices = repeated(rt.alloc(), "", "(a+b).", 9, "(a+b)")?;
-    let nodes = format!(in rt.alloc(); "<c><c><c><c><{choices}>true")?;
-    let binders = repeated(rt.alloc(), "", "nu X. mu X. ", 16, "true")?;
-    let rows = [
-        (million, diamonds.as_str(), "B1"),
-        (RING, nodes.as_str(), "N1"),
-        (RING, binders.as_str(), "N2"),
-    ];
-    for (system, formula, refusal) in rows {
-        for engine in [Engine::One, Engine::Game] {
-            let mut out = Vec::new(rt.alloc());
-            let answer = run(rt.alloc(), system, formula, engine, &mut out);
-            let text = shown(rt.alloc(), answer)?;
-            assert_eq!(rt; text.as_str(), refusal, "by {engine:?}");
-            assert_eq!(rt; out.len(), 0, "written");
-        }
+fn refuses_what_is_too_large_for_a_game(rt: HostRuntime) -> Result<(), AllocError> {
+    for (system, parts, refusal) in &TOO_LARGE {
+        let formula = formula_of(rt.alloc(), parts)?;
+        refuses(
+            &rt,
+            (system, formula.as_str()),
+            refusal,
+            &[Engine::One, Engine::Game],
+        )?;
     }
     Ok(())
 }
 
-/// Whether each engine gives the report on the ring.
-fn is_reported_by_all(
+/// Formulas at a limit: what each is written as, with how many parentheses before its end, and the marks on the ring. They
+/// have as many nodes, as many binders and as many negations as may be.
+const AT_A_LIMIT: [(Parts, Parts, usize, &str, &str); 3] = [
+    (
+        ("<c><c><c><", "(a+b).", 9, "(a+b)>true"),
+        ("<c><c><c><", "((a + b) . ", 9, "(a + b)"),
+        9,
+        ">true",
+        "nn",
+    ),
+    (
+        ("mu X. ", "nu X. mu X. ", 15, "true"),
+        ("(mu X. ", "(nu X. (mu X. ", 15, "true"),
+        31,
+        "",
+        "yy",
+    ),
+    (("", "!", 256, "true"), ("", "!", 256, "true"), 0, "", "yy"),
+];
+
+fn written_as(
     alloc: Global,
-    formula: &str,
+    parts: &Parts,
+    closing: usize,
+    end: &str,
+) -> Result<String, AllocError> {
+    let open = formula_of(alloc, parts)?;
+    repeated(alloc, open.as_str(), ")", closing, end)
+}
+
+fn reports_parts(
+    rt: &(impl Abort + AllocGlobal),
+    parts: &Parts,
     canonical: &str,
     marks: &str,
-) -> Result<bool, Fail> {
-    for engine in ENGINES {
-        if !is_reported(alloc, RING, formula, canonical, marks, engine)? {
-            return Ok(false);
-        }
+) -> Result<(), AllocError> {
+    let formula = formula_of(rt.alloc(), parts)?;
+    reports(rt, &(RING, formula.as_str(), canonical, marks))
+}
+
+#[test]
+fn answers_formulas_at_a_limit(rt: HostRuntime) -> Result<(), AllocError> {
+    for (parts, written, closing, end, marks) in &AT_A_LIMIT {
+        let canonical = written_as(rt.alloc(), written, *closing, end)?;
+        reports_parts(&rt, parts, canonical.as_str(), marks)?;
     }
-    Ok(true)
-}
-
-#[test]
-fn answers_as_many_nodes_as_may_be(rt: HostRuntime) -> Result<(), Fail> {
-    let choices = repeated(rt.alloc(), "", "(a+b).", 9, "(a+b)")?;
-    let formula = format!(in rt.alloc(); "<c><c><c><{choices}>true")?;
-    let written = repeated(rt.alloc(), "", "((a + b) . ", 9, "(a + b)")?;
-    let ends = repeated(rt.alloc(), "", ")", 9, ">true")?;
-    let canonical = format!(in rt.alloc(); "<c><c><c><{written}{ends}")?;
-    assert!(rt; is_reported_by_all(rt.alloc(), formula.as_str(), canonical.as_str(), "nn")?);
-    Ok(())
-}
-
-#[test]
-fn answers_as_many_binders_as_may_be(rt: HostRuntime) -> Result<(), Fail> {
-    let binders = repeated(rt.alloc(), "", "nu X. mu X. ", 15, "true")?;
-    let formula = format!(in rt.alloc(); "mu X. {binders}")?;
-    let written = repeated(rt.alloc(), "", "(nu X. (mu X. ", 15, "true")?;
-    let ends = repeated(rt.alloc(), "", ")", 31, "")?;
-    let canonical = format!(in rt.alloc(); "(mu X. {written}{ends}")?;
-    assert!(rt; is_reported_by_all(rt.alloc(), formula.as_str(), canonical.as_str(), "yy")?);
-    Ok(())
-}
-
-#[test]
-fn answers_as_many_negations_as_may_be(rt: HostRuntime) -> Result<(), Fail> {
-    let formula = repeated(rt.alloc(), "", "!", 256, "true")?;
-    assert!(rt; is_reported_by_all(rt.alloc(), formula.as_str(), formula.as_str(), "yy")?);
     Ok(())
 }
 
 /// Whether the report on a million states without transitions, of which `true` holds, is as it has to be.
-fn reports_a_million(alloc: Global, engine: Engine) -> Result<bool, Fail> {
-    let head =
-        "system 1000000 states 0 transitions initial 0\nformula true\nyes 1000000 of 1000000\ninitial yes\n";
-    // The numbers below a million have 5,888,890 digits.
-    let lines = 5_888_890 + 1_000_000 * " yes\n".len();
+fn reports_a_million(alloc: Global, engine: Engine) -> bool {
     let mut out = Vec::new(alloc);
-    let answer = run(alloc, "des (0,0,1000000)\n", "true", engine, &mut out)?;
-    Ok(
-        answer
-            && out.len() == head.len() + lines
-            && out.starts_with(head.as_bytes())
-            && out[head.len()..].starts_with(b"0 yes\n1 yes\n")
-            && out.ends_with(b"\n999998 yes\n999999 yes\n"),
-    )
+    let answer = run(alloc, "des (0,0,1000000)\n", "true", engine, &mut out).ok();
+    answer == Some(true) && is_of_a_million(out.as_slice())
+}
+
+fn is_of_a_million(report: &[u8]) -> bool {
+    let head =
+        "system 1000000 states 0 transitions initial 0\nformula true\nyes 1000000 of 1000000\ninitial yes\n0 yes\n1 yes\n";
+    // The numbers below a million have 5,888,890 digits, of which two stand above.
+    let lines = 5_888_888 + 999_998 * " yes\n".len();
+    report.len() == head.len() + lines
+        && report.starts_with(head.as_bytes())
+        && report.ends_with(b"\n999998 yes\n999999 yes\n")
 }
 
 #[test]
-fn a_million_states_by_sets(rt: HostRuntime) -> Result<(), Fail> {
-    assert!(rt; reports_a_million(rt.alloc(), Engine::Plain)?);
-    Ok(())
+fn a_million_states_by_sets(rt: HostRuntime) {
+    assert!(rt; reports_a_million(rt.alloc(), Engine::Plain));
 }
 
 #[test]
-fn a_million_states_by_a_game_on_one_thread(rt: HostRuntime) -> Result<(), Fail> {
-    assert!(rt; reports_a_million(rt.alloc(), Engine::One)?);
-    Ok(())
+fn a_million_states_by_a_game_on_one_thread(rt: HostRuntime) {
+    assert!(rt; reports_a_million(rt.alloc(), Engine::One));
 }
 
 #[test]
-fn a_million_states_by_a_game(rt: HostRuntime) -> Result<(), Fail> {
-    assert!(rt; reports_a_million(rt.alloc(), Engine::Game)?);
-    Ok(())
+fn a_million_states_by_a_game(rt: HostRuntime) {
+    assert!(rt; reports_a_million(rt.alloc(), Engine::Game));
 }
 
-#[test]
-fn reports_a_ring_of_many_states(rt: HostRuntime) -> Result<(), Fail> {
-    let system = ring(rt.alloc(), 2500)?;
+/// The report on a ring of 2,500 states, at each of which the formula holds.
+fn report_of_the_ring(alloc: Global) -> Result<String, AllocError> {
     let head =
         "system 2500 states 2500 transitions initial 0\nformula [true*]<true*><a>true\nyes 2500 of 2500\ninitial yes\n";
-    let mut want = String::from_str(rt.alloc(), head)?;
+    let mut want = String::from_str(alloc, head)?;
     for state in 0..2500 {
         write!(want, "{state} yes\n")?;
     }
-    for engine in ENGINES {
-        let mut out = Vec::new(rt.alloc());
-        let formula = "[true*]<true*>(<a>true)";
-        assert!(rt;
-            run(rt.alloc(), system.as_str(), formula, engine, &mut out)?,
-            "by {engine:?}"
-        );
-        assert_eq!(rt; out.as_slice(), want.as_bytes());
-    }
+    Ok(want)
+}
+
+#[test]
+fn reports_a_ring_of_many_states(rt: HostRuntime) -> Result<(), AllocError> {
+    let system = ring(rt.alloc(), 2500)?;
+    let want = report_of_the_ring(rt.alloc())?;
+    let formula = "[true*]<true*>(<a>true)";
+    report(&rt, system.as_str(), formula, (true, want.as_str()));
+    Ok(())
+}
+
+/// A writer with this little room has a beginning of the report.
+fn is_cut(
+    rt: &(impl Abort + AllocGlobal),
+    want: &str,
+    left: usize,
+    engine: Engine,
+) -> Result<(), AllocError> {
+    let mut out = Narrow::new(rt.alloc(), want.len(), left);
+    let answer = run(rt.alloc(), RING, "<a>true", engine, &mut out);
+    assert!(rt; status(&answer) == 3, "{left} by {engine:?}");
+    assert!(rt; out.taken.len() == left && want.as_bytes().starts_with(out.taken.as_slice()));
+    let text = shown(rt.alloc(), &answer)?;
+    same(rt, "refusal", text.as_str(), "W1");
     Ok(())
 }
 
 #[test]
-fn a_write_fault_leaves_a_beginning(rt: HostRuntime) -> Result<(), Fail> {
+fn a_write_fault_leaves_a_beginning(rt: HostRuntime) -> Result<(), AllocError> {
     let want =
         "system 2 states 2 transitions initial 0\nformula <a>true\nyes 1 of 2\ninitial yes\n0 yes\n1 no\n";
     for left in 0..want.len() {
-        for engine in ENGINES {
-            let mut out = Narrow::new(rt.alloc(), want.len(), left);
-            let answer = run(rt.alloc(), RING, "<a>true", engine, &mut out);
-            assert_eq!(rt; status(&answer), 3);
-            assert_eq!(rt; shown(rt.alloc(), answer)?.as_str(), "W1", "by {engine:?}");
-            assert_eq!(rt; out.taken.as_slice(), &want.as_bytes()[..left]);
+        for engine in &ENGINES {
+            is_cut(&rt, want, left, *engine)?;
         }
     }
     Ok(())
