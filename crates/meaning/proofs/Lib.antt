@@ -8,6 +8,7 @@ pub mod Mixed
 pub mod Arrows
 pub mod Regulars
 pub mod Iterated
+pub mod Unused
 pub mod Growth
 pub mod Setting
 pub mod Extremes

@@ -3,6 +3,7 @@
 
 mod actions;
 mod arrivals;
+mod free;
 pub mod plain;
 mod regular;
 mod scope;

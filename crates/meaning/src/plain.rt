@@ -9,6 +9,7 @@ ghost use Rattle.formula.specs.Meaning.{Satisfies, mean, Marks, iterate, with_se
 ghost use Rattle.meaning.specs.Extreme.{IsLeast, IsGreatest};
 ghost use Rattle.meaning.specs.Scope.{sets_of, FitsScope};
 
+use crate::free::has_free;
 use crate::regular::leading;
 use crate::scope::Scope;
 use crate::sets::{all, complement, intersection, union};
@@ -40,7 +41,8 @@ fn set_of(
     }
 }
 
-/// The nth iterate, for n states, of the map of sets that a binder's formula is: the first that repeats.
+/// The nth iterate, for n states, of the map of sets that a binder's formula is: the first that repeats. Where the
+/// binder's variable isn't free in the formula, one turn suffices.
 #[cycle(plain)]
 fn iterated<'x>(
     alloc: Global,
@@ -55,6 +57,9 @@ fn iterated<'x>(
 {
     let count = lts.states();
     let mut set = all(alloc, count as usize, from)?;
+    if !has_free(body, name) {
+        return marks_of(alloc, lts, body, &Scope::More(&*name, &set, &*scope));
+    }
     for turn in 0..count {
         let next = marks_of(alloc, lts, body, &Scope::More(&*name, &set, &*scope))?;
         if next == set {

@@ -8,6 +8,8 @@ use Rattle.meaning.specs.Into.{Into}
 use Rattle.meaning.specs.Scope.{sets_of}
 use Rattle.meaning.proofs.Marked.{marks_and, marks_or, marks_implies, equal_marks}
 use Rattle.meaning.proofs.Regulars.{into_box, into_dia}
+use Rattle.meaning.specs.Free.{is_free_in}
+use Rattle.meaning.proofs.Unused.{one_turn}
 use Rattle.meaning.proofs.Iterated.{turn_marks, repeats_marks, least_marks, greatest_marks}
 use Rattle.meaning.proofs.plain.+plain.Goals as goal
 
@@ -98,16 +100,27 @@ marks_of-returns-in-Nu-clause-marks t c =
     result_of l e _ (Nu name f) c.iterated-in-Nu.result (λ ms. Marks l.states ms (iterate l.states (λ set. mean l f (with_set e name set)) (λ s. IsTrue true)))
     (ap formula_of c.in-Nu.is ∙ sym (ap (λ a. Nu name (formula_of a)) c.deref-in-Nu.ensures)) (λ ms q. greatest_marks l c.states-count.ensures.known name f e ms q) c.iterated-in-Nu.ensures
 
+pub iterated-returns-then-not-has_free : goal.iterated-returns-then-not-has_free
+iterated-returns-then-not-has_free t c =
+    let l = c.args.lts.now.system in
+    let f = formula_of c.args.body.now in
+    let e = sets_of c.args.scope.now in
+    let name = c.args.name.now.items in
+    let absent : is_free_in name f ≡ false = subst (λ x. is_free_in x f ≡ false) c.deref.ensures.value (sym c.has_free.ensures ∙ c.if-not-has_free.true) in
+    IfOk-weaker c.marks_of.result _ _
+    (λ marks made. one_turn l c.states-count.ensures.known name f e _ (λ s. IsTrue c.args.from) marks.items absent c.states-count.ensures.known.some made)
+    c.marks_of.ensures.marks
+
 pub iterated-loop-turn-preserved : goal.iterated-loop-turn-preserved
 iterated-loop-turn-preserved t c =
     turn_marks c.args.lts.now.system c.states-count.ensures.known c.args.name.now.items (formula_of c.args.body.now) (sets_of c.args.scope.now) c.loop-turn.turn (λ s. IsTrue c.args.from) c.loop-turn.set.items _ c.in_ok-next.next.items
-    c.deref.ensures.value c.loop-turn.invariant c.in_ok-next.ensures.marks
+    c.deref-in-loop-turn.ensures.value c.loop-turn.invariant c.in_ok-next.ensures.marks
 
 pub iterated-returns-then-eq : goal.iterated-returns-then-eq
 iterated-returns-then-eq t c =
     let same : c.in_ok-next.next.items ≡ c.loop-turn.set.items = equal_marks c.in_ok-next.next.items c.loop-turn.set.items (sym c.eq.ensures ∙ c.if-eq.true) in
     repeats_marks c.args.lts.now.system c.states-count.ensures.known c.args.name.now.items (formula_of c.args.body.now) (sets_of c.args.scope.now) c.loop-turn.turn c.args.lts.now.system.states (λ s. IsTrue c.args.from) c.loop-turn.set.items _ c.in_ok-next.next.items
-    c.deref.ensures.value same (omega arith) c.loop-turn.invariant c.in_ok-next.ensures.marks
+    c.deref-in-loop-turn.ensures.value same (omega arith) c.loop-turn.invariant c.in_ok-next.ensures.marks
 
 pub iterated-returns : goal.iterated-returns
 iterated-returns t c =

@@ -1,0 +1,18 @@
+-- Variables that occur free.
+use Rattle.std.specs.Prelude.{ℕ, Bool, false, not, ◌&&◌, ◌||◌, List}
+use Rattle.std.specs.Str.{bytes_eq}
+use Rattle.formula.specs.Tree.{Formula, True, False, Var, Not, And, Or, Implies, Dia, Box, Mu, Nu}
+
+-- the variable stands in the formula outside of all its binders there
+abbrev pub is_free_in : List ℕ → Formula → Bool
+is_free_in x True = false
+is_free_in x False = false
+is_free_in x (Var name) = bytes_eq name x
+is_free_in x (Not f) = is_free_in x f
+is_free_in x (And f g) = is_free_in x f || is_free_in x g
+is_free_in x (Or f g) = is_free_in x f || is_free_in x g
+is_free_in x (Implies f g) = is_free_in x f || is_free_in x g
+is_free_in x (Dia r f) = is_free_in x f
+is_free_in x (Box r f) = is_free_in x f
+is_free_in x (Mu name f) = not (bytes_eq name x) && is_free_in x f
+is_free_in x (Nu name f) = not (bytes_eq name x) && is_free_in x f
