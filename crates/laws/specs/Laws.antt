@@ -36,7 +36,7 @@ TablesAreSound =
     (l : System) (f : Norm) (nodes : List Node) (table : List Measure) → IsSystem l → IsNodes f nodes → IsProgress (arena l nodes) table
     → (s k : ℕ) → s < l.states → k < length nodes → value_at table (place (length nodes) s k) ≢ Top → node_mean l 0 f no_sets k s
 
--- One choice by which Even wins at each state with each node in whose meaning the state is, at the true sink, and nowhere else.
+-- One choice by which Even wins at each state with each node in whose meaning the state is, and nowhere else but, it may be, at the true sink.
 pub record WinsWhereMeant (l : System) (f : Norm) (nodes : List Node) : Type 0 where
   pub set : ℕ → Bool
   pub choice : ℕ → ℕ
