@@ -264,7 +264,7 @@ meaning-told text placed s (Err e) short l w (inl m) = subst (IsTold text) (sym 
 meaning-told text placed s (Err e) short l w (inr r) = tree-told text placed s e short l w r
 
 -- what is spelled within the limits is spelled
-without_limits : (text : List ℕ) (f : Formula) → SpellsWithin text f → Spells text f
+pub without_limits : (text : List ℕ) (f : Formula) → SpellsWithin text f → Spells text f
 without_limits text f s = record { pieces = s.pieces; syntax = s.syntax; written = s.written; stands_for = s.stands_for }
 
 abbrev IsDue : List ℕ → Formula → Type 0
