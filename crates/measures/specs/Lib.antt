@@ -1,4 +1,5 @@
 pub mod Measure
+pub mod MeasureText
 pub mod Progress
 pub mod Lifting
 pub mod Claim

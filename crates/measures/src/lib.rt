@@ -10,3 +10,4 @@ pub mod progs;
 mod rows;
 pub mod settle;
 pub mod table;
+pub mod writer;

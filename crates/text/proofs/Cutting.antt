@@ -1,10 +1,10 @@
 -- How a text is cut into lines.
-use Rattle.std.proofs.Common.{◌≡◌, ℕ, suc, ◌-◌, Bool, true, false, cond, ◌==◌, List, [], ◌∷◌, length, take, map, Option, Some, None, refl, sym, ap, ◌∙◌, arith}
+use Rattle.std.proofs.Common.{◌≡◌, ℕ, suc, ◌-◌, Bool, true, false, cond, ◌==◌, List, [], ◌∷◌, length, take, Option, Some, None, refl, sym, ap, ◌∙◌, arith}
 use Rattle.std.specs.Prelude.{slice_get, IfSome}
 use Rattle.std.specs.Io.BufRead.{take_through, drop_through, DropsThrough}
 use Rattle.std.proofs.lemmas.Bool.{eq-eqb, ne_eqb}
-use Rattle.text.specs.Text.{with_first, pieces_of, without_end, without_cr, lines}
-use Rattle.text.specs.Lines.{TakesLine}
+use Rattle.text.specs.Text.{with_first, pieces_of, without_end}
+use Rattle.text.specs.Lines.{TakesPiece}
 
 under_cond : (b : Bool) (c : ℕ) (x y : List ℕ) → c ∷ cond b x y ≡ cond b (c ∷ x) (c ∷ y)
 under_cond true c x y = refl
@@ -36,28 +36,24 @@ first_piece b (c ∷ bytes) =
       | false ↦ λ e. ap (with_first b) (first_piece c bytes) ∙ ap (λ l. l ∷ pieces_of (drop_through 10 all)) (sym (through_cons b c bytes))
     ] refl
 
--- the first line of a text that is not empty
-first_line : (b : ℕ) (bytes : List ℕ) → lines (b ∷ bytes) ≡ without_cr (without_end 10 (take_through 10 (b ∷ bytes))) ∷ lines (drop_through 10 (b ∷ bytes))
-first_line b bytes = ap (map without_cr) (first_piece b bytes)
-
 no_through : (b : ℕ) (bytes : List ℕ) → take_through 10 (b ∷ bytes) ≡ [] → ⊥
 no_through b bytes e = elim (b == 10) as (λ t. cond t (b ∷ []) (b ∷ take_through 10 bytes) ≡ [] → ⊥) [ true ↦ λ e. cc | false ↦ λ e. cc ] e
 
--- a call that took all through the next LF took a line
-pub takes_line : (old new : Option (List ℕ)) (read line : List ℕ) → IfSome old (λ xs. read ≡ take_through 10 xs) → DropsThrough old new 10 → (read ≡ [] → ⊥) → line ≡ without_cr (without_end 10 read) → TakesLine old new true line
-takes_line None new read line all rest some e = tt
-takes_line (Some []) new read line all rest some e = absurd (some all)
-takes_line (Some (b ∷ bytes)) None read line all rest some e = absurd cc
-takes_line (Some (b ∷ bytes)) (Some left) read line all rest some e =
+-- a call that took all through the next LF took a piece
+pub takes_piece : (old new : Option (List ℕ)) (read piece : List ℕ) → IfSome old (λ xs. read ≡ take_through 10 xs) → DropsThrough old new 10 → (read ≡ [] → ⊥) → piece ≡ without_end 10 read → TakesPiece old new true piece
+takes_piece None new read piece all rest some e = tt
+takes_piece (Some []) new read piece all rest some e = absurd (some all)
+takes_piece (Some (b ∷ bytes)) None read piece all rest some e = absurd cc
+takes_piece (Some (b ∷ bytes)) (Some left) read piece all rest some e =
     let left-is : left ≡ drop_through 10 (b ∷ bytes) = cc in
-    first_line b bytes ∙ (λ i. without_cr (without_end 10 (sym all i)) ∷ lines (sym left-is i)) ∙ ap (λ l. l ∷ lines left) (sym e)
+    first_piece b bytes ∙ (λ i. without_end 10 (sym all i) ∷ pieces_of (sym left-is i)) ∙ ap (λ l. l ∷ pieces_of left) (sym e)
 
--- a call that took nothing found no line
-pub takes_none : (old new : Option (List ℕ)) (read line : List ℕ) → IfSome old (λ xs. read ≡ take_through 10 xs) → DropsThrough old new 10 → read ≡ [] → TakesLine old new false line
-takes_none None new read line all rest none = tt
-takes_none (Some []) None read line all rest none = absurd cc
-takes_none (Some []) (Some left) read line all rest none = refl
-takes_none (Some (b ∷ bytes)) new read line all rest none = absurd (no_through b bytes (sym all ∙ none))
+-- a call that took nothing found no piece
+pub takes_none : (old new : Option (List ℕ)) (read piece : List ℕ) → IfSome old (λ xs. read ≡ take_through 10 xs) → DropsThrough old new 10 → read ≡ [] → TakesPiece old new false piece
+takes_none None new read piece all rest none = tt
+takes_none (Some []) None read piece all rest none = absurd cc
+takes_none (Some []) (Some left) read piece all rest none = refl
+takes_none (Some (b ∷ bytes)) new read piece all rest none = absurd (no_through b bytes (sym all ∙ none))
 
 -- the end is cut off, or there was none
 pub cut_found : (end : ℕ) (bytes front : List ℕ) (b : ℕ) → Some b ≡ slice_get bytes (length bytes - 1) → b ≡ end → front ≡ take (length bytes - 1) bytes → front ≡ without_end end bytes

@@ -3,14 +3,14 @@ use Rattle.std.proofs.Common.{◌≡◌, ℕ, suc, ◌+◌, ◌-◌, ◌*◌, �
 use Rattle.std.specs.List.{list_all, list_any, prefix_len}
 use Rattle.std.specs.Cmp.Lexicographic.{pointwise}
 use Rattle.std.proofs.Math.Seq.{take-append_seam, drop-append-add}
-use Rattle.std.proofs.lemmas.Bool.{le-leb, lt-ltb, ltb-true, eqb-true, and_parts}
+use Rattle.std.proofs.lemmas.Bool.{le-leb, lt-ltb, ltb-true, eq-eqb, eqb-true, and_parts}
 use Rattle.std.proofs.lemmas.List.{take-append-drop, length-append}
 use Rattle.std.proofs.lemmas.List.Sums.{fold_more}
 use Rattle.std.proofs.lemmas.List.Prefix.{front_rest}
 use Rattle.std.proofs.lemmas.Slice.Eq.{bytes_eq-Decides}
 use Rattle.text.specs.Text.{is_blank, is_digit, is_numeral, value_of, IsSpaced}
-use Rattle.text.specs.Tokens.{capped, past_blanks, sign_at, number_at, closed_at, quoted_at, end_at, number_before, is_unquoted, ◌>>=◌}
-use Rattle.text.proofs.Spaced.{begins, numeral_digits, digit_no_blank, no_digit, all_unquoted}
+use Rattle.text.specs.Tokens.{capped, past_blanks, sign_at, number_at, cut_at, quoted_at, end_at, number_before, is_other, whole_number, ◌>>=◌}
+use Rattle.text.proofs.Spaced.{begins, numeral_digits, digit_no_blank, no_digit, all_other}
 
 -- two digits or more are a number where the first is not 0
 pub long_numeral : (r : Bool) (digits : List ℕ) → 2 ≤ length digits → 49 ≤ get_or digits 0 0 → r ≡ list_all is_digit digits → r ≡ is_numeral digits
@@ -123,6 +123,14 @@ number_finds x c cs line ts hx h (gap, rest, blank, e, more) =
     let back : drop (length x) (x ++ rest) ≡ rest = front_rest (x ++ rest) x rest refl in
     (rest, rw (start, count, front, hx, back) refl, more)
 
+pub whole_gives : (bytes : List ℕ) (v : ℕ) → whole_number bytes ≡ Some v → (is_numeral bytes ≡ true) × (v ≡ capped (value_of bytes))
+unfolding whole_number
+whole_gives bytes v e = let h = if_some (is_numeral bytes) (capped (value_of bytes)) v e in (h.0, sym h.1)
+
+pub whole_finds : (bytes : List ℕ) → is_numeral bytes ≡ true → whole_number bytes ≡ Some (capped (value_of bytes))
+unfolding whole_number
+whole_finds bytes h = rw h refl
+
 pub number_before_gives : (token line : List ℕ) (v : ℕ) (rest : List ℕ) → number_before token line ≡ Some (v, rest)
     → (x : List ℕ) × (is_numeral x ≡ true) × (v ≡ capped (value_of x)) × ((ts : List (List ℕ)) → IsSpaced ts rest → IsSpaced (x ∷ token ∷ ts) line)
 unfolding number_before
@@ -145,42 +153,43 @@ number_before_finds x c cs line ts hx h hb spaced =
 
 -- ---- labels
 
--- no quote is among bytes that are not one
-none_quoted : (label : List ℕ) → list_all is_unquoted label ≡ true → list_any (λ b. b == 34) label ≡ false
-none_quoted [] h = refl
-none_quoted (b ∷ label) h =
-    elim (b == 34) as (λ c. (not c && list_all is_unquoted label) ≡ true → (c || list_any (λ b. b == 34) label) ≡ false) [ true ↦ λ e. cc | false ↦ λ e. none_quoted label e ] h
+-- none of these is among bytes that are not one
+none_other : (byte : ℕ) (label : List ℕ) → list_all (is_other byte) label ≡ true → list_any (λ b. b == byte) label ≡ false
+none_other byte [] h = refl
+none_other byte (b ∷ label) h =
+    elim (b == byte) as (λ c. (not c && list_all (is_other byte) label) ≡ true → (c || list_any (λ b. b == byte) label) ≡ false) [ true ↦ λ e. cc | false ↦ λ e. none_other byte label e ] h
 
--- what stops the run of unquoted bytes is a quote
-stops_quoted : (line : List ℕ) → prefix_len is_unquoted line < length line → line ≡ take (prefix_len is_unquoted line) line ++ (34 ∷ drop (prefix_len is_unquoted line + 1) line)
-stops_quoted [] h = absurd (omega arith)
-stops_quoted (b ∷ line) h =
-    elim (b == 34) as (λ c. (b == 34) ≡ c → cond (not c) (1 + prefix_len is_unquoted line) 0 < length (b ∷ line)
-    → b ∷ line ≡ take (cond (not c) (1 + prefix_len is_unquoted line) 0) (b ∷ line) ++ (34 ∷ drop (cond (not c) (1 + prefix_len is_unquoted line) 0 + 1) (b ∷ line))) [
-      | true ↦ λ e k. ap (λ q. q ∷ line) (eqb-true b 34 e)
+-- what stops the run of the others is such a byte
+stops_other : (byte : ℕ) (line : List ℕ) → prefix_len (is_other byte) line < length line → line ≡ take (prefix_len (is_other byte) line) line ++ (byte ∷ drop (prefix_len (is_other byte) line + 1) line)
+stops_other byte [] h = absurd (omega arith)
+stops_other byte (b ∷ line) h =
+    elim (b == byte) as (λ c. (b == byte) ≡ c → cond (not c) (1 + prefix_len (is_other byte) line) 0 < length (b ∷ line)
+    → b ∷ line ≡ take (cond (not c) (1 + prefix_len (is_other byte) line) 0) (b ∷ line) ++ (byte ∷ drop (cond (not c) (1 + prefix_len (is_other byte) line) 0 + 1) (b ∷ line))) [
+      | true ↦ λ e k. ap (λ q. q ∷ line) (eqb-true b byte e)
       | false ↦ λ e k.
-          let one : 1 + prefix_len is_unquoted line ≡ suc (prefix_len is_unquoted line) = omega arith in
-          let two : suc (prefix_len is_unquoted line) + 1 ≡ suc (prefix_len is_unquoted line + 1) = omega arith in
-          rw (one, two) (ap (λ l. b ∷ l) (stops_quoted line (omega (arith, k))))
+          let one : 1 + prefix_len (is_other byte) line ≡ suc (prefix_len (is_other byte) line) = omega arith in
+          let two : suc (prefix_len (is_other byte) line) + 1 ≡ suc (prefix_len (is_other byte) line + 1) = omega arith in
+          rw (one, two) (ap (λ l. b ∷ l) (stops_other byte line (omega (arith, k))))
     ] refl h
 
-closed_gives : (line label rest : List ℕ) → closed_at line ≡ Some (label, rest) → (list_any (λ b. b == 34) label ≡ false) × (line ≡ label ++ (34 ∷ rest))
-unfolding closed_at
-closed_gives line label rest e =
-    let n = prefix_len is_unquoted line in
-    let h = if_some (nat_lt n (length line)) (take n line, drop (n + 1) line) (label, rest) e in
-    let label-is : take n line ≡ label = ap (λ (p : List ℕ × List ℕ). p.0) h.1 in
+pub cut_gives : (byte : ℕ) (line front rest : List ℕ) → cut_at byte line ≡ Some (front, rest) → (list_any (λ b. b == byte) front ≡ false) × (line ≡ front ++ (byte ∷ rest))
+unfolding cut_at
+cut_gives byte line front rest e =
+    let n = prefix_len (is_other byte) line in
+    let h = if_some (nat_lt n (length line)) (take n line, drop (n + 1) line) (front, rest) e in
+    let front-is : take n line ≡ front = ap (λ (p : List ℕ × List ℕ). p.0) h.1 in
     let rest-is : drop (n + 1) line ≡ rest = ap (λ (p : List ℕ × List ℕ). p.1) h.1 in
-    (rw (← label-is) (none_quoted (take n line) (run_passes is_unquoted line)), rw (← label-is, ← rest-is) (stops_quoted line (ltb-true n (length line) h.0)))
+    (rw (← front-is) (none_other byte (take n line) (run_passes (is_other byte) line)), rw (← front-is, ← rest-is) (stops_other byte line (ltb-true n (length line) h.0)))
 
-closed_finds : (label rest : List ℕ) → list_any (λ b. b == 34) label ≡ false → closed_at (label ++ (34 ∷ rest)) ≡ Some (label, rest)
-unfolding closed_at
-closed_finds label rest h =
-    let count : prefix_len is_unquoted (label ++ (34 ∷ rest)) ≡ length label = run_is is_unquoted label (34 ∷ rest) (all_unquoted label h) refl in
-    let room : nat_lt (length label) (length (label ++ (34 ∷ rest))) ≡ true = lt-ltb _ _ (omega (arith, length-append label (34 ∷ rest))) in
-    let front : take (length label) (label ++ (34 ∷ rest)) ≡ label = take-append_seam label (34 ∷ rest) in
-    let back : drop (length label + 1) (label ++ (34 ∷ rest)) ≡ rest = drop-append-add label (34 ∷ rest) 1 in
-    rw (count, room, front, back) refl
+pub cut_finds : (byte : ℕ) (front rest : List ℕ) → list_any (λ b. b == byte) front ≡ false → cut_at byte (front ++ (byte ∷ rest)) ≡ Some (front, rest)
+unfolding cut_at
+cut_finds byte front rest h =
+    let stop : begins (is_other byte) (byte ∷ rest) ≡ false = rw (eq-eqb byte byte refl) refl in
+    let count : prefix_len (is_other byte) (front ++ (byte ∷ rest)) ≡ length front = run_is (is_other byte) front (byte ∷ rest) (all_other byte front h) stop in
+    let room : nat_lt (length front) (length (front ++ (byte ∷ rest))) ≡ true = lt-ltb _ _ (omega (arith, length-append front (byte ∷ rest))) in
+    let start : take (length front) (front ++ (byte ∷ rest)) ≡ front = take-append_seam front (byte ∷ rest) in
+    let back : drop (length front + 1) (front ++ (byte ∷ rest)) ≡ rest = drop-append-add front (byte ∷ rest) 1 in
+    rw (count, room, start, back) refl
 
 -- the quotes stand around the label
 around : (label rest : List ℕ) → (34 ∷ label ++ 34 ∷ []) ++ rest ≡ 34 ∷ (label ++ (34 ∷ rest))
@@ -190,8 +199,8 @@ pub quoted_gives : (line label rest : List ℕ) (ts : List (List ℕ)) → quote
     → (list_any (λ b. b == 34) label ≡ false) × IsSpaced ((34 ∷ label ++ 34 ∷ []) ∷ ts) line
 unfolding quoted_at
 quoted_gives line label rest ts e more =
-    let (inner, signed, shut) = bind_some (sign_at (34 ∷ []) line) (λ rest. closed_at rest) (label, rest) e in
-    let (plain, split) = closed_gives inner label rest shut in
+    let (inner, signed, shut) = bind_some (sign_at (34 ∷ []) line) (λ rest. cut_at 34 rest) (label, rest) e in
+    let (plain, split) = cut_gives 34 inner label rest shut in
     let (gap, blank, cut) = sign_cuts (34 ∷ []) line inner signed in
     (plain, (gap, rest, blank, cut ∙ ap (λ l. gap ++ (34 ∷ l)) split ∙ ap (λ l. gap ++ l) (sym (around label rest)), more))
 
@@ -200,7 +209,7 @@ pub quoted_finds : (line label : List ℕ) (ts : List (List ℕ)) → list_any (
 unfolding quoted_at
 quoted_finds line label ts plain (gap, rest, blank, e, more) =
     let start : past_blanks line ≡ (34 ∷ []) ++ (label ++ (34 ∷ rest)) = ap past_blanks e ∙ past_gap gap ((34 ∷ label ++ 34 ∷ []) ++ rest) blank refl ∙ around label rest in
-    (rest, rw (sign_here (34 ∷ []) line (label ++ (34 ∷ rest)) start, closed_finds label rest plain) refl, more)
+    (rest, rw (sign_here (34 ∷ []) line (label ++ (34 ∷ rest)) start, cut_finds 34 label rest plain) refl, more)
 
 -- ---- the end of the line
 

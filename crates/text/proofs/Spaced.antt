@@ -5,7 +5,7 @@ use Rattle.std.specs.List.{list_all, list_any}
 use Rattle.std.proofs.lemmas.Bool.{eqb-true, and_parts}
 use Rattle.std.proofs.lemmas.List.{append_cancel_left}
 use Rattle.text.specs.Text.{is_blank, is_digit, is_numeral, IsSpaced}
-use Rattle.text.specs.Tokens.{is_unquoted}
+use Rattle.text.specs.Tokens.{is_other}
 
 abbrev pub begins : (ℕ → Bool) → List ℕ → Bool
 begins p [] = false
@@ -15,7 +15,7 @@ tail_same : (x y : ℕ) (xs ys : List ℕ) → x ∷ xs ≡ y ∷ ys → (x ≡ 
 tail_same x y xs ys e = (cc, cc)
 
 -- the longest front that passes is one
-front_same : (p : ℕ → Bool) (xs ys vs ws : List ℕ) → list_all p xs ≡ true → list_all p ys ≡ true → begins p vs ≡ false → begins p ws ≡ false → xs ++ vs ≡ ys ++ ws → (xs ≡ ys) × (vs ≡ ws)
+pub front_same : (p : ℕ → Bool) (xs ys vs ws : List ℕ) → list_all p xs ≡ true → list_all p ys ≡ true → begins p vs ≡ false → begins p ws ≡ false → xs ++ vs ≡ ys ++ ws → (xs ≡ ys) × (vs ≡ ws)
 front_same p [] [] vs ws x y a b e = (refl, e)
 front_same p [] (c ∷ ys) vs ws x y a b e = absurd (true≢false (sym (and_parts (p c) (list_all p ys) y).0 ∙ (sym (ap (begins p) e) ∙ a)))
 front_same p (c ∷ xs) [] vs ws x y a b e = absurd (true≢false (sym (and_parts (p c) (list_all p xs) x).0 ∙ (ap (begins p) e ∙ b)))
@@ -74,10 +74,10 @@ numeral_step (d ∷ x) (f ∷ y) c cs ts us line hx hy h (gap, rest, blank, e, m
     let r = front_same is_digit (d ∷ x) (f ∷ y) rest rest' dx dy (no_digit c cs ts rest h more) (no_digit c cs us rest' h more') q in
     (r.0, (rest, more, subst (IsSpaced ((c ∷ cs) ∷ us)) (sym r.1) more'))
 
-pub all_unquoted : (label : List ℕ) → list_any (λ b. b == 34) label ≡ false → list_all is_unquoted label ≡ true
-all_unquoted [] h = refl
-all_unquoted (b ∷ label) h =
-    elim (b == 34) as (λ c. (c || list_any (λ b. b == 34) label) ≡ false → (not c && list_all is_unquoted label) ≡ true) [ true ↦ λ e. cc | false ↦ λ e. all_unquoted label e ] h
+pub all_other : (byte : ℕ) (label : List ℕ) → list_any (λ b. b == byte) label ≡ false → list_all (is_other byte) label ≡ true
+all_other byte [] h = refl
+all_other byte (b ∷ label) h =
+    elim (b == byte) as (λ c. (c || list_any (λ b. b == byte) label) ≡ false → (not c && list_all (is_other byte) label) ≡ true) [ true ↦ λ e. cc | false ↦ λ e. all_other byte label e ] h
 
 abbrev pub quoted : List ℕ → List ℕ
 quoted label = 34 ∷ label ++ 34 ∷ []
@@ -86,5 +86,5 @@ pub label_step : (a b : List ℕ) (ts us : List (List ℕ)) (line : List ℕ) �
 label_step a b ts us line ha hb (gap, rest, blank, e, more) (gap', rest', blank', e', more') =
     let q = after_gap 34 (a ++ 34 ∷ []) 34 (b ++ 34 ∷ []) gap gap' rest rest' refl refl blank blank' (sym e ∙ e') in
     let w : a ++ (34 ∷ rest) ≡ b ++ (34 ∷ rest') = sym (append_assoc a (34 ∷ []) rest) ∙ ((tail_same 34 34 _ _ q).1 ∙ append_assoc b (34 ∷ []) rest') in
-    let r = front_same is_unquoted a b (34 ∷ rest) (34 ∷ rest') (all_unquoted a ha) (all_unquoted b hb) refl refl w in
+    let r = front_same (is_other 34) a b (34 ∷ rest) (34 ∷ rest') (all_other 34 a ha) (all_other 34 b hb) refl refl w in
     (r.0, (rest, more, subst (IsSpaced us) (sym (tail_same 34 34 rest rest' r.1).1) more'))

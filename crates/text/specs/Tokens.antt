@@ -25,6 +25,10 @@ past_blanks line = drop (prefix_len is_blank line) line
 unfoldable pub sign_at : List ℕ → List ℕ → Option (List ℕ)
 sign_at token line = let start = past_blanks line in if pointwise nat_eq (take (length token) start) token then Some (drop (length token) start) else None
 
+-- the number whose numeral this is
+unfoldable pub whole_number : List ℕ → Option ℕ
+whole_number bytes = if is_numeral bytes then Some (capped (value_of bytes)) else None
+
 -- the number, and what follows it
 unfoldable pub number_at : List ℕ → Option (ℕ × List ℕ)
 number_at line =
@@ -32,19 +36,20 @@ number_at line =
     let count = prefix_len is_digit start in
     if is_numeral (take count start) then Some (capped (value_of (take count start)), drop count start) else None
 
-abbrev pub is_unquoted : ℕ → Bool
-is_unquoted b = not (b == 34)
+-- any byte but this
+abbrev pub is_other : ℕ → ℕ → Bool
+is_other byte b = not (b == byte)
 
--- the bytes before the next quote, and what follows it
-unfoldable pub closed_at : List ℕ → Option (List ℕ × List ℕ)
-closed_at line =
-    let count = prefix_len is_unquoted line in
+-- the bytes before the next of these, and what follows it
+unfoldable pub cut_at : ℕ → List ℕ → Option (List ℕ × List ℕ)
+cut_at byte line =
+    let count = prefix_len (is_other byte) line in
     if nat_lt count (length line) then Some (take count line, drop (count + 1) line) else None
 
 unfoldable pub quoted_at : List ℕ → Option (List ℕ × List ℕ)
 quoted_at line = do
   rest ← sign_at (34 ∷ []) line
-  closed_at rest
+  cut_at 34 rest
 
 -- nothing but blanks follows
 unfoldable pub end_at : {A : Type 0} → A → List ℕ → Option A

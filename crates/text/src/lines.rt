@@ -2,7 +2,7 @@
 
 ghost use Rattle.std.specs.Prelude.{◌≡◌, IfOk};
 ghost use Rattle.text.specs.Text.{without_end};
-ghost use Rattle.text.specs.Lines.{TakesLine};
+ghost use Rattle.text.specs.Lines.{TakesLine, TakesPiece};
 
 use crate::error::ReadFault;
 use std::io::{BufRead, ErrorKind};
@@ -18,6 +18,25 @@ fn cut_end(line: &mut Vec<u8>, byte: u8)
     }
 }
 
+/// Reads the next line of a text whose lines end by LF alone into `line`, without the LF, and says whether there was one.
+///
+/// # Errors
+/// A read failed, or memory was refused. What the reader has left then isn't said.
+pub fn next_piece<B: BufRead>(reader: &mut B, line: &mut Vec<u8>) -> Result<bool, ReadFault>
+    ensures { IfOk result (λ more. TakesPiece (B.remaining reader.old) (B.remaining reader.new) more line.new.items) }
+{
+    line.clear();
+    match reader.read_until(b'\n', line) {
+        Ok(0) => Ok(false),
+        Ok(_) => {
+            cut_end(line, b'\n');
+            Ok(true)
+        }
+        Err(error) if error.kind() == ErrorKind::OutOfMemory => Err(ReadFault::Memory),
+        Err(_) => Err(ReadFault::Read),
+    }
+}
+
 /// Reads the next line into `line`, without its end, and says whether there was one.
 ///
 /// # Errors
@@ -25,15 +44,7 @@ fn cut_end(line: &mut Vec<u8>, byte: u8)
 pub fn next_line<B: BufRead>(reader: &mut B, line: &mut Vec<u8>) -> Result<bool, ReadFault>
     ensures { IfOk result (λ more. TakesLine (B.remaining reader.old) (B.remaining reader.new) more line.new.items) }
 {
-    line.clear();
-    match reader.read_until(b'\n', line) {
-        Ok(0) => Ok(false),
-        Ok(_) => {
-            cut_end(line, b'\n');
-            cut_end(line, b'\r');
-            Ok(true)
-        }
-        Err(error) if error.kind() == ErrorKind::OutOfMemory => Err(ReadFault::Memory),
-        Err(_) => Err(ReadFault::Read),
-    }
+    let more = next_piece(reader, line)?;
+    cut_end(line, b'\r');
+    Ok(more)
 }

@@ -3,7 +3,7 @@
 ghost use Rattle.std.specs.Prelude.{◌≡◌, ◌≤◌, length};
 ghost use Rattle.std.specs.List.{prefix_len, list_all};
 ghost use Rattle.text.specs.Text as spec;
-ghost use Rattle.text.specs.Tokens.{Finds, capped, is_unquoted};
+ghost use Rattle.text.specs.Tokens.{Finds, capped, is_other};
 ghost use Rattle.text.specs.Tokens as at;
 
 use crate::bytes::{is_blank, is_digit};
@@ -70,6 +70,18 @@ fn is_numeral(digits: &[u8]) -> bool
     }
 }
 
+/// The number whose numeral the bytes are, if they are one. A number that is too great for its type is read as the greatest one.
+#[tactic(auto, unfolding(crate::specs::Tokens::whole_number))]
+pub fn whole_number(bytes: &[u8]) -> Option<u32>
+    ensures { at.whole_number bytes.now ≡ result }
+{
+    if is_numeral(bytes) {
+        Some(value_of(bytes))
+    } else {
+        None
+    }
+}
+
 /// The number past the blanks, and what follows it. A number that is too great for its type is read as the greatest one.
 #[tactic(auto, unfolding(crate::specs::Tokens::number_at))]
 pub fn number(line: &[u8]) -> Option<(u32, &[u8])>
@@ -94,26 +106,26 @@ pub fn number_before<'a>(line: &'a [u8], token: &[u8]) -> Option<(u32, &'a [u8])
     Some((number, rest))
 }
 
-// How many bytes stand before the next quote.
-fn unquoted(line: &[u8]) -> usize
-    ensures count { result ≡ prefix_len is_unquoted line.now }
+// How many bytes stand before the next of these.
+fn before(line: &[u8], byte: u8) -> usize
+    ensures count { result ≡ prefix_len (is_other byte) line.now }
     ensures within { result ≤ length line.now }
 {
-    line.iter().take_while(|byte| **byte != 34).count()
+    line.iter().take_while(|other| **other != byte).count()
 }
 
-// The bytes before the next quote, and what follows it.
-#[tactic(auto, unfolding(crate::specs::Tokens::closed_at))]
-fn closed(line: &[u8]) -> Option<(&[u8], &[u8])>
-    ensures { Finds (λ found. (found.0.now, found.1.now)) result (at.closed_at line.now) }
+/// The bytes before the next of these, and what follows it.
+#[tactic(auto, unfolding(crate::specs::Tokens::cut_at))]
+pub fn cut_at(line: &[u8], byte: u8) -> Option<(&[u8], &[u8])>
+    ensures { Finds (λ found. (found.0.now, found.1.now)) result (at.cut_at byte line.now) }
 {
-    let count = unquoted(line);
+    let count = before(line, byte);
     if count >= line.len() {
         return None;
     }
-    let (label, _) = line.split_at(count);
+    let (front, _) = line.split_at(count);
     let (_, rest) = line.split_at(count + 1);
-    Some((label, rest))
+    Some((front, rest))
 }
 
 /// The bytes between the quotes past the blanks, and what follows them.
@@ -122,7 +134,7 @@ pub fn quoted(line: &[u8]) -> Option<(&[u8], &[u8])>
     ensures { Finds (λ found. (found.0.now, found.1.now)) result (at.quoted_at line.now) }
 {
     let rest = sign(line, b"\"")?;
-    closed(rest)
+    cut_at(rest, b'"')
 }
 
 /// Whether only blanks follow.
