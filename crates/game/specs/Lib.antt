@@ -1,5 +1,6 @@
 pub mod Game
 pub mod NumberSet
+pub mod Predecessors
 pub mod Arena
 pub mod Wins
 pub mod Rises
