@@ -7,6 +7,7 @@ mod jumps;
 pub mod measure;
 mod pending;
 pub mod progs;
+pub mod rank;
 mod rows;
 pub mod settle;
 pub mod table;
