@@ -1,5 +1,6 @@
 -- Lifts of greater tables are greater.
 use Rattle.measures.proofs.Common.{◌≡◌, ℕ, ◌≤◌, Bool, true, false, if◌then◌else◌, List, [], ◌∷◌, length, map, refl, sym, ap, subst, ◌∙◌, arith, Contains, Some, AllZip, AllByRecursion, is_lt, length-map, AllZip-long, Player, Even, Odd, Vertex, Game, vertex, IsVertex, IsGame, Measure, IsMeasure, measure_cmp, IsAtMost, IsProg, greater_of, IsBestFor, IsLiftAt, IsProgress, IsTable, value_at}
+pub use Rattle.measures.specs.Progress.{LiesUnder}
 use Rattle.measures.proofs.Lists.{all_got, all_contained, zip_back, zip_on, zip_made}
 use Rattle.measures.proofs.Measures.{at_most_both, at_most_itself, at_most_trans, below_at_most, prog, prog_more}
 use Rattle.measures.proofs.Lifts.{best_for, settled, value_measure}
@@ -29,10 +30,6 @@ greater_rises own best = by (is_lt (measure_cmp own best)) refl
     by : (b : Bool) → is_lt (measure_cmp own best) ≡ b → IsAtMost own (if b then best else own)
     by true e = below_at_most own best e
     by false e = at_most_itself own
-
--- a table lies under another, value by value
-abbrev pub LiesUnder : List Measure → List Measure → Type 0
-LiesUnder table other = (v : ℕ) → IsAtMost (value_at table v) (value_at other v)
 
 -- a lift doesn't lower a value
 pub lift_rises : (g : Game) (table : List Measure) (v : ℕ) (r : Measure) → IsLiftAt g table v r → IsAtMost (value_at table v) r

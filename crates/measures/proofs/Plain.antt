@@ -1,5 +1,5 @@
 -- Tables whose values are at most those of every progress table.
-use Rattle.measures.proofs.Common.{AllByRecursion, Some, option_map, ◌≡◌, ◌≢◌, ℕ, ◌+◌, ◌-◌, ◌<◌, ◌≤◌, Bool, true, false, List, length, replicate, sym, ap, subst, ◌∙◌, inl, inr, arith, if◌then◌else◌, slice_set, eqb_tells, ext_get_or, get_or-set_other, get_or-set_same, get_or-replicate, length-map, length-replicate, length-set, AllZip-long, Game, IsGame, count, greatest, vertex, Measure, Top, Counts, components, IsMeasure, IsProgress, opening, opening_value, value_at, zeros, bounds, IsOpening, IsPlain, IsSettled, IsStored, LiesBelow, Table, HasWidth, Rows}
+use Rattle.measures.proofs.Common.{AllByRecursion, Some, option_map, ◌≡◌, ◌≢◌, ℕ, ◌+◌, ◌-◌, ◌<◌, ◌≤◌, Bool, true, false, List, [], ◌++◌, length, replicate, refl, sym, ap, subst, ◌∙◌, inl, inr, arith, if◌then◌else◌, slice_set, eqb_tells, ext_get_or, get_or-set_other, get_or-set_same, get_or-replicate, length-map, length-replicate, length-set, AllZip-long, Game, IsGame, count, greatest, vertex, Measure, Top, Counts, components, IsMeasure, IsProgress, opening, opening_value, value_at, zeros, bounds, IsOpening, IsPlain, IsSettled, IsStored, LiesBelow, Table, HasWidth, Rows}
 use Rattle.measures.proofs.Bests.{its_successors}
 use Rattle.measures.proofs.Carry.{none_is}
 use Rattle.measures.proofs.Components.{odd_down_long}
@@ -23,6 +23,11 @@ zeros_are g w e =
     let long : w ≡ length (components g) - 0 = let b = bounds_long g in omega arith in
     ap Counts (ap (λ n. replicate n 0) long ∙ sym (none_is (components g) 0))
 
+pub padded_zeros : (g : Game) (counts : List ℕ) (w : ℕ) (m : Measure) → counts ≡ [] → w ≡ length (bounds g) → m ≡ Counts (counts ++ replicate (w - length counts) 0) → m ≡ zeros g
+padded_zeros g counts w m none wide e =
+    let whole : w - 0 ≡ w = omega arith in
+    e ∙ (ap (λ cs. Counts (cs ++ replicate (w - length cs) 0)) none ∙ (ap (λ n. Counts (replicate n 0)) whole ∙ zeros_are g w wide))
+
 -- ------------------------------------------------------------------ the opening table
 
 pub opening_is : (g : Game) (v : ℕ) (top : Bool) → IsOpening g v top → value_at (opening g) v ≡ (if top then Top else zeros g)
@@ -34,6 +39,9 @@ opening_plain g values game e = subst (λ (ms : List Measure). IsPlain (record {
   long = (opening_table g).0;
   below = λ v h. record { measure = value_measure g (opening g) (opening_table g).1 v; under = λ table is. opening_under g game table is v };
 })
+
+pub opening_below : (g : Game) (v : ℕ) → IsGame g → v < length g.vertices → LiesBelow g v (value_at (opening g) v)
+opening_below g v game h = (opening_plain g (opening g) game refl).below v h
 
 -- a value for each vertex, told one by one
 pub same_values : (n : ℕ) (s t : List Measure) → length s ≡ n → length t ≡ n → ((v : ℕ) → v < n → value_at s v ≡ value_at t v) → s ≡ t

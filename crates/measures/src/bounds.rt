@@ -23,6 +23,14 @@ pub(crate) fn bounds(game: &Game) -> ArrayVec<u32, 16>
     bounds
 }
 
+/// How many components a game has, and so how many counts each of its measures but top.
+#[tactic(auto, using(crate::proofs::Plain::bounds_long))]
+pub fn width(game: &Game) -> usize
+    ensures { result ≡ length (components game.now) }
+{
+    bounds(game).len()
+}
+
 /// How many components the dual game has.
 #[tactic(auto, using(crate::proofs::StoredClaims::dual_long, crate::proofs::StoredClaims::dual_none))]
 pub(crate) fn dual_width(game: &Game) -> usize

@@ -3,6 +3,7 @@
 ghost use Rattle.std.specs.Prelude.{◌≡◌, ◌<◌, ◌≤◌, length};
 ghost use Rattle.game.specs.Game.{dual};
 ghost use Rattle.measures.specs.Measure.{components};
+ghost use Rattle.measures.specs.Progress.{LiesUnder};
 
 use crate::bounds::bounds;
 use crate::claim::Claim;
@@ -80,6 +81,7 @@ fn jump_to_top(
     requires claim { claim.old.game ≡ game.now }
     requires rank { length rank.old ≡ length (components (dual game.now)) }
     ensures table { table.new.game ≡ game.now }
+    ensures kept { LiesUnder table.old.values table.new.values }
     ensures claim { claim.new.game ≡ game.now }
 {
     claim_lost(game, claim, lost, rank);
@@ -98,6 +100,7 @@ fn jump_to_counts(
     requires claim { claim.old.game ≡ game.now }
     requires rank { length rank.old ≡ length (components (dual game.now)) }
     ensures table { table.new.game ≡ game.now }
+    ensures kept { LiesUnder table.old.values table.new.values }
     ensures claim { claim.new.game ≡ game.now }
 {
     claim.clear();
@@ -106,6 +109,7 @@ fn jump_to_counts(
 }
 
 // The same of each odd priority that counts can climb.
+#[tactic(auto, using(crate::proofs::Rising::under_itself, crate::proofs::Rising::under_trans))]
 fn jump_to_all_counts(
     alloc: Global,
     game: &Game,
@@ -117,7 +121,8 @@ fn jump_to_all_counts(
     requires same { table.old.game ≡ game.now }
     requires claim { claim.old.game ≡ game.now }
     requires rank { length rank.old ≡ length (components (dual game.now)) }
-    ensures { table.new.game ≡ game.now }
+    ensures table { table.new.game ≡ game.now }
+    ensures kept { LiesUnder table.old.values table.new.values }
 {
     for back in 0..16u8 {
         let odd = 31 - 2 * back;
@@ -130,9 +135,11 @@ fn jump_to_all_counts(
 }
 
 // Raises the table as far as a search finds.
+#[tactic(auto, using(crate::proofs::Rising::under_itself, crate::proofs::Rising::under_trans))]
 fn search(alloc: Global, game: &Game, table: &mut PlainTable) -> Result<(), Memory>
     requires { table.old.game ≡ game.now }
-    ensures { table.new.game ≡ game.now }
+    ensures table { table.new.game ≡ game.now }
+    ensures kept { LiesUnder table.old.values table.new.values }
 {
     let lost = Lost::of(alloc, game)?;
     let mut claim = Claim::new(alloc, game)?;
@@ -142,9 +149,11 @@ fn search(alloc: Global, game: &Game, table: &mut PlainTable) -> Result<(), Memo
 }
 
 /// Raises the table as far as a search finds, where counts can climb: lifting takes no time where none can.
+#[tactic(auto, using(crate::proofs::Rising::under_itself))]
 pub(crate) fn jump_ahead(alloc: Global, game: &Game, table: &mut PlainTable)
     requires { table.old.game ≡ game.now }
-    ensures { table.new.game ≡ game.now }
+    ensures table { table.new.game ≡ game.now }
+    ensures kept { LiesUnder table.old.values table.new.values }
 {
     if bounds(game).iter().any(|bound| *bound > 1) {
         let _ = search(alloc, game, table);

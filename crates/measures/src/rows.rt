@@ -16,7 +16,7 @@ use std::marker::Model;
 
 /// A measure for each vertex. All have as many counts, those of top say nothing.
 #[derive(Drop)]
-pub(crate) struct Rows {
+pub struct Rows {
     width: usize,
     tops: Vec<bool>,
     counts: Vec<u32>,
@@ -36,7 +36,7 @@ impl Model for Rows {
 impl Rows {
     /// So many measures whose counts are zero.
     #[tactic(auto, using(crate::proofs::Stored::rows_zeros))]
-    pub(crate) fn zeros(alloc: Global, length: usize, width: usize) -> Result<Self, AllocError>
+    pub fn zeros(alloc: Global, length: usize, width: usize) -> Result<Self, AllocError>
         requires vertices { length ≤ MOST_VERTICES }
         requires width { width ≤ COMPONENTS }
         ensures width { IfOk result (λ r. r.width ≡ width) }
@@ -90,7 +90,7 @@ impl Rows {
     }
 
     /// A copy of a measure.
-    pub(crate) fn value(&self, v: usize) -> Measure
+    pub fn value(&self, v: usize) -> Measure
         requires vertex { v < length self.now.values }
         requires few { self.now.width ≤ COMPONENTS }
         ensures { result ≡ value_at self.now.values v }
@@ -117,7 +117,7 @@ impl Rows {
     }
 
     /// Compares the measure of a place with another.
-    pub(crate) fn compare_with(&self, v: usize, m: &Measure) -> Ordering
+    pub fn compare_with(&self, v: usize, m: &Measure) -> Ordering
         requires { v < length self.now.values }
         ensures { result ≡ measure_cmp (value_at self.now.values v) m.now }
     {
@@ -162,7 +162,7 @@ impl Rows {
     }
 
     /// Puts a measure in the place of another.
-    pub(crate) fn set(&mut self, v: usize, m: &Measure)
+    pub fn set(&mut self, v: usize, m: &Measure)
         requires vertex { v < length self.old.values }
         requires width { HasWidth self.old.width m.now }
         ensures { self.new ≡ record self.old { values = slice_set self.old.values v m.now } }

@@ -3,7 +3,7 @@
 ghost use Rattle.std.specs.Prelude.{◌≡◌, ◌<◌, ◌≤◌, ◌*◌, ◌↔◌, IsTrue, IfOk, length};
 ghost use Rattle.game.specs.Wins.{Wins};
 ghost use Rattle.measures.specs.Lifting.{height, sum_of};
-ghost use Rattle.measures.specs.Progress.{IsLeastTable, IsProgress};
+ghost use Rattle.measures.specs.Progress.{IsLeastTable, IsProgress, LiesUnder, opening as opening_of};
 ghost use Rattle.measures.specs.Settling.{Sweeps};
 
 use crate::jumps::jump_ahead;
@@ -78,13 +78,26 @@ pub fn is_settled(game: &Game, table: &PlainTable) -> bool
     true
 }
 
+/// The table that solving begins with: the opening one, raised as far as a search finds. What is not found, also for want of
+/// memory, is left to lifting.
+///
+/// # Errors
+/// Want of memory for the table itself.
+pub fn first_table(alloc: Global, game: &Game) -> Result<PlainTable, Memory>
+    ensures game { IfOk result (λ t. t.game ≡ game.now) }
+    ensures raised { IfOk result (λ t. LiesUnder (opening_of game.now) t.values) }
+{
+    let mut table = opening(alloc, game)?;
+    jump_ahead(alloc, game, &mut table);
+    Ok(table)
+}
+
 /// The least progress table of a game, on one thread.
 pub fn solve_one(alloc: Global, game: &Game) -> Result<Settled, Memory>
     ensures game { IfOk result (λ s. s.game ≡ game.now) }
     ensures least { IfOk result (λ s. IsLeastTable game.now s.values) }
 {
-    let mut table = opening(alloc, game)?;
-    jump_ahead(alloc, game, &mut table);
+    let mut table = first_table(alloc, game)?;
     settle(game, &mut table);
     Ok(table.into_settled())
 }

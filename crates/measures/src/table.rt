@@ -5,7 +5,7 @@ ghost use Rattle.std.specs.List.{AllByRecursion};
 ghost use Rattle.game.specs.Game.{IsGame};
 ghost use Rattle.measures.specs.Claim.{AreRaised, Entry, IsGoodAt, IsGoodClaim, IsGoodFrom, Jumps, claimed_at, entry_at};
 ghost use Rattle.measures.specs.Measure.{IsProg, Top};
-ghost use Rattle.measures.specs.Progress.{IsProgress, greater_of, opening as opening_of, value_at};
+ghost use Rattle.measures.specs.Progress.{IsProgress, LiesUnder, greater_of, opening as opening_of, value_at};
 ghost use Rattle.measures.specs.Settling.{IsStill, LiftsAt};
 ghost use Rattle.measures.specs.Tables.{IsOpening, IsPlain, IsSettled, LiesBelow};
 
@@ -42,12 +42,28 @@ impl Model for PlainTable {
     ghost invariant = { λ t. IsStored record { game = t.of.value; values = t.rows.values } t.bounds.items t.rows.width };
 }
 
-// Whether a vertex is Odd's for ever: its priority is odd, and its only successor is itself.
-fn turns_odd(game: &Game, v: u32) -> bool
+/// Whether a vertex is Odd's for ever: its priority is odd, and its only successor is itself. Its opening value is then top,
+/// and else zeros.
+pub fn turns_odd(game: &Game, v: u32) -> bool
     requires { v < length game.now.vertices }
     ensures { IsOpening game.now v result }
 {
     game.priority(v) % 2 == 1 && game.successors(v) == [v].as_slice()
+}
+
+/// The measure of a vertex that lifting begins with.
+#[tactic(auto, using(crate::proofs::Plain::bounds_few, crate::proofs::Plain::opening_is))]
+pub fn opening_value(game: &Game, v: u32) -> Measure
+    requires { v < length game.now.vertices }
+    ensures value { result ≡ value_at (opening_of game.now) v }
+    ensures below { LiesBelow game.now v result }
+{
+    game.known();
+    if turns_odd(game, v) {
+        Measure::top()
+    } else {
+        Measure::padded(ArrayVec::new(), bounds(game).len())
+    }
 }
 
 /// The table that lifting begins with: top at a vertex of odd priority whose only successor is itself, and else zeros.
@@ -99,11 +115,13 @@ impl PlainTable {
     }
 
     /// Leaves the greater of the old measure and the new.
+    #[tactic(auto, using(crate::proofs::Rising::under_itself))]
     pub fn raise(&mut self, v: u32, m: &Measure)
         requires vertex { v < length self.old.game.vertices }
         requires below { LiesBelow self.old.game v m.now }
         ensures game { self.new.game ≡ self.old.game }
         ensures values { self.new.values ≡ slice_set self.old.values v (greater_of (value_at self.old.values v) m.now) }
+        ensures kept { LiesUnder self.old.values self.new.values }
     {
         if self.rows.compare_with(v as usize, m).is_lt() {
             self.rows.set(v as usize, m);
@@ -246,13 +264,14 @@ impl PlainTable {
 
     /// Raises each value to what is claimed of its vertex, where the claim is good, and else leaves the table as it is. The
     /// answer says whether it is good. It takes no memory, and looks at each edge of each entry once.
-    #[tactic(auto, using(crate::proofs::Claims::claims_lie_below))]
+    #[tactic(auto, using(crate::proofs::Claims::claims_lie_below, crate::proofs::Rising::raised_under, crate::proofs::Rising::under_itself))]
     pub fn jump(&mut self, game: &Game, claim: &Claim) -> bool
         requires same { self.old.game ≡ game.now }
         requires claim { claim.now.game ≡ game.now }
         ensures game { self.new.game ≡ game.now }
         ensures good { IsTrue result ↔ IsGoodClaim game.now self.old.values claim.now.entries }
         ensures jumps { Jumps self.old.values claim.now.entries self.new.values result }
+        ensures kept { LiesUnder self.old.values self.new.values }
     {
         self.known();
         if !self.is_good_claim(game, claim) {

@@ -1,0 +1,5 @@
+// Tables of measures that workers share.
+#![tactic(auto)]
+
+pub mod board;
+pub mod error;
