@@ -12,7 +12,7 @@ pub use Rattle.measures.specs.View.{ArePut, HasWidth, ReachesAt, Rows, counts_of
 pub use Rattle.std.proofs.lemmas.Option.{get_or_from_slice_get, slice_get-get_or, slice_get-map, slice_get_cases, slice_get_within}
 pub use Rattle.game.specs.Wins.{Edge, IsOf, IsStrategy, OddWins, Wins, WinsBy, greatest_met, priority_at}
 pub use Rattle.measures.specs.Tables.{IsOpening, IsPlain, IsSettled, IsStored, LiesBelow, Table}
-pub use Rattle.measures.specs.Lifting.{AreLifts, AreRises, IsLifted, code, height, rank, size, sum_of, total}
+pub use Rattle.measures.specs.Lifting.{AreLifts, AreRises, IsLifted, code, decode, height, rank, size, sum_of, total}
 pub use Rattle.measures.specs.Claim.{AreEntered, AreRaised, Claim, Descends, Entry, GoesOn, IsGoodAt, IsGoodClaim, IsGoodEntry, IsGoodFrom, claimed_at, entry_at, raised_by, value_or}
 pub use Rattle.std.proofs.lemmas.Slice.Zip.{AllZip-long}
 pub use Rattle.measures.specs.Progs.{AreFull, IsBetter, IsLiftOf, IsProgAt, IsProgUnder, bounds}

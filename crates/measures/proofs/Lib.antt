@@ -22,6 +22,7 @@ pub mod LeastDecides
 pub mod NotBoth
 pub mod Monotone
 pub mod Ranks
+pub mod Numbers
 pub mod Opening
 pub mod Lifting
 pub mod Dual

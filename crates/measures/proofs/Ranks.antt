@@ -1,5 +1,5 @@
 -- Measures as numbers, in their order.
-use Rattle.measures.proofs.Common.{◌≡◌, ℕ, suc, ◌+◌, ◌*◌, ◌/◌, ◌%◌, ◌<◌, ◌≤◌, map, subst, ◌∙◌, AllPairs, Contains, slice_index_or, true, List, [], ◌∷◌, length, sym, ap, inl, inr, arith, true≢false, mul-le-mul_right, range_with_len, leb_tells, length-map-range_with_len, get_or-map-range_with_len, AllZip-long, Game, count, Measure, Top, Counts, components, IsMeasure, IsAtMost, IsBelow, IsRank, code, height, rank, size}
+use Rattle.measures.proofs.Common.{◌≡◌, ℕ, suc, ◌+◌, ◌*◌, ◌/◌, ◌%◌, ◌<◌, ◌≤◌, map, subst, ◌∙◌, AllPairs, Contains, slice_index_or, true, List, [], ◌∷◌, length, sym, ap, inl, inr, arith, true≢false, mul-le-mul_right, range_with_len, leb_tells, length-map-range_with_len, get_or-map-range_with_len, AllZip-long, Game, count, Measure, Top, Counts, components, IsMeasure, IsAtMost, IsBelow, IsRank, code, decode, height, rank, size}
 use Rattle.measures.proofs.Order.{Over, whole_from}
 use Rattle.measures.proofs.Measures.{Bounded, at_most_both, at_most_or_below}
 
@@ -46,29 +46,24 @@ rank_same g m r h i l e = elim (at_most_or_below m r) [
   | inr q ↦ at_most_both m r l q
 ]
 
--- the list of counts of which so many are less
-abbrev decode : (ℕ → ℕ) → List ℕ → ℕ → List ℕ
-decode f [] n = []
-decode f (p ∷ ps) n = n / size f ps ∷ decode f ps (n % size f ps)
-
-size_some : (f : ℕ → ℕ) (ps : List ℕ) → 1 ≤ size f ps
+pub size_some : (f : ℕ → ℕ) (ps : List ℕ) → 1 ≤ size f ps
 size_some f [] = omega arith
 size_some f (p ∷ ps) = let s = size_some f ps in omega (arith, s)
 
-rest_low : (n s : ℕ) → 1 ≤ s → n % s < s
+pub rest_low : (n s : ℕ) → 1 ≤ s → n % s < s
 rest_low n s h = omega arith
 
-front_low : (n k s : ℕ) → 1 ≤ s → n < suc k * s → n / s ≤ k
+pub front_low : (n k s : ℕ) → 1 ≤ s → n < suc k * s → n / s ≤ k
 front_low n k s h l = elim (leb_tells (n / s) k) [
   | inl w ↦ w.1
   | inr w ↦ (let m : suc k * s ≤ (n / s) * s = mul-le-mul_right s w.1 in absurd (omega (arith, m, l, h)))
 ]
 
-decode_bounded : (f : ℕ → ℕ) (ps : List ℕ) (n : ℕ) → n < size f ps → Bounded f ps (decode f ps n)
+pub decode_bounded : (f : ℕ → ℕ) (ps : List ℕ) (n : ℕ) → n < size f ps → Bounded f ps (decode f ps n)
 decode_bounded f [] n h = tt
 decode_bounded f (p ∷ ps) n h = (front_low n (f p) (size f ps) (size_some f ps) h, decode_bounded f ps (n % size f ps) (rest_low n (size f ps) (size_some f ps)))
 
-code_decode : (f : ℕ → ℕ) (ps : List ℕ) (n : ℕ) → n < size f ps → code f ps (decode f ps n) ≡ n
+pub code_decode : (f : ℕ → ℕ) (ps : List ℕ) (n : ℕ) → n < size f ps → code f ps (decode f ps n) ≡ n
 code_decode f [] n h = omega arith
 code_decode f (p ∷ ps) n h =
     let s = size_some f ps in

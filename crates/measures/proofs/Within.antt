@@ -10,7 +10,7 @@ within_from [] (b ∷ bs) e h = absurd (omega arith)
 within_from (c ∷ cs) [] e h = absurd (omega arith)
 within_from (c ∷ cs) (b ∷ bs) e h = (h 0 (omega arith), within_from cs bs (omega arith) (λ i l. h (suc i) (omega arith)))
 
-to_bounds : (f : ℕ → ℕ) (cs ps : List ℕ) → AllZip (λ k p. k ≤ f p) cs ps → AreWithin cs (map f ps)
+pub to_bounds : (f : ℕ → ℕ) (cs ps : List ℕ) → AllZip (λ k p. k ≤ f p) cs ps → AreWithin cs (map f ps)
 to_bounds f [] [] h = tt
 to_bounds f [] (p ∷ ps) h = absurd h
 to_bounds f (c ∷ cs) [] h = absurd h

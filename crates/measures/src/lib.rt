@@ -7,6 +7,7 @@ mod jumps;
 pub mod measure;
 mod pending;
 pub mod progs;
+pub mod rank;
 pub mod rows;
 pub mod settle;
 pub mod table;
