@@ -19,6 +19,7 @@ use arrayvec::ArrayVec;
 use game::graph::Game;
 use game::player::Player;
 use lts::error::Memory;
+use search::predecessors::Predecessors;
 use std::alloc::Global;
 use std::marker::Model;
 use std::snapshot::Snapshot;
@@ -79,11 +80,10 @@ pub fn opening(alloc: Global, game: &Game) -> Result<PlainTable, Memory>
             rows.set(v as usize, &Measure::top());
         }
     }
-    let climbs = bounds.iter().any(|bound| *bound > 1);
     Ok(PlainTable {
         rows,
         bounds,
-        pending: Pending::of(alloc, game, climbs)?,
+        pending: Pending::of(alloc, game)?,
         of: Snapshot::of(game),
     })
 }
@@ -279,6 +279,11 @@ impl PlainTable {
         }
         self.raise_by(claim);
         true
+    }
+
+    /// The game's edges, backwards.
+    pub(crate) fn predecessors(&self) -> &Predecessors {
+        self.pending.predecessors()
     }
 
     /// A vertex that may rise, if one is noted.

@@ -1,185 +1,169 @@
 // Strong components (Tarjan 1972), with one list for the walk's path and for what waits (Pearce 2016).
 
-use crate::edges::successors;
-use crate::numbers::{Numbers, Span};
-use crate::order::Order;
-use crate::part::Part;
-use game::graph::Game;
-use std::alloc::{AllocError, Global};
+use crate::board::Board;
+use crate::graph::Graph;
+use crate::numbers::Span;
 
 // The low number of a vertex whose component is known.
 const CLOSED: u32 = u32::MAX;
 
-// The path of a walk from the list's front on, and what was left without a component from its back on.
-#[derive(Drop)]
-struct Path {
-    list: Numbers,
+/// The edges among the vertices that have this number.
+#[derive(Clone, Copy)]
+pub(crate) struct Part {
+    pub(crate) id: u32,
+    /// Whether Odd goes on by its moves only.
+    pub(crate) moves: bool,
+}
+
+// How far a walk is. Its path stands from the list's front on, and what was left without a component from its back on.
+#[derive(Clone, Copy)]
+struct Walk {
     depth: u32,
     waiting: u32,
-    vertices: u32,
+    // How many vertices have been met.
+    met: u32,
+    // Where the next component begins.
+    sorted: u32,
 }
 
-impl Path {
-    fn new(alloc: Global, vertices: u32) -> Result<Self, AllocError> {
-        Ok(Path {
-            list: Numbers::zeros(alloc, vertices)?,
+impl Board {
+    /// Whether an edge belongs to a part, if its source does.
+    pub(crate) fn leads(&self, graph: Graph, part: Part, v: u32, t: u32) -> bool {
+        self.note(t).id == part.id && (!part.moves || !graph.is_odds(v) || self.note(v).next == t)
+    }
+
+    /// Puts the vertices of a part in the order of their strong components, each after those to which it leads.
+    pub(crate) fn sort(&mut self, graph: Graph, part: Part, span: Span) {
+        for place in span.from..span.to {
+            let v = self.place(place).vertex;
+            self.set_number(v, 0);
+        }
+        let mut walk = Walk {
             depth: 0,
-            waiting: vertices,
-            vertices,
-        })
-    }
-
-    fn push(&mut self, v: u32) {
-        self.list.set(self.depth, v);
-        self.depth = self.depth.saturating_add(1);
-    }
-
-    fn last(&self) -> u32 {
-        self.list.get(self.depth.saturating_sub(1))
-    }
-
-    fn put_back(&mut self, v: u32) {
-        self.waiting = self.waiting.saturating_sub(1);
-        self.list.set(self.waiting, v);
-    }
-
-    // The vertex that waits since the shortest time.
-    fn waits(&self) -> Option<u32> {
-        if self.waiting < self.vertices {
-            Some(self.list.get(self.waiting))
-        } else {
-            None
-        }
-    }
-}
-
-/// The strong components of a part, each after those to which it leads, with the memory to find them.
-#[derive(Drop)]
-pub(crate) struct Components {
-    // When the walk came to a vertex. Zero is never.
-    number: Numbers,
-    // The least number of a vertex without a component that is known to be reached.
-    low: Numbers,
-    // How many successors the walk has seen.
-    seen: Numbers,
-    path: Path,
-    pub(crate) order: Order,
-    last: u32,
-}
-
-impl Components {
-    pub(crate) fn new(alloc: Global, vertices: u32) -> Result<Self, AllocError> {
-        Ok(Components {
-            number: Numbers::zeros(alloc, vertices)?,
-            low: Numbers::zeros(alloc, vertices)?,
-            seen: Numbers::zeros(alloc, vertices)?,
-            path: Path::new(alloc, vertices)?,
-            order: Order::new(alloc, vertices)?,
-            last: 0,
-        })
-    }
-
-    /// Puts the vertices between two places of the list in the order of their components.
-    pub(crate) fn sort(&mut self, part: &Part, list: &mut Numbers, span: Span) {
-        self.forget(list, span);
-        self.order.length = span.from;
+            waiting: graph.vertices(),
+            met: 0,
+            sorted: span.from,
+        };
         for place in span.from..span.to {
-            let root = list.get(place);
-            self.walk(part, root);
+            let root = self.place(place).vertex;
+            self.walk(graph, part, &mut walk, root);
         }
-        self.order.write(list, span);
+        for place in span.from..span.to {
+            let v = self.place(place).sorted;
+            self.put(place, v);
+        }
     }
 
-    fn forget(&mut self, list: &Numbers, span: Span) {
-        for place in span.from..span.to {
-            self.number.set(list.get(place), 0);
+    fn set_number(&mut self, v: u32, number: u32) {
+        if let Some(note) = self.notes.get_mut(v as usize) {
+            note.number = number;
+            note.low = number;
+            note.edges = 0;
         }
-        self.last = 0;
+    }
+
+    fn queue_at(&mut self, place: u32, v: u32) {
+        if let Some(it) = self.places.get_mut(place as usize) {
+            it.queued = v;
+        }
     }
 
     // Walks from a vertex, unless it has been met.
-    fn walk(&mut self, part: &Part, root: u32) {
-        if self.number.get(root) != 0 {
+    fn walk(&mut self, graph: Graph, part: Part, walk: &mut Walk, root: u32) {
+        if self.note(root).number != 0 {
             return;
         }
-        self.enter(root);
+        self.enter(walk, root);
         for _ in 0..u64::MAX {
-            if self.path.depth == 0 {
+            if walk.depth == 0 {
                 return;
             }
-            self.go_on(part);
+            self.go_on(graph, part, walk);
         }
     }
 
-    fn enter(&mut self, v: u32) {
-        self.last = self.last.saturating_add(1);
-        self.number.set(v, self.last);
-        self.low.set(v, self.last);
-        self.seen.set(v, 0);
-        self.path.push(v);
+    fn enter(&mut self, walk: &mut Walk, v: u32) {
+        walk.met = walk.met.saturating_add(1);
+        self.set_number(v, walk.met);
+        self.queue_at(walk.depth, v);
+        walk.depth = walk.depth.saturating_add(1);
     }
 
     // Sees one more successor of the path's last vertex, or leaves it.
-    fn go_on(&mut self, part: &Part) {
-        let v = self.path.last();
-        let seen = self.seen.get(v);
-        match successors(part.game, v).get(seen as usize) {
+    fn go_on(&mut self, graph: Graph, part: Part, walk: &mut Walk) {
+        let v = self.place(walk.depth.saturating_sub(1)).queued;
+        let seen = self.note(v).edges;
+        match graph.successors(v).get(seen as usize) {
             Some(t) => {
-                self.seen.set(v, seen.saturating_add(1));
-                if part.has(v, *t) {
-                    self.see(v, *t);
+                self.set_edges(v, seen.saturating_add(1));
+                if self.leads(graph, part, v, *t) {
+                    self.see(walk, v, *t);
                 }
             }
-            None => self.leave(v),
+            None => self.leave(walk, v),
         }
     }
 
-    fn see(&mut self, v: u32, t: u32) {
-        if self.number.get(t) == 0 {
-            self.enter(t);
+    fn see(&mut self, walk: &mut Walk, v: u32, t: u32) {
+        let next = self.note(t);
+        if next.number == 0 {
+            self.enter(walk, t);
         } else {
-            let low = self.low.get(t);
-            self.lower(v, low);
+            self.lower(v, next.low);
         }
     }
 
-    fn lower(&mut self, v: u32, number: u32) {
-        if number < self.low.get(v) {
-            self.low.set(v, number);
+    fn lower(&mut self, v: u32, low: u32) {
+        if let Some(note) = self.notes.get_mut(v as usize) {
+            note.low = note.low.min(low);
         }
     }
 
-    fn leave(&mut self, v: u32) {
-        self.path.depth = self.path.depth.saturating_sub(1);
-        let low = self.low.get(v);
-        if low == self.number.get(v) {
-            self.close(v);
+    fn leave(&mut self, walk: &mut Walk, v: u32) {
+        walk.depth = walk.depth.saturating_sub(1);
+        let note = self.note(v);
+        if note.low == note.number {
+            self.close(walk, v, note.number);
         } else {
-            self.path.put_back(v);
-            let parent = self.path.last();
-            self.lower(parent, low);
+            walk.waiting = walk.waiting.saturating_sub(1);
+            self.queue_at(walk.waiting, v);
+            let parent = self.place(walk.depth.saturating_sub(1)).queued;
+            self.lower(parent, note.low);
         }
     }
 
     // All that wait since this vertex was met are its component.
-    fn close(&mut self, v: u32) {
-        let first = self.order.length;
-        let number = self.number.get(v);
-        self.put(v);
-        for _ in 0..u32::MAX {
-            match self.path.waits() {
-                Some(next) if self.low.get(next) >= number => {
-                    self.path.waiting = self.path.waiting.saturating_add(1);
-                    self.put(next);
-                }
-                _ => break,
+    fn close(&mut self, walk: &mut Walk, v: u32, number: u32) {
+        let first = walk.sorted;
+        self.put_sorted(walk, v);
+        for place in walk.waiting..u32::MAX {
+            let next = self.place(place).queued;
+            if self.note(next).low < number {
+                walk.waiting = place;
+                break;
             }
+            self.put_sorted(walk, next);
         }
-        self.order.ends.set(first, self.order.length);
+        if let Some(place) = self.places.get_mut(first as usize) {
+            place.end = walk.sorted;
+        }
     }
 
-    fn put(&mut self, v: u32) {
-        self.low.set(v, CLOSED);
-        self.order.put(v);
+    fn put_sorted(&mut self, walk: &mut Walk, v: u32) {
+        if let Some(place) = self.places.get_mut(walk.sorted as usize) {
+            place.sorted = v;
+        }
+        if let Some(note) = self.notes.get_mut(v as usize) {
+            note.low = CLOSED;
+        }
+        walk.sorted = walk.sorted.saturating_add(1);
+    }
+
+    /// The first component of a part that was sorted.
+    pub(crate) fn first(&self, span: Span) -> Span {
+        Span {
+            from: span.from,
+            to: self.place(span.from).end,
+        }
     }
 }

@@ -1,6 +1,7 @@
 // What a recursion on priorities still has to do.
 
-use crate::field::{Tops, Won};
+use crate::attractors::Tops;
+use crate::board::Won;
 use crate::numbers::Span;
 use std::alloc::{AllocError, Global};
 
