@@ -1,10 +1,11 @@
 // The components of a game, and how far their counts go.
 
-ghost use Rattle.std.specs.Prelude.{◌≡◌, length};
+ghost use Rattle.std.specs.Prelude.{◌≡◌, ◌≤◌, length};
 ghost use Rattle.game.specs.Game.{dual};
 ghost use Rattle.measures.specs.Measure.{components};
 ghost use Rattle.measures.specs.Progs.{bounds as bounds_of};
 
+use crate::measure::COMPONENTS;
 use arrayvec::ArrayVec;
 use game::dual::greatest_priority;
 use game::graph::Game;
@@ -24,10 +25,12 @@ pub(crate) fn bounds(game: &Game) -> ArrayVec<u32, 16>
 }
 
 /// How many components a game has, and so how many counts each of its measures but top.
-#[tactic(auto, using(crate::proofs::Plain::bounds_long))]
+#[tactic(auto, using(crate::proofs::Plain::bounds_long, crate::proofs::Plain::bounds_few))]
 pub fn width(game: &Game) -> usize
-    ensures { result ≡ length (components game.now) }
+    ensures value { result ≡ length (components game.now) }
+    ensures few { result ≤ COMPONENTS }
 {
+    game.known();
     bounds(game).len()
 }
 

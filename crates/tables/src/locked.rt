@@ -1,0 +1,94 @@
+// A board of shards under locks.
+
+ghost use Rattle.std.specs.Prelude.{◌≡◌, ◌<◌, IfOk, IfErr, vec_len};
+ghost use Rattle.std.specs.Arc.{arc_value};
+ghost use Rattle.tables.specs.declared.error.TableError.TheVariants as errors;
+
+use crate::board::Board;
+use crate::error::TableError;
+use crate::shard::Shard;
+use game::graph::Game;
+use game::name::GameName;
+use measures::measure::Measure;
+use measures::table::{PlainTable, opening_value};
+use std::alloc::{AllocError, Global};
+use std::sync::{Arc, Mutex, Wait};
+
+/// The vertices of a game in shards, each shard under a lock of its own.
+#[derive(Drop)]
+pub struct LockedBoard<K: GameName, R: Wait + Drop> {
+    rt: R,
+    game: Arc<Game, Global>,
+    shards: Vec<Mutex<Shard<K>>>,
+    ghost some: { 0 < vec_len shards },
+    ghost named: { arc_value game ≡ K.game },
+}
+
+impl<K: GameName, R: Wait + Drop> LockedBoard<K, R> {
+    /// A board of so many shards, with the opening values.
+    ///
+    /// # Errors
+    /// T2.
+    pub fn new(
+        rt: R,
+        alloc: Global,
+        game: Arc<Game, Global>,
+        shards: u32,
+    ) -> Result<Self, TableError>
+        requires game { arc_value game ≡ K.game }
+        requires shards { 0 < shards }
+        ensures { IfErr result (λ e. e ≡ errors.Memory) }
+    {
+        let mut row = Vec::with_capacity(alloc, shards as usize)?;
+        for index in 0..shards {
+            let shard = Shard::new(alloc, &game, index, shards)?;
+            row.push(Mutex::new(shard)).map_err(AllocError::from)?;
+        }
+        Ok(LockedBoard {
+            rt,
+            game,
+            shards: row,
+        })
+    }
+
+    // The lock of the shard that has a vertex.
+    fn lock_of(&self, v: u32) -> &Mutex<Shard<K>> {
+        &self.shards[v as usize % self.shards.len()]
+    }
+}
+
+impl<K: GameName, R: Wait + Drop> Board for LockedBoard<K, R> {
+    type Seat = ();
+
+    ghost game = { λ b. K.game };
+
+    ghost fits = { λ b s. Unit {0} };
+
+    fn seat(&self) -> Result<(), TableError> {
+        Ok(())
+    }
+
+    fn read(&self, _seat: &mut (), v: u32) -> Measure {
+        let shard = self.lock_of(v).lock(&self.rt);
+        if shard.has(v) {
+            shard.read(v)
+        } else {
+            opening_value(&self.game, v)
+        }
+    }
+
+    fn raise(&self, _seat: &mut (), v: u32, m: &Measure) -> bool {
+        let mut shard = self.lock_of(v).lock(&self.rt);
+        shard.has(v) && shard.raise(v, m)
+    }
+
+    fn last(&self, _seat: &mut ()) {}
+
+    #[tactic(auto, using(measures::proofs::Rising::under_itself, measures::proofs::Rising::under_trans))]
+    fn finish(self, table: &mut PlainTable) {
+        let LockedBoard { game, shards, .. } = self;
+        for lock in shards {
+            lock.into_inner().raise_table(&game, table);
+        }
+    }
+}

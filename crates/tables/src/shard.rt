@@ -1,0 +1,125 @@
+// Shards of a game's vertices.
+
+ghost use Rattle.std.specs.Prelude.{◌≡◌, ◌<◌, ◌↔◌, ◌/◌, ℕ, IfErr, IfOk, IsTrue, length, slice_set};
+ghost use Rattle.measures.specs.Measure.{IsBelow};
+ghost use Rattle.measures.specs.Progress.{LiesUnder, greater_of, opening as opening_of, value_at};
+ghost use Rattle.measures.specs.Tables.{LiesBelow};
+ghost use Rattle.tables.specs.declared.error.TableError.TheVariants as errors;
+ghost use Rattle.tables.specs.Part.{Has, value_in};
+
+use crate::error::TableError;
+use game::graph::Game;
+use game::name::GameName;
+use measures::bounds::width;
+use measures::measure::Measure;
+use measures::rows::Rows;
+use measures::table::{PlainTable, turns_odd};
+use std::alloc::Global;
+use std::marker::{Model, PhantomData};
+
+/// Every `shards`th vertex of the game that K names, from `index` on, each with a measure that is not above that of any
+/// progress table.
+#[derive(Drop)]
+pub struct Shard<K: GameName> {
+    index: u32,
+    shards: u32,
+    rows: Rows,
+    of: PhantomData<K>,
+}
+
+impl<K: GameName> Model for Shard<K> {
+    ghost use Rattle.tables.specs.Part.{Part, IsStoredPart};
+
+    ghost Value = { Part };
+
+    ghost view = { λ s. record { index = s.index; shards = s.shards; values = s.rows.values } };
+
+    ghost invariant = { λ s. IsStoredPart K.game record { index = s.index; shards = s.shards; values = s.rows.values } s.rows.width };
+}
+
+impl<K: GameName> Shard<K> {
+    /// The opening values of the shard's vertices.
+    ///
+    /// # Errors
+    /// T2.
+    pub fn new(alloc: Global, game: &Game, index: u32, shards: u32) -> Result<Self, TableError>
+        requires game { game.now ≡ K.game }
+        requires index { index < shards }
+        ensures index { IfOk result (λ s. s.index ≡ index) }
+        ensures shards { IfOk result (λ s. s.shards ≡ shards) }
+        ensures refused { IfErr result (λ e. e ≡ errors.Memory) }
+        ensures values { IfOk result (λ s. (v : ℕ) → v < length K.game.vertices → Has s v → value_in s v ≡ value_at (opening_of K.game) v) }
+    {
+        game.known();
+        let vertices = game.vertices();
+        let places = vertices.div_ceil(shards);
+        let mut rows = Rows::zeros(alloc, places as usize, width(game))?;
+        for place in 0..places {
+            let v = u64::from(place) * u64::from(shards) + u64::from(index);
+            if v < u64::from(vertices) && turns_odd(game, v as u32) {
+                rows.set(place as usize, &Measure::top());
+            }
+        }
+        Ok(Shard {
+            index,
+            shards,
+            rows,
+            of: PhantomData,
+        })
+    }
+
+    /// Whether a vertex is one of the shard's.
+    pub fn has(&self, v: u32) -> bool
+        ensures { IsTrue result ↔ Has self.now v }
+    {
+        v % self.shards == self.index
+    }
+
+    /// The measure of one of the shard's vertices.
+    #[tactic(auto, using(measures::proofs::Plain::bounds_few))]
+    pub fn read(&self, v: u32) -> Measure
+        requires vertex { v < length K.game.vertices }
+        requires here { Has self.now v }
+        ensures value { result ≡ value_in self.now v }
+        ensures below { LiesBelow K.game v result }
+    {
+        self.rows.value((v / self.shards) as usize)
+    }
+
+    /// Leaves the greater of the old measure and the new. The answer says whether it rose.
+    pub fn raise(&mut self, v: u32, m: &Measure) -> bool
+        requires vertex { v < length K.game.vertices }
+        requires here { Has self.old v }
+        requires below { LiesBelow K.game v m.now }
+        ensures index { self.new.index ≡ self.old.index }
+        ensures shards { self.new.shards ≡ self.old.shards }
+        ensures values { self.new.values ≡ slice_set self.old.values (v / self.old.shards) (greater_of (value_in self.old v) m.now) }
+        ensures rose { IsTrue result ↔ IsBelow (value_in self.old v) m.now }
+    {
+        let place = (v / self.shards) as usize;
+        if self.rows.compare_with(place, m).is_ge() {
+            return false;
+        }
+        self.rows.set(place, m);
+        true
+    }
+
+    /// Raises a table to what the shard has.
+    #[tactic(auto, using(measures::proofs::Rising::under_itself, measures::proofs::Rising::under_trans))]
+    pub fn raise_table(&self, game: &Game, table: &mut PlainTable)
+        requires game { game.now ≡ K.game }
+        requires same { table.old.game ≡ K.game }
+        ensures game { table.new.game ≡ K.game }
+        ensures kept { LiesUnder table.old.values table.new.values }
+    {
+        let vertices = game.vertices();
+        let shards = self.shards;
+        let index = self.index;
+        for place in 0..vertices.div_ceil(shards) {
+            let v = u64::from(place) * u64::from(shards) + u64::from(index);
+            if v < u64::from(vertices) && self.has(v as u32) {
+                table.raise(v as u32, &self.read(v as u32));
+            }
+        }
+    }
+}
