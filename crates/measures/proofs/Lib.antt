@@ -23,6 +23,7 @@ pub mod NotBoth
 pub mod Monotone
 pub mod Ranks
 pub mod Numbers
+pub mod Gathering
 pub mod Opening
 pub mod Lifting
 pub mod Dual
@@ -31,3 +32,4 @@ pub mod Putting
 pub mod StoredClaims
 pub mod Jumping
 pub mod Rising
+pub mod Rounds
