@@ -23,6 +23,7 @@ pub mod NotBoth
 pub mod Monotone
 pub mod Ranks
 pub mod Numbers
+pub mod Gathering
 pub mod Opening
 pub mod Lifting
 pub mod Dual
@@ -32,3 +33,4 @@ pub mod StoredClaims
 pub mod Jumping
 pub mod Joined
 pub mod Rising
+pub mod Rounds

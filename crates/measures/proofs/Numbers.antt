@@ -1,10 +1,10 @@
 -- Ranks, read and written in mixed radix, one place after another.
-use Rattle.measures.proofs.Common.{◌≡◌, ℕ, Bool, true, false, zero, suc, ◌+◌, ◌*◌, ◌/◌, ◌%◌, ◌<◌, ◌≤◌, ◌↔◌, ◌++◌, List, [], ◌∷◌, length, map, drop, refl, sym, ap, ap₂, subst, ◌∙◌, inl, inr, arith, slice_index, nat_lt, if◌then◌else◌, lt-ltb, ltb-true, mul-le-mul_right, append_assoc, leb_tells, Game, count, Measure, Top, Counts, components, IsMeasure, IsBelow, IsRank, AllZip, bounds, counts_of, code, decode, height, rank, size}
+use Rattle.measures.proofs.Common.{◌≡◌, ℕ, Bool, true, false, zero, suc, ◌+◌, ◌*◌, ◌/◌, ◌%◌, ◌<◌, ◌≤◌, ◌↔◌, ◌++◌, List, [], ◌∷◌, length, map, drop, refl, sym, ap, ap₂, subst, ◌∙◌, inl, inr, arith, slice_index, nat_lt, if◌then◌else◌, lt-ltb, ltb-true, mul-le-mul_right, append_assoc, leb_tells, max, zeros, Game, count, Measure, Top, Counts, components, IsMeasure, IsAtMost, IsBelow, IsRank, AllZip, bounds, counts_of, code, decode, height, rank, size}
 use Rattle.measures.specs.Lifting.{of_rank}
 use Rattle.std.proofs.Math.Nat.{mul-div_cancel_left}
-use Rattle.measures.proofs.Measures.{Bounded}
+use Rattle.measures.proofs.Measures.{Bounded, at_most_or_below, at_most_top, none, none_bounded}
 use Rattle.measures.proofs.Within.{to_bounds}
-use Rattle.measures.proofs.Ranks.{below_rank, code_bounded, code_decode, decode_bounded, front_low, rank_is, rank_rises, size_some}
+use Rattle.measures.proofs.Ranks.{below_rank, code_bounded, code_decode, decode_bounded, front_low, rank_bounded, rank_is, rank_rises, same_rank, size_some}
 
 abbrev own : ℕ → ℕ
 own b = b
@@ -163,3 +163,35 @@ module _ (g : Game) (limits : List ℕ) (same : limits ≡ bounds g) where
   pub number_is : (m : Measure) (c : List ℕ) → (m ≡ Top → ⊥) → c ≡ counts_of m → code (λ b. b) limits c ≡ rank g m
   number_is Top c n e = absurd (n refl)
   number_is (Counts d) c n e = ap (λ bs. code (λ b. b) bs c) same ∙ (code_bounds (count g) (components g) c ∙ ap (code (count g) (components g)) e)
+
+-- ------------------------------------------------------------------ in their order
+
+pub of_rank_up : (g : Game) (n k : ℕ) → n ≤ k → IsAtMost (of_rank g n) (of_rank g k)
+of_rank_up g n k h = elim (leb_tells (height g) k) [
+  | inl w ↦ subst (λ (m : Measure). IsAtMost (of_rank g n) m) (sym (of_rank_top g k w.1)) (at_most_top (of_rank g n))
+  | inr w ↦ (
+      let low = rank_of_rank g n (let l = w.1 in omega (arith, h, l)) in
+      let high = rank_of_rank g k (let l = w.1 in omega (arith, l)) in
+      elim (at_most_or_below (of_rank g k) (of_rank g n)) [
+        | inl b ↦ (let d = rank_rises g (of_rank g k) (of_rank g n) (of_rank_measure g k) (of_rank_measure g n) b in absurd (omega (arith, d, low, high, h)))
+        | inr a ↦ a
+      ])
+]
+
+pub of_rank_rank : (g : Game) (m : Measure) → IsMeasure g m → of_rank g (rank g m) ≡ m
+of_rank_rank g m h = same_rank g (of_rank g (rank g m)) m (of_rank_measure g (rank g m)) h (rank_of_rank g (rank g m) (rank_bounded g m h))
+
+-- what holds of either of two holds of the greater
+pub of_rank_max : (P : Measure → Type 0) (g : Game) (n k : ℕ) → P (of_rank g n) → P (of_rank g k) → P (of_rank g (max n k))
+of_rank_max P g n k h i = elim (leb_tells n k) [
+  | inl w ↦ (let l = w.1 in let e : k ≡ max n k = omega (arith, l) in subst (λ (j : ℕ). P (of_rank g j)) e i)
+  | inr w ↦ (let l = w.1 in let e : n ≡ max n k = omega (arith, l) in subst (λ (j : ℕ). P (of_rank g j)) e h)
+]
+
+code_none : (f : ℕ → ℕ) (ps : List ℕ) → code f ps (none ps) ≡ 0
+code_none f [] = refl
+code_none f (p ∷ ps) = let r = code_none f ps in omega (arith, r)
+
+-- no measure is less than that of zeros
+pub of_rank_zero : (g : Game) → of_rank g 0 ≡ zeros g
+of_rank_zero g = ap (of_rank g) (sym (code_none (count g) (components g))) ∙ of_rank_rank g (zeros g) (none_bounded (count g) (components g))
