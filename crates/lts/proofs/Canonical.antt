@@ -92,7 +92,7 @@ byte_tests true true false e = (refl, refl)
 byte_tests true false c e = cc
 byte_tests false b c e = cc
 
-label_bytes : (label : List ℕ) → list_all is_label_byte label ≡ true → (list_all plain label ≡ true) × (list_any (λ b. b == 34) label ≡ false)
+pub label_bytes : (label : List ℕ) → list_all is_label_byte label ≡ true → (list_all plain label ≡ true) × (list_any (λ b. b == 34) label ≡ false)
 label_bytes [] h = (refl, refl)
 label_bytes (b ∷ label) h =
     let both = and_parts (is_label_byte b) (list_all is_label_byte label) h in

@@ -23,7 +23,7 @@ nothing_yet n old labels transitions none = record { done = []; arrows = []; eac
     start None = tt
     start (Some text) = refl
 
-cut_more : (old mid new : Option (List ℕ)) (done : List (List ℕ)) (line : List ℕ) → IfKnown old mid (IsCut done) → TakesLine mid new true line → IfKnown old new (IsCut (done ++ line ∷ []))
+pub cut_more : (old mid new : Option (List ℕ)) (done : List (List ℕ)) (line : List ℕ) → IfKnown old mid (IsCut done) → TakesLine mid new true line → IfKnown old new (IsCut (done ++ line ∷ []))
 cut_more None mid new done line cut taken = tt
 cut_more (Some text) None new done line cut taken = absurd cut
 cut_more (Some text) (Some left) None done line cut taken = absurd taken

@@ -1,1 +1,5 @@
 pub mod Canon
+pub mod Spelling
+pub mod Fault
+pub mod Scan
+pub mod Left

@@ -27,7 +27,7 @@ value_more digits i v m d w below so_far by_ten digit added =
 
 -- ---- the run of bytes that pass, at the front
 
-run_none : (p : ℕ → Bool) (ys : List ℕ) → begins p ys ≡ false → prefix_len p ys ≡ 0
+pub run_none : (p : ℕ → Bool) (ys : List ℕ) → begins p ys ≡ false → prefix_len p ys ≡ 0
 run_none p [] e = refl
 run_none p (y ∷ ys) e = rw e refl
 
@@ -66,10 +66,10 @@ some_is x y e = cc
 past : (line : List ℕ) → line ≡ take (prefix_len is_blank line) line ++ past_blanks line
 past line = sym (take-append-drop (prefix_len is_blank line) line)
 
-past_gap : (gap rest : List ℕ) → list_all is_blank gap ≡ true → begins is_blank rest ≡ false → past_blanks (gap ++ rest) ≡ rest
+pub past_gap : (gap rest : List ℕ) → list_all is_blank gap ≡ true → begins is_blank rest ≡ false → past_blanks (gap ++ rest) ≡ rest
 past_gap gap rest blank stop = rw (run_is is_blank gap rest blank stop) (front_rest (gap ++ rest) gap rest refl)
 
-sign_cuts : (token line rest : List ℕ) → sign_at token line ≡ Some rest → (gap : List ℕ) × (list_all is_blank gap ≡ true) × (line ≡ gap ++ (token ++ rest))
+pub sign_cuts : (token line rest : List ℕ) → sign_at token line ≡ Some rest → (gap : List ℕ) × (list_all is_blank gap ≡ true) × (line ≡ gap ++ (token ++ rest))
 unfolding sign_at
 sign_cuts token line rest e =
     let start = past_blanks line in
@@ -98,7 +98,7 @@ digits_numeral : (x : List ℕ) → is_numeral x ≡ true → (d : ℕ) × (ds :
 digits_numeral [] h = absurd cc
 digits_numeral (d ∷ ds) h = (d, ds, refl)
 
-number_gives : (line : List ℕ) (v : ℕ) (rest : List ℕ) → number_at line ≡ Some (v, rest)
+pub number_gives : (line : List ℕ) (v : ℕ) (rest : List ℕ) → number_at line ≡ Some (v, rest)
     → (x : List ℕ) × (is_numeral x ≡ true) × (v ≡ capped (value_of x)) × ((ts : List (List ℕ)) → IsSpaced ts rest → IsSpaced (x ∷ ts) line)
 unfolding number_at
 number_gives line v rest e =
@@ -110,7 +110,7 @@ number_gives line v rest e =
     let split : line ≡ take (prefix_len is_blank line) line ++ (take n start ++ rest) = past line ∙ ap (λ l. take (prefix_len is_blank line) line ++ l) (sym (take-append-drop n start) ∙ ap (λ l. take n start ++ l) rest-is) in
     (take n start, h.0, sym v-is, λ ts more. (take (prefix_len is_blank line) line, rest, run_passes is_blank line, split, more))
 
-number_finds : (x : List ℕ) (c : ℕ) (cs line : List ℕ) (ts : List (List ℕ)) → is_numeral x ≡ true → is_digit c ≡ false → IsSpaced (x ∷ (c ∷ cs) ∷ ts) line
+pub number_finds : (x : List ℕ) (c : ℕ) (cs line : List ℕ) (ts : List (List ℕ)) → is_numeral x ≡ true → is_digit c ≡ false → IsSpaced (x ∷ (c ∷ cs) ∷ ts) line
     → (rest : List ℕ) × (number_at line ≡ Some (capped (value_of x), rest)) × IsSpaced ((c ∷ cs) ∷ ts) rest
 unfolding number_at
 number_finds x c cs line ts hx h (gap, rest, blank, e, more) =

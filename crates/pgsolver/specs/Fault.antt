@@ -1,0 +1,64 @@
+-- The fault of a text that spells no game.
+use Rattle.std.specs.Prelude.{◌≡◌, ℕ, ◌+◌, ◌<◌, ◌≤◌, ◌⊎◌, List, [], ◌∷◌, ◌++◌, length, Contains}
+use Rattle.text.specs.Text.{lines}
+use Rattle.normal.specs.declared.limits.TheConstants.{GREATEST_PRIORITY}
+use Rattle.game.specs.declared.limits.TheConstants.{MOST_VERTICES}
+use Rattle.pgsolver.specs.Spelling.{Line, IsHeader, IsLine, AreGood}
+use Rattle.pgsolver.specs.declared.error.PgFault.{PgFault}
+use Rattle.pgsolver.specs.declared.error.PgFault.TheVariants.{BadHeader, BadLine, BadIdentifier, BadSuccessor, PriorityTooGreat, TooManyVertices}
+
+-- what is wrong with the first line
+abbrev pub HeaderFault : List (List ℕ) → PgFault → Type 0
+HeaderFault all BadHeader = (first : List ℕ) (rest : List (List ℕ)) (n : ℕ) → all ≡ first ∷ rest → IsHeader first n → ⊥
+HeaderFault all TooManyVertices = (first : List ℕ) × (rest : List (List ℕ)) × (n : ℕ) × (all ≡ first ∷ rest) × IsHeader first n × (MOST_VERTICES ≤ n)
+HeaderFault all _ = ⊥
+
+-- the identifier is above the greatest, or stands on a line before
+abbrev pub IsBadId : ℕ → List Line → Line → Type 0
+IsBadId n before x = (n < x.id) ⊎ ((y : Line) × Contains before y × (y.id ≡ x.id))
+
+-- there is no successor, or one is above the greatest identifier
+abbrev pub HasBadSuccessor : ℕ → Line → Type 0
+HasBadSuccessor n x = (x.successors ≡ []) ⊎ ((t : ℕ) × Contains x.successors t × (n < t))
+
+-- What is wrong with a line, after lines that say these. Shape decides first, then the identifier, then the successors, then the priority.
+abbrev pub LineFault : ℕ → List Line → List ℕ → PgFault → Type 0
+LineFault n before line BadLine = (x : Line) → IsLine line x → ⊥
+LineFault n before line BadIdentifier = (x : Line) × IsLine line x × IsBadId n before x
+LineFault n before line BadSuccessor = (x : Line) × IsLine line x × (IsBadId n before x → ⊥) × HasBadSuccessor n x
+LineFault n before line PriorityTooGreat = (x : Line) × IsLine line x × (IsBadId n before x → ⊥) × (HasBadSuccessor n x → ⊥) × (GREATEST_PRIORITY < x.priority)
+LineFault n before line _ = ⊥
+
+-- the first faulty line of those below a right header, and how many good ones stand before it
+pub record FaultyLine (n : ℕ) (rest : List (List ℕ)) (fault : PgFault) (good : ℕ) : Type 0 where
+  pub front : List (List ℕ)
+  pub line : List ℕ
+  pub back : List (List ℕ)
+  pub before : List Line
+  pub cut : rest ≡ front ++ line ∷ back
+  pub good_lines : AreGood n front before
+  pub count : length front ≡ good
+  pub wrong : LineFault n before line fault
+
+-- All lines are good, but the text ends before each identifier stood.
+pub record EndsTooSoon (n : ℕ) (rest : List (List ℕ)) (good : ℕ) : Type 0 where
+  pub spelled : List Line
+  pub good_lines : AreGood n rest spelled
+  pub few : length rest < n + 1
+  pub count : length rest ≡ good
+
+-- the same of an identifier that is missing, whose line is the one after the last
+abbrev pub BodyFault : ℕ → List (List ℕ) → PgFault → ℕ → Type 0
+BodyFault n rest BadIdentifier good = FaultyLine n rest BadIdentifier good ⊎ EndsTooSoon n rest good
+BodyFault n rest fault good = FaultyLine n rest fault good
+
+-- the fault that decides, and its line, from 1
+abbrev pub HasFault : List ℕ → PgFault → ℕ → Type 0
+HasFault text fault place =
+    (HeaderFault (lines text) fault × (place ≡ 1))
+    ⊎ ((first : List ℕ) × (rest : List (List ℕ)) × (n good : ℕ) × (lines text ≡ first ∷ rest) × IsHeader first n × (n < MOST_VERTICES)
+    × BodyFault n rest fault good × (place ≡ good + 2))
+
+-- the same of the fault with its line
+abbrev pub HasFaultAt : List ℕ → PgFault × ℕ → Type 0
+HasFaultAt text told = HasFault text told.0 told.1

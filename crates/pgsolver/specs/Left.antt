@@ -1,0 +1,79 @@
+-- Why a call refused what a reader had left, and what stands there.
+use Rattle.std.specs.Prelude.{◌≡◌, ◌≢◌, ℕ, ◌+◌, ◌<◌, ◌≤◌, ◌⊎◌, Bool, true, false, List, [], ◌∷◌, ◌++◌, length, map, Option, Some, None, IfSome, slice_index_or, position, nat_lt, is_some, ◌==◌}
+use Rattle.std.specs.List.{list_any}
+use Rattle.text.specs.Text.{lines}
+use Rattle.text.specs.Lines.{IfKnown}
+use Rattle.text.specs.declared.error.ReadFault.{ReadFault}
+use Rattle.text.specs.declared.error.ReadFault.TheVariants as reads
+use Rattle.lts.specs.Left.{IsCut}
+use Rattle.normal.specs.declared.limits.TheConstants.{GREATEST_PRIORITY}
+use Rattle.game.specs.Game.{Vertex}
+use Rattle.pgsolver.specs.declared.error.PgFault.{PgFault}
+use Rattle.pgsolver.specs.declared.error.PgFault.TheVariants.{BadIdentifier, BadSuccessor, PriorityTooGreat}
+use Rattle.pgsolver.specs.declared.error.PgError.{PgError}
+use Rattle.pgsolver.specs.declared.error.PgError.TheVariants.{Fault, Read, Memory}
+use Rattle.pgsolver.specs.Spelling.{Line, IsHeader, AreGood, vertex_of}
+use Rattle.pgsolver.specs.Fault.{BodyFault, LineFault}
+
+-- what is told of a line that could not be read
+abbrev pub unread : ReadFault → PgError
+unread reads.Read = Read
+unread reads.Memory = Memory
+
+-- the fault that an error tells, and its line: none for a failed read, or for want of memory
+abbrev pub named : PgError → Option (PgFault × ℕ)
+named (Fault fault line) = Some (fault, line)
+named Read = None
+named Memory = None
+
+-- P holds of what was left, where that is known, and of the fault and its line, if it was one
+abbrev pub Refuses : Option (List ℕ) → (List ℕ → PgFault → ℕ → Type 0) → PgError → Type 0
+Refuses old P e = IfSome old (λ text. IfSome (named e) (λ told. P text told.0 told.1))
+
+-- the first line is a header with this greatest identifier, and the others are left
+pub record BeginsWith (n : ℕ) (text left : List ℕ) : Type 0 where
+  pub first : List ℕ
+  pub cut : lines text ≡ first ∷ lines left
+  pub header : IsHeader first n
+
+-- the fault of the lines below a header, and its line in the whole text
+abbrev pub HasRestFault : ℕ → List ℕ → PgFault → ℕ → Type 0
+HasRestFault n text fault place = (good : ℕ) × BodyFault n (lines text) fault good × (place ≡ good + 2)
+
+-- for each identifier the first line on which it stands, if there is one
+pub record ArePlaces (n : ℕ) (spelled : List Line) (places : List (Option ℕ)) : Type 0 where
+  pub count : length places ≡ n + 1
+  pub each : (v : ℕ) → v ≤ n → slice_index_or places v None ≡ position (λ x. x.id == v) spelled
+
+-- the vertex lines that were read so far, so many and all of them good, and what they spell
+pub record SoFar (n good : ℕ) (old now : Option (List ℕ)) (vertices : List Vertex) (places : List (Option ℕ)) : Type 0 where
+  pub done : List (List ℕ)
+  pub spelled : List Line
+  pub good_lines : AreGood n done spelled
+  pub count : length done ≡ good
+  pub cut : IfKnown old now (IsCut done)
+  pub kept : vertices ≡ map vertex_of spelled
+  pub placed : ArePlaces n spelled places
+
+-- some successor is above the greatest identifier
+abbrev pub has_far : ℕ → List ℕ → Bool
+has_far n = list_any (nat_lt n)
+
+-- what a line says may stand in a game with the greatest identifier n, where these identifiers have a line
+pub record IsSound (n : ℕ) (places : List (Option ℕ)) (x : Line) : Type 0 where
+  pub id : x.id ≤ n
+  pub new : slice_index_or places x.id None ≡ None
+  pub some : x.successors ≢ []
+  pub near : has_far n x.successors ≡ false
+  pub priority : x.priority ≤ GREATEST_PRIORITY
+
+-- what is wrong with what a line says
+abbrev pub IsFirstFault : ℕ → List (Option ℕ) → Line → PgFault → Type 0
+IsFirstFault n places x BadIdentifier = (n < x.id) ⊎ ((x.id ≤ n) × (is_some (slice_index_or places x.id None) ≡ true))
+IsFirstFault n places x BadSuccessor = (x.id ≤ n) × (slice_index_or places x.id None ≡ None) × ((x.successors ≡ []) ⊎ (has_far n x.successors ≡ true))
+IsFirstFault n places x PriorityTooGreat = (x.id ≤ n) × (slice_index_or places x.id None ≡ None) × (x.successors ≢ []) × (has_far n x.successors ≡ false) × (GREATEST_PRIORITY < x.priority)
+IsFirstFault n places x _ = ⊥
+
+-- the fault of a line that stands after these, and its place
+abbrev pub TellsFault : ℕ → List Line → List ℕ → ℕ → PgError → Type 0
+TellsFault n before line place e = IfSome (named e) (λ told. LineFault n before line told.0 × (told.1 ≡ place))
