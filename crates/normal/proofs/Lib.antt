@@ -4,3 +4,4 @@ pub mod Writing
 pub mod Depth
 pub mod Numbers
 pub mod Printing
+pub mod Surveying

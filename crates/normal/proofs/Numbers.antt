@@ -4,9 +4,12 @@ use Rattle.std.specs.List.{AllByRecursion}
 use Rattle.std.specs.Str.{bytes_eq}
 use Rattle.formula.specs.Tree.{Regular, Step, Then, Either, Star, Plus, Formula, True, False, Var, Not, And, Or, Implies, Dia, Box, Mu, Nu}
 use Rattle.normal.specs.Tree.{Norm, Constant, Junction, Modality, Fixpoint, Variable, size, two, loop_of, modal, with_binder, norm, normal_form, count}
-use Rattle.normal.specs.Nodes.{nodes_by, nested, node_at, greatest, parity_from, nodes}
+use Rattle.normal.specs.Nodes.{Rule, nodes_by, node_at, parity_from, greatest_priority}
+use Rattle.normal.specs.Rules.{rule_of, nodes_with}
+use Rattle.normal.specs.declared.priorities.Priorities.{Priorities}
 use Rattle.normal.specs.Form.{IsNode, IsForm}
 use Rattle.normal.proofs.Counts.{norm_size}
+use Rattle.normal.proofs.Surveying.{greatest_append}
 use Rattle.normal.proofs.Writing.{preorder_length}
 
 -- each variable's number is below n
@@ -32,15 +35,16 @@ pub no_less : (flag : Bool) (n : ℕ) → n ≤ parity_from flag n
 no_less true n = omega arith
 no_less false n = omega arith
 
-numbered : (n at : ℕ) (f : Norm) → VariablesBelow n f → at + size f ≤ n → greatest f ≤ 31 → AllByRecursion (IsNode n) (nodes_by nested at f)
-numbered n at (Constant flag) v fits low = ((omega arith, tt), tt)
-numbered n at (Junction flag f g) v fits low = (
-  (omega arith, (omega (arith, size_some f), omega (arith, size_some g))),
-  all_append (IsNode n) (nodes_by nested (at + 1) f) (nodes_by nested (at + 1 + size f) g) (numbered n (at + 1) f v.0 (omega arith) (omega arith)) (numbered n (at + 1 + size f) g v.1 (omega arith) (omega arith)),
-)
-numbered n at (Modality flag a f) v fits low = ((omega arith, omega (arith, size_some f)), numbered n (at + 1) f v (omega arith) low)
-numbered n at (Fixpoint flag f) v fits low = ((low, omega (arith, size_some f)), numbered n (at + 1) f v (omega arith) (omega (arith, no_less flag (greatest f), low)))
-numbered n at (Variable binder) v fits low = ((omega arith, v), tt)
+numbered : (rule : Rule) (n at : ℕ) (f : Norm) → VariablesBelow n f → at + size f ≤ n → greatest_priority (nodes_by rule at f) ≤ 31 → AllByRecursion (IsNode n) (nodes_by rule at f)
+numbered rule n at (Constant flag) v fits low = ((omega arith, tt), tt)
+numbered rule n at (Junction flag f g) v fits low =
+    let both = greatest_append (nodes_by rule (at + 1) f) (nodes_by rule (at + 1 + size f) g) in (
+      (omega arith, (omega (arith, size_some f), omega (arith, size_some g))),
+      all_append (IsNode n) (nodes_by rule (at + 1) f) (nodes_by rule (at + 1 + size f) g) (numbered rule n (at + 1) f v.0 (omega arith) (omega arith)) (numbered rule n (at + 1 + size f) g v.1 (omega arith) (omega arith)),
+    )
+numbered rule n at (Modality flag a f) v fits low = ((omega arith, omega (arith, size_some f)), numbered rule n (at + 1) f v (omega arith) (omega arith))
+numbered rule n at (Fixpoint flag f) v fits low = ((omega arith, omega (arith, size_some f)), numbered rule n (at + 1) f v (omega arith) (omega arith))
+numbered rule n at (Variable binder) v fits low = ((omega arith, v), tt)
 
 -- an operand whose variables are below n wherever it finds room below n
 abbrev IsBelow : ℕ → (ℕ → Norm) → Type 0
@@ -76,13 +80,14 @@ norm_below n flag binders (Mu name f) b at fits = norm_below n flag (with_binder
 norm_below n flag binders (Nu name f) b at fits = norm_below n flag (with_binder binders name at) f (binder_below n at binders name b (omega (arith, fits))) (at + 1) (omega (arith, fits))
 
 -- The nodes of a normal form within the limits are those of a `Normal`.
-pub is_form : (f : Formula) → count f ≤ 4096 → greatest (normal_form f) ≤ 31 → IsForm (nodes f)
-is_form f few low =
+pub is_form : (priorities : Priorities) (f : Formula) → count f ≤ 4096 → greatest_priority (nodes_with priorities f) ≤ 31 → IsForm (nodes_with priorities f)
+is_form priorities f few low =
     let tree = normal_form f in
-    let n : length (nodes f) ≡ size tree = preorder_length (node_at nested) 0 tree in
+    let rule = rule_of priorities in
+    let n : length (nodes_by rule 0 tree) ≡ size tree = preorder_length (node_at rule) 0 tree in
     let below : VariablesBelow (size tree) tree = norm_below (size tree) true (λ _. 0) f (λ x. omega (arith, size_some tree)) 0 (omega arith) in
     record {
       some = omega (arith, n, size_some tree);
       limit = omega (arith, n, norm_size true (λ _. 0) f 0, few);
-      numbered = subst (λ k. AllByRecursion (IsNode k) (nodes f)) (sym n) (numbered (size tree) 0 tree below (omega arith) low);
+      numbered = subst (λ k. AllByRecursion (IsNode k) (nodes_by rule 0 tree)) (sym n) (numbered rule (size tree) 0 tree below (omega arith) low);
     }

@@ -1,10 +1,12 @@
 pub mod Tree
 pub mod Nodes
+pub mod Rules
 pub mod NormalText
 pub mod Form
 pub mod View
 pub mod Normal
 pub mod Part
+pub mod Surveys
 pub mod Writes
 pub mod Refused
 pub mod Laws

@@ -11,4 +11,6 @@ pub mod make;
 pub mod node;
 pub mod part;
 pub mod printer;
+pub mod priorities;
+pub mod survey;
 pub mod write;

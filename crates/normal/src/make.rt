@@ -1,36 +1,66 @@
 // The normal form of a formula.
 
-ghost use Rattle.std.specs.Prelude.{◌≡◌, ◌≤◌, IfOk, OnOk, IfErr};
+ghost use Rattle.std.specs.Prelude.{◌≡◌, ◌≤◌, max, IfOk, OnOk, IfErr};
 ghost use Rattle.formula.specs.View.{formula_of};
 ghost use Rattle.normal.specs.Tree.{count as count_of, depth, normal_form};
-ghost use Rattle.normal.specs.Nodes.{nodes};
+ghost use Rattle.normal.specs.Nodes.{nodes, greatest_priority};
+ghost use Rattle.normal.specs.Rules.{nodes_with};
 ghost use Rattle.normal.specs.Normal.{normal_nodes, normal_depth};
-ghost use Rattle.normal.specs.Refused.{HasRefusal};
+ghost use Rattle.normal.specs.Refused.{HasRefusal, HasRefusalWith};
 
 use crate::count::count;
 use crate::error::NormalError;
 use crate::form::Normal;
 use crate::limits::{GREATEST_PRIORITY, MOST_NODES};
 use crate::part::{Part, Scope};
+use crate::priorities::Priorities;
+use crate::survey::{Place, Survey};
 use crate::write::write;
 use formula::closed::Closed;
 use std::alloc::Global;
 
-/// The normal form of a formula. Negations go down to the action formulas, and iterations become fixpoints (Kozen 1983).
+/// The normal form of a formula with the nested priorities. Negations go down to the action formulas, and iterations become
+/// fixpoints (Kozen 1983).
+///
+/// # Errors
+/// As those of `normal_with`.
 pub fn normal(alloc: Global, formula: &Closed) -> Result<Normal, NormalError>
     ensures nodes { IfOk result (λ n. normal_nodes n ≡ nodes (formula_of formula.now.tree)) }
     ensures depth { IfOk result (λ n. normal_depth n ≡ depth (normal_form (formula_of formula.now.tree))) }
     ensures count { OnOk result (count_of (formula_of formula.now.tree) ≤ MOST_NODES) }
+    ensures low { OnOk result (greatest_priority (nodes (formula_of formula.now.tree)) ≤ GREATEST_PRIORITY) }
     ensures refused { IfErr result (HasRefusal (formula_of formula.now.tree)) }
+{
+    normal_with(alloc, formula, Priorities::Nested)
+}
+
+/// The normal form of a formula, with the priorities of this rule.
+///
+/// # Errors
+/// N1 where the nodes are too many, counted before any is made; N2 where they are not and a priority is too great, found
+/// without memory and before any node is made; N3, want of memory, only where neither stands.
+pub fn normal_with(
+    alloc: Global,
+    formula: &Closed,
+    priorities: Priorities,
+) -> Result<Normal, NormalError>
+    ensures nodes { IfOk result (λ n. normal_nodes n ≡ nodes_with priorities (formula_of formula.now.tree)) }
+    ensures depth { IfOk result (λ n. normal_depth n ≡ depth (normal_form (formula_of formula.now.tree))) }
+    ensures count { OnOk result (count_of (formula_of formula.now.tree) ≤ MOST_NODES) }
+    ensures low { OnOk result (greatest_priority (nodes_with priorities (formula_of formula.now.tree)) ≤ GREATEST_PRIORITY) }
+    ensures refused { IfErr result (HasRefusalWith priorities (formula_of formula.now.tree)) }
 {
     let tree = formula.tree();
     if count(tree).is_none() {
         return Err(NormalError::TooManyNodes);
     }
-    let mut nodes = Vec::new(alloc);
-    let summary = write(alloc, &mut nodes, &Part::Formula(true, tree, &Scope::Empty))?;
-    if summary.priority > GREATEST_PRIORITY {
+    let part = Part::Formula(true, tree, &Scope::Empty);
+    let mut survey = Survey::new(priorities);
+    let summary = survey.part(Place::ROOT, &part);
+    if summary.greatest > GREATEST_PRIORITY {
         return Err(NormalError::PriorityTooGreat);
     }
-    Ok(Normal::of(nodes, summary.from_least.max(summary.from_greatest)))
+    let mut nodes = Vec::new(alloc);
+    write(alloc, &mut nodes, &survey.priorities, &part)?;
+    Ok(Normal::of(nodes, summary.depth()))
 }

@@ -1,0 +1,9 @@
+use Rattle.std.proofs.Common.{ℕ, ◌≡◌, ◌<◌, ◌≤◌}
+use Rattle.normal.specs.Surveys.{open_at, raised}
+use Rattle.normal.proofs.survey.raise.Given as goal
+
+abbrev pub invariant-loop-i : goal.invariant-loop-i
+invariant-loop-i l = record {
+  done : (k : ℕ) → k < l.i → open_at l.opens k ≡ raised l.at l.priority (open_at l.initial.opens k);
+  left : (k : ℕ) → l.i ≤ k → open_at l.opens k ≡ open_at l.initial.opens k;
+}
