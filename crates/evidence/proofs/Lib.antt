@@ -16,3 +16,4 @@ pub mod Places
 pub mod Checked
 pub mod Firsts
 pub mod Making
+pub mod Written

@@ -1,4 +1,5 @@
 pub mod Evidence
+pub mod Canon
 pub mod Best
 pub mod Verdict
 pub mod Witness

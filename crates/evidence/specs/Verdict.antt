@@ -1,6 +1,11 @@
 -- What a checker of evidence answers.
-use Rattle.std.specs.Prelude.{◌≡◌, ◌≢◌, ℕ, ◌<◌, ◌⊎◌, length, IsTrue, Some}
+use Rattle.std.specs.Prelude.{◌≡◌, ◌≢◌, ℕ, ◌<◌, ◌⊎◌, List, [], ◌++◌, length, count_by, IsTrue, Some, codes, decimal}
+use Rattle.std.specs.Option.{is_some}
+use Rattle.lts.specs.Canon.{line_end}
+use Rattle.game.specs.declared.player.Player.{Player}
+use Rattle.game.specs.declared.player.Player.TheVariants.{Even, Odd}
 use Rattle.game.specs.Game.{Game, Vertex, vertex}
+use Rattle.evidence.specs.Canon.{player_text}
 use Rattle.evidence.specs.Evidence.{Entry, Evidence, IsFree, IsFreeAt, IsGood, entry_at, has}
 use Rattle.evidence.specs.declared.verdict.Fault.{Fault}
 use Rattle.evidence.specs.declared.verdict.Fault.TheVariants.{Leaves, Move, Rank}
@@ -42,3 +47,46 @@ IsBoth g e f (Second u fault) = IsGood g e × IsFirstFault g f u fault
 IsBoth g e f OnePlayer = IsGood g e × IsGood g f × (e.player ≡ f.player)
 IsBoth g e f (LeftOut v) = IsPair g e f × (v < length g.vertices) × IsLeftOut e f v × ((u : ℕ) → u < v → IsTrue (has e u) ⊎ IsTrue (has f u))
 IsBoth g e f Yes = IsPair g e f × ((v : ℕ) → v < length g.vertices → IsTrue (has e v) ⊎ IsTrue (has f v))
+
+-- ------------------------------------------------------------------ what is written of it
+
+abbrev pub fault_text : Fault → List ℕ
+fault_text Move = codes "C1"
+fault_text Leaves = codes "C2"
+fault_text Rank = codes "C3"
+
+-- how many vertices the set has
+abbrev pub size : Evidence → ℕ
+size e = count_by is_some e.entries
+
+-- `refused CODE at V`, with what may stand before the code
+abbrev pub refusal : List ℕ → Fault → ℕ → List ℕ
+refusal before fault v = codes "refused " ++ (before ++ (fault_text fault ++ (codes " at " ++ (decimal v ++ line_end))))
+
+-- `verified even C of N`, where the game has N vertices, or why not
+abbrev pub verdict_text : Game → Evidence → Verdict → List ℕ
+verdict_text g e Good = codes "verified " ++ (player_text e.player ++ (codes " " ++ (decimal (size e) ++ (codes " of " ++ (decimal (length g.vertices) ++ line_end)))))
+verdict_text g e (Faulty v fault) = refusal [] fault v
+
+abbrev chosen : Player → Evidence → Evidence → Evidence
+chosen Even e f = e
+chosen Odd e f = f
+
+-- of two that are of different players Even's, and Odd's
+abbrev pub even_of : Evidence → Evidence → Evidence
+even_of e f = chosen e.player e f
+
+abbrev pub odd_of : Evidence → Evidence → Evidence
+odd_of e f = chosen e.player f e
+
+-- `verified both even E odd O of N`
+abbrev pub sizes_line : (even odd vertices : ℕ) → List ℕ
+sizes_line even odd vertices = codes "verified both even " ++ (decimal even ++ (codes " odd " ++ (decimal odd ++ (codes " of " ++ (decimal vertices ++ line_end)))))
+
+-- that line, or why not
+abbrev pub both_text : Game → Evidence → Evidence → Both → List ℕ
+both_text g e f (First v fault) = refusal (codes "first ") fault v
+both_text g e f (Second v fault) = refusal (codes "second ") fault v
+both_text g e f OnePlayer = codes "refused C4" ++ line_end
+both_text g e f (LeftOut v) = codes "refused C5 at " ++ (decimal v ++ line_end)
+both_text g e f Yes = sizes_line (size (even_of e f)) (size (odd_of e f)) (length g.vertices)

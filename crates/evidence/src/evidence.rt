@@ -50,6 +50,13 @@ impl Evidence {
         let _ = &self.entries;
     }
 
+    // An entry or none for each vertex of the game.
+    pub(crate) fn entries(&self) -> &Entries
+        ensures { result.now.entries ≡ self.now.evidence.entries }
+    {
+        &self.entries
+    }
+
     /// Who wins.
     pub fn player(&self) -> Player
         ensures { result ≡ self.now.evidence.player }

@@ -8,3 +8,4 @@ pub mod law;
 pub mod make;
 pub mod verdict;
 pub mod verify;
+pub mod writer;
