@@ -29,3 +29,4 @@ pub mod Claims
 pub mod Putting
 pub mod StoredClaims
 pub mod Jumping
+pub mod Demands
