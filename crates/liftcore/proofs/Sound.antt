@@ -53,7 +53,7 @@ never_falls old new event false s v = subst (λ (c : Core). IsAtMost (value_in o
 
 -- ---- the game stays
 
-game_does : (g : Game) (old new : Core) (event : Event) → Does old event new → old.table.game ≡ g → new.table.game ≡ g
+pub game_does : (g : Game) (old new : Core) (event : Event) → Does old event new → old.table.game ≡ g → new.table.game ≡ g
 game_does g old new (Take w t) d e = ap (λ (c : Core). c.table.game) d.effect ∙ e
 game_does g old new (Read w t) d e = ap (λ (c : Core). c.table.game) d.effect ∙ e
 game_does g old new (Push w t) d e = ap (λ (c : Core). c.table.game) d.effect ∙ e

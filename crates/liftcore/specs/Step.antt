@@ -1,5 +1,5 @@
 -- What an event does, and what a list of events comes to.
-use Rattle.std.specs.Prelude.{◌≡◌, ℕ, Bool, MatchBool, List, [], ◌∷◌, Contains, Some, None, slice_get, slice_set, if◌then◌else◌}
+use Rattle.std.specs.Prelude.{◌≡◌, ◌≢◌, ◌↔◌, IsTrue, ℕ, Bool, MatchBool, List, [], ◌∷◌, Contains, Some, None, slice_get, slice_set, if◌then◌else◌}
 use Rattle.std.specs.List.{AllZip}
 use Rattle.std.specs.Ordering.{is_lt}
 use Rattle.game.specs.Game.{Vertex, vertex}
@@ -86,3 +86,10 @@ abbrev pub Steps : Core → List Event → List Bool → Core → Type 0
 Steps old [] [] new = new ≡ old
 Steps old (event ∷ events) (done ∷ dones) new = (c : Core) × Step old event done c × Steps c events dones new
 Steps old _ _ new = ⊥
+
+-- the same, and of each event it is said whether it raised the table
+abbrev pub RaisingSteps : Core → List Event → List Bool → List Bool → Core → Type 0
+RaisingSteps old [] [] [] new = new ≡ old
+RaisingSteps old (event ∷ events) (done ∷ dones) (rose ∷ rises) new =
+    (c : Core) × Step old event done c × (IsTrue rose ↔ (c.table.values ≢ old.table.values)) × RaisingSteps c events dones rises new
+RaisingSteps old _ _ _ new = ⊥

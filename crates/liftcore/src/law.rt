@@ -1,6 +1,6 @@
 // What holds of all runs of the core.
 
-ghost use Rattle.liftcore.specs.Laws.{NeverFalls, OneStep, QuietIsSettled, SettledIsLeast, StaysBelow};
+ghost use Rattle.liftcore.specs.Laws.{FewRaise, NeverFalls, OneStep, QuietIsSettled, SettledIsLeast, StaysBelow};
 
 /// The table never falls.
 pub fn never_falls()
@@ -25,4 +25,9 @@ pub fn quiet_is_settled()
 /// An event comes to one state only, and isn't both done and skipped.
 pub fn one_step()
     ensures { OneStep }
+{}
+
+/// At most as many events raise the table as top's rank times the vertices.
+pub fn few_raise()
+    ensures { FewRaise }
 {}

@@ -3,6 +3,7 @@
 
 pub mod event;
 pub mod law;
+pub mod marks;
 pub mod turn;
 
 pub use search::predecessors::Predecessors;
