@@ -34,3 +34,4 @@ pub mod Jumping
 pub mod Joined
 pub mod Rising
 pub mod Rounds
+pub mod Demands

@@ -3,7 +3,7 @@ use Rattle.measures.proofs.Common.{◌≢◌, ℕ, ◌+◌, ◌*◌, ◌<◌, �
 use Rattle.measures.proofs.Lists.{all_from}
 use Rattle.measures.proofs.Measures.{at_most_itself}
 use Rattle.measures.proofs.Lifts.{value_measure}
-use Rattle.measures.proofs.Rests.{total_bounded, total_same}
+use Rattle.measures.proofs.Rests.{total_bounded, total_more, total_same}
 use Rattle.measures.proofs.Monotone.{LiesUnder, lift_measure, lift_rises, lift_under}
 use Rattle.measures.proofs.Ranks.{rank_bounded, rank_more, rank_same}
 use Rattle.measures.proofs.Opening.{opening_table, opening_under}
@@ -36,10 +36,10 @@ lifted_table g table new is l = (l.long ∙ is.0, all_from (IsMeasure g) new Top
       | inr w ↦ subst (IsMeasure g) (sym (l.others v w.1)) (value_measure g table is.1 v)
     ]
 
--- a lift that changes the table raises the sum of its ranks
-pub sum_rises : (g : Game) (table new : List Measure) → IsTable g table → IsLifted g table new → table ≢ new → sum_of g table < sum_of g new
-sum_rises g table new is l differs = elim (leb_tells n o) [
-  | inl w ↦ absurd (differs (ext_get_or Top table new (sym l.long) (λ v h. rank_same g (value_at table v) (value_at new v) (measured v) (measured' v) (lifted_rises g table new l v) (by w.1 v (let e = is.0 in omega arith)))))
+-- a greater table has a greater sum of ranks
+pub sum_above : (g : Game) (table new : List Measure) → IsTable g table → IsTable g new → LiesUnder table new → table ≢ new → sum_of g table < sum_of g new
+sum_above g table new is are under differs = elim (leb_tells n o) [
+  | inl w ↦ absurd (differs (ext_get_or Top table new (is.0 ∙ sym are.0) (λ v h. rank_same g (value_at table v) (value_at new v) (measured v) (measured' v) (under v) (by w.1 v (let e = is.0 in omega arith)))))
   | inr w ↦ w.1
 ]
   where
@@ -53,10 +53,20 @@ sum_rises g table new is l differs = elim (leb_tells n o) [
     measured v = value_measure g table is.1 v
 
     measured' : (v : ℕ) → IsMeasure g (value_at new v)
-    measured' v = value_measure g new (lifted_table g table new is l).1 v
+    measured' v = value_measure g new are.1 v
 
     by : sum_of g new ≤ sum_of g table → (v : ℕ) → v < length g.vertices → rank g (value_at new v) ≤ rank g (value_at table v)
-    by h = total_same (λ v. rank g (value_at table v)) (λ v. rank g (value_at new v)) (length g.vertices) (λ v. rank_more g (value_at table v) (value_at new v) (measured v) (measured' v) (lifted_rises g table new l v)) h
+    by h = total_same (λ v. rank g (value_at table v)) (λ v. rank g (value_at new v)) (length g.vertices) (λ v. rank_more g (value_at table v) (value_at new v) (measured v) (measured' v) (under v)) h
+
+-- and one that is nowhere less no lesser one
+pub sum_least : (g : Game) (table new : List Measure) → IsTable g table → IsTable g new → LiesUnder table new → sum_of g table ≤ sum_of g new
+sum_least g table new is are under =
+    total_more (λ v. rank g (value_at table v)) (λ v. rank g (value_at new v)) (length g.vertices)
+    (λ v. rank_more g (value_at table v) (value_at new v) (value_measure g table is.1 v) (value_measure g new are.1 v) (under v))
+
+-- a lift that changes the table raises the sum of its ranks
+pub sum_rises : (g : Game) (table new : List Measure) → IsTable g table → IsLifted g table new → table ≢ new → sum_of g table < sum_of g new
+sum_rises g table new is l differs = sum_above g table new is (lifted_table g table new is l) (lifted_rises g table new l) differs
 
 rises_few : (g : Game) (table : List Measure) (tables : List (List Measure)) (end : List Measure) → IsTable g table → AreRises g table tables end → length tables + sum_of g table ≤ length g.vertices * height g
 rises_few g table [] end is l = let r = total_bounded (λ v. rank g (value_at table v)) (height g) (length g.vertices) (λ v h. rank_bounded g (value_at table v) (value_measure g table is.1 v)) in omega (arith, r)

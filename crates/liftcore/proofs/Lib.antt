@@ -1,0 +1,9 @@
+pub mod Turns
+pub mod Marked
+pub mod Sets
+pub mod Notes
+pub mod Raising
+pub mod Sound
+pub mod Covered
+pub mod Same
+pub mod Rises

@@ -1,0 +1,5 @@
+pub mod Reading
+pub mod Core
+pub mod Step
+pub mod Marks
+pub mod Laws
