@@ -1,5 +1,5 @@
 -- The lift of a vertex by the best of its successors' values.
-use Rattle.measures.proofs.Common.{◌≡◌, ◌≢◌, ℕ, ◌+◌, ◌<◌, ◌≤◌, List, [], ◌∷◌, ◌++◌, length, take, refl, sym, ap, subst, ◌∙◌, inl, inr, arith, true≢false, IsTrue, Contains, Some, option_map, slice_index_or, add-one, take-suc, AllZip, AllByRecursion, Ordering, Less, Equal, Greater, is_gt, is_le, length-map, Contains-append_left, Contains-append_right, slice_get_cases, AllZip-long, Player, Even, Odd, Vertex, Game, IsGame, IsVertex, count, vertex, Measure, Top, Counts, components, IsAtMost, IsBelow, IsMeasure, IsProg, measure_cmp, IsBestFor, greater_of, IsBetter, IsLiftOf, IsProgAt, IsProgUnder, bounds, counts_of}
+use Rattle.measures.proofs.Common.{◌≡◌, ◌≢◌, ℕ, ◌+◌, ◌<◌, ◌≤◌, List, [], ◌∷◌, ◌++◌, length, take, refl, sym, ap, subst, ◌∙◌, inl, inr, arith, true≢false, IsTrue, Contains, Some, option_map, slice_index_or, add-one, take-suc, AllZip, AllByRecursion, Ordering, Less, Equal, Greater, is_gt, is_le, length-map, Contains-append_left, Contains-append_right, slice_get_cases, AllZip-long, Player, Even, Odd, Vertex, Game, IsGame, IsVertex, count, vertex, Measure, Top, Counts, components, IsAtMost, IsBelow, IsMeasure, IsProg, measure_cmp, IsBestFor, greater_of, IsBetter, IsDemandOf, IsLiftOf, IsProgAt, IsProgUnder, bounds, counts_of}
 use Rattle.game.proofs.Rows.{all_more}
 use Rattle.measures.proofs.Lists.{all_got, all_weaker, contains_cases, contains_first, contains_later, contains_none}
 use Rattle.measures.proofs.Measures.{at_most_both, at_most_itself, at_most_or_below, at_most_trans, below_at_most, prog, prog_more, top_prog}
@@ -129,10 +129,13 @@ pub best_prog : (g : Game) (p : ℕ) (o : Player) (values : List Measure) (best 
 best_prog g p Even values best r h b is = let w = made g p values h in (w.0, w.1, (found g p values w.0 best r w.1 b.0 is, above g p values w.0 best r w.1 b.1 is))
 best_prog g p Odd values best r h b is = let w = made g p values h in (w.0, w.1, (found g p values w.0 best r w.1 b.0 is, under g p values w.0 best r w.1 b.1 is))
 
-pub lift_of_best : (g : Game) (v : ℕ) (o : Player) (own best risen r : Measure) (values : List Measure) → v < length g.vertices
-    → option_map (λ x. x.owner) (vertex g v) ≡ Some o → AllByRecursion (IsMeasure g) values → IsBestFor o values best → IsProgAt g v best risen → r ≡ greater_of own risen
-    → IsLiftOf g v own values r
-lift_of_best g v o own best risen r values h e measures b (x, at, is) d =
+pub demand_of_best : (g : Game) (v : ℕ) (o : Player) (best r : Measure) (values : List Measure) → v < length g.vertices → option_map (λ x. x.owner) (vertex g v) ≡ Some o
+    → AllByRecursion (IsMeasure g) values → IsBestFor o values best → IsProgAt g v best r → IsDemandOf g v values r
+demand_of_best g v o best r values h e measures b (x, at, is) =
     let same : x.owner ≡ o = vertex_tells (λ (y : Vertex). y.owner) g v o x at e in
-    let w = best_prog g x.priority o values best risen measures b is in
-    (x, at, (w.0, risen, w.1, subst (λ q. IsBestFor q w.0 risen) (sym same) w.2, d))
+    let w = best_prog g x.priority o values best r measures b is in
+    (x, at, (w.0, w.1, subst (λ q. IsBestFor q w.0 r) (sym same) w.2))
+
+-- the greater of the own value and what the vertex asks for
+pub lift_of_demand : (g : Game) (v : ℕ) (own risen r : Measure) (values : List Measure) → IsDemandOf g v values risen → r ≡ greater_of own risen → IsLiftOf g v own values r
+lift_of_demand g v own risen r values (x, at, (progs, z, b)) d = (x, at, (progs, risen, z, b, d))

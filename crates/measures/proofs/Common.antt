@@ -15,7 +15,7 @@ pub use Rattle.measures.specs.Tables.{IsOpening, IsPlain, IsSettled, IsStored, L
 pub use Rattle.measures.specs.Lifting.{AreLifts, AreRises, IsLifted, code, height, rank, size, sum_of, total}
 pub use Rattle.measures.specs.Claim.{AreEntered, AreRaised, Claim, Descends, Entry, GoesOn, IsGoodAt, IsGoodClaim, IsGoodEntry, IsGoodFrom, claimed_at, entry_at, raised_by, value_or}
 pub use Rattle.std.proofs.lemmas.Slice.Zip.{AllZip-long}
-pub use Rattle.measures.specs.Progs.{AreFull, IsBetter, IsLiftOf, IsProgAt, IsProgUnder, bounds}
+pub use Rattle.measures.specs.Progs.{AreFull, IsBetter, IsDemandOf, IsLiftOf, IsProgAt, IsProgUnder, bounds}
 pub use Rattle.std.specs.Ordering.{is_gt, is_le, is_lt, nat_cmp}
 pub use Rattle.std.proofs.lemmas.List.Elements.{All-from_recursion, AllZip-get_or, Contains-append_left, Contains-append_right}
 pub use Rattle.lts.specs.Path.{IsPath}

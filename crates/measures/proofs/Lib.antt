@@ -30,3 +30,4 @@ pub mod Putting
 pub mod StoredClaims
 pub mod Jumping
 pub mod Rising
+pub mod Demands

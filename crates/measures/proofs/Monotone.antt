@@ -54,13 +54,13 @@ lift_one g table v r s (x, at, (progs, best, zipped, b, e)) (y, is, (rises, more
     let high = best_more g x.priority (value_at table) (value_at table) same x.successors x.owner rises progs more best zips' zipped c' b in
     e ∙ (ap (greater_of (value_at table v)) (at_most_both best more low high) ∙ sym d)
 
-right_all : (g : Game) (p : ℕ) (ms progs : List Measure) → AllZip (IsProg g p) ms progs → AllByRecursion (IsMeasure g) progs
+pub right_all : (g : Game) (p : ℕ) (ms progs : List Measure) → AllZip (IsProg g p) ms progs → AllByRecursion (IsMeasure g) progs
 right_all g p [] [] h = tt
 right_all g p [] (r ∷ rs) h = absurd h
 right_all g p (m ∷ ms) [] h = absurd h
 right_all g p (m ∷ ms) (r ∷ rs) h = (h.0.measure, right_all g p ms rs h.1)
 
-best_one_of : (o : Player) (ms : List Measure) (b : Measure) → IsBestFor o ms b → Contains ms b
+pub best_one_of : (o : Player) (ms : List Measure) (b : Measure) → IsBestFor o ms b → Contains ms b
 best_one_of Even ms b h = h.0
 best_one_of Odd ms b h = h.0
 

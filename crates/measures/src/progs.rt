@@ -4,7 +4,7 @@ ghost use Rattle.std.specs.Prelude.{◌≡◌, ◌<◌, ◌≤◌, ◌↔◌, �
 ghost use Rattle.std.specs.List.{AllByRecursion, AllZip};
 ghost use Rattle.measures.specs.Measure.{Counts, IsMeasure, Top};
 ghost use Rattle.measures.specs.Progress.{IsBestFor};
-ghost use Rattle.measures.specs.Progs.{AreFull, IsBetter, IsLiftOf, IsProgAt, IsProgUnder};
+ghost use Rattle.measures.specs.Progs.{AreFull, IsBetter, IsDemandOf, IsLiftOf, IsProgAt, IsProgUnder};
 
 use crate::bounds::bounds;
 use crate::measure::{COMPONENTS, Measure, copy_of};
@@ -121,6 +121,17 @@ fn best_place(player: Player, measures: &[Measure]) -> usize
     best
 }
 
+/// What a vertex asks for where its successors have these measures.
+pub fn demand(game: &Game, v: u32, successors: &[Measure]) -> Measure
+    requires vertex { v < length game.now.vertices }
+    requires some { 0 < length successors.now }
+    requires measures { AllByRecursion (IsMeasure game.now) successors.now }
+    ensures { IsDemandOf game.now v successors.now result }
+{
+    let best = &successors[best_place(game.owner(v), successors)];
+    prog(game, v, best)
+}
+
 /// What a vertex with a measure of its own rises to, where its successors have these.
 pub fn lift(game: &Game, v: u32, own: &Measure, successors: &[Measure]) -> Measure
     requires vertex { v < length game.now.vertices }
@@ -128,8 +139,7 @@ pub fn lift(game: &Game, v: u32, own: &Measure, successors: &[Measure]) -> Measu
     requires measures { AllByRecursion (IsMeasure game.now) successors.now }
     ensures { IsLiftOf game.now v own.now successors.now result }
 {
-    let best = &successors[best_place(game.owner(v), successors)];
-    let risen = prog(game, v, best);
+    let risen = demand(game, v, successors);
     if own.is_below(&risen) {
         risen
     } else {

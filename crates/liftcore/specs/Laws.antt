@@ -1,0 +1,33 @@
+-- What holds of all runs of the core.
+use Rattle.std.specs.Prelude.{◌≡◌, ℕ, Bool, List, IsTrue}
+use Rattle.game.specs.Game.{Game, IsGame}
+use Rattle.measures.specs.Measure.{IsAtMost}
+use Rattle.measures.specs.Progress.{IsProgress}
+use Rattle.measures.specs.Tables.{IsPlain, IsSettled}
+use Rattle.liftcore.specs.Core.{Core, start, is_quiet}
+use Rattle.liftcore.specs.Step.{Step, Steps, value_in}
+use Rattle.liftcore.specs.declared.event.Event.{Event}
+
+-- An event comes to one state only, and isn't both done and skipped.
+abbrev pub OneStep : Type 0
+OneStep = (old new other : Core) (event : Event) (done did : Bool) → Step old event done new → Step old event did other → (done ≡ did) × (new ≡ other)
+
+-- The table never falls.
+abbrev pub NeverFalls : Type 0
+NeverFalls = (old new : Core) (event : Event) (done : Bool) → Step old event done new → (v : ℕ) → IsAtMost (value_in old v) (value_in new v)
+
+-- Every value stays below, whatever the events.
+abbrev pub StaysBelow : Type 0
+StaysBelow = (g : Game) (workers : ℕ) (events : List Event) (dones : List Bool) (c : Core) → IsGame g → Steps (start g workers) events dones c → IsPlain c.table
+
+-- Where the table is settled it is the least progress table.
+abbrev pub SettledIsLeast : Type 0
+SettledIsLeast =
+    (g : Game) (workers : ℕ) (events : List Event) (dones : List Bool) (c : Core) → IsGame g → Steps (start g workers) events dones c → IsProgress g c.table.values
+    → IsSettled c.table
+
+-- A quiet core is settled.
+abbrev pub QuietIsSettled : Type 0
+QuietIsSettled =
+    (g : Game) (workers : ℕ) (events : List Event) (dones : List Bool) (c : Core) → IsGame g → Steps (start g workers) events dones c → IsTrue (is_quiet c)
+    → IsProgress g c.table.values

@@ -1,0 +1,4 @@
+pub mod Reading
+pub mod Core
+pub mod Step
+pub mod Laws
