@@ -1,4 +1,5 @@
 pub mod Game
+pub mod NumberSet
 pub mod Arena
 pub mod Wins
 pub mod Rises

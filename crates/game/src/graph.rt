@@ -89,6 +89,13 @@ impl Game {
         self.counts.get(priority as usize).copied().unwrap_or(0)
     }
 
+    /// How many states and nodes there are, in a game of states with nodes, whose vertices are named by them.
+    pub fn named(&self) -> Option<(u32, u32)>
+        ensures { result ≡ self.now.named }
+    {
+        self.named
+    }
+
     /// The vertex of a state with a node, in a game of states with nodes.
     pub fn vertex_of(&self, state: u32, node: u32) -> u32
         requires { AreNames self.now state node }
