@@ -3,3 +3,4 @@ pub mod Costs
 pub mod Writing
 pub mod Depth
 pub mod Numbers
+pub mod Printing

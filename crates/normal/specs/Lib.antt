@@ -1,5 +1,6 @@
 pub mod Tree
 pub mod Nodes
+pub mod NormalText
 pub mod Form
 pub mod View
 pub mod Normal

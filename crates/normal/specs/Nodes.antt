@@ -1,5 +1,5 @@
 -- The nodes of a normal form with their priorities.
-use Rattle.std.specs.Prelude.{ℕ, ◌+◌, ◌-◌, ◌%◌, max, Bool, true, false, List}
+use Rattle.std.specs.Prelude.{ℕ, ◌+◌, ◌-◌, ◌%◌, max, Bool, true, false, List, [], ◌∷◌}
 use Rattle.formula.specs.Tree.{Formula}
 use Rattle.normal.specs.Tree.{Norm, Constant, Junction, Modality, Fixpoint, Variable, Shape, shape_at, preorder, normal_form}
 
@@ -39,3 +39,8 @@ nested at f = 0
 -- the nodes of a formula's normal form, with the nested priorities
 abbrev pub nodes : Formula → List Node
 nodes f = nodes_by nested 0 (normal_form f)
+
+-- the greatest priority that a node of the list has, and 0 where there is no node
+abbrev pub greatest_priority : List Node → ℕ
+greatest_priority [] = 0
+greatest_priority (node ∷ nodes) = max node.priority (greatest_priority nodes)

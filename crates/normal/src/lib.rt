@@ -10,4 +10,5 @@ pub mod limits;
 pub mod make;
 pub mod node;
 pub mod part;
+pub mod printer;
 pub mod write;

@@ -6,4 +6,4 @@ pub mod printer;
 pub mod tree;
 
 pub use label::holds;
-pub use printer::put_state;
+pub use printer::{put_action, put_state};

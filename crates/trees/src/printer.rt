@@ -144,8 +144,12 @@ fn put_regular_pair<W: Write>(
     put(writer, b")")
 }
 
+/// Writes the action formula's canonical text, as it stands in the text of a formula.
+///
+/// # Errors
+/// After a fault the writer holds a beginning of the text.
 #[cycle(action_text)]
-fn put_action<W: Write>(action: &Act, writer: &mut W) -> Result<(), WriteFault>
+pub fn put_action<W: Write>(action: &Act, writer: &mut W) -> Result<(), WriteFault>
     ensures { Wrote (W.contents writer.old) (W.contents writer.new) result
         (action_text (action_of action.now)) }
 {
