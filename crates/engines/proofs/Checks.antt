@@ -1,18 +1,17 @@
 -- What a check has found out.
 use Rattle.std.proofs.Common.{◌≡◌, ℕ, List, Bool, false, Some, Ok, Err, subst, sym, slice_index_or}
 use Rattle.std.proofs.KnownBytes.{Keeps-refl}
+use Rattle.std.specs.Io.KnownBytes.{Appends}
 use Rattle.std.specs.Prelude.{IfSome, IfOk, IfErr, IsErrAnd, MatchResult, Option, Result}
 use Rattle.std.proofs.lemmas.Result.{IfOk-weaker}
+use Rattle.text.specs.Wrote.{WroteFront}
 use Rattle.lts.specs.System.{System}
-use Rattle.lts.specs.Wrote.{WroteFront}
 use Rattle.lts.specs.Aut.{IsAut}
 use Rattle.formula.specs.Tree.{Formula}
-use Rattle.formula.specs.Spells.{Spells}
-use Rattle.formula.specs.Admitted.{IsAdmitted}
-use Rattle.formula.specs.Meaning.{Marks, Satisfies}
 use Rattle.engines.specs.declared.error.MuError.{MuError}
 use Rattle.engines.specs.declared.error.MuError.TheVariants as error
-use Rattle.engines.specs.Check.{AreSpelled, SpellsSystem, HasReported, HasRefused, Reported, IsPlain, IsReadRefusal, IsGameRefusal}
+use Rattle.engines.specs.Check.{Way, BySets, ByGame, AreSpelled, AreMarks, IsBeyond, SpellsSystem, HasReported, HasRefused, IsErrorOf}
+use Rattle.engines.specs.Texts.{IsFormulaOf, IsReadRefusal}
 use Rattle.engines.specs.Report.{report}
 
 -- what is said of known bytes, at them
@@ -21,71 +20,83 @@ at_known P known text e h = subst (λ o. IfSome o P) e h
 
 -- what both readers say
 pub spelled_of : (first second : List ℕ) (known_first known_second : Option (List ℕ)) (l : System) (f : Formula) → known_first ≡ Some first → known_second ≡ Some second
-    → IfSome known_first (λ text. IsAut text l) → IfSome known_first (λ text. (other : System) → IsAut text other → other ≡ l)
-    → IfSome known_second (λ text. Spells text f) → IfSome known_second (λ text. (other : Formula) → Spells text other → other ≡ f)
-    → IsAdmitted f → AreSpelled first second l f
-spelled_of first second known_first known_second l f e d system only_system formula only_formula admitted = record {
-  system = at_known (λ text. IsAut text l) known_first first e system;
-  only_system = at_known (λ text. (other : System) → IsAut text other → other ≡ l) known_first first e only_system;
-  formula = at_known (λ text. Spells text f) known_second second d formula;
-  only_formula = at_known (λ text. (other : Formula) → Spells text other → other ≡ f) known_second second d only_formula;
-  admitted = admitted;
+    → IfSome known_first (λ text. IsAut text l) → IfSome known_first (λ text. (other : System) → IsAut text other → other ≡ l) → IfSome known_second (λ text. IsFormulaOf text f)
+    → AreSpelled first second l f
+spelled_of first second known_first known_second l f e d system only_system formula = record {
+  system = record {
+    spelled = at_known (λ text. IsAut text l) known_first first e system;
+    only = at_known (λ text. (other : System) → IsAut text other → other ≡ l) known_first first e only_system;
+  };
+  formula = at_known (λ text. IsFormulaOf text f) known_second second d formula;
 }
 
--- a check that came to its report
-pub report_of : (first second : List ℕ) (old new : Option (List ℕ)) (l : System) (f : Formula) (found marks : List Bool) (r : Result Bool MuError) → marks ≡ found → AreSpelled first second l f
-    → Marks l.states found (Satisfies l f) → Reported old new (report l f marks) (slice_index_or marks l.initial false) r → IfOk r (HasReported first second old new)
-report_of first second old new l f found marks (Ok answer) same spelled exact h =
-    record { l = l; f = f; marks = marks; spelled = spelled; exact = subst (λ m. Marks l.states m (Satisfies l f)) (sym same) exact; reported = h.0; answered = h.1 }
-report_of first second old new l f found marks (Err e) same spelled exact h = tt
-
--- A report is refused for a write fault alone.
-on_write : (old new : Option (List ℕ)) (text : List ℕ) (answer : Bool) (P : MuError → Type 0) (e : MuError) → Reported old new text answer (Err e) → ((w : _) → WroteFront old new text → P (error.Write w)) → P e
-on_write old new text answer P (error.Write w) h f = f w h
-on_write old new text answer P (error.Arguments e) h f = absurd h
-on_write old new text answer P error.File h f = absurd h
-on_write old new text answer P error.Read h f = absurd h
-on_write old new text answer P error.Memory h f = absurd h
-on_write old new text answer P (error.System e) h f = absurd h
-on_write old new text answer P (error.Formula e) h f = absurd h
-on_write old new text answer P (error.Normal e) h f = absurd h
-on_write old new text answer P (error.Build e) h f = absurd h
-
-pub fault_of : (first second : List ℕ) (old new : Option (List ℕ)) (l : System) (f : Formula) (found marks : List Bool) (r : Result Bool MuError) → marks ≡ found → AreSpelled first second l f
-    → Marks l.states found (Satisfies l f) → Reported old new (report l f marks) (slice_index_or marks l.initial false) r → IfErr r (HasRefused first second old new)
-fault_of first second old new l f found marks (Ok answer) same spelled exact h = tt
-fault_of first second old new l f found marks (Err e) same spelled exact h =
-    let exact_here = subst (λ m. Marks l.states m (Satisfies l f)) (sym same) exact in
-    on_write old new (report l f marks) (slice_index_or marks l.initial false) (HasRefused first second old new) e h
-    (λ w begun. record { l = l; f = f; marks = marks; spelled = spelled; exact = exact_here; begun = begun })
-
-pub plain_of : (old new : Option (List ℕ)) (text : List ℕ) (answer : Bool) (r : Result Bool MuError) → Reported old new text answer r → IfErr r IsPlain
-plain_of old new text answer (Ok marked) h = tt
-plain_of old new text answer (Err e) h = on_write old new text answer IsPlain e h (λ w begun. tt)
-
 -- The refusal of a formula's text comes where the first text spells a system.
-pub unread_of : (first second : List ℕ) (here : Option (List ℕ)) (e : MuError) → SpellsSystem first → IsReadRefusal second e → HasRefused first second here here e
-unread_of first second here (error.Formula e) spelled h = (spelled, h, Keeps-refl here)
-unread_of first second here error.Read spelled h = (spelled, Keeps-refl here)
-unread_of first second here error.Memory spelled h = (spelled, Keeps-refl here)
-unread_of first second here (error.Arguments e) spelled h = absurd h
-unread_of first second here error.File spelled h = absurd h
-unread_of first second here (error.System e) spelled h = absurd h
-unread_of first second here (error.Normal e) spelled h = absurd h
-unread_of first second here (error.Build e) spelled h = absurd h
-unread_of first second here (error.Write e) spelled h = absurd h
+pub unread_of : (way : Way) (first second : List ℕ) (here : Option (List ℕ)) (e : MuError) → SpellsSystem first → IsReadRefusal second e → HasRefused way first second here here e
+unread_of way first second here (error.Formula e) spelled h = (spelled, h, Keeps-refl here)
+unread_of way first second here error.Read spelled h = (spelled, Keeps-refl here)
+unread_of way first second here error.Memory spelled h = (spelled, Keeps-refl here)
+unread_of way first second here (error.Arguments e) spelled h = absurd h
+unread_of way first second here error.File spelled h = absurd h
+unread_of way first second here (error.System e) spelled h = absurd h
+unread_of way first second here (error.Normal e) spelled h = absurd h
+unread_of way first second here (error.Build e) spelled h = absurd h
+unread_of way first second here (error.Write e) spelled h = absurd h
 
--- The refusal of a game comes where both texts are spelled.
-pub gameless_of : (first second : List ℕ) (here : Option (List ℕ)) (l : System) (f : Formula) (e : MuError) → AreSpelled first second l f → IsGameRefusal l f e → HasRefused first second here here e
-gameless_of first second here l f (error.Normal e) spelled h = (record { l = l; f = f; spelled = spelled; refusal = h }, Keeps-refl here)
-gameless_of first second here l f (error.Build e) spelled h = (record { l = l; f = f; spelled = spelled; refusal = h }, Keeps-refl here)
-gameless_of first second here l f error.Memory spelled h = ((l, spelled.system), Keeps-refl here)
-gameless_of first second here l f (error.Arguments e) spelled h = absurd h
-gameless_of first second here l f error.File spelled h = absurd h
-gameless_of first second here l f error.Read spelled h = absurd h
-gameless_of first second here l f (error.System e) spelled h = absurd h
-gameless_of first second here l f (error.Formula e) spelled h = absurd h
-gameless_of first second here l f (error.Write e) spelled h = absurd h
+-- That a limit is passed is told where both texts are spelled.
+pub beyond_of : (way : Way) (first second : List ℕ) (here : Option (List ℕ)) (l : System) (f : Formula) (e : MuError) → AreSpelled first second l f → IsBeyond way l f e
+    → HasRefused way first second here here e
+beyond_of BySets first second here l f error.Memory spelled h = ((l, spelled.system.spelled), Keeps-refl here)
+beyond_of BySets first second here l f (error.Normal e) spelled h = absurd h
+beyond_of BySets first second here l f (error.Build e) spelled h = absurd h
+beyond_of BySets first second here l f (error.Arguments e) spelled h = absurd h
+beyond_of BySets first second here l f error.File spelled h = absurd h
+beyond_of BySets first second here l f error.Read spelled h = absurd h
+beyond_of BySets first second here l f (error.System e) spelled h = absurd h
+beyond_of BySets first second here l f (error.Formula e) spelled h = absurd h
+beyond_of BySets first second here l f (error.Write e) spelled h = absurd h
+beyond_of ByGame first second here l f error.Memory spelled h = ((l, spelled.system.spelled), Keeps-refl here)
+beyond_of ByGame first second here l f (error.Normal e) spelled h = (record { l = l; f = f; spelled = spelled; beyond = h }, Keeps-refl here)
+beyond_of ByGame first second here l f (error.Build e) spelled h = (record { l = l; f = f; spelled = spelled; beyond = h }, Keeps-refl here)
+beyond_of ByGame first second here l f (error.Arguments e) spelled h = absurd h
+beyond_of ByGame first second here l f error.File spelled h = absurd h
+beyond_of ByGame first second here l f error.Read spelled h = absurd h
+beyond_of ByGame first second here l f (error.System e) spelled h = absurd h
+beyond_of ByGame first second here l f (error.Formula e) spelled h = absurd h
+beyond_of ByGame first second here l f (error.Write e) spelled h = absurd h
+
+-- what a way tells is an error of it
+pub error_of : (way : Way) (l : System) (f : Formula) (e : MuError) → IsBeyond way l f e → IsErrorOf way e
+error_of BySets l f error.Memory h = tt
+error_of BySets l f (error.Normal e) h = absurd h
+error_of BySets l f (error.Build e) h = absurd h
+error_of BySets l f (error.Arguments e) h = absurd h
+error_of BySets l f error.File h = absurd h
+error_of BySets l f error.Read h = absurd h
+error_of BySets l f (error.System e) h = absurd h
+error_of BySets l f (error.Formula e) h = absurd h
+error_of BySets l f (error.Write e) h = absurd h
+error_of ByGame l f e h = tt
+
+-- and so are want of memory and a write fault
+pub memory_error : (way : Way) → IsErrorOf way error.Memory
+memory_error BySets = tt
+memory_error ByGame = tt
+
+pub write_error : (way : Way) (w : _) → IsErrorOf way (error.Write w)
+write_error BySets w = tt
+write_error ByGame w = tt
+
+-- a check that came to its report
+pub reported_of : (way : Way) (first second : List ℕ) (old new : Option (List ℕ)) (l : System) (f : Formula) (marks : List Bool) (text : List ℕ) (answer : Bool) → AreSpelled first second l f → AreMarks way l f marks
+    → text ≡ report l f marks → Appends old new text → answer ≡ slice_index_or marks l.initial false → HasReported way first second old new answer
+reported_of way first second old new l f marks text answer spelled found same wrote answered =
+    record { l = l; f = f; marks = marks; spelled = spelled; within = found.0; exact = found.1; reported = subst (Appends old new) same wrote; answered = answered }
+
+-- and one whose report was cut off
+pub cut_of : (way : Way) (first second : List ℕ) (old new : Option (List ℕ)) (l : System) (f : Formula) (marks : List Bool) (text : List ℕ) (w : _) → AreSpelled first second l f → AreMarks way l f marks
+    → text ≡ report l f marks → WroteFront old new text → HasRefused way first second old new (error.Write w)
+cut_of way first second old new l f marks text w spelled found same wrote =
+    record { l = l; f = f; marks = marks; spelled = spelled; within = found.0; exact = found.1; begun = subst (WroteFront old new) same wrote }
 
 ok_same : {T : Type 0} → (x y : T) → ◌≡◌ {A = Result T MuError} (Ok x) (Ok y) → x ≡ y
 ok_same x y h = cc

@@ -6,20 +6,21 @@ use Rattle.std.proofs.Common.{◌≡◌, ◌<◌, ℕ, List, [], ◌++◌, lengt
 use Rattle.std.proofs.lemmas.List.{take_all, length-take}
 use Rattle.formula.specs.Tree.{Formula}
 use Rattle.formula.specs.Spells.{Spells, SpellsWithin}
+use Rattle.formula.specs.Admitted.{IsAdmitted}
 use Rattle.formula.specs.Fault.{HasFault}
 use Rattle.formula.specs.declared.error.FormulaFault.{FormulaFault}
 use Rattle.formula.specs.declared.error.FormulaError.{FormulaError}
 use Rattle.formula.specs.declared.error.FormulaError.TheVariants.{Fault, Memory}
 use Rattle.formula.specs.Checked.{IsTold}
+use Rattle.engines.specs.Texts.{IsFormulaOf}
 
 -- a front that is shorter than asked for is the whole
 pub whole_front : (n : ℕ) (xs : List ℕ) → length (take n xs) < n → take n xs ≡ xs
 whole_front n xs h = take_all n xs (omega (arith, length-take n xs))
 
 -- what a text's front spells within the limits, the text spells
-pub spells_front : (n : ℕ) (text : List ℕ) (f : Formula) → 1048576 < n → SpellsWithin (take n text) f → Spells text f
-spells_front n text f m h =
-    subst (λ t. Spells t f) (whole_front n text (omega (arith, h.short))) (record { pieces = h.pieces; syntax = h.syntax; written = h.written; stands_for = h.stands_for })
+pub spells_front : (n : ℕ) (text : List ℕ) (f : Formula) → 1048576 < n → SpellsWithin (take n text) f → SpellsWithin text f
+spells_front n text f m h = subst (λ t. SpellsWithin t f) (whole_front n text (omega (arith, h.short))) h
 
 -- the fault that decides a text's front decides the text
 pub fault_front : (n : ℕ) (text : List ℕ) (fault : FormulaFault) (place : ℕ) → 1048576 < n → HasFault (take n text) fault place → HasFault text fault place
@@ -38,18 +39,17 @@ read_all remaining t reader old new limit inner none h = go (remaining t.inner) 
         at None k = tt
         at (Some all) k = k ∙ (ap (λ o. o ++ take t.limit all) none ∙ ap (λ n. take n all) limit)
 
--- The text that was read spells what its front spells.
-pub spelled_of : (known : Option (List ℕ)) (front text : List ℕ) (f : Formula) → IfSome known (λ all. front ≡ take 1048577 all) → text ≡ front → SpellsWithin text f
-    → IfSome known (λ all. Spells all f)
-spelled_of None front text f h e s = tt
-spelled_of (Some all) front text f h e s = spells_front 1048577 all f (omega arith) (subst (λ t. SpellsWithin t f) (e ∙ h) s)
-
--- and nothing else
-pub only_of : (known : Option (List ℕ)) (front text : List ℕ) (f : Formula) → IfSome known (λ all. front ≡ take 1048577 all) → text ≡ front → SpellsWithin text f
-    → ((other : Formula) → Spells text other → other ≡ f) → IfSome known (λ all. (other : Formula) → Spells all other → other ≡ f)
-only_of None front text f h e s only = tt
-only_of (Some all) front text f h e s only =
-    λ other k. only other (subst (λ t. Spells t other) (sym (e ∙ (h ∙ whole_front 1048577 all (subst (λ t. length t < 1048577) (e ∙ h) (omega (arith, s.short)))))) k)
+-- What the front alone spells is spelled by the whole text, alone.
+pub formula_of_front : (known : Option (List ℕ)) (front text : List ℕ) (f : Formula) → IfSome known (λ all. front ≡ take 1048577 all) → text ≡ front → SpellsWithin text f → IsAdmitted f
+    → ((other : Formula) → Spells text other → other ≡ f) → IfSome known (λ all. IsFormulaOf all f)
+formula_of_front None front text f h e s admitted only = tt
+formula_of_front (Some all) front text f h e s admitted only =
+    let whole = whole_front 1048577 all (subst (λ t. length t < 1048577) (e ∙ h) (omega (arith, s.short))) in
+    record {
+      spelled = spells_front 1048577 all f (omega arith) (subst (λ t. SpellsWithin t f) (e ∙ h) s);
+      only = λ other k. only other (subst (λ t. Spells t other) (sym (e ∙ (h ∙ whole))) k);
+      admitted = admitted;
+    }
 
 -- The refusal of what was read is that of the text.
 pub refused_of : (all front text : List ℕ) (error : FormulaError) → front ≡ take 1048577 all → text ≡ front → IsTold text error → IsTold all error

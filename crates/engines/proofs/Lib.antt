@@ -1,4 +1,5 @@
 mod Lines
 mod Fronts
 mod Checks
+mod Limits
 mod Roots

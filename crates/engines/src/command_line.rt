@@ -50,15 +50,23 @@ pub fn command<'a>(alloc: Global, words: &'a [String]) -> Result<Command<'a>, Mu
 }
 
 fn matches_of<'a>(alloc: Global, words: &'a [String]) -> Result<ArgMatches<'a>, MuError> {
-    let parser = parser(alloc).map_err(|_| MuError::Memory)?;
-    parser.try_get_matches_from(words).map_err(refused)
+    let Ok(parser) = parser(alloc) else {
+        return Err(MuError::Memory);
+    };
+    match parser.try_get_matches_from(words) {
+        Ok(matches) => Ok(matches),
+        Err(error) => Err(refusal(alloc, &error)),
+    }
 }
 
 /// The refusal for what `clap` answers in place of matches; want of memory is the engine's.
-fn refused(error: ClapError) -> MuError {
+fn refusal(alloc: Global, error: &ClapError) -> MuError {
     match error.kind() {
         ErrorKind::OutOfMemory => MuError::Memory,
-        _ => MuError::Arguments(ArgumentError::Refused(error)),
+        _ => match error.to_string(alloc) {
+            Ok(text) => MuError::Arguments(ArgumentError::Refused(text)),
+            Err(_) => MuError::Memory,
+        },
     }
 }
 

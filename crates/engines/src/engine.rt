@@ -1,35 +1,21 @@
 // The engines: from both texts to the report.
 
-ghost use Rattle.std.specs.Prelude.{◌≡◌, ℕ, List, false, length, take, IfOk, IfErr, IfSome, IsErrAnd, Option, Some, slice_index_or};
+ghost use Rattle.std.specs.Prelude.{◌≡◌, ℕ, List, IfErr, IsErrAnd, MatchResult, length};
 ghost use Rattle.std.specs.Io.KnownBytes.{Keeps};
 ghost use Rattle.formula.specs.Closed.{closed_formula};
-ghost use Rattle.formula.specs.Meaning.{Marks, Satisfies};
-ghost use Rattle.formula.specs.Spells.{Spells};
-ghost use Rattle.formula.specs.Tree.{Formula};
-ghost use Rattle.engines.specs.Check.{AreSpelled, IsServed, IsUnserved, IsArguments, IsPlain, HasReported, HasRefused, Reported, IsReadRefusal, IsReadFault, IsReading};
-ghost use Rattle.engines.specs.Report.{report};
+ghost use Rattle.engines.specs.Check.{Way, BySets, ByGame, AreSpelled, AreMarks, IsBeyond, Answers, Checks, IsErrorOf, IsArguments};
+ghost use Rattle.engines.specs.Command.{way_of};
+ghost use Rattle.engines.specs.Lent.{IsServed, IsUnserved};
 
 use crate::error::{ArgumentError, MuError};
 use crate::lifting::lifted_states;
-use crate::report::write_report;
-use crate::request::Options;
-use formula::closed::Closed;
-use formula::parse;
-use lts::reader::read_aut;
-use lts::system::Lts;
+use crate::report::report_text;
+use crate::request::{Check, Options};
+use crate::texts::{Texts, read_both};
+use lts::{Memory, put};
 use meaning::plain::plain_states;
 use std::alloc::Global;
-use std::io::{ErrorKind, Read, Write};
-
-/// One byte more than the longest text of a formula: nothing behind it is read.
-const FORMULA_BYTES: u64 = 1_048_577;
-
-/// A system and a formula that were read.
-#[derive(Drop)]
-struct Texts {
-    system: Lts,
-    formula: Closed,
-}
+use std::io::{Read, Write};
 
 /// Checks a formula at each state of a system by sets of states, without a game, and reports. It answers whether the
 /// initial state satisfies the formula. The system is read first; nothing is written before all memory was taken.
@@ -42,37 +28,49 @@ pub fn check_plain<R: Read + Drop, S: Read + Drop, W: Write>(
     formula: S,
     out: &mut W,
 ) -> Result<bool, MuError>
-    ensures report { (first second : List ℕ) → R.remaining aut ≡ Some first → S.remaining formula ≡ Some second
-        → IfOk result (HasReported first second (W.contents out.old) (W.contents out.new)) }
-    ensures refusal { (first second : List ℕ) → R.remaining aut ≡ Some first → S.remaining formula ≡ Some second
-        → IfErr result (HasRefused first second (W.contents out.old) (W.contents out.new)) }
-    ensures plain { IfErr result IsPlain }
+    ensures checks { Checks BySets (R.remaining aut) (S.remaining formula) (W.contents out.old) (W.contents out.new) result }
+    ensures plain { IfErr result (IsErrorOf BySets) }
 {
     match read_both(alloc, aut, formula) {
-        Ok(texts) => report_plain(alloc, &texts, out),
+        Ok(texts) => {
+            let marks = plain_marks(alloc, &texts);
+            report(alloc, &texts, marks, out)
+        }
         Err(error) => Err(error),
     }
 }
 
-/// Reports what `plain_marks` finds.
-fn report_plain<W: Write>(alloc: Global, texts: &Texts, out: &mut W) -> Result<bool, MuError>
-    ensures report { (first second : List ℕ) → AreSpelled first second texts.now.system.system (closed_formula texts.now.formula)
-        → IfOk result (HasReported first second (W.contents out.old) (W.contents out.new)) }
-    ensures refusal { (first second : List ℕ) → AreSpelled first second texts.now.system.system (closed_formula texts.now.formula)
-        → IfErr result (HasRefused first second (W.contents out.old) (W.contents out.new)) }
-    ensures plain { IfErr result IsPlain }
-{
-    let marks = plain_marks(alloc, texts)?;
-    reported(texts, &marks, out)
-}
-
 /// A mark for each state, true where it satisfies the formula, by sets of states.
 fn plain_marks(alloc: Global, texts: &Texts) -> Result<Vec<bool>, MuError>
-    ensures meaning { IfOk result (λ marks. Marks texts.now.system.system.states marks.items
-        (Satisfies texts.now.system.system (closed_formula texts.now.formula))) }
-    ensures refusal { IfErr result (λ e. e ≡ MuError.Memory) }
+    ensures { let l = texts.now.system.system in let f = closed_formula texts.now.formula in
+        MatchResult result (λ marks. AreMarks BySets l f marks.items) (IsBeyond BySets l f) }
 {
-    plain_states(alloc, &texts.system, &texts.formula).map_err(|_| MuError::Memory)
+    match plain_states(alloc, &texts.system, &texts.formula) {
+        Ok(marks) => Ok(marks),
+        Err(Memory) => Err(MuError::Memory),
+    }
+}
+
+/// The check that a command asks for: by sets of states where it is plain, else by a game.
+///
+/// # Errors
+/// Those of `check_plain`, or of `check`.
+pub fn check_asked<R: Read + Drop, S: Read + Drop, W: Write>(
+    alloc: Global,
+    request: &Check<'_>,
+    aut: R,
+    formula: S,
+    out: &mut W,
+) -> Result<bool, MuError>
+    ensures { Checks (way_of request.now) (R.remaining aut) (S.remaining formula) (W.contents out.old) (W.contents out.new) result }
+{
+    if request.plain {
+        return check_plain(alloc, aut, formula, out);
+    }
+    let no_game: Option<&mut Vec<u8>> = None;
+    let no_evidence: Option<(&mut Vec<u8>, &mut Vec<u8>)> = None;
+    let options = &request.options;
+    check(alloc, aut, formula, options, out, no_game, no_evidence)
 }
 
 /// Checks a formula at each state of a system and reports. It answers whether the initial state satisfies the formula.
@@ -88,10 +86,8 @@ pub fn check<R: Read + Drop, S: Read + Drop, W: Write, G: Write, E: Write, O: Wr
     game: Option<&mut G>,
     evidence: Option<(&mut E, &mut O)>,
 ) -> Result<bool, MuError>
-    ensures report { (first second : List ℕ) → R.remaining aut ≡ Some first → S.remaining formula ≡ Some second
-        → IfOk result (HasReported first second (W.contents out.old) (W.contents out.new)) }
-    ensures refusal { (first second : List ℕ) → R.remaining aut ≡ Some first → S.remaining formula ≡ Some second
-        → IsServed game.entry evidence.entry → IfErr result (HasRefused first second (W.contents out.old) (W.contents out.new)) }
+    ensures checks { IsServed game.entry evidence.entry
+        → Checks ByGame (R.remaining aut) (S.remaining formula) (W.contents out.old) (W.contents out.new) result }
     ensures unserved { IsUnserved game.entry evidence.entry → IsErrAnd result IsArguments × Keeps (W.contents out.old) (W.contents out.new) }
 {
     check_one(alloc, aut, formula, options, out, game, evidence)
@@ -111,10 +107,8 @@ pub fn check_one<R: Read + Drop, S: Read + Drop, W: Write, G: Write, E: Write, O
     game: Option<&mut G>,
     evidence: Option<(&mut E, &mut O)>,
 ) -> Result<bool, MuError>
-    ensures report { (first second : List ℕ) → R.remaining aut ≡ Some first → S.remaining formula ≡ Some second
-        → IfOk result (HasReported first second (W.contents out.old) (W.contents out.new)) }
-    ensures refusal { (first second : List ℕ) → R.remaining aut ≡ Some first → S.remaining formula ≡ Some second
-        → IsServed game.entry evidence.entry → IfErr result (HasRefused first second (W.contents out.old) (W.contents out.new)) }
+    ensures checks { IsServed game.entry evidence.entry
+        → Checks ByGame (R.remaining aut) (S.remaining formula) (W.contents out.old) (W.contents out.new) result }
     ensures unserved { IsUnserved game.entry evidence.entry → IsErrAnd result IsArguments × Keeps (W.contents out.old) (W.contents out.new) }
 {
     let _ = options;
@@ -134,79 +128,36 @@ fn check_lifted<R: Read + Drop, S: Read + Drop, W: Write>(
     formula: S,
     out: &mut W,
 ) -> Result<bool, MuError>
-    ensures report { (first second : List ℕ) → R.remaining aut ≡ Some first → S.remaining formula ≡ Some second
-        → IfOk result (HasReported first second (W.contents out.old) (W.contents out.new)) }
-    ensures refusal { (first second : List ℕ) → R.remaining aut ≡ Some first → S.remaining formula ≡ Some second
-        → IfErr result (HasRefused first second (W.contents out.old) (W.contents out.new)) }
+    ensures { Checks ByGame (R.remaining aut) (S.remaining formula) (W.contents out.old) (W.contents out.new) result }
 {
     match read_both(alloc, aut, formula) {
-        Ok(texts) => report_lifted(alloc, &texts, out),
+        Ok(texts) => {
+            let marks = lifted_states(alloc, &texts.system, &texts.formula);
+            report(alloc, &texts, marks, out)
+        }
         Err(error) => Err(error),
     }
 }
 
-/// Reports what `lifted_states` finds.
-fn report_lifted<W: Write>(alloc: Global, texts: &Texts, out: &mut W) -> Result<bool, MuError>
-    ensures report { (first second : List ℕ) → AreSpelled first second texts.now.system.system (closed_formula texts.now.formula)
-        → IfOk result (HasReported first second (W.contents out.old) (W.contents out.new)) }
-    ensures refusal { (first second : List ℕ) → AreSpelled first second texts.now.system.system (closed_formula texts.now.formula)
-        → IfErr result (HasRefused first second (W.contents out.old) (W.contents out.new)) }
-{
-    let marks = lifted_states(alloc, &texts.system, &texts.formula)?;
-    reported(texts, &marks, out)
-}
-
-/// Writes the report, and answers the initial state's mark.
-fn reported<W: Write>(texts: &Texts, marks: &[bool], out: &mut W) -> Result<bool, MuError>
-    requires { length marks.now ≡ texts.now.system.system.states }
-    ensures { Reported (W.contents out.old) (W.contents out.new)
-        (report texts.now.system.system (closed_formula texts.now.formula) marks.now)
-        (slice_index_or marks.now texts.now.system.system.initial false) result }
-{
-    let initial = texts.system.initial() as usize;
-    write_report(&texts.system, &texts.formula, marks, out).map_err(MuError::Write)?;
-    Ok(marks[initial])
-}
-
-/// Reads the system and then the formula.
-fn read_both<R: Read + Drop, S: Read + Drop>(
+/// Writes the report with these marks, and answers the initial state's mark.
+fn report<W: Write>(
     alloc: Global,
-    aut: R,
-    formula: S,
-) -> Result<Texts, MuError>
-    ensures spelled { (first second : List ℕ) → R.remaining aut ≡ Some first → S.remaining formula ≡ Some second
-        → IfOk result (λ texts. AreSpelled first second texts.system.system (closed_formula texts.formula)) }
-    ensures refusal { (first second : List ℕ) → R.remaining aut ≡ Some first → S.remaining formula ≡ Some second
-        → (here : Option (List ℕ)) → IfErr result (HasRefused first second here here) }
-    ensures plain { IfErr result IsPlain }
+    texts: &Texts,
+    marks: Result<Vec<bool>, MuError>,
+    out: &mut W,
+) -> Result<bool, MuError>
+    ghost way: { Way }
+    requires { let l = texts.now.system.system in let f = closed_formula texts.now.formula in
+        MatchResult marks (λ marks. AreMarks way l f marks.items) (IsBeyond way l f) }
+    ensures answers { let l = texts.now.system.system in let f = closed_formula texts.now.formula in
+        (first second : List ℕ) → AreSpelled first second l f → Answers way first second (W.contents out.old) (W.contents out.new) result }
+    ensures errors { IfErr result (IsErrorOf way) }
 {
-    let system = read_aut(alloc, aut).map_err(MuError::System)?;
-    let formula = read_formula(alloc, formula)?;
-    Ok(Texts { system, formula })
-}
-
-/// Reads a formula. Of a text that is too long no more is read than shows it.
-fn read_formula<S: Read + Drop>(alloc: Global, formula: S) -> Result<Closed, MuError>
-    ensures spelled { IfOk result (λ f. IfSome (S.remaining formula) (λ text. Spells text (closed_formula f))) }
-    ensures only { IfOk result (λ f. IfSome (S.remaining formula) (λ text. (other : Formula) → Spells text other → other ≡ closed_formula f)) }
-    ensures refusal { (text : List ℕ) → S.remaining formula ≡ Some text → IfErr result (IsReadRefusal text) }
-    ensures fault { IfErr result IsReading }
-{
-    let text = read_front(alloc, formula)?;
-    parse(alloc, &text).map_err(MuError::Formula)
-}
-
-/// All bytes of the reader, or its first `FORMULA_BYTES`.
-fn read_front<S: Read + Drop>(alloc: Global, reader: S) -> Result<Vec<u8>, MuError>
-    ensures front { IfOk result (λ text. IfSome (S.remaining reader) (λ all. text.items ≡ take 1048577 all)) }
-    ensures refusal { IfErr result IsReadFault }
-{
-    let mut text = Vec::new(alloc);
-    match reader.take(FORMULA_BYTES).read_to_end(&mut text) {
-        Ok(_) => Ok(text),
-        Err(error) => match error.kind() {
-            ErrorKind::OutOfMemory => Err(MuError::Memory),
-            _ => Err(MuError::Read),
-        },
+    let marks = marks?;
+    let initial = texts.system.initial() as usize;
+    let text = report_text(alloc, &texts.system, &texts.formula, &marks)?;
+    match put(out, &text) {
+        Ok(()) => Ok(marks[initial]),
+        Err(fault) => Err(MuError::Write(fault)),
     }
 }

@@ -1,6 +1,5 @@
 // Why the program gave no answer.
 
-use clap::Error as ClapError;
 use formula::error::FormulaError;
 use game::error::BuildError;
 use lts::WriteFault;
@@ -13,7 +12,7 @@ use thiserror::Error;
 pub enum ArgumentError {
     /// The words are no command; the text is `clap`'s, and may be the help that was asked for.
     #[error("{0}")]
-    Refused(ClapError),
+    Refused(String),
     /// A word of the command line is no text.
     #[error("error: a word is no text\n")]
     NoText,

@@ -8,3 +8,4 @@ mod lifting;
 mod report;
 pub mod request;
 pub mod status;
+mod texts;

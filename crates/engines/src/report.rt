@@ -1,19 +1,41 @@
 // The report of a check.
 
-ghost use Rattle.std.specs.Prelude.{◌≡◌, ◌++◌, length, count_by, decimal, slice_index_or, false};
+ghost use Rattle.std.specs.Prelude.{◌≡◌, ◌++◌, length, count_by, decimal, slice_index_or, false, IfOk, IfErr};
 ghost use Rattle.lts.specs.Wrote.{Wrote};
 ghost use Rattle.formula.specs.Closed.{closed_formula};
 ghost use Rattle.engines.specs.Report.{report, system_line, formula_line, yes_line, initial_line, state_lines, yes_or_no};
 
+use crate::error::MuError;
 use formula::closed::Closed;
 use formula::print;
 use lts::system::Lts;
 use lts::{Piece, WriteFault, put, put_pieces};
+use std::alloc::Global;
 use std::io::Write;
 
-/// Writes the report: what was read, how many states satisfy the formula, whether the initial one does, and a line for
-/// each state.
-pub fn write_report<W: Write>(
+/// The report: what was read, how many states satisfy the formula, whether the initial one does, and a line for each state.
+///
+/// # Errors
+/// U4.
+pub fn report_text(
+    alloc: Global,
+    lts: &Lts,
+    formula: &Closed,
+    marks: &[bool],
+) -> Result<Vec<u8>, MuError>
+    requires { length marks.now ≡ lts.now.system.states }
+    ensures text { IfOk result (λ text. text.items ≡ report lts.now.system (closed_formula formula.now) marks.now) }
+    ensures refusal { IfErr result (λ e. e ≡ MuError.Memory) }
+{
+    let mut text = Vec::new(alloc);
+    // A vector refuses what there is no memory for, and nothing else.
+    match write_report(lts, formula, marks, &mut text) {
+        Ok(()) => Ok(text),
+        Err(WriteFault) => Err(MuError::Memory),
+    }
+}
+
+fn write_report<W: Write>(
     lts: &Lts,
     formula: &Closed,
     marks: &[bool],

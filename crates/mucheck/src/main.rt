@@ -3,14 +3,12 @@
 #![tactic(auto)]
 
 use engines::command_line::command;
-use engines::engine::{check, check_plain};
+use engines::engine::check_asked;
 use engines::error::{ArgumentError, MuError};
 use engines::request::{Check, Command};
 use engines::status::status;
-use lts::WriteFault;
-use std::alloc::Global;
 use std::fs::File;
-use std::io::{BufWriter, ErrorKind, Write};
+use std::io::ErrorKind;
 use std::process::ExitCode;
 use std::{env, io};
 
@@ -24,54 +22,31 @@ fn main(rt: HostRuntime) -> ExitCode {
 }
 
 fn run(rt: &HostRuntime) -> Result<bool, MuError> {
-    let mut words = Vec::new(rt.alloc());
-    for word in env::args(rt).map_err(unread_words)? {
-        words.push(word).map_err(|_| MuError::Memory)?;
-    }
+    let words = words(rt)?;
     match command(rt.alloc(), &words)? {
         Command::Check(request) => run_check(rt, &request),
     }
 }
 
-/// Arguments that are no text are wrong arguments.
-fn unread_words(error: io::Error) -> MuError {
-    match error.kind() {
-        ErrorKind::OutOfMemory => MuError::Memory,
-        _ => MuError::Arguments(ArgumentError::NoText),
-    }
+/// The words of the command line. Arguments that are no text are wrong arguments.
+fn words(rt: &HostRuntime) -> Result<Vec<String>, MuError> {
+    let found = match env::args(rt) {
+        Ok(found) => found.collect(rt.alloc()),
+        Err(error) if error.kind() == ErrorKind::OutOfMemory => return Err(MuError::Memory),
+        Err(_) => return Err(MuError::Arguments(ArgumentError::NoText)),
+    };
+    found.map_err(|_| MuError::Memory)
 }
 
 /// Both files are opened, in the order of the command line, before the first is read.
 fn run_check(rt: &HostRuntime, request: &Check<'_>) -> Result<bool, MuError> {
-    let system = open(rt, request.system)?;
-    let formula = open(rt, request.formula)?;
-    let mut out = BufWriter::new(rt.alloc(), io::writer(rt)).map_err(|_| MuError::Memory)?;
-    let answer = answered(rt.alloc(), request, system, formula, &mut out)?;
-    match out.flush() {
-        Ok(()) => Ok(answer),
-        Err(_) => Err(MuError::Write(WriteFault)),
-    }
-}
-
-/// The answer of the engine that is asked for.
-fn answered<W: Write>(
-    alloc: Global,
-    request: &Check<'_>,
-    system: File,
-    formula: File,
-    out: &mut W,
-) -> Result<bool, MuError> {
-    if request.plain {
-        return check_plain(alloc, system, formula, out);
-    }
-    let no_game: Option<&mut File> = None;
-    let no_evidence: Option<(&mut File, &mut File)> = None;
-    let options = &request.options;
-    check(alloc, system, formula, options, out, no_game, no_evidence)
-}
-
-fn open(rt: &HostRuntime, name: &str) -> Result<File, MuError> {
-    File::open(rt, name).map_err(|_| MuError::File)
+    let Ok(system) = File::open(rt, request.system) else {
+        return Err(MuError::File);
+    };
+    let Ok(formula) = File::open(rt, request.formula) else {
+        return Err(MuError::File);
+    };
+    check_asked(rt.alloc(), request, system, formula, &mut io::writer(rt))
 }
 
 /// One line with the code and the place; after wrong arguments also what is wrong with them, or the help.

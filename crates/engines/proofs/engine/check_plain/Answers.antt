@@ -1,10 +1,8 @@
+use Rattle.engines.specs.Check.{BySets}
 use Rattle.engines.proofs.engine.check_plain.Goals as goal
 
-pub returns-in-Ok-clause-report : goal.returns-in-Ok-clause-report
-returns-in-Ok-clause-report g c = λ first second known also. c.report_plain.ensures.report first second (c.in-Ok.ensures.spelled first second known also)
+pub returns-in-Ok-clause-checks : goal.returns-in-Ok-clause-checks
+returns-in-Ok-clause-checks g c = λ first second known also. c.report.ensures.answers first second (c.in-Ok.ensures.spelled first second known also)
 
-pub returns-in-Ok-clause-refusal : goal.returns-in-Ok-clause-refusal
-returns-in-Ok-clause-refusal g c = λ first second known also. c.report_plain.ensures.refusal first second (c.in-Ok.ensures.spelled first second known also)
-
-pub returns-in-Err-clause-refusal : goal.returns-in-Err-clause-refusal
-returns-in-Err-clause-refusal g c = λ first second known also. c.in-Err.ensures.refusal first second known also _
+pub returns-in-Err-clause-checks : goal.returns-in-Err-clause-checks
+returns-in-Err-clause-checks g c = λ first second known also. c.in-Err.ensures.refusal first second known also BySets _

@@ -1,21 +1,16 @@
 use Rattle.std.proofs.Common.{◌≡◌, subst, take}
 use Rattle.std.specs.Prelude.{IfSome}
-use Rattle.std.proofs.lemmas.Result.{IfOk-weaker, IfErr-weaker}
-use Rattle.engines.specs.Check.{IsReadRefusal}
+use Rattle.std.proofs.lemmas.Result.{IfErr-weaker}
+use Rattle.engines.specs.Texts.{IsReadRefusal}
 use Rattle.engines.specs.declared.error.MuError.TheVariants as error
-use Rattle.engines.proofs.Checks.{ok_after, ok_after_both, err_after}
-use Rattle.engines.proofs.Fronts.{spelled_of, only_of, refused_of}
-use Rattle.engines.proofs.engine.read_formula.Goals as goal
+use Rattle.engines.proofs.Checks.{ok_after_both, err_after}
+use Rattle.engines.proofs.Fronts.{formula_of_front, refused_of}
+use Rattle.engines.proofs.texts.read_formula.Goals as goal
 
 pub returns-clause-spelled : goal.returns-clause-spelled
 returns-clause-spelled g c =
-    ok_after _ c.parse.result c.map_err.result _ c.map_err.ensures.cases
-    (IfOk-weaker c.parse.result _ _ (λ f spelled. spelled_of _ _ _ _ c.in_ok-text.ensures.front c.deref.ensures.value spelled) c.parse.ensures.spelled)
-
-pub returns-clause-only : goal.returns-clause-only
-returns-clause-only g c =
     ok_after_both _ c.parse.result c.map_err.result _ _ _ c.map_err.ensures.cases c.parse.ensures.spelled c.parse.ensures.only
-    (λ f spelled only. only_of _ _ _ _ c.in_ok-text.ensures.front c.deref.ensures.value spelled only)
+    (λ f spelled only. formula_of_front _ _ _ _ c.in_ok-text.ensures.front c.deref.ensures.value spelled f.admitted only)
 
 pub returns-clause-refusal : goal.returns-clause-refusal
 returns-clause-refusal g c =

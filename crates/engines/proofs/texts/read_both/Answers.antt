@@ -2,19 +2,19 @@ use Rattle.lts.proofs.PassedOn.{passed_on}
 use Rattle.lts.specs.Aut.{IsAut}
 use Rattle.engines.specs.Check.{HasRefused}
 use Rattle.engines.proofs.Checks.{at_known, spelled_of, unread_of, ok_before}
-use Rattle.engines.proofs.engine.read_both.Goals as goal
+use Rattle.engines.proofs.texts.read_both.Goals as goal
 
 pub returns-clause-spelled : goal.returns-clause-spelled
 returns-clause-spelled g c =
     λ first second known also.
     let told = ok_before c.read_aut.result c.in_ok-system.system _ c.in_ok-system.ensures.cases c.read_aut.ensures.spelled in
     let only = ok_before c.read_aut.result c.in_ok-system.system _ c.in_ok-system.ensures.cases c.read_aut.ensures.only in
-    spelled_of first second _ _ _ _ known also told only c.in_ok-formula.ensures.spelled c.in_ok-formula.ensures.only c.in_ok-formula.formula.admitted
+    spelled_of first second _ _ _ _ known also told only c.in_ok-formula.ensures.spelled
 
 pub returns-in_err-formula-clause-refusal : goal.returns-in_err-formula-clause-refusal
 returns-in_err-formula-clause-refusal g c =
-    λ first second known also here.
+    λ first second known also way here.
     let l = c.in_ok-system.system.system in
     let told = ok_before c.read_aut.result c.in_ok-system.system _ c.in_ok-system.ensures.cases c.read_aut.ensures.spelled in
-    passed_on c.from_residual-in_err-formula.result c.in_err-formula.field-0.0 (HasRefused first second here here) c.from_residual-in_err-formula.ensures.1
-    (unread_of first second here c.in_err-formula.field-0.0 (l, at_known (λ text. IsAut text l) _ first known told) (c.in_err-formula.ensures.refusal second also))
+    passed_on c.from_residual-in_err-formula.result c.in_err-formula.field-0.0 (HasRefused way first second here here) c.from_residual-in_err-formula.ensures.1
+    (unread_of way first second here c.in_err-formula.field-0.0 (l, at_known (λ text. IsAut text l) _ first known told) (c.in_err-formula.ensures.refusal second also))

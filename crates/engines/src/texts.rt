@@ -1,0 +1,73 @@
+// The texts of a check, read.
+
+ghost use Rattle.std.specs.Prelude.{◌≡◌, ℕ, List, take, IfOk, IfErr, IfSome, Option, Some};
+ghost use Rattle.formula.specs.Closed.{closed_formula};
+ghost use Rattle.engines.specs.Texts.{IsFormulaOf, IsReadRefusal, IsReadFault, IsReading};
+ghost use Rattle.engines.specs.Check.{Way, BySets, AreSpelled, HasRefused, IsErrorOf};
+
+use crate::error::MuError;
+use formula::closed::Closed;
+use formula::limits::LONGEST_TEXT;
+use formula::parse;
+use lts::reader::read_aut;
+use lts::system::Lts;
+use std::alloc::Global;
+use std::io::{ErrorKind, Read};
+
+/// One byte more than the longest text of a formula: nothing behind it is read.
+const FORMULA_BYTES: u64 = LONGEST_TEXT as u64 + 1;
+
+/// A system and a formula that were read.
+#[derive(Drop)]
+pub struct Texts {
+    pub system: Lts,
+    pub formula: Closed,
+}
+
+/// Reads the system and then the formula.
+///
+/// # Errors
+/// Those of the readers, unchanged; U3 where a read of the formula failed, U4 for memory in the engine.
+pub fn read_both<R: Read + Drop, S: Read + Drop>(
+    alloc: Global,
+    aut: R,
+    formula: S,
+) -> Result<Texts, MuError>
+    ensures spelled { (first second : List ℕ) → R.remaining aut ≡ Some first → S.remaining formula ≡ Some second
+        → IfOk result (λ texts. AreSpelled first second texts.system.system (closed_formula texts.formula)) }
+    ensures refusal { (first second : List ℕ) → R.remaining aut ≡ Some first → S.remaining formula ≡ Some second
+        → (way : Way) (here : Option (List ℕ)) → IfErr result (HasRefused way first second here here) }
+    ensures plain { IfErr result (IsErrorOf BySets) }
+{
+    let system = read_aut(alloc, aut).map_err(MuError::System)?;
+    let formula = read_formula(alloc, formula)?;
+    Ok(Texts { system, formula })
+}
+
+/// Reads a formula. Of a text that is too long no more is read than shows it.
+///
+/// # Errors
+/// Those of `parse`; U3 where a read failed, U4 for the memory of the text.
+pub fn read_formula<S: Read + Drop>(alloc: Global, formula: S) -> Result<Closed, MuError>
+    ensures spelled { IfOk result (λ f. IfSome (S.remaining formula) (λ text. IsFormulaOf text (closed_formula f))) }
+    ensures refusal { (text : List ℕ) → S.remaining formula ≡ Some text → IfErr result (IsReadRefusal text) }
+    ensures fault { IfErr result IsReading }
+{
+    let text = read_front(alloc, formula)?;
+    parse(alloc, &text).map_err(MuError::Formula)
+}
+
+/// All bytes of the reader, or its first `FORMULA_BYTES`.
+fn read_front<S: Read + Drop>(alloc: Global, reader: S) -> Result<Vec<u8>, MuError>
+    ensures front { IfOk result (λ text. IfSome (S.remaining reader) (λ all. text.items ≡ take FORMULA_BYTES all)) }
+    ensures refusal { IfErr result IsReadFault }
+{
+    let mut text = Vec::new(alloc);
+    match reader.take(FORMULA_BYTES).read_to_end(&mut text) {
+        Ok(_) => Ok(text),
+        Err(error) => match error.kind() {
+            ErrorKind::OutOfMemory => Err(MuError::Memory),
+            _ => Err(MuError::Read),
+        },
+    }
+}
