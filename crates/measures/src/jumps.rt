@@ -123,6 +123,7 @@ fn jump_to_counts(
 }
 
 // Raises the table as far as a search finds.
+#[tactic(auto, using(crate::proofs::Rising::under_itself))]
 fn search(alloc: Global, game: &Game, table: &mut PlainTable) -> Result<(), Memory>
     requires { table.old.game ≡ game.now }
     ensures table { table.new.game ≡ game.now }
