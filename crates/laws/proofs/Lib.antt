@@ -27,3 +27,4 @@ pub mod Compared
 pub mod Sound
 pub mod Decided
 pub mod Inner
+pub mod Dependent

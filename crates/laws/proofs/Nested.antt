@@ -19,7 +19,7 @@ nodes_follow rule f = (
       (said (node_at rule) (nodes_by rule 0 f) f refl),
 )
 
-parity_is : (flag : Bool) (n : ℕ) → is_odd (parity_from flag n) ≡ flag
+pub parity_is : (flag : Bool) (n : ℕ) → is_odd (parity_from flag n) ≡ flag
 parity_is true n = same_true (parity_from true n % 2) 1 (omega arith)
 parity_is false n = other_false (parity_from false n % 2) 1 (λ e. omega arith)
 

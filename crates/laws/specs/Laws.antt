@@ -6,6 +6,8 @@ use Rattle.formula.specs.Admitted.{IsAdmitted}
 use Rattle.formula.specs.Meaning.{no_sets, Satisfies}
 use Rattle.normal.specs.Tree.{Norm, shape_at, preorder, formula_from, normal_form}
 use Rattle.normal.specs.Nodes.{Node, Rule, nodes_by, nodes}
+use Rattle.normal.specs.Rules.{nodes_with}
+use Rattle.normal.specs.declared.priorities.Priorities.{Priorities}
 use Rattle.game.specs.declared.player.Player.TheVariants.{Even}
 use Rattle.game.specs.Arena.{place, arena}
 use Rattle.game.specs.Wins.{IsStrategy, Wins}
@@ -21,6 +23,10 @@ NormalFormMeans = (l : System) (f : Formula) → IsSystem l → IsAdmitted f →
 -- The nested rule's priorities are admissible, and the normal form of an admitted formula is closed.
 abbrev pub NestedIsAdmissible : Type 0
 NestedIsAdmissible = (f : Formula) → IsAdmitted f → IsNodes (normal_form f) (nodes f)
+
+-- The same by either rule.
+abbrev pub ChosenIsAdmissible : Type 0
+ChosenIsAdmissible = (priorities : Priorities) (f : Formula) → IsAdmitted f → IsNodes (normal_form f) (nodes_with priorities f)
 
 -- Of a closed tree priorities are admissible exactly where each binder is above those inside it in which its variable is free.
 abbrev pub AdmissibleFromInside : Type 0

@@ -3,6 +3,7 @@
 
 ghost use Rattle.laws.specs.Laws.{
   AdmissibleFromInside,
+  ChosenIsAdmissible,
   EvenWinsFormula,
   EvenWinsWhereMeant,
   LeastTableDecides,
@@ -39,6 +40,11 @@ pub fn admissible_from_inside()
 /// The nested rule gives admissible priorities, and an admitted formula's normal form is closed.
 pub fn nested_is_admissible()
     ensures { NestedIsAdmissible }
+{}
+
+/// Either rule gives admissible priorities: so the laws below hold of the game by either.
+pub fn chosen_is_admissible()
+    ensures { ChosenIsAdmissible }
 {}
 
 /// Where the value of a progress table isn't top, least or not, the state is in the meaning of the node.

@@ -1,8 +1,13 @@
 -- Priorities and alternation.
-use Rattle.std.proofs.Common.{◌≡◌, ◌+◌, ◌%◌, ◌≤◌, ℕ, max, true, false, inl, inr, arith}
+use Rattle.std.proofs.Common.{◌≡◌, ◌+◌, ◌%◌, ◌≤◌, ℕ, max, Bool, true, false, List, [], ◌∷◌, ◌++◌, inl, inr, arith}
+use Rattle.std.specs.Prelude.{if◌then◌else◌}
+use Rattle.std.specs.List.{AllZip}
 use Rattle.std.proofs.lemmas.Bool.Decides.{eqb_tells}
-use Rattle.normal.specs.Tree.{Norm, Constant, Junction, Modality, Fixpoint, Variable, chain, depth}
-use Rattle.normal.specs.Nodes.{greatest, parity_from}
+use Rattle.normal.specs.Tree.{Norm, Constant, Junction, Modality, Fixpoint, Variable, size, chain, depth, normal_form}
+use Rattle.normal.specs.Nodes.{Node, nodes_by, nested, greatest, parity_from}
+use Rattle.normal.specs.Rules.{names, above, dependent}
+use Rattle.normal.specs.Laws.{DependentIsLower}
+use Rattle.normal.proofs.Numbers.{no_less}
 
 -- A chain that begins with the kind of the greatest priority is at least as long.
 record Rises (f : Norm) : Type 0 where
@@ -36,3 +41,44 @@ pub priority_within_depth : (f : Norm) → greatest f ≤ depth f
 priority_within_depth f =
     let h = rises f in
     elim (eqb_tells (greatest f % 2) 1) [ inl w ↦ omega (arith, h.odd w.1) | inr w ↦ let even : greatest f % 2 ≡ 0 = omega (arith, w.1) in omega (arith, h.even even) ]
+
+-- ---- dependent priorities
+
+parity_rises : (flag : Bool) (m n : ℕ) → m ≤ n → parity_from flag m ≤ parity_from flag n
+parity_rises true m n h = omega arith
+parity_rises false m n h = omega arith
+
+some_le : (t : Bool) (m n : ℕ) → m ≤ n → (if t then m else 0) ≤ n
+some_le true m n h = h
+some_le false m n h = omega arith
+
+above_le_greatest : (b at : ℕ) (f : Norm) → above b at f ≤ greatest f
+above_le_greatest b at (Constant flag) = omega arith
+above_le_greatest b at (Junction flag f g) = omega (arith, above_le_greatest b (at + 1) f, above_le_greatest b (at + 1 + size f) g)
+above_le_greatest b at (Modality flag a f) = above_le_greatest b (at + 1) f
+above_le_greatest b at (Fixpoint flag f) =
+    let own = some_le (names b f) (parity_from flag (above at (at + 1) f)) (parity_from flag (greatest f)) (parity_rises flag (above at (at + 1) f) (greatest f) (above_le_greatest at (at + 1) f)) in
+    omega (arith, own, above_le_greatest b (at + 1) f, no_less flag (greatest f))
+above_le_greatest b at (Variable c) = omega arith
+
+zip_append : {A B : Type 0} (R : A → B → Type 0) (xs : List A) (ys : List B) (us : List A) (vs : List B) → AllZip R xs ys → AllZip R us vs → AllZip R (xs ++ us) (ys ++ vs)
+zip_append R [] [] us vs h k = k
+zip_append R [] (y ∷ ys) us vs h k = absurd h
+zip_append R (x ∷ xs) [] us vs h k = absurd h
+zip_append R (x ∷ xs) (y ∷ ys) us vs h k = (h.0, zip_append R xs ys us vs h.1 k)
+
+abbrev IsLower : Node → Node → Type 0
+IsLower d n = d.priority ≤ n.priority
+
+lower : (at : ℕ) (f : Norm) → AllZip IsLower (nodes_by dependent at f) (nodes_by nested at f)
+lower at (Constant flag) = (omega arith, tt)
+lower at (Junction flag f g) = (
+  omega arith,
+  zip_append IsLower (nodes_by dependent (at + 1) f) (nodes_by nested (at + 1) f) (nodes_by dependent (at + 1 + size f) g) (nodes_by nested (at + 1 + size f) g) (lower (at + 1) f) (lower (at + 1 + size f) g),
+)
+lower at (Modality flag a f) = (omega arith, lower (at + 1) f)
+lower at (Fixpoint flag f) = (parity_rises flag (above at (at + 1) f) (greatest f) (above_le_greatest at (at + 1) f), lower (at + 1) f)
+lower at (Variable c) = (omega arith, tt)
+
+pub dependent_is_lower : DependentIsLower
+dependent_is_lower f = lower 0 (normal_form f)

@@ -1,8 +1,11 @@
 -- What holds of all normal forms.
 use Rattle.std.specs.Prelude.{◌≡◌, ◌≤◌}
+use Rattle.std.specs.List.{AllZip}
 use Rattle.formula.specs.Tree.{Formula}
 use Rattle.normal.specs.Tree.{Norm, size, count, depth, normal_form}
 use Rattle.normal.specs.Nodes.{greatest}
+use Rattle.normal.specs.Rules.{nodes_with}
+use Rattle.normal.specs.declared.priorities.Priorities.TheVariants.{Nested, Dependent}
 
 -- No nested priority is above the length of the longest alternating chain.
 abbrev pub PriorityWithinDepth : Type 0
@@ -10,3 +13,7 @@ PriorityWithinDepth = (f : Norm) → greatest f ≤ depth f
 
 abbrev pub CountIsSize : Type 0
 CountIsSize = (f : Formula) → count f ≡ size (normal_form f)
+
+-- No dependent priority is above the nested one of the same node.
+abbrev pub DependentIsLower : Type 0
+DependentIsLower = (f : Formula) → AllZip (λ d n. d.priority ≤ n.priority) (nodes_with Dependent f) (nodes_with Nested f)
