@@ -1,3 +1,11 @@
 pub mod Lines
 pub mod Adding
 pub mod Scanning
+pub mod Sets
+pub mod Placing
+pub mod Judging
+pub mod Reading
+pub mod Putting
+pub mod Unique
+pub mod Faults
+pub mod Whole

@@ -1,8 +1,7 @@
 -- What the tests on a whole line say of the line.
-use Rattle.std.proofs.Common.{◌≡◌, ℕ, zero, suc, ◌+◌, ◌-◌, ◌*◌, ◌<◌, ◌≤◌, Bool, true, false, cond, ◌&&◌, ◌==◌, nat_eq, List, [], ◌∷◌, ◌++◌, length, map, take, Option, Some, None, refl, sym, ap, ◌∙◌, subst, append_assoc, arith, true≢false}
+use Rattle.std.proofs.Common.{◌≡◌, ℕ, zero, suc, ◌+◌, ◌-◌, ◌*◌, ◌<◌, ◌≤◌, Bool, true, false, cond, ◌==◌, nat_eq, List, [], ◌∷◌, ◌++◌, length, map, Option, Some, None, refl, sym, ap, ◌∙◌, subst, append_assoc, arith}
 use Rattle.std.specs.Prelude.{codes, nat_le}
-use Rattle.std.specs.List.{list_all, list_any, prefix_len, fold, AllZip}
-use Rattle.std.specs.Cmp.Lexicographic.{pointwise}
+use Rattle.std.specs.List.{list_all, prefix_len, fold, AllZip}
 use Rattle.std.proofs.lemmas.Bool.{and_parts, eqb-true, leb-true}
 use Rattle.std.proofs.lemmas.List.{length-append}
 use Rattle.std.proofs.lemmas.List.Folds.{list_all-append}
@@ -401,8 +400,7 @@ line_gives line a e =
     let same : line_of head.0 targets.0 ≡ a = cc in
     let f = front_gives line head.0 head.1 s1 in
     let t = targets_gives head.1 targets.0 targets.1 s2 in
-    let (name, is, spaced) = tail_gives targets.1 s3 in
-    (
+    let (name, is, spaced) = tail_gives targets.1 s3 in (
       record { id = value_of f.i; priority = value_of f.p; owner = head.0.owner; successors = t.vs },
       record {
         i = f.i;

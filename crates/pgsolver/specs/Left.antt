@@ -1,5 +1,5 @@
 -- Why a call refused what a reader had left, and what stands there.
-use Rattle.std.specs.Prelude.{◌≡◌, ◌≢◌, ℕ, ◌+◌, ◌<◌, ◌≤◌, ◌⊎◌, Bool, true, false, List, [], ◌∷◌, ◌++◌, length, map, Option, Some, None, IfSome, slice_index_or, position, nat_lt, is_some, ◌==◌}
+use Rattle.std.specs.Prelude.{◌≡◌, ◌≢◌, ℕ, ◌+◌, ◌<◌, ◌≤◌, ◌⊎◌, Bool, true, false, List, [], ◌∷◌, length, map, Option, Some, None, IfSome, slice_index_or, slice_get, nat_lt, is_some, Contains}
 use Rattle.std.specs.List.{list_any}
 use Rattle.text.specs.Text.{lines}
 use Rattle.text.specs.Lines.{IfKnown}
@@ -12,7 +12,9 @@ use Rattle.pgsolver.specs.declared.error.PgFault.{PgFault}
 use Rattle.pgsolver.specs.declared.error.PgFault.TheVariants.{BadIdentifier, BadSuccessor, PriorityTooGreat}
 use Rattle.pgsolver.specs.declared.error.PgError.{PgError}
 use Rattle.pgsolver.specs.declared.error.PgError.TheVariants.{Fault, Read, Memory}
-use Rattle.pgsolver.specs.Spelling.{Line, IsHeader, AreGood, vertex_of}
+use Rattle.pgsolver.specs.Spelling.{Line, IsHeader, IsLine, IsWithin, AreGood, vertex_of}
+use Rattle.pgsolver.specs.declared.scan.Head.{Head}
+use Rattle.game.specs.NumberSet.{set_of}
 use Rattle.pgsolver.specs.Fault.{BodyFault, LineFault}
 
 -- what is told of a line that could not be read
@@ -40,10 +42,15 @@ pub record BeginsWith (n : ℕ) (text left : List ℕ) : Type 0 where
 abbrev pub HasRestFault : ℕ → List ℕ → PgFault → ℕ → Type 0
 HasRestFault n text fault place = (good : ℕ) × BodyFault n (lines text) fault good × (place ≡ good + 2)
 
--- for each identifier the first line on which it stands, if there is one
+-- the line with this identifier, if there is one
+abbrev pub IsPlace : List Line → ℕ → Option ℕ → Type 0
+IsPlace spelled v None = (x : Line) → Contains spelled x → x.id ≡ v → ⊥
+IsPlace spelled v (Some k) = (x : Line) × (slice_get spelled k ≡ Some x) × (x.id ≡ v)
+
+-- for each identifier the line on which it stands, if there is one
 pub record ArePlaces (n : ℕ) (spelled : List Line) (places : List (Option ℕ)) : Type 0 where
   pub count : length places ≡ n + 1
-  pub each : (v : ℕ) → v ≤ n → slice_index_or places v None ≡ position (λ x. x.id == v) spelled
+  pub each : (v : ℕ) → v ≤ n → IsPlace spelled v (slice_index_or places v None)
 
 -- the vertex lines that were read so far, so many and all of them good, and what they spell
 pub record SoFar (n good : ℕ) (old now : Option (List ℕ)) (vertices : List Vertex) (places : List (Option ℕ)) : Type 0 where
@@ -77,3 +84,30 @@ IsFirstFault n places x _ = ⊥
 -- the fault of a line that stands after these, and its place
 abbrev pub TellsFault : ℕ → List Line → List ℕ → ℕ → PgError → Type 0
 TellsFault n before line place e = IfSome (named e) (λ told. LineFault n before line told.0 × (told.1 ≡ place))
+
+-- The line says this within a game with the greatest identifier n, with an identifier that has no line yet.
+pub record Says (n : ℕ) (places : List (Option ℕ)) (line : List ℕ) (head : Head) (targets : List ℕ) : Type 0 where
+  pub x : Line
+  pub is : IsLine line x
+  pub within : IsWithin n x
+  pub new : slice_index_or places x.id None ≡ None
+  pub id : head.id ≡ x.id
+  pub priority : head.priority ≡ x.priority
+  pub owner : head.owner ≡ x.owner
+  pub set : targets ≡ set_of x.successors
+
+-- The lines are all that were announced.
+pub record AreAll (n : ℕ) (vertices : List Vertex) (places : List (Option ℕ)) (text left : List ℕ) : Type 0 where
+  pub spelled : List Line
+  pub good_lines : AreGood n (lines text) spelled
+  pub count : length (lines text) ≡ n + 1
+  pub kept : vertices ≡ map vertex_of spelled
+  pub placed : ArePlaces n spelled places
+
+-- each identifier has one of so many lines
+abbrev pub AreFilled : ℕ → List (Option ℕ) → Type 0
+AreFilled count places = (v : ℕ) → v < length places → (k : ℕ) × (slice_index_or places v None ≡ Some k) × (k < count)
+
+-- the vertices stand at their identifiers
+abbrev pub ArePut : List (Option ℕ) → List Vertex → List Vertex → Type 0
+ArePut places read put = (v k : ℕ) → v < length places → slice_index_or places v None ≡ Some k → slice_get put v ≡ slice_get read k

@@ -3,3 +3,4 @@ pub mod Spelling
 pub mod Fault
 pub mod Scan
 pub mod Left
+pub mod Laws

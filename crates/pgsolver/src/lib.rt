@@ -2,10 +2,14 @@
 #![tactic(auto)]
 
 pub mod error;
+pub mod law;
 pub mod limits;
+pub mod reader;
+mod rows;
 mod scan;
 pub mod writer;
 
 pub use error::{PgError, PgFault};
+pub use reader::read_game;
 pub use text::WriteFault;
 pub use writer::write_game;

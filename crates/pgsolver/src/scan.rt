@@ -93,10 +93,7 @@ fn first_target(line: &[u8]) -> Option<(u32, &[u8])>
 }
 
 // Adds the numbers behind commas to the list, and answers what follows them.
-fn more_targets<'a>(
-    line: &'a [u8],
-    targets: &mut Vec<u32>,
-) -> Result<Option<&'a [u8]>, AllocError>
+fn more_targets<'a>(line: &'a [u8], targets: &mut Vec<u32>) -> Result<Option<&'a [u8]>, AllocError>
     ensures { IfOk result (λ found. FindsMore targets.old.items targets.new.items (option_map (λ rest. rest.now) found) (at.more_at (length line.now + 1) line.now)) }
 {
     let mut rest = line;
@@ -111,10 +108,7 @@ fn more_targets<'a>(
 }
 
 // Adds the successors to the list, and answers what follows them.
-fn all_targets<'a>(
-    line: &'a [u8],
-    targets: &mut Vec<u32>,
-) -> Result<Option<&'a [u8]>, AllocError>
+fn all_targets<'a>(line: &'a [u8], targets: &mut Vec<u32>) -> Result<Option<&'a [u8]>, AllocError>
     ensures { IfOk result (λ found. FindsMore targets.old.items targets.new.items (option_map (λ rest. rest.now) found) (at.targets_at line.now)) }
 {
     match first_target(line) {

@@ -1,4 +1,3 @@
-use Rattle.std.proofs.Common.{subst}
 use Rattle.std.proofs.lemmas.Result.{IfOk-weaker}
 use Rattle.pgsolver.proofs.Adding.{none_found, first_found}
 use Rattle.pgsolver.proofs.scan.all_targets.Goals as goal

@@ -1,4 +1,4 @@
-use Rattle.std.proofs.Common.{List, length, ◌<◌, subst, arith, []}
+use Rattle.std.proofs.Common.{subst, arith, []}
 use Rattle.std.proofs.lemmas.Option.{slice_get-get_or}
 use Rattle.game.specs.declared.player.Player.TheVariants.{Even}
 use Rattle.game.specs.Game.{Vertex}

@@ -1,0 +1,18 @@
+// What holds of all texts of games.
+
+ghost use Rattle.pgsolver.specs.Laws.{OneGame, NoFault, OneFault};
+
+/// A text spells at most one game.
+pub fn one_game()
+    ensures { OneGame }
+{}
+
+/// A text that spells a game has no deciding fault.
+pub fn no_fault()
+    ensures { NoFault }
+{}
+
+/// A text has at most one deciding fault, at one line.
+pub fn one_fault()
+    ensures { OneFault }
+{}

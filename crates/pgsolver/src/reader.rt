@@ -1,0 +1,195 @@
+// The reader of games.
+
+ghost use Rattle.std.specs.Prelude.{◌≡◌, ℕ, ◌+◌, ◌≤◌, ◌<◌, [], List, length, Option, IfOk, IfErr, OnOk, IfSome, IfNone, None, slice_index_or, vec_len};
+ghost use Rattle.game.specs.Game.{IsGame};
+ghost use Rattle.text.specs.Lines.{IfKnown};
+ghost use Rattle.text.specs.Reads.{Reads};
+ghost use Rattle.pgsolver.specs.Scan.{line_of};
+ghost use Rattle.pgsolver.specs.Spelling.{Line, IsGameText};
+ghost use Rattle.pgsolver.specs.Fault.{HasFault, HasFaultAt};
+ghost use Rattle.pgsolver.specs.Left as left;
+ghost use Rattle.game.specs.Game.{Vertex};
+ghost use Rattle.lts.specs.Left.{HasNoLine};
+ghost use Rattle.pgsolver.specs.Left.{AreFilled, Refuses, BeginsWith, ArePlaces, SoFar, AreAll, Says, IsSound, IsFirstFault, TellsFault, HasRestFault, named};
+
+use crate::error::{PgError, PgFault};
+use crate::rows::{Rows, make_set, put_in_order};
+use crate::scan::{Head, header, vertex_line};
+use game::graph::Game;
+use game::limits::MOST_VERTICES;
+use normal::limits::GREATEST_PRIORITY;
+use std::alloc::Global;
+use std::io::{BufRead, BufReader, Read};
+use text::lines::next_line;
+
+// Reads the header, and answers the greatest identifier.
+fn read_first<B: BufRead>(reader: &mut B, line: &mut Vec<u8>) -> Result<u32, PgError>
+    ensures first { IfOk result (λ n. IfKnown (B.remaining reader.old) (B.remaining reader.new) (BeginsWith n)) }
+    ensures within { IfOk result (λ n. n < MOST_VERTICES) }
+    ensures fault { IfErr result (Refuses (B.remaining reader.old) HasFault) }
+{
+    let fault = PgFault::BadHeader;
+    if !next_line(reader, line)? {
+        return Err(PgError::Fault { fault, line: 1 });
+    }
+    let Some(last) = header(line) else {
+        return Err(PgError::Fault { fault, line: 1 });
+    };
+    if last as usize >= MOST_VERTICES {
+        let fault = PgFault::TooManyVertices;
+        return Err(PgError::Fault { fault, line: 1 });
+    }
+    Ok(last)
+}
+
+// Whether a successor is above the greatest identifier.
+fn has_far(last: u32, targets: &[u32]) -> bool
+    ensures { result ≡ left.has_far last targets.now }
+{
+    targets.iter().any(|target| *target > last)
+}
+
+// What is wrong with what a line says, if anything is.
+fn first_fault(head: Head, targets: &[u32], last: u32, places: &[Option<u32>]) -> Option<PgFault>
+    requires { length places.now ≡ last + 1 }
+    ensures none { IfNone result (IsSound last places.now (line_of head targets.now)) }
+    ensures some { IfSome result (IsFirstFault last places.now (line_of head targets.now)) }
+{
+    if head.id > last || places[head.id as usize].is_some() {
+        Some(PgFault::BadIdentifier)
+    } else if targets.is_empty() || has_far(last, targets) {
+        Some(PgFault::BadSuccessor)
+    } else if head.priority > GREATEST_PRIORITY {
+        Some(PgFault::PriorityTooGreat)
+    } else {
+        None
+    }
+}
+
+// What the line says before its successors, which are put into the list as a set.
+fn good_line(
+    line: &[u8],
+    last: u32,
+    place: u64,
+    places: &[Option<u32>],
+    targets: &mut Vec<u32>,
+) -> Result<Head, PgError>
+    requires limit { last < MOST_VERTICES }
+    requires places { length places.now ≡ last + 1 }
+    ensures good { IfOk result (λ head. Says last places.now line.now head targets.new.items) }
+    ensures few { OnOk result (vec_len targets.new ≤ MOST_VERTICES) }
+    ensures fault { IfErr result (λ e. (before : List Line) → ArePlaces last before places.now → TellsFault last before line.now place e) }
+{
+    let Some(head) = vertex_line(line, targets)? else {
+        let fault = PgFault::BadLine;
+        return Err(PgError::Fault { fault, line: place });
+    };
+    if let Some(fault) = first_fault(head, targets, last, places) {
+        return Err(PgError::Fault { fault, line: place });
+    }
+    make_set(targets);
+    Ok(head)
+}
+
+// Reads the vertex line that comes after so many of them.
+fn read_row<B: BufRead>(
+    reader: &mut B,
+    line: &mut Vec<u8>,
+    last: u32,
+    good: u32,
+    rows: &mut Rows,
+) -> Result<(), PgError>
+    requires limit { last < MOST_VERTICES }
+    requires due { good ≤ last }
+    requires count { length rows.old.vertices ≡ good }
+    requires places { vec_len rows.old.places ≡ last + 1 }
+    ensures row { OnOk result ((old : Option (List ℕ)) → SoFar last good old (B.remaining reader.old) rows.old.vertices rows.old.places.items
+        → SoFar last (good + 1) old (B.remaining reader.new) rows.new.vertices rows.new.places.items) }
+    ensures count { OnOk result (length rows.new.vertices ≡ good + 1) }
+    ensures places { OnOk result (vec_len rows.new.places ≡ last + 1) }
+    ensures fault { IfErr result (λ e. (old : Option (List ℕ)) → SoFar last good old (B.remaining reader.old) rows.old.vertices rows.old.places.items
+        → Refuses old (HasRestFault last) e) }
+{
+    let place = u64::from(good) + 2;
+    if !next_line(reader, line)? {
+        let fault = PgFault::BadIdentifier;
+        return Err(PgError::Fault { fault, line: place });
+    }
+    let head = good_line(line, last, place, &rows.places, &mut rows.targets)?;
+    Ok(rows.add(head, good)?)
+}
+
+// Reads on to the end of the text, where no line may stand: each identifier has one.
+fn read_end<B: BufRead>(
+    reader: &mut B,
+    line: &mut Vec<u8>,
+    last: u32,
+    targets: &mut Vec<u32>,
+) -> Result<(), PgError>
+    ensures end { OnOk result (IfKnown (B.remaining reader.old) (B.remaining reader.new) HasNoLine) }
+    ensures fault { IfErr result (λ e. (old : Option (List ℕ)) (vertices : List Vertex) (places : List (Option ℕ))
+        → SoFar last (last + 1) old (B.remaining reader.old) vertices places → Refuses old (HasRestFault last) e) }
+{
+    if !next_line(reader, line)? {
+        return Ok(());
+    }
+    let place = u64::from(last) + 3;
+    let Some(_) = vertex_line(line, targets)? else {
+        let fault = PgFault::BadLine;
+        return Err(PgError::Fault { fault, line: place });
+    };
+    let fault = PgFault::BadIdentifier;
+    Err(PgError::Fault { fault, line: place })
+}
+
+// Reads the vertex lines into rows that have none yet.
+fn read_rows<B: BufRead>(
+    reader: &mut B,
+    line: &mut Vec<u8>,
+    last: u32,
+    rows: &mut Rows,
+) -> Result<(), PgError>
+    requires limit { last < MOST_VERTICES }
+    requires none { rows.old.vertices ≡ [] }
+    requires empty { (v : ℕ) → slice_index_or rows.old.places.items v None ≡ None }
+    requires places { vec_len rows.old.places ≡ last + 1 }
+    ensures all { OnOk result (IfKnown (B.remaining reader.old) (B.remaining reader.new) (AreAll last rows.new.vertices rows.new.places.items)) }
+    ensures game { OnOk result (IsGame (record { vertices = rows.new.vertices; named = None })) }
+    ensures filled { OnOk result (AreFilled (length rows.new.vertices) rows.new.places.items) }
+    ensures count { OnOk result (vec_len rows.new.places ≡ length rows.new.vertices) }
+    ensures fault { IfErr result (Refuses (B.remaining reader.old) (HasRestFault last)) }
+{
+    for good in 0..last + 1 {
+        read_row(reader, line, last, good, rows)?;
+    }
+    read_end(reader, line, last, &mut rows.targets)
+}
+
+// Reads the whole text.
+fn read_text<B: BufRead>(alloc: Global, reader: &mut B) -> Result<Game, PgError>
+    ensures spelled { IfOk result (λ g. IfSome (B.remaining reader.old) (λ text. IsGameText text g)) }
+    ensures fault { IfErr result (Refuses (B.remaining reader.old) HasFault) }
+{
+    let mut line = Vec::new(alloc);
+    let last = read_first(reader, &mut line)?;
+    let mut rows = Rows::new(alloc, last)?;
+    read_rows(reader, &mut line, last, &mut rows)?;
+    let game = rows.vertices.into_game(None);
+    Ok(put_in_order(alloc, game, &rows.places)?)
+}
+
+/// Reads a game in the format of PGSolver: its profile with a header, at most 16,777,216 vertices and priorities up to 31. The
+/// vertices of the game have no names, whatever the text says. Beside the game it keeps the line that it reads, and a number
+/// for each vertex; where the lines don't stand in order, the vertices once more.
+///
+/// # Errors
+/// The first faulty line decides. A text is also refused where a read fails, or for want of memory.
+pub fn read_game<R: Read + Drop>(alloc: Global, reader: R) -> Result<Game, PgError>
+    ensures { Reads IsGameText IsGameText IsGameText HasFaultAt (λ g. g) named (R.remaining reader) result }
+{
+    let mut reader = match BufReader::new(alloc, reader) {
+        Ok(reader) => reader,
+        Err(_) => return Err(PgError::Memory),
+    };
+    read_text(alloc, &mut reader)
+}
