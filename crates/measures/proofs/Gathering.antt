@@ -3,7 +3,7 @@ use Rattle.measures.proofs.Common.{◌≡◌, ℕ, suc, ◌+◌, ◌<◌, ◌≤
 use Rattle.measures.specs.Progress.{IsOverLift, IsUnder}
 use Rattle.measures.proofs.Bests.{vertex_here, vertex_tells}
 use Rattle.std.proofs.Common.{min}
-use Rattle.measures.specs.Lifting.{of_rank}
+use Rattle.measures.specs.Lifting.{better_of, of_rank, worst_of}
 use Rattle.measures.proofs.Lists.{zip_back, zip_on}
 use Rattle.measures.proofs.Lifts.{even_reaches, odd_reaches, value_measure}
 use Rattle.measures.proofs.Measures.{at_most_itself, at_most_or_below, at_most_top, at_most_trans, greater_taken, own_greater, reaches_down, reaches_up, top_last}
@@ -14,15 +14,6 @@ use Rattle.measures.proofs.Numbers.{of_rank_max, of_rank_measure, of_rank_rank, 
 abbrev pub ReachesSome : Player → Game → ℕ → List ℕ → ℕ → List Measure → Measure → Type 0
 ReachesSome Even g p ts i table m = (j : ℕ) × (j < i) × Reaches g p (value_at table (slice_index ts j)) m
 ReachesSome Odd g p ts i table m = (j : ℕ) → j < i → Reaches g p (value_at table (slice_index ts j)) m
-
--- the lesser for Even, the greater for Odd
-abbrev pub better_of : Player → ℕ → ℕ → ℕ
-better_of Even n k = min n k
-better_of Odd n k = max n k
-
-abbrev pub worst_of : Player → Game → ℕ
-worst_of Even g = height g
-worst_of Odd g = 0
 
 -- what was asked for at the first successors is over what the first table asks for, and under each progress table's value that reaches them
 pub record IsGathered (o : Player) (g : Game) (p : ℕ) (ts : List ℕ) (i : ℕ) (first : List Measure) (best : ℕ) : Type 0 where
@@ -105,6 +96,12 @@ module _ (g : Game) (p : ℕ) (ts : List ℕ) (first : List Measure) (best : ℕ
       let back = zip_back (IsProg g p) (value_at first) ts progs b zipped is.0 in
       let place = place_of ts back.0 back.1 in
       back.2.least (of_rank g best) (of_rank_measure g best) (subst (λ (t : ℕ). Reaches g p (value_at first t) (of_rank g best)) place.2 (r place.0 place.1))
+
+pub greater_new : (own n : Measure) → IsAtMost n (greater_of own n)
+greater_new own n = elim (at_most_or_below own n) [
+  | inl w ↦ subst (IsAtMost n) (greater_taken own n w) (at_most_itself n)
+  | inr w ↦ subst (IsAtMost n) (sym (own_greater own n w)) w
+]
 
 -- the greater of two rises with both
 pub greater_up : (own more b n : Measure) → IsAtMost own more → IsAtMost b n → IsAtMost (greater_of own b) (greater_of more n)

@@ -5,3 +5,5 @@ pub mod board;
 pub mod error;
 pub mod locked;
 pub mod shard;
+pub mod packed;
+mod packed_board;

@@ -1,0 +1,51 @@
+// The packed board as a board.
+
+ghost use Rattle.std.specs.Prelude.{◌≡◌, ◌<◌, ◌↔◌, Err, IfErr, IfOk, length};
+ghost use Rattle.measures.specs.Progress.{IsLeastTable};
+ghost use Rattle.tables.specs.Seats.{IsSeatOf, board_game, seen};
+ghost use Rattle.tables.specs.declared.error.TableError.TheVariants as errors;
+
+use crate::board::Board;
+use crate::error::TableError;
+use crate::packed::{PackedBoard, PackedSeat};
+use measures::measure::Measure;
+use measures::table::PlainTable;
+
+impl Board for PackedBoard {
+    type Seat = PackedSeat;
+
+    ghost game = { board_game };
+
+    ghost fits = { IsSeatOf };
+
+    fn seat(&self) -> Result<PackedSeat, TableError>
+        ensures seat { IfOk result (λ s. IsSeatOf self.now s) }
+        ensures none { (result ≡ Err errors.NoSeat) ↔ (length (board_game self.now).vertices ≡ 0) }
+        ensures refused { IfErr result (λ e. e ≡ errors.NoSeat) }
+    {
+        match self.new_seat() {
+            Some(seat) => Ok(seat),
+            None => Err(TableError::NoSeat),
+        }
+    }
+
+    fn read(&self, seat: &mut PackedSeat, v: u32) -> Measure {
+        self.load(seat, v)
+    }
+
+    fn raise(&self, seat: &mut PackedSeat, v: u32, m: &Measure) -> bool {
+        self.lift_to(seat, v, m)
+    }
+
+    fn last(&self, seat: &mut PackedSeat)
+        requires { IsSeatOf self.now seat.old }
+        ensures seat { IsSeatOf self.now seat.new }
+        ensures least { IsLeastTable (board_game self.now) (seen seat.new) }
+    {
+        self.settle_seat(seat);
+    }
+
+    fn finish(self, table: &mut PlainTable) {
+        self.pour_into(table);
+    }
+}
