@@ -13,18 +13,18 @@ use crate::table::PlainTable;
 use game::graph::Game;
 use lts::error::Memory;
 use search::graph::Graph;
-use search::search::{Found, Search};
+use search::search::Search;
 use std::alloc::Global;
 
 // The value that was found of a vertex: top, or zeros but for the count at one place.
-fn value_of(found: Found<'_>, place: Option<usize>, counts: &mut [u32]) -> Measure
+fn value_of(search: &Search, v: u32, place: Option<usize>, counts: &mut [u32]) -> Measure
     requires { length counts.old ≤ COMPONENTS }
 {
     let Some(place) = place else {
         return Measure::top();
     };
     if let Some(count) = counts.get_mut(place) {
-        *count = found.count();
+        *count = search.count(v);
     }
     Measure::of_counts(counts)
 }
@@ -45,12 +45,11 @@ fn claim_found(
 {
     claim.clear();
     for v in 0..game.vertices() {
-        let found = search.of(v);
-        if found.is_any() {
-            let value = value_of(found, place, counts);
+        if search.has(v) {
+            let value = value_of(search, v, place, counts);
             if is_measure(game, &value) {
-                found.rank_into(rank);
-                claim.set(v, &value, found.next(), rank);
+                search.rank_into(v, rank);
+                claim.set(v, &value, search.next(v), rank);
             }
         }
     }

@@ -1,6 +1,6 @@
 // Attractors: what the players can force to vertices that are theirs.
 
-use crate::board::{Board, NONE, Won};
+use crate::board::{Board, Column, NONE, Won};
 use crate::graph::Graph;
 use crate::numbers::Span;
 
@@ -17,7 +17,7 @@ impl Board {
         let mut even = 0;
         let mut odd = 0;
         for place in span.from..span.to {
-            let priority = graph.priority(self.place(place).vertex);
+            let priority = graph.priority(self.get(Column::List, place));
             let above = priority.saturating_add(1);
             if priority % 2 == 0 {
                 even = above.max(even);
@@ -35,7 +35,7 @@ impl Board {
     pub(crate) fn settle(&mut self, graph: Graph, span: Span, id: u32, won: Won) -> Span {
         self.queued = 0;
         for place in span.from..span.to {
-            let v = self.place(place).vertex;
+            let v = self.get(Column::List, place);
             self.look(graph, v, id, won);
         }
         self.mark_decided(graph, won);
@@ -49,10 +49,10 @@ impl Board {
         let stays = (graph.priority(v) % 2 == 1) == odd;
         let next = self.successor(graph, v, won.by(odd), stays);
         let left = self.inside(graph, v, id);
-        self.set_edges(v, left);
+        self.set(Column::Edges, v, left);
         self.toil(graph.successors(v).len());
         if next != NONE || left == 0 {
-            self.set_next(v, next);
+            self.set(Column::Next, v, next);
             self.enqueue(v);
         }
     }
@@ -60,9 +60,9 @@ impl Board {
     // A vertex of the queue is its owner's where there is a move.
     fn mark_decided(&mut self, graph: Graph, won: Won) {
         for place in 0..self.queued {
-            let v = self.place(place).queued;
-            let odd = graph.is_odds(v) == (self.note(v).next != NONE);
-            self.set_id(v, won.by(odd));
+            let v = self.get(Column::Queue, place);
+            let odd = graph.is_odds(v) == (self.get(Column::Next, v) != NONE);
+            self.set(Column::Part, v, won.by(odd));
         }
     }
 
@@ -72,18 +72,18 @@ impl Board {
             if place >= self.queued {
                 return;
             }
-            let v = self.place(place).queued;
+            let v = self.get(Column::Queue, place);
             self.spread_from(graph, v, id, won);
         }
     }
 
     fn spread_from(&mut self, graph: Graph, v: u32, id: u32, won: Won) {
-        let odd = self.note(v).id == won.odd;
+        let odd = self.get(Column::Part, v) == won.odd;
         let predecessors = graph.predecessors(v);
         self.toil(predecessors.len());
         for u in predecessors {
-            if self.note(*u).id == id && self.falls(graph, *u, v, odd) {
-                self.set_id(*u, won.by(odd));
+            if self.get(Column::Part, *u) == id && self.falls(graph, *u, v, odd) {
+                self.set(Column::Part, *u, won.by(odd));
                 self.enqueue(*u);
             }
         }
@@ -92,19 +92,19 @@ impl Board {
     /// Whether a vertex falls to the player that has a successor of it.
     pub(crate) fn falls(&mut self, graph: Graph, u: u32, v: u32, odd: bool) -> bool {
         if graph.is_odds(u) == odd {
-            self.set_next(u, v);
+            self.set(Column::Next, u, v);
             return true;
         }
-        let left = self.note(u).edges.saturating_sub(1);
-        self.set_edges(u, left);
+        let left = self.get(Column::Edges, u).saturating_sub(1);
+        self.set(Column::Edges, u, left);
         left == 0
     }
 
     fn count_edges(&mut self, graph: Graph, span: Span, id: u32) {
         for place in span.from..span.to {
-            let v = self.place(place).vertex;
+            let v = self.get(Column::List, place);
             let left = self.inside(graph, v, id);
-            self.set_edges(v, left);
+            self.set(Column::Edges, v, left);
             self.toil(graph.successors(v).len());
         }
     }
@@ -115,10 +115,10 @@ impl Board {
         self.count_edges(graph, span, id);
         self.queued = 0;
         for place in span.from..span.to {
-            let v = self.place(place).vertex;
+            let v = self.get(Column::List, place);
             if graph.priority(v) >= tops.least {
                 self.enqueue(v);
-                self.set_id(v, near.by(tops.odd));
+                self.set(Column::Part, v, near.by(tops.odd));
             }
         }
         self.spread(graph, id, near);
@@ -129,8 +129,8 @@ impl Board {
     pub(crate) fn find(&mut self, span: Span, id: u32) -> bool {
         self.queued = 0;
         for place in span.from..span.to {
-            let v = self.place(place).vertex;
-            if self.note(v).id == id {
+            let v = self.get(Column::List, place);
+            if self.get(Column::Part, v) == id {
                 self.enqueue(v);
             }
         }
@@ -139,11 +139,11 @@ impl Board {
 
     /// Gives what stands in the queue to a player, with all that can be forced there. The answer is what is left.
     pub(crate) fn give(&mut self, graph: Graph, span: Span, odd: bool, id: u32, won: Won) -> Span {
-        self.mark(span, id);
+        self.mark(Column::Part, span, id);
         self.count_edges(graph, span, id);
         for place in 0..self.queued {
-            let v = self.place(place).queued;
-            self.set_id(v, won.by(odd));
+            let v = self.get(Column::Queue, place);
+            self.set(Column::Part, v, won.by(odd));
         }
         self.spread(graph, id, won);
         self.gather(span, id)
@@ -152,12 +152,12 @@ impl Board {
     /// Gives a part to the player of its greatest priorities, from which it goes on anywhere in the part.
     pub(crate) fn give_all(&mut self, graph: Graph, span: Span, tops: Tops, won: Won) {
         let id = won.by(tops.odd);
-        self.mark(span, id);
+        self.mark(Column::Part, span, id);
         for place in span.from..span.to {
-            let v = self.place(place).vertex;
+            let v = self.get(Column::List, place);
             if graph.priority(v) >= tops.least && graph.is_odds(v) == tops.odd {
                 let next = self.successor(graph, v, id, false);
-                self.set_next(v, next);
+                self.set(Column::Next, v, next);
             }
         }
     }

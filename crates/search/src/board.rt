@@ -7,55 +7,33 @@ use std::alloc::{AllocError, Global};
 /// No vertex.
 pub(crate) const NONE: u32 = u32::MAX;
 
-/// What is known of a vertex.
+/// What is kept for each vertex, or at each place of a list of vertices.
 #[derive(Clone, Copy)]
-pub(crate) struct Note {
-    /// The number of the part to which it belongs, or of what its winner wins.
-    pub(crate) id: u32,
+pub(crate) enum Column {
+    /// The number of the part to which a vertex belongs, or of what its winner wins.
+    Part,
     /// Where its winner goes on.
-    pub(crate) next: u32,
+    Next,
     /// How many successors keep it from the other player, how many of them a walk has seen, or how many vertices of an even
-    /// priority are met.
-    pub(crate) edges: u32,
+    /// priority are met from it.
+    Edges,
     /// When a walk came to it. Zero is never.
-    pub(crate) number: u32,
+    Number,
     /// The least number of a vertex without a component that is known to be reached from it.
-    pub(crate) low: u32,
+    Low,
     /// How many vertices of an odd priority Odd can force from it.
-    pub(crate) count: u32,
-    /// One more than its rank's counts by their units, and zero where nothing is found.
-    pub(crate) rank: u64,
+    Count,
+    /// The list of all vertices. Those of a part stand together.
+    List,
+    /// Vertices in the order in which they come to be looked at.
+    Queue,
+    /// Vertices in the order of their components.
+    Sorted,
+    /// Where the component that begins at a place ends.
+    End,
 }
 
-const NOTHING: Note = Note {
-    id: 0,
-    next: NONE,
-    edges: 0,
-    number: 0,
-    low: 0,
-    count: 0,
-    rank: 0,
-};
-
-/// What stands at one place of each list.
-#[derive(Clone, Copy)]
-pub(crate) struct Place {
-    /// A vertex. Those of a part stand together.
-    pub(crate) vertex: u32,
-    /// A vertex in the order in which they come to be looked at.
-    pub(crate) queued: u32,
-    /// A vertex in the order of components.
-    pub(crate) sorted: u32,
-    /// Where the component that begins here ends.
-    pub(crate) end: u32,
-}
-
-const NOWHERE: Place = Place {
-    vertex: NONE,
-    queued: NONE,
-    sorted: NONE,
-    end: 0,
-};
+const COLUMNS: usize = 10;
 
 /// The numbers of what each player wins.
 #[derive(Clone, Copy)]
@@ -70,14 +48,14 @@ impl Won {
     }
 }
 
-/// All that a search knows.
+/// All that a search knows. It is kept in columns, as most steps look at one or two of them.
 #[derive(Drop)]
 pub(crate) struct Board {
-    pub(crate) notes: Vec<Note>,
-    pub(crate) places: Vec<Place>,
+    vertices: usize,
+    numbers: Vec<u32>,
     /// How many vertices are queued.
     pub(crate) queued: u32,
-    /// How many vertices of the sorted ones come to be looked at later.
+    /// How many of the sorted ones come to be looked at later.
     pub(crate) later: u32,
     /// The greatest number of a part.
     last: u32,
@@ -88,60 +66,48 @@ pub(crate) struct Board {
 impl Board {
     /// Nothing is known, and all vertices are the part of number zero.
     pub(crate) fn new(alloc: Global, vertices: u32) -> Result<Self, AllocError> {
-        let notes = vec![in alloc; NOTHING; vertices as usize]?;
-        let places = vec![in alloc; NOWHERE; vertices as usize]?;
+        let length = (vertices as usize).saturating_mul(COLUMNS);
+        let numbers = vec![in alloc; 0; length]?;
         let mut board = Board {
-            notes,
-            places,
+            vertices: vertices as usize,
+            numbers,
             queued: 0,
             later: 0,
             last: 0,
             work: 0,
         };
         for v in 0..vertices {
-            board.put(v, v);
+            board.set(Column::List, v, v);
         }
         Ok(board)
     }
 
-    pub(crate) fn note(&self, v: u32) -> Note {
-        self.notes.get(v as usize).copied().unwrap_or(NOTHING)
-    }
-
-    pub(crate) fn place(&self, place: u32) -> Place {
-        self.places.get(place as usize).copied().unwrap_or(NOWHERE)
-    }
-
-    /// Puts a vertex at a place of the list of parts.
-    pub(crate) fn put(&mut self, place: u32, v: u32) {
-        if let Some(it) = self.places.get_mut(place as usize) {
-            it.vertex = v;
+    /// What a column has of a vertex or at a place. Past the last one it is zero.
+    pub(crate) fn get(&self, column: Column, at: u32) -> u32 {
+        let at = at as usize;
+        if at >= self.vertices {
+            return 0;
         }
+        let start = self.vertices.wrapping_mul(column as usize);
+        let number = self.numbers.get(start.wrapping_add(at));
+        number.copied().unwrap_or(0)
     }
 
-    pub(crate) fn set_id(&mut self, v: u32, id: u32) {
-        if let Some(note) = self.notes.get_mut(v as usize) {
-            note.id = id;
+    /// Past the last vertex or place nothing is kept.
+    pub(crate) fn set(&mut self, column: Column, at: u32, number: u32) {
+        let at = at as usize;
+        if at >= self.vertices {
+            return;
         }
-    }
-
-    pub(crate) fn set_next(&mut self, v: u32, next: u32) {
-        if let Some(note) = self.notes.get_mut(v as usize) {
-            note.next = next;
-        }
-    }
-
-    pub(crate) fn set_edges(&mut self, v: u32, edges: u32) {
-        if let Some(note) = self.notes.get_mut(v as usize) {
-            note.edges = edges;
+        let start = self.vertices.wrapping_mul(column as usize);
+        if let Some(it) = self.numbers.get_mut(start.wrapping_add(at)) {
+            *it = number;
         }
     }
 
     pub(crate) fn enqueue(&mut self, v: u32) {
-        if let Some(place) = self.places.get_mut(self.queued as usize) {
-            place.queued = v;
-            self.queued = self.queued.saturating_add(1);
-        }
+        self.set(Column::Queue, self.queued, v);
+        self.queued = self.queued.saturating_add(1);
     }
 
     /// A number that no vertex has.
@@ -157,22 +123,23 @@ impl Board {
         }
     }
 
-    pub(crate) fn mark(&mut self, span: Span, id: u32) {
+    /// Writes the same number for all vertices of a span.
+    pub(crate) fn mark(&mut self, column: Column, span: Span, number: u32) {
         for place in span.from..span.to {
-            let v = self.place(place).vertex;
-            self.set_id(v, id);
+            let v = self.get(Column::List, place);
+            self.set(column, v, number);
         }
     }
 
-    /// Moves the vertices of this number to the front, and tells where they stand.
+    /// Moves the vertices of this part to the front, and tells where they stand.
     pub(crate) fn gather(&mut self, span: Span, id: u32) -> Span {
         let mut to = span.from;
         for place in span.from..span.to {
-            let v = self.place(place).vertex;
-            if self.note(v).id == id {
-                let other = self.place(to).vertex;
-                self.put(place, other);
-                self.put(to, v);
+            let v = self.get(Column::List, place);
+            if self.get(Column::Part, v) == id {
+                let other = self.get(Column::List, to);
+                self.set(Column::List, place, other);
+                self.set(Column::List, to, v);
                 to = to.saturating_add(1);
             }
         }
@@ -187,21 +154,21 @@ impl Board {
         self.work = self.work.saturating_add(1).saturating_add(edges as u64);
     }
 
-    /// How many other successors of this number a vertex has.
+    /// How many other successors of this part a vertex has.
     pub(crate) fn inside(&self, graph: Graph, v: u32, id: u32) -> u32 {
         let mut count: u32 = 0;
         for t in graph.successors(v) {
-            if *t != v && self.note(*t).id == id {
+            if *t != v && self.get(Column::Part, *t) == id {
                 count = count.saturating_add(1);
             }
         }
         count
     }
 
-    /// A successor of this number, or the vertex itself where it is its own successor and may stay.
+    /// A successor of this part, or the vertex itself where it is its own successor and may stay.
     pub(crate) fn successor(&self, graph: Graph, v: u32, id: u32, stays: bool) -> u32 {
         for t in graph.successors(v) {
-            if self.note(*t).id == id || (stays && *t == v) {
+            if self.get(Column::Part, *t) == id || (stays && *t == v) {
                 return *t;
             }
         }

@@ -1,6 +1,6 @@
 // Strong components (Tarjan 1972), with one list for the walk's path and for what waits (Pearce 2016).
 
-use crate::board::Board;
+use crate::board::{Board, Column};
 use crate::graph::Graph;
 use crate::numbers::Span;
 
@@ -29,15 +29,13 @@ struct Walk {
 impl Board {
     /// Whether an edge belongs to a part, if its source does.
     pub(crate) fn leads(&self, graph: Graph, part: Part, v: u32, t: u32) -> bool {
-        self.note(t).id == part.id && (!part.moves || !graph.is_odds(v) || self.note(v).next == t)
+        self.get(Column::Part, t) == part.id
+            && (!part.moves || !graph.is_odds(v) || self.get(Column::Next, v) == t)
     }
 
     /// Puts the vertices of a part in the order of their strong components, each after those to which it leads.
     pub(crate) fn sort(&mut self, graph: Graph, part: Part, span: Span) {
-        for place in span.from..span.to {
-            let v = self.place(place).vertex;
-            self.set_number(v, 0);
-        }
+        self.mark(Column::Number, span, 0);
         let mut walk = Walk {
             depth: 0,
             waiting: graph.vertices(),
@@ -45,32 +43,18 @@ impl Board {
             sorted: span.from,
         };
         for place in span.from..span.to {
-            let root = self.place(place).vertex;
+            let root = self.get(Column::List, place);
             self.walk(graph, part, &mut walk, root);
         }
         for place in span.from..span.to {
-            let v = self.place(place).sorted;
-            self.put(place, v);
-        }
-    }
-
-    fn set_number(&mut self, v: u32, number: u32) {
-        if let Some(note) = self.notes.get_mut(v as usize) {
-            note.number = number;
-            note.low = number;
-            note.edges = 0;
-        }
-    }
-
-    fn queue_at(&mut self, place: u32, v: u32) {
-        if let Some(it) = self.places.get_mut(place as usize) {
-            it.queued = v;
+            let v = self.get(Column::Sorted, place);
+            self.set(Column::List, place, v);
         }
     }
 
     // Walks from a vertex, unless it has been met.
     fn walk(&mut self, graph: Graph, part: Part, walk: &mut Walk, root: u32) {
-        if self.note(root).number != 0 {
+        if self.get(Column::Number, root) != 0 {
             return;
         }
         self.enter(walk, root);
@@ -84,18 +68,20 @@ impl Board {
 
     fn enter(&mut self, walk: &mut Walk, v: u32) {
         walk.met = walk.met.saturating_add(1);
-        self.set_number(v, walk.met);
-        self.queue_at(walk.depth, v);
+        self.set(Column::Number, v, walk.met);
+        self.set(Column::Low, v, walk.met);
+        self.set(Column::Edges, v, 0);
+        self.set(Column::Queue, walk.depth, v);
         walk.depth = walk.depth.saturating_add(1);
     }
 
     // Sees one more successor of the path's last vertex, or leaves it.
     fn go_on(&mut self, graph: Graph, part: Part, walk: &mut Walk) {
-        let v = self.place(walk.depth.saturating_sub(1)).queued;
-        let seen = self.note(v).edges;
+        let v = self.get(Column::Queue, walk.depth.saturating_sub(1));
+        let seen = self.get(Column::Edges, v);
         match graph.successors(v).get(seen as usize) {
             Some(t) => {
-                self.set_edges(v, seen.saturating_add(1));
+                self.set(Column::Edges, v, seen.saturating_add(1));
                 if self.leads(graph, part, v, *t) {
                     self.see(walk, v, *t);
                 }
@@ -105,30 +91,31 @@ impl Board {
     }
 
     fn see(&mut self, walk: &mut Walk, v: u32, t: u32) {
-        let next = self.note(t);
-        if next.number == 0 {
+        if self.get(Column::Number, t) == 0 {
             self.enter(walk, t);
         } else {
-            self.lower(v, next.low);
+            let low = self.get(Column::Low, t);
+            self.lower(v, low);
         }
     }
 
     fn lower(&mut self, v: u32, low: u32) {
-        if let Some(note) = self.notes.get_mut(v as usize) {
-            note.low = note.low.min(low);
+        if low < self.get(Column::Low, v) {
+            self.set(Column::Low, v, low);
         }
     }
 
     fn leave(&mut self, walk: &mut Walk, v: u32) {
         walk.depth = walk.depth.saturating_sub(1);
-        let note = self.note(v);
-        if note.low == note.number {
-            self.close(walk, v, note.number);
+        let low = self.get(Column::Low, v);
+        let number = self.get(Column::Number, v);
+        if low == number {
+            self.close(walk, v, number);
         } else {
             walk.waiting = walk.waiting.saturating_sub(1);
-            self.queue_at(walk.waiting, v);
-            let parent = self.place(walk.depth.saturating_sub(1)).queued;
-            self.lower(parent, note.low);
+            self.set(Column::Queue, walk.waiting, v);
+            let parent = self.get(Column::Queue, walk.depth.saturating_sub(1));
+            self.lower(parent, low);
         }
     }
 
@@ -137,25 +124,19 @@ impl Board {
         let first = walk.sorted;
         self.put_sorted(walk, v);
         for place in walk.waiting..u32::MAX {
-            let next = self.place(place).queued;
-            if self.note(next).low < number {
+            let next = self.get(Column::Queue, place);
+            if self.get(Column::Low, next) < number {
                 walk.waiting = place;
                 break;
             }
             self.put_sorted(walk, next);
         }
-        if let Some(place) = self.places.get_mut(first as usize) {
-            place.end = walk.sorted;
-        }
+        self.set(Column::End, first, walk.sorted);
     }
 
     fn put_sorted(&mut self, walk: &mut Walk, v: u32) {
-        if let Some(place) = self.places.get_mut(walk.sorted as usize) {
-            place.sorted = v;
-        }
-        if let Some(note) = self.notes.get_mut(v as usize) {
-            note.low = CLOSED;
-        }
+        self.set(Column::Sorted, walk.sorted, v);
+        self.set(Column::Low, v, CLOSED);
         walk.sorted = walk.sorted.saturating_add(1);
     }
 
@@ -163,7 +144,7 @@ impl Board {
     pub(crate) fn first(&self, span: Span) -> Span {
         Span {
             from: span.from,
-            to: self.place(span.from).end,
+            to: self.get(Column::End, span.from),
         }
     }
 }

@@ -1,7 +1,7 @@
 // Layers of what Even wins: how many vertices of an odd priority it meets before a greater one, or before it comes to where it
 // might stay among lesser ones. That is never more than it has to meet.
 
-use crate::board::Board;
+use crate::board::{Board, Column};
 use crate::components::Part;
 use crate::graph::Graph;
 use crate::numbers::Span;
@@ -21,9 +21,9 @@ impl Board {
         self.settle_rooms(graph, low);
         self.spread_counts(graph, odd);
         for v in all.from..all.to {
-            let count = self.note(v).count;
+            let count = self.get(Column::Count, v);
             if count > 0 && count != OPEN {
-                self.set_id(v, id);
+                self.set(Column::Part, v, id);
             }
         }
         self.gather(all, id)
@@ -33,10 +33,10 @@ impl Board {
     fn begin_layers(&mut self, graph: Graph, odd: u8, all: Span) -> Span {
         let id = self.fresh();
         for v in all.from..all.to {
-            let is_lost = self.note(v).id == LOST;
-            self.set_count(v, if is_lost { 0 } else { OPEN });
+            let is_lost = self.get(Column::Part, v) == LOST;
+            self.set(Column::Count, v, if is_lost { 0 } else { OPEN });
             if !is_lost && graph.priority(v) < odd {
-                self.set_id(v, id);
+                self.set(Column::Part, v, id);
             }
         }
         let low = self.gather(all, id);
@@ -45,20 +45,13 @@ impl Board {
         low
     }
 
-    fn set_count(&mut self, v: u32, count: u32) {
-        if let Some(note) = self.notes.get_mut(v as usize) {
-            note.count = count;
-            note.rank = 0;
-        }
-    }
-
     // Zero above the odd priority. The answer is a number that no vertex has.
     fn begin_queue(&mut self, graph: Graph, odd: u8, all: Span) -> u32 {
         self.queued = 0;
         for v in all.from..all.to {
             let edges = graph.successors(v).len();
-            self.set_edges(v, u32::try_from(edges).unwrap_or(OPEN));
-            if graph.priority(v) > odd && self.note(v).count == OPEN {
+            self.set(Column::Edges, v, u32::try_from(edges).unwrap_or(OPEN));
+            if graph.priority(v) > odd && self.get(Column::Count, v) == OPEN {
                 self.count(v, 0);
             }
         }
@@ -67,7 +60,7 @@ impl Board {
 
     // The count of a vertex that is looked at before those with the next count.
     fn count(&mut self, v: u32, count: u32) {
-        self.set_count(v, count);
+        self.set(Column::Count, v, count);
         self.enqueue(v);
     }
 
@@ -85,10 +78,10 @@ impl Board {
     }
 
     fn settle_room(&mut self, graph: Graph, room: Span) {
-        let v = self.place(room.from).vertex;
+        let v = self.get(Column::List, room.from);
         if room.len() > 1 || graph.successors(v).contains(&v) {
             for place in room.from..room.to {
-                let v = self.place(place).vertex;
+                let v = self.get(Column::List, place);
                 self.count(v, 0);
             }
         }
@@ -103,24 +96,24 @@ impl Board {
             if place >= self.queued {
                 return;
             }
-            let v = self.place(place).queued;
+            let v = self.get(Column::Queue, place);
             self.spread_count(graph, odd, v);
         }
     }
 
     fn go_up(&mut self) {
         for place in 0..self.later {
-            let v = self.place(place).sorted;
+            let v = self.get(Column::Sorted, place);
             self.enqueue(v);
         }
         self.later = 0;
     }
 
     fn spread_count(&mut self, graph: Graph, odd: u8, v: u32) {
-        let count = self.note(v).count;
+        let count = self.get(Column::Count, v);
         for u in graph.predecessors(v) {
-            if self.note(*u).count == OPEN {
-                self.set_next(*u, v);
+            if self.get(Column::Count, *u) == OPEN {
+                self.set(Column::Next, *u, v);
                 if self.falls(graph, *u, v, false) {
                     self.count_before(graph, odd, *u, count);
                 }
@@ -134,10 +127,8 @@ impl Board {
             self.count(v, count);
             return;
         }
-        self.set_count(v, count.saturating_add(1));
-        if let Some(place) = self.places.get_mut(self.later as usize) {
-            place.sorted = v;
-            self.later = self.later.saturating_add(1);
-        }
+        self.set(Column::Count, v, count.saturating_add(1));
+        self.set(Column::Sorted, self.later, v);
+        self.later = self.later.saturating_add(1);
     }
 }

@@ -1,116 +1,120 @@
 // Ranks: for each even number the most vertices of that priority on a way along the moves of Odd, by which no cycle is Even's.
 
-use crate::board::Board;
+use crate::board::{Board, Column};
 use crate::components::Part;
 use crate::graph::Graph;
 use crate::numbers::Span;
+use std::alloc::{AllocError, Global};
 
-/// How many even numbers are a priority.
-pub(crate) const EVEN: usize = 17;
+// How many even numbers are a priority.
+const EVEN: usize = 17;
 
-/// Where the count of an even number stands among the counts of a rank.
+// Where the count of an even number stands among the counts of a vertex.
 #[derive(Clone, Copy)]
-pub(crate) struct Digit {
+struct Digit {
     unit: u64,
     radix: u64,
 }
 
-/// The place of each even number's count.
-#[derive(Clone, Copy)]
-pub(crate) struct Digits {
+/// For some vertices a count for each even number.
+#[derive(Drop)]
+pub(crate) struct Ranks {
+    // Zero where there are none, and else one more than all counts by their units.
+    sums: Vec<u64>,
     digits: [Digit; EVEN],
 }
 
-impl Digits {
-    /// All counts are zero.
-    pub(crate) fn none() -> Self {
-        Digits {
+impl Ranks {
+    /// No vertex has counts.
+    pub(crate) fn new(alloc: Global, vertices: u32) -> Result<Self, AllocError> {
+        Ok(Ranks {
+            sums: vec![in alloc; 0; vertices as usize]?,
             digits: [Digit { unit: 1, radix: 1 }; EVEN],
+        })
+    }
+
+    pub(crate) fn has(&self, v: u32) -> bool {
+        self.sum(v) > 0
+    }
+
+    fn sum(&self, v: u32) -> u64 {
+        self.sums.get(v as usize).copied().unwrap_or(0)
+    }
+
+    /// Writes the counts of a vertex, that of zero last.
+    pub(crate) fn write(&self, v: u32, counts: &mut [u32]) {
+        let sum = self.sum(v).saturating_sub(1);
+        let width = counts.len();
+        for place in 0..width {
+            counts[place] = self.count(sum, width - 1 - place);
         }
     }
 
-    fn set(&mut self, half: usize, digit: Digit) {
-        if let Some(it) = self.digits.get_mut(half) {
-            *it = digit;
-        }
-    }
-
-    /// The count of an even number, which is given by its half.
-    pub(crate) fn count(&self, rank: u64, half: usize) -> u32 {
+    // The count of an even number, which is given by its half.
+    fn count(&self, sum: u64, half: usize) -> u32 {
         let Some(digit) = self.digits.get(half) else {
             return 0;
         };
-        let above = rank.checked_div(digit.unit).unwrap_or(0);
+        let above = sum.checked_div(digit.unit).unwrap_or(0);
         let count = above.checked_rem(digit.radix).unwrap_or(0);
         u32::try_from(count).unwrap_or(0)
     }
-}
 
-impl Board {
-    /// Ranks these vertices. If a cycle is Even's or the counts are too many, then they get none.
-    pub(crate) fn rank(&mut self, graph: Graph, span: Span) -> Digits {
-        let mut digits = Digits::none();
-        self.set_ranks(span, 1);
-        if self.rank_all(graph, span, &mut digits).is_none() {
-            self.set_ranks(span, 0);
-        }
-        digits
-    }
-
-    fn set_ranks(&mut self, span: Span, rank: u64) {
-        for place in span.from..span.to {
-            let v = self.place(place).vertex;
-            if let Some(note) = self.notes.get_mut(v as usize) {
-                note.rank = rank;
-            }
+    /// Ranks these vertices alone. If a cycle is Even's or the counts are too many, then none has a rank.
+    pub(crate) fn find(&mut self, board: &mut Board, graph: Graph, span: Span) {
+        self.digits = [Digit { unit: 1, radix: 1 }; EVEN];
+        self.sums.as_mut_slice().fill(0);
+        self.add_counts(board, span, None);
+        if self.find_all(board, graph, span).is_none() {
+            self.sums.as_mut_slice().fill(0);
         }
     }
 
-    fn rank_all(&mut self, graph: Graph, span: Span, digits: &mut Digits) -> Option<()> {
+    fn find_all(&mut self, board: &mut Board, graph: Graph, span: Span) -> Option<()> {
         let mut unit: u64 = 1;
         for half in 0..EVEN as u32 {
             if graph.has(2 * half) {
-                let radix = u64::from(self.longest(graph, span, 2 * half)?).saturating_add(1);
-                digits.set(half as usize, Digit { unit, radix });
-                self.add_counts(span, unit);
+                let most = board.longest(graph, span, 2 * half)?;
+                let radix = u64::from(most).saturating_add(1);
+                if let Some(digit) = self.digits.get_mut(half as usize) {
+                    *digit = Digit { unit, radix };
+                }
+                self.add_counts(board, span, Some(unit));
                 unit = unit.checked_mul(radix)?;
             }
         }
         Some(())
     }
 
-    fn add_counts(&mut self, span: Span, unit: u64) {
+    // Adds the counts that were found by their unit, or one where there is no unit yet.
+    fn add_counts(&mut self, board: &Board, span: Span, unit: Option<u64>) {
         for place in span.from..span.to {
-            let v = self.place(place).vertex;
-            if let Some(note) = self.notes.get_mut(v as usize) {
-                let more = unit.saturating_mul(u64::from(note.edges));
-                note.rank = note.rank.saturating_add(more);
+            let v = board.get(Column::List, place);
+            let count = u64::from(board.get(Column::Edges, v));
+            if let Some(sum) = self.sums.get_mut(v as usize) {
+                let more = unit.map_or(1, |unit| unit.saturating_mul(count));
+                *sum = sum.saturating_add(more);
             }
         }
     }
+}
 
-    // Counts for each vertex the most vertices of an even priority on a way from it among those of no greater one. The answer is
-    // the greatest count, or none where a cycle has such a vertex.
-    fn longest(&mut self, graph: Graph, span: Span, even: u32) -> Option<u32> {
+impl Board {
+    /// Counts for each vertex the most vertices of an even priority on a way from it among those of no greater one. The answer is
+    /// the greatest count, or none where a cycle has such a vertex.
+    pub(crate) fn longest(&mut self, graph: Graph, span: Span, even: u32) -> Option<u32> {
         let id = self.fresh();
         for place in span.from..span.to {
-            let v = self.place(place).vertex;
+            let v = self.get(Column::List, place);
             if u32::from(graph.priority(v)) <= even {
-                self.set_id(v, id);
+                self.set(Column::Part, v, id);
             }
         }
         let low = self.gather(span, id);
         let part = Part { id, moves: true };
         self.sort(graph, part, low);
-        self.set_counts(span, 0);
+        self.mark(Column::Edges, span, 0);
         self.count_components(graph, part, low, even)
-    }
-
-    fn set_counts(&mut self, span: Span, count: u32) {
-        for place in span.from..span.to {
-            let v = self.place(place).vertex;
-            self.set_edges(v, count);
-        }
     }
 
     fn count_components(&mut self, graph: Graph, part: Part, span: Span, even: u32) -> Option<u32> {
@@ -122,7 +126,7 @@ impl Board {
             }
             let first = self.first(rest);
             let count = self.count_one(graph, part, first, even)?;
-            self.set_counts(first, count);
+            self.mark(Column::Edges, first, count);
             most = count.max(most);
             rest.from = first.to;
         }
@@ -134,11 +138,11 @@ impl Board {
         let mut most: u32 = 0;
         let mut has = false;
         for place in component.from..component.to {
-            let v = self.place(place).vertex;
+            let v = self.get(Column::List, place);
             has = has || u32::from(graph.priority(v)) == even;
             most = self.most_after(graph, part, v).max(most);
         }
-        let v = self.place(component.from).vertex;
+        let v = self.get(Column::List, component.from);
         if !has {
             Some(most)
         } else if component.len() > 1 || self.turns(graph, part, v) {
@@ -157,7 +161,7 @@ impl Board {
         let mut most = 0;
         for t in graph.successors(v) {
             if self.leads(graph, part, v, *t) {
-                most = self.note(*t).edges.max(most);
+                most = self.get(Column::Edges, *t).max(most);
             }
         }
         most

@@ -1,9 +1,9 @@
 // A search for what Odd can force, with reasons.
 
-use crate::board::{Board, Note};
+use crate::board::{Board, Column};
 use crate::graph::Graph;
 use crate::layers::LOST;
-use crate::ranks::Digits;
+use crate::ranks::Ranks;
 use crate::tasks::Tasks;
 use lts::error::Memory;
 use std::alloc::Global;
@@ -14,28 +14,28 @@ use std::alloc::Global;
 pub struct Search {
     board: Board,
     tasks: Tasks,
-    digits: Digits,
+    ranks: Ranks,
 }
 
 impl Search {
     /// Nothing is found yet. This takes all memory that the search needs.
     pub fn new(alloc: Global, graph: Graph) -> Result<Self, Memory> {
         let tasks = Tasks::new(alloc)?;
+        let board = Board::new(alloc, graph.vertices())?;
         Ok(Search {
-            board: Board::new(alloc, graph.vertices())?,
+            board,
             tasks,
-            digits: Digits::none(),
+            ranks: Ranks::new(alloc, graph.vertices())?,
         })
     }
 
     /// Finds what Odd wins, within a number of steps that is about linear in the game's size. It may find less than there is.
     pub fn find_lost(&mut self, graph: Graph) {
         let lost = self.board.find_winners(graph, &mut self.tasks);
-        self.digits = self.board.rank(graph, lost);
-        for place in lost.from..lost.to {
-            let v = self.board.place(place).vertex;
-            if self.board.note(v).rank > 0 {
-                self.board.set_id(v, LOST);
+        self.ranks.find(&mut self.board, graph, lost);
+        for v in 0..graph.vertices() {
+            if self.ranks.has(v) {
+                self.board.set(Column::Part, v, LOST);
             }
         }
     }
@@ -44,47 +44,26 @@ impl Search {
     /// find less than there is.
     pub fn find_layers(&mut self, graph: Graph, odd: u8) {
         let counted = self.board.find_layers(graph, odd);
-        self.digits = self.board.rank(graph, counted);
+        self.ranks.find(&mut self.board, graph, counted);
     }
 
-    /// What was found last of a vertex.
-    pub fn of(&self, v: u32) -> Found<'_> {
-        Found {
-            note: self.board.note(v),
-            digits: &self.digits,
-        }
-    }
-}
-
-/// What was found of a vertex.
-#[derive(Clone, Copy)]
-pub struct Found<'s> {
-    note: Note,
-    digits: &'s Digits,
-}
-
-impl Found<'_> {
-    /// Whether it is anything.
-    pub fn is_any(self) -> bool {
-        self.note.rank > 0
+    /// Whether something was found of a vertex.
+    pub fn has(&self, v: u32) -> bool {
+        self.ranks.has(v)
     }
 
-    /// Where Odd goes on, if the vertex is its own.
-    pub fn next(self) -> u32 {
-        self.note.next
+    /// Where Odd goes on from a vertex of its own of which something was found.
+    pub fn next(&self, v: u32) -> u32 {
+        self.board.get(Column::Next, v)
     }
 
     /// How many vertices of the odd priority Odd can force.
-    pub fn count(self) -> u32 {
-        self.note.count
+    pub fn count(&self, v: u32) -> u32 {
+        self.board.get(Column::Count, v)
     }
 
-    /// Writes the rank: for each even number a count, that of zero last.
-    pub fn rank_into(self, rank: &mut [u32]) {
-        let width = rank.len();
-        let sum = self.note.rank.saturating_sub(1);
-        for place in 0..width {
-            rank[place] = self.digits.count(sum, width - 1 - place);
-        }
+    /// Writes the rank of a vertex: for each even number a count, that of zero last.
+    pub fn rank_into(&self, v: u32, rank: &mut [u32]) {
+        self.ranks.write(v, rank);
     }
 }

@@ -1,6 +1,6 @@
 // Who wins each vertex: by recursion on the greatest priority (Zielonka 1998) in strong components.
 
-use crate::board::{Board, Won};
+use crate::board::{Board, Column, Won};
 use crate::components::Part;
 use crate::graph::Graph;
 use crate::numbers::Span;
@@ -67,7 +67,7 @@ impl Board {
             tasks.push(Task::Components { span: others, won });
         }
         let id = self.fresh();
-        self.mark(first, id);
+        self.mark(Column::Part, first, id);
         let left = self.settle(graph, first, id, won);
         self.decide_left(graph, tasks, first, left, id, won);
     }
