@@ -3,6 +3,8 @@ use Rattle.game.proofs.Common.{◌≡◌, ◌+◌, ◌*◌, ◌≤◌, ◌<◌, 
 use Rattle.std.proofs.lemmas.List.FromFn.{length-range_with_len}
 use Rattle.std.proofs.Math.Nat.{mul-le-mul_left}
 use Rattle.normal.specs.declared.node as declared
+use Rattle.std.specs.Prelude.{max}
+use Rattle.game.specs.Game.{greatest, greatest_of}
 use Rattle.game.proofs.Steps.{Rising}
 
 -- The node of a number is what stands there.
@@ -159,3 +161,25 @@ arena_is_game l nodes form few =
       vertices = subst (λ n. AllByRecursion (IsVertex n) (arena l nodes).vertices) (sym count) (first, (second, rows_good l nodes (range_with_len 0 l.states) form.numbered (range_below 0 l.states l.states (omega arith))));
       named = λ states n is. count ∙ ap named_count is;
     }
+
+-- ---- priorities
+
+greatest_append : (xs ys : List Vertex) → greatest_of (xs ++ ys) ≡ max (greatest_of xs) (greatest_of ys)
+greatest_append [] ys = omega arith
+greatest_append (x ∷ xs) ys = let e = greatest_append xs ys in omega arith
+
+state_low : (l : System) (n k s : ℕ) (nodes : List Node) → AllByRecursion (IsNode k) nodes → greatest_of (map (vertex_of l n s) nodes) ≤ 31
+state_low l n k s [] h = omega arith
+state_low l n k s (node ∷ nodes) h = let low : node.priority ≤ 31 = h.0.0 in let rest = state_low l n k s nodes h.1 in omega arith
+
+rows_low : (l : System) (nodes : List Node) (states : List ℕ) → AllByRecursion (IsNode (length nodes)) nodes → greatest_of (rows l nodes states) ≤ 31
+rows_low l nodes [] h = omega arith
+rows_low l nodes (s ∷ states) h =
+    let first = state_low l (length nodes) (length nodes) s nodes h in
+    let rest = rows_low l nodes states h in
+    let both = greatest_append (map (vertex_of l (length nodes) s) nodes) (rows l nodes states) in
+    omega arith
+
+-- no priority of an arena is above those of a normal form
+pub arena_low : (l : System) (nodes : List Node) → IsForm nodes → greatest (arena l nodes) ≤ 31
+arena_low l nodes h = let low = rows_low l nodes (range_with_len 0 l.states) h.numbered in omega arith

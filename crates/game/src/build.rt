@@ -6,7 +6,7 @@ ghost use Rattle.formula.specs.View.{action_of};
 ghost use Rattle.normal.specs.Form.{IsForm, IsNode};
 ghost use Rattle.normal.specs.View.{node_of, shape_of};
 ghost use Rattle.normal.specs.Normal.{normal_nodes};
-ghost use Rattle.game.specs.Game.{IsGame};
+ghost use Rattle.game.specs.Game.{IsGame, greatest};
 ghost use Rattle.game.specs.Arena.{arena, vertex_of, or_else, place};
 ghost use Rattle.game.specs.Steps.{IsSetOf, IsSetFor, AreSets, IsRowOf, picks, is_in, vertex_by};
 ghost use Rattle.game.specs.Refused.{HasRefusal};
@@ -17,7 +17,7 @@ use crate::limits::MOST_VERTICES;
 use crate::player::Player;
 use lts::system::{Lts, Transition};
 use normal::form::Normal;
-use normal::limits::MOST_NODES;
+use normal::limits::{GREATEST_PRIORITY, MOST_NODES};
 use normal::node::{Kind, Node};
 use std::alloc::{AllocError, Global};
 use trees::holds;
@@ -178,6 +178,7 @@ fn push_state(
 pub fn build(alloc: Global, lts: &Lts, form: &Normal) -> Result<Game, BuildError>
     ensures game { IfOk result (λ g. g ≡ arena lts.now.system (normal_nodes form.now)) }
     ensures within { OnOk result (2 + lts.now.system.states * length (normal_nodes form.now) ≤ MOST_VERTICES) }
+    ensures low { IfOk result (λ g. greatest g ≤ GREATEST_PRIORITY) }
     ensures refused { IfErr result (HasRefusal lts.now.system.states (length (normal_nodes form.now))) }
 {
     form.known();

@@ -2,11 +2,13 @@
 use Rattle.std.specs.Prelude.{◌≡◌, ℕ, zero, suc, ◌%◌, ◌==◌, if◌then◌else◌, true, false, List, [], ◌∷◌, ◌++◌, bytes_eq, codes, refl}
 use Rattle.std.specs.List.{flat_map}
 use Rattle.std.specs.Fmt.{digits}
-use Rattle.std.proofs.Common.{arith}
+use Rattle.std.proofs.Common.{arith, lit<, lit≤}
 use Rattle.formula.specs.Tree.{Anything, Regular, Step, Then, Either, Star, Plus, Formula, True, False, Var, Not, And, Or, Dia, Box, Mu, Nu}
 use Rattle.vectors.specs.Formulas.{often_a, plus_or_b, name_a, name_b}
 use Rattle.normal.specs.Tree.{normal_form, Shape, ConstantNode, JunctionNode, ModalityNode, FixpointNode, VariableNode, depth, size, chain, count, modal_count, formula_from}
-use Rattle.normal.specs.Nodes.{nodes, Node, greatest}
+use Rattle.normal.specs.Nodes.{nodes, Node, greatest, greatest_priority}
+use Rattle.normal.specs.Rules.{nodes_with}
+use Rattle.normal.specs.declared.priorities.Priorities.TheVariants.{Nested, Dependent}
 use Rattle.normal.specs.NormalText.{normal_text, line_end}
 use Rattle.normal.specs.Refused.{HasRefusal}
 use Rattle.normal.specs.declared.error.NormalError.TheVariants.{TooManyNodes, PriorityTooGreat}
@@ -97,7 +99,29 @@ greatest_alternating : (greatest (normal_form (alternating 31)) ≡ 31) × (dept
 greatest_alternating = (refl, refl)
 
 one_binder_more : HasRefusal (alternating 32) PriorityTooGreat
-one_binder_more = (omega arith, omega arith)
+one_binder_more = (lit≤ tt, lit< tt)
+
+-- ---- dependent priorities
+
+-- binders that don't depend on each other share a priority
+no_binder_too_many : greatest_priority (nodes_with Dependent (alternating 32)) ≡ 1
+no_binder_too_many = refl
+
+-- in nu X. mu Y. (<a>X || <b>Y) the outer variable stands inside the inner binder
+often_a_dependent : nodes_with Dependent often_a ≡ nodes often_a
+often_a_dependent = refl
+
+-- nu X. (<a>X && mu Y. <b>Y)
+abbrev apart : Formula
+apart = Nu (codes "X") (And (Dia (Step name_a) (Var (codes "X"))) (Mu (codes "Y") (Dia (Step name_b) (Var (codes "Y")))))
+
+apart_nested : greatest_priority (nodes apart) ≡ 2
+apart_nested = refl
+
+apart_dependent : nodes_with Dependent apart
+    ≡ node (FixpointNode false 1) 0 ∷ node (JunctionNode false 2 4) 0 ∷ node (ModalityNode true name_a 3) 0 ∷ node (VariableNode 0) 0
+    ∷ node (FixpointNode true 5) 1 ∷ node (ModalityNode true name_b 6) 0 ∷ node (VariableNode 4) 0 ∷ []
+apart_dependent = refl
 
 -- [true*]<true*>(<a>true)
 everywhere : (greatest (normal_form (Box (Star (Step Anything)) (Dia (Star (Step Anything)) (Dia (Step name_a) True)))) ≡ 2)

@@ -1,5 +1,6 @@
 use Rattle.game.proofs.Common.{◌≡◌, ◌+◌, ◌*◌, ◌≤◌, ◌++◌, ◌∷◌, [], ℕ, List, Some, length, subst, sym, ap, ◌∙◌, arith, range_with_len, System, Node, normal_nodes, Vertex, IsGame, arena, rows, Even}
-use Rattle.game.proofs.Arenas.{rows_more, rows_fit, arena_is_game}
+use Rattle.game.proofs.Arenas.{rows_more, rows_fit, arena_is_game, arena_low}
+use Rattle.game.specs.Game.{greatest}
 use Rattle.game.proofs.build.build.Goals as goal
 
 abbrev sinks : List Vertex
@@ -51,8 +52,10 @@ returns c =
     let nodes = normal_nodes c.args.form.now in
     let begun = two_sinks c.new-builder.result c.push.new.self c.push-2.new.self c.new-builder.ensures c.in_ok-push.ensures.ok c.in_ok-push-2.ensures.ok in
     let all = built l nodes c.loop-state.state c.states-states.result c.push-2.new.self c.loop-state.builder begun c.loop-state.invariant c.loop-state-test.false c.states-states.ensures.count c.loop-state.auto.state-end in
+    let is = c.into_game.ensures ∙ (λ i. record { vertices = all i; named = Some (c.states-states.ensures.count i, c.count-nodes.ensures.count i) }) in
     record {
       game = c.into_game.ensures ∙ (λ i. record { vertices = all i; named = Some (c.states-states.ensures.count i, c.count-nodes.ensures.count i) });
       within = within c.states-states.result c.count-nodes.result l.states (length nodes) c.states-states.ensures.count c.count-nodes.ensures.count (omega (arith, c.if-states-nodes.false));
+      low = subst (λ g. greatest g ≤ 31) (sym is) (arena_low l nodes c.known.ensures);
       refused = tt;
     }
