@@ -7,5 +7,6 @@ pub mod Judging
 pub mod Reading
 pub mod Putting
 pub mod Unique
+pub mod Canonical
 pub mod Faults
 pub mod Whole

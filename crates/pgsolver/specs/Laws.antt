@@ -1,6 +1,8 @@
 -- What holds of all texts of games.
-use Rattle.std.specs.Prelude.{◌≡◌, ℕ, List}
-use Rattle.game.specs.Game.{Game}
+use Rattle.std.specs.Prelude.{◌≡◌, ℕ, ◌≤◌, List, length, None}
+use Rattle.normal.specs.declared.limits.TheConstants.{GREATEST_PRIORITY}
+use Rattle.game.specs.Game.{Game, IsGame, greatest}
+use Rattle.pgsolver.specs.Canon.{game_text}
 use Rattle.pgsolver.specs.Spelling.{IsGameText}
 use Rattle.pgsolver.specs.Fault.{HasFault}
 use Rattle.pgsolver.specs.declared.error.PgFault.{PgFault}
@@ -16,3 +18,7 @@ NoFault = (text : List ℕ) (g : Game) (fault : PgFault) (line : ℕ) → IsGame
 -- A text has at most one deciding fault, at one line.
 abbrev pub OneFault : Type 0
 OneFault = (text : List ℕ) (f g : PgFault) (i j : ℕ) → HasFault text f i → HasFault text g j → (f ≡ g) × (i ≡ j)
+
+-- The canonical text of a game with some vertex and without a priority above 31 spells that game without its names.
+abbrev pub CanonSpells : Type 0
+CanonSpells = (g : Game) → IsGame g → 1 ≤ length g.vertices → greatest g ≤ GREATEST_PRIORITY → IsGameText (game_text g) (record { vertices = g.vertices; named = None })

@@ -1,6 +1,6 @@
 // What holds of all texts of games.
 
-ghost use Rattle.pgsolver.specs.Laws.{OneGame, NoFault, OneFault};
+ghost use Rattle.pgsolver.specs.Laws.{OneGame, NoFault, OneFault, CanonSpells};
 
 /// A text spells at most one game.
 pub fn one_game()
@@ -15,4 +15,9 @@ pub fn no_fault()
 /// A text has at most one deciding fault, at one line.
 pub fn one_fault()
     ensures { OneFault }
+{}
+
+/// The canonical text of a game spells the game without its names, and by `one_game` no other: what is written is read again.
+pub fn canon_spells()
+    ensures { CanonSpells }
 {}
