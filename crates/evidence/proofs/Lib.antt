@@ -17,3 +17,9 @@ pub mod Checked
 pub mod Firsts
 pub mod Making
 pub mod Written
+pub mod Scanned
+pub mod Scanning
+pub mod Judged
+pub mod Gathered
+pub mod Alone
+pub mod Whole

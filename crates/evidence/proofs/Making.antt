@@ -24,7 +24,7 @@ pub record IsMade (g : Game) (table : List Measure) (n : ℕ) (now : Entries) : 
   pub outside : (v : ℕ) → value_at table v ≡ Top → at now v ≡ None
   pub inside : (v : ℕ) (counts : List ℕ) → v < n → value_at table v ≡ Counts counts → (x : Entry) × (at now v ≡ Some x) × (x.rank ≡ counts) × IsMoveAt g table v x.move
 
-none_at : (n v : ℕ) → slice_index_or (replicate {A = Option Entry} n None) v None ≡ None
+pub none_at : (n v : ℕ) → slice_index_or (replicate {A = Option Entry} n None) v None ≡ None
 none_at zero v = get_or_past [] v None (omega arith)
 none_at (suc n) zero = refl
 none_at (suc n) (suc v) = none_at n v

@@ -1,9 +1,10 @@
 -- The even numbers up to n, each with one more, are the odd ones up to n + 1: what Odd's rank counts is what Even's does in the dual game.
-use Rattle.std.proofs.Common.{◌≡◌, ℕ, zero, suc, ◌+◌, ◌<◌, Bool, true, false, List, [], ◌∷◌, length, map, refl, sym, ap, ◌∙◌, inl, inr, arith, count_by, nat_le, if◌then◌else◌, true≢false}
+use Rattle.std.proofs.Common.{◌≡◌, ℕ, zero, suc, ◌+◌, ◌/◌, ◌<◌, Bool, true, false, List, [], ◌∷◌, length, map, refl, sym, ap, ◌∙◌, inl, inr, arith, count_by, nat_le, if◌then◌else◌, true≢false}
 use Rattle.std.proofs.lemmas.Bool.Decides.{leb_tells}
 use Rattle.std.proofs.lemmas.List.{length-map}
 use Rattle.game.specs.Game.{Game, Vertex, dual, greatest, greatest_of}
 use Rattle.measures.specs.Measure.{components, is_odd, kept, odd_down}
+use Rattle.measures.proofs.Components.{odd_down_long}
 use Rattle.measures.proofs.Cycles.{odd_or_even}
 use Rattle.game.proofs.Duals.{turned}
 use Rattle.measures.proofs.Lists.{count_no, count_yes}
@@ -73,3 +74,9 @@ kept_dual g p h = ap (λ qs. count_by (λ q. nat_le (p + 1) q) qs) (components_d
 
 pub counted_dual : (g : Game) → 0 < length g.vertices → length (components (dual g)) ≡ length (even_down (greatest g))
 counted_dual g h = ap length (components_dual g h) ∙ length-map (even_down (greatest g)) (λ q. suc q)
+
+pub even_down_long : (n : ℕ) → length (even_down n) ≡ n / 2 + 1
+even_down_long n =
+    let same : length (odd_down (suc n)) ≡ length (even_down n) = ap length (odd_down_is n) ∙ length-map (even_down n) (λ q. suc q) in
+    let long = odd_down_long (suc n) in
+    omega arith

@@ -18,6 +18,9 @@ use Rattle.evidence.specs.Best.{IsEvenOf, IsOddOf}
 use Rattle.evidence.specs.Verdict.{IsBoth, IsVerdict}
 use Rattle.evidence.specs.declared.verdict.Verdict.{Verdict}
 use Rattle.evidence.specs.declared.verdict.Both.{Both}
+use Rattle.evidence.specs.Fault.{HasFault}
+use Rattle.evidence.specs.Spelling.{IsEvidenceText}
+use Rattle.evidence.specs.declared.error.EvidenceFault.{EvidenceFault}
 use Rattle.evidence.specs.Witness.{HasAllArrows, IsClosedFor, IsPart, IsReached, Keeps, cut_to, part_of, witness}
 use Rattle.evidence.specs.declared.verdict.Both.TheVariants.{Yes}
 
@@ -114,3 +117,14 @@ WitnessShows =
     → IsEvidence (arena l nodes) e → IsGood (arena l nodes) e → IsTrue (has e (place (length nodes) l.initial 0))
     → IsReached (arena l nodes) e (place (length nodes) l.initial 0) set
     → IsSystem (witness l nodes e set) × (e.player ≡ Even → Satisfies (witness l nodes e set) f l.initial) × (e.player ≡ Odd → Satisfies (witness l nodes e set) f l.initial → ⊥)
+
+-- A text spells one evidence of a game at most.
+abbrev pub OneEvidence : Type 0
+OneEvidence = (g : Game) (text : List ℕ) (e f : Evidence) → IsEvidenceText g text e → IsEvidenceText g text f → e ≡ f
+
+-- A text that spells evidence has no deciding fault, and each text has one at most, at one line.
+abbrev pub NoFault : Type 0
+NoFault = (g : Game) (text : List ℕ) (e : Evidence) (fault : EvidenceFault) (line : ℕ) → IsEvidenceText g text e → HasFault g text fault line → ⊥
+
+abbrev pub OneFault : Type 0
+OneFault = (g : Game) (text : List ℕ) (a b : EvidenceFault) (i j : ℕ) → HasFault g text a i → HasFault g text b j → (a ≡ b) × (i ≡ j)

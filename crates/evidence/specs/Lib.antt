@@ -1,5 +1,10 @@
 pub mod Evidence
 pub mod Canon
+pub mod Spelling
+pub mod Fault
+pub mod Scan
+pub mod Reading
+pub mod Unread
 pub mod Best
 pub mod Verdict
 pub mod Witness

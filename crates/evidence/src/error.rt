@@ -1,6 +1,7 @@
 // Why there is no evidence.
 
 use lts::error::Memory;
+use text::error::ReadFault;
 use thiserror::Error;
 
 /// What is wrong with a text that spells no evidence. It is shown as its code.
@@ -40,5 +41,19 @@ impl From<Memory> for EvidenceError {
     fn from(error: Memory) -> Self {
         let Memory = error;
         EvidenceError::Memory
+    }
+}
+
+impl From<ReadFault> for EvidenceError {
+    ghost use Rattle.std.specs.Prelude.{◌≡◌};
+    ghost use Rattle.evidence.specs.Unread.{unread};
+
+    ghost from_gives = { λ fault e. e ≡ unread fault };
+
+    fn from(fault: ReadFault) -> Self {
+        match fault {
+            ReadFault::Read => EvidenceError::Read,
+            ReadFault::Memory => EvidenceError::Memory,
+        }
     }
 }

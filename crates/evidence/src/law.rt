@@ -9,9 +9,12 @@ ghost use Rattle.evidence.specs.Laws.{
   DescentIsReaching,
   EvenEvidenceIsGood,
   GoodEvidenceWins,
+  NoFault,
   NoneInBoth,
   OddEvidenceIsGood,
   OneAnswer,
+  OneEvidence,
+  OneFault,
   OneVerdict,
   PartsAreSystems,
   ReachedExists,
@@ -124,4 +127,19 @@ pub fn witness_means()
 /// The part that has just the arrows that the play takes from the root says so too.
 pub fn witness_shows()
     ensures { WitnessShows }
+{}
+
+/// A text spells one evidence of a game at most.
+pub fn one_evidence()
+    ensures { OneEvidence }
+{}
+
+/// A text that spells evidence has no deciding fault.
+pub fn no_fault()
+    ensures { NoFault }
+{}
+
+/// A text has one deciding fault at most, at one line.
+pub fn one_fault()
+    ensures { OneFault }
 {}

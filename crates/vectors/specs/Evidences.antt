@@ -50,10 +50,10 @@ even_with at_1 at_5 at_10 at_14 = record {
 abbrev odd_with : Option Entry → Option Entry → Evidence
 odd_with at_1 at_7 = record { player = Odd; entries = None ∷ at_1 ∷ None ∷ None ∷ None ∷ None ∷ None ∷ at_7 ∷ None ∷ None ∷ None ∷ None ∷ lost 0 1 ∷ None ∷ None ∷ None ∷ [] }
 
-abbrev evens : Evidence
+abbrev pub evens : Evidence
 evens = even_with None (goes 13 0) (goes 11 2) (goes 8 1)
 
-abbrev odds : Evidence
+abbrev pub odds : Evidence
 odds = odd_with (lost 0 0) (lost 0 1)
 
 verdict : (e : Evidence) (v : Verdict) → judged often_a_game e 0 16 ≡ v → IsVerdict often_a_game e v

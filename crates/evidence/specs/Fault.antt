@@ -1,0 +1,59 @@
+-- The fault of a text that spells no evidence for a game.
+use Rattle.std.specs.Prelude.{◌≡◌, ℕ, ◌+◌, ◌≤◌, ◌⊎◌, List, ◌∷◌, ◌++◌, length, Contains, Option, Some, None, IfSome}
+use Rattle.text.specs.Text.{pieces_of}
+use Rattle.game.specs.declared.player.Player.{Player}
+use Rattle.game.specs.Game.{Game}
+use Rattle.evidence.specs.Canon.{header}
+use Rattle.evidence.specs.Evidence.{counted}
+use Rattle.evidence.specs.Spelling.{AreGood, IsShaped, Row}
+use Rattle.evidence.specs.declared.error.EvidenceFault.{EvidenceFault}
+use Rattle.evidence.specs.declared.error.EvidenceFault.TheVariants.{BadHeader, BadLine, BadVertex}
+use Rattle.evidence.specs.declared.error.EvidenceError.{EvidenceError}
+use Rattle.evidence.specs.declared.error.EvidenceError.TheVariants.{Fault, Memory, Read}
+
+-- The first line is absent, or it is neither player's.
+abbrev pub IsHeadless : List (List ℕ) → Type 0
+IsHeadless all = (player : Player) (rest : List (List ℕ)) → all ≡ header player ∷ rest → ⊥
+
+-- The vertex is none of so many, or the move is none, or the vertex stands before.
+abbrev pub IsMisplaced : ℕ → List Row → Row → Type 0
+IsMisplaced vertices before row =
+    (vertices ≤ row.vertex) ⊎ ((t : ℕ) × (row.entry.move ≡ Some t) × (vertices ≤ t)) ⊎ ((other : Row) × Contains before other × (other.vertex ≡ row.vertex))
+
+-- what is wrong with a line, behind lines that say these
+abbrev pub LineFault : (vertices width : ℕ) → List Row → List ℕ → EvidenceFault → Type 0
+LineFault vertices width before line BadLine = (row : Row) → IsShaped width line row → ⊥
+LineFault vertices width before line BadVertex = (row : Row) × IsShaped width line row × IsMisplaced vertices before row
+LineFault vertices width before line BadHeader = ⊥
+
+-- The first faulty line of those below a header: its fault, and how many good ones stand before it.
+pub record IsFaultyRest (vertices width : ℕ) (rest : List (List ℕ)) (fault : EvidenceFault) (good : ℕ) : Type 0 where
+  pub front : List (List ℕ)
+  pub line : List ℕ
+  pub back : List (List ℕ)
+  pub before : List Row
+  pub cut : rest ≡ front ++ line ∷ back
+  pub fine : AreGood vertices width front before
+  pub count : length front ≡ good
+  pub wrong : LineFault vertices width before line fault
+
+-- the fault that decides, and its line, from 1
+abbrev pub HasFault : Game → List ℕ → EvidenceFault → ℕ → Type 0
+HasFault g text BadHeader place = IsHeadless (pieces_of text) × (place ≡ 1)
+HasFault g text fault place =
+    (player : Player) × (rest : List (List ℕ)) × (good : ℕ) × (pieces_of text ≡ header player ∷ rest)
+    × IsFaultyRest (length g.vertices) (length (counted player g)) rest fault good × (place ≡ good + 2)
+
+-- the same of the fault with its line
+abbrev pub HasFaultAt : Game → List ℕ → EvidenceFault × ℕ → Type 0
+HasFaultAt g text told = HasFault g text told.0 told.1
+
+-- the fault that an error tells, and its line: none for a failed read, or for want of memory
+abbrev pub named : EvidenceError → Option (EvidenceFault × ℕ)
+named (Fault fault line) = Some (fault, line)
+named Read = None
+named Memory = None
+
+-- P holds of what was left, where that is known, and of the fault and its line, if it was one.
+abbrev pub Refuses : Option (List ℕ) → (List ℕ → EvidenceFault → ℕ → Type 0) → EvidenceError → Type 0
+Refuses old P e = IfSome old (λ text. IfSome (named e) (λ told. P text told.0 told.1))

@@ -1,0 +1,168 @@
+// The reader of evidence.
+
+ghost use Rattle.std.specs.Prelude.{◌≡◌, ◌≤◌, None, length, replicate, IfErr, IfOk, IfSome, MatchBool, OnOk};
+ghost use Rattle.text.specs.Lines.{IfKnown};
+ghost use Rattle.text.specs.Reads.{Reads};
+ghost use Rattle.evidence.specs.Evidence.{counted};
+ghost use Rattle.evidence.specs.Fault.{HasFault, HasFaultAt, Refuses, named};
+ghost use Rattle.evidence.specs.Reading.{AreRead, BeginsWith, HasNoHeader, HasRestFault, IsAdded, IsNoPlace, IsPlace, IsWrongLine};
+ghost use Rattle.evidence.specs.Spelling.{IsEvidenceText};
+
+use crate::entries::{Entries, MOST_COUNTS};
+use crate::error::{EvidenceError, EvidenceFault};
+use crate::evidence::Evidence;
+use crate::scan::{fields, player_of, read_rank};
+use game::dual::greatest_priority;
+use game::graph::Game;
+use game::limits::MOST_VERTICES;
+use game::player::Player;
+use std::alloc::Global;
+use std::io::{BufRead, BufReader, Read};
+use text::lines::next_piece;
+
+// Reads the header.
+fn read_header<B: BufRead>(reader: &mut B, line: &mut Vec<u8>) -> Result<Player, EvidenceError>
+    ensures first { IfOk result (λ player. IfKnown (B.remaining reader.old) (B.remaining reader.new) (BeginsWith player)) }
+    ensures fault { IfErr result (Refuses (B.remaining reader.old) HasNoHeader) }
+{
+    let fault = EvidenceFault::BadHeader;
+    if !next_piece(reader, line)? {
+        return Err(EvidenceError::Fault { fault, line: 1 });
+    }
+    match player_of(line) {
+        Some(player) => Ok(player),
+        None => Err(EvidenceError::Fault { fault, line: 1 }),
+    }
+}
+
+// Whether the vertex may have an entry with this move, and has none yet.
+fn has_place(entries: &Entries, v: u32, next: Option<u32>) -> bool
+    ensures { MatchBool result (IsPlace entries.now.entries v next) (IsNoPlace entries.now.entries v next) }
+{
+    if v as usize >= entries.len() {
+        return false;
+    }
+    if let Some(next) = next {
+        if next as usize >= entries.len() {
+            return false;
+        }
+    }
+    entries.get(v as usize).is_none()
+}
+
+// Gives the vertex of a line its entry.
+fn add_line(line: &[u8], counts: &mut [u32], entries: &mut Entries) -> Result<(), EvidenceFault>
+    requires width { length counts.old ≡ entries.old.width }
+    requires few { length entries.old.entries ≤ MOST_VERTICES }
+    ensures added { OnOk result (IsAdded line.now entries.old entries.new) }
+    ensures fault { IfErr result (IsWrongLine entries.old line.now) }
+{
+    let Some(spelled) = fields(line) else {
+        return Err(EvidenceFault::BadLine);
+    };
+    if !read_rank(spelled.rank, counts) {
+        return Err(EvidenceFault::BadLine);
+    }
+    if !has_place(entries, spelled.vertex, spelled.next) {
+        return Err(EvidenceFault::BadVertex);
+    }
+    entries.set(spelled.vertex as usize, spelled.next, counts);
+    Ok(())
+}
+
+// Reads the lines below a header, where no vertex has an entry yet.
+fn read_lines<B: BufRead>(
+    reader: &mut B,
+    line: &mut Vec<u8>,
+    counts: &mut [u32],
+    entries: &mut Entries,
+) -> Result<(), EvidenceError>
+    requires none { entries.old.entries ≡ replicate (length entries.old.entries) None }
+    requires width { length counts.old ≡ entries.old.width }
+    requires few { length entries.old.entries ≤ MOST_VERTICES }
+    ensures lines { OnOk result (AreRead (length entries.old.entries) entries.old.width (B.remaining reader.old) entries.new.entries) }
+    ensures fault { IfErr result (Refuses (B.remaining reader.old) (HasRestFault (length entries.old.entries) entries.old.width)) }
+{
+    let mut good = 0;
+    while next_piece(reader, line)? {
+        if let Err(fault) = add_line(line, counts, entries) {
+            return Err(EvidenceError::Fault {
+                fault,
+                line: good + 2,
+            });
+        }
+        good += 1;
+    }
+    Ok(())
+}
+
+// How many counts a rank of the player's has.
+fn width(player: Player, game: &Game) -> usize
+    ensures width { result ≡ length (counted player game.now) }
+    ensures few { result ≤ MOST_COUNTS }
+{
+    game.known();
+    let greatest = greatest_priority(game) as usize;
+    match player {
+        Player::Even => (greatest + 1) / 2,
+        Player::Odd => greatest / 2 + 1,
+    }
+}
+
+// Reads the player's entries.
+fn read_entries<B: BufRead>(
+    alloc: Global,
+    reader: &mut B,
+    line: &mut Vec<u8>,
+    player: Player,
+    game: &Game,
+) -> Result<Entries, EvidenceError>
+    ensures lines { IfOk result (λ e. AreRead (length game.now.vertices) (length (counted player game.now)) (B.remaining reader.old) e.entries) }
+    ensures fault { IfErr result (Refuses (B.remaining reader.old) (HasRestFault (length game.now.vertices) (length (counted player game.now)))) }
+{
+    game.known();
+    let width = width(player, game);
+    let mut counts = [0; MOST_COUNTS];
+    let Ok(mut entries) = Entries::none(alloc, game.vertices() as usize, width) else {
+        return Err(EvidenceError::Memory);
+    };
+    read_lines(reader, line, &mut counts[..width], &mut entries)?;
+    Ok(entries)
+}
+
+// Reads the whole text.
+fn read_text<B: BufRead>(
+    alloc: Global,
+    reader: &mut B,
+    game: &Game,
+) -> Result<Evidence, EvidenceError>
+    ensures game { IfOk result (λ e. e.game ≡ game.now) }
+    ensures spelled { IfOk result (λ e. IfSome (B.remaining reader.old) (λ text. IsEvidenceText game.now text e.evidence)) }
+    ensures fault { IfErr result (Refuses (B.remaining reader.old) (HasFault game.now)) }
+{
+    let mut line = Vec::new(alloc);
+    let player = read_header(reader, &mut line)?;
+    let entries = read_entries(alloc, reader, &mut line, player, game)?;
+    Ok(Evidence::of(player, entries, game))
+}
+
+/// Reads evidence for a game: a header, and below it a line for each vertex of the set, in any order. Lines end by LF, and a CR is a byte like any
+/// other. A rank has as many counts as the player's ranks have in the game, each up to 16,777,216. Of the text it keeps the line that it reads,
+/// beside the entries.
+///
+/// # Errors
+/// The first faulty line decides. A text is also refused where a read fails, or for want of memory.
+pub fn read_evidence<R: Read + Drop>(
+    alloc: Global,
+    reader: R,
+    game: &Game,
+) -> Result<Evidence, EvidenceError>
+    ensures game { IfOk result (λ e. e.game ≡ game.now) }
+    ensures reads { Reads (IsEvidenceText game.now) (IsEvidenceText game.now) (IsEvidenceText game.now) (HasFaultAt game.now) (λ e. e.evidence) named (R.remaining reader) result }
+{
+    let mut reader = match BufReader::new(alloc, reader) {
+        Ok(reader) => reader,
+        Err(_) => return Err(EvidenceError::Memory),
+    };
+    read_text(alloc, &mut reader, game)
+}
