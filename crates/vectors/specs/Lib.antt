@@ -8,3 +8,4 @@ pub mod Games
 pub mod Measures
 pub mod Tables
 pub mod Evidences
+pub mod Cores
