@@ -9,3 +9,4 @@ pub mod Measures
 pub mod Tables
 pub mod Evidences
 pub mod EvidenceTexts
+pub mod Cores
