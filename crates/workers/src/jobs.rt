@@ -1,0 +1,105 @@
+// Deques of jobs, each job a vertex.
+
+ghost use Rattle.std.specs.Prelude.{◌≡◌, ◌<◌, IfOk, IfSome, length, vec_len};
+
+use crossbeam_deque::protocol::{Outcome, Protocol};
+use crossbeam_deque::{Steal, Stealer, Worker};
+use game::name::GameName;
+use std::alloc::{AllocError, Global};
+use std::marker::PhantomData;
+use std::sync::Wait;
+
+/// The rule of the deques: each job is a vertex of the game that K names.
+pub(crate) struct Jobs<K: GameName> {
+    of: PhantomData<K>,
+}
+
+impl<K: GameName> Protocol<u32, ()> for Jobs<K> {
+    ghost use Rattle.workers.specs.Jobs.{AreJobs};
+
+    ghost holds = { λ items views. AreJobs K.game items };
+
+    ghost first = { tt };
+
+    ghost guest = { tt };
+}
+
+impl<K: GameName> Outcome<u32, ()> for Jobs<K> {
+    ghost use Rattle.workers.specs.Jobs.{AreJobs};
+
+    ghost then = { λ v xs w. AreJobs K.game xs };
+}
+
+/// A worker's own deque.
+pub(crate) type Own<K> = Worker<u32, Global, (), Jobs<K>>;
+
+/// A handle to the deque of a worker.
+pub(crate) type Other<K> = Stealer<u32, Global, (), Jobs<K>>;
+
+/// Gives a job to one's own deque, and says whether it was taken.
+pub(crate) fn give<K: GameName>(own: &mut Own<K>, v: u32) -> bool
+    requires { v < length K.game.vertices }
+{
+    own.push_as::<Jobs<K>>(v).is_ok()
+}
+
+// A job of one's own, the first that was given.
+fn take<K: GameName>(own: &mut Own<K>) -> Option<u32>
+    ensures { IfSome result (λ v. v < length K.game.vertices) }
+{
+    own.pop_as::<Jobs<K>>()
+}
+
+// A job of another's. A steal that asks to be tried again is tried again.
+fn steal<K: GameName, R: Wait>(rt: &R, other: &Other<K>) -> Option<u32>
+    ensures { IfSome result (λ v. v < length K.game.vertices) }
+{
+    let mut pass = other.pass();
+    for _ in rt.forever() {
+        match other.steal_as::<Jobs<K>>(&mut pass) {
+            Steal::Success(v) => return Some(v),
+            Steal::Empty => return None,
+            Steal::Retry => {}
+        }
+    }
+    unreachable!()
+}
+
+/// A job of one's own, or else of another's: one pass over the others, from the next one on.
+pub(crate) fn find<K: GameName, R: Wait>(
+    rt: &R,
+    number: usize,
+    own: &mut Own<K>,
+    others: &[Other<K>],
+) -> Option<u32>
+    ensures { IfSome result (λ v. v < length K.game.vertices) }
+{
+    if let Some(v) = take(own) {
+        return Some(v);
+    }
+    for step in 1..others.len() {
+        let other = &others[(number % others.len() + step) % others.len()];
+        if let Some(v) = steal(rt, other) {
+            return Some(v);
+        }
+    }
+    None
+}
+
+/// A deque for each worker, with room for so many jobs at first, and a handle to each.
+pub(crate) fn deques<K: GameName>(
+    alloc: Global,
+    workers: usize,
+    room: usize,
+) -> Result<(Vec<Own<K>>, Vec<Other<K>>), AllocError>
+    ensures { IfOk result (λ d. (vec_len d.0 ≡ workers) × (vec_len d.1 ≡ workers)) }
+{
+    let mut own = Vec::new(alloc);
+    let mut others = Vec::new(alloc);
+    for _ in 0..workers {
+        let deque = Own::<K>::fifo_as(alloc, room)?;
+        others.push(deque.stealer()?).map_err(AllocError::from)?;
+        own.push(deque).map_err(AllocError::from)?;
+    }
+    Ok((own, others))
+}

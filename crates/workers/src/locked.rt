@@ -1,0 +1,62 @@
+// Solving over shards under locks.
+
+ghost use Rattle.std.specs.Prelude.{◌≡◌, ◌<◌, IfOk};
+ghost use Rattle.std.specs.Arc.{arc_value};
+ghost use Rattle.measures.specs.Progress.{IsLeastTable};
+
+use crate::error::LockedError;
+use crate::gate::Gate;
+use crate::solving::solve;
+use game::graph::Game;
+use game::name::GameName;
+use measures::table::Settled;
+use std::alloc::Global;
+use std::marker::Brand;
+use std::sync::{Arc, Wait};
+use std::thread::Threads;
+use tables::error::TableError;
+use tables::locked::LockedBoard;
+
+// The same of the game that K names.
+fn solve_named<
+    K: GameName + Send + Sync,
+    G: Gate + Sync,
+    R: Threads + Wait + Clone + Copy + Drop + Send + Sync,
+>(
+    rt: &R,
+    alloc: Global,
+    game: &Arc<Game, Global>,
+    shards: u32,
+    workers: usize,
+    gate: &G,
+) -> Result<Settled, LockedError>
+    requires named { arc_value game.now ≡ K.game }
+    requires shards { 0 < shards }
+    requires workers { 0 < workers }
+    ensures game { IfOk result (λ s. s.game ≡ arc_value game.now) }
+    ensures least { IfOk result (λ s. IsLeastTable (arc_value game.now) s.values) }
+{
+    let own = Arc::try_clone(game).map_err(TableError::from)?;
+    let board = LockedBoard::<K, R>::new(*rt, alloc, own, shards)?;
+    Ok(solve(rt, alloc, game, board, workers, gate)?)
+}
+
+/// The least progress table of a game, by so many workers over so many shards, each under a lock of its own.
+///
+/// # Errors
+/// T2 where memory for the board is refused, and V1 where memory for the table is.
+pub fn solve_locked<G: Gate + Sync, R: Threads + Wait + Clone + Copy + Drop + Send + Sync>(
+    rt: &R,
+    alloc: Global,
+    game: &Arc<Game, Global>,
+    shards: u32,
+    workers: usize,
+    gate: &G,
+) -> Result<Settled, LockedError>
+    requires shards { 0 < shards }
+    requires workers { 0 < workers }
+    ensures game { IfOk result (λ s. s.game ≡ arc_value game.now) }
+    ensures least { IfOk result (λ s. IsLeastTable (arc_value game.now) s.values) }
+{
+    solve_named::<Brand, G, R>(rt, alloc, game, shards, workers, gate)
+}

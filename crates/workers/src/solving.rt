@@ -1,0 +1,91 @@
+// Solving a game with several workers.
+
+ghost use Rattle.std.specs.Prelude.{◌≡◌, ◌<◌, IfOk};
+ghost use Rattle.std.specs.Arc.{arc_value};
+ghost use Rattle.measures.specs.Progress.{IsLeastTable};
+
+use crate::error::SolveError;
+use crate::gate::Gate;
+use crate::jobs::{Own, deques};
+use crate::worker::work;
+use game::graph::Game;
+use game::name::GameName;
+use measures::settle::{first_table, settle};
+use measures::table::{PlainTable, Settled};
+use search::predecessors::Predecessors;
+use std::alloc::{AllocError, Global};
+use std::marker::Brand;
+use std::sync::{Arc, Wait};
+use std::thread;
+use std::thread::Threads;
+use tables::board::Board;
+
+// Runs the workers over the board, and returns when all of them have ended. Where memory is refused none begins.
+fn run<K: GameName + Send + Sync, B: Board + Sync, G: Gate + Sync, R: Threads + Wait + Sync>(
+    rt: &R,
+    alloc: Global,
+    game: &Game,
+    first: &PlainTable,
+    board: &B,
+    workers: usize,
+    gate: &G,
+) -> Result<(), AllocError>
+    requires named { game.now ≡ K.game }
+    requires on_board { B.game board.now ≡ game.now }
+    requires begun { first.now.game ≡ game.now }
+    requires workers { 0 < workers }
+{
+    let predecessors = Predecessors::of(alloc, game)?;
+    let room = game.vertices() as usize / workers + 1;
+    let (mut own, others) = deques::<K>(alloc, workers, room)?;
+    let predecessors = &predecessors;
+    let others = others.as_slice();
+    thread::for_each_mut(
+        rt,
+        own.as_mut_slice(),
+        workers,
+        &|number: usize, own: &mut Own<K>|
+            requires { (game.now ≡ K.game) × (predecessors.now ≡ K.game) × (B.game board.now ≡ game.now) × (first.now.game ≡ game.now) }
+        {
+            work(
+                rt,
+                alloc,
+                game,
+                first,
+                board,
+                gate,
+                predecessors,
+                others,
+                number,
+                own,
+            )
+        },
+    );
+    Ok(())
+}
+
+/// The least progress table of a game, after so many workers lifted over a board. Whatever the board, the workers and the gate
+/// did, and in whatever order, the end is the same.
+///
+/// # Errors
+/// V1 where memory for the table is refused. Memory, a thread or a seat that a worker doesn't get is no error: what is left is
+/// lifted at the end.
+pub fn solve<B: Board + Drop + Sync, G: Gate + Sync, R: Threads + Wait + Sync>(
+    rt: &R,
+    alloc: Global,
+    game: &Arc<Game, Global>,
+    board: B,
+    workers: usize,
+    gate: &G,
+) -> Result<Settled, SolveError>
+    requires game { B.game board ≡ arc_value game.now }
+    requires workers { 0 < workers }
+    ensures game { IfOk result (λ s. s.game ≡ arc_value game.now) }
+    ensures least { IfOk result (λ s. IsLeastTable (arc_value game.now) s.values) }
+{
+    let mut table = first_table(alloc, game)?;
+    let _ = run::<Brand, B, G, R>(rt, alloc, game, &table, &board, workers, gate);
+    board.finish(&mut table);
+    settle(game, &mut table);
+    Ok(table.into_settled())
+}
