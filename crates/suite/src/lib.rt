@@ -12,6 +12,8 @@ mod common;
 #[cfg(test)]
 mod formula_texts;
 #[cfg(test)]
+mod game_texts;
+#[cfg(test)]
 mod games;
 #[cfg(test)]
 mod good_evidence;
