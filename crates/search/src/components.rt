@@ -20,6 +20,7 @@ pub(crate) struct Part {
 struct Walk {
     depth: u32,
     waiting: u32,
+    vertices: u32,
     // How many vertices have been met.
     met: u32,
     // Where the next component begins.
@@ -39,6 +40,7 @@ impl Board {
         let mut walk = Walk {
             depth: 0,
             waiting: graph.vertices(),
+            vertices: graph.vertices(),
             met: 0,
             sorted: span.from,
         };
@@ -123,13 +125,13 @@ impl Board {
     fn close(&mut self, walk: &mut Walk, v: u32, number: u32) {
         let first = walk.sorted;
         self.put_sorted(walk, v);
-        for place in walk.waiting..u32::MAX {
+        for place in walk.waiting..walk.vertices {
             let next = self.get(Column::Queue, place);
             if self.get(Column::Low, next) < number {
-                walk.waiting = place;
                 break;
             }
             self.put_sorted(walk, next);
+            walk.waiting = place.saturating_add(1);
         }
         self.set(Column::End, first, walk.sorted);
     }
