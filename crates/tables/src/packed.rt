@@ -111,7 +111,7 @@ fn opening_ranks(alloc: Global, game: &Game, top: u64) -> Result<Vec<u64>, Alloc
 }
 
 // The rank that each rank is as good as, for this player.
-fn worst(player: Player, top: u64) -> u64
+fn worst_rank(player: Player, top: u64) -> u64
     ensures { (g : Game) → top ≡ height g → result ≡ worst_of player g }
 {
     match player {
@@ -121,7 +121,7 @@ fn worst(player: Player, top: u64) -> u64
 }
 
 // The rank with which this player goes on.
-fn better(player: Player, first: u64, second: u64) -> u64
+fn better_rank(player: Player, first: u64, second: u64) -> u64
     ensures { result ≡ better_of player first second }
 {
     match player {
@@ -131,7 +131,7 @@ fn better(player: Player, first: u64, second: u64) -> u64
 }
 
 // What a vertex asks for where its play goes on at a measure of this rank, as a rank.
-fn asked(game: &Game, v: u32, number: u64) -> u64
+fn prog_rank(game: &Game, v: u32, number: u64) -> u64
     requires few { height game.now < RANK_LIMIT }
     requires vertex { v < length game.now.vertices }
     requires number { number ≤ height game.now }
@@ -209,7 +209,7 @@ impl PackedBoard {
     }
 
     // The rank of the best that a vertex asks for at its successors, as they are seen now.
-    fn gathered(&self, seat: &mut PackedSeat, v: u32) -> u64
+    fn best_rank(&self, seat: &mut PackedSeat, v: u32) -> u64
         requires seat { IsSeatOf self.now seat.old }
         requires vertex { v < length (board_game self.now).vertices }
         ensures seat { IsSeatOf self.now seat.new }
@@ -221,10 +221,10 @@ impl PackedBoard {
         let game: &Game = &self.game;
         game.known();
         let owner = game.owner(v);
-        let mut best = worst(owner, self.top);
+        let mut best = worst_rank(owner, self.top);
         for t in game.successors(v) {
             let number = self.look_at(seat, *t);
-            best = better(owner, best, asked(game, v, number));
+            best = better_rank(owner, best, prog_rank(game, v, number));
         }
         best
     }
@@ -266,7 +266,7 @@ impl PackedBoard {
         ensures kept { LiesUnder (seen seat.old) (seen seat.new) }
         ensures lifted { IsOverLift (board_game self.now) (seen seat.old) v (value_at (seen seat.new) v) }
     {
-        let best = self.gathered(seat, v);
+        let best = self.best_rank(seat, v);
         self.raise_to(seat, v, best)
     }
 

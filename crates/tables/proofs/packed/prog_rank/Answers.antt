@@ -3,7 +3,7 @@ use Rattle.measures.specs.Lifting.{of_rank}
 use Rattle.measures.specs.Measure.{IsProg, Measure}
 use Rattle.measures.proofs.Numbers.{of_rank_rank}
 use Rattle.measures.proofs.Ranks.{rank_bounded}
-use Rattle.tables.proofs.packed.asked.Goals as goal
+use Rattle.tables.proofs.packed.prog_rank.Goals as goal
 
 pub rank-requires-clause-measure : goal.rank-requires-clause-measure
 rank-requires-clause-measure c = c.prog-risen.ensures.2.measure

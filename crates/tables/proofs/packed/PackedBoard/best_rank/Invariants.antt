@@ -3,7 +3,7 @@ use Rattle.game.specs.Game.{Vertex, vertex}
 use Rattle.measures.specs.Progress.{LiesUnder}
 use Rattle.measures.proofs.Gathering.{IsGathered}
 use Rattle.tables.specs.Seats.{IsSeatOf, board_game, seen}
-use Rattle.tables.proofs.packed.PackedBoard.gathered.Given as goal
+use Rattle.tables.proofs.packed.PackedBoard.best_rank.Given as goal
 
 abbrev pub invariant-loop-t : goal.invariant-loop-t
 invariant-loop-t l = record {

@@ -11,13 +11,13 @@ use Rattle.measures.proofs.Gathering.{IsGathered, gathered_below, gathered_next,
 use Rattle.measures.proofs.Measures.{at_most_trans}
 use Rattle.measures.proofs.Rising.{set_under, under_itself, under_trans}
 use Rattle.tables.specs.Seats.{board_game, seen}
-use Rattle.tables.proofs.packed.PackedBoard.gathered.Goals as goal
+use Rattle.tables.proofs.packed.PackedBoard.best_rank.Goals as goal
 
 pub loop-t-init : goal.loop-t-init
 loop-t-init c =
     let board = c.args.self.now in
     let g = board_game board in
-    let worst : c.worst-best.result ≡ worst_of c.owner-owner.result g = c.worst-best.ensures g board.topped in record {
+    let worst : c.worst_rank-best.result ≡ worst_of c.owner-owner.result g = c.worst_rank-best.ensures g board.topped in record {
       seat = c.requires.seat;
       kept = under_itself (seen c.args.seat.now);
       gathered = λ x at.
@@ -64,15 +64,15 @@ loop-t-preserved c =
     let there : t < length was = let long = inv.seat.plain.long in omega (arith, low, long) in
     let rose : LiesUnder was (seen c.look_at-number.new.seat) = subst (λ (table : List Measure). LiesUnder was table) (sym look.seen) (set_under was t m there look.later) in
     let later : IsAtMost (value_at first t) m = at_most_trans (value_at first t) (value_at was t) m (inv.kept t) look.later in
-    let small : c.asked.result ≤ height g = subst (λ (k : Game). c.asked.result ≤ height k) c.deref-game.ensures c.asked.ensures.low in
+    let small : c.prog_rank.result ≤ height g = subst (λ (k : Game). c.prog_rank.result ≤ height k) c.deref-game.ensures c.prog_rank.ensures.low in
     let one : suc i ≡ i + 1 = omega arith in record {
       seat = look.seat;
       kept = under_trans first was (seen c.look_at-number.new.seat) inv.kept rose;
       gathered = λ x at.
-          subst (λ (k : ℕ). IsGathered c.owner-owner.result g x.priority ts k first c.better-best.result) one
-          (subst (IsGathered c.owner-owner.result g x.priority ts (suc i) first) (sym c.better-best.ensures)
-          (gathered_next g x.priority ts i first c.loop-t.best c.asked.result m look.word.below.under later small
-          (prog_told h g c.deref-game.ensures v x at c.look_at-number.result c.asked.result c.asked.ensures.prog) c.owner-owner.result (inv.gathered x at)));
+          subst (λ (k : ℕ). IsGathered c.owner-owner.result g x.priority ts k first c.better_rank-best.result) one
+          (subst (IsGathered c.owner-owner.result g x.priority ts (suc i) first) (sym c.better_rank-best.ensures)
+          (gathered_next g x.priority ts i first c.loop-t.best c.prog_rank.result m look.word.below.under later small
+          (prog_told h g c.deref-game.ensures v x at c.look_at-number.result c.prog_rank.result c.prog_rank.ensures.prog) c.owner-owner.result (inv.gathered x at)));
     }
 
 pub returns-clause-low : goal.returns-clause-low
