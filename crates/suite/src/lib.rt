@@ -2,6 +2,8 @@
 #![tactic(auto)]
 
 #[cfg(test)]
+mod boards;
+#[cfg(test)]
 mod canonical_texts;
 #[cfg(test)]
 mod claims;
@@ -23,6 +25,8 @@ mod labels;
 mod lines_and_tokens;
 #[cfg(test)]
 mod lost_vertices;
+#[cfg(test)]
+mod many_workers;
 #[cfg(test)]
 mod meanings;
 #[cfg(test)]
