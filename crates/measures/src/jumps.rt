@@ -1,93 +1,80 @@
 // Jumps of a table to what a search finds. What is not found, also for want of memory, is left to lifting.
 
-ghost use Rattle.std.specs.Prelude.{◌≡◌, ◌≤◌, length};
+ghost use Rattle.std.specs.Prelude.{◌≡◌, ◌<◌, ◌≤◌, length};
 ghost use Rattle.game.specs.Game.{dual};
 ghost use Rattle.measures.specs.Measure.{components};
 ghost use Rattle.measures.specs.Progress.{LiesUnder};
 
 use crate::bounds::bounds;
 use crate::claim::Claim;
-use crate::measure::{COMPONENTS, Measure};
+use crate::measure::Measure;
 use crate::progs::is_measure;
 use crate::table::PlainTable;
 use game::graph::Game;
 use lts::error::Memory;
-use search::graph::Graph;
-use search::search::Search;
+use search::layers::Layers;
+use search::lost::Lost;
 use std::alloc::Global;
 
-// The value that was found of a vertex: top, or zeros but for the count at one place.
-fn value_of(search: &Search, v: u32, place: Option<usize>, counts: &mut [u32]) -> Measure
-    requires { length counts.old ≤ COMPONENTS }
+// Claims top of a vertex that Odd was found to win.
+fn claim_top(claim: &mut Claim, lost: &Lost, v: u32, rank: &mut [u32])
+    requires vertex { v < length claim.old.game.vertices }
+    requires rank { length rank.old ≡ length (components (dual claim.old.game)) }
+    ensures { claim.new.game ≡ claim.old.game }
 {
-    let Some(place) = place else {
-        return Measure::top();
-    };
-    if let Some(count) = counts.get_mut(place) {
-        *count = search.count(v);
+    if lost.has(v) {
+        lost.rank_into(v, rank);
+        claim.set(v, &Measure::top(), lost.next(v), rank);
     }
-    Measure::of_counts(counts)
 }
 
-// Claims all that was found.
-fn claim_found(
-    game: &Game,
-    claim: &mut Claim,
-    search: &Search,
-    place: Option<usize>,
-    counts: &mut [u32],
-    rank: &mut [u32],
-)
+// Claims the counts that Odd was found to force at a vertex.
+fn claim_counts(game: &Game, claim: &mut Claim, layers: &Layers, v: u32, rank: &mut [u32])
     requires same { claim.old.game ≡ game.now }
-    requires few { length counts.old ≤ COMPONENTS }
-    requires rank { length rank.old ≡ length (components (dual game.now)) }
+    requires vertex { v < length claim.old.game.vertices }
+    requires rank { length rank.old ≡ length (components (dual claim.old.game)) }
+    ensures { claim.new.game ≡ claim.old.game }
+{
+    if !layers.has(v) {
+        return;
+    }
+    let mut counts = bounds(game);
+    layers.value_into(v, counts.as_mut_slice());
+    let value = Measure::of_counts(counts.as_slice());
+    if is_measure(game, &value) {
+        layers.rank_into(v, rank);
+        claim.set(v, &value, layers.next(v), rank);
+    }
+}
+
+// Claims top of all that Odd was found to win.
+fn claim_lost(game: &Game, claim: &mut Claim, lost: &Lost, rank: &mut [u32])
+    requires same { claim.old.game ≡ game.now }
+    requires rank { length rank.old ≡ length (components (dual claim.old.game)) }
     ensures { claim.new.game ≡ game.now }
 {
-    claim.clear();
     for v in 0..game.vertices() {
-        if search.has(v) {
-            let value = value_of(search, v, place, counts);
-            if is_measure(game, &value) {
-                search.rank_into(v, rank);
-                claim.set(v, &value, search.next(v), rank);
-            }
-        }
+        claim_top(claim, lost, v, rank);
     }
 }
 
-// Raises the table to top where Odd is found to win, and then to the counts that are found of each odd priority that counts
-// can climb.
-#[tactic(auto, using(crate::proofs::Rising::under_itself, crate::proofs::Rising::under_trans))]
-fn jump_to_all(
-    game: &Game,
-    table: &mut PlainTable,
-    search: &mut Search,
-    claim: &mut Claim,
-    rank: &mut [u32],
-)
-    requires same { table.old.game ≡ game.now }
-    requires claim { claim.old.game ≡ game.now }
-    requires rank { length rank.old ≡ length (components (dual game.now)) }
-    ensures table { table.new.game ≡ game.now }
-    ensures kept { LiesUnder table.old.values table.new.values }
+// Claims all counts that were found.
+fn claim_layers(game: &Game, claim: &mut Claim, layers: &Layers, rank: &mut [u32])
+    requires same { claim.old.game ≡ game.now }
+    requires rank { length rank.old ≡ length (components (dual claim.old.game)) }
+    ensures { claim.new.game ≡ game.now }
 {
-    let mut counts = bounds(game);
-    search.find_lost(Graph::new(game, table.predecessors()));
-    claim_found(game, claim, search, None, counts.as_mut_slice(), rank);
-    table.jump(game, claim);
-    for place in 0..counts.len() {
-        jump_to_counts(game, table, search, claim, place, rank);
+    for v in 0..game.vertices() {
+        claim_counts(game, claim, layers, v, rank);
     }
 }
 
-// Raises the table to the counts of an odd priority that are found.
-#[tactic(auto, using(crate::proofs::Rising::under_itself))]
-fn jump_to_counts(
+// Raises the table to top where Odd was found to win.
+fn jump_to_top(
     game: &Game,
     table: &mut PlainTable,
-    search: &mut Search,
     claim: &mut Claim,
-    place: usize,
+    lost: &Lost,
     rank: &mut [u32],
 )
     requires same { table.old.game ≡ game.now }
@@ -97,42 +84,68 @@ fn jump_to_counts(
     ensures kept { LiesUnder table.old.values table.new.values }
     ensures claim { claim.new.game ≡ game.now }
 {
-    let mut counts = bounds(game);
-    let back = counts.len().saturating_sub(1).saturating_sub(place);
-    let odd = u8::try_from(back)
-        .unwrap_or(0)
-        .saturating_mul(2)
-        .saturating_add(1);
-    if game.count(u32::from(odd)) < 2 {
-        return;
-    }
-    for count in counts.as_mut_slice() {
-        *count = 0;
-    }
-    search.find_layers(Graph::new(game, table.predecessors()), odd);
-    claim_found(
-        game,
-        claim,
-        search,
-        Some(place),
-        counts.as_mut_slice(),
-        rank,
-    );
+    claim_lost(game, claim, lost, rank);
     table.jump(game, claim);
 }
 
+// Raises the table to the counts of an odd priority that are found.
+fn jump_to_counts(
+    game: &Game,
+    table: &mut PlainTable,
+    claim: &mut Claim,
+    layers: &Layers,
+    rank: &mut [u32],
+)
+    requires same { table.old.game ≡ game.now }
+    requires claim { claim.old.game ≡ game.now }
+    requires rank { length rank.old ≡ length (components (dual game.now)) }
+    ensures table { table.new.game ≡ game.now }
+    ensures kept { LiesUnder table.old.values table.new.values }
+    ensures claim { claim.new.game ≡ game.now }
+{
+    claim.clear();
+    claim_layers(game, claim, layers, rank);
+    table.jump(game, claim);
+}
+
+// The same of each odd priority that counts can climb.
+#[tactic(auto, using(crate::proofs::Rising::under_itself, crate::proofs::Rising::under_trans))]
+fn jump_to_all_counts(
+    alloc: Global,
+    game: &Game,
+    table: &mut PlainTable,
+    claim: &mut Claim,
+    lost: &Lost,
+    rank: &mut [u32],
+) -> Result<(), Memory>
+    requires same { table.old.game ≡ game.now }
+    requires claim { claim.old.game ≡ game.now }
+    requires rank { length rank.old ≡ length (components (dual game.now)) }
+    ensures table { table.new.game ≡ game.now }
+    ensures kept { LiesUnder table.old.values table.new.values }
+{
+    for back in 0..16u8 {
+        let odd = 31 - 2 * back;
+        if game.count(u32::from(odd)) > 1 {
+            let layers = Layers::of(alloc, game, lost, odd)?;
+            jump_to_counts(game, table, claim, &layers, rank);
+        }
+    }
+    Ok(())
+}
+
 // Raises the table as far as a search finds.
-#[tactic(auto, using(crate::proofs::Rising::under_itself))]
+#[tactic(auto, using(crate::proofs::Rising::under_itself, crate::proofs::Rising::under_trans))]
 fn search(alloc: Global, game: &Game, table: &mut PlainTable) -> Result<(), Memory>
     requires { table.old.game ≡ game.now }
     ensures table { table.new.game ≡ game.now }
     ensures kept { LiesUnder table.old.values table.new.values }
 {
-    let mut search = Search::new(alloc, Graph::new(game, table.predecessors()))?;
+    let lost = Lost::of(alloc, game)?;
     let mut claim = Claim::new(alloc, game)?;
     let mut rank = vec![in alloc; 0; claim.width()]?;
-    jump_to_all(game, table, &mut search, &mut claim, rank.as_mut_slice());
-    Ok(())
+    jump_to_top(game, table, &mut claim, &lost, rank.as_mut_slice());
+    jump_to_all_counts(alloc, game, table, &mut claim, &lost, rank.as_mut_slice())
 }
 
 /// Raises the table as far as a search finds, where counts can climb: lifting takes no time where none can.

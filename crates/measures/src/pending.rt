@@ -6,6 +6,90 @@ use game::graph::Game;
 use search::predecessors::Predecessors;
 use std::alloc::{AllocError, Global};
 
+// A vertex on a walk's path, and how many of its successors the walk has seen.
+#[derive(Clone, Copy)]
+struct Step {
+    vertex: u32,
+    seen: u32,
+}
+
+// A walk along all edges, depth first. It puts each vertex into the list when it has seen all successors, from the
+// list's end on: so the list's last vertex waits for none of them.
+#[derive(Drop)]
+struct Walk {
+    root: u32,
+    entered: Vec<bool>,
+    path: Vec<Step>,
+    depth: usize,
+    list: Vec<u32>,
+    unplaced: usize,
+}
+
+impl Walk {
+    fn new(alloc: Global, vertices: usize) -> Result<Self, AllocError> {
+        let start = Step { vertex: 0, seen: 0 };
+        Ok(Walk {
+            root: 0,
+            entered: vec![in alloc; false; vertices]?,
+            path: vec![in alloc; start; vertices]?,
+            depth: 0,
+            list: vec![in alloc; 0; vertices]?,
+            unplaced: vertices,
+        })
+    }
+
+    fn enter(&mut self, vertex: u32) {
+        let place = vertex as usize;
+        if place >= self.entered.len() || self.entered[place] {
+            return;
+        }
+        self.entered[place] = true;
+        if self.depth < self.path.len() {
+            self.path[self.depth] = Step { vertex, seen: 0 };
+            self.depth += 1;
+        }
+    }
+
+    fn leave(&mut self, vertex: u32) {
+        self.depth = self.depth.saturating_sub(1);
+        self.unplaced = self.unplaced.saturating_sub(1);
+        if self.unplaced < self.list.len() {
+            self.list[self.unplaced] = vertex;
+        }
+    }
+
+    // Sees one more successor of the path's last vertex, or leaves it; begins anew where the path is empty.
+    fn go_on(&mut self, game: &Game) {
+        match self.path.get_mut(self.depth.wrapping_sub(1)) {
+            Some(step) if step.vertex < game.vertices() => {
+                let vertex = step.vertex;
+                match game.successors(vertex).get(step.seen as usize) {
+                    Some(next) => {
+                        step.seen = step.seen.saturating_add(1);
+                        self.enter(*next);
+                    }
+                    None => self.leave(vertex),
+                }
+            }
+            _ => {
+                let root = self.root;
+                self.root = root.saturating_add(1);
+                self.enter(root);
+            }
+        }
+    }
+}
+
+// The vertices by a walk: each comes after those that lead to it, as far as cycles let it.
+fn walked(alloc: Global, game: &Game, edges: usize) -> Result<Vec<u32>, AllocError> {
+    let vertices = game.vertices() as usize;
+    let mut walk = Walk::new(alloc, vertices)?;
+    for _ in 0..vertices.saturating_mul(2).saturating_add(edges) {
+        walk.go_on(game);
+    }
+    Ok(walk.list)
+}
+
 // The vertices by their numbers.
 fn numbered(alloc: Global, vertices: u32) -> Result<Vec<u32>, AllocError> {
     let mut list = vec![in alloc; 0; vertices as usize]?;
@@ -69,18 +153,19 @@ pub(crate) struct Pending {
 }
 
 impl Pending {
-    /// All vertices.
-    pub(crate) fn of(alloc: Global, game: &Game) -> Result<Self, AllocError> {
+    /// All vertices. Where counts can climb, those come first to which others lead: so what is lost is seen to be lost at
+    /// once, and not when all counts have climbed.
+    pub(crate) fn of(alloc: Global, game: &Game, climbs: bool) -> Result<Self, AllocError> {
         let predecessors = Predecessors::of(alloc, game)?;
-        let list = numbered(alloc, game.vertices())?;
+        let list = if climbs {
+            walked(alloc, game, predecessors.edges())?
+        } else {
+            numbered(alloc, game.vertices())?
+        };
         Ok(Pending {
             predecessors,
             stack: Stack::new(alloc, list)?,
         })
-    }
-
-    pub(crate) fn predecessors(&self) -> &Predecessors {
-        &self.predecessors
     }
 
     /// A vertex rose: those that have it among their successors may rise too.

@@ -19,7 +19,6 @@ use arrayvec::ArrayVec;
 use game::graph::Game;
 use game::player::Player;
 use lts::error::Memory;
-use search::predecessors::Predecessors;
 use std::alloc::Global;
 use std::marker::Model;
 use std::snapshot::Snapshot;
@@ -80,10 +79,11 @@ pub fn opening(alloc: Global, game: &Game) -> Result<PlainTable, Memory>
             rows.set(v as usize, &Measure::top());
         }
     }
+    let climbs = bounds.iter().any(|bound| *bound > 1);
     Ok(PlainTable {
         rows,
         bounds,
-        pending: Pending::of(alloc, game)?,
+        pending: Pending::of(alloc, game, climbs)?,
         of: Snapshot::of(game),
     })
 }
@@ -279,11 +279,6 @@ impl PlainTable {
         }
         self.raise_by(claim);
         true
-    }
-
-    /// The game's edges, backwards.
-    pub(crate) fn predecessors(&self) -> &Predecessors {
-        self.pending.predecessors()
     }
 
     /// A vertex that may rise, if one is noted.

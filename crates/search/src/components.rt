@@ -1,152 +1,185 @@
 // Strong components (Tarjan 1972), with one list for the walk's path and for what waits (Pearce 2016).
 
-use crate::board::{Board, Column};
-use crate::graph::Graph;
-use crate::numbers::Span;
+use crate::edges::successors;
+use crate::numbers::{Numbers, Span};
+use crate::order::Order;
+use crate::part::Part;
+use game::graph::Game;
+use std::alloc::{AllocError, Global};
 
 // The low number of a vertex whose component is known.
 const CLOSED: u32 = u32::MAX;
 
-/// The edges among the vertices that have this number.
-#[derive(Clone, Copy)]
-pub(crate) struct Part {
-    pub(crate) id: u32,
-    /// Whether Odd goes on by its moves only.
-    pub(crate) moves: bool,
-}
-
-// How far a walk is. Its path stands from the list's front on, and what was left without a component from its back on.
-#[derive(Clone, Copy)]
-struct Walk {
+// The path of a walk from the list's front on, and what was left without a component from its back on.
+#[derive(Drop)]
+struct Path {
+    list: Numbers,
     depth: u32,
     waiting: u32,
     vertices: u32,
-    // How many vertices have been met.
-    met: u32,
-    // Where the next component begins.
-    sorted: u32,
 }
 
-impl Board {
-    /// Whether an edge belongs to a part, if its source does.
-    pub(crate) fn leads(&self, graph: Graph, part: Part, v: u32, t: u32) -> bool {
-        self.get(Column::Part, t) == part.id
-            && (!part.moves || !graph.is_odds(v) || self.get(Column::Next, v) == t)
+impl Path {
+    fn new(alloc: Global, vertices: u32) -> Result<Self, AllocError> {
+        Ok(Path {
+            list: Numbers::zeros(alloc, vertices)?,
+            depth: 0,
+            waiting: vertices,
+            vertices,
+        })
     }
 
-    /// Puts the vertices of a part in the order of their strong components, each after those to which it leads.
-    pub(crate) fn sort(&mut self, graph: Graph, part: Part, span: Span) {
-        self.mark(Column::Number, span, 0);
-        let mut walk = Walk {
-            depth: 0,
-            waiting: graph.vertices(),
-            vertices: graph.vertices(),
-            met: 0,
-            sorted: span.from,
-        };
-        for place in span.from..span.to {
-            let root = self.get(Column::List, place);
-            self.walk(graph, part, &mut walk, root);
+    fn push(&mut self, v: u32) {
+        self.list.set(self.depth, v);
+        self.depth = self.depth.saturating_add(1);
+    }
+
+    fn last(&self) -> u32 {
+        self.list.get(self.depth.saturating_sub(1))
+    }
+
+    fn put_back(&mut self, v: u32) {
+        self.waiting = self.waiting.saturating_sub(1);
+        self.list.set(self.waiting, v);
+    }
+
+    // The vertex that waits since the shortest time.
+    fn waits(&self) -> Option<u32> {
+        if self.waiting < self.vertices {
+            Some(self.list.get(self.waiting))
+        } else {
+            None
         }
+    }
+}
+
+/// The strong components of a part, each after those to which it leads, with the memory to find them.
+#[derive(Drop)]
+pub(crate) struct Components {
+    // When the walk came to a vertex. Zero is never.
+    number: Numbers,
+    // The least number of a vertex without a component that is known to be reached.
+    low: Numbers,
+    // How many successors the walk has seen.
+    seen: Numbers,
+    path: Path,
+    pub(crate) order: Order,
+    last: u32,
+}
+
+impl Components {
+    pub(crate) fn new(alloc: Global, vertices: u32) -> Result<Self, AllocError> {
+        Ok(Components {
+            number: Numbers::zeros(alloc, vertices)?,
+            low: Numbers::zeros(alloc, vertices)?,
+            seen: Numbers::zeros(alloc, vertices)?,
+            path: Path::new(alloc, vertices)?,
+            order: Order::new(alloc, vertices)?,
+            last: 0,
+        })
+    }
+
+    /// Puts the vertices between two places of the list in the order of their components.
+    pub(crate) fn sort(&mut self, part: &Part, list: &mut Numbers, span: Span) {
+        self.forget(list, span);
+        self.order.length = span.from;
         for place in span.from..span.to {
-            let v = self.get(Column::Sorted, place);
-            self.set(Column::List, place, v);
+            let root = list.get(place);
+            self.walk(part, root);
         }
+        self.order.write(list, span);
+    }
+
+    fn forget(&mut self, list: &Numbers, span: Span) {
+        for place in span.from..span.to {
+            self.number.set(list.get(place), 0);
+        }
+        self.last = 0;
     }
 
     // Walks from a vertex, unless it has been met.
-    fn walk(&mut self, graph: Graph, part: Part, walk: &mut Walk, root: u32) {
-        if self.get(Column::Number, root) != 0 {
+    fn walk(&mut self, part: &Part, root: u32) {
+        if self.number.get(root) != 0 {
             return;
         }
-        self.enter(walk, root);
+        self.enter(root);
         for _ in 0..u64::MAX {
-            if walk.depth == 0 {
+            if self.path.depth == 0 {
                 return;
             }
-            self.go_on(graph, part, walk);
+            self.go_on(part);
         }
     }
 
-    fn enter(&mut self, walk: &mut Walk, v: u32) {
-        walk.met = walk.met.saturating_add(1);
-        self.set(Column::Number, v, walk.met);
-        self.set(Column::Low, v, walk.met);
-        self.set(Column::Edges, v, 0);
-        self.set(Column::Queue, walk.depth, v);
-        walk.depth = walk.depth.saturating_add(1);
+    fn enter(&mut self, v: u32) {
+        self.last = self.last.saturating_add(1);
+        self.number.set(v, self.last);
+        self.low.set(v, self.last);
+        self.seen.set(v, 0);
+        self.path.push(v);
     }
 
     // Sees one more successor of the path's last vertex, or leaves it.
-    fn go_on(&mut self, graph: Graph, part: Part, walk: &mut Walk) {
-        let v = self.get(Column::Queue, walk.depth.saturating_sub(1));
-        let seen = self.get(Column::Edges, v);
-        match graph.successors(v).get(seen as usize) {
+    fn go_on(&mut self, part: &Part) {
+        let v = self.path.last();
+        let seen = self.seen.get(v);
+        match successors(part.game, v).get(seen as usize) {
             Some(t) => {
-                self.set(Column::Edges, v, seen.saturating_add(1));
-                if self.leads(graph, part, v, *t) {
-                    self.see(walk, v, *t);
+                self.seen.set(v, seen.saturating_add(1));
+                if part.has(v, *t) {
+                    self.see(v, *t);
                 }
             }
-            None => self.leave(walk, v),
+            None => self.leave(v),
         }
     }
 
-    fn see(&mut self, walk: &mut Walk, v: u32, t: u32) {
-        if self.get(Column::Number, t) == 0 {
-            self.enter(walk, t);
+    fn see(&mut self, v: u32, t: u32) {
+        if self.number.get(t) == 0 {
+            self.enter(t);
         } else {
-            let low = self.get(Column::Low, t);
+            let low = self.low.get(t);
             self.lower(v, low);
         }
     }
 
-    fn lower(&mut self, v: u32, low: u32) {
-        if low < self.get(Column::Low, v) {
-            self.set(Column::Low, v, low);
+    fn lower(&mut self, v: u32, number: u32) {
+        if number < self.low.get(v) {
+            self.low.set(v, number);
         }
     }
 
-    fn leave(&mut self, walk: &mut Walk, v: u32) {
-        walk.depth = walk.depth.saturating_sub(1);
-        let low = self.get(Column::Low, v);
-        let number = self.get(Column::Number, v);
-        if low == number {
-            self.close(walk, v, number);
+    fn leave(&mut self, v: u32) {
+        self.path.depth = self.path.depth.saturating_sub(1);
+        let low = self.low.get(v);
+        if low == self.number.get(v) {
+            self.close(v);
         } else {
-            walk.waiting = walk.waiting.saturating_sub(1);
-            self.set(Column::Queue, walk.waiting, v);
-            let parent = self.get(Column::Queue, walk.depth.saturating_sub(1));
+            self.path.put_back(v);
+            let parent = self.path.last();
             self.lower(parent, low);
         }
     }
 
     // All that wait since this vertex was met are its component.
-    fn close(&mut self, walk: &mut Walk, v: u32, number: u32) {
-        let first = walk.sorted;
-        self.put_sorted(walk, v);
-        for place in walk.waiting..walk.vertices {
-            let next = self.get(Column::Queue, place);
-            if self.get(Column::Low, next) < number {
-                break;
+    fn close(&mut self, v: u32) {
+        let first = self.order.length;
+        let number = self.number.get(v);
+        self.put(v);
+        for _ in 0..u32::MAX {
+            match self.path.waits() {
+                Some(next) if self.low.get(next) >= number => {
+                    self.path.waiting = self.path.waiting.saturating_add(1);
+                    self.put(next);
+                }
+                _ => break,
             }
-            self.put_sorted(walk, next);
-            walk.waiting = place.saturating_add(1);
         }
-        self.set(Column::End, first, walk.sorted);
+        self.order.ends.set(first, self.order.length);
     }
 
-    fn put_sorted(&mut self, walk: &mut Walk, v: u32) {
-        self.set(Column::Sorted, walk.sorted, v);
-        self.set(Column::Low, v, CLOSED);
-        walk.sorted = walk.sorted.saturating_add(1);
-    }
-
-    /// The first component of a part that was sorted.
-    pub(crate) fn first(&self, span: Span) -> Span {
-        Span {
-            from: span.from,
-            to: self.get(Column::End, span.from),
-        }
+    fn put(&mut self, v: u32) {
+        self.low.set(v, CLOSED);
+        self.order.put(v);
     }
 }

@@ -1,14 +1,18 @@
-// A search for what Odd can force in a parity game. Nothing rests on it but time: what it finds has to be tested.
+// A search for what Odd wins in a parity game. Nothing rests on it but time: what it finds has to be tested.
 #![tactic(auto)]
 
-mod attractors;
-mod board;
+mod attractor;
 mod components;
-pub mod graph;
-mod layers;
+mod edges;
+mod field;
+mod layering;
+pub mod layers;
+pub mod lost;
 mod numbers;
+mod order;
+mod part;
 pub mod predecessors;
 mod ranks;
-pub mod search;
 mod tasks;
+mod ways;
 mod winners;

@@ -15,6 +15,15 @@ impl Numbers {
         })
     }
 
+    /// Each place's own number.
+    pub(crate) fn places(alloc: Global, length: u32) -> Result<Self, AllocError> {
+        let mut numbers = Numbers::zeros(alloc, length)?;
+        for place in 0..length {
+            numbers.set(place, place);
+        }
+        Ok(numbers)
+    }
+
     pub(crate) fn len(&self) -> usize {
         self.items.len()
     }
@@ -32,6 +41,12 @@ impl Numbers {
         if let Some(item) = self.items.get_mut(place as usize) {
             *item = number;
         }
+    }
+
+    pub(crate) fn swap(&mut self, place: u32, other: u32) {
+        let number = self.get(place);
+        self.set(place, self.get(other));
+        self.set(other, number);
     }
 }
 
@@ -53,5 +68,39 @@ impl Span {
             from: 0,
             to: length,
         }
+    }
+}
+
+/// Numbers in the order in which they came.
+#[derive(Drop)]
+pub(crate) struct Queue {
+    list: Numbers,
+    length: u32,
+}
+
+impl Queue {
+    /// Nothing yet, with the memory for so many.
+    pub(crate) fn new(alloc: Global, most: u32) -> Result<Self, AllocError> {
+        Ok(Queue {
+            list: Numbers::zeros(alloc, most)?,
+            length: 0,
+        })
+    }
+
+    pub(crate) fn len(&self) -> u32 {
+        self.length
+    }
+
+    pub(crate) fn get(&self, place: u32) -> u32 {
+        self.list.get(place)
+    }
+
+    pub(crate) fn push(&mut self, number: u32) {
+        self.list.set(self.length, number);
+        self.length = self.length.saturating_add(1);
+    }
+
+    pub(crate) fn clear(&mut self) {
+        self.length = 0;
     }
 }

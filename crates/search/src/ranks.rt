@@ -1,13 +1,11 @@
-// Ranks: for each even number the most vertices of that priority on a way along the moves of Odd, by which no cycle is Even's.
+// Ranks: a count for each even number.
 
-use crate::board::{Board, Column};
-use crate::components::Part;
-use crate::graph::Graph;
-use crate::numbers::Span;
+use crate::ways::Ways;
+use game::graph::Game;
 use std::alloc::{AllocError, Global};
 
 // How many even numbers are a priority.
-const EVEN: usize = 17;
+const EVEN: u8 = 17;
 
 // Where the count of an even number stands among the counts of a vertex.
 #[derive(Clone, Copy)]
@@ -21,15 +19,15 @@ struct Digit {
 pub(crate) struct Ranks {
     // Zero where there are none, and else one more than all counts by their units.
     sums: Vec<u64>,
-    digits: [Digit; EVEN],
+    digits: [Digit; 17],
 }
 
 impl Ranks {
     /// No vertex has counts.
-    pub(crate) fn new(alloc: Global, vertices: u32) -> Result<Self, AllocError> {
+    pub(crate) fn none(alloc: Global, game: &Game) -> Result<Self, AllocError> {
         Ok(Ranks {
-            sums: vec![in alloc; 0; vertices as usize]?,
-            digits: [Digit { unit: 1, radix: 1 }; EVEN],
+            sums: vec![in alloc; 0; game.vertices() as usize]?,
+            digits: [Digit { unit: 1, radix: 1 }; 17],
         })
     }
 
@@ -37,133 +35,86 @@ impl Ranks {
         self.sum(v) > 0
     }
 
-    fn sum(&self, v: u32) -> u64 {
-        self.sums.get(v as usize).copied().unwrap_or(0)
-    }
-
     /// Writes the counts of a vertex, that of zero last.
     pub(crate) fn write(&self, v: u32, counts: &mut [u32]) {
-        let sum = self.sum(v).saturating_sub(1);
         let width = counts.len();
         for place in 0..width {
-            counts[place] = self.count(sum, width - 1 - place);
+            counts[place] = self.count(v, width - 1 - place);
         }
     }
 
     // The count of an even number, which is given by its half.
-    fn count(&self, sum: u64, half: usize) -> u32 {
-        let Some(digit) = self.digits.get(half) else {
-            return 0;
-        };
+    fn count(&self, v: u32, half: usize) -> u32 {
+        let sum = self.sum(v).saturating_sub(1);
+        let digit = self.digit(half);
         let above = sum.checked_div(digit.unit).unwrap_or(0);
         let count = above.checked_rem(digit.radix).unwrap_or(0);
         u32::try_from(count).unwrap_or(0)
     }
 
-    /// Ranks these vertices alone. If a cycle is Even's or the counts are too many, then none has a rank.
-    pub(crate) fn find(&mut self, board: &mut Board, graph: Graph, span: Span) {
-        self.digits = [Digit { unit: 1, radix: 1 }; EVEN];
-        self.sums.as_mut_slice().fill(0);
-        self.add_counts(board, span, None);
-        if self.find_all(board, graph, span).is_none() {
-            self.sums.as_mut_slice().fill(0);
+    fn sum(&self, v: u32) -> u64 {
+        self.sums.get(v as usize).copied().unwrap_or(0)
+    }
+
+    fn digit(&self, half: usize) -> Digit {
+        let none = Digit { unit: 1, radix: 1 };
+        self.digits.get(half).copied().unwrap_or(none)
+    }
+
+    fn add(&mut self, v: u32, more: u64) {
+        if let Some(sum) = self.sums.get_mut(v as usize) {
+            *sum = sum.saturating_add(more);
         }
     }
 
-    fn find_all(&mut self, board: &mut Board, graph: Graph, span: Span) -> Option<()> {
-        let mut unit: u64 = 1;
-        for half in 0..EVEN as u32 {
-            if graph.has(2 * half) {
-                let most = board.longest(graph, span, 2 * half)?;
-                let radix = u64::from(most).saturating_add(1);
-                if let Some(digit) = self.digits.get_mut(half as usize) {
-                    *digit = Digit { unit, radix };
-                }
-                self.add_counts(board, span, Some(unit));
-                unit = unit.checked_mul(radix)?;
-            }
+    /// The counts of these vertices. If a cycle is Even's or the counts are too many, then there are none.
+    pub(crate) fn find(&mut self, game: &Game, ways: &mut Ways) {
+        for place in ways.span.from..ways.span.to {
+            self.add(ways.field.list.get(place), 1);
         }
-        Some(())
+        if !self.find_all(game, ways) {
+            self.forget(ways);
+        }
     }
 
-    // Adds the counts that were found by their unit, or one where there is no unit yet.
-    fn add_counts(&mut self, board: &Board, span: Span, unit: Option<u64>) {
-        for place in span.from..span.to {
-            let v = board.get(Column::List, place);
-            let count = u64::from(board.get(Column::Edges, v));
-            if let Some(sum) = self.sums.get_mut(v as usize) {
-                let more = unit.map_or(1, |unit| unit.saturating_mul(count));
-                *sum = sum.saturating_add(more);
+    fn forget(&mut self, ways: &Ways) {
+        for place in ways.span.from..ways.span.to {
+            if let Some(sum) = self.sums.get_mut(ways.field.list.get(place) as usize) {
+                *sum = 0;
             }
         }
     }
-}
 
-impl Board {
-    /// Counts for each vertex the most vertices of an even priority on a way from it among those of no greater one. The answer is
-    /// the greatest count, or none where a cycle has such a vertex.
-    pub(crate) fn longest(&mut self, graph: Graph, span: Span, even: u32) -> Option<u32> {
-        let id = self.fresh();
-        for place in span.from..span.to {
-            let v = self.get(Column::List, place);
-            if u32::from(graph.priority(v)) <= even {
-                self.set(Column::Part, v, id);
+    fn find_all(&mut self, game: &Game, ways: &mut Ways) -> bool {
+        let mut unit = 1;
+        for half in 0..EVEN {
+            match self.find_one(game, ways, half, unit) {
+                Some(next) => unit = next,
+                None => return false,
             }
         }
-        let low = self.gather(span, id);
-        let part = Part { id, moves: true };
-        self.sort(graph, part, low);
-        self.mark(Column::Edges, span, 0);
-        self.count_components(graph, part, low, even)
+        true
     }
 
-    fn count_components(&mut self, graph: Graph, part: Part, span: Span, even: u32) -> Option<u32> {
-        let mut most = 0;
-        let mut rest = span;
-        for _ in 0..span.len() {
-            if rest.len() == 0 {
-                break;
-            }
-            let first = self.first(rest);
-            let count = self.count_one(graph, part, first, even)?;
-            self.mark(Column::Edges, first, count);
-            most = count.max(most);
-            rest.from = first.to;
+    // The counts of one even number. The answer is the next one's unit.
+    fn find_one(&mut self, game: &Game, ways: &mut Ways, half: u8, unit: u64) -> Option<u64> {
+        let even = 2 * u32::from(half);
+        if game.count(even) == 0 {
+            return Some(unit);
         }
-        Some(most)
+        let radix = u64::from(ways.longest(game, even)?).saturating_add(1);
+        if let Some(digit) = self.digits.get_mut(usize::from(half)) {
+            *digit = Digit { unit, radix };
+        }
+        self.add_all(ways, unit);
+        unit.checked_mul(radix)
     }
 
-    // The count of a component.
-    fn count_one(&self, graph: Graph, part: Part, component: Span, even: u32) -> Option<u32> {
-        let mut most: u32 = 0;
-        let mut has = false;
-        for place in component.from..component.to {
-            let v = self.get(Column::List, place);
-            has = has || u32::from(graph.priority(v)) == even;
-            most = self.most_after(graph, part, v).max(most);
+    fn add_all(&mut self, ways: &Ways, unit: u64) {
+        for place in ways.span.from..ways.span.to {
+            let v = ways.field.list.get(place);
+            let count = u64::from(ways.counts.get(v));
+            self.add(v, unit.saturating_mul(count));
         }
-        let v = self.get(Column::List, component.from);
-        if !has {
-            Some(most)
-        } else if component.len() > 1 || self.turns(graph, part, v) {
-            None
-        } else {
-            most.checked_add(1)
-        }
-    }
-
-    // Whether a vertex is its own successor in a part.
-    fn turns(&self, graph: Graph, part: Part, v: u32) -> bool {
-        self.leads(graph, part, v, v) && graph.successors(v).contains(&v)
-    }
-
-    fn most_after(&self, graph: Graph, part: Part, v: u32) -> u32 {
-        let mut most = 0;
-        for t in graph.successors(v) {
-            if self.leads(graph, part, v, *t) {
-                most = self.get(Column::Edges, *t).max(most);
-            }
-        }
-        most
     }
 }

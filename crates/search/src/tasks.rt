@@ -1,7 +1,6 @@
 // What a recursion on priorities still has to do.
 
-use crate::attractors::Tops;
-use crate::board::Won;
+use crate::field::{Tops, Won};
 use crate::numbers::Span;
 use std::alloc::{AllocError, Global};
 

@@ -1,118 +1,156 @@
 // Who wins each vertex: by recursion on the greatest priority (Zielonka 1998) in strong components.
 
-use crate::board::{Board, Column, Won};
-use crate::components::Part;
-use crate::graph::Graph;
+use crate::attractor::Attractors;
+use crate::components::Components;
+use crate::field::{Field, Won};
 use crate::numbers::Span;
+use crate::part::Part;
 use crate::tasks::{Core, Task, Tasks};
+use crate::ways::Ways;
+use game::graph::Game;
+use std::alloc::{AllocError, Global};
 
 // How many vertices and edges are looked at: this many, and so many times those of the game.
 const LEAST_BUDGET: u64 = 67_108_864;
 
 const TIMES: u64 = 64;
 
-impl Board {
-    /// Decides who wins, and tells where the vertices that Odd wins stand. Past a budget of vertices and edges to look at nothing
-    /// new is begun.
-    pub(crate) fn find_winners(&mut self, graph: Graph, tasks: &mut Tasks) -> Span {
-        let all = Span::all(graph.vertices());
-        let budget = graph.size().saturating_mul(TIMES);
-        let budget = budget.saturating_add(LEAST_BUDGET);
-        let won = self.fresh_won();
-        let left = self.settle(graph, all, 0, won);
-        self.decide_in_components(graph, tasks, left, 0, won);
+/// The recursion.
+#[derive(Drop)]
+pub(crate) struct Winners {
+    field: Field,
+    attractors: Attractors,
+    components: Components,
+    tasks: Tasks,
+}
+
+impl Winners {
+    pub(crate) fn new(alloc: Global, game: &Game) -> Result<Self, AllocError> {
+        Ok(Winners {
+            field: Field::new(alloc, game.vertices())?,
+            attractors: Attractors::new(alloc, game)?,
+            components: Components::new(alloc, game.vertices())?,
+            tasks: Tasks::new(alloc)?,
+        })
+    }
+
+    /// Decides who wins, and leaves the vertices that Odd wins. Past a budget of vertices and edges to look at nothing new is
+    /// begun: this many, and so many times those of the game.
+    pub(crate) fn find(mut self, game: &Game) -> Ways {
+        let budget = self.budget(game);
+        let won = self.begin(game);
         for _ in 0..u64::MAX {
-            if tasks.spent || self.work > budget || !self.decide_next(graph, tasks) {
+            if self.tasks.spent || self.attractors.work > budget || !self.go_on(game) {
                 break;
             }
-            self.toil(0);
+            self.attractors.toil(0);
         }
-        self.gather(all, won.odd)
+        let lost = self.field.gather(Span::all(game.vertices()), won.odd);
+        Ways {
+            span: lost,
+            field: self.field,
+            components: self.components,
+            counts: self.attractors.left,
+        }
+    }
+
+    fn budget(&self, game: &Game) -> u64 {
+        let edges = self.attractors.predecessors.edges() as u64;
+        let size = u64::from(game.vertices()).saturating_add(edges);
+        size.saturating_mul(TIMES).saturating_add(LEAST_BUDGET)
+    }
+
+    fn begin(&mut self, game: &Game) -> Won {
+        let won = self.field.fresh_won();
+        let id = self.field.fresh();
+        let all = Span::all(game.vertices());
+        self.field.mark(all, id);
+        let left = self.settle(game, all, id, won);
+        self.decide_in_components(game, left, id, won);
+        won
     }
 
     // Does one task. The answer is whether there was one.
-    fn decide_next(&mut self, graph: Graph, tasks: &mut Tasks) -> bool {
-        match tasks.pop() {
-            Some(Task::Components { span, won }) => self.decide_first(graph, tasks, span, won),
-            Some(Task::Rest { rest, inner, core }) => self.conclude(
-                graph, tasks, rest, inner, core,
-            ),
+    fn go_on(&mut self, game: &Game) -> bool {
+        match self.tasks.pop() {
+            Some(Task::Components { span, won }) => self.decide_first(game, span, won),
+            Some(Task::Rest { rest, inner, core }) => self.conclude(game, rest, inner, core),
             None => return false,
         }
         true
     }
 
-    fn decide_in_components(
-        &mut self,
-        graph: Graph,
-        tasks: &mut Tasks,
-        span: Span,
-        id: u32,
-        won: Won,
-    ) {
+    fn settle(&mut self, game: &Game, span: Span, id: u32, won: Won) -> Span {
+        self.attractors.settle(game, &mut self.field, span, id, won)
+    }
+
+    fn sort(&mut self, game: &Game, span: Span, id: u32) {
+        let part = Part {
+            game,
+            ids: &self.field.ids,
+            id,
+            moves: &self.field.moves,
+            chosen: false,
+        };
+        self.components.sort(&part, &mut self.field.list, span);
+    }
+
+    fn decide_in_components(&mut self, game: &Game, span: Span, id: u32, won: Won) {
         if span.len() > 0 {
-            let part = Part { id, moves: false };
-            self.sort(graph, part, span);
-            tasks.push(Task::Components { span, won });
+            self.sort(game, span, id);
+            self.tasks.push(Task::Components { span, won });
         }
     }
 
-    fn decide_first(&mut self, graph: Graph, tasks: &mut Tasks, span: Span, won: Won) {
-        let first = self.first(span);
+    fn decide_first(&mut self, game: &Game, span: Span, won: Won) {
+        let first = self.components.order.first(span);
         let others = Span {
             from: first.to,
             to: span.to,
         };
         if others.len() > 0 {
-            tasks.push(Task::Components { span: others, won });
+            self.tasks.push(Task::Components { span: others, won });
         }
-        let id = self.fresh();
-        self.mark(Column::Part, first, id);
-        let left = self.settle(graph, first, id, won);
-        self.decide_left(graph, tasks, first, left, id, won);
+        let id = self.field.fresh();
+        self.field.mark(first, id);
+        let left = self.settle(game, first, id, won);
+        self.decide_left(game, first, left, id, won);
     }
 
     // Looks for components anew only where half has fallen.
-    fn decide_left(
-        &mut self,
-        graph: Graph,
-        tasks: &mut Tasks,
-        whole: Span,
-        left: Span,
-        id: u32,
-        won: Won,
-    ) {
+    fn decide_left(&mut self, game: &Game, whole: Span, left: Span, id: u32, won: Won) {
         if left.len() <= whole.len() / 2 {
-            self.decide_in_components(graph, tasks, left, id, won);
+            self.decide_in_components(game, left, id, won);
         } else {
-            self.decide(graph, tasks, left, id, won);
+            self.decide(game, left, id, won);
         }
     }
 
     // Decides a part: what is drawn to the greatest priorities is theirs as long as the rest is.
-    fn decide(&mut self, graph: Graph, tasks: &mut Tasks, span: Span, id: u32, won: Won) {
-        let tops = self.tops(graph, span);
-        let rest = self.draw(graph, span, tops, id);
+    fn decide(&mut self, game: &Game, span: Span, id: u32, won: Won) {
+        let tops = self.field.tops(game, span);
+        let rest = self.attractors.draw(game, &mut self.field, span, tops, id);
         if rest.len() == 0 {
-            self.give_all(graph, span, tops, won);
+            self.field.give(game, span, tops, won);
             return;
         }
-        let inner = self.fresh_won();
+        let inner = self.field.fresh_won();
         let core = Core { span, tops, won };
-        tasks.push(Task::Rest { rest, inner, core });
-        self.decide_in_components(graph, tasks, rest, id, inner);
+        self.tasks.push(Task::Rest { rest, inner, core });
+        self.decide_in_components(game, rest, id, inner);
     }
 
     // Where the other player wins some of the rest, it wins what is drawn to it, and what is left is decided anew.
-    fn conclude(&mut self, graph: Graph, tasks: &mut Tasks, rest: Span, inner: Won, core: Core) {
-        let Core { span, tops, won } = core;
-        let other = !tops.odd;
-        if !self.find(rest, inner.by(other)) {
-            self.give_all(graph, span, tops, won);
+    fn conclude(&mut self, game: &Game, rest: Span, inner: Won, core: Core) {
+        let other = !core.tops.odd;
+        if !self.attractors.find(&self.field, rest, inner.by(other)) {
+            self.field.give(game, core.span, core.tops, core.won);
             return;
         }
-        let id = self.fresh();
-        let left = self.give(graph, span, other, id, won);
-        self.decide_left(graph, tasks, span, left, id, won);
+        let id = self.field.fresh();
+        let left = self
+            .attractors
+            .give(game, &mut self.field, core.span, other, id, core.won);
+        self.decide_left(game, core.span, left, id, core.won);
     }
 }

@@ -1,0 +1,150 @@
+// Vertices with numbers that say to which part of a game they belong, and the winners' moves.
+
+use crate::edges::{is_odds, priority, successors};
+use crate::numbers::{Numbers, Span};
+use game::graph::Game;
+use std::alloc::{AllocError, Global};
+
+/// No vertex.
+pub(crate) const NONE: u32 = u32::MAX;
+
+/// The numbers of what each player wins.
+#[derive(Clone, Copy)]
+pub(crate) struct Won {
+    pub(crate) even: u32,
+    pub(crate) odd: u32,
+}
+
+impl Won {
+    pub(crate) fn by(self, odd: bool) -> u32 {
+        if odd { self.odd } else { self.even }
+    }
+}
+
+/// The greatest priorities of a part: all from `least` on are of one player, and the other has none of them.
+#[derive(Clone, Copy)]
+pub(crate) struct Tops {
+    pub(crate) odd: bool,
+    pub(crate) least: u8,
+}
+
+/// All vertices of a game.
+#[derive(Drop)]
+pub(crate) struct Field {
+    /// To which part a vertex belongs, or who wins it.
+    pub(crate) ids: Numbers,
+    /// The winner's move.
+    pub(crate) moves: Numbers,
+    /// The vertices, those of a part together.
+    pub(crate) list: Numbers,
+    last: u32,
+}
+
+impl Field {
+    pub(crate) fn new(alloc: Global, vertices: u32) -> Result<Self, AllocError> {
+        Ok(Field {
+            ids: Numbers::zeros(alloc, vertices)?,
+            moves: Numbers::zeros(alloc, vertices)?,
+            list: Numbers::places(alloc, vertices)?,
+            last: 0,
+        })
+    }
+
+    /// A number that no vertex has.
+    pub(crate) fn fresh(&mut self) -> u32 {
+        self.last = self.last.wrapping_add(1);
+        self.last
+    }
+
+    pub(crate) fn fresh_won(&mut self) -> Won {
+        Won {
+            even: self.fresh(),
+            odd: self.fresh(),
+        }
+    }
+
+    pub(crate) fn mark(&mut self, span: Span, id: u32) {
+        for place in span.from..span.to {
+            self.ids.set(self.list.get(place), id);
+        }
+    }
+
+    /// Moves the vertices of this number to the front, and tells where they stand.
+    pub(crate) fn gather(&mut self, span: Span, id: u32) -> Span {
+        let mut to = span.from;
+        for place in span.from..span.to {
+            if self.ids.get(self.list.get(place)) == id {
+                self.list.swap(to, place);
+                to = to.saturating_add(1);
+            }
+        }
+        Span {
+            from: span.from,
+            to,
+        }
+    }
+
+    /// The greatest priorities of a part.
+    pub(crate) fn tops(&self, game: &Game, span: Span) -> Tops {
+        let mut even = 0;
+        let mut odd = 0;
+        for place in span.from..span.to {
+            let priority = priority(game, self.list.get(place));
+            let above = priority.saturating_add(1);
+            if priority % 2 == 0 {
+                even = above.max(even);
+            } else {
+                odd = above.max(odd);
+            }
+        }
+        Tops {
+            odd: odd > even,
+            least: odd.min(even),
+        }
+    }
+
+    /// Gives a part to the player of its greatest priorities, from which it goes on anywhere in the part.
+    pub(crate) fn give(&mut self, game: &Game, span: Span, tops: Tops, won: Won) {
+        let mark = won.by(tops.odd);
+        self.mark(span, mark);
+        for place in span.from..span.to {
+            let v = self.list.get(place);
+            if priority(game, v) >= tops.least && is_odds(game, v) == tops.odd {
+                let next = self.next(game, v, mark);
+                self.moves.set(v, next);
+            }
+        }
+    }
+
+    // A successor of this number.
+    fn next(&self, game: &Game, v: u32, id: u32) -> u32 {
+        for t in successors(game, v) {
+            if self.ids.get(*t) == id {
+                return *t;
+            }
+        }
+        NONE
+    }
+
+    /// How many other successors of this number a vertex has.
+    pub(crate) fn inside(&self, game: &Game, v: u32, id: u32) -> u32 {
+        let mut count: u32 = 0;
+        for t in successors(game, v) {
+            if self.ids.get(*t) == id && *t != v {
+                count = count.saturating_add(1);
+            }
+        }
+        count
+    }
+
+    /// A successor by which the owner wins: one of this number, or the vertex itself where staying wins.
+    pub(crate) fn winning(&self, game: &Game, v: u32, id: u32) -> u32 {
+        let stays = (priority(game, v) % 2 == 1) == is_odds(game, v);
+        for t in successors(game, v) {
+            if self.ids.get(*t) == id || (stays && *t == v) {
+                return *t;
+            }
+        }
+        NONE
+    }
+}

@@ -1,0 +1,43 @@
+// What Odd wins, with reasons.
+
+use crate::numbers::Numbers;
+use crate::ranks::Ranks;
+use crate::winners::Winners;
+use game::graph::Game;
+use lts::error::Memory;
+use std::alloc::Global;
+
+/// The vertices that Odd was found to win, with its moves and ranks that fall along them. Nothing of it is sure before it is tested.
+#[derive(Drop)]
+pub struct Lost {
+    moves: Numbers,
+    ranks: Ranks,
+}
+
+impl Lost {
+    /// Searches a game, within a number of steps that is about linear in its size. It may find less than there is.
+    pub fn of(alloc: Global, game: &Game) -> Result<Self, Memory> {
+        let mut ways = Winners::new(alloc, game)?.find(game);
+        let mut ranks = Ranks::none(alloc, game)?;
+        ranks.find(game, &mut ways);
+        Ok(Lost {
+            moves: ways.field.moves,
+            ranks,
+        })
+    }
+
+    /// Whether Odd was found to win a vertex.
+    pub fn has(&self, v: u32) -> bool {
+        self.ranks.has(v)
+    }
+
+    /// Where Odd goes on from a vertex of its own that was found.
+    pub fn next(&self, v: u32) -> u32 {
+        self.moves.get(v)
+    }
+
+    /// Writes the rank of a vertex: for each even number a count, that of zero last.
+    pub fn rank_into(&self, v: u32, rank: &mut [u32]) {
+        self.ranks.write(v, rank);
+    }
+}
