@@ -10,6 +10,8 @@ mod command_lines;
 #[cfg(test)]
 mod common;
 #[cfg(test)]
+mod evidence_texts;
+#[cfg(test)]
 mod formula_texts;
 #[cfg(test)]
 mod games;
