@@ -12,6 +12,8 @@ mod command_lines;
 #[cfg(test)]
 mod common;
 #[cfg(test)]
+mod evidence_texts;
+#[cfg(test)]
 mod formula_texts;
 #[cfg(test)]
 mod game_texts;
