@@ -26,6 +26,8 @@ mod meanings;
 #[cfg(test)]
 mod normal_forms;
 #[cfg(test)]
+mod packed_boards;
+#[cfg(test)]
 mod progress_measures;
 #[cfg(test)]
 mod readers;
