@@ -35,6 +35,7 @@ mod meanings;
 mod normal_forms;
 #[cfg(test)]
 mod normal_texts;
+#[cfg(test)]
 mod packed_boards;
 #[cfg(test)]
 mod progress_measures;
