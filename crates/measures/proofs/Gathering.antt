@@ -115,7 +115,7 @@ pub gathered_over : (o : Player) (g : Game) (p v : ℕ) (ts : List ℕ) (i : ℕ
     → option_map (λ y. y.successors) (vertex g v) ≡ Some ts → i ≡ length ts → IsGathered o g p ts i first best → IsOverLift g first v (greater_of (value_at first v) (of_rank g best))
 gathered_over o g p v ts i first best owner priority successors e was r (x, at, (progs, b, zipped, is, q)) =
     let zipped_here = subst (λ (k : ℕ). AllZip (IsProg g k) (map (value_at first) ts) progs) (vertex_tells (λ (y : Vertex). y.priority) g v p x at priority)
-        (subst (λ (us : List ℕ). AllZip (IsProg g x.priority) (map (value_at first) us) progs) (vertex_tells (λ (y : Vertex). y.successors) g v ts x at successors) zipped) in
+    (subst (λ (us : List ℕ). AllZip (IsProg g x.priority) (map (value_at first) us) progs) (vertex_tells (λ (y : Vertex). y.successors) g v ts x at successors) zipped) in
     let is_here = subst (λ (k : Player). IsBestFor k progs b) (vertex_tells (λ (y : Vertex). y.owner) g v o x at owner) is in
     let low : IsAtMost b (of_rank g best) = elim was.over [
       | inl h ↦ over_best g p ts first best o progs b zipped_here is_here (subst (λ (k : ℕ). ReachesSome o g p ts k first (of_rank g best)) e h)
@@ -145,4 +145,4 @@ gathered_below o g p v ts i first best game owner priority successors h e was = 
     reached Odd own table is = λ j l.
         subst (λ (q : ℕ). Reaches g q (value_at table (slice_index ts j)) (value_at table v)) same_priority
         (odd_reaches g table game is v here.0 here.1 (vertex_tells (λ (y : Vertex). y.owner) g v Odd here.0 here.1 own) (slice_index ts j)
-          (subst (λ (us : List ℕ). Contains us (slice_index ts j)) (sym same_successors) (there_is ts j (omega arith))))
+        (subst (λ (us : List ℕ). Contains us (slice_index ts j)) (sym same_successors) (there_is ts j (omega arith))))

@@ -31,7 +31,7 @@ over_lesser g lesser greater v m game is under over r (x, at, (progs, b, zipped,
     by (s, (y, here, (rises, c, zips, more, q))) =
         let same : y ≡ x = cc (at, here) in
         let low = best_more g x.priority (value_at lesser) (value_at greater) under x.successors x.owner progs rises b c zipped
-            (subst (λ (z : Vertex). AllZip (IsProg g z.priority) (map (value_at greater) z.successors) rises) same zips) best (subst (λ (z : Vertex). IsBestFor z.owner rises c) same more) in
+        (subst (λ (z : Vertex). AllZip (IsProg g z.priority) (map (value_at greater) z.successors) rises) same zips) best (subst (λ (z : Vertex). IsBestFor z.owner rises c) same more) in
         at_most_trans r s m (subst (λ (n : Measure). IsAtMost n s) (sym e) (subst (IsAtMost (greater_of (value_at lesser v) b)) (sym q) (greater_up (value_at lesser v) (value_at greater v) b c (under v) low))) (over s (y, here, (rises, c, zips, more, q)))
 
 module _ (g : Game) (old new : List Measure) (is : IsTable g old) (will : IsTable g new) (under : LiesUnder old new) where

@@ -4,6 +4,6 @@
 pub mod board;
 pub mod error;
 pub mod locked;
-pub mod shard;
 pub mod packed;
 mod packed_board;
+pub mod shard;
