@@ -2,8 +2,6 @@
 #![tactic(auto)]
 
 #[cfg(test)]
-mod boards;
-#[cfg(test)]
 mod canonical_texts;
 #[cfg(test)]
 mod claims;
@@ -12,11 +10,7 @@ mod command_lines;
 #[cfg(test)]
 mod common;
 #[cfg(test)]
-mod evidence_texts;
-#[cfg(test)]
 mod formula_texts;
-#[cfg(test)]
-mod game_texts;
 #[cfg(test)]
 mod games;
 #[cfg(test)]
@@ -28,15 +22,9 @@ mod lines_and_tokens;
 #[cfg(test)]
 mod lost_vertices;
 #[cfg(test)]
-mod many_workers;
-#[cfg(test)]
 mod meanings;
 #[cfg(test)]
 mod normal_forms;
-#[cfg(test)]
-mod normal_texts;
-#[cfg(test)]
-mod packed_boards;
 #[cfg(test)]
 mod progress_measures;
 #[cfg(test)]
