@@ -100,6 +100,9 @@ HasRefused way first second old new (error.System e) = Refuses (Some first) HasF
 HasRefused way first second old new (error.Formula e) = SpellsSystem first × IsTold second e × Keeps old new
 HasRefused way first second old new (error.Normal e) = HasNoGame way first second (error.Normal e) × Keeps old new
 HasRefused way first second old new (error.Build e) = HasNoGame way first second (error.Build e) × Keeps old new
+HasRefused way first second old new (error.Game e) = ⊥
+HasRefused way first second old new (error.Evidence e) = ⊥
+HasRefused way first second old new (error.Table e) = ⊥
 HasRefused way first second old new (error.Write e) = HasBegun way first second old new
 
 abbrev pub Answers : Way → (first second : List ℕ) → (old new : Option (List ℕ)) → Result Bool MuError → Type 0
@@ -109,10 +112,13 @@ Answers way first second old new result = MatchResult result (HasReported way fi
 abbrev pub Checks : Way → (aut formula old new : Option (List ℕ)) → Result Bool MuError → Type 0
 Checks way aut formula old new result = (first second : List ℕ) → aut ≡ Some first → formula ≡ Some second → Answers way first second old new result
 
--- the refusals of this way, whatever the readers tell: by sets of states no game is made, so none is refused
+-- the refusals of this way, whatever the readers tell: by sets of states neither a game nor a board is made, so none is refused
 abbrev pub IsErrorOf : Way → MuError → Type 0
 IsErrorOf BySets (error.Normal e) = ⊥
 IsErrorOf BySets (error.Build e) = ⊥
+IsErrorOf BySets (error.Game e) = ⊥
+IsErrorOf BySets (error.Evidence e) = ⊥
+IsErrorOf BySets (error.Table e) = ⊥
 IsErrorOf BySets e = Unit {0}
 IsErrorOf ByGame e = Unit {0}
 

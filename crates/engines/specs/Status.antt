@@ -8,8 +8,14 @@ use Rattle.normal.specs.declared.error.NormalError.{NormalError}
 use Rattle.normal.specs.declared.error.NormalError.TheVariants as normal
 use Rattle.game.specs.declared.error.BuildError.{BuildError}
 use Rattle.game.specs.declared.error.BuildError.TheVariants as game
+use Rattle.pgsolver.specs.declared.error.PgError.{PgError}
+use Rattle.pgsolver.specs.declared.error.PgError.TheVariants as pg
+use Rattle.evidence.specs.declared.error.EvidenceError.{EvidenceError}
+use Rattle.evidence.specs.declared.error.EvidenceError.TheVariants as evidence
+use Rattle.tables.specs.declared.error.TableError.{TableError}
+use Rattle.tables.specs.declared.error.TableError.TheVariants as table
 use Rattle.engines.specs.declared.error.MuError.{MuError}
-use Rattle.engines.specs.declared.error.MuError.TheVariants.{Arguments, File, Read, Memory, System, Formula, Normal, Build, Write}
+use Rattle.engines.specs.declared.error.MuError.TheVariants.{Arguments, File, Read, Memory, System, Formula, Normal, Build, Game, Evidence, Table, Write}
 
 -- 2 where the text is at fault, 3 where a read or memory failed
 abbrev pub system_status : AutError → ℕ
@@ -30,6 +36,21 @@ abbrev pub build_status : BuildError → ℕ
 build_status game.TooManyVertices = 2
 build_status game.Memory = 3
 
+abbrev pub game_status : PgError → ℕ
+game_status (pg.Fault fault line) = 2
+game_status pg.Read = 3
+game_status pg.Memory = 3
+
+abbrev pub evidence_status : EvidenceError → ℕ
+evidence_status (evidence.Fault fault line) = 2
+evidence_status evidence.Read = 3
+evidence_status evidence.Memory = 3
+
+abbrev pub table_status : TableError → ℕ
+table_status table.TooManyRanks = 2
+table_status table.Memory = 3
+table_status table.NoSeat = 3
+
 abbrev pub error_status : MuError → ℕ
 error_status (Arguments error) = 2
 error_status File = 3
@@ -39,6 +60,9 @@ error_status (System error) = system_status error
 error_status (Formula error) = formula_status error
 error_status (Normal error) = normal_status error
 error_status (Build error) = build_status error
+error_status (Game error) = game_status error
+error_status (Evidence error) = evidence_status error
+error_status (Table error) = table_status error
 error_status (Write error) = 3
 
 -- 0 for yes and 1 for no

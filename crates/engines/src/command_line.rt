@@ -8,6 +8,7 @@ use crate::request::{BoardKind, Check, Command, Options};
 use clap::builder::ValueParser;
 use clap::error::ErrorKind;
 use clap::{Arg, ArgAction, ArgMatches, Command as Parser, Error as ClapError};
+use normal::priorities::Priorities;
 use std::alloc::{AllocError, Global};
 
 const WORKERS: &str = "workers";
@@ -161,6 +162,7 @@ fn checked<'a>(matches: &ArgMatches<'a>) -> Result<Check<'a>, ArgumentError>
         system,
         formula,
         options: Options {
+            priorities: Priorities::Nested,
             workers,
             shards,
             board,

@@ -1,10 +1,13 @@
 // Why the program gave no answer.
 
+use evidence::error::EvidenceError;
 use formula::error::FormulaError;
 use game::error::BuildError;
 use lts::WriteFault;
 use lts::error::AutError;
 use normal::error::NormalError;
+use pgsolver::error::PgError;
+use tables::error::TableError;
 use thiserror::Error;
 
 /// What is wrong with a command line, or with what an engine was asked for.
@@ -54,9 +57,18 @@ pub enum MuError {
     /// The formula's normal form.
     #[error("{0}")]
     Normal(NormalError),
-    /// The parity game.
+    /// The parity game of a system and a formula.
     #[error("{0}")]
     Build(BuildError),
+    /// The text of a game.
+    #[error("{0}")]
+    Game(PgError),
+    /// The evidence, or its text.
+    #[error("{0}")]
+    Evidence(EvidenceError),
+    /// The board that workers share.
+    #[error("{0}")]
+    Table(TableError),
     /// A write failed.
     #[error("{0}")]
     Write(WriteFault),

@@ -2,6 +2,8 @@
 
 ghost use Rattle.std.specs.Prelude.{◌≤◌};
 
+use normal::priorities::Priorities;
+
 /// Which board the workers share.
 #[derive(Clone, Copy, PartialEq, Eq)]
 pub enum BoardKind {
@@ -11,9 +13,10 @@ pub enum BoardKind {
     Packed,
 }
 
-/// Workers, locked shards and board of a check.
+/// The rule of priorities, and workers, locked shards and board.
 #[derive(Clone, Copy)]
 pub struct Options {
+    pub priorities: Priorities,
     pub workers: u32,
     pub shards: u32,
     pub board: BoardKind,

@@ -4,10 +4,13 @@ ghost use Rattle.std.specs.Prelude.{◌≡◌};
 ghost use Rattle.engines.specs.Status.{error_status as status_of_error, status_of};
 
 use crate::error::MuError;
+use evidence::error::EvidenceError;
 use formula::error::FormulaError;
 use game::error::BuildError;
 use lts::error::AutError;
 use normal::error::NormalError;
+use pgsolver::error::PgError;
+use tables::error::TableError;
 
 /// 0 for yes, 1 for no, 2 where the input is at fault, 3 where memory, a file, a read or a write failed.
 pub fn status(answer: &Result<bool, MuError>) -> u8
@@ -34,6 +37,9 @@ fn error_status(error: &MuError) -> u8
         ) => 2,
         MuError::Normal(NormalError::TooManyNodes | NormalError::PriorityTooGreat) => 2,
         MuError::Build(BuildError::TooManyVertices) => 2,
+        MuError::Game(PgError::Fault { fault: _, line: _ }) => 2,
+        MuError::Evidence(EvidenceError::Fault { fault: _, line: _ }) => 2,
+        MuError::Table(TableError::TooManyRanks) => 2,
         _ => 3,
     }
 }

@@ -2,6 +2,8 @@
 #![tactic(auto)]
 
 #[cfg(test)]
+mod boards;
+#[cfg(test)]
 mod canonical_texts;
 #[cfg(test)]
 mod claims;
@@ -10,7 +12,11 @@ mod command_lines;
 #[cfg(test)]
 mod common;
 #[cfg(test)]
+mod evidence_texts;
+#[cfg(test)]
 mod formula_texts;
+#[cfg(test)]
+mod game_texts;
 #[cfg(test)]
 mod games;
 #[cfg(test)]
@@ -22,9 +28,15 @@ mod lines_and_tokens;
 #[cfg(test)]
 mod lost_vertices;
 #[cfg(test)]
+mod many_workers;
+#[cfg(test)]
 mod meanings;
 #[cfg(test)]
 mod normal_forms;
+#[cfg(test)]
+mod normal_texts;
+#[cfg(test)]
+mod packed_boards;
 #[cfg(test)]
 mod progress_measures;
 #[cfg(test)]

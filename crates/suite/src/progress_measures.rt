@@ -36,8 +36,8 @@ const NESTED: [Row; 18] = [
     (Player::Even, 0, &[11]),
 ];
 
-// Its least measures. None is top.
-const LEAST: [Option<[u32; 2]>; 18] = [
+/// Its least measures. None is top.
+pub const LEAST: [Option<[u32; 2]>; 18] = [
     Some([0, 0]),
     None,
     Some([2, 0]),
@@ -67,11 +67,11 @@ const PROGS: [(u32, [u32; 2], Option<[u32; 2]>); 5] = [
     (5, [1, 3], Some([1, 3])),
 ];
 
-fn nested(rt: &(impl Abort + AllocGlobal)) -> Result<Game, Fail> {
+pub fn nested(rt: &(impl Abort + AllocGlobal)) -> Result<Game, Fail> {
     game_of(rt, &NESTED)
 }
 
-fn is_as_wanted(m: &Measure, want: &Option<[u32; 2]>) -> bool {
+pub fn is_as_wanted(m: &Measure, want: &Option<[u32; 2]>) -> bool {
     match want {
         Some(counts) => !m.is_top() && m.counts() == counts.as_slice(),
         None => m.is_top(),
