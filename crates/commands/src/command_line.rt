@@ -1,52 +1,31 @@
 // The command line.
 
-ghost use Rattle.std.specs.Prelude.{◌≤◌, ◌≢◌, [], IfOk, length};
-ghost use Rattle.engines.specs.Command.{IsComplete};
+ghost use Rattle.std.specs.Prelude.{◌≤◌, ◌≢◌, [], IfOk, IfSome, length};
+ghost use Rattle.commands.specs.Command.{AreNamed, AreWithin, IsComplete};
 
-use crate::error::{ArgumentError, MuError};
-use crate::request::{BoardKind, Check, Command, Options};
-use clap::builder::ValueParser;
+use crate::parser::{
+    BOARD, EVIDENCE, EVIDENCE_FILES, FORMULA, GAME, GAME_FILE, OTHER, PLAIN, PRIORITIES, SHARDS,
+    SYSTEM, WORKERS, parser,
+};
+use crate::request::{Command, Normal, Outputs, Solve, Verify};
 use clap::error::ErrorKind;
-use clap::{Arg, ArgAction, ArgMatches, Command as Parser, Error as ClapError};
+use clap::{ArgMatches, Error as ClapError};
+use engines::error::{ArgumentError, MuError};
+use engines::request::{BoardKind, Check, Options};
 use normal::priorities::Priorities;
-use std::alloc::{AllocError, Global};
-
-const WORKERS: &str = "workers";
-
-const SHARDS: &str = "shards";
-
-const BOARD: &str = "board";
-
-const PLAIN: &str = "plain";
-
-const SYSTEM: &str = "SYSTEM";
-
-const FORMULA: &str = "FORMULA";
-
-static BOARDS: [&str; 3] = ["auto", "locked", "packed"];
-
-const ABOUT: &str =
-    "Checks formulas of the modal mu-calculus at the states of labelled transition systems";
-
-const CHECK_ABOUT: &str = "Reports for each state of a system whether it satisfies a formula";
-
-const CHECK_AFTER: &str =
-    "The report goes to the standard output. The status is 0 where the initial state satisfies\n\
-the formula, 1 where it does not, 2 where an argument or a text is refused, and 3 where\n\
-memory, a file, a read or a write failed.\n\n\
-Example:\n  mucheck check examples/first/system.aut examples/first/formula.mcf";
+use std::alloc::Global;
 
 /// The command that the words ask for; the first word is the program's own name.
+///
+/// # Errors
+/// U1 where the words are no command, with what is wrong with them or the help that was asked for; U4.
 pub fn command<'a>(alloc: Global, words: &'a [String]) -> Result<Command<'a>, MuError>
     ensures complete { IfOk result IsComplete }
 {
     let matches = matches_of(alloc, words)?;
-    match matches.subcommand_matches("check") {
-        Some(check) => match checked(check) {
-            Ok(check) => Ok(Command::Check(check)),
-            Err(error) => Err(MuError::Arguments(error)),
-        },
-        None => Err(MuError::Arguments(ArgumentError::NoCommand)),
+    match asked(&matches) {
+        Ok(command) => Ok(command),
+        Err(error) => Err(MuError::Arguments(error)),
     }
 }
 
@@ -71,104 +50,84 @@ fn refusal(alloc: Global, error: &ClapError) -> MuError {
     }
 }
 
-fn parser<'a>(alloc: Global) -> Result<Parser<'a>, AllocError> {
-    let check = check_parser(alloc)?;
-    Parser::new(alloc, "mucheck")
-        .about(ABOUT)
-        .subcommand_required(true)
-        .disable_help_subcommand(true)
-        .subcommand(check)
-}
-
-fn check_parser<'a>(alloc: Global) -> Result<Parser<'a>, AllocError> {
-    let parser = Parser::new(alloc, "check")
-        .about(CHECK_ABOUT)
-        .after_help(CHECK_AFTER);
-    with_options(alloc, with_files(alloc, parser)?)
-}
-
-fn with_files<'a>(alloc: Global, parser: Parser<'a>) -> Result<Parser<'a>, AllocError> {
-    parser
-        .arg(file(
-            alloc,
-            SYSTEM,
-            "The system's file, in the Aldebaran format (.aut)",
-        ))?
-        .arg(file(
-            alloc,
-            FORMULA,
-            "The formula's file, in the mu-calculus format (.mcf)",
-        ))
-}
-
-fn file<'a>(alloc: Global, id: &'a str, help: &'a str) -> Arg<'a> {
-    Arg::new(alloc, id).required(true).help(help)
-}
-
-/// Workers, shards and board have no effect on what is served today, so the help leaves them out.
-fn with_options<'a>(alloc: Global, parser: Parser<'a>) -> Result<Parser<'a>, AllocError> {
-    let parser = with_plain(alloc, parser)?;
-    let workers = clap::value_parser!(u32).range(1..=64);
-    let parser = with_hidden(alloc, parser, WORKERS, "1 to 64", workers)?;
-    let shards = clap::value_parser!(u32).range(1..=256);
-    let parser = with_hidden(alloc, parser, SHARDS, "1 to 256", shards)?;
-    let boards = ValueParser::from(BOARDS.as_slice());
-    with_hidden(alloc, parser, BOARD, "kind", boards)
-}
-
-fn with_plain<'a>(alloc: Global, parser: Parser<'a>) -> Result<Parser<'a>, AllocError> {
-    parser.arg(
-        Arg::new(alloc, PLAIN)
-            .long(PLAIN)
-            .action(ArgAction::SetTrue)
-            .help("Evaluate the formula over sets of states, without a game"),
-    )
-}
-
-fn with_hidden<'a>(
-    alloc: Global,
-    parser: Parser<'a>,
-    name: &'a str,
-    value: &'a str,
-    values: ValueParser<'a>,
-) -> Result<Parser<'a>, AllocError> {
-    parser.arg(plain_option(alloc, name, value)?.value_parser(values))
-}
-
-/// An option that has a value, goes with `--plain` alone and is hidden from the help.
-fn plain_option<'a>(alloc: Global, name: &'a str, value: &'a str) -> Result<Arg<'a>, AllocError> {
-    Arg::new(alloc, name)
-        .long(name)
-        .value_name(value)
-        .action(ArgAction::Set)
-        .hide(true)
-        .requires_arg(PLAIN)
+/// The command that the matches ask for.
+fn asked<'a>(matches: &ArgMatches<'a>) -> Result<Command<'a>, ArgumentError>
+    ensures { IfOk result IsComplete }
+{
+    match matches.subcommand() {
+        Some(("check", found)) => checked(found),
+        Some(("normal", found)) => Ok(Command::Normal(Normal {
+            formula: file_name(found, FORMULA)?,
+            priorities: rule(found),
+        })),
+        Some(("solve", found)) => Ok(Command::Solve(Solve {
+            game: file_name(found, GAME)?,
+            options: options(found)?,
+        })),
+        Some(("verify", found)) => Ok(Command::Verify(Verify {
+            game: file_name(found, GAME)?,
+            evidence: file_name(found, EVIDENCE)?,
+            other: optional_name(found, OTHER)?,
+        })),
+        _ => Err(ArgumentError::NoCommand),
+    }
 }
 
 /// The check that the matches of its command ask for.
-fn checked<'a>(matches: &ArgMatches<'a>) -> Result<Check<'a>, ArgumentError>
-    ensures { IfOk result (λ check. IsComplete (Command.Check check)) }
+fn checked<'a>(matches: &ArgMatches<'a>) -> Result<Command<'a>, ArgumentError>
+    ensures { IfOk result IsComplete }
 {
-    let system = file_name(matches, SYSTEM)?;
-    let formula = file_name(matches, FORMULA)?;
-    let workers = number(matches, WORKERS, 1, 64)?;
-    let shards = number(matches, SHARDS, 16, 256)?;
-    let board = match matches.get_str(BOARD) {
+    let check = Check {
+        system: file_name(matches, SYSTEM)?,
+        formula: file_name(matches, FORMULA)?,
+        options: options(matches)?,
+        plain: matches.get_flag(PLAIN),
+    };
+    let outputs = Outputs {
+        game: optional_name(matches, GAME_FILE)?,
+        evidence: optional_name(matches, EVIDENCE_FILES)?,
+    };
+    served(&outputs)?;
+    Ok(Command::Check(check, outputs))
+}
+
+/// Nothing writes the game or evidence of a check yet.
+fn served(outputs: &Outputs<'_>) -> Result<(), ArgumentError> {
+    if outputs.game.is_some() {
+        return Err(ArgumentError::NotServed("--game"));
+    }
+    if outputs.evidence.is_some() {
+        return Err(ArgumentError::NotServed("--evidence"));
+    }
+    Ok(())
+}
+
+/// The options of a command that makes a game or solves one.
+fn options(matches: &ArgMatches<'_>) -> Result<Options, ArgumentError>
+    ensures { IfOk result AreWithin }
+{
+    Ok(Options {
+        priorities: rule(matches),
+        workers: number(matches, WORKERS, 1, 64)?,
+        shards: number(matches, SHARDS, 16, 256)?,
+        board: board(matches),
+    })
+}
+
+/// The rule of priorities; where the command has no such option, the nested one.
+fn rule(matches: &ArgMatches<'_>) -> Priorities {
+    match matches.get_str(PRIORITIES) {
+        Some("dependent") => Priorities::Dependent,
+        _ => Priorities::Nested,
+    }
+}
+
+fn board(matches: &ArgMatches<'_>) -> BoardKind {
+    match matches.get_str(BOARD) {
         Some("locked") => BoardKind::Locked,
         Some("packed") => BoardKind::Packed,
         _ => BoardKind::Auto,
-    };
-    Ok(Check {
-        system,
-        formula,
-        options: Options {
-            priorities: Priorities::Nested,
-            workers,
-            shards,
-            board,
-        },
-        plain: matches.get_flag(PLAIN),
-    })
+    }
 }
 
 /// The file that an argument names.
@@ -178,6 +137,17 @@ fn file_name<'a>(matches: &ArgMatches<'a>, id: &str) -> Result<&'a str, Argument
     match matches.get_str(id) {
         Some(name) if !name.is_empty() => Ok(name),
         _ => Err(ArgumentError::EmptyName),
+    }
+}
+
+/// The file that an argument names, if it stands.
+fn optional_name<'a>(matches: &ArgMatches<'a>, id: &str) -> Result<Option<&'a str>, ArgumentError>
+    ensures { IfOk result (λ found. IfSome found (λ name. name.now ≢ [])) }
+{
+    match matches.get_str(id) {
+        None => Ok(None),
+        Some(name) if !name.is_empty() => Ok(Some(name)),
+        Some(_) => Err(ArgumentError::EmptyName),
     }
 }
 

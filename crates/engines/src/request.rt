@@ -1,4 +1,4 @@
-// What the program can be asked to do.
+// What a check is asked for.
 
 ghost use Rattle.std.specs.Prelude.{◌≤◌};
 
@@ -24,12 +24,6 @@ pub struct Options {
     pub ghost few_workers: { workers ≤ 64 },
     pub ghost some_shards: { 1 ≤ shards },
     pub ghost few_shards: { shards ≤ 256 },
-}
-
-/// What the program is asked to do.
-#[derive(Clone, Copy)]
-pub enum Command<'a> {
-    Check(Check<'a>),
 }
 
 /// A check of a formula at each state of a system. The files are named as on the command line.

@@ -2,10 +2,14 @@
 // ended; all that matters stands in the engines.
 #![tactic(auto)]
 
-use engines::command_line::command;
+use commands::command_line::command;
+use commands::normal_text::normal_text;
+use commands::request::{Command, Normal, Solve, Verify};
+use commands::solve_text::solve_text;
+use commands::verify_text::{verify_both_text, verify_text};
 use engines::engine::check_asked;
 use engines::error::{ArgumentError, MuError};
-use engines::request::{Check, Command};
+use engines::request::Check;
 use engines::status::status;
 use std::fs::File;
 use std::io::ErrorKind;
@@ -24,7 +28,10 @@ fn main(rt: HostRuntime) -> ExitCode {
 fn run(rt: &HostRuntime) -> Result<bool, MuError> {
     let words = words(rt)?;
     match command(rt.alloc(), &words)? {
-        Command::Check(request) => run_check(rt, &request),
+        Command::Check(request, _) => run_check(rt, &request),
+        Command::Normal(request) => run_normal(rt, &request),
+        Command::Solve(request) => run_solve(rt, &request),
+        Command::Verify(request) => run_verify(rt, &request),
     }
 }
 
@@ -38,15 +45,36 @@ fn words(rt: &HostRuntime) -> Result<Vec<String>, MuError> {
     found.map_err(|_| MuError::Memory)
 }
 
+fn open(rt: &HostRuntime, name: &str) -> Result<File, MuError> {
+    File::open(rt, name).map_err(|_| MuError::File)
+}
+
 /// Both files are opened, in the order of the command line, before the first is read.
 fn run_check(rt: &HostRuntime, request: &Check<'_>) -> Result<bool, MuError> {
-    let Ok(system) = File::open(rt, request.system) else {
-        return Err(MuError::File);
-    };
-    let Ok(formula) = File::open(rt, request.formula) else {
-        return Err(MuError::File);
-    };
+    let system = open(rt, request.system)?;
+    let formula = open(rt, request.formula)?;
     check_asked(rt.alloc(), request, system, formula, &mut io::writer(rt))
+}
+
+fn run_normal(rt: &HostRuntime, request: &Normal<'_>) -> Result<bool, MuError> {
+    let formula = open(rt, request.formula)?;
+    normal_text(rt.alloc(), formula, request.priorities, &mut io::writer(rt))
+}
+
+fn run_solve(rt: &HostRuntime, request: &Solve<'_>) -> Result<bool, MuError> {
+    let game = open(rt, request.game)?;
+    solve_text(rt.alloc(), game, &request.options, &mut io::writer(rt))
+}
+
+/// All files are opened, in the order of the command line, before the first is read.
+fn run_verify(rt: &HostRuntime, request: &Verify<'_>) -> Result<bool, MuError> {
+    let game = open(rt, request.game)?;
+    let evidence = open(rt, request.evidence)?;
+    let out = &mut io::writer(rt);
+    match request.other {
+        None => verify_text(rt.alloc(), game, evidence, out),
+        Some(other) => verify_both_text(rt.alloc(), game, evidence, open(rt, other)?, out),
+    }
 }
 
 /// One line with the code and the place; after wrong arguments also what is wrong with them, or the help.

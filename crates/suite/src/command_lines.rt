@@ -1,9 +1,12 @@
 // Command lines, and the exit statuses of their answers, by the program's table of both.
 
-use engines::command_line::command;
+use crate::common::same;
+use commands::command_line::command;
+use commands::request::Command;
 use engines::error::MuError;
-use engines::request::{BoardKind, Command, Options};
+use engines::request::{BoardKind, Options};
 use engines::status::status;
+use normal::priorities::Priorities;
 use std::alloc::{AllocError, Global};
 use std::process::Abort;
 
@@ -23,52 +26,121 @@ fn words(alloc: Global, line: &str) -> Result<Vec<String>, AllocError> {
     Ok(words)
 }
 
-/// Whether the words ask for a check of `s` and `f`, by sets of states or not, with so many workers, such a board and 16 shards.
-fn is_asked(alloc: Global, words: &[String], wanted: (bool, u32, BoardKind)) -> bool {
-    let (plain, workers, board) = wanted;
-    match command(alloc, words) {
-        Ok(Command::Check(check)) => {
-            check.system == "s"
-                && check.formula == "f"
-                && check.plain == plain
-                && has(&check.options, workers, board)
-        }
-        Err(_) => false,
+/// The numbers of an answer's options, of which each has a place.
+fn options_of(alloc: Global, options: &Options) -> Result<String, AllocError> {
+    let board = match options.board {
+        BoardKind::Auto => "auto",
+        BoardKind::Locked => "locked",
+        BoardKind::Packed => "packed",
+    };
+    let (rule, workers, shards) = (rule_of(options.priorities), options.workers, options.shards);
+    format!(in alloc; "{rule} {workers} {shards} {board}")
+}
+
+fn rule_of(priorities: Priorities) -> &'static str {
+    match priorities {
+        Priorities::Nested => "nested",
+        Priorities::Dependent => "dependent",
     }
 }
 
-fn has(options: &Options, workers: u32, board: BoardKind) -> bool {
-    options.workers == workers && options.shards == 16 && options.board == board
+/// What the words ask for.
+fn asked(alloc: Global, words: &[String]) -> Result<String, AllocError> {
+    match command(alloc, words) {
+        Ok(Command::Check(check, _)) => {
+            let options = options_of(alloc, &check.options)?;
+            let (system, formula, plain) = (check.system, check.formula, check.plain);
+            format!(in alloc; "check {system} {formula} {options} {plain}")
+        }
+        Ok(Command::Normal(form)) => {
+            let (formula, rule) = (form.formula, rule_of(form.priorities));
+            format!(in alloc; "normal {formula} {rule}")
+        }
+        Ok(Command::Solve(solve)) => {
+            let options = options_of(alloc, &solve.options)?;
+            let game = solve.game;
+            format!(in alloc; "solve {game} {options}")
+        }
+        Ok(Command::Verify(verify)) => {
+            let (game, evidence) = (verify.game, verify.evidence);
+            let other = verify.other.unwrap_or("-");
+            format!(in alloc; "verify {game} {evidence} {other}")
+        }
+        Err(error) => error.to_string(alloc),
+    }
 }
 
-/// Lines of which each asks for a check.
-const TAKEN: [(&str, (bool, u32, BoardKind)); 2] = [
+/// Lines and what they ask for, with the defaults of the program's description.
+const TAKEN: [(&str, &str); 12] = [
     (
         "mucheck check s f --plain --workers 64 --board packed",
-        (true, 64, BoardKind::Packed),
+        "check s f nested 64 16 packed true",
     ),
-    ("mucheck check s f", (false, 1, BoardKind::Auto)),
+    ("mucheck check s f", "check s f nested 1 16 auto false"),
+    (
+        "mucheck check s f --priorities dependent",
+        "check s f dependent 1 16 auto false",
+    ),
+    (
+        "mucheck check --plain s --priorities nested f",
+        "check s f nested 1 16 auto true",
+    ),
+    ("mucheck normal f", "normal f nested"),
+    ("mucheck normal f --priorities nested", "normal f nested"),
+    (
+        "mucheck normal --priorities dependent f",
+        "normal f dependent",
+    ),
+    ("mucheck solve g", "solve g nested 1 16 auto"),
+    (
+        "mucheck solve g --workers 2 --shards 256 --board locked",
+        "solve g nested 2 256 locked",
+    ),
+    ("mucheck verify g e", "verify g e -"),
+    ("mucheck verify g e o", "verify g e o"),
+    ("mucheck verify g g g", "verify g g g"),
 ];
 
 #[test]
 fn takes_command_lines(rt: HostRuntime) -> Result<(), AllocError> {
     for (line, wanted) in &TAKEN {
         let words = words(rt.alloc(), line)?;
-        assert!(rt; is_asked(rt.alloc(), words.as_slice(), *wanted), "{line}");
+        same(
+            &rt,
+            line,
+            asked(rt.alloc(), words.as_slice())?.as_str(),
+            wanted,
+        );
     }
     Ok(())
 }
 
-const REFUSED: [&str; 9] = [
+const REFUSED: [&str; 25] = [
     "mucheck",
     "mucheck check s",
     "mucheck check s f --plain --workers 65",
     "mucheck check s f --plain --workers 0",
     "mucheck check s f --workers 2",
     "mucheck check s f --game g",
-    "mucheck solve g",
+    "mucheck check s f --evidence e",
+    "mucheck check s f --plain --game g",
+    "mucheck check s f --plain --evidence e",
+    "mucheck check s f --priorities other",
+    "mucheck check s f --plain --priorities other",
     "mucheck check  f",
     "mucheck check --help",
+    "mucheck normal",
+    "mucheck normal ",
+    "mucheck normal f g",
+    "mucheck normal f --priorities",
+    "mucheck normal f --plain",
+    "mucheck solve",
+    "mucheck solve g --workers 65",
+    "mucheck solve g --board other",
+    "mucheck verify g",
+    "mucheck verify g e ",
+    "mucheck verify g e o p",
+    "mucheck other",
 ];
 
 #[test]
@@ -89,8 +161,33 @@ fn help(alloc: Global, words: &[String]) -> Result<String, AllocError> {
     }
 }
 
-fn shows_what_is_served(rt: &impl Abort, text: &str) {
-    for part in &["SYSTEM", "FORMULA", "--plain", "Example:"] {
+/// A command, and parts of its help.
+const SHOWN: [(&str, [&str; 4]); 4] = [
+    (
+        "mucheck check --help",
+        ["SYSTEM", "FORMULA", "--plain", "Example:\n  mucheck check "],
+    ),
+    (
+        "mucheck normal --help",
+        [
+            "FORMULA",
+            "--priorities",
+            "nested",
+            "Example:\n  mucheck normal ",
+        ],
+    ),
+    (
+        "mucheck solve --help",
+        ["GAME", "PGSolver", "Even", "Example:\n  mucheck solve "],
+    ),
+    (
+        "mucheck verify --help",
+        ["GAME", "EVIDENCE", "OTHER", "Example:\n  mucheck verify "],
+    ),
+];
+
+fn shows(rt: &impl Abort, text: &str, parts: &[&str]) {
+    for part in parts {
         assert!(rt; text.contains(*part), "{part}");
     }
     assert!(rt; !text.contains("--workers"));
@@ -98,7 +195,13 @@ fn shows_what_is_served(rt: &impl Abort, text: &str) {
 
 #[test]
 fn help_shows_what_is_served(rt: HostRuntime) -> Result<(), AllocError> {
-    let line = words(rt.alloc(), "mucheck check --help")?;
-    shows_what_is_served(&rt, help(rt.alloc(), line.as_slice())?.as_str());
+    for (line, parts) in &SHOWN {
+        let line = words(rt.alloc(), line)?;
+        shows(
+            &rt,
+            help(rt.alloc(), line.as_slice())?.as_str(),
+            parts.as_slice(),
+        );
+    }
     Ok(())
 }

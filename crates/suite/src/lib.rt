@@ -10,6 +10,8 @@ mod claims;
 #[cfg(test)]
 mod command_lines;
 #[cfg(test)]
+mod command_texts;
+#[cfg(test)]
 mod common;
 #[cfg(test)]
 mod evidence_texts;

@@ -1,0 +1,21 @@
+-- What a command has.
+use Rattle.std.specs.Prelude.{◌≢◌, ◌≤◌, [], IfSome}
+use Rattle.engines.specs.declared.request.Options.{Options}
+use Rattle.commands.specs.declared.request.Outputs.{Outputs}
+use Rattle.commands.specs.declared.request.Command.{Command}
+use Rattle.commands.specs.declared.request.Command.TheVariants.{Check, Normal, Solve, Verify}
+
+-- the numbers of workers and of shards are within the limits
+abbrev pub AreWithin : Options → Type 0
+AreWithin options = (1 ≤ options.workers) × (options.workers ≤ 64) × (1 ≤ options.shards) × (options.shards ≤ 256)
+
+-- every file that is to be written is named
+abbrev pub AreNamed : Outputs → Type 0
+AreNamed outputs = IfSome outputs.game (λ name. name.now ≢ []) × IfSome outputs.evidence (λ name. name.now ≢ [])
+
+-- Every file that the command needs is named, and its numbers are within the limits.
+abbrev pub IsComplete : Command → Type 0
+IsComplete (Check check outputs) = (check.system.now ≢ []) × (check.formula.now ≢ []) × AreWithin check.options × AreNamed outputs
+IsComplete (Normal form) = form.formula.now ≢ []
+IsComplete (Solve solve) = (solve.game.now ≢ []) × AreWithin solve.options
+IsComplete (Verify verify) = (verify.game.now ≢ []) × (verify.evidence.now ≢ []) × IfSome verify.other (λ name. name.now ≢ [])

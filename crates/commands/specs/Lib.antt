@@ -1,0 +1,7 @@
+pub mod Command
+pub mod Spelled
+pub mod Prints
+pub mod Winners
+pub mod Solves
+pub mod Verifies
+pub mod Example

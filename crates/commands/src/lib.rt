@@ -1,0 +1,10 @@
+// The engines of the commands beside `check`, over readers and writers, and the command line.
+#![tactic(auto)]
+
+pub mod command_line;
+pub mod normal_text;
+mod parser;
+pub mod request;
+pub mod solve_text;
+pub mod verify_text;
+mod winners;

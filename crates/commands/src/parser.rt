@@ -1,0 +1,205 @@
+// The command lines that are read, as `clap` is told of them.
+
+use clap::builder::ValueParser;
+use clap::{Arg, ArgAction, Command as Parser};
+use std::alloc::{AllocError, Global};
+
+pub(crate) const SYSTEM: &str = "SYSTEM";
+
+pub(crate) const FORMULA: &str = "FORMULA";
+
+pub(crate) const GAME: &str = "GAME";
+
+pub(crate) const EVIDENCE: &str = "EVIDENCE";
+
+pub(crate) const OTHER: &str = "OTHER";
+
+pub(crate) const PLAIN: &str = "plain";
+
+pub(crate) const PRIORITIES: &str = "priorities";
+
+pub(crate) const WORKERS: &str = "workers";
+
+pub(crate) const SHARDS: &str = "shards";
+
+pub(crate) const BOARD: &str = "board";
+
+pub(crate) const GAME_FILE: &str = "game";
+
+pub(crate) const EVIDENCE_FILES: &str = "evidence";
+
+static BOARDS: [&str; 3] = ["auto", "locked", "packed"];
+
+static RULES: [&str; 2] = ["nested", "dependent"];
+
+const ABOUT: &str =
+    "Checks formulas of the modal mu-calculus at the states of labelled transition systems";
+
+const CHECK_ABOUT: &str = "Reports for each state of a system whether it satisfies a formula";
+
+const CHECK_AFTER: &str =
+    "The report goes to the standard output. The status is 0 where the initial state satisfies\n\
+the formula, 1 where it does not, 2 where an argument or a text is refused, and 3 where\n\
+memory, a file, a read or a write failed.\n\n\
+Example:\n  mucheck check examples/first/system.aut examples/first/formula.mcf";
+
+const NORMAL_ABOUT: &str = "Writes the normal form of a formula, a line for each node";
+
+const NORMAL_AFTER: &str =
+    "The first line has the number of nodes, the greatest priority and the alternation depth.\n\
+The status is 0, or 2 where an argument or the formula is refused, and 3 where memory, the\n\
+file, a read or a write failed.\n\n\
+Example:\n  mucheck normal examples/first/formula.mcf";
+
+const SOLVE_ABOUT: &str = "Writes for each vertex of a parity game who wins it";
+
+const SOLVE_AFTER: &str =
+    "The first lines have the number of vertices, and of those that Even wins. The status is 0,\n\
+or 2 where an argument or the game is refused, and 3 where memory, the file, a read or a\n\
+write failed.\n\n\
+Example:\n  mucheck solve examples/game/game.pg";
+
+const VERIFY_ABOUT: &str = "Checks evidence that a player wins vertices of a parity game";
+
+const VERIFY_AFTER: &str =
+    "Where evidence is verified, its player wins every vertex that it has, whoever made it. Where\n\
+two are, together they have every vertex of the game, and each has just those that its\n\
+player wins. The status is 0 where they are verified, 1 where they are not, 2 where an\n\
+argument or a text is refused, and 3 where memory, a file, a read or a write failed.\n\n\
+Example:\n  mucheck verify examples/game/game.pg examples/game/even.evidence";
+
+const SYSTEM_HELP: &str = "The system's file, in the Aldebaran format (.aut)";
+
+const FORMULA_HELP: &str = "The formula's file, in the mu-calculus format (.mcf)";
+
+const GAME_HELP: &str = "The game's file, in the format of PGSolver";
+
+const EVIDENCE_HELP: &str = "The file of the evidence";
+
+const OTHER_HELP: &str = "The file of the other player's evidence";
+
+const PLAIN_HELP: &str = "Evaluate the formula over sets of states, without a game";
+
+const RULES_HELP: &str = "The rule by which fixpoints get their priorities: nested is the default";
+
+/// All commands.
+pub(crate) fn parser<'a>(alloc: Global) -> Result<Parser<'a>, AllocError> {
+    let check = check_parser(alloc)?;
+    let parser = Parser::new(alloc, "mucheck")
+        .about(ABOUT)
+        .subcommand_required(true)
+        .disable_help_subcommand(true)
+        .subcommand(check)?;
+    with_texts(alloc, parser)
+}
+
+/// The commands on one text, and on the texts of games.
+fn with_texts<'a>(alloc: Global, parser: Parser<'a>) -> Result<Parser<'a>, AllocError> {
+    let parser = parser.subcommand(normal_parser(alloc)?)?;
+    let parser = parser.subcommand(solve_parser(alloc)?)?;
+    parser.subcommand(verify_parser(alloc)?)
+}
+
+fn check_parser<'a>(alloc: Global) -> Result<Parser<'a>, AllocError> {
+    let parser = Parser::new(alloc, "check")
+        .about(CHECK_ABOUT)
+        .after_help(CHECK_AFTER)
+        .arg(file(alloc, SYSTEM, SYSTEM_HELP))?
+        .arg(file(alloc, FORMULA, FORMULA_HELP))?
+        .arg(plain(alloc))?;
+    let parser = parser.arg(rule(alloc))?;
+    with_outputs(alloc, with_workers(alloc, parser, true)?)
+}
+
+fn normal_parser<'a>(alloc: Global) -> Result<Parser<'a>, AllocError> {
+    Parser::new(alloc, "normal")
+        .about(NORMAL_ABOUT)
+        .after_help(NORMAL_AFTER)
+        .arg(file(alloc, FORMULA, FORMULA_HELP))?
+        .arg(rule(alloc))
+}
+
+fn solve_parser<'a>(alloc: Global) -> Result<Parser<'a>, AllocError> {
+    let parser = Parser::new(alloc, "solve")
+        .about(SOLVE_ABOUT)
+        .after_help(SOLVE_AFTER)
+        .arg(file(alloc, GAME, GAME_HELP))?;
+    with_workers(alloc, parser, false)
+}
+
+fn verify_parser<'a>(alloc: Global) -> Result<Parser<'a>, AllocError> {
+    Parser::new(alloc, "verify")
+        .about(VERIFY_ABOUT)
+        .after_help(VERIFY_AFTER)
+        .arg(file(alloc, GAME, GAME_HELP))?
+        .arg(file(alloc, EVIDENCE, EVIDENCE_HELP))?
+        .arg(file(alloc, OTHER, OTHER_HELP).required(false))
+}
+
+fn file<'a>(alloc: Global, id: &'a str, help: &'a str) -> Arg<'a> {
+    Arg::new(alloc, id).required(true).help(help)
+}
+
+fn plain<'a>(alloc: Global) -> Arg<'a> {
+    Arg::new(alloc, PLAIN)
+        .long(PLAIN)
+        .action(ArgAction::SetTrue)
+        .help(PLAIN_HELP)
+}
+
+/// An option that has a value.
+fn valued<'a>(alloc: Global, name: &'a str, value: &'a str) -> Arg<'a> {
+    Arg::new(alloc, name)
+        .long(name)
+        .value_name(value)
+        .action(ArgAction::Set)
+}
+
+fn rule<'a>(alloc: Global) -> Arg<'a> {
+    valued(alloc, PRIORITIES, "RULE")
+        .value_parser(ValueParser::from(RULES.as_slice()))
+        .help(RULES_HELP)
+}
+
+/// Workers, shards and board have no effect on what is served today, so the help leaves them out, and a check takes them with
+/// `--plain` alone.
+fn with_workers<'a>(
+    alloc: Global,
+    parser: Parser<'a>,
+    is_check: bool,
+) -> Result<Parser<'a>, AllocError> {
+    let workers = clap::value_parser!(u32).range(1..=64);
+    let workers = hidden(alloc, WORKERS, "1 to 64", is_check)?.value_parser(workers);
+    let parser = parser.arg(workers)?;
+    let shards = clap::value_parser!(u32).range(1..=256);
+    let shards = hidden(alloc, SHARDS, "1 to 256", is_check)?.value_parser(shards);
+    let parser = parser.arg(shards)?;
+    let boards = ValueParser::from(BOARDS.as_slice());
+    parser.arg(hidden(alloc, BOARD, "kind", is_check)?.value_parser(boards))
+}
+
+/// An option that has a value and is hidden from the help. It may go with `--plain` alone.
+fn hidden<'a>(
+    alloc: Global,
+    name: &'a str,
+    value: &'a str,
+    is_plain: bool,
+) -> Result<Arg<'a>, AllocError> {
+    let arg = valued(alloc, name, value).hide(true);
+    if is_plain {
+        arg.requires_arg(PLAIN)
+    } else {
+        Ok(arg)
+    }
+}
+
+/// Where the game and the evidence go, which are made of a game alone. Nothing writes them yet, so the help leaves them out.
+fn with_outputs<'a>(alloc: Global, parser: Parser<'a>) -> Result<Parser<'a>, AllocError> {
+    let game = output(alloc, GAME_FILE, "FILE")?;
+    let parser = parser.arg(game)?;
+    parser.arg(output(alloc, EVIDENCE_FILES, "PATH")?)
+}
+
+fn output<'a>(alloc: Global, name: &'a str, value: &'a str) -> Result<Arg<'a>, AllocError> {
+    valued(alloc, name, value).hide(true).conflicts_with(PLAIN)
+}

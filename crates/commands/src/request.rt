@@ -1,0 +1,45 @@
+// What the program can be asked to do. The files are named as on the command line.
+
+use engines::request::{Check, Options};
+use normal::priorities::Priorities;
+
+/// What the program is asked to do.
+#[derive(Clone, Copy)]
+pub enum Command<'a> {
+    /// A check, and where the game and the evidence go.
+    Check(Check<'a>, Outputs<'a>),
+    Normal(Normal<'a>),
+    Solve(Solve<'a>),
+    Verify(Verify<'a>),
+}
+
+/// Where a check's texts go beside the report.
+#[derive(Clone, Copy)]
+pub struct Outputs<'a> {
+    /// The file of the game.
+    pub game: Option<&'a str>,
+    /// The files of Even's and of Odd's evidence, without `.even` and `.odd`.
+    pub evidence: Option<&'a str>,
+}
+
+/// The normal form of a formula, with the priorities of a rule.
+#[derive(Clone, Copy)]
+pub struct Normal<'a> {
+    pub formula: &'a str,
+    pub priorities: Priorities,
+}
+
+/// Who wins each vertex of a game.
+#[derive(Clone, Copy)]
+pub struct Solve<'a> {
+    pub game: &'a str,
+    pub options: Options,
+}
+
+/// Whether evidence is good, or two pieces are and decide the whole game.
+#[derive(Clone, Copy)]
+pub struct Verify<'a> {
+    pub game: &'a str,
+    pub evidence: &'a str,
+    pub other: Option<&'a str>,
+}

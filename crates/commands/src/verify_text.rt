@@ -1,0 +1,139 @@
+// The engines of the command `verify`.
+
+ghost use Rattle.std.specs.Prelude.{◌≡◌, ℕ, List, Some};
+ghost use Rattle.commands.specs.Spelled.{IsEvidenceOf, IsGameOf};
+ghost use Rattle.commands.specs.Verifies.{Answers, AnswersBoth, Verifies, VerifiesBoth};
+
+use engines::error::MuError;
+use evidence::evidence::Evidence;
+use evidence::reader::read_evidence;
+use evidence::verdict::{Both, Verdict};
+use evidence::verify::{check_both, verify};
+use evidence::writer::{write_both, write_verdict};
+use game::graph::Game;
+use pgsolver::read_game;
+use std::alloc::Global;
+use std::io::{Read, Write};
+
+/// Writes whether evidence is good for a game, or its least vertex with a fault and the least of its faults. It answers whether
+/// it is good; its player then wins each vertex of its set. The game is read first.
+///
+/// # Errors
+/// Those of the readers, unchanged; W1 where a write failed. Nothing is written before all memory was taken.
+pub fn verify_text<R: Read + Drop, S: Read + Drop, W: Write>(
+    alloc: Global,
+    game: R,
+    evidence: S,
+    out: &mut W,
+) -> Result<bool, MuError>
+    ensures verifies { Verifies (R.remaining game) (S.remaining evidence) (W.contents out.old) (W.contents out.new) result }
+{
+    match read_game(alloc, game) {
+        Ok(game) => verify_for(alloc, &game, evidence, out),
+        Err(error) => Err(MuError::Game(error)),
+    }
+}
+
+/// The same for a game that was read.
+fn verify_for<S: Read + Drop, W: Write>(
+    alloc: Global,
+    game: &Game,
+    evidence: S,
+    out: &mut W,
+) -> Result<bool, MuError>
+    ensures { (first second : List ℕ) → IsGameOf first game.now → S.remaining evidence ≡ Some second
+        → Answers first second (W.contents out.old) (W.contents out.new) result }
+{
+    match read_evidence(alloc, evidence, game) {
+        Ok(evidence) => judge(game, &evidence, out),
+        Err(error) => Err(MuError::Evidence(error)),
+    }
+}
+
+/// Writes the verdict, and answers whether it is good.
+fn judge<W: Write>(game: &Game, evidence: &Evidence, out: &mut W) -> Result<bool, MuError>
+    requires { evidence.now.game ≡ game.now }
+    ensures { (first second : List ℕ) → IsGameOf first game.now → IsEvidenceOf game.now second evidence.now.evidence
+        → Answers first second (W.contents out.old) (W.contents out.new) result }
+{
+    let verdict = verify(game, evidence);
+    match write_verdict(evidence, verdict, out) {
+        Ok(()) => Ok(matches!(verdict, Verdict::Good)),
+        Err(fault) => Err(MuError::Write(fault)),
+    }
+}
+
+/// Writes whether two pieces of evidence are good, of different players, and together of every vertex of a game, or the first
+/// thing that is wrong. It answers whether they are; each then holds exactly the vertices that its player wins. The game is read
+/// first, then the first piece and then the second.
+///
+/// # Errors
+/// Those of the readers, unchanged; W1 where a write failed. Nothing is written before all memory was taken.
+pub fn verify_both_text<R: Read + Drop, S: Read + Drop, T: Read + Drop, W: Write>(
+    alloc: Global,
+    game: R,
+    first: S,
+    second: T,
+    out: &mut W,
+) -> Result<bool, MuError>
+    ensures verifies { VerifiesBoth (R.remaining game) (S.remaining first) (T.remaining second) (W.contents out.old) (W.contents out.new) result }
+{
+    match read_game(alloc, game) {
+        Ok(game) => verify_both_for(alloc, &game, first, second, out),
+        Err(error) => Err(MuError::Game(error)),
+    }
+}
+
+/// The same for a game that was read.
+fn verify_both_for<S: Read + Drop, T: Read + Drop, W: Write>(
+    alloc: Global,
+    game: &Game,
+    first: S,
+    second: T,
+    out: &mut W,
+) -> Result<bool, MuError>
+    ensures { (text one other : List ℕ) → IsGameOf text game.now → S.remaining first ≡ Some one → T.remaining second ≡ Some other
+        → AnswersBoth text one other (W.contents out.old) (W.contents out.new) result }
+{
+    match read_evidence(alloc, first, game) {
+        Ok(first) => verify_with(alloc, game, &first, second, out),
+        Err(error) => Err(MuError::Evidence(error)),
+    }
+}
+
+/// The same with the first piece of evidence.
+fn verify_with<T: Read + Drop, W: Write>(
+    alloc: Global,
+    game: &Game,
+    first: &Evidence,
+    second: T,
+    out: &mut W,
+) -> Result<bool, MuError>
+    requires { first.now.game ≡ game.now }
+    ensures { (text one other : List ℕ) → IsGameOf text game.now → IsEvidenceOf game.now one first.now.evidence → T.remaining second ≡ Some other
+        → AnswersBoth text one other (W.contents out.old) (W.contents out.new) result }
+{
+    match read_evidence(alloc, second, game) {
+        Ok(second) => judge_both(game, first, &second, out),
+        Err(error) => Err(MuError::Evidence(error)),
+    }
+}
+
+/// Writes what is told of both, and answers whether it is yes.
+fn judge_both<W: Write>(
+    game: &Game,
+    first: &Evidence,
+    second: &Evidence,
+    out: &mut W,
+) -> Result<bool, MuError>
+    requires first { first.now.game ≡ game.now }
+    requires second { second.now.game ≡ game.now }
+    ensures { (text one other : List ℕ) → IsGameOf text game.now → IsEvidenceOf game.now one first.now.evidence → IsEvidenceOf game.now other second.now.evidence
+        → AnswersBoth text one other (W.contents out.old) (W.contents out.new) result }
+{
+    let both = check_both(game, first, second);
+    match write_both(first, second, both, out) {
+        Ok(()) => Ok(matches!(both, Both::Yes)),
+        Err(fault) => Err(MuError::Write(fault)),
+    }
+}

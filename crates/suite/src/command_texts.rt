@@ -1,0 +1,369 @@
+// What the commands `normal`, `solve` and `verify` write, answer and refuse: the worked examples of docs/FORMATS.md, and games that were solved by hand.
+
+use crate::common::{repeated, same};
+use crate::readers::Slow;
+use crate::writers::{AMPLE, AtEnd, Narrow};
+use commands::normal_text::normal_text;
+use commands::solve_text::solve_text;
+use commands::verify_text::{verify_both_text, verify_text};
+use engines::error::MuError;
+use engines::request::{BoardKind, Options};
+use normal::priorities::Priorities;
+use std::alloc::{AllocError, Global};
+use std::io::Write;
+use std::process::Abort;
+
+const OPTIONS: Options = Options {
+    priorities: Priorities::Nested,
+    workers: 1,
+    shards: 16,
+    board: BoardKind::Auto,
+};
+
+/// The game of `<a>true` on a ring of two states.
+const STEP: &str =
+    "parity 5;\n0 0 0 0 \"true\";\n1 1 0 1 \"false\";\n2 0 0 5 \"0,0\";\n3 0 0 0 \"0,1\";\n4 0 0 1 \"1,0\";\n5 0 0 0 \"1,1\";\n";
+
+const EVEN_OF_STEP: &str = "evidence even\n0 0 (0)\n2 5 (0)\n3 0 (0)\n5 0 (0)\n";
+
+const ODD_OF_STEP: &str = "evidence odd\n1 - (0)\n4 - (1)\n";
+
+/// The game of `nu X. mu Y. (<a>X || <b>Y)` on it.
+const OFTEN_A: &str =
+    "parity 15;\n0 0 0 0 \"true\";\n1 1 0 1 \"false\";\n2 2 0 3 \"0,0\";\n3 1 0 4 \"0,1\";\n4 0 0 5,7 \"0,2\";\n5 0 0 13 \"0,3\";\n6 0 0 2 \"0,4\";\n7 0 0 1 \"0,5\";\n8 0 0 3 \"0,6\";\n9 2 0 10 \"1,0\";\n10 1 0 11 \"1,1\";\n11 0 0 12,14 \"1,2\";\n12 0 0 1 \"1,3\";\n13 0 0 9 \"1,4\";\n14 0 0 8 \"1,5\";\n15 0 0 10 \"1,6\";\n";
+
+const EVEN: &str =
+    "evidence even\n0 0 (0)\n2 3 (0)\n3 4 (1)\n4 5 (0)\n5 13 (0)\n6 2 (0)\n8 3 (1)\n9 10 (0)\n10 11 (2)\n11 14 (1)\n13 9 (0)\n14 8 (1)\n15 10 (2)\n";
+
+const ODD: &str = "evidence odd\n1 - (0,0)\n7 - (0,1)\n12 - (0,1)\n";
+
+/// A command with its texts.
+#[derive(Clone, Copy)]
+enum Asked<'a> {
+    Normal(&'a str, Priorities),
+    Solve(&'a str),
+    Verify(&'a str, &'a str),
+    Both(&'a str, &'a str, &'a str),
+}
+
+fn run<W: Write>(alloc: Global, asked: &Asked<'_>, out: &mut W) -> Result<bool, MuError> {
+    match asked {
+        Asked::Normal(formula, rule) => normal_text(alloc, formula.as_bytes(), *rule, out),
+        Asked::Solve(game) => solve_text(alloc, game.as_bytes(), &OPTIONS, out),
+        Asked::Verify(game, evidence) => {
+            verify_text(alloc, game.as_bytes(), evidence.as_bytes(), out)
+        }
+        Asked::Both(game, first, second) => {
+            let evidence = (first.as_bytes(), second.as_bytes());
+            verify_both_text(alloc, game.as_bytes(), evidence.0, evidence.1, out)
+        }
+    }
+}
+
+/// The answer, or the code of the refusal and its place.
+fn shown(alloc: Global, answer: &Result<bool, MuError>) -> Result<String, AllocError> {
+    match answer {
+        Ok(true) => String::from_str(alloc, "yes"),
+        Ok(false) => String::from_str(alloc, "no"),
+        Err(error) => error.to_string(alloc),
+    }
+}
+
+/// The command writes this, and answers so.
+fn tells(
+    rt: &(impl Abort + AllocGlobal),
+    asked: &Asked<'_>,
+    text: &str,
+    answer: &str,
+) -> Result<(), AllocError> {
+    let mut out = Narrow::new(rt.alloc(), 7, AMPLE);
+    let found = shown(rt.alloc(), &run(rt.alloc(), asked, &mut out))?;
+    same(rt, text, found.as_str(), answer);
+    assert!(rt; out.taken.as_slice() == text.as_bytes(), "{text}");
+    Ok(())
+}
+
+const TOLD: [(Asked<'static>, &str, &str); 13] = [
+    (
+        Asked::Normal("<a + + b>true", Priorities::Nested),
+        "nodes 9 priority 1 depth 1\n0 or 0 1 7\n1 dia 0 2 a\n2 mu 1 3\n3 or 0 4 5\n4 true 0\n5 dia 0 6 a\n6 var 0 2\n7 dia 0 8 b\n8 true 0\n",
+        "yes",
+    ),
+    (
+        Asked::Normal("!(<a>true && mu X. [b]X)", Priorities::Nested),
+        "nodes 6 priority 0 depth 1\n0 or 0 1 3\n1 box 0 2 a\n2 false 0\n3 nu 0 4\n4 dia 0 5 b\n5 var 0 3\n",
+        "yes",
+    ),
+    (
+        Asked::Solve(STEP),
+        "vertices 6\neven 4\n0 even\n1 odd\n2 even\n3 even\n4 odd\n5 even\n",
+        "yes",
+    ),
+    (
+        Asked::Solve("parity 1;\n0 0 0 1;\n1 1 1 0;\n"),
+        "vertices 2\neven 0\n0 odd\n1 odd\n",
+        "yes",
+    ),
+    (
+        Asked::Solve("parity 1;\n0 0 0 1;\n1 2 1 0;\n"),
+        "vertices 2\neven 2\n0 even\n1 even\n",
+        "yes",
+    ),
+    (
+        Asked::Verify(OFTEN_A, EVEN),
+        "verified even 13 of 16\n",
+        "yes",
+    ),
+    (Asked::Verify(OFTEN_A, ODD), "verified odd 3 of 16\n", "yes"),
+    (
+        Asked::Verify(STEP, ODD_OF_STEP),
+        "verified odd 2 of 6\n",
+        "yes",
+    ),
+    (
+        Asked::Both(OFTEN_A, EVEN, ODD),
+        "verified both even 13 odd 3 of 16\n",
+        "yes",
+    ),
+    (
+        Asked::Both(OFTEN_A, ODD, EVEN),
+        "verified both even 13 odd 3 of 16\n",
+        "yes",
+    ),
+    (Asked::Both(OFTEN_A, EVEN, EVEN), "refused C4\n", "no"),
+    (
+        Asked::Both(STEP, EVEN_OF_STEP, ODD_OF_STEP),
+        "verified both even 4 odd 2 of 6\n",
+        "yes",
+    ),
+    (
+        Asked::Both(STEP, EVEN_OF_STEP, "evidence odd\n1 - (0)\n"),
+        "refused C5 at 4\n",
+        "no",
+    ),
+];
+
+#[test]
+fn commands_write_what_was_worked_out(rt: HostRuntime) -> Result<(), AllocError> {
+    for (asked, text, answer) in &TOLD {
+        tells(&rt, asked, text, answer)?;
+    }
+    Ok(())
+}
+
+/// Formulas, and the first line of the normal form by the nested rule and by the dependent one.
+const FIRST_LINES: [(&str, &str, &str); 3] = [
+    (
+        "[true*]<true*>(<a>true)",
+        "nodes 10 priority 2 depth 2\n",
+        "nodes 10 priority 1 depth 2\n",
+    ),
+    (
+        "nu X. mu Y. (<a>X || <b>Y)",
+        "nodes 7 priority 2 depth 2\n",
+        "nodes 7 priority 2 depth 2\n",
+    ),
+    (
+        "nu X. (<a>X && mu Y. <b>Y)",
+        "nodes 7 priority 2 depth 2\n",
+        "nodes 7 priority 1 depth 2\n",
+    ),
+];
+
+fn begins(rt: &(impl Abort + AllocGlobal), formula: &str, rule: Priorities, line: &str) {
+    let mut out = Vec::new(rt.alloc());
+    assert!(rt; normal_text(rt.alloc(), formula.as_bytes(), rule, &mut out).is_ok());
+    assert!(rt; out.starts_with(line.as_bytes()), "{formula}");
+}
+
+#[test]
+fn normal_forms_by_either_rule(rt: HostRuntime) -> Result<(), AllocError> {
+    for (formula, nested, dependent) in &FIRST_LINES {
+        begins(&rt, formula, Priorities::Nested, nested);
+        begins(&rt, formula, Priorities::Dependent, dependent);
+    }
+    let binders = repeated(rt.alloc(), "", "nu X. mu X. ", 16, "true")?;
+    let line = "nodes 33 priority 1 depth 32\n";
+    begins(&rt, binders.as_str(), Priorities::Dependent, line);
+    let nested = Asked::Normal(binders.as_str(), Priorities::Nested);
+    tells(&rt, &nested, "", "N2")?;
+    let large = repeated(rt.alloc(), "<c><c><c><c><", "(a+b).", 9, "(a+b)>true")?;
+    tells(
+        &rt,
+        &Asked::Normal(large.as_str(), Priorities::Nested),
+        "",
+        "N1",
+    )
+}
+
+/// The text with another line in the place of one, or without it.
+fn with_line(alloc: Global, text: &str, line: &str, other: &str) -> Result<String, AllocError> {
+    let mut changed = String::new(alloc);
+    for old in text.lines() {
+        let new = if old == line { other } else { old };
+        if !new.is_empty() {
+            changed.push_str(new)?;
+            changed.push_str("\n")?;
+        }
+    }
+    Ok(changed)
+}
+
+/// A line of Even's evidence, what stands in its place, and what is told of it then.
+const CHANGED: [(&str, &str, &str, &str); 11] = [
+    ("5 13 (0)", "5 9 (0)", "refused C1 at 5\n", "no"),
+    ("14 8 (1)", "", "refused C2 at 11\n", "no"),
+    ("10 11 (2)", "10 11 (1)", "refused C3 at 10\n", "no"),
+    ("15 10 (2)", "15 10 (2)\n1 1 (0)", "refused C3 at 1\n", "no"),
+    ("5 13 (0)", "5 - (0)", "refused C1 at 5\n", "no"),
+    ("10 11 (2)", "10 11 (3)", "refused C3 at 15\n", "no"),
+    ("0 0 (0)", "0 0 (5)", "verified even 13 of 16\n", "yes"),
+    ("0 0 (0)", "5 13 (0,0)", "", "E2 at line 2"),
+    ("0 0 (0)", "5 13 (16777217)", "", "E2 at line 2"),
+    ("0 0 (0)", "16 0 (0)", "", "E3 at line 2"),
+    ("evidence even", "evidence odd", "", "E2 at line 2"),
+];
+
+#[test]
+fn changed_evidence_is_refused(rt: HostRuntime) -> Result<(), AllocError> {
+    for (line, other, text, answer) in &CHANGED {
+        let changed = with_line(rt.alloc(), EVEN, line, other)?;
+        tells(&rt, &Asked::Verify(OFTEN_A, changed.as_str()), text, answer)?;
+    }
+    let gone = with_line(rt.alloc(), ODD, "1 - (0,0)", "")?;
+    let second = Asked::Both(OFTEN_A, EVEN, gone.as_str());
+    tells(&rt, &second, "refused second C2 at 7\n", "no")?;
+    let first = Asked::Both(OFTEN_A, gone.as_str(), EVEN);
+    tells(&rt, &first, "refused first C2 at 7\n", "no")?;
+    let left = with_line(rt.alloc(), ODD, "7 - (0,1)", "")?;
+    let both = Asked::Both(OFTEN_A, EVEN, left.as_str());
+    tells(&rt, &both, "refused C5 at 7\n", "no")
+}
+
+/// Commands whose texts are refused, the game's before the first evidence and that before the second.
+const REFUSED: [(Asked<'static>, &str); 16] = [
+    (
+        Asked::Normal("mu X. Y", Priorities::Nested),
+        "F5 at offset 6",
+    ),
+    (Asked::Normal("", Priorities::Dependent), "F3 at offset 0"),
+    (Asked::Solve("parity 1;\n0 0 0 1;\n"), "G3 at line 3"),
+    (Asked::Solve("parity 0;\n0 0 0;\n"), "G4 at line 2"),
+    (Asked::Solve("parity 0;\n0 0 0 2;\n"), "G4 at line 2"),
+    (Asked::Solve("parity 0;\n0 32 0 0;\n"), "G5 at line 2"),
+    (Asked::Solve("parity 0;\n0 0 2 0;\n"), "G2 at line 2"),
+    (Asked::Solve("parity 0;\n1 0 0 0;\n"), "G3 at line 2"),
+    (Asked::Solve("parity 16777216;\n"), "G6 at line 1"),
+    (Asked::Solve("parity 1\n"), "G1 at line 1"),
+    (Asked::Solve("start 0;\n"), "G1 at line 1"),
+    (Asked::Verify("", ""), "G1 at line 1"),
+    (Asked::Verify(STEP, ""), "E1 at line 1"),
+    (Asked::Both("", "", ""), "G1 at line 1"),
+    (Asked::Both(STEP, "evidence even\n0\n", ""), "E2 at line 2"),
+    (
+        Asked::Both(STEP, EVEN_OF_STEP, "evidence odd\n6 - (0)\n"),
+        "E3 at line 2",
+    ),
+];
+
+#[test]
+fn commands_pass_refusals_on(rt: HostRuntime) -> Result<(), AllocError> {
+    for (asked, refusal) in &REFUSED {
+        tells(&rt, asked, "", refusal)?;
+    }
+    Ok(())
+}
+
+/// Fifteen loops of Even of each odd priority from 3 to 31, and two of priority 1: Odd wins them all.
+fn loops(alloc: Global) -> Result<String, AllocError> {
+    let mut text = String::from_str(alloc, "parity 226;\n")?;
+    for v in 0..227 {
+        let priority = if v < 225 { 3 + v / 15 * 2 } else { 1 };
+        write!(text, "{v} {priority} 0 {v};\n")?;
+    }
+    Ok(text)
+}
+
+#[test]
+fn odd_wins_loops_of_odd_priorities(rt: HostRuntime) -> Result<(), AllocError> {
+    let mut wanted = String::from_str(rt.alloc(), "vertices 227\neven 0\n")?;
+    for v in 0..227 {
+        write!(wanted, "{v} odd\n")?;
+    }
+    let game = loops(rt.alloc())?;
+    tells(&rt, &Asked::Solve(game.as_str()), wanted.as_str(), "yes")
+}
+
+/// A reader of a beginning of the text that fails behind it.
+fn failing(text: &str, given: usize) -> Slow<'_> {
+    let (left, _) = text.as_bytes().split_at(given.min(text.len()));
+    Slow {
+        left,
+        step: 5,
+        fails: true,
+    }
+}
+
+/// The commands of which a text fails to be read behind so many bytes.
+fn is_unread(rt: &(impl Abort + AllocGlobal), given: usize) {
+    let mut out = Vec::new(rt.alloc());
+    let formula = failing("<a>true", given);
+    let normal = normal_text(rt.alloc(), formula, Priorities::Nested, &mut out);
+    assert!(rt; matches!(&normal, Err(MuError::Read)));
+    let solved = solve_text(rt.alloc(), failing(STEP, given), &OPTIONS, &mut out);
+    assert!(rt; is_shown(rt.alloc(), &solved, "G7"));
+    let game = failing(STEP, given);
+    let verified = verify_text(rt.alloc(), game, EVEN.as_bytes(), &mut out);
+    assert!(rt; is_shown(rt.alloc(), &verified, "G7"));
+    let evidence = failing(EVEN, given);
+    let verified = verify_text(rt.alloc(), OFTEN_A.as_bytes(), evidence, &mut out);
+    assert!(rt; is_shown(rt.alloc(), &verified, "E4"));
+    let (game, other) = (OFTEN_A.as_bytes(), failing(ODD, given));
+    let both = verify_both_text(rt.alloc(), game, EVEN.as_bytes(), other, &mut out);
+    assert!(rt; is_shown(rt.alloc(), &both, "E4"));
+    assert!(rt; out.is_empty());
+}
+
+fn is_shown(alloc: Global, answer: &Result<bool, MuError>, wanted: &str) -> bool {
+    match shown(alloc, answer) {
+        Ok(text) => text.as_str() == wanted,
+        Err(AllocError) => false,
+    }
+}
+
+#[test]
+fn failed_reads_of_commands_are_told(rt: HostRuntime) {
+    for given in 0..=7 {
+        is_unread(&rt, given);
+    }
+}
+
+/// A writer without room for the whole text is given a beginning, and W1 is told.
+#[test]
+fn failed_writes_of_commands_leave_a_beginning(rt: HostRuntime) {
+    for (asked, text, _) in &TOLD {
+        for room in 0..text.len() {
+            let mut out = Narrow::new(rt.alloc(), 4, room);
+            out.at_end = if room % 2 == 0 {
+                AtEnd::Fails
+            } else {
+                AtEnd::TakesNothing
+            };
+            assert!(rt; matches!(run(rt.alloc(), asked, &mut out), Err(MuError::Write(_))));
+            assert!(rt; out.taken.as_slice() == &text.as_bytes()[..room], "{text}");
+        }
+    }
+}
+
+/// Each growth may be refused: nothing is written then. `rt try --test --fail-alloc N` refuses the Nth.
+#[test]
+fn commands_want_memory_before_they_write(rt: HostRuntime) {
+    for (asked, text, _) in &TOLD {
+        let mut out = Narrow::new(rt.alloc(), AMPLE, AMPLE);
+        if run(rt.alloc(), asked, &mut out).is_ok() {
+            assert!(rt; out.taken.as_slice() == text.as_bytes(), "{text}");
+        } else {
+            assert!(rt; out.taken.is_empty());
+        }
+    }
+}
