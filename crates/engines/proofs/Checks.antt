@@ -40,6 +40,9 @@ unread_of way first second here error.File spelled h = absurd h
 unread_of way first second here (error.System e) spelled h = absurd h
 unread_of way first second here (error.Normal e) spelled h = absurd h
 unread_of way first second here (error.Build e) spelled h = absurd h
+unread_of way first second here (error.Game e) spelled h = absurd h
+unread_of way first second here (error.Evidence e) spelled h = absurd h
+unread_of way first second here (error.Table e) spelled h = absurd h
 unread_of way first second here (error.Write e) spelled h = absurd h
 
 -- That a limit is passed is told where both texts are spelled.
@@ -48,6 +51,9 @@ pub beyond_of : (way : Way) (first second : List ℕ) (here : Option (List ℕ))
 beyond_of BySets first second here l f error.Memory spelled h = ((l, spelled.system.spelled), Keeps-refl here)
 beyond_of BySets first second here l f (error.Normal e) spelled h = absurd h
 beyond_of BySets first second here l f (error.Build e) spelled h = absurd h
+beyond_of BySets first second here l f (error.Game e) spelled h = absurd h
+beyond_of BySets first second here l f (error.Evidence e) spelled h = absurd h
+beyond_of BySets first second here l f (error.Table e) spelled h = absurd h
 beyond_of BySets first second here l f (error.Arguments e) spelled h = absurd h
 beyond_of BySets first second here l f error.File spelled h = absurd h
 beyond_of BySets first second here l f error.Read spelled h = absurd h
@@ -57,6 +63,9 @@ beyond_of BySets first second here l f (error.Write e) spelled h = absurd h
 beyond_of ByGame first second here l f error.Memory spelled h = ((l, spelled.system.spelled), Keeps-refl here)
 beyond_of ByGame first second here l f (error.Normal e) spelled h = (record { l = l; f = f; spelled = spelled; beyond = h }, Keeps-refl here)
 beyond_of ByGame first second here l f (error.Build e) spelled h = (record { l = l; f = f; spelled = spelled; beyond = h }, Keeps-refl here)
+beyond_of ByGame first second here l f (error.Game e) spelled h = absurd h
+beyond_of ByGame first second here l f (error.Evidence e) spelled h = absurd h
+beyond_of ByGame first second here l f (error.Table e) spelled h = absurd h
 beyond_of ByGame first second here l f (error.Arguments e) spelled h = absurd h
 beyond_of ByGame first second here l f error.File spelled h = absurd h
 beyond_of ByGame first second here l f error.Read spelled h = absurd h
@@ -69,6 +78,9 @@ pub error_of : (way : Way) (l : System) (f : Formula) (e : MuError) → IsBeyond
 error_of BySets l f error.Memory h = tt
 error_of BySets l f (error.Normal e) h = absurd h
 error_of BySets l f (error.Build e) h = absurd h
+error_of BySets l f (error.Game e) h = absurd h
+error_of BySets l f (error.Evidence e) h = absurd h
+error_of BySets l f (error.Table e) h = absurd h
 error_of BySets l f (error.Arguments e) h = absurd h
 error_of BySets l f error.File h = absurd h
 error_of BySets l f error.Read h = absurd h
