@@ -7,5 +7,6 @@ pub mod error;
 mod lifting;
 mod report;
 pub mod request;
+pub mod solver;
 pub mod status;
 mod texts;
