@@ -43,6 +43,7 @@ unread_of way first second here (error.Build e) spelled h = absurd h
 unread_of way first second here (error.Game e) spelled h = absurd h
 unread_of way first second here (error.Evidence e) spelled h = absurd h
 unread_of way first second here (error.Table e) spelled h = absurd h
+unread_of way first second here (error.Solve e) spelled h = absurd h
 unread_of way first second here (error.Write e) spelled h = absurd h
 
 -- That a limit is passed is told where both texts are spelled.
@@ -54,6 +55,7 @@ beyond_of BySets first second here l f (error.Build e) spelled h = absurd h
 beyond_of BySets first second here l f (error.Game e) spelled h = absurd h
 beyond_of BySets first second here l f (error.Evidence e) spelled h = absurd h
 beyond_of BySets first second here l f (error.Table e) spelled h = absurd h
+beyond_of BySets first second here l f (error.Solve e) spelled h = absurd h
 beyond_of BySets first second here l f (error.Arguments e) spelled h = absurd h
 beyond_of BySets first second here l f error.File spelled h = absurd h
 beyond_of BySets first second here l f error.Read spelled h = absurd h
@@ -66,6 +68,7 @@ beyond_of ByGame first second here l f (error.Build e) spelled h = (record { l =
 beyond_of ByGame first second here l f (error.Game e) spelled h = absurd h
 beyond_of ByGame first second here l f (error.Evidence e) spelled h = absurd h
 beyond_of ByGame first second here l f (error.Table e) spelled h = absurd h
+beyond_of ByGame first second here l f (error.Solve e) spelled h = absurd h
 beyond_of ByGame first second here l f (error.Arguments e) spelled h = absurd h
 beyond_of ByGame first second here l f error.File spelled h = absurd h
 beyond_of ByGame first second here l f error.Read spelled h = absurd h
@@ -81,6 +84,7 @@ error_of BySets l f (error.Build e) h = absurd h
 error_of BySets l f (error.Game e) h = absurd h
 error_of BySets l f (error.Evidence e) h = absurd h
 error_of BySets l f (error.Table e) h = absurd h
+error_of BySets l f (error.Solve e) h = absurd h
 error_of BySets l f (error.Arguments e) h = absurd h
 error_of BySets l f error.File h = absurd h
 error_of BySets l f error.Read h = absurd h

@@ -103,6 +103,7 @@ HasRefused way first second old new (error.Build e) = HasNoGame way first second
 HasRefused way first second old new (error.Game e) = ⊥
 HasRefused way first second old new (error.Evidence e) = ⊥
 HasRefused way first second old new (error.Table e) = ⊥
+HasRefused way first second old new (error.Solve e) = ⊥
 HasRefused way first second old new (error.Write e) = HasBegun way first second old new
 
 abbrev pub Answers : Way → (first second : List ℕ) → (old new : Option (List ℕ)) → Result Bool MuError → Type 0
@@ -119,6 +120,7 @@ IsErrorOf BySets (error.Build e) = ⊥
 IsErrorOf BySets (error.Game e) = ⊥
 IsErrorOf BySets (error.Evidence e) = ⊥
 IsErrorOf BySets (error.Table e) = ⊥
+IsErrorOf BySets (error.Solve e) = ⊥
 IsErrorOf BySets e = Unit {0}
 IsErrorOf ByGame e = Unit {0}
 

@@ -6,3 +6,4 @@ pub mod Lent
 pub mod Status
 pub mod Command
 pub mod Roots
+pub mod Solver

@@ -15,7 +15,7 @@ use Rattle.evidence.specs.declared.error.EvidenceError.TheVariants as evidence
 use Rattle.tables.specs.declared.error.TableError.{TableError}
 use Rattle.tables.specs.declared.error.TableError.TheVariants as table
 use Rattle.engines.specs.declared.error.MuError.{MuError}
-use Rattle.engines.specs.declared.error.MuError.TheVariants.{Arguments, File, Read, Memory, System, Formula, Normal, Build, Game, Evidence, Table, Write}
+use Rattle.engines.specs.declared.error.MuError.TheVariants.{Arguments, File, Read, Memory, System, Formula, Normal, Build, Game, Evidence, Table, Solve, Write}
 
 -- 2 where the text is at fault, 3 where a read or memory failed
 abbrev pub system_status : AutError → ℕ
@@ -63,6 +63,7 @@ error_status (Build error) = build_status error
 error_status (Game error) = game_status error
 error_status (Evidence error) = evidence_status error
 error_status (Table error) = table_status error
+error_status (Solve error) = 3
 error_status (Write error) = 3
 
 -- 0 for yes and 1 for no

@@ -9,6 +9,7 @@ use normal::error::NormalError;
 use pgsolver::error::PgError;
 use tables::error::TableError;
 use thiserror::Error;
+use workers::error::SolveError;
 
 /// What is wrong with a command line, or with what an engine was asked for.
 #[derive(Debug, Drop, Error)]
@@ -69,6 +70,9 @@ pub enum MuError {
     /// The board that workers share.
     #[error("{0}")]
     Table(TableError),
+    /// The workers' table.
+    #[error("{0}")]
+    Solve(SolveError),
     /// A write failed.
     #[error("{0}")]
     Write(WriteFault),

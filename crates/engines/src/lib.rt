@@ -6,5 +6,6 @@ pub mod error;
 mod lifting;
 mod report;
 pub mod request;
+pub mod solver;
 pub mod status;
 pub mod texts;

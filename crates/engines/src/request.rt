@@ -3,15 +3,7 @@
 ghost use Rattle.std.specs.Prelude.{◌≤◌};
 
 use normal::priorities::Priorities;
-
-/// Which board the workers share.
-#[derive(Clone, Copy, PartialEq, Eq)]
-pub enum BoardKind {
-    /// Packed where the ranks fit a word, and else locked.
-    Auto,
-    Locked,
-    Packed,
-}
+pub use workers::team::BoardKind;
 
 /// The rule of priorities, and workers, locked shards and board.
 #[derive(Clone, Copy)]

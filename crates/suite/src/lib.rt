@@ -16,6 +16,8 @@ mod common;
 #[cfg(test)]
 mod evidence_texts;
 #[cfg(test)]
+mod faults;
+#[cfg(test)]
 mod formula_texts;
 #[cfg(test)]
 mod game_texts;

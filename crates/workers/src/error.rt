@@ -26,21 +26,31 @@ impl From<Memory> for SolveError {
 
 /// Why no board was made, or no table solved over it. It is shown as the code of either.
 #[derive(Clone, Copy, Debug, PartialEq, Eq, Error)]
-pub enum LockedError {
+pub enum TeamError {
     #[error("{0}")]
     Board(TableError),
     #[error("{0}")]
     Solve(SolveError),
 }
 
-impl From<TableError> for LockedError {
+impl From<TableError> for TeamError {
+    ghost use Rattle.std.specs.Prelude.{◌≡◌};
+    ghost use Rattle.workers.specs.declared.error.TeamError.TheVariants as errors;
+
+    ghost from_gives = { λ board e. e ≡ errors.Board board };
+
     fn from(error: TableError) -> Self {
-        LockedError::Board(error)
+        TeamError::Board(error)
     }
 }
 
-impl From<SolveError> for LockedError {
+impl From<SolveError> for TeamError {
+    ghost use Rattle.std.specs.Prelude.{◌≡◌};
+    ghost use Rattle.workers.specs.declared.error.TeamError.TheVariants as errors;
+
+    ghost from_gives = { λ solve e. e ≡ errors.Solve solve };
+
     fn from(error: SolveError) -> Self {
-        LockedError::Solve(error)
+        TeamError::Solve(error)
     }
 }

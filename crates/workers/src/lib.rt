@@ -6,4 +6,5 @@ pub mod gate;
 mod jobs;
 pub mod locked;
 pub mod solving;
+pub mod team;
 mod worker;

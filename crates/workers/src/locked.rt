@@ -1,10 +1,11 @@
 // Solving over shards under locks.
 
-ghost use Rattle.std.specs.Prelude.{◌≡◌, ◌<◌, IfOk};
+ghost use Rattle.std.specs.Prelude.{◌≡◌, ◌<◌, IfErr, IfOk};
 ghost use Rattle.std.specs.Arc.{arc_value};
 ghost use Rattle.measures.specs.Progress.{IsLeastTable};
+ghost use Rattle.workers.specs.Team.{IsMemory};
 
-use crate::error::LockedError;
+use crate::error::TeamError;
 use crate::gate::Gate;
 use crate::solving::solve;
 use game::graph::Game;
@@ -29,12 +30,13 @@ fn solve_named<
     shards: u32,
     workers: usize,
     gate: &G,
-) -> Result<Settled, LockedError>
+) -> Result<Settled, TeamError>
     requires named { arc_value game.now ≡ K.game }
     requires shards { 0 < shards }
     requires workers { 0 < workers }
     ensures game { IfOk result (λ s. s.game ≡ arc_value game.now) }
     ensures least { IfOk result (λ s. IsLeastTable (arc_value game.now) s.values) }
+    ensures refused { IfErr result IsMemory }
 {
     let own = Arc::try_clone(game).map_err(TableError::from)?;
     let board = LockedBoard::<K, R>::new(*rt, alloc, own, shards)?;
@@ -52,11 +54,12 @@ pub fn solve_locked<G: Gate + Sync, R: Threads + Wait + Clone + Copy + Drop + Se
     shards: u32,
     workers: usize,
     gate: &G,
-) -> Result<Settled, LockedError>
+) -> Result<Settled, TeamError>
     requires shards { 0 < shards }
     requires workers { 0 < workers }
     ensures game { IfOk result (λ s. s.game ≡ arc_value game.now) }
     ensures least { IfOk result (λ s. IsLeastTable (arc_value game.now) s.values) }
+    ensures refused { IfErr result IsMemory }
 {
     solve_named::<Brand, G, R>(rt, alloc, game, shards, workers, gate)
 }

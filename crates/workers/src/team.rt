@@ -1,0 +1,106 @@
+// Solving over the board that is asked for.
+
+ghost use Rattle.std.specs.Prelude.{◌≡◌, ◌<◌, IfErr, IfOk, MatchResult};
+ghost use Rattle.std.specs.Arc.{arc_value};
+ghost use Rattle.measures.specs.Lifting.{height};
+ghost use Rattle.measures.specs.Progress.{IsLeastTable};
+ghost use Rattle.measures.specs.declared.rank.TheConstants.{RANK_LIMIT};
+ghost use Rattle.workers.specs.Team.{IsMemory, IsRefusal, IsTooGreat};
+
+use crate::error::{SolveError, TeamError};
+use crate::gate::Gate;
+use crate::locked::solve_locked;
+use crate::solving::solve;
+use game::graph::Game;
+use measures::rank::top_rank;
+use measures::settle::solve_one;
+use measures::table::Settled;
+use std::alloc::Global;
+use std::sync::{Arc, Wait};
+use std::thread::Threads;
+use tables::error::TableError;
+use tables::packed::PackedBoard;
+use text::error::Memory;
+
+/// Which board the workers share.
+#[derive(Clone, Copy, Debug, PartialEq, Eq)]
+pub enum BoardKind {
+    /// Packed where the ranks fit a word, and else locked.
+    Auto,
+    /// Shards, each under a lock of its own.
+    Locked,
+    /// One word for each vertex.
+    Packed,
+}
+
+/// How many workers lift, over which board.
+#[derive(Clone, Copy)]
+pub struct Team {
+    pub workers: u32,
+    pub shards: u32,
+    pub board: BoardKind,
+    pub ghost some_workers: { 0 < workers },
+    pub ghost some_shards: { 0 < shards },
+}
+
+/// The least progress table of a game, by a team. One worker alone needs no board, and no thread beside the caller's.
+///
+/// # Errors
+/// T1 where the packed board is asked for and the rank of top doesn't fit a word, and only there. T2 where memory for the board is
+/// refused, and V1 where memory for the table is.
+pub fn solve_by<G: Gate + Sync, R: Threads + Wait + Clone + Copy + Drop + Send + Sync>(
+    rt: &R,
+    alloc: Global,
+    game: &Arc<Game, Global>,
+    team: &Team,
+    gate: &G,
+) -> Result<Settled, TeamError>
+    ensures game { IfOk result (λ s. s.game ≡ arc_value game.now) }
+    ensures least { IfOk result (λ s. IsLeastTable (arc_value game.now) s.values) }
+    ensures refused { MatchResult result (λ s. IsTooGreat team.now.board (arc_value game.now) → ⊥) (IsRefusal team.now.board (arc_value game.now)) }
+{
+    let fits = top_rank(game).is_some();
+    if team.board == BoardKind::Packed && !fits {
+        return Err(TeamError::Board(TableError::TooManyRanks));
+    }
+    if team.workers == 1 {
+        return solve_alone(alloc, game);
+    }
+    let workers = team.workers as usize;
+    if team.board == BoardKind::Locked || !fits {
+        solve_locked(rt, alloc, game, team.shards, workers, gate)
+    } else {
+        solve_packed(rt, alloc, game, workers, gate)
+    }
+}
+
+// The same without a board.
+fn solve_alone(alloc: Global, game: &Game) -> Result<Settled, TeamError>
+    ensures game { IfOk result (λ s. s.game ≡ game.now) }
+    ensures least { IfOk result (λ s. IsLeastTable game.now s.values) }
+    ensures refused { IfErr result IsMemory }
+{
+    match solve_one(alloc, game) {
+        Ok(settled) => Ok(settled),
+        Err(Memory) => Err(TeamError::Solve(SolveError::Memory)),
+    }
+}
+
+// The same over one word for each vertex.
+fn solve_packed<G: Gate + Sync, R: Threads + Wait + Sync>(
+    rt: &R,
+    alloc: Global,
+    game: &Arc<Game, Global>,
+    workers: usize,
+    gate: &G,
+) -> Result<Settled, TeamError>
+    requires few { height (arc_value game.now) < RANK_LIMIT }
+    requires workers { 0 < workers }
+    ensures game { IfOk result (λ s. s.game ≡ arc_value game.now) }
+    ensures least { IfOk result (λ s. IsLeastTable (arc_value game.now) s.values) }
+    ensures refused { IfErr result IsMemory }
+{
+    let own = Arc::try_clone(game).map_err(TableError::from)?;
+    let board = PackedBoard::new(alloc, own, 1)?;
+    Ok(solve(rt, alloc, game, board, workers, gate)?)
+}
