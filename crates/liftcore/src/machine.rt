@@ -1,0 +1,1 @@
+// The machine over events.
