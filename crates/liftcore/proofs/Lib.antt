@@ -9,3 +9,4 @@ pub mod Same
 pub mod Rises
 pub mod Seated
 pub mod Stated
+pub mod Reached

@@ -218,3 +218,13 @@ owed_members p n owed long are =
         | inr i ↦ i ∙ sym e
       ]
     ]
+
+filter_all : (xs : List ℕ) → filter (λ x. true) xs ≡ xs
+filter_all [] = refl
+filter_all (x ∷ xs) = ap (λ ys. x ∷ ys) (filter_all xs)
+
+-- all of so many
+pub all_members : (n : ℕ) → members (replicate n true) ≡ range_with_len 0 n
+all_members n =
+    ap (λ k. filter (λ v. slice_index_or (replicate n true) v false) (range_with_len 0 k)) (length-replicate n true)
+    ∙ (filter_within (λ v. slice_index_or (replicate n true) v false) (λ x. true) 0 n (λ v l h. get_or-replicate n v true false (omega (arith, h))) ∙ filter_all (range_with_len 0 n))

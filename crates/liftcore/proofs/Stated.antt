@@ -1,11 +1,11 @@
 -- The state after an event.
-use Rattle.std.proofs.Common.{◌≡◌, ℕ, zero, suc, ◌+◌, ◌<◌, ◌≤◌, Bool, true, false, cond, List, [], ◌∷◌, length, map, refl, sym, ◌∙◌, ap, ap₂, subst, inl, inr, arith, true≢false, Contains, Some, None, option_map, slice_index_or, slice_set, get_or, if◌then◌else◌}
+use Rattle.std.proofs.Common.{◌≡◌, ℕ, zero, suc, ◌+◌, ◌<◌, ◌≤◌, Bool, true, false, cond, ◌⊎◌, ◌&&◌, List, [], ◌∷◌, ◌++◌, length, map, replicate, take, refl, sym, ◌∙◌, ap, ap₂, subst, inl, inr, arith, true≢false, Contains, Some, None, option_map, slice_index_or, slice_set, get_or, if◌then◌else◌}
 use Rattle.std.specs.Prelude.{◌==◌, slice_get, nat_lt, filter}
-use Rattle.std.specs.List.{AllByRecursion, AllZip, list_any, range_with_len}
+use Rattle.std.specs.List.{AllByRecursion, AllZip, list_all, list_any, range_with_len}
 use Rattle.std.specs.Ordering.{is_lt}
 use Rattle.std.proofs.lemmas.Bool.{cases_Bool, cases_lt, false_from_ne_true, lt-ltb, ltb-true}
 use Rattle.std.proofs.lemmas.List.{get_or_past, length-set}
-use Rattle.std.proofs.lemmas.Option.{get_or_from_slice_get, none-some, same_Some, slice_get-map, slice_get_read, slice_get_within}
+use Rattle.std.proofs.lemmas.Option.{get_or_from_slice_get, none-some, same_Some, slice_get-get_or, slice_get-map, slice_get_read, slice_get_within}
 use Rattle.game.specs.Game.{Game, Vertex, vertex}
 use Rattle.game.specs.NumberSet.{with_number}
 use Rattle.game.specs.Predecessors.{predecessors, successors_at}
@@ -14,19 +14,19 @@ use Rattle.measures.specs.Progress.{IsLift, greater_of, value_at}
 use Rattle.measures.specs.Progs.{IsDemandOf}
 use Rattle.measures.specs.Tables.{Table}
 use Rattle.measures.proofs.Measures.{at_most_itself, not_below}
-use Rattle.liftcore.specs.Core.{Core, Holding, Idle, Note, Owing, Worker, noted, owing, with_note, without}
+use Rattle.liftcore.specs.Core.{Core, Holding, Idle, Note, Owing, Worker, is_empty, is_idle, noted, owing, with_note, without}
 use Rattle.liftcore.specs.Marks.{IsMarked, members}
 use Rattle.liftcore.specs.Reading.{AreRead, successors_of, values_of}
-use Rattle.liftcore.specs.Seats.{HasSeat, IsSeat, core_of, notes_of, worker_of}
+use Rattle.liftcore.specs.Seats.{AreIdle, HasSeat, IsSeat, core_of, notes_of, worker_of}
 use Rattle.liftcore.specs.declared.event.Event.TheVariants.{Push, Raise, Read, Take}
 use Rattle.liftcore.specs.Step.{Pushes, Raises, Reads, Skips, Takes, after_raise, value_in, with_pending, with_value, with_worker}
 use Rattle.liftcore.specs.Work.{AreOwed, CanRaise, CanRead, IsUnread, Owes}
 use Rattle.liftcore.specs.declared.seat.Seat.{Seat}
 use Rattle.liftcore.specs.declared.state.State.{State}
 use Rattle.liftcore.proofs.Marked.{insert_members, marked_member, member_marked, owed_members, remove_members}
-use Rattle.liftcore.proofs.Notes.{holds_same, owing_has, owing_holds}
+use Rattle.liftcore.proofs.Notes.{all_idle, holds_same, owing_has, owing_holds}
 use Rattle.liftcore.proofs.Seated.{here, marked_owes, unread_reads, unread_waits, worker_free, worker_holding, zip_read}
-use Rattle.liftcore.proofs.Sets.{get_back}
+use Rattle.liftcore.proofs.Sets.{and_both, get_back}
 
 -- ---- the workers of seats
 
@@ -72,10 +72,10 @@ stay_is c w u m e = ap (λ b. if b then with_worker (with_value c u m) w (owing 
 rise_is : (c : Core) (w u : ℕ) (m : Measure) → is_lt (measure_cmp (value_in c u) m) ≡ true → after_raise c w u m ≡ with_worker (with_value c u m) w (owing (predecessors c.table.game u))
 rise_is c w u m e = ap (λ b. if b then with_worker (with_value c u m) w (owing (predecessors c.table.game u)) else with_worker c w Idle) e
 
-abbrev table : Game → List Measure → Table
+abbrev pub table : Game → List Measure → Table
 table g vs = record { game = g; values = vs }
 
-abbrev core : Table → List ℕ → List Worker → Core
+abbrev pub core : Table → List ℕ → List Worker → Core
 core t ps ws = record { table = t; pending = ps; workers = ws }
 
 module _ (s : State) (w : ℕ) (x new : Seat) (items : List Seat) (there : slice_get s.seats.items w ≡ Some x) (are : items ≡ slice_set s.seats.items w new) where
@@ -257,3 +257,53 @@ owing_predecessors g v s is h are = worker_free s h ∙ ap owing (owed_members (
 
 pub read_idle : (s : Seat) → s.holding ≡ false → members s.owed ≡ [] → worker_of s ≡ Idle
 read_idle s h e = worker_free s h ∙ ap owing e
+
+-- ---- at the start
+
+last_idle : (seats : List Seat) (n : ℕ) (x : Seat) → map worker_of seats ≡ replicate n Idle → worker_of x ≡ Idle → map worker_of (seats ++ x ∷ []) ≡ replicate (suc n) Idle
+last_idle seats n x e i = more seats ∙ (ap₂ (λ ys y. ys ++ y ∷ []) e i ∙ twice n)
+  where
+    more : (seats : List Seat) → map worker_of (seats ++ x ∷ []) ≡ map worker_of seats ++ worker_of x ∷ []
+    more [] = refl
+    more (y ∷ ys) = ap (λ zs. worker_of y ∷ zs) (more ys)
+
+    twice : (n : ℕ) → replicate n Idle ++ Idle ∷ [] ≡ replicate (suc n) Idle
+    twice zero = refl
+    twice (suc n) = ap (λ zs. Idle ∷ zs) (twice n)
+
+last_there : (seats : List Seat) (x : Seat) (w : ℕ) (y : Seat) → slice_get (seats ++ x ∷ []) w ≡ Some y → (slice_get seats w ≡ Some y) ⊎ (x ≡ y)
+last_there [] x zero y e = inr (same_Some x y e)
+last_there [] x (suc w) y e = absurd (none-some y e)
+last_there (z ∷ zs) x zero y e = inl e
+last_there (z ∷ zs) x (suc w) y e = last_there zs x w y e
+
+pub one_more_idle : (g : Game) (n m : ℕ) (seats items : List Seat) (x : Seat) → AreIdle g n seats → IsSeat g x → worker_of x ≡ Idle → items ≡ seats ++ x ∷ [] → m ≡ suc n → AreIdle g m items
+one_more_idle g n m seats items x are is idle e k = record {
+  each = λ w y at. elim (last_there seats x w y (ap (λ (zs : List Seat). slice_get zs w) (sym e) ∙ at)) [ inl h ↦ are.each w y h | inr q ↦ subst (IsSeat g) q is ];
+  idle = ap (map worker_of) e ∙ (last_idle seats n x are.idle idle ∙ ap (λ (n : ℕ). replicate n Idle) (sym k));
+}
+
+-- ---- whether all is quiet
+
+pub all_idle_more : (seats : List Seat) (i : ℕ) (x : Seat) → i < length seats → slice_index_or seats i x ≡ x → list_all is_idle (map worker_of (take i seats)) ≡ true → worker_of x ≡ Idle
+    → list_all is_idle (map worker_of (take (suc i) seats)) ≡ true
+all_idle_more [] i x h e all idle = absurd (omega arith)
+all_idle_more (y ∷ ys) zero x h e all idle = ap (λ (s : Seat). is_idle (worker_of s) && true) e ∙ ap (λ (k : Worker). is_idle k && true) idle
+all_idle_more (y ∷ ys) (suc i) x h e all idle =
+    let parts = and_both (is_idle (worker_of y)) (list_all is_idle (map worker_of (take i ys))) all in
+    ap (λ b. b && list_all is_idle (map worker_of (take (suc i) ys))) parts.0 ∙ all_idle_more ys i x (omega arith) e parts.1 idle
+
+pub one_busy : (seats : List Seat) (i : ℕ) (x : Seat) → i < length seats → slice_index_or seats i x ≡ x → (worker_of x ≡ Idle → ⊥) → list_all is_idle (map worker_of seats) ≡ true → ⊥
+one_busy seats i x h e busy all = busy (idle_is (worker_of x) (all_idle (map worker_of seats) i (worker_of x) all (worker_there seats i x (slice_get-get_or seats i x h ∙ ap (λ (s : Seat). Some s) e))))
+  where
+    idle_is : (y : Worker) → is_idle y ≡ true → y ≡ Idle
+    idle_is Idle q = refl
+    idle_is (Holding u notes) q = absurd (true≢false (sym q))
+    idle_is (Owing owed) q = absurd (true≢false (sym q))
+
+pub none_pending : (xs : List ℕ) → xs ≡ [] → is_empty xs ≡ true
+none_pending xs e = ap is_empty e
+
+pub pending_none : (xs : List ℕ) → is_empty xs ≡ true → xs ≡ []
+pending_none [] e = refl
+pending_none (x ∷ xs) e = absurd (true≢false (sym e))

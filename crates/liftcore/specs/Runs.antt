@@ -1,6 +1,5 @@
 -- What a run of events leaves.
-use Rattle.std.specs.Prelude.{◌≡◌, ℕ, Bool, true, false, List, count_by, length, not}
-use Rattle.game.specs.Game.{Game}
+use Rattle.std.specs.Prelude.{◌≡◌, ℕ, Bool, true, false, List, count_by, not}
 use Rattle.liftcore.specs.Core.{Core, start}
 use Rattle.liftcore.specs.Step.{Steps}
 use Rattle.liftcore.specs.declared.event.Event.{Event}
@@ -11,7 +10,7 @@ abbrev pub is_done : Outcome → Bool
 is_done Done = true
 is_done Skipped = false
 
--- the events come from one state to the other, and so many of them were done and so many skipped
+-- The events come from one state to the other, and so many of them were done and so many skipped.
 pub record Comes (old : Core) (events : List Event) (done skipped : ℕ) (new : Core) : Type 0 where
   pub dones : List Bool
   pub steps : Steps old events dones new
@@ -19,7 +18,8 @@ pub record Comes (old : Core) (events : List Event) (done skipped : ℕ) (new : 
   pub skipped_is : skipped ≡ count_by (λ d. not d) dones
 
 -- some events come to the state from the start
-pub record IsReached (g : Game) (workers : ℕ) (c : Core) : Type 0 where
+pub record IsReached (c : Core) : Type 0 where
+  pub workers : ℕ
   pub events : List Event
   pub dones : List Bool
-  pub steps : Steps (start g workers) events dones c
+  pub steps : Steps (start c.table.game workers) events dones c

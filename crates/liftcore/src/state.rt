@@ -1,13 +1,14 @@
 // The state of several workers, and the four events.
 
 ghost use Rattle.std.specs.Prelude.{◌≡◌, ◌↔◌, ℕ, IfOk, IsTrue, MatchOption};
-ghost use Rattle.liftcore.specs.Core.{Idle, start};
+ghost use Rattle.liftcore.specs.Core.{Idle, is_quiet as is_quiet_core, start};
 ghost use Rattle.liftcore.specs.Seats.{AreIdle, HasSeat, IsState, core_of, worker_of};
 ghost use Rattle.liftcore.specs.Step.{Step};
 ghost use Rattle.liftcore.specs.Work.{CanRaise, CanRead, IsUnread, Owes};
 ghost use Rattle.liftcore.specs.declared.event.Event.TheVariants as events;
 
 use crate::error::CoreError;
+use crate::event::Event;
 use crate::marks::Marks;
 use crate::seat::Seat;
 use game::graph::Game;
@@ -149,6 +150,35 @@ impl State {
         }
         self.seats[worker].owed.remove(vertex);
         self.pending.insert(vertex);
+        true
+    }
+
+    /// Does an event if it can be done, and tells whether it was.
+    pub(crate) fn step(&mut self, game: &Game, event: Event) -> bool
+        requires { IsState game.now self.old }
+        ensures state { IsState game.now self.new }
+        ensures step { Step (core_of self.old) event result (core_of self.new) }
+    {
+        match event {
+            Event::Take { worker, vertex } => self.take(game, worker, vertex),
+            Event::Read { worker, vertex } => self.read(game, worker, vertex),
+            Event::Raise { worker } => self.raise(game, worker),
+            Event::Push { worker, vertex } => self.push(game, worker, vertex),
+        }
+    }
+
+    /// Whether nothing is pending and every worker is idle.
+    pub(crate) fn is_quiet(&self) -> bool
+        ensures { IsTrue result ↔ IsTrue (is_quiet_core (core_of self.now)) }
+    {
+        if !self.pending.is_empty() {
+            return false;
+        }
+        for seat in &self.seats {
+            if !seat.is_idle() {
+                return false;
+            }
+        }
         true
     }
 }
