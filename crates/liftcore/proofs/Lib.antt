@@ -7,3 +7,6 @@ pub mod Sound
 pub mod Covered
 pub mod Same
 pub mod Rises
+pub mod Seated
+pub mod Stated
+pub mod Reached

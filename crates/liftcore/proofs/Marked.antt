@@ -1,14 +1,15 @@
 -- Marks, and the numbers that are marked.
-use Rattle.std.proofs.Common.{◌≡◌, ◌≢◌, ℕ, zero, suc, ◌+◌, ◌-◌, ◌<◌, ◌≤◌, ◌==◌, ◌&&◌, ◌⊎◌, Bool, true, false, cond, not, if◌then◌else◌, List, [], ◌∷◌, length, filter, count_by, replicate, refl, sym, ◌∙◌, ap, ap₂, subst, inl, inr, arith, true≢false, Contains, slice_index_or, slice_set, get_or, eq-eqb}
+use Rattle.std.proofs.Common.{◌≡◌, ◌≢◌, ℕ, zero, suc, ◌+◌, ◌-◌, ◌<◌, ◌≤◌, ◌==◌, ◌&&◌, ◌||◌, ◌⊎◌, Bool, true, false, cond, not, if◌then◌else◌, List, [], ◌∷◌, ◌++◌, length, take, filter, count_by, replicate, refl, sym, ◌∙◌, ap, ap₂, subst, inl, inr, arith, true≢false, Contains, slice_index, slice_index_or, slice_set, get_or, eq-eqb}
 use Rattle.std.specs.Prelude.{nat_lt}
 use Rattle.std.proofs.lemmas.Bool.{cases_eq, ne_eqb, ltb-true, lt-ltb, cases_lt}
-use Rattle.std.proofs.lemmas.List.{get_or-set_other, get_or-set_same, get_or_past, get_or-replicate, length-set, length-replicate}
-use Rattle.std.specs.List.{range_with_len}
+use Rattle.std.proofs.lemmas.List.{get_or-set_other, get_or-set_same, get_or_past, get_or-replicate, length-set, length-replicate, take_more}
+use Rattle.std.specs.List.{list_any, range_with_len}
 use Rattle.game.specs.NumberSet.{with_number}
 use Rattle.measures.proofs.Lists.{contains_cases, contains_first, contains_later, contains_none, count_no, count_yes}
 use Rattle.liftcore.specs.Core.{without}
 use Rattle.liftcore.specs.Marks.{IsMarked, members}
-use Rattle.liftcore.proofs.Sets.{cases, gives_filter, gives_range, same_eqb}
+use Rattle.liftcore.specs.Work.{AreOwed}
+use Rattle.liftcore.proofs.Sets.{cases, eqb_same, gives_any, gives_filter, gives_range, or_right, same_eqb}
 
 -- ---- filters of ranges
 
@@ -17,6 +18,20 @@ filter_same p q a zero h = refl
 filter_same p q a (suc n) h =
     ap (λ b. cond b (a ∷ filter p (range_with_len (a + 1) n)) (filter p (range_with_len (a + 1) n))) (h a (omega arith))
     ∙ ap (λ xs. cond (q a) (a ∷ xs) xs) (filter_same p q (a + 1) n (λ x l. h x (omega arith)))
+
+filter_within : (p q : ℕ → Bool) (a n : ℕ) → ((x : ℕ) → a ≤ x → x < a + n → p x ≡ q x) → filter p (range_with_len a n) ≡ filter q (range_with_len a n)
+filter_within p q a zero h = refl
+filter_within p q a (suc n) h =
+    ap (λ b. cond b (a ∷ filter p (range_with_len (a + 1) n)) (filter p (range_with_len (a + 1) n))) (h a (omega arith) (omega arith))
+    ∙ ap (λ xs. cond (q a) (a ∷ xs) xs) (filter_within p q (a + 1) n (λ x l k. h x (omega arith) (omega arith)))
+
+-- what a test of a list found is in it
+any_has : (v : ℕ) (xs : List ℕ) → list_any (λ t. t == v) xs ≡ true → Contains xs v
+any_has v [] e = absurd (true≢false (sym e))
+any_has v (x ∷ xs) e = elim (cases (x == v)) [
+  | inl q ↦ subst (λ z. Contains (x ∷ xs) z) (eqb_same x v q) (contains_first x xs)
+  | inr q ↦ contains_later x v xs (any_has v xs (ap (λ b. b || list_any (λ t. t == v) xs) (sym q) ∙ e))
+]
 
 -- what is first goes first
 with_first : (p : ℕ → Bool) (v a n : ℕ) → v < a → with_number v (filter p (range_with_len a n)) ≡ v ∷ filter p (range_with_len a n)
@@ -143,3 +158,73 @@ members_none marks e = elim (some_counted marks) [
   | inl n ↦ n
   | inr w ↦ absurd (contains_none w.0 (subst (λ (xs : List ℕ). Contains xs w.0) e (marked_member marks w.0 w.1)))
 ]
+
+-- none of any number
+pub none_members : (n : ℕ) → members (replicate n false) ≡ []
+none_members n = no_members (replicate n false) (counted n)
+  where
+    counted : (n : ℕ) → count_by (λ b. b) (replicate n false) ≡ 0
+    counted zero = refl
+    counted (suc n) = count_no (λ (b : Bool). b) false (replicate n false) refl ∙ counted n
+
+-- where there are no members nothing is marked
+pub unmarked : (marks : List Bool) (v : ℕ) → members marks ≡ [] → slice_index_or marks v false ≡ false
+unmarked marks v e = none_counted marks v (members_none marks e)
+
+any_last : (p : ℕ → Bool) (xs : List ℕ) (x : ℕ) → list_any p (xs ++ x ∷ []) ≡ (list_any p xs || p x)
+any_last p [] x = or_none (p x)
+  where
+    or_none : (b : Bool) → (b || false) ≡ (false || b)
+    or_none true = refl
+    or_none false = refl
+any_last p (y ∷ ys) x = or_more (p y) (any_last p ys x)
+  where
+    or_more : (b : Bool) → list_any p (ys ++ x ∷ []) ≡ (list_any p ys || p x) → (b || list_any p (ys ++ x ∷ [])) ≡ ((b || list_any p ys) || p x)
+    or_more true e = refl
+    or_more false e = e
+
+-- one more vertex that is owed
+pub owed_more : (ts : List ℕ) (i : ℕ) (owed : List Bool) → i < length ts → slice_index ts i < length owed → AreOwed (take i ts) owed → AreOwed (take (i + 1) ts) (slice_set owed (slice_index ts i) true)
+owed_more ts i owed h l are v = sym (ap (list_any (λ t. t == v)) (take_more ts i 0 h) ∙ any_last (λ t. t == v) (take i ts) (slice_index ts i) ∙ at)
+  where
+    at : (list_any (λ t. t == v) (take i ts) || slice_index ts i == v) ≡ slice_index_or (slice_set owed (slice_index ts i) true) v false
+    at = elim (cases_eq v (slice_index ts i)) [
+      | inl e ↦ (
+          let same = same_eqb (slice_index ts i) v (sym e) in
+          or_right (list_any (λ t. t == v) (take i ts)) (slice_index ts i == v) same
+          ∙ sym (ap (λ k. slice_index_or (slice_set owed (slice_index ts i) true) k false) e ∙ get_or-set_same owed (slice_index ts i) true false l)
+          )
+      | inr e ↦ (
+          let apart = ne_eqb (slice_index ts i) v (λ q. e (sym q)) in
+          ap (λ b. list_any (λ t. t == v) (take i ts) || b) apart ∙ or_nothing (list_any (λ t. t == v) (take i ts)) ∙ sym (are v) ∙ sym (get_or-set_other owed (slice_index ts i) v true false e)
+          )
+    ]
+      where
+        or_nothing : (b : Bool) → (b || false) ≡ b
+        or_nothing true = refl
+        or_nothing false = refl
+
+-- the marks of the predecessors are those of no other
+pub owed_members : (p : ℕ → Bool) (n : ℕ) (owed : List Bool) → length owed ≡ n → AreOwed (filter p (range_with_len 0 n)) owed → members owed ≡ filter p (range_with_len 0 n)
+owed_members p n owed long are =
+    ap (λ n. filter (λ v. slice_index_or owed v false) (range_with_len 0 n)) long
+    ∙ filter_within (λ v. slice_index_or owed v false) p 0 n (λ v l h. are v ∙ at v h)
+  where
+    at : (v : ℕ) → v < 0 + n → list_any (λ t. t == v) (filter p (range_with_len 0 n)) ≡ p v
+    at v h = elim (cases (p v)) [
+      | inl e ↦ gives_any (λ t. t == v) (filter p (range_with_len 0 n)) v (gives_filter p (range_with_len 0 n) v (gives_range 0 n v (omega arith) h) e) (same_eqb v v refl) ∙ sym e
+      | inr e ↦ elim (cases (list_any (λ t. t == v) (filter p (range_with_len 0 n)))) [
+        | inl i ↦ absurd (true≢false (sym (passes p (range_with_len 0 n) v (any_has v (filter p (range_with_len 0 n)) i)) ∙ e))
+        | inr i ↦ i ∙ sym e
+      ]
+    ]
+
+filter_all : (xs : List ℕ) → filter (λ x. true) xs ≡ xs
+filter_all [] = refl
+filter_all (x ∷ xs) = ap (λ ys. x ∷ ys) (filter_all xs)
+
+-- all of so many
+pub all_members : (n : ℕ) → members (replicate n true) ≡ range_with_len 0 n
+all_members n =
+    ap (λ k. filter (λ v. slice_index_or (replicate n true) v false) (range_with_len 0 k)) (length-replicate n true)
+    ∙ (filter_within (λ v. slice_index_or (replicate n true) v false) (λ x. true) 0 n (λ v l h. get_or-replicate n v true false (omega (arith, h))) ∙ filter_all (range_with_len 0 n))

@@ -1,9 +1,13 @@
 // The lifting of several workers, as a machine over events.
 #![tactic(auto)]
 
+pub mod error;
 pub mod event;
 pub mod law;
+pub mod machine;
 pub mod marks;
+mod seat;
+mod state;
 pub mod turn;
 
 pub use search::predecessors::Predecessors;

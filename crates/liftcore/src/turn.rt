@@ -81,6 +81,13 @@ impl Turn {
         })
     }
 
+    /// What holds of every turn.
+    pub fn known(&self)
+        ensures { IsReading self.now }
+    {
+        let _ = &self.marks;
+    }
+
     /// Turns to a vertex, of which nothing is read. It takes no memory.
     pub fn begin(&mut self, game: &Game, vertex: u32)
         requires same { self.old.game ≡ game.now }

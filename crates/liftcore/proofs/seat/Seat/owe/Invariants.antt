@@ -1,0 +1,13 @@
+use Rattle.std.proofs.Common.{◌≡◌, ◌==◌, ◌<◌, ℕ, List, false, length, slice_index_or, take}
+use Rattle.std.specs.List.{AllByRecursion, list_any}
+use Rattle.liftcore.specs.Seats.{IsSeat}
+use Rattle.liftcore.specs.Work.{AreOwed}
+use Rattle.liftcore.proofs.seat.Seat.owe.Given as goal
+
+abbrev pub invariant-loop-v : goal.invariant-loop-v
+invariant-loop-v l = record {
+  seat : IsSeat l.game l.self;
+  holding : l.self.holding ≡ false;
+  owed : AreOwed (take l.v-index l.vertices) l.self.owed;
+  within : AllByRecursion (λ t. t < length l.game.vertices) l.vertices
+}
