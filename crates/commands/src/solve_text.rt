@@ -1,44 +1,80 @@
 // The engine of the command `solve`.
 
-ghost use Rattle.std.specs.Prelude.{ℕ, List};
+ghost use Rattle.std.specs.Prelude.{◌≡◌, ℕ, List, Some};
+ghost use Rattle.workers.specs.declared.team.BoardKind.{BoardKind};
+ghost use Rattle.engines.specs.Solver.{IsFitting};
 ghost use Rattle.commands.specs.Spelled.{IsGameOf};
 ghost use Rattle.commands.specs.Solves.{Answers, Solves};
 
 use crate::winners::{winners, winners_text};
 use engines::error::MuError;
 use engines::request::Options;
+use engines::solver::solve_with;
 use game::graph::Game;
 use lts::put;
+use measures::table::Settled;
 use pgsolver::read_game;
 use std::alloc::Global;
 use std::io::{Read, Write};
+use std::sync::{Arc, Wait};
+use std::thread::Threads;
+use workers::gate::NoGate;
 
-/// Writes who wins each vertex of the game that a text spells, and how many of them Even wins. The answer is true. The options
-/// have no effect yet.
+/// Writes who wins each vertex of the game that a text spells, and how many of them Even wins. The answer is true. The game is
+/// solved by the workers and over the board of the options.
 ///
 /// # Errors
-/// Those of the reader, unchanged; U4 for memory in the engine, W1 where a write failed. Nothing is written before all memory was
-/// taken.
-pub fn solve_text<R: Read + Drop, W: Write>(
+/// Those of the reader, unchanged; T1 where the packed board is asked for and can't be had, and only there; T2, V1 and U4 for
+/// memory; W1 where a write failed. Nothing is written before all memory was taken.
+pub fn solve_text<
+    R: Read + Drop,
+    W: Write,
+    H: Threads + Wait + Clone + Copy + Drop + Send + Sync,
+>(
+    rt: &H,
     alloc: Global,
     game: R,
     options: &Options,
     out: &mut W,
 ) -> Result<bool, MuError>
-    ensures solves { Solves (R.remaining game) (W.contents out.old) (W.contents out.new) result }
+    ensures solves { Solves options.now.board (R.remaining game) (W.contents out.old) (W.contents out.new) result }
 {
-    let _ = options;
     match read_game(alloc, game) {
-        Ok(game) => write_winners(alloc, &game, out),
+        Ok(game) => solve_and_write(rt, alloc, game, options, out),
         Err(error) => Err(MuError::Game(error)),
     }
 }
 
-/// Writes who wins each vertex of the game.
-fn write_winners<W: Write>(alloc: Global, game: &Game, out: &mut W) -> Result<bool, MuError>
-    ensures { (text : List ℕ) → IsGameOf text game.now → Answers text (W.contents out.old) (W.contents out.new) result }
+/// Solves the game, and writes who wins each vertex.
+fn solve_and_write<W: Write, H: Threads + Wait + Clone + Copy + Drop + Send + Sync>(
+    rt: &H,
+    alloc: Global,
+    game: Game,
+    options: &Options,
+    out: &mut W,
+) -> Result<bool, MuError>
+    ensures { (text : List ℕ) → IsGameOf text game → Answers options.now.board text (W.contents out.old) (W.contents out.new) result }
 {
-    let marks = winners(alloc, game)?;
+    let Ok(game) = Arc::new(alloc, game) else {
+        return Err(MuError::Memory);
+    };
+    match solve_with(rt, alloc, &game, options, &NoGate) {
+        Ok(settled) => write_winners(alloc, &game, &settled, out),
+        Err(error) => Err(error),
+    }
+}
+
+/// Writes who wins each vertex of a solved game.
+fn write_winners<W: Write>(
+    alloc: Global,
+    game: &Game,
+    settled: &Settled,
+    out: &mut W,
+) -> Result<bool, MuError>
+    requires { settled.now.game ≡ game.now }
+    ensures { (board : BoardKind) (text : List ℕ) → IsGameOf text game.now → IsFitting (Some board) game.now → Answers board text (W.contents out.old) (W.contents out.new) result }
+{
+    let marks = winners(alloc, game, settled)?;
     let text = winners_text(alloc, &marks)?;
     match put(out, &text) {
         Ok(()) => Ok(true),

@@ -10,32 +10,30 @@ use engines::error::MuError;
 use game::graph::Game;
 use laws::games::{not_both_win, one_wins};
 use lts::{Piece, WriteFault, put_pieces};
-use measures::settle::{even_wins, solve_one};
+use measures::settle::even_wins;
 use measures::table::Settled;
 use std::alloc::{AllocError, Global};
 use std::io::Write;
 
-/// A mark for each vertex, true where Even wins it.
+/// A mark for each vertex of a solved game, true where Even wins it.
 ///
 /// # Errors
-/// U4 for the memory of the solver and of the marks.
-pub(crate) fn winners(alloc: Global, game: &Game) -> Result<Vec<bool>, MuError>
+/// U4.
+pub(crate) fn winners(alloc: Global, game: &Game, settled: &Settled) -> Result<Vec<bool>, MuError>
+    requires { settled.now.game ≡ game.now }
     ensures exact { IfOk result (λ marks. AreWinners game.now marks.items) }
     ensures refusal { IfErr result (λ e. e ≡ MuError.Memory) }
 {
     game.known();
     not_both_win();
     one_wins();
-    let Ok(settled) = solve_one(alloc, game) else {
-        return Err(MuError::Memory);
-    };
-    match marks_of(alloc, game, &settled) {
+    match marks_of(alloc, game, settled) {
         Ok(marks) => Ok(marks),
         Err(AllocError) => Err(MuError::Memory),
     }
 }
 
-/// The same, in a game that is solved.
+/// The same marks, where nothing is said of Odd.
 fn marks_of(alloc: Global, game: &Game, settled: &Settled) -> Result<Vec<bool>, AllocError>
     requires { settled.now.game ≡ game.now }
     ensures { IfOk result (λ marks. Marks (length game.now.vertices) marks.items (Wins game.now)) }
