@@ -57,7 +57,7 @@ const SOLVE_AFTER: &str =
     "The first lines have the number of vertices, and of those that Even wins. The status is 0,\n\
 or 2 where an argument or the game is refused, and 3 where memory, the file, a read or a\n\
 write failed.\n\n\
-Example:\n  mucheck solve examples/game/game.pg";
+Example:\n  mucheck solve examples/two-states/endless-a.pg";
 
 const VERIFY_ABOUT: &str = "Checks evidence that a player wins vertices of a parity game";
 
@@ -66,7 +66,7 @@ const VERIFY_AFTER: &str =
 two are, together they have every vertex of the game, and each has just those that its\n\
 player wins. The status is 0 where they are verified, 1 where they are not, 2 where an\n\
 argument or a text is refused, and 3 where memory, a file, a read or a write failed.\n\n\
-Example:\n  mucheck verify examples/game/game.pg examples/game/even.evidence";
+Example:\n  mucheck verify examples/two-states/endless-a.pg examples/two-states/endless-a.even";
 
 const SYSTEM_HELP: &str = "The system's file, in the Aldebaran format (.aut)";
 
