@@ -1,5 +1,5 @@
 -- What workers noted, and what they owe.
-use Rattle.std.proofs.Common.{◌≡◌, ℕ, zero, suc, ◌⊎◌, Bool, true, false, cond, List, [], ◌∷◌, ◌++◌, length, map, replicate, refl, sym, ◌∙◌, ap, ap₂, subst, inl, inr, true≢false, Contains, Option, Some, None, option_map}
+use Rattle.std.proofs.Common.{◌≡◌, ℕ, zero, suc, ◌⊎◌, Bool, true, false, cond, List, [], ◌∷◌, length, map, replicate, refl, sym, ◌∙◌, ap, ap₂, subst, inl, inr, true≢false, Contains, Option, Some, None, option_map}
 use Rattle.std.specs.Prelude.{slice_get, unwrap_or, find, nat_lt, if◌then◌else◌, ◌==◌}
 use Rattle.std.specs.List.{AllZip, list_all, list_any, range_with_len}
 use Rattle.std.proofs.Common.{arith}

@@ -1,9 +1,9 @@
 -- What is reached from the start, an event after another.
-use Rattle.std.proofs.Common.{◌≡◌, ℕ, zero, suc, ◌+◌, ◌∙◌, Bool, true, false, List, [], ◌∷◌, ◌++◌, ap, ap₂, arith, refl, subst, sym, count_by, inl, inr, not}
+use Rattle.std.proofs.Common.{◌≡◌, ℕ, ◌+◌, Bool, true, false, List, [], ◌∷◌, ◌++◌, arith, refl, subst, sym, count_by, inl, inr, not}
 use Rattle.std.specs.Prelude.{IsTrue}
 use Rattle.game.specs.Game.{Game, IsGame}
 use Rattle.measures.specs.Progress.{IsProgress}
-use Rattle.measures.specs.Tables.{IsPlain, IsSettled}
+use Rattle.measures.specs.Tables.{IsSettled}
 use Rattle.liftcore.specs.Core.{Core, is_quiet, start}
 use Rattle.liftcore.specs.Runs.{Comes, IsReached}
 use Rattle.liftcore.specs.Step.{Step, Steps}

@@ -1,10 +1,8 @@
 -- Few events raise the table.
-use Rattle.std.proofs.Common.{◌≡◌, ◌≢◌, ◌↔◌, ℕ, ◌+◌, ◌*◌, ◌<◌, ◌≤◌, Bool, true, false, List, [], ◌∷◌, length, count_by, refl, sym, ◌∙◌, ap, subst, arith, IsTrue}
+use Rattle.std.proofs.Common.{◌≡◌, ◌≢◌, ◌↔◌, ℕ, ◌+◌, ◌*◌, ◌≤◌, Bool, true, false, List, [], ◌∷◌, length, count_by, refl, sym, ◌∙◌, ap, subst, arith, IsTrue}
 use Rattle.game.specs.Game.{Game, IsGame}
 use Rattle.measures.specs.Lifting.{height, sum_of}
-use Rattle.measures.specs.Measure.{Measure}
 use Rattle.measures.specs.Progress.{IsTable}
-use Rattle.measures.specs.Tables.{IsPlain}
 use Rattle.measures.proofs.Lifting.{sum_above, sum_least}
 use Rattle.measures.proofs.Lists.{count_no, count_yes}
 use Rattle.measures.proofs.Settling.{plain_table, sum_limit}

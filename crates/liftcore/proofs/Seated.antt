@@ -1,12 +1,12 @@
 -- What a worker noted, as its turn has it.
-use Rattle.std.proofs.Common.{◌≡◌, ◌≢◌, ℕ, zero, suc, ◌+◌, ◌<◌, ◌≤◌, ◌⊎◌, Bool, true, false, cond, List, [], ◌∷◌, length, take, refl, sym, ◌∙◌, ap, ap₂, subst, inl, inr, arith, true≢false, Contains, Option, Some, None, option_map, slice_index, slice_index_or, slice_set}
-use Rattle.std.specs.Prelude.{find, if◌then◌else◌, nat_lt, slice_get, ◌==◌, MatchOption, MatchResult, Result, Ok, Err}
+use Rattle.std.proofs.Common.{◌≡◌, ℕ, zero, suc, ◌<◌, ◌≤◌, Bool, true, false, List, [], ◌∷◌, length, take, refl, sym, ◌∙◌, ap, subst, inl, inr, arith, true≢false, Contains, Option, Some, None, option_map, slice_index, slice_index_or, slice_set}
+use Rattle.std.specs.Prelude.{if◌then◌else◌, MatchOption, MatchResult, Result, Ok, Err}
 use Rattle.std.specs.List.{AllZip}
 use Rattle.std.specs.List.Sorted.{IsBinarySearchResult}
 use Rattle.std.specs.Ordering.{nat_cmp}
 use Rattle.std.specs.Result.{result_ok}
 use Rattle.std.proofs.lemmas.Bool.{cases_Bool, cases_lt, le-ltb, lt-ltb, ne_eqb}
-use Rattle.std.proofs.lemmas.Option.{none-some, same_Some}
+use Rattle.std.proofs.lemmas.Option.{none-some}
 use Rattle.std.proofs.lemmas.List.Sorted.{searched}
 use Rattle.game.specs.Game.{Game, IsAscending, IsGame, IsVertex, Vertex, vertex}
 use Rattle.game.specs.Predecessors.{successors_at}
@@ -18,7 +18,7 @@ use Rattle.liftcore.specs.Reading.{AreRead, IsReadAt, successors_of, values_of}
 use Rattle.liftcore.specs.Seats.{IsSeat, notes_from, notes_of, worker_of}
 use Rattle.liftcore.specs.Work.{CanRaise, CanRead, IsUnread, Owes}
 use Rattle.liftcore.specs.declared.seat.Seat.{Seat}
-use Rattle.liftcore.proofs.Notes.{holds_owes, holds_same, idle_owes, owes_same, owing_has, owing_holds}
+use Rattle.liftcore.proofs.Notes.{holds_owes, holds_same, idle_owes, owes_same, owing_has}
 use Rattle.liftcore.proofs.Marked.{marked_member, member_marked}
 use Rattle.measures.proofs.Bests.{vertex_here}
 use Rattle.search.proofs.Placing.{successors_of as successors_are}

@@ -1,13 +1,12 @@
 -- The state after an event.
-use Rattle.std.proofs.Common.{◌≡◌, ℕ, zero, suc, ◌+◌, ◌<◌, ◌≤◌, Bool, true, false, cond, ◌⊎◌, ◌&&◌, List, [], ◌∷◌, ◌++◌, length, map, replicate, take, refl, sym, ◌∙◌, ap, ap₂, subst, inl, inr, arith, true≢false, Contains, Some, None, option_map, slice_index_or, slice_set, get_or, if◌then◌else◌}
+use Rattle.std.proofs.Common.{◌≡◌, ℕ, zero, suc, ◌+◌, ◌<◌, ◌≤◌, Bool, true, false, cond, ◌⊎◌, ◌&&◌, List, [], ◌∷◌, ◌++◌, length, map, replicate, take, refl, sym, ◌∙◌, ap, ap₂, subst, inl, inr, arith, true≢false, Some, option_map, slice_index_or, slice_set, get_or, if◌then◌else◌}
 use Rattle.std.specs.Prelude.{◌==◌, slice_get, nat_lt, filter}
 use Rattle.std.specs.List.{AllByRecursion, AllZip, list_all, list_any, range_with_len}
 use Rattle.std.specs.Ordering.{is_lt}
 use Rattle.std.proofs.lemmas.Bool.{cases_Bool, cases_lt, false_from_ne_true, lt-ltb, ltb-true}
 use Rattle.std.proofs.lemmas.List.{get_or_past, length-set}
 use Rattle.std.proofs.lemmas.Option.{get_or_from_slice_get, none-some, same_Some, slice_get-get_or, slice_get-map, slice_get_read, slice_get_within}
-use Rattle.game.specs.Game.{Game, Vertex, vertex}
-use Rattle.game.specs.NumberSet.{with_number}
+use Rattle.game.specs.Game.{Game, vertex}
 use Rattle.game.specs.Predecessors.{predecessors, successors_at}
 use Rattle.measures.specs.Measure.{Measure, measure_cmp}
 use Rattle.measures.specs.Progress.{IsLift, greater_of, value_at}
@@ -19,7 +18,7 @@ use Rattle.liftcore.specs.Marks.{IsMarked, members}
 use Rattle.liftcore.specs.Reading.{AreRead, successors_of, values_of}
 use Rattle.liftcore.specs.Seats.{AreIdle, HasSeat, IsSeat, core_of, notes_of, worker_of}
 use Rattle.liftcore.specs.declared.event.Event.TheVariants.{Push, Raise, Read, Take}
-use Rattle.liftcore.specs.Step.{Pushes, Raises, Reads, Skips, Takes, after_raise, value_in, with_pending, with_value, with_worker}
+use Rattle.liftcore.specs.Step.{Pushes, Raises, Reads, Skips, Takes, after_raise, value_in, with_value, with_worker}
 use Rattle.liftcore.specs.Work.{AreOwed, CanRaise, CanRead, IsUnread, Owes}
 use Rattle.liftcore.specs.declared.seat.Seat.{Seat}
 use Rattle.liftcore.specs.declared.state.State.{State}

@@ -1,5 +1,5 @@
 -- The state of several workers that lift one table.
-use Rattle.std.specs.Prelude.{ℕ, Bool, true, false, ◌&&◌, List, [], ◌∷◌, length, filter, find, not, replicate, Option, Some, None, option_map, ◌==◌, nat_lt, if◌then◌else◌}
+use Rattle.std.specs.Prelude.{ℕ, Bool, true, false, ◌&&◌, List, [], ◌∷◌, length, filter, find, not, replicate, Option, option_map, ◌==◌, nat_lt, if◌then◌else◌}
 use Rattle.std.specs.List.{list_all, range_with_len}
 use Rattle.game.specs.Game.{Game}
 use Rattle.measures.specs.Measure.{Measure}

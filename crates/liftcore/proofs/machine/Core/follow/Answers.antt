@@ -1,4 +1,4 @@
-use Rattle.std.proofs.Common.{◌≡◌, ◌+◌, List, arith, get_or, take}
+use Rattle.std.proofs.Common.{◌+◌, List, arith, get_or, take}
 use Rattle.std.proofs.lemmas.List.{take_more}
 use Rattle.liftcore.specs.declared.event.Event.{Event}
 use Rattle.liftcore.specs.declared.event.Event.TheVariants.{Take}

@@ -1,4 +1,4 @@
-use Rattle.std.proofs.Common.{◌≡◌, subst, sym, List, ℕ, Contains}
+use Rattle.std.proofs.Common.{subst, sym, Contains}
 use Rattle.liftcore.specs.Core.{Core}
 use Rattle.liftcore.proofs.Marked.{marked_member, member_marked}
 use Rattle.liftcore.proofs.machine.Core.is_pending.Goals as goal

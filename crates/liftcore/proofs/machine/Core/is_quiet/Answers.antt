@@ -1,6 +1,5 @@
-use Rattle.std.proofs.Common.{◌≡◌, subst, sym}
-use Rattle.std.specs.Prelude.{IsTrue}
-use Rattle.game.specs.Game.{Game, IsGame}
+use Rattle.std.proofs.Common.{subst, sym}
+use Rattle.game.specs.Game.{IsGame}
 use Rattle.measures.specs.Tables.{IsSettled}
 use Rattle.liftcore.specs.Core.{Core}
 use Rattle.liftcore.specs.Seats.{core_of}

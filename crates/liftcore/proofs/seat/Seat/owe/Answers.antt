@@ -1,4 +1,4 @@
-use Rattle.liftcore.proofs.Marked.{owed_more, unmarked}
+use Rattle.liftcore.proofs.Marked.{unmarked}
 use Rattle.liftcore.proofs.seat.Seat.owe.Goals as goal
 
 pub loop-v-init : goal.loop-v-init

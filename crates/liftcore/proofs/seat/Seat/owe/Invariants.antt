@@ -1,5 +1,5 @@
-use Rattle.std.proofs.Common.{◌≡◌, ◌==◌, ◌<◌, ℕ, List, false, length, slice_index_or, take}
-use Rattle.std.specs.List.{AllByRecursion, list_any}
+use Rattle.std.proofs.Common.{◌≡◌, ◌<◌, false, length, take}
+use Rattle.std.specs.List.{AllByRecursion}
 use Rattle.liftcore.specs.Seats.{IsSeat}
 use Rattle.liftcore.specs.Work.{AreOwed}
 use Rattle.liftcore.proofs.seat.Seat.owe.Given as goal
@@ -9,5 +9,5 @@ invariant-loop-v l = record {
   seat : IsSeat l.game l.self;
   holding : l.self.holding ≡ false;
   owed : AreOwed (take l.v-index l.vertices) l.self.owed;
-  within : AllByRecursion (λ t. t < length l.game.vertices) l.vertices
+  within : AllByRecursion (λ t. t < length l.game.vertices) l.vertices;
 }

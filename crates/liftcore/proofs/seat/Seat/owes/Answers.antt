@@ -1,4 +1,3 @@
-use Rattle.std.proofs.Common.{◌∙◌, true≢false, sym}
 use Rattle.liftcore.proofs.Seated.{marked_owes, owes_marked}
 use Rattle.liftcore.proofs.seat.Seat.owes.Goals as goal
 

@@ -1,4 +1,4 @@
-use Rattle.std.proofs.Common.{ap, ap₂, ◌≡◌}
+use Rattle.std.proofs.Common.{ap₂}
 use Rattle.liftcore.specs.Core.{Holding}
 use Rattle.liftcore.specs.Reading.{successors_of}
 use Rattle.liftcore.proofs.Seated.{nothing_noted}

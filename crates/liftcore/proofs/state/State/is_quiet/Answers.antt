@@ -9,9 +9,10 @@ use Rattle.liftcore.proofs.Stated.{one_busy}
 use Rattle.liftcore.proofs.state.State.is_quiet.Goals as goal
 
 pub returns-then-not-is_idle : goal.returns-then-not-is_idle
-returns-then-not-is_idle c =
-    (λ t. absurd (true≢false (sym t)),
-    λ q. absurd (one_busy c.deref-seat-items.result.now c.loop-seat.seat-index c.seat-item.result c.loop-seat-test.true (sym c.seat-item.is)
-    (λ e. true≢false (sym (c.is_idle.ensures.1 e) ∙ c.if-not-is_idle.true))
-    (ap (λ (xs : List Seat). list_all is_idle (map worker_of xs)) c.deref-seat-items.ensures.value
-    ∙ (and_both (is_empty (members c.args.self.now.pending)) (list_all is_idle (map worker_of c.args.self.now.seats.items)) q).1)))
+returns-then-not-is_idle c = (
+  λ t. absurd (true≢false (sym t)),
+  λ q. absurd (one_busy c.deref-seat-items.result.now c.loop-seat.seat-index c.seat-item.result c.loop-seat-test.true (sym c.seat-item.is)
+      (λ e. true≢false (sym (c.is_idle.ensures.1 e) ∙ c.if-not-is_idle.true))
+      (ap (λ (xs : List Seat). list_all is_idle (map worker_of xs)) c.deref-seat-items.ensures.value
+      ∙ (and_both (is_empty (members c.args.self.now.pending)) (list_all is_idle (map worker_of c.args.self.now.seats.items)) q).1)),
+)

@@ -1,5 +1,4 @@
-use Rattle.std.proofs.Common.{◌≡◌, ◌<◌, ◌∙◌, ap, refl, length, Bool, List, true, slice_set, false, true≢false, sym, subst, ℕ, arith}
-use Rattle.std.proofs.lemmas.Bool.{false_from_ne_true}
+use Rattle.std.proofs.Common.{◌<◌, ◌∙◌, ap, refl, length, Bool, List, true, slice_set, true≢false, sym, subst, ℕ, arith}
 use Rattle.std.proofs.lemmas.List.{length-set}
 use Rattle.std.proofs.lemmas.Option.{slice_get_within}
 use Rattle.liftcore.specs.Seats.{HasSeat, worker_of}

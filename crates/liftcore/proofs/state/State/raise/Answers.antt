@@ -1,4 +1,4 @@
-use Rattle.std.proofs.Common.{◌≡◌, ◌<◌, ◌∙◌, ℕ, ap, arith, refl, length, Bool, List, slice_set, subst, sym, true, false, true≢false}
+use Rattle.std.proofs.Common.{◌≡◌, ◌<◌, ◌∙◌, ℕ, ap, arith, refl, length, List, slice_set, subst, sym, false, true≢false}
 use Rattle.std.specs.List.{AllByRecursion}
 use Rattle.std.specs.Ordering.{is_lt}
 use Rattle.std.proofs.lemmas.Bool.{false_from_ne_true}
@@ -7,7 +7,7 @@ use Rattle.game.specs.Game.{Game}
 use Rattle.game.specs.Predecessors.{predecessors}
 use Rattle.measures.specs.Measure.{Measure, measure_cmp}
 use Rattle.measures.specs.Progress.{greater_of, value_at}
-use Rattle.liftcore.specs.Seats.{HasSeat, IsSeat, worker_of}
+use Rattle.liftcore.specs.Seats.{HasSeat, worker_of}
 use Rattle.liftcore.specs.Work.{AreOwed, CanRaise}
 use Rattle.liftcore.specs.declared.seat.Seat.{Seat}
 use Rattle.liftcore.proofs.Stated.{at_index, owing_predecessors, predecessors_within, raises_whole, read_idle, release_keeps, rise_step, seats_kept, skip_raise, stay_step}

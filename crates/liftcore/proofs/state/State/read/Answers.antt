@@ -1,6 +1,6 @@
-use Rattle.std.proofs.Common.{◌≡◌, ◌∙◌, ap, refl, length, Bool, List, slice_set, subst, sym}
+use Rattle.std.proofs.Common.{◌∙◌, ap, refl, slice_set}
 use Rattle.liftcore.specs.Core.{Holding, with_note}
-use Rattle.liftcore.specs.Seats.{notes_of, worker_of}
+use Rattle.liftcore.specs.Seats.{notes_of}
 use Rattle.liftcore.specs.Work.{IsUnread}
 use Rattle.measures.specs.Measure.{Measure}
 use Rattle.liftcore.proofs.Stated.{at_index, read_step, seats_kept, skip_read}

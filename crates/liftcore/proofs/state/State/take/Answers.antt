@@ -1,4 +1,4 @@
-use Rattle.std.proofs.Common.{◌≡◌, ◌∙◌, ap, refl, length, Bool, List, true, slice_set, false, sym, true≢false}
+use Rattle.std.proofs.Common.{◌≡◌, ◌∙◌, ap, refl, length, Bool, List, slice_set, false, sym, true≢false}
 use Rattle.std.proofs.lemmas.List.{length-set}
 use Rattle.liftcore.specs.Core.{Idle}
 use Rattle.liftcore.specs.Seats.{worker_of}
