@@ -7,3 +7,4 @@ pub mod locked;
 pub mod packed;
 mod packed_board;
 pub mod shard;
+mod weights;

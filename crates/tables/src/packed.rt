@@ -6,17 +6,18 @@ ghost use Rattle.std.specs.Mem.Slots.{IsFull, slots_items, slots_len};
 ghost use Rattle.measures.specs.Lifting.{better_of, height, of_rank as measure_of_rank, sum_of, worst_of};
 ghost use Rattle.measures.specs.Measure.{IsAtMost};
 ghost use Rattle.measures.specs.Progress.{IsLeastTable, IsOverLift, LiesUnder, greater_of, opening as opening_of, value_at};
-ghost use Rattle.measures.specs.Progs.{IsProgAt};
 ghost use Rattle.measures.specs.Tables.{LiesBelow};
 ghost use Rattle.measures.specs.declared.rank.TheConstants.{RANK_LIMIT};
 ghost use Rattle.tables.specs.Packed.{IsOpeningRank, IsWord};
+ghost use Rattle.tables.specs.Weights.{AreWeights};
 
 use crate::error::TableError;
+use crate::weights::{prog_rank, weights};
+use arrayvec::ArrayVec;
 use atomic_table::{Closed, Play, Seat, Table, TableRule};
 use game::graph::Game;
 use game::player::Player;
 use measures::measure::Measure;
-use measures::progs::prog;
 use measures::rank::{of_rank, rank, top_rank};
 use measures::table::{PlainTable, opening, turns_odd};
 use std::alloc::{AllocError, Global};
@@ -73,9 +74,11 @@ impl Play<(), View> for Enters {
 pub struct PackedBoard {
     game: Arc<Game, Global>,
     top: u64,
+    weights: ArrayVec<u64, 17>,
     table: Table<(), View, Game, Law, Global>,
     ghost topped: { top ≡ height (arc_value game) },
     ghost few: { top < RANK_LIMIT },
+    ghost weighed: { AreWeights (arc_value game) weights.items },
     ghost keyed: { table.shared.key ≡ arc_value game },
     ghost sized: { table.shared.table_id.words ≡ length (arc_value game).vertices },
     ghost slotless: { table.shared.table_id.slots ≡ 0 },
@@ -130,18 +133,6 @@ fn better_rank(player: Player, first: u64, second: u64) -> u64
     }
 }
 
-// What a vertex asks for where its play goes on at a measure of this rank, as a rank.
-fn prog_rank(game: &Game, v: u32, number: u64) -> u64
-    requires few { height game.now < RANK_LIMIT }
-    requires vertex { v < length game.now.vertices }
-    requires number { number ≤ height game.now }
-    ensures low { result ≤ height game.now }
-    ensures prog { IsProgAt game.now v (measure_of_rank game.now number) (measure_of_rank game.now result) }
-{
-    let risen = prog(game, v, &of_rank(game, number));
-    rank(game, &risen)
-}
-
 impl PackedBoard {
     ghost use Rattle.tables.specs.Seats.{IsSeatOf, board_game, seen};
     ghost use Rattle.tables.specs.declared.error.TableError.TheVariants as errors;
@@ -161,11 +152,17 @@ impl PackedBoard {
         let Some(top) = top_rank(&game) else {
             return Err(TableError::TooManyRanks);
         };
+        let weights = weights(&game);
         let Ok(ranks) = opening_ranks(alloc, &game, top) else {
             return Err(TableError::Memory);
         };
         match Table::of_words(alloc, &ranks, &*game) {
-            Ok((table, _seat)) => Ok(PackedBoard { game, top, table }),
+            Ok((table, _seat)) => Ok(PackedBoard {
+                game,
+                top,
+                weights,
+                table,
+            }),
             Err(_) => Err(TableError::Memory),
         }
     }
@@ -220,11 +217,13 @@ impl PackedBoard {
     {
         let game: &Game = &self.game;
         game.known();
+        let weights = self.weights.as_slice();
         let owner = game.owner(v);
         let mut best = worst_rank(owner, self.top);
         for t in game.successors(v) {
             let number = self.look_at(seat, *t);
-            best = better_rank(owner, best, prog_rank(game, v, number));
+            let asked = prog_rank(game, weights, self.top, v, number);
+            best = better_rank(owner, best, asked);
         }
         best
     }
@@ -332,8 +331,8 @@ impl PackedBoard {
         };
         let PackedBoard {
             game,
-            top: _,
             table: words,
+            ..
         } = self;
         let PackedSeat { seat } = seat;
         pour(words.close_with(seat), &game, &mut table);
@@ -349,8 +348,8 @@ impl PackedBoard {
     {
         let PackedBoard {
             game,
-            top: _,
             table: words,
+            ..
         } = self;
         pour(words.close(), &game, table);
     }

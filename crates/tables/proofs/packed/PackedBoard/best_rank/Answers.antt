@@ -11,6 +11,7 @@ use Rattle.measures.proofs.Gathering.{IsGathered, gathered_below, gathered_next,
 use Rattle.measures.proofs.Measures.{at_most_trans}
 use Rattle.measures.proofs.Rising.{set_under, under_itself, under_trans}
 use Rattle.tables.specs.Seats.{board_game, seen}
+use Rattle.tables.specs.Weights.{AreWeights}
 use Rattle.tables.proofs.packed.PackedBoard.best_rank.Goals as goal
 
 pub loop-t-init : goal.loop-t-init
@@ -46,6 +47,11 @@ look_at-number-requires-clause-vertex c =
     let inside = (its_successors g c.requires.seat.plain.game c.args.v c.requires.vertex ts (successors_told c.deref-game.result.now g c.deref-game.ensures c.args.v ts c.successors-t-items.ensures)).0 in
     All-from_recursion (λ t. t < length g.vertices) ts inside c.loop-t.t-index 0 c.loop-t-test.true
 
+pub prog_rank-asked-requires-clause-weights : goal.prog_rank-asked-requires-clause-weights
+prog_rank-asked-requires-clause-weights c =
+    subst (AreWeights c.deref-game.result.now) (sym c.as_slice-weights.ensures.value)
+    (subst (λ (k : Game). AreWeights k c.args.self.now.weights.items) (sym c.deref-game.ensures) c.args.self.now.weighed)
+
 pub loop-t-preserved : goal.loop-t-preserved
 loop-t-preserved c =
     let h = c.deref-game.result.now in
@@ -64,15 +70,15 @@ loop-t-preserved c =
     let there : t < length was = let long = inv.seat.plain.long in omega (arith, low, long) in
     let rose : LiesUnder was (seen c.look_at-number.new.seat) = subst (λ (table : List Measure). LiesUnder was table) (sym look.seen) (set_under was t m there look.later) in
     let later : IsAtMost (value_at first t) m = at_most_trans (value_at first t) (value_at was t) m (inv.kept t) look.later in
-    let small : c.prog_rank.result ≤ height g = subst (λ (k : Game). c.prog_rank.result ≤ height k) c.deref-game.ensures c.prog_rank.ensures.low in
+    let small : c.prog_rank-asked.result ≤ height g = subst (λ (k : Game). c.prog_rank-asked.result ≤ height k) c.deref-game.ensures c.prog_rank-asked.ensures.low in
     let one : suc i ≡ i + 1 = omega arith in record {
       seat = look.seat;
       kept = under_trans first was (seen c.look_at-number.new.seat) inv.kept rose;
       gathered = λ x at.
           subst (λ (k : ℕ). IsGathered c.owner-owner.result g x.priority ts k first c.better_rank-best.result) one
           (subst (IsGathered c.owner-owner.result g x.priority ts (suc i) first) (sym c.better_rank-best.ensures)
-          (gathered_next g x.priority ts i first c.loop-t.best c.prog_rank.result m look.word.below.under later small
-          (prog_told h g c.deref-game.ensures v x at c.look_at-number.result c.prog_rank.result c.prog_rank.ensures.prog) c.owner-owner.result (inv.gathered x at)));
+          (gathered_next g x.priority ts i first c.loop-t.best c.prog_rank-asked.result m look.word.below.under later small
+          (prog_told h g c.deref-game.ensures v x at c.look_at-number.result c.prog_rank-asked.result c.prog_rank-asked.ensures.prog) c.owner-owner.result (inv.gathered x at)));
     }
 
 pub returns-clause-low : goal.returns-clause-low
