@@ -82,6 +82,13 @@ const PLAIN_HELP: &str = "Evaluate the formula over sets of states, without a ga
 
 const RULES_HELP: &str = "The rule by which fixpoints get their priorities: nested is the default";
 
+const WORKERS_HELP: &str = "How many workers lift at once: 1 is the default";
+
+const SHARDS_HELP: &str = "How many locks the locked board has: 16 is the default";
+
+const BOARD_HELP: &str =
+    "What the workers share: shards under locks, or a word for each vertex, or that where it fits";
+
 /// All commands.
 pub(crate) fn parser<'a>(alloc: Global) -> Result<Parser<'a>, AllocError> {
     let check = check_parser(alloc)?;
@@ -161,33 +168,34 @@ fn rule<'a>(alloc: Global) -> Arg<'a> {
         .help(RULES_HELP)
 }
 
-/// Workers, shards and board have no effect on what is served today, so the help leaves them out, and a check takes them with
-/// `--plain` alone.
+/// Workers, shards and board. A check takes them with `--plain` alone, where they have no effect, and its help leaves them out.
 fn with_workers<'a>(
     alloc: Global,
     parser: Parser<'a>,
     is_check: bool,
 ) -> Result<Parser<'a>, AllocError> {
     let workers = clap::value_parser!(u32).range(1..=64);
-    let workers = hidden(alloc, WORKERS, "1 to 64", is_check)?.value_parser(workers);
-    let parser = parser.arg(workers)?;
+    let arg = lifter(alloc, WORKERS, "1 to 64", WORKERS_HELP, is_check)?;
+    let parser = parser.arg(arg.value_parser(workers))?;
     let shards = clap::value_parser!(u32).range(1..=256);
-    let shards = hidden(alloc, SHARDS, "1 to 256", is_check)?.value_parser(shards);
-    let parser = parser.arg(shards)?;
+    let arg = lifter(alloc, SHARDS, "1 to 256", SHARDS_HELP, is_check)?;
+    let parser = parser.arg(arg.value_parser(shards))?;
     let boards = ValueParser::from(BOARDS.as_slice());
-    parser.arg(hidden(alloc, BOARD, "kind", is_check)?.value_parser(boards))
+    let arg = lifter(alloc, BOARD, "KIND", BOARD_HELP, is_check)?;
+    parser.arg(arg.value_parser(boards))
 }
 
-/// An option that has a value and is hidden from the help. It may go with `--plain` alone.
-fn hidden<'a>(
+/// An option of how a game is solved.
+fn lifter<'a>(
     alloc: Global,
     name: &'a str,
     value: &'a str,
-    is_plain: bool,
+    help: &'a str,
+    is_check: bool,
 ) -> Result<Arg<'a>, AllocError> {
-    let arg = valued(alloc, name, value).hide(true);
-    if is_plain {
-        arg.requires_arg(PLAIN)
+    let arg = valued(alloc, name, value).help(help);
+    if is_check {
+        arg.hide(true).requires_arg(PLAIN)
     } else {
         Ok(arg)
     }

@@ -26,11 +26,7 @@ use workers::gate::NoGate;
 /// # Errors
 /// Those of the reader, unchanged; T1 where the packed board is asked for and can't be had, and only there; T2, V1 and U4 for
 /// memory; W1 where a write failed. Nothing is written before all memory was taken.
-pub fn solve_text<
-    R: Read + Drop,
-    W: Write,
-    H: Threads + Wait + Clone + Copy + Drop + Send + Sync,
->(
+pub fn solve_text<R: Read + Drop, W: Write, H: Threads + Wait + Clone + Copy + Drop + Send + Sync>(
     rt: &H,
     alloc: Global,
     game: R,

@@ -63,7 +63,8 @@ fn run_normal(rt: &HostRuntime, request: &Normal<'_>) -> Result<bool, MuError> {
 
 fn run_solve(rt: &HostRuntime, request: &Solve<'_>) -> Result<bool, MuError> {
     let game = open(rt, request.game)?;
-    solve_text(rt.alloc(), game, &request.options, &mut io::writer(rt))
+    let options = &request.options;
+    solve_text(rt, rt.alloc(), game, options, &mut io::writer(rt))
 }
 
 /// All files are opened, in the order of the command line, before the first is read.

@@ -12,6 +12,9 @@ use normal::priorities::Priorities;
 use std::alloc::{AllocError, Global};
 use std::io::Write;
 use std::process::Abort;
+use std::sync::Wait;
+use std::test::Fail;
+use std::thread::Threads;
 
 const OPTIONS: Options = Options {
     priorities: Priorities::Nested,
@@ -46,10 +49,16 @@ enum Asked<'a> {
     Both(&'a str, &'a str, &'a str),
 }
 
-fn run<W: Write>(alloc: Global, asked: &Asked<'_>, out: &mut W) -> Result<bool, MuError> {
+fn run<W: Write, H: Threads + Wait + AllocGlobal + Clone + Copy + Drop + Send + Sync>(
+    rt: &H,
+    asked: &Asked<'_>,
+    options: &Options,
+    out: &mut W,
+) -> Result<bool, MuError> {
+    let alloc = rt.alloc();
     match asked {
         Asked::Normal(formula, rule) => normal_text(alloc, formula.as_bytes(), *rule, out),
-        Asked::Solve(game) => solve_text(alloc, game.as_bytes(), &OPTIONS, out),
+        Asked::Solve(game) => solve_text(rt, alloc, game.as_bytes(), options, out),
         Asked::Verify(game, evidence) => {
             verify_text(alloc, game.as_bytes(), evidence.as_bytes(), out)
         }
@@ -70,14 +79,25 @@ fn shown(alloc: Global, answer: &Result<bool, MuError>) -> Result<String, AllocE
 }
 
 /// The command writes this, and answers so.
-fn tells(
-    rt: &(impl Abort + AllocGlobal),
+fn tells<H: Abort + Threads + Wait + AllocGlobal + Clone + Copy + Drop + Send + Sync>(
+    rt: &H,
     asked: &Asked<'_>,
     text: &str,
     answer: &str,
 ) -> Result<(), AllocError> {
+    tells_with(rt, asked, &OPTIONS, (text, answer))
+}
+
+/// The same by these workers over this board.
+fn tells_with<H: Abort + Threads + Wait + AllocGlobal + Clone + Copy + Drop + Send + Sync>(
+    rt: &H,
+    asked: &Asked<'_>,
+    options: &Options,
+    wanted: (&str, &str),
+) -> Result<(), AllocError> {
+    let (text, answer) = wanted;
     let mut out = Narrow::new(rt.alloc(), 7, AMPLE);
-    let found = shown(rt.alloc(), &run(rt.alloc(), asked, &mut out))?;
+    let found = shown(rt.alloc(), &run(rt, asked, options, &mut out))?;
     same(rt, text, found.as_str(), answer);
     assert!(rt; out.taken.as_slice() == text.as_bytes(), "{text}");
     Ok(())
@@ -274,10 +294,11 @@ fn commands_pass_refusals_on(rt: HostRuntime) -> Result<(), AllocError> {
     Ok(())
 }
 
-/// Fifteen loops of Even of each odd priority from 3 to 31, and two of priority 1: Odd wins them all.
-fn loops(alloc: Global) -> Result<String, AllocError> {
-    let mut text = String::from_str(alloc, "parity 226;\n")?;
-    for v in 0..227 {
+/// Fifteen loops of Even of each odd priority from 3 to 31, and so many of priority 1: Odd wins them all.
+fn loops(alloc: Global, last: u32) -> Result<String, AllocError> {
+    let greatest = 224 + last;
+    let mut text = format!(in alloc; "parity {greatest};\n")?;
+    for v in 0..=greatest {
         let priority = if v < 225 { 3 + v / 15 * 2 } else { 1 };
         write!(text, "{v} {priority} 0 {v};\n")?;
     }
@@ -290,8 +311,62 @@ fn odd_wins_loops_of_odd_priorities(rt: HostRuntime) -> Result<(), AllocError> {
     for v in 0..227 {
         write!(wanted, "{v} odd\n")?;
     }
-    let game = loops(rt.alloc())?;
+    let game = loops(rt.alloc(), 2)?;
     tells(&rt, &Asked::Solve(game.as_str()), wanted.as_str(), "yes")
+}
+
+/// Workers and boards by which a game may be solved.
+const CREWS: [(u32, u32, BoardKind); 7] = [
+    (1, 16, BoardKind::Packed),
+    (1, 1, BoardKind::Locked),
+    (2, 16, BoardKind::Auto),
+    (2, 1, BoardKind::Locked),
+    (8, 16, BoardKind::Locked),
+    (8, 16, BoardKind::Packed),
+    (64, 256, BoardKind::Locked),
+];
+
+fn options_of(crew: (u32, u32, BoardKind)) -> Option<Options> {
+    let (workers, shards, board) = crew;
+    if workers < 1 || workers > 64 || shards < 1 || shards > 256 {
+        return None;
+    }
+    Some(Options {
+        priorities: Priorities::Nested,
+        workers,
+        shards,
+        board,
+    })
+}
+
+#[test]
+fn any_workers_over_any_board_tell_the_same(rt: HostRuntime) -> Result<(), Fail> {
+    let game = loops(rt.alloc(), 2)?;
+    for crew in CREWS {
+        let options = options_of(crew).ok_or("no options")?;
+        for (asked, text, answer) in &TOLD {
+            tells_with(&rt, asked, &options, (text, answer))?;
+        }
+        let mut out = Vec::new(rt.alloc());
+        assert!(rt; run(&rt, &Asked::Solve(game.as_str()), &options, &mut out).is_ok());
+        assert!(rt; out.starts_with(b"vertices 227\neven 0\n0 odd\n"));
+    }
+    Ok(())
+}
+
+/// With one loop more of priority 1 the rank of top is 2 to the 62nd, which the packed board has no room for.
+#[test]
+fn ranks_too_great_for_the_packed_board_are_told(rt: HostRuntime) -> Result<(), Fail> {
+    let game = loops(rt.alloc(), 3)?;
+    let asked = Asked::Solve(game.as_str());
+    for workers in [1, 2] {
+        let packed = options_of((workers, 16, BoardKind::Packed)).ok_or("no options")?;
+        tells_with(&rt, &asked, &packed, ("", "T1"))?;
+        let auto = options_of((workers, 16, BoardKind::Auto)).ok_or("no options")?;
+        let mut out = Vec::new(rt.alloc());
+        assert!(rt; run(&rt, &asked, &auto, &mut out).is_ok());
+    }
+    Ok(())
 }
 
 /// A reader of a beginning of the text that fails behind it.
@@ -305,12 +380,16 @@ fn failing(text: &str, given: usize) -> Slow<'_> {
 }
 
 /// The commands of which a text fails to be read behind so many bytes.
-fn is_unread(rt: &(impl Abort + AllocGlobal), given: usize) {
+fn is_unread<H: Abort + Threads + Wait + AllocGlobal + Clone + Copy + Drop + Send + Sync>(
+    rt: &H,
+    given: usize,
+) {
     let mut out = Vec::new(rt.alloc());
     let formula = failing("<a>true", given);
     let normal = normal_text(rt.alloc(), formula, Priorities::Nested, &mut out);
     assert!(rt; matches!(&normal, Err(MuError::Read)));
-    let solved = solve_text(rt.alloc(), failing(STEP, given), &OPTIONS, &mut out);
+    let game = failing(STEP, given);
+    let solved = solve_text(rt, rt.alloc(), game, &OPTIONS, &mut out);
     assert!(rt; is_shown(rt.alloc(), &solved, "G7"));
     let game = failing(STEP, given);
     let verified = verify_text(rt.alloc(), game, EVEN.as_bytes(), &mut out);
@@ -349,7 +428,7 @@ fn failed_writes_of_commands_leave_a_beginning(rt: HostRuntime) {
             } else {
                 AtEnd::TakesNothing
             };
-            assert!(rt; matches!(run(rt.alloc(), asked, &mut out), Err(MuError::Write(_))));
+            assert!(rt; matches!(run(&rt, asked, &OPTIONS, &mut out), Err(MuError::Write(_))));
             assert!(rt; out.taken.as_slice() == &text.as_bytes()[..room], "{text}");
         }
     }
@@ -360,7 +439,7 @@ fn failed_writes_of_commands_leave_a_beginning(rt: HostRuntime) {
 fn commands_want_memory_before_they_write(rt: HostRuntime) {
     for (asked, text, _) in &TOLD {
         let mut out = Narrow::new(rt.alloc(), AMPLE, AMPLE);
-        if run(rt.alloc(), asked, &mut out).is_ok() {
+        if run(&rt, asked, &OPTIONS, &mut out).is_ok() {
             assert!(rt; out.taken.as_slice() == text.as_bytes(), "{text}");
         } else {
             assert!(rt; out.taken.is_empty());
