@@ -10,3 +10,4 @@ pub mod Rises
 pub mod Seated
 pub mod Stated
 pub mod Reached
+pub mod Written

@@ -5,4 +5,5 @@ pub mod Marks
 pub mod Seats
 pub mod Work
 pub mod Runs
+pub mod Replay
 pub mod Laws

@@ -9,5 +9,6 @@ pub mod marks;
 mod seat;
 mod state;
 pub mod turn;
+pub mod writer;
 
 pub use search::predecessors::Predecessors;

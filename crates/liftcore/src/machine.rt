@@ -1,7 +1,8 @@
 // The machine over events.
 
-ghost use Rattle.std.specs.Prelude.{◌≡◌, ◌<◌, ◌↔◌, ℕ, Contains, IfOk, IsTrue, length};
+ghost use Rattle.std.specs.Prelude.{◌≡◌, ◌<◌, ◌+◌, ◌↔◌, ℕ, Contains, IfOk, IsTrue, length};
 ghost use Rattle.liftcore.specs.Core.{is_quiet as is_quiet_core, start};
+ghost use Rattle.liftcore.specs.Marks.{members};
 ghost use Rattle.liftcore.specs.Runs.{Comes, is_done};
 ghost use Rattle.liftcore.specs.Step.{Step};
 ghost use Rattle.measures.specs.Progress.{value_at};
@@ -9,6 +10,7 @@ ghost use Rattle.measures.specs.Tables.{IsPlain, IsSettled, LiesBelow};
 
 use crate::error::CoreError;
 use crate::event::{Event, Outcome, Tally};
+use crate::marks::Marks;
 use crate::state::State;
 use game::graph::Game;
 use measures::measure::Measure;
@@ -71,7 +73,8 @@ impl<'a> Core<'a> {
 
     /// Does events in their order, and tells how many were done and how many skipped.
     pub fn follow(&mut self, events: &[Event]) -> Tally
-        ensures { Comes self.old events.now result.done result.skipped self.new }
+        ensures comes { Comes self.old events.now result.done result.skipped self.new }
+        ensures all { result.done + result.skipped ≡ length events.now }
     {
         let mut done = 0;
         let mut skipped = 0;
@@ -82,6 +85,21 @@ impl<'a> Core<'a> {
             }
         }
         Tally { done, skipped }
+    }
+
+    /// How many vertices the game has.
+    pub fn vertices(&self) -> u32
+        ensures { result ≡ length self.now.table.game.vertices }
+    {
+        self.game.vertices()
+    }
+
+    /// The pending vertices.
+    pub(crate) fn pending(&self) -> &Marks
+        ensures vertices { length result.now ≡ length self.now.table.game.vertices }
+        ensures pending { members result.now ≡ self.now.pending }
+    {
+        &self.state.pending
     }
 
     /// The measure of a vertex.
