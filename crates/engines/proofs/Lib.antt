@@ -3,3 +3,4 @@ mod Fronts
 mod Checks
 mod Limits
 mod Roots
+mod Orders

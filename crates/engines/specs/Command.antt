@@ -10,6 +10,6 @@ abbrev pub IsComplete : Command → Type 0
 IsComplete (Check check) =
     (check.system.now ≢ []) × (check.formula.now ≢ []) × (1 ≤ check.options.workers) × (check.options.workers ≤ 64) × (1 ≤ check.options.shards) × (check.options.shards ≤ 256)
 
--- `--plain` asks for sets of states.
+-- `--plain` asks for sets of states, and else a rule of priorities is given.
 abbrev pub way_of : TheCheck → Way
-way_of check = if check.plain then BySets else ByGame
+way_of check = if check.plain then BySets else ByGame check.options.priorities

@@ -4,8 +4,11 @@
 pub mod command_line;
 pub mod engine;
 pub mod error;
+mod findings;
 mod lifting;
+mod outputs;
 mod report;
 pub mod request;
 pub mod status;
 mod texts;
+pub mod writers;
