@@ -78,6 +78,11 @@ pub wanting_of : (way : Way) (first second : List ℕ) (writers : List Lent) (l 
 wanting_of way first second writers l f r spelled within asked kept e =
     subst (Answers way first second writers) (sym e) (record { l = l; f = f; spelled = spelled; within = within; asked = asked; memory = refl }, kept)
 
+-- What was found by a rule is found by an equal one.
+pub by_rule : (p q : Priorities) (first second : List ℕ) (writers : List Lent) (r : Result Bool MuError) → p ≡ q → Answers (ByGame p) first second writers r
+    → Answers (ByGame q) first second writers r
+by_rule p q first second writers r e h = subst (λ x. Answers (ByGame x) first second writers r) e h
+
 -- An answer that was written, or begun.
 pub answer_of : (way : Way) (first second : List ℕ) (writers : List Lent) (l : System) (f : Formula) (marks : List Bool) (wrote : Result Unit WriteFault) (r : Result Bool MuError)
     → AreSpelled first second l f → AreMarks way l f marks → AreWritten (IsTextOf way l f marks) writers wrote

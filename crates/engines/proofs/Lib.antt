@@ -4,3 +4,4 @@ mod Checks
 mod Limits
 mod Roots
 mod Orders
+mod Lendings

@@ -120,11 +120,15 @@ pub fn check<R: Read + Drop, S: Read + Drop, W: Write, G: Write, E: Write, O: Wr
         Ok(found) => found,
         Err(error) => return Err(error),
     };
-    match (game, evidence) {
-        (None, EvidenceWriters::Neither) => answer(&found, put_report(&found, out)),
-        (Some(game), EvidenceWriters::Neither) => answer(&found, put_game_first(&found, game, out)),
-        (None, EvidenceWriters::Both(even, odd)) => with_evidence(alloc, &found, even, odd, out),
-        (Some(game), EvidenceWriters::Both(even, odd)) => with_all(alloc, &found, game, even, odd, out),
+    match evidence {
+        EvidenceWriters::Neither => match game {
+            None => answer(&found, put_report(&found, out)),
+            Some(game) => answer(&found, put_game_first(&found, game, out)),
+        },
+        EvidenceWriters::Both(even, odd) => match game {
+            None => with_evidence(alloc, &found, even, odd, out),
+            Some(game) => with_all(alloc, &found, game, even, odd, out),
+        },
     }
 }
 
@@ -149,11 +153,15 @@ pub fn check_one<R: Read + Drop, S: Read + Drop, W: Write, G: Write, E: Write, O
         Ok(found) => found,
         Err(error) => return Err(error),
     };
-    match (game, evidence) {
-        (None, EvidenceWriters::Neither) => answer(&found, put_report(&found, out)),
-        (Some(game), EvidenceWriters::Neither) => answer(&found, put_game_first(&found, game, out)),
-        (None, EvidenceWriters::Both(even, odd)) => with_evidence(alloc, &found, even, odd, out),
-        (Some(game), EvidenceWriters::Both(even, odd)) => with_all(alloc, &found, game, even, odd, out),
+    match evidence {
+        EvidenceWriters::Neither => match game {
+            None => answer(&found, put_report(&found, out)),
+            Some(game) => answer(&found, put_game_first(&found, game, out)),
+        },
+        EvidenceWriters::Both(even, odd) => match game {
+            None => with_evidence(alloc, &found, even, odd, out),
+            Some(game) => with_all(alloc, &found, game, even, odd, out),
+        },
     }
 }
 
@@ -168,7 +176,7 @@ fn with_evidence<E: Write, O: Write, W: Write>(
     requires { AreFindings found.now }
     ensures { (first second : List ℕ) → AreSpelled first second (system_of found.now) (formula_of found.now)
         → Answers (ByGame (rule_in found.now)) first second (lent_for EvenText (E.contents even.old) (E.contents even.new)
-            ∷ lent_for OddText (O.contents odd.old) (O.contents odd.new) ∷ lent_for ReportText (W.contents out.old) (W.contents out.new) ∷ []) result }
+        ∷ lent_for OddText (O.contents odd.old) (O.contents odd.new) ∷ lent_for ReportText (W.contents out.old) (W.contents out.new) ∷ []) result }
 {
     match evidence_pair(alloc, found) {
         Ok(pair) => answer(found, put_evidence_first(found, &pair, even, odd, out)),
@@ -188,8 +196,8 @@ fn with_all<G: Write, E: Write, O: Write, W: Write>(
     requires { AreFindings found.now }
     ensures { (first second : List ℕ) → AreSpelled first second (system_of found.now) (formula_of found.now)
         → Answers (ByGame (rule_in found.now)) first second (lent_for GameText (G.contents game.old) (G.contents game.new)
-            ∷ lent_for EvenText (E.contents even.old) (E.contents even.new) ∷ lent_for OddText (O.contents odd.old) (O.contents odd.new)
-            ∷ lent_for ReportText (W.contents out.old) (W.contents out.new) ∷ []) result }
+        ∷ lent_for EvenText (E.contents even.old) (E.contents even.new) ∷ lent_for OddText (O.contents odd.old) (O.contents odd.new)
+        ∷ lent_for ReportText (W.contents out.old) (W.contents out.new) ∷ []) result }
 {
     match evidence_pair(alloc, found) {
         Ok(pair) => answer(found, put_all(found, &pair, game, even, odd, out)),

@@ -74,11 +74,7 @@ fn find(alloc: Global, texts: Box<Texts>, priorities: Priorities) -> Result<Find
 }
 
 /// The same, where the game is solved.
-fn find_solved(
-    alloc: Global,
-    texts: Box<Texts>,
-    solution: SolvedGame,
-) -> Result<Findings, MuError>
+fn find_solved(alloc: Global, texts: Box<Texts>, solution: SolvedGame) -> Result<Findings, MuError>
     requires { IsSolvedGame texts.value.system.system (closed_formula texts.value.formula) solution }
     ensures found { IfOk result AreFindings }
     ensures rule { IfOk result (λ found. rule_in found ≡ solution.priorities) }

@@ -44,7 +44,11 @@ pub fn solve_game(
 {
     match game_of(alloc, system, formula, priorities) {
         Ok(game) => match solve_one(alloc, &game) {
-            Ok(settled) => Ok(SolvedGame { priorities, game, settled }),
+            Ok(settled) => Ok(SolvedGame {
+                priorities,
+                game,
+                settled,
+            }),
             Err(Memory) => Err(MuError::Memory),
         },
         Err(error) => Err(error),
