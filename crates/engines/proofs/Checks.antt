@@ -1,18 +1,22 @@
 -- What a check has found out.
-use Rattle.std.proofs.Common.{◌≡◌, ℕ, List, Bool, false, Some, Ok, Err, subst, sym, slice_index_or}
-use Rattle.std.proofs.KnownBytes.{Keeps-refl}
-use Rattle.std.specs.Io.KnownBytes.{Appends}
+use Rattle.std.proofs.Common.{◌≡◌, ℕ, List, Bool, false, Some, Ok, Err, refl, subst, sym, slice_index_or}
 use Rattle.std.specs.Prelude.{IfSome, IfOk, IfErr, IsErrAnd, MatchResult, Option, Result}
 use Rattle.std.proofs.lemmas.Result.{IfOk-weaker}
-use Rattle.text.specs.Wrote.{WroteFront}
+use Rattle.text.specs.declared.write_loop.WriteFault.{WriteFault}
 use Rattle.lts.specs.System.{System}
 use Rattle.lts.specs.Aut.{IsAut}
 use Rattle.formula.specs.Tree.{Formula}
 use Rattle.engines.specs.declared.error.MuError.{MuError}
 use Rattle.engines.specs.declared.error.MuError.TheVariants as error
-use Rattle.engines.specs.Check.{Way, BySets, ByGame, AreSpelled, AreMarks, IsBeyond, SpellsSystem, HasReported, HasRefused, IsErrorOf}
+use Rattle.normal.specs.declared.priorities.Priorities.{Priorities}
+use Rattle.evidence.specs.declared.error.EvidenceError.TheVariants as evidence
+use Rattle.engines.specs.Check.{Way, ByGame, Answers, AreSpelled, AreMarks, IsBeyond, IsTextOf, IsWithin, SpellsSystem, HasRefused}
+use Rattle.engines.specs.Writers.{EvenText, Lent, IsLentFor, AreKept, AreWritten}
 use Rattle.engines.specs.Texts.{IsFormulaOf, IsReadRefusal}
-use Rattle.engines.specs.Report.{report}
+use Rattle.engines.specs.Findings.{formula_of, system_of}
+use Rattle.engines.specs.declared.findings.Findings.{Findings}
+use Rattle.engines.specs.declared.texts.Texts.{Texts}
+use Rattle.formula.specs.Closed.{closed_formula}
 
 -- what is said of known bytes, at them
 pub at_known : (P : List ℕ → Type 0) (known : Option (List ℕ)) (text : List ℕ) → known ≡ Some text → IfSome known P → P text
@@ -31,88 +35,64 @@ spelled_of first second known_first known_second l f e d system only_system form
 }
 
 -- The refusal of a formula's text comes where the first text spells a system.
-pub unread_of : (way : Way) (first second : List ℕ) (here : Option (List ℕ)) (e : MuError) → SpellsSystem first → IsReadRefusal second e → HasRefused way first second here here e
-unread_of way first second here (error.Formula e) spelled h = (spelled, h, Keeps-refl here)
-unread_of way first second here error.Read spelled h = (spelled, Keeps-refl here)
-unread_of way first second here error.Memory spelled h = (spelled, Keeps-refl here)
-unread_of way first second here (error.Arguments e) spelled h = absurd h
-unread_of way first second here error.File spelled h = absurd h
-unread_of way first second here (error.System e) spelled h = absurd h
-unread_of way first second here (error.Normal e) spelled h = absurd h
-unread_of way first second here (error.Build e) spelled h = absurd h
-unread_of way first second here (error.Game e) spelled h = absurd h
-unread_of way first second here (error.Evidence e) spelled h = absurd h
-unread_of way first second here (error.Table e) spelled h = absurd h
-unread_of way first second here (error.Solve e) spelled h = absurd h
-unread_of way first second here (error.Write e) spelled h = absurd h
+pub unread_of : (way : Way) (first second : List ℕ) (writers : List Lent) (e : MuError) → SpellsSystem first → IsReadRefusal second e → AreKept writers
+    → HasRefused way first second writers e
+unread_of way first second writers (error.Formula e) spelled h kept = (spelled, h, kept)
+unread_of way first second writers error.Read spelled h kept = (spelled, kept)
+unread_of way first second writers error.Memory spelled h kept = (spelled, kept)
+unread_of way first second writers (error.Arguments e) spelled h kept = absurd h
+unread_of way first second writers error.File spelled h kept = absurd h
+unread_of way first second writers (error.System e) spelled h kept = absurd h
+unread_of way first second writers (error.Normal e) spelled h kept = absurd h
+unread_of way first second writers (error.Build e) spelled h kept = absurd h
+unread_of way first second writers (error.Game e) spelled h kept = absurd h
+unread_of way first second writers (error.Evidence e) spelled h kept = absurd h
+unread_of way first second writers (error.Table e) spelled h kept = absurd h
+unread_of way first second writers (error.Solve e) spelled h kept = absurd h
+unread_of way first second writers (error.Write e) spelled h kept = absurd h
 
 -- That a limit is passed is told where both texts are spelled.
-pub beyond_of : (way : Way) (first second : List ℕ) (here : Option (List ℕ)) (l : System) (f : Formula) (e : MuError) → AreSpelled first second l f → IsBeyond way l f e
-    → HasRefused way first second here here e
-beyond_of BySets first second here l f error.Memory spelled h = ((l, spelled.system.spelled), Keeps-refl here)
-beyond_of BySets first second here l f (error.Normal e) spelled h = absurd h
-beyond_of BySets first second here l f (error.Build e) spelled h = absurd h
-beyond_of BySets first second here l f (error.Game e) spelled h = absurd h
-beyond_of BySets first second here l f (error.Evidence e) spelled h = absurd h
-beyond_of BySets first second here l f (error.Table e) spelled h = absurd h
-beyond_of BySets first second here l f (error.Solve e) spelled h = absurd h
-beyond_of BySets first second here l f (error.Arguments e) spelled h = absurd h
-beyond_of BySets first second here l f error.File spelled h = absurd h
-beyond_of BySets first second here l f error.Read spelled h = absurd h
-beyond_of BySets first second here l f (error.System e) spelled h = absurd h
-beyond_of BySets first second here l f (error.Formula e) spelled h = absurd h
-beyond_of BySets first second here l f (error.Write e) spelled h = absurd h
-beyond_of ByGame first second here l f error.Memory spelled h = ((l, spelled.system.spelled), Keeps-refl here)
-beyond_of ByGame first second here l f (error.Normal e) spelled h = (record { l = l; f = f; spelled = spelled; beyond = h }, Keeps-refl here)
-beyond_of ByGame first second here l f (error.Build e) spelled h = (record { l = l; f = f; spelled = spelled; beyond = h }, Keeps-refl here)
-beyond_of ByGame first second here l f (error.Game e) spelled h = absurd h
-beyond_of ByGame first second here l f (error.Evidence e) spelled h = absurd h
-beyond_of ByGame first second here l f (error.Table e) spelled h = absurd h
-beyond_of ByGame first second here l f (error.Solve e) spelled h = absurd h
-beyond_of ByGame first second here l f (error.Arguments e) spelled h = absurd h
-beyond_of ByGame first second here l f error.File spelled h = absurd h
-beyond_of ByGame first second here l f error.Read spelled h = absurd h
-beyond_of ByGame first second here l f (error.System e) spelled h = absurd h
-beyond_of ByGame first second here l f (error.Formula e) spelled h = absurd h
-beyond_of ByGame first second here l f (error.Write e) spelled h = absurd h
+pub beyond_of : (priorities : Priorities) (first second : List ℕ) (writers : List Lent) (l : System) (f : Formula) (e : MuError) → AreSpelled first second l f
+    → IsBeyond (ByGame priorities) l f e → AreKept writers → HasRefused (ByGame priorities) first second writers e
+beyond_of p first second writers l f error.Memory spelled h kept = ((l, spelled.system.spelled), kept)
+beyond_of p first second writers l f (error.Normal e) spelled h kept = (record { l = l; f = f; spelled = spelled; beyond = h }, kept)
+beyond_of p first second writers l f (error.Build e) spelled h kept = (record { l = l; f = f; spelled = spelled; beyond = h }, kept)
+beyond_of p first second writers l f (error.Arguments e) spelled h kept = absurd h
+beyond_of p first second writers l f error.File spelled h kept = absurd h
+beyond_of p first second writers l f error.Read spelled h kept = absurd h
+beyond_of p first second writers l f (error.System e) spelled h kept = absurd h
+beyond_of p first second writers l f (error.Formula e) spelled h kept = absurd h
+beyond_of p first second writers l f (error.Game e) spelled h kept = absurd h
+beyond_of p first second writers l f (error.Evidence e) spelled h kept = absurd h
+beyond_of p first second writers l f (error.Table e) spelled h kept = absurd h
+beyond_of p first second writers l f (error.Solve e) spelled h kept = absurd h
+beyond_of p first second writers l f (error.Write e) spelled h kept = absurd h
 
--- what a way tells is an error of it
-pub error_of : (way : Way) (l : System) (f : Formula) (e : MuError) → IsBeyond way l f e → IsErrorOf way e
-error_of BySets l f error.Memory h = tt
-error_of BySets l f (error.Normal e) h = absurd h
-error_of BySets l f (error.Build e) h = absurd h
-error_of BySets l f (error.Game e) h = absurd h
-error_of BySets l f (error.Evidence e) h = absurd h
-error_of BySets l f (error.Table e) h = absurd h
-error_of BySets l f (error.Solve e) h = absurd h
-error_of BySets l f (error.Arguments e) h = absurd h
-error_of BySets l f error.File h = absurd h
-error_of BySets l f error.Read h = absurd h
-error_of BySets l f (error.System e) h = absurd h
-error_of BySets l f (error.Formula e) h = absurd h
-error_of BySets l f (error.Write e) h = absurd h
-error_of ByGame l f e h = tt
+-- What was read is what is found out of.
+pub spelled_by : (first second : List ℕ) (texts : Texts) (r : Result Findings MuError) → AreSpelled first second texts.system.system (closed_formula texts.formula)
+    → IfOk r (λ x. x.texts.value ≡ texts) → IfOk r (λ x. AreSpelled first second (system_of x) (formula_of x))
+spelled_by first second texts (Ok x) h e = subst (λ (t : Texts). AreSpelled first second t.system.system (closed_formula t.formula)) (sym e) h
+spelled_by first second texts (Err e) h same = tt
 
--- and so are want of memory and a write fault
-pub memory_error : (way : Way) → IsErrorOf way error.Memory
-memory_error BySets = tt
-memory_error ByGame = tt
+-- No writer was written to before evidence was made, which there was no memory for.
+pub wanting_of : (way : Way) (first second : List ℕ) (writers : List Lent) (l : System) (f : Formula) (r : Result Bool MuError) → AreSpelled first second l f → IsWithin way l f
+    → IsLentFor EvenText writers → AreKept writers → r ≡ Err (error.Evidence evidence.Memory) → Answers way first second writers r
+wanting_of way first second writers l f r spelled within asked kept e =
+    subst (Answers way first second writers) (sym e) (record { l = l; f = f; spelled = spelled; within = within; asked = asked; memory = refl }, kept)
 
-pub write_error : (way : Way) (w : _) → IsErrorOf way (error.Write w)
-write_error BySets w = tt
-write_error ByGame w = tt
+-- What was found by a rule is found by an equal one.
+pub by_rule : (p q : Priorities) (first second : List ℕ) (writers : List Lent) (r : Result Bool MuError) → p ≡ q → Answers (ByGame p) first second writers r
+    → Answers (ByGame q) first second writers r
+by_rule p q first second writers r e h = subst (λ x. Answers (ByGame x) first second writers r) e h
 
--- a check that came to its report
-pub reported_of : (way : Way) (first second : List ℕ) (old new : Option (List ℕ)) (l : System) (f : Formula) (marks : List Bool) (text : List ℕ) (answer : Bool) → AreSpelled first second l f → AreMarks way l f marks
-    → text ≡ report l f marks → Appends old new text → answer ≡ slice_index_or marks l.initial false → HasReported way first second old new answer
-reported_of way first second old new l f marks text answer spelled found same wrote answered =
-    record { l = l; f = f; marks = marks; spelled = spelled; within = found.0; exact = found.1; reported = subst (Appends old new) same wrote; answered = answered }
-
--- and one whose report was cut off
-pub cut_of : (way : Way) (first second : List ℕ) (old new : Option (List ℕ)) (l : System) (f : Formula) (marks : List Bool) (text : List ℕ) (w : _) → AreSpelled first second l f → AreMarks way l f marks
-    → text ≡ report l f marks → WroteFront old new text → HasRefused way first second old new (error.Write w)
-cut_of way first second old new l f marks text w spelled found same wrote =
-    record { l = l; f = f; marks = marks; spelled = spelled; within = found.0; exact = found.1; begun = subst (WroteFront old new) same wrote }
+-- An answer that was written, or begun.
+pub answer_of : (way : Way) (first second : List ℕ) (writers : List Lent) (l : System) (f : Formula) (marks : List Bool) (wrote : Result Unit WriteFault) (r : Result Bool MuError)
+    → AreSpelled first second l f → AreMarks way l f marks → AreWritten (IsTextOf way l f marks) writers wrote
+    → MatchResult wrote (λ x. r ≡ Ok (slice_index_or marks l.initial false)) (λ fault. r ≡ Err (error.Write fault)) → Answers way first second writers r
+answer_of way first second writers l f marks (Ok x) r spelled found written e =
+    subst (Answers way first second writers) (sym e) (record { l = l; f = f; marks = marks; spelled = spelled; found = found; written = written; answered = refl })
+answer_of way first second writers l f marks (Err fault) r spelled found begun e =
+    subst (Answers way first second writers) (sym e) (record { l = l; f = f; marks = marks; spelled = spelled; found = found; begun = begun })
 
 ok_same : {T : Type 0} → (x y : T) → ◌≡◌ {A = Result T MuError} (Ok x) (Ok y) → x ≡ y
 ok_same x y h = cc

@@ -3,3 +3,5 @@ mod Fronts
 mod Checks
 mod Limits
 mod Roots
+mod Orders
+mod Lendings

@@ -12,8 +12,10 @@ use Rattle.formula.specs.Meaning.{marked, Marks, Satisfies}
 use Rattle.formula.specs.Tree.{Formula}
 use Rattle.formula.specs.Admitted.{IsAdmitted}
 use Rattle.lts.specs.System.{System, IsSystem}
-use Rattle.normal.specs.Nodes.{Node, nodes}
-use Rattle.laws.specs.Laws.{NestedWins}
+use Rattle.normal.specs.Tree.{normal_form}
+use Rattle.normal.specs.Nodes.{Node}
+use Rattle.laws.specs.Admissible.{IsNodes}
+use Rattle.laws.specs.Laws.{EvenWinsFormula}
 use Rattle.engines.specs.Roots.{HasRoots, WinsRoot}
 
 pub root_names : (states s : ℕ) (g : Game) → HasRoots states g → s < states → AreNames g s 0
@@ -56,12 +58,12 @@ pub arena_roots : (l : System) (ns : List Node) (g : Game) (n : ℕ) → g ≡ a
 arena_roots l ns g n e h some = (length ns, some, ap (λ (x : Game). x.named) e ∙ ap (λ k. Some (k, length ns)) (sym h))
 
 -- The marks of the states whose root vertex Even wins are those of the formula's states.
-pub roots_mean : (l : System) (f : Formula) (g : Game) (marks : List Bool) → NestedWins → IsSystem l → IsAdmitted f → g ≡ arena l (nodes f)
-    → Marks l.states marks (WinsRoot g) → Marks l.states marks (Satisfies l f)
-roots_mean l f g marks wins is admitted e m = record { count = m.count; exact = exact }
+pub roots_mean : (l : System) (f : Formula) (ns : List Node) (marks : List Bool) → EvenWinsFormula → IsSystem l → IsAdmitted f → IsNodes (normal_form f) ns
+    → Marks l.states marks (WinsRoot (arena l ns)) → Marks l.states marks (Satisfies l f)
+roots_mean l f ns marks wins is admitted nodes m = record { count = m.count; exact = exact }
   where
     exact : (s : ℕ) → s < l.states → marked marks s ↔ Satisfies l f s
     exact s h =
-        let there = subst (λ x. marked marks s ↔ WinsRoot x s) e (m.exact s h) in
-        let decided = wins l f is admitted s h in
-        (λ mark. (let w = there.0 mark in decided.0 (subst (Wins (arena l (nodes f))) (sym (some_same _ _ w.1)) w.2)), λ x. there.1 (_, refl, decided.1 x))
+        let there = m.exact s h in
+        let decided = wins l f ns is admitted nodes s h in
+        (λ mark. (let w = there.0 mark in decided.0 (subst (Wins (arena l ns)) (sym (some_same _ _ w.1)) w.2)), λ x. there.1 (_, refl, decided.1 x))

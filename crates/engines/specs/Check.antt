@@ -1,8 +1,6 @@
 -- What a check answers.
 use Rattle.std.specs.Prelude.{◌≡◌, ℕ, ◌+◌, ◌*◌, ◌≤◌, Bool, false, List, length, Option, Some, Result, MatchResult}
 use Rattle.std.specs.List.{slice_index_or}
-use Rattle.std.specs.Io.KnownBytes.{Appends, Keeps}
-use Rattle.text.specs.Wrote.{WroteFront}
 use Rattle.lts.specs.System.{System}
 use Rattle.lts.specs.Aut.{IsAut, HasFault}
 use Rattle.lts.specs.Left.{Refuses}
@@ -10,74 +8,106 @@ use Rattle.formula.specs.Tree.{Formula}
 use Rattle.formula.specs.Meaning.{Marks, Satisfies}
 use Rattle.formula.specs.Checked.{IsTold}
 use Rattle.normal.specs.declared.limits.TheConstants.{MOST_NODES, GREATEST_PRIORITY}
-use Rattle.normal.specs.Tree.{count, normal_form}
-use Rattle.normal.specs.Nodes.{nodes, greatest}
+use Rattle.normal.specs.declared.priorities.Priorities.{Priorities}
+use Rattle.normal.specs.Tree.{count}
+use Rattle.normal.specs.Nodes.{greatest_priority}
+use Rattle.normal.specs.Rules.{nodes_with}
 use Rattle.normal.specs.Refused as normal
 use Rattle.game.specs.declared.limits.TheConstants.{MOST_VERTICES}
 use Rattle.game.specs.Refused as game
+use Rattle.game.specs.Game.{Game}
+use Rattle.game.specs.Arena.{arena}
+use Rattle.pgsolver.specs.Canon.{game_text}
+use Rattle.evidence.specs.declared.error.EvidenceError.{EvidenceError}
+use Rattle.evidence.specs.declared.error.EvidenceError.TheVariants as evidence
+use Rattle.evidence.specs.Evidence.{Evidence}
+use Rattle.evidence.specs.Best.{IsEvenOf, IsOddOf}
+use Rattle.evidence.specs.Canon.{evidence_text}
 use Rattle.engines.specs.declared.error.MuError.{MuError}
 use Rattle.engines.specs.declared.error.MuError.TheVariants as error
 use Rattle.engines.specs.Texts.{IsSystemOf, IsFormulaOf}
 use Rattle.engines.specs.Report.{report}
+use Rattle.engines.specs.Roots.{WinsRoot}
+use Rattle.engines.specs.Writers.{Kind, GameText, EvenText, OddText, ReportText, Lent, IsLentFor, AreWhole, AreKept, AreWrittenUpTo}
 
--- how the states are found: by sets of states, or by the game
+-- how the states are found: by sets of states, or by the game with the priorities of a rule
 pub data Way : Type 0 where
   BySets : Way
-  ByGame : Way
+  ByGame : Priorities → Way
 
 -- The texts spell one system and one admitted formula each, within the limits.
 pub record AreSpelled (first second : List ℕ) (l : System) (f : Formula) : Type 0 where
   pub system : IsSystemOf first l
   pub formula : IsFormulaOf second f
 
--- the formula has a normal form within the limits
-pub record HasForm (f : Formula) : Type 0 where
+-- the formula has a normal form within the limits, by this rule
+pub record HasForm (rule : Priorities) (f : Formula) : Type 0 where
   pub nodes : count f ≤ MOST_NODES
-  pub priorities : greatest (normal_form f) ≤ GREATEST_PRIORITY
+  pub priorities : greatest_priority (nodes_with rule f) ≤ GREATEST_PRIORITY
 
 -- and the system with it a game
-pub record HasGame (l : System) (f : Formula) : Type 0 where
-  pub form : HasForm f
-  pub vertices : 2 + l.states * length (nodes f) ≤ MOST_VERTICES
+pub record HasGame (rule : Priorities) (l : System) (f : Formula) : Type 0 where
+  pub form : HasForm rule f
+  pub vertices : 2 + l.states * length (nodes_with rule f) ≤ MOST_VERTICES
+
+-- the game of the system and the formula's normal form by this rule
+abbrev pub game_of : Priorities → System → Formula → Game
+game_of rule l f = arena l (nodes_with rule f)
 
 -- what is asked for can be found this way: sets of states have no limits
 abbrev pub IsWithin : Way → System → Formula → Type 0
 IsWithin BySets l f = Unit {0}
-IsWithin ByGame l f = HasGame l f
+IsWithin (ByGame rule) l f = HasGame rule l f
 
 -- Why it can't: the first limit that is passed, in the order of nodes, priorities, vertices. Memory may be wanting within the limits or not.
 abbrev pub IsBeyond : Way → System → Formula → MuError → Type 0
 IsBeyond BySets l f error.Memory = Unit {0}
 IsBeyond BySets l f e = ⊥
-IsBeyond ByGame l f error.Memory = Unit {0}
-IsBeyond ByGame l f (error.Normal e) = normal.HasRefusal f e
-IsBeyond ByGame l f (error.Build e) = HasForm f × game.HasRefusal l.states (length (nodes f)) e
-IsBeyond ByGame l f e = ⊥
+IsBeyond (ByGame rule) l f error.Memory = Unit {0}
+IsBeyond (ByGame rule) l f (error.Normal e) = normal.HasRefusalWith rule f e
+IsBeyond (ByGame rule) l f (error.Build e) = HasForm rule f × game.HasRefusal l.states (length (nodes_with rule f)) e
+IsBeyond (ByGame rule) l f e = ⊥
+
+-- Where a game is made, Even wins the vertex of a state with the root exactly where the state's mark is true.
+abbrev pub AreWon : Way → System → Formula → List Bool → Type 0
+AreWon BySets l f marks = Unit {0}
+AreWon (ByGame rule) l f marks = Marks l.states marks (WinsRoot (game_of rule l f))
 
 -- the marks of the states in the formula's meaning, found this way
-abbrev pub AreMarks : Way → System → Formula → List Bool → Type 0
-AreMarks way l f marks = IsWithin way l f × Marks l.states marks (Satisfies l f)
+pub record AreMarks (way : Way) (l : System) (f : Formula) (marks : List Bool) : Type 0 where
+  pub within : IsWithin way l f
+  pub exact : Marks l.states marks (Satisfies l f)
+  pub won : AreWon way l f marks
 
--- The report on the states in the formula's meaning was written, and the answer is the initial state's.
-pub record HasReported (way : Way) (first second : List ℕ) (old new : Option (List ℕ)) (answer : Bool) : Type 0 where
+-- The texts that are written where these are the marks. Without a game there is the report alone.
+abbrev pub IsTextOf : Way → System → Formula → List Bool → Kind → List ℕ → Type 0
+IsTextOf BySets l f marks GameText text = ⊥
+IsTextOf BySets l f marks EvenText text = ⊥
+IsTextOf BySets l f marks OddText text = ⊥
+IsTextOf BySets l f marks ReportText text = text ≡ report l f marks
+IsTextOf (ByGame rule) l f marks GameText text = text ≡ game_text (game_of rule l f)
+IsTextOf (ByGame rule) l f marks EvenText text = (e : Evidence) × IsEvenOf (game_of rule l f) e × (text ≡ evidence_text e)
+IsTextOf (ByGame rule) l f marks OddText text = (e : Evidence) × IsOddOf (game_of rule l f) e × (text ≡ evidence_text e)
+IsTextOf (ByGame rule) l f marks ReportText text = text ≡ report l f marks
+
+-- Each text was written whole, the report among them on the states in the formula's meaning, and the answer is the initial state's.
+pub record HasReported (way : Way) (first second : List ℕ) (writers : List Lent) (answer : Bool) : Type 0 where
   pub l : System
   pub f : Formula
   pub marks : List Bool
   pub spelled : AreSpelled first second l f
-  pub within : IsWithin way l f
-  pub exact : Marks l.states marks (Satisfies l f)
-  pub reported : Appends old new (report l f marks)
+  pub found : AreMarks way l f marks
+  pub written : AreWhole (IsTextOf way l f marks) writers
   pub answered : answer ≡ slice_index_or marks l.initial false
 
--- A beginning of that report was written.
-pub record HasBegun (way : Way) (first second : List ℕ) (old new : Option (List ℕ)) : Type 0 where
+-- The texts before one were written whole, of that one a beginning, and of those after it nothing.
+pub record HasBegun (way : Way) (first second : List ℕ) (writers : List Lent) : Type 0 where
   pub l : System
   pub f : Formula
   pub marks : List Bool
   pub spelled : AreSpelled first second l f
-  pub within : IsWithin way l f
-  pub exact : Marks l.states marks (Satisfies l f)
-  pub begun : WroteFront old new (report l f marks)
+  pub found : AreMarks way l f marks
+  pub begun : AreWrittenUpTo (IsTextOf way l f marks) writers
 
 -- Both texts are spelled, and a limit is passed.
 pub record HasNoGame (way : Way) (first second : List ℕ) (e : MuError) : Type 0 where
@@ -86,32 +116,42 @@ pub record HasNoGame (way : Way) (first second : List ℕ) (e : MuError) : Type 
   pub spelled : AreSpelled first second l f
   pub beyond : IsBeyond way l f e
 
+-- Both texts are spelled, and memory is wanting for evidence that is asked for.
+pub record HasNoEvidence (way : Way) (first second : List ℕ) (writers : List Lent) (e : EvidenceError) : Type 0 where
+  pub l : System
+  pub f : Formula
+  pub spelled : AreSpelled first second l f
+  pub within : IsWithin way l f
+  pub asked : IsLentFor EvenText writers
+  pub memory : e ≡ evidence.Memory
+
 abbrev pub SpellsSystem : List ℕ → Type 0
 SpellsSystem first = (l : System) × IsAut first l
 
--- What a refusal says of the texts, and what it leaves: nothing was written, but after a write fault a beginning of the report. The formula's text
--- is looked at where the first one spells a system.
-abbrev pub HasRefused : (way : Way) → (first second : List ℕ) → (old new : Option (List ℕ)) → MuError → Type 0
-HasRefused way first second old new (error.Arguments e) = ⊥
-HasRefused way first second old new error.File = ⊥
-HasRefused way first second old new error.Read = SpellsSystem first × Keeps old new
-HasRefused way first second old new error.Memory = SpellsSystem first × Keeps old new
-HasRefused way first second old new (error.System e) = Refuses (Some first) HasFault e × Keeps old new
-HasRefused way first second old new (error.Formula e) = SpellsSystem first × IsTold second e × Keeps old new
-HasRefused way first second old new (error.Normal e) = HasNoGame way first second (error.Normal e) × Keeps old new
-HasRefused way first second old new (error.Build e) = HasNoGame way first second (error.Build e) × Keeps old new
-HasRefused way first second old new (error.Game e) = ⊥
-HasRefused way first second old new (error.Evidence e) = ⊥
-HasRefused way first second old new (error.Table e) = ⊥
-HasRefused way first second old new (error.Solve e) = ⊥
-HasRefused way first second old new (error.Write e) = HasBegun way first second old new
+-- What a refusal says of the texts, and what it leaves: nothing was written, but after a write fault the texts up to one. The formula's text is looked
+-- at where the first one spells a system.
+abbrev pub HasRefused : (way : Way) → (first second : List ℕ) → List Lent → MuError → Type 0
+HasRefused way first second writers (error.Arguments e) = ⊥
+HasRefused way first second writers error.File = ⊥
+HasRefused way first second writers error.Read = SpellsSystem first × AreKept writers
+HasRefused way first second writers error.Memory = SpellsSystem first × AreKept writers
+HasRefused way first second writers (error.System e) = Refuses (Some first) HasFault e × AreKept writers
+HasRefused way first second writers (error.Formula e) = SpellsSystem first × IsTold second e × AreKept writers
+HasRefused way first second writers (error.Normal e) = HasNoGame way first second (error.Normal e) × AreKept writers
+HasRefused way first second writers (error.Build e) = HasNoGame way first second (error.Build e) × AreKept writers
+HasRefused way first second writers (error.Game e) = ⊥
+HasRefused way first second writers (error.Evidence e) = HasNoEvidence way first second writers e × AreKept writers
+HasRefused way first second writers (error.Table e) = ⊥
+HasRefused way first second writers (error.Solve e) = ⊥
+HasRefused way first second writers (error.Write e) = HasBegun way first second writers
 
-abbrev pub Answers : Way → (first second : List ℕ) → (old new : Option (List ℕ)) → Result Bool MuError → Type 0
-Answers way first second old new result = MatchResult result (HasReported way first second old new) (HasRefused way first second old new)
+abbrev pub Answers : Way → (first second : List ℕ) → List Lent → Result Bool MuError → Type 0
+Answers way first second writers result = MatchResult result (HasReported way first second writers) (HasRefused way first second writers)
 
--- The theorem of a check: of what the readers had left, where they tell it, and of what the writer held before and after.
-abbrev pub Checks : Way → (aut formula old new : Option (List ℕ)) → Result Bool MuError → Type 0
-Checks way aut formula old new result = (first second : List ℕ) → aut ≡ Some first → formula ≡ Some second → Answers way first second old new result
+-- The theorem of a check: of what the readers had left, where they tell it, and of what the writers held before and after. The writers are those that
+-- were lent, in the order in which they are written to.
+abbrev pub Checks : Way → (aut formula : Option (List ℕ)) → List Lent → Result Bool MuError → Type 0
+Checks way aut formula writers result = (first second : List ℕ) → aut ≡ Some first → formula ≡ Some second → Answers way first second writers result
 
 -- the refusals of this way, whatever the readers tell: by sets of states neither a game nor a board is made, so none is refused
 abbrev pub IsErrorOf : Way → MuError → Type 0
@@ -122,8 +162,4 @@ IsErrorOf BySets (error.Evidence e) = ⊥
 IsErrorOf BySets (error.Table e) = ⊥
 IsErrorOf BySets (error.Solve e) = ⊥
 IsErrorOf BySets e = Unit {0}
-IsErrorOf ByGame e = Unit {0}
-
-abbrev pub IsArguments : MuError → Type 0
-IsArguments (error.Arguments e) = Unit {0}
-IsArguments _ = ⊥
+IsErrorOf (ByGame rule) e = Unit {0}

@@ -1,8 +1,9 @@
 pub mod Report
 pub mod Example
 pub mod Texts
+pub mod Writers
 pub mod Check
-pub mod Lent
+pub mod Findings
 pub mod Status
 pub mod Command
 pub mod Roots

@@ -1,17 +1,19 @@
 // The engines: from both texts to the report.
 
-ghost use Rattle.std.specs.Prelude.{◌≡◌, ℕ, List, IfErr, IsErrAnd, MatchResult, length};
-ghost use Rattle.std.specs.Io.KnownBytes.{Keeps};
+ghost use Rattle.std.specs.Prelude.{◌≡◌, ◌∷◌, ◌++◌, [], ℕ, List, IfErr, MatchResult};
 ghost use Rattle.formula.specs.Closed.{closed_formula};
-ghost use Rattle.engines.specs.Check.{Way, BySets, ByGame, AreSpelled, AreMarks, IsBeyond, Answers, Checks, IsErrorOf, IsArguments};
+ghost use Rattle.engines.specs.Check.{BySets, ByGame, AreMarks, AreSpelled, Answers, Checks, HasNoEvidence, IsBeyond, IsErrorOf};
 ghost use Rattle.engines.specs.Command.{way_of};
-ghost use Rattle.engines.specs.Lent.{IsServed, IsUnserved};
+ghost use Rattle.engines.specs.Findings.{AreFindings, IsTextFound, formula_of, rule_in, system_of};
+ghost use Rattle.engines.specs.Writers.{AreKept, AreWritten, EvenText, GameText, OddText, ReportText, evidence_writers, game_writer, lent_for, report_writer};
 
-use crate::error::{ArgumentError, MuError};
-use crate::lifting::lifted_states;
+use crate::error::MuError;
+use crate::findings::{Findings, evidence_pair, read_and_find};
+use crate::outputs::{answer, put_all, put_evidence_first, put_game_first, put_report};
 use crate::report::report_text;
 use crate::request::{Check, Options};
 use crate::texts::{Texts, read_both};
+use crate::writers::EvidenceWriters;
 use lts::{Memory, put};
 use meaning::plain::plain_states;
 use std::alloc::Global;
@@ -28,7 +30,7 @@ pub fn check_plain<R: Read + Drop, S: Read + Drop, W: Write>(
     formula: S,
     out: &mut W,
 ) -> Result<bool, MuError>
-    ensures checks { Checks BySets (R.remaining aut) (S.remaining formula) (W.contents out.old) (W.contents out.new) result }
+    ensures checks { Checks BySets (R.remaining aut) (S.remaining formula) (report_writer (W.contents out.old) (W.contents out.new)) result }
     ensures plain { IfErr result (IsErrorOf BySets) }
 {
     match read_both(alloc, aut, formula) {
@@ -51,6 +53,29 @@ fn plain_marks(alloc: Global, texts: &Texts) -> Result<Vec<bool>, MuError>
     }
 }
 
+/// Writes the report with these marks, and answers the initial state's mark.
+fn report<W: Write>(
+    alloc: Global,
+    texts: &Texts,
+    marks: Result<Vec<bool>, MuError>,
+    out: &mut W,
+) -> Result<bool, MuError>
+    requires { let l = texts.now.system.system in let f = closed_formula texts.now.formula in
+        MatchResult marks (λ marks. AreMarks BySets l f marks.items) (IsBeyond BySets l f) }
+    ensures answers { let l = texts.now.system.system in let f = closed_formula texts.now.formula in
+        (first second : List ℕ) → AreSpelled first second l f
+        → Answers BySets first second (report_writer (W.contents out.old) (W.contents out.new)) result }
+    ensures errors { IfErr result (IsErrorOf BySets) }
+{
+    let marks = marks?;
+    let initial = texts.system.initial() as usize;
+    let text = report_text(alloc, &texts.system, &texts.formula, &marks)?;
+    match put(out, &text) {
+        Ok(()) => Ok(marks[initial]),
+        Err(fault) => Err(MuError::Write(fault)),
+    }
+}
+
 /// The check that a command asks for: by sets of states where it is plain, else by a game.
 ///
 /// # Errors
@@ -62,21 +87,23 @@ pub fn check_asked<R: Read + Drop, S: Read + Drop, W: Write>(
     formula: S,
     out: &mut W,
 ) -> Result<bool, MuError>
-    ensures { Checks (way_of request.now) (R.remaining aut) (S.remaining formula) (W.contents out.old) (W.contents out.new) result }
+    ensures { Checks (way_of request.now) (R.remaining aut) (S.remaining formula) (report_writer (W.contents out.old) (W.contents out.new)) result }
 {
     if request.plain {
         return check_plain(alloc, aut, formula, out);
     }
     let no_game: Option<&mut Vec<u8>> = None;
-    let no_evidence: Option<(&mut Vec<u8>, &mut Vec<u8>)> = None;
+    let no_evidence: EvidenceWriters<'_, Vec<u8>, Vec<u8>> = EvidenceWriters::Neither;
     let options = &request.options;
     check(alloc, aut, formula, options, out, no_game, no_evidence)
 }
 
-/// Checks a formula at each state of a system and reports. It answers whether the initial state satisfies the formula.
+/// Checks a formula at each state of a system by a parity game, with the priorities of the options' rule. It answers whether the
+/// initial state satisfies the formula. The game, the evidence of both players and the report are written in this order, each
+/// to its writer where one is lent, and nothing before all memory was taken.
 ///
 /// # Errors
-/// U1 where a writer for the game or for evidence is handed in: nothing serves them yet. Else those of `check_one`.
+/// Those of `check_one`.
 pub fn check<R: Read + Drop, S: Read + Drop, W: Write, G: Write, E: Write, O: Write>(
     alloc: Global,
     aut: R,
@@ -84,20 +111,32 @@ pub fn check<R: Read + Drop, S: Read + Drop, W: Write, G: Write, E: Write, O: Wr
     options: &Options,
     out: &mut W,
     game: Option<&mut G>,
-    evidence: Option<(&mut E, &mut O)>,
+    evidence: EvidenceWriters<'_, E, O>,
 ) -> Result<bool, MuError>
-    ensures checks { IsServed game.entry evidence.entry
-        → Checks ByGame (R.remaining aut) (S.remaining formula) (W.contents out.old) (W.contents out.new) result }
-    ensures unserved { IsUnserved game.entry evidence.entry → IsErrAnd result IsArguments × Keeps (W.contents out.old) (W.contents out.new) }
+    ensures { Checks (ByGame options.now.priorities) (R.remaining aut) (S.remaining formula)
+        (game_writer G.contents game.entry game.exit ++ (evidence_writers E.contents O.contents evidence.entry evidence.exit ++ report_writer (W.contents out.old) (W.contents out.new))) result }
 {
-    check_one(alloc, aut, formula, options, out, game, evidence)
+    let found = match read_and_find(alloc, aut, formula, options.priorities) {
+        Ok(found) => found,
+        Err(error) => return Err(error),
+    };
+    match evidence {
+        EvidenceWriters::Neither => match game {
+            None => answer(&found, put_report(&found, out)),
+            Some(game) => answer(&found, put_game_first(&found, game, out)),
+        },
+        EvidenceWriters::Both(even, odd) => match game {
+            None => with_evidence(alloc, &found, even, odd, out),
+            Some(game) => with_all(alloc, &found, game, even, odd, out),
+        },
+    }
 }
 
 /// The same on one thread: the least progress table of the parity game tells which states satisfy the formula.
 ///
 /// # Errors
-/// U1 as of `check`. Those of the readers, of the normal form and of the game, unchanged; U3 where a read of the formula
-/// failed, U4 for memory in the engine, W1 in the report.
+/// Those of the readers, of the normal form and of the game, unchanged; E5 for memory in evidence; U3 where a read of the
+/// formula failed, U4 for memory in the engine. W1 where a write failed: the texts before it are whole, those after it empty.
 pub fn check_one<R: Read + Drop, S: Read + Drop, W: Write, G: Write, E: Write, O: Write>(
     alloc: Global,
     aut: R,
@@ -105,59 +144,63 @@ pub fn check_one<R: Read + Drop, S: Read + Drop, W: Write, G: Write, E: Write, O
     options: &Options,
     out: &mut W,
     game: Option<&mut G>,
-    evidence: Option<(&mut E, &mut O)>,
+    evidence: EvidenceWriters<'_, E, O>,
 ) -> Result<bool, MuError>
-    ensures checks { IsServed game.entry evidence.entry
-        → Checks ByGame (R.remaining aut) (S.remaining formula) (W.contents out.old) (W.contents out.new) result }
-    ensures unserved { IsUnserved game.entry evidence.entry → IsErrAnd result IsArguments × Keeps (W.contents out.old) (W.contents out.new) }
+    ensures { Checks (ByGame options.now.priorities) (R.remaining aut) (S.remaining formula)
+        (game_writer G.contents game.entry game.exit ++ (evidence_writers E.contents O.contents evidence.entry evidence.exit ++ report_writer (W.contents out.old) (W.contents out.new))) result }
 {
-    let _ = options;
-    if game.is_some() {
-        return Err(MuError::Arguments(ArgumentError::NotServed("--game")));
+    let found = match read_and_find(alloc, aut, formula, options.priorities) {
+        Ok(found) => found,
+        Err(error) => return Err(error),
+    };
+    match evidence {
+        EvidenceWriters::Neither => match game {
+            None => answer(&found, put_report(&found, out)),
+            Some(game) => answer(&found, put_game_first(&found, game, out)),
+        },
+        EvidenceWriters::Both(even, odd) => match game {
+            None => with_evidence(alloc, &found, even, odd, out),
+            Some(game) => with_all(alloc, &found, game, even, odd, out),
+        },
     }
-    if evidence.is_some() {
-        return Err(MuError::Arguments(ArgumentError::NotServed("--evidence")));
-    }
-    check_lifted(alloc, aut, formula, out)
 }
 
-/// A check by the parity game, without writers for the game and for evidence.
-fn check_lifted<R: Read + Drop, S: Read + Drop, W: Write>(
+/// Writes the evidence of both players and the report, and answers.
+fn with_evidence<E: Write, O: Write, W: Write>(
     alloc: Global,
-    aut: R,
-    formula: S,
+    found: &Findings,
+    even: &mut E,
+    odd: &mut O,
     out: &mut W,
 ) -> Result<bool, MuError>
-    ensures { Checks ByGame (R.remaining aut) (S.remaining formula) (W.contents out.old) (W.contents out.new) result }
+    requires { AreFindings found.now }
+    ensures { (first second : List ℕ) → AreSpelled first second (system_of found.now) (formula_of found.now)
+        → Answers (ByGame (rule_in found.now)) first second (lent_for EvenText (E.contents even.old) (E.contents even.new)
+        ∷ lent_for OddText (O.contents odd.old) (O.contents odd.new) ∷ lent_for ReportText (W.contents out.old) (W.contents out.new) ∷ []) result }
 {
-    match read_both(alloc, aut, formula) {
-        Ok(texts) => {
-            let marks = lifted_states(alloc, &texts.system, &texts.formula);
-            report(alloc, &texts, marks, out)
-        }
+    match evidence_pair(alloc, found) {
+        Ok(pair) => answer(found, put_evidence_first(found, &pair, even, odd, out)),
         Err(error) => Err(error),
     }
 }
 
-/// Writes the report with these marks, and answers the initial state's mark.
-fn report<W: Write>(
+/// Writes all texts, and answers.
+fn with_all<G: Write, E: Write, O: Write, W: Write>(
     alloc: Global,
-    texts: &Texts,
-    marks: Result<Vec<bool>, MuError>,
+    found: &Findings,
+    game: &mut G,
+    even: &mut E,
+    odd: &mut O,
     out: &mut W,
 ) -> Result<bool, MuError>
-    ghost way: { Way }
-    requires { let l = texts.now.system.system in let f = closed_formula texts.now.formula in
-        MatchResult marks (λ marks. AreMarks way l f marks.items) (IsBeyond way l f) }
-    ensures answers { let l = texts.now.system.system in let f = closed_formula texts.now.formula in
-        (first second : List ℕ) → AreSpelled first second l f → Answers way first second (W.contents out.old) (W.contents out.new) result }
-    ensures errors { IfErr result (IsErrorOf way) }
+    requires { AreFindings found.now }
+    ensures { (first second : List ℕ) → AreSpelled first second (system_of found.now) (formula_of found.now)
+        → Answers (ByGame (rule_in found.now)) first second (lent_for GameText (G.contents game.old) (G.contents game.new)
+        ∷ lent_for EvenText (E.contents even.old) (E.contents even.new) ∷ lent_for OddText (O.contents odd.old) (O.contents odd.new)
+        ∷ lent_for ReportText (W.contents out.old) (W.contents out.new) ∷ []) result }
 {
-    let marks = marks?;
-    let initial = texts.system.initial() as usize;
-    let text = report_text(alloc, &texts.system, &texts.formula, &marks)?;
-    match put(out, &text) {
-        Ok(()) => Ok(marks[initial]),
-        Err(fault) => Err(MuError::Write(fault)),
+    match evidence_pair(alloc, found) {
+        Ok(pair) => answer(found, put_all(found, &pair, game, even, odd, out)),
+        Err(error) => Err(error),
     }
 }

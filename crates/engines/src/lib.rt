@@ -3,9 +3,12 @@
 
 pub mod engine;
 pub mod error;
+mod findings;
 mod lifting;
+mod outputs;
 mod report;
 pub mod request;
 pub mod solver;
 pub mod status;
 pub mod texts;
+pub mod writers;

@@ -1,79 +1,97 @@
 // The states that satisfy a formula, by lifting the progress measures of its parity game.
 
-ghost use Rattle.std.specs.Prelude.{◌≡◌, ◌≤◌, IfOk, MatchResult};
+ghost use Rattle.std.specs.Prelude.{◌≡◌, ◌≤◌, IfOk, IfErr, MatchResult};
 ghost use Rattle.formula.specs.Closed.{closed_formula};
 ghost use Rattle.formula.specs.Meaning.{Marks};
-ghost use Rattle.normal.specs.Tree.{count};
-ghost use Rattle.normal.specs.Nodes.{nodes};
-ghost use Rattle.normal.specs.Normal.{normal_nodes};
-ghost use Rattle.game.specs.Arena.{arena};
-ghost use Rattle.engines.specs.Check.{ByGame, AreMarks, HasGame, IsBeyond};
+ghost use Rattle.engines.specs.Check.{ByGame, AreMarks, IsBeyond};
+ghost use Rattle.engines.specs.Findings.{IsGameOf, IsSolvedGame};
 ghost use Rattle.engines.specs.Roots.{HasRoots, WinsRoot};
 
 use crate::error::MuError;
 use formula::closed::Closed;
 use game::build::build;
 use game::graph::Game;
-use laws::formula_is_decided;
+use laws::{chosen_is_admissible, even_wins_where_meant};
+use lts::Memory;
 use lts::system::Lts;
 use measures::settle::{even_wins, solve_one};
 use measures::table::Settled;
-use normal::form::Normal;
-use normal::limits::MOST_NODES;
-use normal::make::normal;
+use normal::make::normal_with;
+use normal::priorities::Priorities;
 use std::alloc::{AllocError, Global};
 
-/// A mark for each state, true where it satisfies the formula: where Even wins its vertex with the root node.
+/// A game and its least progress table.
+#[derive(Drop)]
+pub struct SolvedGame {
+    pub priorities: Priorities,
+    pub game: Game,
+    pub settled: Settled,
+}
+
+/// The solved game of a system and a formula's normal form with the priorities of this rule.
 ///
 /// # Errors
 /// Those of the normal form and of the game, unchanged; U4 for memory in the solver.
-pub fn lifted_states(alloc: Global, system: &Lts, formula: &Closed) -> Result<Vec<bool>, MuError>
-    ensures { let l = system.now.system in let f = closed_formula formula.now in
-        MatchResult result (λ marks. AreMarks ByGame l f marks.items) (IsBeyond ByGame l f) }
+pub fn solve_game(
+    alloc: Global,
+    system: &Lts,
+    formula: &Closed,
+    priorities: Priorities,
+) -> Result<SolvedGame, MuError>
+    ensures solved { IfOk result (IsSolvedGame system.now.system (closed_formula formula.now)) }
+    ensures rule { IfOk result (λ solved. solved.priorities ≡ priorities) }
+    ensures refusal { IfErr result (IsBeyond (ByGame priorities) system.now.system (closed_formula formula.now)) }
 {
-    match normal(alloc, formula) {
-        Ok(normal) => states_by_form(alloc, system, formula, &normal),
+    match game_of(alloc, system, formula, priorities) {
+        Ok(game) => match solve_one(alloc, &game) {
+            Ok(settled) => Ok(SolvedGame {
+                priorities,
+                game,
+                settled,
+            }),
+            Err(Memory) => Err(MuError::Memory),
+        },
+        Err(error) => Err(error),
+    }
+}
+
+/// The game of a system and a formula's normal form.
+fn game_of(
+    alloc: Global,
+    system: &Lts,
+    formula: &Closed,
+    priorities: Priorities,
+) -> Result<Game, MuError>
+    ensures { let l = system.now.system in let f = closed_formula formula.now in
+        MatchResult result (IsGameOf priorities l f) (IsBeyond (ByGame priorities) l f) }
+{
+    match normal_with(alloc, formula, priorities) {
+        Ok(normal) => match build(alloc, system, &normal) {
+            Ok(game) => Ok(game),
+            Err(error) => Err(MuError::Build(error)),
+        },
         Err(error) => Err(MuError::Normal(error)),
     }
 }
 
-/// The same, by the formula's normal form.
-fn states_by_form(
+/// A mark for each state, true where it satisfies the formula: where Even wins its vertex with the root node.
+///
+/// # Errors
+/// U4.
+pub fn state_marks(
     alloc: Global,
     system: &Lts,
     formula: &Closed,
-    normal: &Normal,
+    solution: &SolvedGame,
 ) -> Result<Vec<bool>, MuError>
-    requires form { normal_nodes normal.now ≡ nodes (closed_formula formula.now) }
-    requires count { count (closed_formula formula.now) ≤ MOST_NODES }
-    ensures { let l = system.now.system in let f = closed_formula formula.now in
-        MatchResult result (λ marks. AreMarks ByGame l f marks.items) (IsBeyond ByGame l f) }
+    requires { IsSolvedGame system.now.system (closed_formula formula.now) solution.now }
+    ensures marks { IfOk result (λ marks. AreMarks (ByGame solution.now.priorities) system.now.system (closed_formula formula.now) marks.items) }
+    ensures refusal { IfErr result (λ e. e ≡ MuError.Memory) }
 {
-    normal.known();
-    match build(alloc, system, normal) {
-        Ok(game) => states_by_game(alloc, system, formula, &game),
-        Err(error) => Err(MuError::Build(error)),
-    }
-}
-
-/// The same, by the game.
-fn states_by_game(
-    alloc: Global,
-    system: &Lts,
-    formula: &Closed,
-    game: &Game,
-) -> Result<Vec<bool>, MuError>
-    requires game { game.now ≡ arena system.now.system (nodes (closed_formula formula.now)) }
-    requires within { HasGame system.now.system (closed_formula formula.now) }
-    ensures { let l = system.now.system in let f = closed_formula formula.now in
-        MatchResult result (λ marks. AreMarks ByGame l f marks.items) (IsBeyond ByGame l f) }
-{
-    formula_is_decided();
+    chosen_is_admissible();
+    even_wins_where_meant();
     let states = system.states();
-    let Ok(settled) = solve_one(alloc, game) else {
-        return Err(MuError::Memory);
-    };
-    match root_marks(alloc, states, game, &settled) {
+    match root_marks(alloc, states, &solution.game, &solution.settled) {
         Ok(marks) => Ok(marks),
         Err(AllocError) => Err(MuError::Memory),
     }

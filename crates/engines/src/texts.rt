@@ -1,9 +1,10 @@
 // The texts of a check, read.
 
-ghost use Rattle.std.specs.Prelude.{◌≡◌, ℕ, List, take, IfOk, IfErr, IfSome, Option, Some};
+ghost use Rattle.std.specs.Prelude.{◌≡◌, ℕ, List, take, IfOk, IfErr, IfSome, Some};
 ghost use Rattle.formula.specs.Closed.{closed_formula};
 ghost use Rattle.engines.specs.Texts.{IsFormulaOf, IsReadRefusal, IsReadFault, IsReading};
 ghost use Rattle.engines.specs.Check.{Way, BySets, AreSpelled, HasRefused, IsErrorOf};
+ghost use Rattle.engines.specs.Writers.{AreKept, Lent};
 
 use crate::error::MuError;
 use formula::closed::Closed;
@@ -36,7 +37,7 @@ pub fn read_both<R: Read + Drop, S: Read + Drop>(
     ensures spelled { (first second : List ℕ) → R.remaining aut ≡ Some first → S.remaining formula ≡ Some second
         → IfOk result (λ texts. AreSpelled first second texts.system.system (closed_formula texts.formula)) }
     ensures refusal { (first second : List ℕ) → R.remaining aut ≡ Some first → S.remaining formula ≡ Some second
-        → (way : Way) (here : Option (List ℕ)) → IfErr result (HasRefused way first second here here) }
+        → (way : Way) (writers : List Lent) → AreKept writers → IfErr result (HasRefused way first second writers) }
     ensures plain { IfErr result (IsErrorOf BySets) }
 {
     let system = read_aut(alloc, aut).map_err(MuError::System)?;

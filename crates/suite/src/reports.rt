@@ -7,6 +7,7 @@ use engines::error::MuError;
 use engines::request::{BoardKind, Options};
 use engines::status::status;
 use normal::priorities::Priorities;
+use engines::writers::EvidenceWriters;
 use std::alloc::{AllocError, Global};
 use std::io;
 use std::process::Abort;
@@ -131,7 +132,7 @@ fn run<W: io::Write>(
     let system = system.as_bytes();
     let formula = formula.as_bytes();
     let no_game: Option<&mut Vec<u8>> = None;
-    let no_evidence: Option<(&mut Vec<u8>, &mut Vec<u8>)> = None;
+    let no_evidence: EvidenceWriters<'_, Vec<u8>, Vec<u8>> = EvidenceWriters::Neither;
     match engine {
         Engine::Plain => check_plain(alloc, system, formula, out),
         Engine::One => check_one(alloc, system, formula, &DEFAULTS, out, no_game, no_evidence),

@@ -1,8 +1,12 @@
+use Rattle.std.proofs.KnownBytes.{Keeps-refl}
 use Rattle.engines.specs.Check.{BySets}
+use Rattle.engines.specs.Writers.{report_writer}
 use Rattle.engines.proofs.engine.check_plain.Goals as goal
 
 pub returns-in-Ok-clause-checks : goal.returns-in-Ok-clause-checks
 returns-in-Ok-clause-checks g c = λ first second known also. c.report.ensures.answers first second (c.in-Ok.ensures.spelled first second known also)
 
 pub returns-in-Err-clause-checks : goal.returns-in-Err-clause-checks
-returns-in-Err-clause-checks g c = λ first second known also. c.in-Err.ensures.refusal first second known also BySets _
+returns-in-Err-clause-checks g c = λ first second known also.
+    let here = g.W.Write.contents c.args.out.now in
+    c.in-Err.ensures.refusal first second known also BySets (report_writer here here) (Keeps-refl here, tt)

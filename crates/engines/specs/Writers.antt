@@ -1,0 +1,80 @@
+-- The writers that a check is lent, and what it writes to them.
+use Rattle.std.proofs.Common.{inl, inr}
+use Rattle.std.specs.Prelude.{◌≡◌, ℕ, ◌⊎◌, List, [], ◌∷◌, ◌++◌, Option, Some, None, Result, MatchResult}
+use Rattle.std.specs.Borrow.{MutBor}
+use Rattle.std.specs.Io.KnownBytes.{Appends, Keeps}
+use Rattle.text.specs.Wrote.{WroteFront}
+use Rattle.engines.specs.declared.writers.EvidenceWriters.{EvidenceWriters}
+use Rattle.engines.specs.declared.writers.EvidenceWriters.TheVariants.{Neither, Both}
+
+-- the texts that a check writes
+pub data Kind : Type 0 where
+  GameText : Kind
+  EvenText : Kind
+  OddText : Kind
+  ReportText : Kind
+
+-- a writer that is lent for a text, and what is known of its bytes before and after
+pub record Lent : Type 0 where
+  pub kind : Kind
+  pub old : Option (List ℕ)
+  pub new : Option (List ℕ)
+
+abbrev pub lent_for : Kind → (old new : Option (List ℕ)) → Lent
+lent_for kind old new = record { kind = kind; old = old; new = new }
+
+-- A writer was lent for this text.
+abbrev pub IsLentFor : Kind → List Lent → Type 0
+IsLentFor kind [] = ⊥
+IsLentFor kind (w ∷ ws) = (w.kind ≡ kind) ⊎ IsLentFor kind ws
+
+-- Its whole text was written.
+abbrev pub IsWhole : (Kind → List ℕ → Type 0) → Lent → Type 0
+IsWhole IsText w = (text : List ℕ) × IsText w.kind text × Appends w.old w.new text
+
+-- A beginning of its text was written, and some of it was not.
+abbrev pub IsBegun : (Kind → List ℕ → Type 0) → Lent → Type 0
+IsBegun IsText w = (text : List ℕ) × IsText w.kind text × WroteFront w.old w.new text
+
+-- Each writer has its whole text.
+abbrev pub AreWhole : (Kind → List ℕ → Type 0) → List Lent → Type 0
+AreWhole IsText [] = Unit {0}
+AreWhole IsText (w ∷ ws) = IsWhole IsText w × AreWhole IsText ws
+
+-- Nothing was written to any.
+abbrev pub AreKept : List Lent → Type 0
+AreKept [] = Unit {0}
+AreKept (w ∷ ws) = Keeps w.old w.new × AreKept ws
+
+-- One has a beginning of its text, those before it have their whole texts, and nothing was written to those after it.
+abbrev pub AreWrittenUpTo : (Kind → List ℕ → Type 0) → List Lent → Type 0
+AreWrittenUpTo IsText [] = ⊥
+AreWrittenUpTo IsText (w ∷ ws) = (IsBegun IsText w × AreKept ws) ⊎ (IsWhole IsText w × AreWrittenUpTo IsText ws)
+
+-- all on Ok, and up to one on Err
+abbrev pub AreWritten : {T E : Type 0} → (Kind → List ℕ → Type 0) → List Lent → Result T E → Type 0
+AreWritten IsText ws r = MatchResult r (λ _. AreWhole IsText ws) (λ _. AreWrittenUpTo IsText ws)
+
+-- what an option of a writer is left as, and a pair of writers
+abbrev pub Left : Type 0 → Type 0
+Left W = Unit {0} ⊎ ((MutBor W × Unit {0}) ⊎ ⊥)
+
+abbrev pub LeftBoth : Type 0 → Type 0 → Type 0
+LeftBoth E O = Unit {0} ⊎ ((MutBor E × (MutBor O × Unit {0})) ⊎ ⊥)
+
+-- the writer for the game's text, if it is lent
+abbrev pub game_writer : {G : Type 0} → (G → Option (List ℕ)) → Option (MutBor G) → Left G → List Lent
+game_writer contents None left = []
+game_writer contents (Some game) (inl x) = lent_for GameText (contents game.now) None ∷ []
+game_writer contents (Some game) (inr (inl left)) = lent_for GameText (contents game.now) (contents left.0.now) ∷ []
+game_writer contents (Some game) (inr (inr x)) = absurd x
+
+-- those for the texts of evidence, if they are lent
+abbrev pub evidence_writers : {E O : Type 0} → (E → Option (List ℕ)) → (O → Option (List ℕ)) → EvidenceWriters E O → LeftBoth E O → List Lent
+evidence_writers evens odds Neither left = []
+evidence_writers evens odds (Both even odd) (inl x) = lent_for EvenText (evens even.now) None ∷ lent_for OddText (odds odd.now) None ∷ []
+evidence_writers evens odds (Both even odd) (inr (inl left)) = lent_for EvenText (evens even.now) (evens left.0.now) ∷ lent_for OddText (odds odd.now) (odds left.1.0.now) ∷ []
+evidence_writers evens odds (Both even odd) (inr (inr x)) = absurd x
+
+abbrev pub report_writer : (old new : Option (List ℕ)) → List Lent
+report_writer old new = lent_for ReportText old new ∷ []
