@@ -1,5 +1,5 @@
 -- Texts that are written one after another, each to a writer of its own.
-use Rattle.std.proofs.Common.{◌≡◌, ℕ, List, Result, Ok, Err, sym, ap, true≢false}
+use Rattle.std.proofs.Common.{ℕ, List, Result, Ok, Err, sym, ap, true≢false}
 use Rattle.std.specs.Result.{IsErr}
 use Rattle.pgsolver.specs.Canon.{game_text}
 use Rattle.engines.specs.declared.findings.Findings.{Findings}

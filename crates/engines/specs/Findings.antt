@@ -1,5 +1,5 @@
 -- What a check by a game finds out.
-use Rattle.std.specs.Prelude.{◌≡◌, ℕ, ◌≤◌, Bool, List}
+use Rattle.std.specs.Prelude.{◌≡◌, ℕ, ◌≤◌, List}
 use Rattle.lts.specs.System.{System}
 use Rattle.formula.specs.Tree.{Formula}
 use Rattle.formula.specs.Closed.{closed_formula}

@@ -1,4 +1,4 @@
-use Rattle.std.proofs.Common.{[], ◌∷◌, inl, inr, refl, ap, Err}
+use Rattle.std.proofs.Common.{[], ◌∷◌, inl, refl, ap, Err}
 use Rattle.std.proofs.KnownBytes.{Keeps-refl}
 use Rattle.engines.specs.Check.{ByGame}
 use Rattle.engines.specs.Findings.{system_of, formula_of, rule_in}

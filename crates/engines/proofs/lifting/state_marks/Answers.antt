@@ -1,9 +1,8 @@
-use Rattle.std.proofs.Common.{◌≡◌, ℕ, Bool, List, subst, sym}
+use Rattle.std.proofs.Common.{subst}
 use Rattle.formula.specs.Closed.{closed_formula}
 use Rattle.formula.specs.Meaning.{Marks}
 use Rattle.normal.specs.Rules.{nodes_with}
 use Rattle.game.specs.Game.{Game}
-use Rattle.engines.specs.Check.{game_of}
 use Rattle.engines.specs.Roots.{WinsRoot}
 use Rattle.engines.proofs.Limits.{nodes_some}
 use Rattle.engines.proofs.Roots.{arena_roots, roots_mean}
