@@ -148,7 +148,7 @@ fn plain<'a>(alloc: Global) -> Arg<'a> {
 }
 
 /// An option that has a value.
-fn valued<'a>(alloc: Global, name: &'a str, value: &'a str) -> Arg<'a> {
+fn option_with_value<'a>(alloc: Global, name: &'a str, value: &'a str) -> Arg<'a> {
     Arg::new(alloc, name)
         .long(name)
         .value_name(value)
@@ -156,7 +156,7 @@ fn valued<'a>(alloc: Global, name: &'a str, value: &'a str) -> Arg<'a> {
 }
 
 fn rule<'a>(alloc: Global) -> Arg<'a> {
-    valued(alloc, PRIORITIES, "RULE")
+    option_with_value(alloc, PRIORITIES, "RULE")
         .value_parser(ValueParser::from(RULES.as_slice()))
         .help(RULES_HELP)
 }
@@ -169,23 +169,23 @@ fn with_workers<'a>(
     is_check: bool,
 ) -> Result<Parser<'a>, AllocError> {
     let workers = clap::value_parser!(u32).range(1..=64);
-    let workers = hidden(alloc, WORKERS, "1 to 64", is_check)?.value_parser(workers);
+    let workers = hidden_option(alloc, WORKERS, "1 to 64", is_check)?.value_parser(workers);
     let parser = parser.arg(workers)?;
     let shards = clap::value_parser!(u32).range(1..=256);
-    let shards = hidden(alloc, SHARDS, "1 to 256", is_check)?.value_parser(shards);
+    let shards = hidden_option(alloc, SHARDS, "1 to 256", is_check)?.value_parser(shards);
     let parser = parser.arg(shards)?;
     let boards = ValueParser::from(BOARDS.as_slice());
-    parser.arg(hidden(alloc, BOARD, "kind", is_check)?.value_parser(boards))
+    parser.arg(hidden_option(alloc, BOARD, "kind", is_check)?.value_parser(boards))
 }
 
 /// An option that has a value and is hidden from the help. It may go with `--plain` alone.
-fn hidden<'a>(
+fn hidden_option<'a>(
     alloc: Global,
     name: &'a str,
     value: &'a str,
     is_plain: bool,
 ) -> Result<Arg<'a>, AllocError> {
-    let arg = valued(alloc, name, value).hide(true);
+    let arg = option_with_value(alloc, name, value).hide(true);
     if is_plain {
         arg.requires_arg(PLAIN)
     } else {
@@ -201,5 +201,7 @@ fn with_outputs<'a>(alloc: Global, parser: Parser<'a>) -> Result<Parser<'a>, All
 }
 
 fn output<'a>(alloc: Global, name: &'a str, value: &'a str) -> Result<Arg<'a>, AllocError> {
-    valued(alloc, name, value).hide(true).conflicts_with(PLAIN)
+    option_with_value(alloc, name, value)
+        .hide(true)
+        .conflicts_with(PLAIN)
 }
