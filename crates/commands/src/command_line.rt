@@ -23,7 +23,7 @@ pub fn command<'a>(alloc: Global, words: &'a [String]) -> Result<Command<'a>, Mu
     ensures complete { IfOk result IsComplete }
 {
     let matches = matches_of(alloc, words)?;
-    match asked(&matches) {
+    match request_of(&matches) {
         Ok(command) => Ok(command),
         Err(error) => Err(MuError::Arguments(error)),
     }
@@ -51,11 +51,11 @@ fn refusal(alloc: Global, error: &ClapError) -> MuError {
 }
 
 /// The command that the matches ask for.
-fn asked<'a>(matches: &ArgMatches<'a>) -> Result<Command<'a>, ArgumentError>
+fn request_of<'a>(matches: &ArgMatches<'a>) -> Result<Command<'a>, ArgumentError>
     ensures { IfOk result IsComplete }
 {
     match matches.subcommand() {
-        Some(("check", found)) => checked(found),
+        Some(("check", found)) => check_of(found),
         Some(("normal", found)) => Ok(Command::Normal(Normal {
             formula: file_name(found, FORMULA)?,
             priorities: rule(found),
@@ -74,7 +74,7 @@ fn asked<'a>(matches: &ArgMatches<'a>) -> Result<Command<'a>, ArgumentError>
 }
 
 /// The check that the matches of its command ask for.
-fn checked<'a>(matches: &ArgMatches<'a>) -> Result<Command<'a>, ArgumentError>
+fn check_of<'a>(matches: &ArgMatches<'a>) -> Result<Command<'a>, ArgumentError>
     ensures { IfOk result IsComplete }
 {
     let check = Check {
@@ -87,12 +87,12 @@ fn checked<'a>(matches: &ArgMatches<'a>) -> Result<Command<'a>, ArgumentError>
         game: optional_name(matches, GAME_FILE)?,
         evidence: optional_name(matches, EVIDENCE_FILES)?,
     };
-    served(&outputs)?;
+    refuse_unserved(&outputs)?;
     Ok(Command::Check(check, outputs))
 }
 
-/// Nothing writes the game or evidence of a check yet.
-fn served(outputs: &Outputs<'_>) -> Result<(), ArgumentError> {
+/// Refuses what nothing writes yet: the game and the evidence of a check. No other place says so.
+fn refuse_unserved(outputs: &Outputs<'_>) -> Result<(), ArgumentError> {
     if outputs.game.is_some() {
         return Err(ArgumentError::NotServed("--game"));
     }

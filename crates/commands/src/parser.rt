@@ -155,7 +155,7 @@ fn plain<'a>(alloc: Global) -> Arg<'a> {
 }
 
 /// An option that has a value.
-fn valued<'a>(alloc: Global, name: &'a str, value: &'a str) -> Arg<'a> {
+fn option_with_value<'a>(alloc: Global, name: &'a str, value: &'a str) -> Arg<'a> {
     Arg::new(alloc, name)
         .long(name)
         .value_name(value)
@@ -163,7 +163,7 @@ fn valued<'a>(alloc: Global, name: &'a str, value: &'a str) -> Arg<'a> {
 }
 
 fn rule<'a>(alloc: Global) -> Arg<'a> {
-    valued(alloc, PRIORITIES, "RULE")
+    option_with_value(alloc, PRIORITIES, "RULE")
         .value_parser(ValueParser::from(RULES.as_slice()))
         .help(RULES_HELP)
 }
@@ -193,7 +193,7 @@ fn lifter<'a>(
     help: &'a str,
     is_check: bool,
 ) -> Result<Arg<'a>, AllocError> {
-    let arg = valued(alloc, name, value).help(help);
+    let arg = option_with_value(alloc, name, value).help(help);
     if is_check {
         arg.hide(true).requires_arg(PLAIN)
     } else {
@@ -209,5 +209,7 @@ fn with_outputs<'a>(alloc: Global, parser: Parser<'a>) -> Result<Parser<'a>, All
 }
 
 fn output<'a>(alloc: Global, name: &'a str, value: &'a str) -> Result<Arg<'a>, AllocError> {
-    valued(alloc, name, value).hide(true).conflicts_with(PLAIN)
+    option_with_value(alloc, name, value)
+        .hide(true)
+        .conflicts_with(PLAIN)
 }

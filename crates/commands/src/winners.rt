@@ -78,7 +78,7 @@ fn write_sizes<W: Write>(marks: &[bool], out: &mut W) -> Result<(), WriteFault>
             Piece::Bytes(b"vertices "),
             Piece::Number(marks.len() as u64),
             Piece::Bytes(b"\neven "),
-            Piece::Number(marked(marks) as u64),
+            Piece::Number(count_marked(marks) as u64),
             Piece::Bytes(b"\n"),
         ],
     )
@@ -103,7 +103,7 @@ fn write_line<W: Write>(v: usize, mark: bool, out: &mut W) -> Result<(), WriteFa
 }
 
 /// How many are marked.
-fn marked(marks: &[bool]) -> usize
+fn count_marked(marks: &[bool]) -> usize
     ensures { result ≡ count_by (λ mark. mark) marks.now }
 {
     marks.iter().filter(|mark| **mark).count()

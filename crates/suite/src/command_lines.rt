@@ -45,7 +45,7 @@ fn rule_of(priorities: Priorities) -> &'static str {
 }
 
 /// What the words ask for.
-fn asked(alloc: Global, words: &[String]) -> Result<String, AllocError> {
+fn request_of(alloc: Global, words: &[String]) -> Result<String, AllocError> {
     match command(alloc, words) {
         Ok(Command::Check(check, _)) => {
             let options = options_of(alloc, &check.options)?;
@@ -108,7 +108,7 @@ fn takes_command_lines(rt: HostRuntime) -> Result<(), AllocError> {
         same(
             &rt,
             line,
-            asked(rt.alloc(), words.as_slice())?.as_str(),
+            request_of(rt.alloc(), words.as_slice())?.as_str(),
             wanted,
         );
     }
