@@ -12,6 +12,8 @@ mod command_lines;
 #[cfg(test)]
 mod common;
 #[cfg(test)]
+mod dice;
+#[cfg(test)]
 mod evidence_texts;
 #[cfg(test)]
 mod formula_texts;
@@ -21,6 +23,8 @@ mod game_texts;
 mod games;
 #[cfg(test)]
 mod good_evidence;
+#[cfg(test)]
+mod known_games;
 #[cfg(test)]
 mod labels;
 #[cfg(test)]
@@ -39,6 +43,8 @@ mod normal_texts;
 mod packed_boards;
 #[cfg(test)]
 mod progress_measures;
+#[cfg(test)]
+mod random_games;
 #[cfg(test)]
 mod readers;
 #[cfg(test)]

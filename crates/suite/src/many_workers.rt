@@ -47,9 +47,7 @@ const WAY: [Row; 6] = [
 ];
 
 // The workers' table is that of one thread.
-fn same_table<
-    R: Abort + AllocGlobal + Threads + Wait + Clone + Copy + Drop + Send + Sync,
->(
+fn same_table<R: Abort + AllocGlobal + Threads + Wait + Clone + Copy + Drop + Send + Sync>(
     rt: &R,
     rows: &[Row],
     shards: u32,
@@ -74,8 +72,14 @@ fn same_table<
 #[test]
 fn any_number_of_workers_finds_the_least_table(rt: HostRuntime) -> Result<(), Fail> {
     for workers in [1, 2, 8] {
-        assert!(rt; same_table(&rt, &ODD_RING, 1, workers)?, "{workers} on a ring");
-        assert!(rt; same_table(&rt, &ODD_RING, 16, workers)?, "{workers} on a ring in shards");
+        assert!(rt;
+            same_table(&rt, &ODD_RING, 1, workers)?,
+            "{workers} on a ring"
+        );
+        assert!(rt;
+            same_table(&rt, &ODD_RING, 16, workers)?,
+            "{workers} on a ring in shards"
+        );
         assert!(rt; same_table(&rt, &WAY, 16, workers)?, "{workers} on a way");
     }
     Ok(())
@@ -100,7 +104,9 @@ impl Meeting {
     }
 
     fn took_place(&self) -> bool {
-        self.came.iter().all(|came| came.load(Ordering::SeqCst) == 1)
+        self.came
+            .iter()
+            .all(|came| came.load(Ordering::SeqCst) == 1)
             && self.missed.load(Ordering::SeqCst) == 0
     }
 }
@@ -244,15 +250,14 @@ impl<'a, B: Board> Board for Noted<'a, B> {
         let lasts = notes.lasts.load(Ordering::SeqCst);
         notes.lasts_at_the_end.store(lasts, Ordering::SeqCst);
         inner.finish(table);
-        notes.settled_at_the_end.store(is_settled(game, table), Ordering::SeqCst);
+        notes
+            .settled_at_the_end
+            .store(is_settled(game, table), Ordering::SeqCst);
     }
 }
 
 // Whether workers over a noted board end well.
-fn ends_well<
-    K: GameName + Send + Sync,
-    R: Threads + Wait + Clone + Copy + Drop + Send + Sync,
->(
+fn ends_well<K: GameName + Send + Sync, R: Threads + Wait + Clone + Copy + Drop + Send + Sync>(
     rt: &R,
     alloc: Global,
     game: &Arc<Game, Global>,
@@ -273,9 +278,7 @@ fn ends_well<
 }
 
 // The same of the game of these vertices.
-fn all_end_well<
-    R: Abort + AllocGlobal + Threads + Wait + Clone + Copy + Drop + Send + Sync,
->(
+fn all_end_well<R: Abort + AllocGlobal + Threads + Wait + Clone + Copy + Drop + Send + Sync>(
     rt: &R,
     rows: &[Row],
     workers: usize,
@@ -289,7 +292,10 @@ fn all_end_well<
 #[test]
 fn workers_leave_nothing_to_lift(rt: HostRuntime) -> Result<(), Fail> {
     for workers in [1, 2, 8] {
-        assert!(rt; all_end_well(&rt, &ODD_RING, workers)?, "{workers} on a ring");
+        assert!(rt;
+            all_end_well(&rt, &ODD_RING, workers)?,
+            "{workers} on a ring"
+        );
         assert!(rt; all_end_well(&rt, &WAY, workers)?, "{workers} on a way");
     }
     Ok(())

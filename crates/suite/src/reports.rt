@@ -6,6 +6,7 @@ use engines::engine::{check, check_one, check_plain};
 use engines::error::MuError;
 use engines::request::{BoardKind, Options};
 use engines::status::status;
+use normal::priorities::Priorities;
 use std::alloc::{AllocError, Global};
 use std::io;
 use std::process::Abort;
@@ -33,6 +34,7 @@ fn first_line(system: &str) -> &'static str {
 }
 
 const DEFAULTS: Options = Options {
+    priorities: Priorities::Nested,
     workers: 1,
     shards: 16,
     board: BoardKind::Auto,
