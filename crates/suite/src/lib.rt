@@ -14,6 +14,8 @@ mod command_texts;
 #[cfg(test)]
 mod common;
 #[cfg(test)]
+mod dice;
+#[cfg(test)]
 mod evidence_texts;
 #[cfg(test)]
 mod faults;
@@ -25,6 +27,8 @@ mod game_texts;
 mod games;
 #[cfg(test)]
 mod good_evidence;
+#[cfg(test)]
+mod known_games;
 #[cfg(test)]
 mod labels;
 #[cfg(test)]
@@ -43,6 +47,8 @@ mod normal_texts;
 mod packed_boards;
 #[cfg(test)]
 mod progress_measures;
+#[cfg(test)]
+mod random_games;
 #[cfg(test)]
 mod readers;
 #[cfg(test)]

@@ -1,17 +1,17 @@
 // What a search finds to be lost: in small games whose winners were worked out by hand, one letter for each vertex, and in
 // games made at random exactly what the least progress table says, which is proved.
 
-ghost use Rattle.std.specs.Prelude.{◌≡◌, ◌<◌};
+ghost use Rattle.std.specs.Prelude.{◌≡◌};
 
-use crate::common::{Row, form_of, game_of, push, system_of};
+use crate::common::{Row, form_of, game_of, system_of};
+use crate::dice::{Dice, roll_game};
 use game::build::build;
-use game::graph::{Game, GameBuilder};
+use game::graph::Game;
 use game::player::Player;
 use measures::settle::{even_wins, solve_one};
 use measures::table::Settled;
 use search::lost::Lost;
 use std::alloc::{AllocError, Global};
-use std::process::Abort;
 use std::test::Fail;
 
 // Games, and who wins each vertex.
@@ -103,66 +103,11 @@ fn small_games_are_searched(rt: HostRuntime) -> Result<(), Fail> {
     Ok(())
 }
 
-// A linear congruential generator.
-#[derive(Drop)]
-struct Dice {
-    state: u32,
-}
-
-impl Dice {
-    fn roll(&mut self, sides: u32) -> u32
-        requires { 0 < sides }
-        ensures { result < sides }
-    {
-        self.state = self
-            .state
-            .wrapping_mul(1_664_525)
-            .wrapping_add(1_013_904_223);
-        (self.state >> 8) % sides
-    }
-}
-
-// Successors among ten vertices, ascending: one at least.
-fn roll_successors(dice: &mut Dice, successors: &mut Vec<u32>) -> Result<(), AllocError> {
-    successors.clear();
-    let sure = dice.roll(10);
-    for t in 0..10 {
-        if dice.roll(6) == 0 || t == sure {
-            successors.push(t)?;
-        }
-    }
-    Ok(())
-}
-
-fn roll_vertex(
-    rt: &impl Abort,
-    dice: &mut Dice,
-    builder: &mut GameBuilder,
-    successors: &[u32],
-) -> Result<(), AllocError> {
-    let owner = if dice.roll(2) == 0 {
-        Player::Even
-    } else {
-        Player::Odd
-    };
-    push(rt, builder, owner, dice.roll(6) as u8, successors)
-}
-
-fn roll_game(rt: &(impl Abort + AllocGlobal), dice: &mut Dice) -> Result<Option<Game>, AllocError> {
-    let mut builder = GameBuilder::new(rt.alloc());
-    let mut successors = Vec::new(rt.alloc());
-    for _ in 0..10 {
-        roll_successors(dice, &mut successors)?;
-        roll_vertex(rt, dice, &mut builder, successors.as_slice())?;
-    }
-    Ok(builder.finish())
-}
-
 #[test]
 fn games_at_random_are_searched(rt: HostRuntime) -> Result<(), Fail> {
-    let mut dice = Dice { state: 1 };
+    let mut dice = Dice::new(1);
     for number in 0..300 {
-        let game = roll_game(&rt, &mut dice)?.ok_or("no game")?;
+        let game = roll_game(&rt, &mut dice, 10, 6)?.ok_or("no game")?;
         assert!(rt; is_found(rt.alloc(), &game)?, "{number}");
     }
     Ok(())
@@ -173,7 +118,7 @@ const STATES: u32 = 20_000;
 // A ring of so many states with one more step from each, at random. No step is a `c`.
 fn branching(alloc: Global) -> Result<String, AllocError> {
     let mut text = format!(in alloc; "des (0,{},{STATES})\n", 2 * STATES)?;
-    let mut dice = Dice { state: 1 };
+    let mut dice = Dice::new(1);
     for state in 0..STATES {
         let next = (state + 1) % STATES;
         let other = dice.roll(STATES);

@@ -191,8 +191,8 @@ module _ (g : Game) (p n w : ℕ) (is : w ≡ size (count g) (drop (kept g p) (c
         (lower_prog r l less
         (subst (λ s. Over s k (decode f ps n) (decode f ps r)) (sym even) (over_more f k ps (decode f ps n) (decode f ps r) (decode_bounded f ps n l) (decode_bounded f ps r less) (omega (arith, from, to))))
         (λ e b o.
-            let more = front_more f k ps (decode f ps n) e (decode_bounded f ps n l) b (subst (λ s. Over s k (decode f ps n) e) even o) in
-            code_least f k ps e (n / w) w b is (omega (arith, more, from)))))
+        let more = front_more f k ps (decode f ps n) e (decode_bounded f ps n l) b (subst (λ s. Over s k (decode f ps n) e) even o) in
+        code_least f k ps e (n / w) w b is (omega (arith, more, from)))))
   ]
 
   pub odd_prog : (r : ℕ) → is_odd p ≡ true → n ≤ height g → r ≡ n - n % w + w → ((height g ≤ r) → IsProg g p (of_rank g n) (of_rank g (height g))) × (r < height g → IsProg g p (of_rank g n) (of_rank g r))
