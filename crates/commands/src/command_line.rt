@@ -87,19 +87,7 @@ fn check_of<'a>(matches: &ArgMatches<'a>) -> Result<Command<'a>, ArgumentError>
         game: optional_name(matches, GAME_FILE)?,
         evidence: optional_name(matches, EVIDENCE_FILES)?,
     };
-    refuse_unserved(&outputs)?;
     Ok(Command::Check(check, outputs))
-}
-
-/// Refuses what nothing writes yet: the game and the evidence of a check. No other place says so.
-fn refuse_unserved(outputs: &Outputs<'_>) -> Result<(), ArgumentError> {
-    if outputs.game.is_some() {
-        return Err(ArgumentError::NotServed("--game"));
-    }
-    if outputs.evidence.is_some() {
-        return Err(ArgumentError::NotServed("--evidence"));
-    }
-    Ok(())
 }
 
 /// The options of a command that makes a game or solves one.

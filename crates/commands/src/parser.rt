@@ -82,6 +82,11 @@ const PLAIN_HELP: &str = "Evaluate the formula over sets of states, without a ga
 
 const RULES_HELP: &str = "The rule by which fixpoints get their priorities: nested is the default";
 
+const GAME_FILE_HELP: &str = "Write the parity game to this file, in the format of PGSolver";
+
+const EVIDENCE_FILES_HELP: &str =
+    "Write the evidence of both players to PATH.even and PATH.odd, which verify checks";
+
 const WORKERS_HELP: &str = "How many workers lift at once: 1 is the default";
 
 const SHARDS_HELP: &str = "How many locks the locked board has: 16 is the default";
@@ -201,15 +206,20 @@ fn lifter<'a>(
     }
 }
 
-/// Where the game and the evidence go, which are made of a game alone. Nothing writes them yet, so the help leaves them out.
+/// Where the game and the evidence go, which are made of a game alone.
 fn with_outputs<'a>(alloc: Global, parser: Parser<'a>) -> Result<Parser<'a>, AllocError> {
-    let game = output(alloc, GAME_FILE, "FILE")?;
+    let game = output(alloc, GAME_FILE, "FILE", GAME_FILE_HELP)?;
     let parser = parser.arg(game)?;
-    parser.arg(output(alloc, EVIDENCE_FILES, "PATH")?)
+    parser.arg(output(alloc, EVIDENCE_FILES, "PATH", EVIDENCE_FILES_HELP)?)
 }
 
-fn output<'a>(alloc: Global, name: &'a str, value: &'a str) -> Result<Arg<'a>, AllocError> {
+fn output<'a>(
+    alloc: Global,
+    name: &'a str,
+    value: &'a str,
+    help: &'a str,
+) -> Result<Arg<'a>, AllocError> {
     option_with_value(alloc, name, value)
-        .hide(true)
+        .help(help)
         .conflicts_with(PLAIN)
 }

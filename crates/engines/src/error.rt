@@ -29,9 +29,6 @@ pub enum ArgumentError {
     /// A number is outside of its limits.
     #[error("error: a number is outside of its limits\n")]
     OverLimit,
-    /// The option or the writer is served by nothing yet.
-    #[error("error: {0} is not served yet\n")]
-    NotServed(&'static str),
 }
 
 /// Why there is no answer. It is shown as its code, with the place where it has one.

@@ -2,15 +2,19 @@
 // ended; all that matters stands in the engines.
 #![tactic(auto)]
 
+mod files;
+
+use crate::files::{EvidenceNames, FileWriter, Files};
 use commands::command_line::command;
 use commands::normal_text::normal_text;
-use commands::request::{Command, Normal, Solve, Verify};
+use commands::request::{Command, Normal, Outputs, Solve, Verify};
 use commands::solve_text::solve_text;
 use commands::verify_text::{verify_both_text, verify_text};
-use engines::engine::check_asked;
+use engines::engine::{check, check_asked};
 use engines::error::{ArgumentError, MuError};
 use engines::request::Check;
 use engines::status::status;
+use engines::writers::EvidenceWriters;
 use std::fs::File;
 use std::io::ErrorKind;
 use std::process::ExitCode;
@@ -28,7 +32,7 @@ fn main(rt: HostRuntime) -> ExitCode {
 fn run(rt: &HostRuntime) -> Result<bool, MuError> {
     let words = words(rt)?;
     match command(rt.alloc(), &words)? {
-        Command::Check(request, _) => run_check(rt, &request),
+        Command::Check(request, outputs) => run_check(rt, &request, &outputs),
         Command::Normal(request) => run_normal(rt, &request),
         Command::Solve(request) => run_solve(rt, &request),
         Command::Verify(request) => run_verify(rt, &request),
@@ -50,10 +54,72 @@ fn open(rt: &HostRuntime, name: &str) -> Result<File, MuError> {
 }
 
 /// Both files are opened, in the order of the command line, before the first is read.
-fn run_check(rt: &HostRuntime, request: &Check<'_>) -> Result<bool, MuError> {
+fn run_check(
+    rt: &HostRuntime,
+    request: &Check<'_>,
+    outputs: &Outputs<'_>,
+) -> Result<bool, MuError> {
     let system = open(rt, request.system)?;
     let formula = open(rt, request.formula)?;
-    check_asked(rt.alloc(), request, system, formula, &mut io::writer(rt))
+    let names = match outputs.evidence {
+        Some(path) => EvidenceNames::of(rt.alloc(), path).map(Some),
+        None => Ok(None),
+    };
+    let Ok(names) = names else {
+        return Err(MuError::Memory);
+    };
+    let files = Files::new(rt, outputs.game, names);
+    let answer = write_files(rt, request, system, formula, &files);
+    if files.is_refused() {
+        return Err(MuError::File);
+    }
+    answer
+}
+
+/// Writes what is asked for to the files, and then the report.
+fn write_files(
+    rt: &HostRuntime,
+    request: &Check<'_>,
+    system: File,
+    formula: File,
+    files: &Files<'_>,
+) -> Result<bool, MuError> {
+    let out = &mut io::writer(rt);
+    let options = &request.options;
+    let (game, even, odd) = (&mut files.game(), &mut files.even(), &mut files.odd());
+    match (files.has_game(), files.has_evidence()) {
+        (false, false) => check_asked(rt.alloc(), request, system, formula, out),
+        (true, false) => {
+            let evidence: EvidenceWriters<'_, FileWriter<'_>, FileWriter<'_>> =
+                EvidenceWriters::Neither;
+            check(
+                rt.alloc(),
+                system,
+                formula,
+                options,
+                out,
+                Some(game),
+                evidence,
+            )
+        }
+        (false, true) => {
+            let no_game: Option<&mut FileWriter<'_>> = None;
+            let evidence = EvidenceWriters::Both(even, odd);
+            check(rt.alloc(), system, formula, options, out, no_game, evidence)
+        }
+        (true, true) => {
+            let evidence = EvidenceWriters::Both(even, odd);
+            check(
+                rt.alloc(),
+                system,
+                formula,
+                options,
+                out,
+                Some(game),
+                evidence,
+            )
+        }
+    }
 }
 
 fn run_normal(rt: &HostRuntime, request: &Normal<'_>) -> Result<bool, MuError> {

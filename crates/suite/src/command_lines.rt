@@ -47,10 +47,12 @@ fn rule_of(priorities: Priorities) -> &'static str {
 /// What the words ask for.
 fn request_of(alloc: Global, words: &[String]) -> Result<String, AllocError> {
     match command(alloc, words) {
-        Ok(Command::Check(check, _)) => {
+        Ok(Command::Check(check, outputs)) => {
             let options = options_of(alloc, &check.options)?;
             let (system, formula, plain) = (check.system, check.formula, check.plain);
-            format!(in alloc; "check {system} {formula} {options} {plain}")
+            let game = outputs.game.unwrap_or("-");
+            let evidence = outputs.evidence.unwrap_or("-");
+            format!(in alloc; "check {system} {formula} {options} {plain} {game} {evidence}")
         }
         Ok(Command::Normal(form)) => {
             let (formula, rule) = (form.formula, rule_of(form.priorities));
@@ -71,19 +73,27 @@ fn request_of(alloc: Global, words: &[String]) -> Result<String, AllocError> {
 }
 
 /// Lines and what they ask for, with the defaults of the program's description.
-const TAKEN: [(&str, &str); 12] = [
+const TAKEN: [(&str, &str); 14] = [
+    (
+        "mucheck check s f --game g",
+        "check s f nested 1 16 auto false g -",
+    ),
+    (
+        "mucheck check --evidence e s f --game g",
+        "check s f nested 1 16 auto false g e",
+    ),
     (
         "mucheck check s f --plain --workers 64 --board packed",
-        "check s f nested 64 16 packed true",
+        "check s f nested 64 16 packed true - -",
     ),
-    ("mucheck check s f", "check s f nested 1 16 auto false"),
+    ("mucheck check s f", "check s f nested 1 16 auto false - -"),
     (
         "mucheck check s f --priorities dependent",
-        "check s f dependent 1 16 auto false",
+        "check s f dependent 1 16 auto false - -",
     ),
     (
         "mucheck check --plain s --priorities nested f",
-        "check s f nested 1 16 auto true",
+        "check s f nested 1 16 auto true - -",
     ),
     ("mucheck normal f", "normal f nested"),
     ("mucheck normal f --priorities nested", "normal f nested"),
@@ -121,8 +131,8 @@ const REFUSED: [&str; 25] = [
     "mucheck check s f --plain --workers 65",
     "mucheck check s f --plain --workers 0",
     "mucheck check s f --workers 2",
-    "mucheck check s f --game g",
-    "mucheck check s f --evidence e",
+    "mucheck check s f --game ",
+    "mucheck check s f --evidence ",
     "mucheck check s f --plain --game g",
     "mucheck check s f --plain --evidence e",
     "mucheck check s f --priorities other",
@@ -165,7 +175,12 @@ fn help(alloc: Global, words: &[String]) -> Result<String, AllocError> {
 const SHOWN: [(&str, [&str; 4]); 4] = [
     (
         "mucheck check --help",
-        ["SYSTEM", "FORMULA", "--plain", "Example:\n  mucheck check "],
+        [
+            "--game",
+            "--evidence",
+            "--plain",
+            "Example:\n  mucheck check ",
+        ],
     ),
     (
         "mucheck normal --help",
@@ -178,7 +193,12 @@ const SHOWN: [(&str, [&str; 4]); 4] = [
     ),
     (
         "mucheck solve --help",
-        ["GAME", "PGSolver", "Even", "Example:\n  mucheck solve "],
+        [
+            "PGSolver",
+            "--workers",
+            "--board",
+            "Example:\n  mucheck solve ",
+        ],
     ),
     (
         "mucheck verify --help",
@@ -190,7 +210,6 @@ fn shows(rt: &impl Abort, text: &str, parts: &[&str]) {
     for part in parts {
         assert!(rt; text.contains(*part), "{part}");
     }
-    assert!(rt; !text.contains("--workers"));
 }
 
 #[test]

@@ -24,21 +24,21 @@ const OPTIONS: Options = Options {
 };
 
 /// The game of `<a>true` on a ring of two states.
-const STEP: &str =
+pub const STEP: &str =
     "parity 5;\n0 0 0 0 \"true\";\n1 1 0 1 \"false\";\n2 0 0 5 \"0,0\";\n3 0 0 0 \"0,1\";\n4 0 0 1 \"1,0\";\n5 0 0 0 \"1,1\";\n";
 
-const EVEN_OF_STEP: &str = "evidence even\n0 0 (0)\n2 5 (0)\n3 0 (0)\n5 0 (0)\n";
+pub const EVEN_OF_STEP: &str = "evidence even\n0 0 (0)\n2 5 (0)\n3 0 (0)\n5 0 (0)\n";
 
-const ODD_OF_STEP: &str = "evidence odd\n1 - (0)\n4 - (1)\n";
+pub const ODD_OF_STEP: &str = "evidence odd\n1 - (0)\n4 - (1)\n";
 
 /// The game of `nu X. mu Y. (<a>X || <b>Y)` on it.
-const OFTEN_A: &str =
+pub const OFTEN_A: &str =
     "parity 15;\n0 0 0 0 \"true\";\n1 1 0 1 \"false\";\n2 2 0 3 \"0,0\";\n3 1 0 4 \"0,1\";\n4 0 0 5,7 \"0,2\";\n5 0 0 13 \"0,3\";\n6 0 0 2 \"0,4\";\n7 0 0 1 \"0,5\";\n8 0 0 3 \"0,6\";\n9 2 0 10 \"1,0\";\n10 1 0 11 \"1,1\";\n11 0 0 12,14 \"1,2\";\n12 0 0 1 \"1,3\";\n13 0 0 9 \"1,4\";\n14 0 0 8 \"1,5\";\n15 0 0 10 \"1,6\";\n";
 
-const EVEN: &str =
+pub const EVEN: &str =
     "evidence even\n0 0 (0)\n2 3 (0)\n3 4 (1)\n4 5 (0)\n5 13 (0)\n6 2 (0)\n8 3 (1)\n9 10 (0)\n10 11 (2)\n11 14 (1)\n13 9 (0)\n14 8 (1)\n15 10 (2)\n";
 
-const ODD: &str = "evidence odd\n1 - (0,0)\n7 - (0,1)\n12 - (0,1)\n";
+pub const ODD: &str = "evidence odd\n1 - (0,0)\n7 - (0,1)\n12 - (0,1)\n";
 
 /// A command with its texts.
 #[derive(Clone, Copy)]

@@ -58,4 +58,6 @@ mod system_texts;
 #[cfg(test)]
 mod writers;
 #[cfg(test)]
+mod written_checks;
+#[cfg(test)]
 mod written_systems;

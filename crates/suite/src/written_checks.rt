@@ -1,0 +1,183 @@
+// What a check writes: the game, both players' evidence and the report, of formulas whose games were solved by hand (the worked examples of docs/FORMATS.md).
+
+use crate::command_texts::{EVEN, EVEN_OF_STEP, ODD, ODD_OF_STEP, OFTEN_A, STEP};
+use crate::common::RING;
+use crate::writers::{AMPLE, Narrow};
+use engines::engine::{check, check_one};
+use engines::error::MuError;
+use engines::request::{BoardKind, Options};
+use engines::writers::EvidenceWriters;
+use normal::priorities::Priorities;
+use std::alloc::Global;
+
+const OPTIONS: Options = Options {
+    priorities: Priorities::Nested,
+    workers: 1,
+    shards: 16,
+    board: BoardKind::Auto,
+};
+
+/// The texts of a check, in the order in which they are written.
+struct Texts {
+    formula: &'static str,
+    game: &'static str,
+    even: &'static str,
+    odd: &'static str,
+    report: &'static str,
+}
+
+const CHECKS: [Texts; 2] = [
+    Texts {
+        formula: "<a>true",
+        game: STEP,
+        even: EVEN_OF_STEP,
+        odd: ODD_OF_STEP,
+        report: "system 2 states 2 transitions initial 0\nformula <a>true\nyes 1 of 2\ninitial yes\n0 yes\n1 no\n",
+    },
+    Texts {
+        formula: "nu X. mu Y. (<a>X || <b>Y)",
+        game: OFTEN_A,
+        even: EVEN,
+        odd: ODD,
+        report: "system 2 states 2 transitions initial 0\nformula (nu X. (mu Y. (<a>X || <b>Y)))\nyes 2 of 2\ninitial yes\n0 yes\n1 yes\n",
+    },
+];
+
+/// A writer for each text.
+#[derive(Drop)]
+struct Writers {
+    game: Narrow,
+    even: Narrow,
+    odd: Narrow,
+    report: Narrow,
+}
+
+impl Writers {
+    fn new(alloc: Global) -> Writers {
+        Writers {
+            game: Narrow::new(alloc, 9, AMPLE),
+            even: Narrow::new(alloc, 9, AMPLE),
+            odd: Narrow::new(alloc, 9, AMPLE),
+            report: Narrow::new(alloc, 9, AMPLE),
+        }
+    }
+}
+
+/// A check that writes all texts, on one thread or not.
+fn run(alloc: Global, formula: &str, is_one: bool, writers: &mut Writers) -> Result<bool, MuError> {
+    let system = RING.as_bytes();
+    let formula = formula.as_bytes();
+    let evidence = EvidenceWriters::Both(&mut writers.even, &mut writers.odd);
+    let game = Some(&mut writers.game);
+    if is_one {
+        check_one(
+            alloc,
+            system,
+            formula,
+            &OPTIONS,
+            &mut writers.report,
+            game,
+            evidence,
+        )
+    } else {
+        check(
+            alloc,
+            system,
+            formula,
+            &OPTIONS,
+            &mut writers.report,
+            game,
+            evidence,
+        )
+    }
+}
+
+/// Whether the writer has the first bytes of the text, so many.
+fn has(writer: &Narrow, text: &str, count: usize) -> bool {
+    writer.taken.len() == count && text.as_bytes().starts_with(writer.taken.as_slice())
+}
+
+fn has_all(writer: &Narrow, text: &str) -> bool {
+    has(writer, text, text.len())
+}
+
+#[test]
+fn every_text_is_written(rt: HostRuntime) {
+    for texts in &CHECKS {
+        for is_one in [true, false] {
+            let mut writers = Writers::new(rt.alloc());
+            let answer = run(rt.alloc(), texts.formula, is_one, &mut writers);
+            assert!(rt; answer.ok() == Some(true));
+            assert!(rt; has_all(&writers.game, texts.game));
+            assert!(rt; has_all(&writers.even, texts.even));
+            assert!(rt; has_all(&writers.odd, texts.odd));
+            assert!(rt; has_all(&writers.report, texts.report));
+        }
+    }
+}
+
+fn is_write_fault(answer: &Result<bool, MuError>) -> bool {
+    matches!(answer, Err(MuError::Write(_)))
+}
+
+#[test]
+fn a_failed_game_ends_the_check(rt: HostRuntime) {
+    for texts in &CHECKS {
+        for room in 0..texts.game.len() {
+            let mut writers = Writers::new(rt.alloc());
+            writers.game = Narrow::new(rt.alloc(), 9, room);
+            let answer = run(rt.alloc(), texts.formula, false, &mut writers);
+            assert!(rt; is_write_fault(&answer));
+            assert!(rt; has(&writers.game, texts.game, room));
+            assert!(rt; writers.even.taken.is_empty() && writers.odd.taken.is_empty());
+            assert!(rt; writers.report.taken.is_empty());
+        }
+    }
+}
+
+#[test]
+fn failed_evidence_ends_the_check(rt: HostRuntime) {
+    for texts in &CHECKS {
+        for room in 0..texts.odd.len() {
+            let mut writers = Writers::new(rt.alloc());
+            writers.odd = Narrow::new(rt.alloc(), 9, room);
+            let answer = run(rt.alloc(), texts.formula, false, &mut writers);
+            assert!(rt; is_write_fault(&answer));
+            assert!(rt; has_all(&writers.game, texts.game));
+            assert!(rt; has_all(&writers.even, texts.even));
+            assert!(rt; has(&writers.odd, texts.odd, room));
+            assert!(rt; writers.report.taken.is_empty());
+        }
+    }
+}
+
+#[test]
+fn a_failed_report_leaves_the_other_texts_whole(rt: HostRuntime) {
+    for texts in &CHECKS {
+        for room in 0..texts.report.len() {
+            let mut writers = Writers::new(rt.alloc());
+            writers.report = Narrow::new(rt.alloc(), 9, room);
+            let answer = run(rt.alloc(), texts.formula, true, &mut writers);
+            assert!(rt; is_write_fault(&answer));
+            assert!(rt; has_all(&writers.game, texts.game));
+            assert!(rt; has_all(&writers.odd, texts.odd));
+            assert!(rt; has(&writers.report, texts.report, room));
+        }
+    }
+}
+
+/// Which texts are written is the caller's choice.
+#[test]
+fn the_game_may_be_written_alone(rt: HostRuntime) {
+    for texts in &CHECKS {
+        let mut writers = Writers::new(rt.alloc());
+        let none: EvidenceWriters<'_, Vec<u8>, Vec<u8>> = EvidenceWriters::Neither;
+        let game = Some(&mut writers.game);
+        let (system, formula) = (RING.as_bytes(), texts.formula.as_bytes());
+        let out = &mut writers.report;
+        let answer = check(rt.alloc(), system, formula, &OPTIONS, out, game, none);
+        assert!(rt; answer.is_ok());
+        assert!(rt; has_all(&writers.game, texts.game));
+        assert!(rt; has_all(&writers.report, texts.report));
+    }
+}
