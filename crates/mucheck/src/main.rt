@@ -18,10 +18,12 @@ use engines::writers::EvidenceWriters;
 use std::fs::File;
 use std::io::ErrorKind;
 use std::process::ExitCode;
+use std::sync::Wait;
+use std::thread::Threads;
 use std::{env, io};
 
 fn main(rt: HostRuntime) -> ExitCode {
-    let answer = run(&rt);
+    let answer = run(&rt, &rt);
     if let Err(error) = &answer {
         // Where standard error fails too, the status alone tells.
         let _ = tell(&rt, error);
@@ -29,12 +31,16 @@ fn main(rt: HostRuntime) -> ExitCode {
     ExitCode::from(status(&answer))
 }
 
-fn run(rt: &HostRuntime) -> Result<bool, MuError> {
+// Threads are handed on apart, since `main` alone has them.
+fn run<T: Threads + Wait + Clone + Copy + Drop + Send + Sync>(
+    rt: &HostRuntime,
+    threads: &T,
+) -> Result<bool, MuError> {
     let words = words(rt)?;
     match command(rt.alloc(), &words)? {
         Command::Check(request, outputs) => run_check(rt, &request, &outputs),
         Command::Normal(request) => run_normal(rt, &request),
-        Command::Solve(request) => run_solve(rt, &request),
+        Command::Solve(request) => run_solve(rt, threads, &request),
         Command::Verify(request) => run_verify(rt, &request),
     }
 }
@@ -127,10 +133,14 @@ fn run_normal(rt: &HostRuntime, request: &Normal<'_>) -> Result<bool, MuError> {
     normal_text(rt.alloc(), formula, request.priorities, &mut io::writer(rt))
 }
 
-fn run_solve(rt: &HostRuntime, request: &Solve<'_>) -> Result<bool, MuError> {
+fn run_solve<T: Threads + Wait + Clone + Copy + Drop + Send + Sync>(
+    rt: &HostRuntime,
+    threads: &T,
+    request: &Solve<'_>,
+) -> Result<bool, MuError> {
     let game = open(rt, request.game)?;
     let options = &request.options;
-    solve_text(rt, rt.alloc(), game, options, &mut io::writer(rt))
+    solve_text(threads, rt.alloc(), game, options, &mut io::writer(rt))
 }
 
 /// All files are opened, in the order of the command line, before the first is read.
