@@ -295,8 +295,8 @@ fn commands_pass_refusals_on(rt: HostRuntime) -> Result<(), AllocError> {
 }
 
 /// Fifteen loops of Even of each odd priority from 3 to 31, and so many of priority 1: Odd wins them all.
-fn loops(alloc: Global, last: u32) -> Result<String, AllocError> {
-    let greatest = 224 + last;
+fn loops(alloc: Global, last: u8) -> Result<String, AllocError> {
+    let greatest = 224 + u32::from(last);
     let mut text = format!(in alloc; "parity {greatest};\n")?;
     for v in 0..=greatest {
         let priority = if v < 225 { 3 + v / 15 * 2 } else { 1 };
