@@ -1,10 +1,10 @@
-// Why there is no core.
+// Why there is no core, and no schedule.
 
 use lts::error::Memory;
 use std::alloc::AllocError;
 use thiserror::Error;
 
-/// Why there is no core. It is shown as its code.
+/// Why there is no core, and no schedule. It is shown as its code.
 #[derive(Clone, Copy, Debug, PartialEq, Eq, Error)]
 pub enum CoreError {
     /// A growth was refused.
@@ -33,5 +33,42 @@ impl From<AllocError> for CoreError {
     fn from(error: AllocError) -> Self {
         let AllocError = error;
         CoreError::Memory
+    }
+}
+
+/// What is wrong with a text that spells no schedule. It is shown as its code.
+#[derive(Clone, Copy, Debug, PartialEq, Eq, Error)]
+pub enum ScheduleFault {
+    /// A line has not the shape of an event.
+    #[error("S1")]
+    BadLine,
+    /// There is no such worker.
+    #[error("S2")]
+    NoSuchWorker,
+    /// There is no such vertex.
+    #[error("S3")]
+    NoSuchVertex,
+}
+
+/// Why there is no schedule.
+#[derive(Clone, Copy, Debug, PartialEq, Eq, Error)]
+pub enum ScheduleError {
+    /// The first fault of the text, and its line, from 1.
+    #[error("{fault} at line {line}")]
+    Fault { fault: ScheduleFault, line: u64 },
+    /// A growth was refused.
+    #[error("S4")]
+    Memory,
+}
+
+impl From<AllocError> for ScheduleError {
+    ghost use Rattle.std.specs.Prelude.{◌≡◌};
+    ghost use Rattle.liftcore.specs.declared.error.ScheduleError.TheVariants as errors;
+
+    ghost from_gives = { λ _ e. e ≡ errors.Memory };
+
+    fn from(error: AllocError) -> Self {
+        let AllocError = error;
+        ScheduleError::Memory
     }
 }
