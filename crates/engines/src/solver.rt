@@ -1,14 +1,12 @@
 // Solving a game as the options ask for.
 
-ghost use Rattle.std.specs.Prelude.{◌≡◌, IfErr, IfOk, None, Some};
+ghost use Rattle.std.specs.Prelude.{◌≡◌, IfErr, IfOk, Some};
 ghost use Rattle.std.specs.Arc.{arc_value};
 ghost use Rattle.engines.specs.Solver.{IsFitting, IsUnsolved};
 
 use crate::error::MuError;
 use crate::request::Options;
 use game::graph::Game;
-use lts::Memory;
-use measures::settle::solve_one;
 use measures::table::Settled;
 use std::alloc::Global;
 use std::sync::{Arc, Wait};
@@ -17,21 +15,7 @@ use workers::error::TeamError;
 use workers::gate::Gate;
 use workers::team::{Team, solve_by};
 
-/// The least progress table of a game, on the caller's thread and without a board.
-///
-/// # Errors
-/// U4.
-pub fn solve_alone(alloc: Global, game: &Game) -> Result<Settled, MuError>
-    ensures game { IfOk result (λ s. s.game ≡ game.now) }
-    ensures refusal { IfErr result (IsUnsolved None game.now) }
-{
-    match solve_one(alloc, game) {
-        Ok(settled) => Ok(settled),
-        Err(Memory) => Err(MuError::Memory),
-    }
-}
-
-/// The same by the workers over the board that the options ask for. The gate is told of each turn.
+/// The least progress table of a game, by the workers over the board that the options ask for. The gate is told of each turn.
 ///
 /// # Errors
 /// T1 where the packed board is asked for and the rank of top doesn't fit a word, and only there; T2 and V1 for memory.
