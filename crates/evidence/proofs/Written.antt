@@ -1,10 +1,9 @@
 -- The lines of evidence, as they are written.
-use Rattle.std.proofs.Common.{◌≡◌, ℕ, ◌+◌, ◌<◌, ◌≤◌, List, [], ◌∷◌, ◌++◌, Option, Some, None, length, drop, decimal, refl, sym, ap, ◌∙◌, add-one, append_assoc, slice_index_or}
-use Rattle.std.proofs.Math.Seq.{drop-cons}
-use Rattle.std.proofs.Math.ListN.{drop_of_length-le}
+use Rattle.std.proofs.Common.{◌≡◌, ℕ, suc, ◌+◌, ◌<◌, List, [], ◌∷◌, ◌++◌, Option, Some, None, length, decimal, refl, ap, ap₂, subst, ◌∙◌, append_assoc, slice_index_or, arith}
 use Rattle.lts.specs.Canon.{line_end}
 use Rattle.measures.specs.MeasureText.{counts_text}
-use Rattle.evidence.specs.Canon.{entry_line, entry_lines, move_text}
+use Rattle.text.specs.Wrote.{lines_from}
+use Rattle.evidence.specs.Canon.{entry_line, entry_lines, line_at, line_of, move_text}
 use Rattle.evidence.specs.Evidence.{Entry}
 
 -- a vertex and a move, each with a space behind it
@@ -16,16 +15,23 @@ line_is v move x e =
     let rest = counts_text x.rank ++ line_end in
     append_assoc (decimal v) (32 ∷ (move ++ 32 ∷ [])) rest ∙ ap (λ l. decimal v ++ 32 ∷ l) (append_assoc move (32 ∷ []) rest ∙ ap (λ l. l ++ 32 ∷ rest) e)
 
--- the lines from a vertex on
-abbrev pub lines_from : List (Option Entry) → ℕ → List ℕ
-lines_from entries v = entry_lines v (drop v entries)
+-- ---- lines by number
 
--- they begin with the vertex's own, if it has one
-pub with_line : (entries : List (Option Entry)) (v : ℕ) (x : Entry) → v < length entries → slice_index_or entries v None ≡ Some x → lines_from entries v ≡ entry_line v x ++ lines_from entries (v + 1)
-with_line entries v x h e = rw (drop-cons entries v None h, e, add-one v) refl
+first_line : (line : ℕ → List ℕ) (v : ℕ) (x : Option Entry) (xs : List (Option Entry)) → line v ≡ line_of v x → lines_from line (v + 1) (length xs) ≡ entry_lines (v + 1) xs → line v ++ lines_from line (v + 1) (length xs) ≡ entry_lines v (x ∷ xs)
+first_line line v None xs e rest = ap₂ (λ a b. a ++ b) e rest
+first_line line v (Some x) xs e rest = ap₂ (λ a b. a ++ b) e rest
 
-pub without_line : (entries : List (Option Entry)) (v : ℕ) → v < length entries → slice_index_or entries v None ≡ None → lines_from entries v ≡ lines_from entries (v + 1)
-without_line entries v h e = rw (drop-cons entries v None h, e) (ap (λ n. entry_lines (v + 1) (drop n entries)) (sym (add-one v)))
+more_lines : (line : ℕ → List ℕ) (v : ℕ) (entries : List (Option Entry)) → ((i : ℕ) → i < length entries → line (v + i) ≡ line_of (v + i) (slice_index_or entries i None)) → lines_from line v (length entries) ≡ entry_lines v entries
+more_lines line v [] each = refl
+more_lines line v (x ∷ xs) each =
+    let none_more : v + 0 ≡ v = omega arith in
+    let one_more : (i : ℕ) → v + suc i ≡ (v + 1) + i = λ i. omega arith in
+    let rest = more_lines line (v + 1) xs (λ i h. subst (λ n. line n ≡ line_of n (slice_index_or xs i None)) (one_more i) (each (suc i) (omega (arith, h)))) in
+    first_line line v x xs (subst (λ n. line n ≡ line_of n x) none_more (each 0 (omega arith))) rest
 
-pub no_lines : (entries : List (Option Entry)) (v : ℕ) → length entries ≤ v → lines_from entries v ≡ []
-no_lines entries v past = ap (entry_lines v) (drop_of_length-le entries past)
+-- the lines of all entries are the text's
+pub all_lines : (entries : List (Option Entry)) → lines_from (line_at entries) 0 (length entries) ≡ entry_lines 0 entries
+all_lines entries = more_lines (line_at entries) 0 entries here
+  where
+    here : (i : ℕ) → i < length entries → line_at entries (0 + i) ≡ line_of (0 + i) (slice_index_or entries i None)
+    here i h = let same : 0 + i ≡ i = omega arith in rw same refl

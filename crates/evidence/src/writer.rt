@@ -13,7 +13,7 @@ use crate::verdict::{Both, Fault, Verdict};
 use game::player::Player;
 use measures::writer::put_counts;
 use std::io::Write;
-use text::{Piece, WriteFault, put, put_pieces};
+use text::{Lines, Piece, WriteFault, put, put_lines, put_pieces};
 
 fn player_word(player: Player) -> &'static [u8]
     ensures { result.now ≡ player_text player }
@@ -63,16 +63,37 @@ fn put_entry<W: Write>(v: usize, view: EntryView<'_>, writer: &mut W) -> Result<
     put(writer, b"\n")
 }
 
+// A line for each vertex of the set.
+#[derive(Clone, Copy)]
+struct EntryLines<'a> {
+    entries: &'a Entries,
+}
+
+impl Lines for EntryLines<'_> {
+    ghost use Rattle.std.specs.Prelude.{length};
+    ghost use Rattle.evidence.specs.Canon.{line_at};
+
+    ghost count = { λ lines. length lines.entries.now.entries };
+
+    ghost line = { λ lines v. line_at lines.entries.now.entries v };
+
+    fn count(&self) -> usize {
+        self.entries.len()
+    }
+
+    fn put_line<W: Write>(&self, number: usize, writer: &mut W) -> Result<(), WriteFault> {
+        match self.entries.get(number) {
+            Some(entry) => put_entry(number, entry, writer),
+            None => Ok(()),
+        }
+    }
+}
+
 // Writes a line for each vertex of the set.
 fn put_entries<W: Write>(entries: &Entries, writer: &mut W) -> Result<(), WriteFault>
     ensures { Wrote (W.contents writer.old) (W.contents writer.new) result (entry_lines 0 entries.now.entries) }
 {
-    for v in 0..entries.len() {
-        if let Some(entry) = entries.get(v) {
-            put_entry(v, entry, writer)?;
-        }
-    }
-    Ok(())
+    put_lines(&EntryLines { entries }, writer)
 }
 
 /// Writes evidence as its canonical text: a header, and a line for each vertex of the set, ascending. It takes no memory.

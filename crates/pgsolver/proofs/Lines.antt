@@ -1,12 +1,17 @@
 -- The lines of a game's text, piece by piece.
-use Rattle.std.proofs.Common.{◌≡◌, ℕ, ◌+◌, ◌<◌, ◌≤◌, List, [], ◌∷◌, ◌++◌, length, drop, get_or, codes, decimal, Option, Some, refl, sym, ap, ◌∙◌, append-nil, add-one}
-use Rattle.std.specs.Prelude.{option_map}
+use Rattle.std.proofs.Common.{◌≡◌, ℕ, suc, ◌+◌, ◌<◌, ◌≤◌, List, [], ◌∷◌, ◌++◌, length, drop, get_or, codes, decimal, Option, Some, Result, refl, sym, ap, ap₂, subst, ◌∙◌, append-nil, add-one, arith}
+use Rattle.std.specs.Prelude.{option_map, slice_get}
 use Rattle.game.specs.declared.player.Player.{Player}
 use Rattle.game.specs.Game.{Vertex}
 use Rattle.lts.specs.Canon.{line_end}
 use Rattle.std.proofs.Math.Seq.{drop-cons}
 use Rattle.std.proofs.Math.ListN.{drop_of_length-le}
-use Rattle.pgsolver.specs.Canon.{front_text, successors_text, name_text, vertex_line, vertex_lines}
+use Rattle.std.proofs.lemmas.Option.{slice_get-get_or}
+use Rattle.game.specs.declared.player.Player.TheVariants.{Even}
+use Rattle.game.specs.Game.{Game, vertex}
+use Rattle.text.specs.Wrote.{Wrote, lines_from}
+use Rattle.text.proofs.Writing.{Wrote-as}
+use Rattle.pgsolver.specs.Canon.{front_text, successors_text, name_text, vertex_line, vertex_lines, line_at, line_of}
 
 -- the numbers, with a comma before each but the first, before which this stands
 abbrev pub numbers_from : List ℕ → List ℕ → List ℕ
@@ -45,10 +50,27 @@ line_read named told v o x owner priority successors there same owned prior led 
     let c = had o (λ x. x.successors) x successors there led in
     λ i. front_text v (record { owner = a i; priority = b i; successors = [] }) ++ (successors_text (c i) ++ end_text (same i) v)
 
--- the lines from a vertex on begin with its own
-pub next_line : (named : Option (ℕ × ℕ)) (vs : List Vertex) (v : ℕ) (d : Vertex) → v < length vs → vertex_lines named v (drop v vs) ≡ vertex_line named v (get_or vs v d) ++ vertex_lines named (v + 1) (drop (v + 1) vs)
-next_line named vs v d h = rw (drop-cons vs v d h, add-one v) refl
+other : Vertex
+other = record { owner = Even; priority = 0; successors = [] }
 
--- past the last vertex no lines are left
-pub no_lines : (named : Option (ℕ × ℕ)) (vs : List Vertex) (v : ℕ) → length vs ≤ v → vertex_lines named v (drop v vs) ≡ []
-no_lines named vs v past = ap (vertex_lines named v) (drop_of_length-le vs past)
+-- ---- lines by number
+
+more_lines : (line : ℕ → List ℕ) (named : Option (ℕ × ℕ)) (v : ℕ) (xs : List Vertex) → ((i : ℕ) → i < length xs → line (v + i) ≡ line_of named (v + i) (slice_get xs i)) → lines_from line v (length xs) ≡ vertex_lines named v xs
+more_lines line named v [] each = refl
+more_lines line named v (x ∷ xs) each =
+    let none_more : v + 0 ≡ v = omega arith in
+    let one_more : (i : ℕ) → v + suc i ≡ (v + 1) + i = λ i. omega arith in
+    let first : line v ≡ vertex_line named v x = subst (λ n. line n ≡ line_of named n (Some x)) none_more (each 0 (omega arith)) in
+    let rest = more_lines line named (v + 1) xs (λ i h. subst (λ n. line n ≡ line_of named n (slice_get xs i)) (one_more i) (each (suc i) (omega (arith, h)))) in
+    ap₂ (λ a b. a ++ b) first rest
+
+-- the lines of all vertices are the text's
+pub all_lines : (g : Game) → lines_from (line_at g) 0 (length g.vertices) ≡ vertex_lines g.named 0 g.vertices
+all_lines g = more_lines (line_at g) g.named 0 g.vertices here
+  where
+    here : (i : ℕ) → i < length g.vertices → line_at g (0 + i) ≡ line_of g.named (0 + i) (slice_get g.vertices i)
+    here i h = let same : 0 + i ≡ i = omega arith in rw same refl
+
+-- what was written of a vertex that is there is its line
+pub line_there : {T E : Type 0} → (g : Game) (v : ℕ) (a b : Option (List ℕ)) (r : Result T E) → v < length g.vertices → ((x : Vertex) → vertex g v ≡ Some x → Wrote a b r (vertex_line g.named v x)) → Wrote a b r (line_at g v)
+line_there g v a b r h each = let there = slice_get-get_or g.vertices v other h in Wrote-as a b r _ _ (sym (ap (line_of g.named v) there)) (each _ there)

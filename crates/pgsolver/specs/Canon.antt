@@ -4,7 +4,7 @@ use Rattle.std.specs.List.{join_with_byte}
 use Rattle.lts.specs.Canon.{line_end}
 use Rattle.game.specs.declared.player.Player.{Player}
 use Rattle.game.specs.declared.player.Player.TheVariants.{Even, Odd}
-use Rattle.game.specs.Game.{Vertex, Game}
+use Rattle.game.specs.Game.{Vertex, Game, vertex}
 
 -- `parity N;`
 abbrev pub header_line : ℕ → List ℕ
@@ -37,6 +37,14 @@ name_text (Some named) v = 32 ∷ 34 ∷ vertex_name named.1 v ++ 34 ∷ []
 -- `id priority owner s1,s2,.. "name";`
 abbrev pub vertex_line : Option (ℕ × ℕ) → ℕ → Vertex → List ℕ
 vertex_line named v x = front_text v x ++ (successors_text x.successors ++ (name_text named v ++ (codes ";" ++ line_end)))
+
+-- the line of a vertex, and none past the last
+abbrev pub line_of : Option (ℕ × ℕ) → ℕ → Option Vertex → List ℕ
+line_of named v None = []
+line_of named v (Some x) = vertex_line named v x
+
+abbrev pub line_at : Game → ℕ → List ℕ
+line_at g v = line_of g.named v (vertex g v)
 
 -- a line for each vertex from v on
 abbrev pub vertex_lines : Option (ℕ × ℕ) → ℕ → List Vertex → List ℕ

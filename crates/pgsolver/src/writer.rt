@@ -9,7 +9,7 @@ ghost use Rattle.text.specs.Wrote.{Wrote};
 use game::graph::Game;
 use game::player::Player;
 use std::io::Write;
-use text::{Piece, WriteFault, put, put_number, put_pieces};
+use text::{Lines, Piece, WriteFault, put, put_lines, put_number, put_pieces};
 
 /// Writes the game as its canonical text: a header with the greatest identifier, and a line for each vertex, ascending, with its
 /// successors ascending and with its name where states and nodes name the vertices. It takes no memory.
@@ -36,14 +36,35 @@ fn put_header<W: Write>(greatest: u32, out: &mut W) -> Result<(), WriteFault>
     )
 }
 
+// A line for each vertex.
+#[derive(Clone, Copy)]
+struct VertexLines<'a> {
+    game: &'a Game,
+}
+
+impl Lines for VertexLines<'_> {
+    ghost use Rattle.std.specs.Prelude.{length};
+    ghost use Rattle.pgsolver.specs.Canon.{line_at};
+
+    ghost count = { λ lines. length lines.game.now.vertices };
+
+    ghost line = { λ lines v. line_at lines.game.now v };
+
+    fn count(&self) -> usize {
+        self.game.vertices() as usize
+    }
+
+    fn put_line<W: Write>(&self, number: usize, writer: &mut W) -> Result<(), WriteFault> {
+        self.game.known();
+        put_vertex(self.game, number as u32, writer)
+    }
+}
+
 // Writes a line for each vertex.
 fn put_vertices<W: Write>(game: &Game, out: &mut W) -> Result<(), WriteFault>
     ensures { Wrote (W.contents out.old) (W.contents out.new) result (vertex_lines game.now.named 0 game.now.vertices) }
 {
-    for v in 0..game.vertices() {
-        put_vertex(game, v, out)?;
-    }
-    Ok(())
+    put_lines(&VertexLines { game }, out)
 }
 
 fn put_vertex<W: Write>(game: &Game, v: u32, out: &mut W) -> Result<(), WriteFault>

@@ -3,6 +3,7 @@ pub mod Scanning
 pub mod Plain
 pub mod Cutting
 pub mod Writing
+pub mod Batched
 pub mod Piecewise
 pub mod PassedOn
 pub mod Promised

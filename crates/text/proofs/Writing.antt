@@ -4,6 +4,7 @@ use Rattle.std.specs.Result.{IsErr}
 use Rattle.std.specs.Io.KnownBytes.{Appends}
 use Rattle.std.proofs.KnownBytes.{Appends-trans}
 use Rattle.text.specs.Wrote.{Wrote, WroteFront}
+pub use Rattle.text.specs.Wrote.{HasWritten}
 
 none_left : (back more : List ℕ) → back ++ more ≡ [] → back ≡ []
 none_left [] more e = refl
@@ -44,12 +45,6 @@ pub Wrote-as : {T E : Type 0} → (a b : Option (List ℕ)) (r : Result T E) (te
 Wrote-as a b r text same e h = subst (λ t. Wrote a b r t) e h
 
 -- ---- what a loop has written
-
--- A beginning of the text was written, and this is left.
-pub record HasWritten (old now : Option (List ℕ)) (text rest : List ℕ) : Type 0 where
-  pub done : List ℕ
-  pub appended : Appends old now done
-  pub split : text ≡ done ++ rest
 
 pub HasWritten-none : (a : Option (List ℕ)) (text : List ℕ) → HasWritten a a text text
 HasWritten-none None text = record { done = []; appended = tt; split = refl }
