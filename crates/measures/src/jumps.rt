@@ -127,7 +127,7 @@ fn jump_to_all_counts(
     for back in 0..16u8 {
         let odd = 31 - 2 * back;
         if game.count(u32::from(odd)) > 1 {
-            let layers = Layers::of(alloc, game, lost, odd)?;
+            let layers = Layers::of(alloc, game, table.predecessors(), lost, odd)?;
             jump_to_counts(game, table, claim, &layers, rank);
         }
     }
@@ -141,7 +141,7 @@ fn search(alloc: Global, game: &Game, table: &mut PlainTable) -> Result<(), Memo
     ensures table { table.new.game ≡ game.now }
     ensures kept { LiesUnder table.old.values table.new.values }
 {
-    let lost = Lost::of(alloc, game)?;
+    let lost = Lost::of(alloc, game, table.predecessors())?;
     let mut claim = Claim::new(alloc, game)?;
     let mut rank = vec![in alloc; 0; claim.width()]?;
     jump_to_top(game, table, &mut claim, &lost, rank.as_mut_slice());

@@ -168,6 +168,11 @@ impl Pending {
         })
     }
 
+    /// Those that lifting goes back along.
+    pub(crate) fn predecessors(&self) -> &Predecessors {
+        &self.predecessors
+    }
+
     /// A vertex rose: those that have it among their successors may rise too.
     pub(crate) fn note(&mut self, v: u32) {
         for u in self.predecessors.get(v) {

@@ -19,6 +19,7 @@ use arrayvec::ArrayVec;
 use game::graph::Game;
 use game::player::Player;
 use lts::error::Memory;
+use search::predecessors::Predecessors;
 use std::alloc::Global;
 use std::marker::Model;
 use std::snapshot::Snapshot;
@@ -94,6 +95,11 @@ impl PlainTable {
         ensures { IsPlain self.now }
     {
         let _ = &self.rows;
+    }
+
+    /// The predecessors of its game's vertices.
+    pub(crate) fn predecessors(&self) -> &Predecessors {
+        self.pending.predecessors()
     }
 
     /// The measure of a vertex.

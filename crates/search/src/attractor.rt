@@ -9,8 +9,8 @@ use std::alloc::{AllocError, Global};
 
 /// Attractors, with the memory to find them.
 #[derive(Drop)]
-pub(crate) struct Attractors {
-    pub(crate) predecessors: Predecessors,
+pub(crate) struct Attractors<'p> {
+    pub(crate) predecessors: &'p Predecessors,
     /// How many successors keep a vertex from the other player.
     pub(crate) left: Numbers,
     /// The vertices of an attractor, in the order in which they came.
@@ -19,10 +19,14 @@ pub(crate) struct Attractors {
     pub(crate) work: u64,
 }
 
-impl Attractors {
-    pub(crate) fn new(alloc: Global, game: &Game) -> Result<Self, AllocError> {
+impl<'p> Attractors<'p> {
+    pub(crate) fn new(
+        alloc: Global,
+        game: &Game,
+        predecessors: &'p Predecessors,
+    ) -> Result<Self, AllocError> {
         Ok(Attractors {
-            predecessors: Predecessors::of(alloc, game)?,
+            predecessors,
             left: Numbers::zeros(alloc, game.vertices())?,
             queue: Queue::new(alloc, game.vertices())?,
             work: 0,

@@ -8,6 +8,7 @@ use crate::field::Field;
 use crate::lost::Lost;
 use crate::numbers::{Numbers, Queue, Span};
 use crate::part::Part;
+use crate::predecessors::Predecessors;
 use crate::ways::Ways;
 use game::graph::Game;
 use std::alloc::{AllocError, Global};
@@ -17,23 +18,28 @@ const OPEN: u32 = u32::MAX;
 
 /// Counts, with the memory to find them.
 #[derive(Drop)]
-pub(crate) struct Layering {
+pub(crate) struct Layering<'p> {
     field: Field,
     components: Components,
-    attractors: Attractors,
+    attractors: Attractors<'p>,
     counts: Numbers,
     // The vertices that have the next count.
     later: Queue,
     odd: u8,
 }
 
-impl Layering {
-    pub(crate) fn new(alloc: Global, game: &Game, odd: u8) -> Result<Self, AllocError> {
+impl<'p> Layering<'p> {
+    pub(crate) fn new(
+        alloc: Global,
+        game: &Game,
+        predecessors: &'p Predecessors,
+        odd: u8,
+    ) -> Result<Self, AllocError> {
         let vertices = game.vertices();
         Ok(Layering {
             field: Field::new(alloc, vertices)?,
             components: Components::new(alloc, vertices)?,
-            attractors: Attractors::new(alloc, game)?,
+            attractors: Attractors::new(alloc, game, predecessors)?,
             counts: Numbers::zeros(alloc, vertices)?,
             later: Queue::new(alloc, vertices)?,
             odd,

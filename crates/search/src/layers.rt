@@ -3,6 +3,7 @@
 use crate::layering::Layering;
 use crate::lost::Lost;
 use crate::numbers::Numbers;
+use crate::predecessors::Predecessors;
 use crate::ranks::Ranks;
 use game::graph::Game;
 use lts::error::Memory;
@@ -19,9 +20,15 @@ pub struct Layers {
 }
 
 impl Layers {
-    /// Searches a game of which it is known what Odd wins. It may find less than there is.
-    pub fn of(alloc: Global, game: &Game, lost: &Lost, odd: u8) -> Result<Self, Memory> {
-        let (mut ways, counts) = Layering::new(alloc, game, odd)?.find(game, lost);
+    /// Searches a game, with its predecessors, of which it is known what Odd wins. It may find less than there is.
+    pub fn of(
+        alloc: Global,
+        game: &Game,
+        predecessors: &Predecessors,
+        lost: &Lost,
+        odd: u8,
+    ) -> Result<Self, Memory> {
+        let (mut ways, counts) = Layering::new(alloc, game, predecessors, odd)?.find(game, lost);
         let mut ranks = Ranks::none(alloc, game)?;
         ranks.find(game, &mut ways);
         Ok(Layers {

@@ -1,6 +1,7 @@
 // What Odd wins, with reasons.
 
 use crate::numbers::Numbers;
+use crate::predecessors::Predecessors;
 use crate::ranks::Ranks;
 use crate::winners::Winners;
 use game::graph::Game;
@@ -15,9 +16,10 @@ pub struct Lost {
 }
 
 impl Lost {
-    /// Searches a game, within a number of steps that is about linear in its size. It may find less than there is.
-    pub fn of(alloc: Global, game: &Game) -> Result<Self, Memory> {
-        let mut ways = Winners::new(alloc, game)?.find(game);
+    /// Searches a game with its predecessors, within a number of steps that is about linear in its size. It may find less than
+    /// there is.
+    pub fn of(alloc: Global, game: &Game, predecessors: &Predecessors) -> Result<Self, Memory> {
+        let mut ways = Winners::new(alloc, game, predecessors)?.find(game);
         let mut ranks = Ranks::none(alloc, game)?;
         ranks.find(game, &mut ways);
         Ok(Lost {

@@ -5,6 +5,7 @@ use crate::components::Components;
 use crate::field::{Field, Won};
 use crate::numbers::Span;
 use crate::part::Part;
+use crate::predecessors::Predecessors;
 use crate::tasks::{Core, Task, Tasks};
 use crate::ways::Ways;
 use game::graph::Game;
@@ -17,18 +18,22 @@ const TIMES: u64 = 64;
 
 /// The recursion.
 #[derive(Drop)]
-pub(crate) struct Winners {
+pub(crate) struct Winners<'p> {
     field: Field,
-    attractors: Attractors,
+    attractors: Attractors<'p>,
     components: Components,
     tasks: Tasks,
 }
 
-impl Winners {
-    pub(crate) fn new(alloc: Global, game: &Game) -> Result<Self, AllocError> {
+impl<'p> Winners<'p> {
+    pub(crate) fn new(
+        alloc: Global,
+        game: &Game,
+        predecessors: &'p Predecessors,
+    ) -> Result<Self, AllocError> {
         Ok(Winners {
             field: Field::new(alloc, game.vertices())?,
-            attractors: Attractors::new(alloc, game)?,
+            attractors: Attractors::new(alloc, game, predecessors)?,
             components: Components::new(alloc, game.vertices())?,
             tasks: Tasks::new(alloc)?,
         })

@@ -11,6 +11,7 @@ use game::player::Player;
 use measures::settle::{even_wins, solve_one};
 use measures::table::Settled;
 use search::lost::Lost;
+use search::predecessors::Predecessors;
 use std::alloc::{AllocError, Global};
 use std::test::Fail;
 
@@ -78,7 +79,7 @@ fn agree(game: &Game, lost: &Lost, settled: &Settled) -> bool
 }
 
 fn is_found(alloc: Global, game: &Game) -> Result<bool, Fail> {
-    let lost = Lost::of(alloc, game)?;
+    let lost = Lost::of(alloc, game, &Predecessors::of(alloc, game)?)?;
     let settled = solve_one(alloc, game)?;
     Ok(agree(game, &lost, &settled))
 }
@@ -94,10 +95,9 @@ fn are_lost(lost: &Lost, winners: &str) -> bool {
 fn small_games_are_searched(rt: HostRuntime) -> Result<(), Fail> {
     for (rows, winners) in &GAMES {
         let game = game_of(&rt, rows)?;
-        assert!(rt;
-            are_lost(&Lost::of(rt.alloc(), &game)?, winners),
-            "{winners}"
-        );
+        let predecessors = Predecessors::of(rt.alloc(), &game)?;
+        let lost = Lost::of(rt.alloc(), &game, &predecessors)?;
+        assert!(rt; are_lost(&lost, winners), "{winners}");
         assert!(rt; is_found(rt.alloc(), &game)?, "{winners}");
     }
     Ok(())
