@@ -12,7 +12,7 @@ use evidence::verdict::{Both, Verdict};
 use evidence::verify::{check_both, verify};
 use game::build::build;
 use game::dual::{dual, greatest_priority};
-use game::graph::Game;
+use game::graph::{Game, GameBuilder};
 use game::player::Player;
 use measures::settle::solve_one;
 use std::alloc::{AllocError, Global};
@@ -182,5 +182,28 @@ fn evidence_of_small_games(rt: HostRuntime) -> Result<(), Fail> {
         let game = game_of(&rt, rows)?;
         gives_both(&rt, &game, wanted)?;
     }
+    Ok(())
+}
+
+// Each vertex leads to half its number, and so each to 0, which leads to itself with priority 0: Even wins all.
+fn halving(rt: &(impl Abort + AllocGlobal), vertices: u32) -> Result<Game, Fail> {
+    let mut builder = GameBuilder::new(rt.alloc());
+    for v in 0..vertices {
+        assert!(rt; builder.vertices() < 16_777_216);
+        let priority = if v == 0 { 0 } else { 1 };
+        builder.push(Player::Odd, priority, &[v / 2])?;
+    }
+    Ok(builder.finish().ok_or("no game")?)
+}
+
+#[test]
+fn a_million_vertices_are_verified(rt: HostRuntime) -> Result<(), Fail> {
+    let game = halving(&rt, 1_000_000)?;
+    assert!(rt; greatest_priority(&game) == 1);
+    let even = even_of(rt.alloc(), &game)?;
+    let odd = odd_evidence(rt.alloc(), &game)?;
+    assert!(rt; even.len() == 1_000_000 && odd.len() == 0);
+    assert!(rt; verify(&game, &even) == Verdict::Good);
+    checks(&rt, &game, &even, &odd);
     Ok(())
 }
