@@ -1,10 +1,11 @@
 -- The vertices of a system with a normal form.
-use Rattle.game.proofs.Common.{◌≡◌, ◌+◌, ◌*◌, ◌≤◌, ◌<◌, ℕ, zero, suc, Bool, true, false, List, [], ◌∷◌, ◌++◌, Option, Some, None, length, map, filter, take, get_or, cond, refl, sym, ap, ◌∙◌, subst, arith, length-append, append_assoc, slice_get, option_map, AllByRecursion, range_with_len, length-map, map-append, take_more, append-nil, mul-add-lt, slice_get-map, slice_get_read, slice_get_within, get_or_from_slice_get, Shape, ConstantNode, JunctionNode, ModalityNode, FixpointNode, VariableNode, Node, node_of, nodes_of, IsShape, IsNode, IsForm, System, Vertex, IsVertex, IsAscending, IsGame, is_step, targets, place, or_else, sink, successors_of, vertex_of, rows, arena, Even}
+use Rattle.game.proofs.Common.{◌≡◌, ◌+◌, ◌-◌, ◌*◌, ◌≤◌, ◌<◌, ℕ, zero, suc, Bool, true, false, List, [], ◌∷◌, ◌++◌, Option, Some, None, length, map, filter, take, get_or, cond, refl, sym, ap, ◌∙◌, subst, arith, length-append, append_assoc, slice_get, option_map, AllByRecursion, range_with_len, length-map, map-append, take_more, append-nil, mul-add-lt, slice_get-map, slice_get_read, slice_get_within, get_or_from_slice_get, Shape, ConstantNode, JunctionNode, ModalityNode, FixpointNode, VariableNode, Node, node_of, nodes_of, IsShape, IsNode, IsForm, System, Vertex, IsVertex, IsAscending, IsGame, is_step, targets, place, or_else, sink, successors_of, vertex_of, rows, arena, Even}
 use Rattle.std.proofs.lemmas.List.FromFn.{length-range_with_len}
-use Rattle.std.proofs.Math.Nat.{mul-le-mul_left}
+use Rattle.std.proofs.Math.Nat.{mul-le-mul_left, mul-le-mul_right}
 use Rattle.normal.specs.declared.node as declared
 use Rattle.std.specs.Prelude.{max}
 use Rattle.game.specs.Game.{greatest, greatest_of}
+use Rattle.game.proofs.Rows.{all_append}
 use Rattle.game.proofs.Steps.{Rising}
 
 -- The node of a number is what stands there.
@@ -22,28 +23,31 @@ vertices_more f xs i x y base old new is before push same =
     ∙ ((λ j. before j ++ same j ∷ [])
     ∙ (append_assoc base (map f (take i xs)) (f x ∷ []) ∙ ap (λ zs. base ++ zs) (sym (map-append f (take i xs) (x ∷ [])) ∙ ap (map f) (sym cut))))
 
-range_more : (a n : ℕ) → range_with_len a (n + 1) ≡ range_with_len a n ++ (a + n) ∷ []
+pub range_more : (a n : ℕ) → range_with_len a (n + 1) ≡ range_with_len a n ++ (a + n) ∷ []
 range_more a zero = let e : a ≡ a + 0 = omega arith in (λ i. e i ∷ [])
 range_more a (suc n) =
     let e : suc n + 1 ≡ suc (n + 1) = omega arith in
     let last : a + 1 + n ≡ a + suc n = omega arith in
     ap (range_with_len a) e ∙ (ap (λ xs. a ∷ xs) (range_more (a + 1) n) ∙ (λ i. a ∷ (range_with_len (a + 1) n ++ last i ∷ [])))
 
-rows_append : (l : System) (nodes : List Node) (xs ys : List ℕ) → rows l nodes (xs ++ ys) ≡ rows l nodes xs ++ rows l nodes ys
+pub rows_append : (l : System) (nodes : List Node) (xs ys : List ℕ) → rows l nodes (xs ++ ys) ≡ rows l nodes xs ++ rows l nodes ys
 rows_append l nodes [] ys = refl
 rows_append l nodes (s ∷ xs) ys = ap (λ vs. map (vertex_of l (length nodes) s) nodes ++ vs) (rows_append l nodes xs ys) ∙ sym (append_assoc (map (vertex_of l (length nodes) s) nodes) (rows l nodes xs) (rows l nodes ys))
 
 -- One state more.
-pub rows_more : (l : System) (nodes : List Node) (s : ℕ) (base old new : List Vertex) → old ≡ base ++ rows l nodes (range_with_len 0 s) → new ≡ old ++ map (vertex_of l (length nodes) s) nodes → new ≡ base ++ rows l nodes (range_with_len 0 (s + 1))
-rows_more l nodes s base old new before push =
+pub rows_more : (l : System) (nodes : List Node) (a s : ℕ) (base old new : List Vertex) → a ≤ s → old ≡ base ++ rows l nodes (range_with_len a (s - a)) → new ≡ old ++ map (vertex_of l (length nodes) s) nodes
+    → new ≡ base ++ rows l nodes (range_with_len a (s + 1 - a))
+rows_more l nodes a s base old new from before push =
+    let n : ℕ = s - a in
     let vs = map (vertex_of l (length nodes) s) nodes in
-    let last : rows l nodes (range_with_len 0 (s + 1)) ≡ rows l nodes (range_with_len 0 s) ++ vs =
-    ap (rows l nodes) (range_more 0 s) ∙ (rows_append l nodes (range_with_len 0 s) ((0 + s) ∷ []) ∙ ap (λ xs. rows l nodes (range_with_len 0 s) ++ xs) (append-nil (map (vertex_of l (length nodes) (0 + s)) nodes) ∙ (λ i. map (vertex_of l (length nodes) (here i)) nodes)))
+    let here : a + n ≡ s = omega arith in
+    let size : s + 1 - a ≡ n + 1 = omega arith in
+    let last : rows l nodes (range_with_len a (s + 1 - a)) ≡ rows l nodes (range_with_len a n) ++ vs =
+    (λ i. rows l nodes (range_with_len a (size i)))
+    ∙ (ap (rows l nodes) (range_more a n)
+    ∙ (rows_append l nodes (range_with_len a n) ((a + n) ∷ []) ∙ ap (λ xs. rows l nodes (range_with_len a n) ++ xs) (append-nil (map (vertex_of l (length nodes) (a + n)) nodes) ∙ (λ i. map (vertex_of l (length nodes) (here i)) nodes))))
     in
-    push ∙ (ap (λ xs. xs ++ vs) before ∙ (append_assoc base (rows l nodes (range_with_len 0 s)) vs ∙ ap (λ xs. base ++ xs) (sym last)))
-  where
-    here : 0 + s ≡ s
-    here = omega arith
+    push ∙ (ap (λ xs. xs ++ vs) before ∙ (append_assoc base (rows l nodes (range_with_len a n)) vs ∙ ap (λ xs. base ++ xs) (sym last)))
 
 rows_length : (l : System) (nodes : List Node) (xs : List ℕ) → length (rows l nodes xs) ≡ length xs * length nodes
 rows_length l nodes [] = omega arith
@@ -54,10 +58,12 @@ pub rows_count : (l : System) (nodes : List Node) (s : ℕ) → length (rows l n
 rows_count l nodes s = rows_length l nodes (range_with_len 0 s) ∙ ap (λ n. n * length nodes) (length-range_with_len 0 s)
 
 -- there is room for one state more
-pub rows_fit : (l : System) (nodes : List Node) (s : ℕ) (base old : List Vertex) → length base ≡ 2 → old ≡ base ++ rows l nodes (range_with_len 0 s) → s < l.states → 2 + l.states * length nodes ≤ 16777216 → length old + length nodes ≤ 16777216
-rows_fit l nodes s base old two is below few =
-    let le : s + 1 ≤ l.states = omega arith in
-    omega (arith, ap length is, length-append base (rows l nodes (range_with_len 0 s)), rows_count l nodes s, two, few, mul-le-mul_left (length nodes) le)
+pub rows_fit : (l : System) (nodes : List Node) (a s end : ℕ) (base old : List Vertex) → old ≡ base ++ rows l nodes (range_with_len a (s - a)) → a ≤ s → s < end → length base + (end - a) * length nodes ≤ 16777216 → length old + length nodes ≤ 16777216
+rows_fit l nodes a s end base old is from below few =
+    let n : ℕ = s - a in
+    let le : n + 1 ≤ end - a = omega arith in
+    let count : length (rows l nodes (range_with_len a n)) ≡ n * length nodes = rows_length l nodes (range_with_len a n) ∙ ap (λ k. k * length nodes) (length-range_with_len a n) in
+    omega (arith, ap length is, length-append base (rows l nodes (range_with_len a n)), count, few, mul-le-mul_right (length nodes) le)
 
 rising_weaker : (a b limit : ℕ) (xs : List ℕ) → a ≤ b → Rising b limit xs → Rising a limit xs
 rising_weaker a b limit [] le h = tt
@@ -127,10 +133,6 @@ vertex_good : (l : System) (n s : ℕ) (node : Node) → s < l.states → IsNode
 vertex_good l n s node below h =
     let all = successors_are l n s node.shape below h.1 in
     record { priority = omega (arith, h.0); some = all.some; ascending = all.ascending; within = all.within }
-
-all_append : {X : Type 0} (P : X → Type 0) (xs ys : List X) → AllByRecursion P xs → AllByRecursion P ys → AllByRecursion P (xs ++ ys)
-all_append P [] ys h k = k
-all_append P (x ∷ xs) ys h k = (h.0, all_append P xs ys h.1 k)
 
 state_good : (l : System) (n s : ℕ) (nodes : List Node) → s < l.states → AllByRecursion (IsNode n) nodes → AllByRecursion (IsVertex (2 + l.states * n)) (map (vertex_of l n s) nodes)
 state_good l n s [] below h = tt

@@ -8,7 +8,7 @@ pub use Rattle.game.specs.Game.{Game, IsAscending, IsGame, IsVertex, Vertex, cou
 pub use Rattle.std.specs.Prelude.{count_by, if◌then◌else◌, nat_le, nat_lt, not, option_map, slice_get}
 pub use Rattle.normal.specs.Normal.{normal_nodes}
 pub use Rattle.normal.specs.Nodes.{Node}
-pub use Rattle.game.specs.View.{AreStored, game_of, vertex_of_row, vertices_of}
+pub use Rattle.game.specs.View.{AreStored, game_of, moved, vertex_of_row, vertices_of}
 pub use Rattle.std.proofs.lemmas.Option.{get_or_from_slice_get, slice_get-map, slice_get_read, slice_get_within}
 pub use Rattle.lts.specs.declared.system.Transition.{Transition}
 pub use Rattle.std.proofs.lemmas.Nat.{mul-add-lt}
@@ -22,7 +22,7 @@ pub use Rattle.std.proofs.lemmas.Bool.Decides.{eqb_tells, leb_tells}
 pub use Rattle.game.specs.Rises.{rises}
 pub use Rattle.game.specs.declared.player.Player.TheVariants.{Even}
 pub use Rattle.std.proofs.lemmas.List.Elements.{All-from_recursion, recursion_from_All}
-pub use Rattle.std.proofs.Math.Seq.{drop-append_seam, get_or-append_seam}
+pub use Rattle.std.proofs.Math.Seq.{drop-append-add, drop-append_seam, get_or-append_seam}
 pub use Rattle.std.proofs.lemmas.List.Sorted.{All-permutation, IsNonDecreasingBy-from_sort_by_key, list_any-IsPermutation}
 pub use Rattle.normal.specs.Form.{IsForm, IsNode, IsShape}
 pub use Rattle.formula.specs.Holds.{holds}

@@ -3,5 +3,6 @@ pub mod Rows
 pub mod Tests
 pub mod Steps
 pub mod Arenas
+pub mod Parts
 pub mod Greatest
 pub mod Duals

@@ -1,5 +1,5 @@
 -- The vertices of stored rows.
-use Rattle.game.proofs.Common.{◌≡◌, ◌==◌, ◌+◌, ◌≤◌, ◌<◌, ℕ, false, List, [], ◌∷◌, ◌++◌, length, take, drop, slice_index, cond, ap, sym, ◌∙◌, refl, arith, map, get_or, Some, subst, length-drop, length-append, count_by, if◌then◌else◌, option_map, slice_get, AllByRecursion, sum_by, take-append-le, drop-append-le, length-map, map-append, slice_get-map, slice_get_read, drop-append_seam, ne_eqb, All-from_recursion, Game, Vertex, IsVertex, vertex, game_of, vertex_of_row, vertices_of, AreStored, Row}
+use Rattle.game.proofs.Common.{◌≡◌, ◌==◌, ◌+◌, ◌≤◌, ◌<◌, ℕ, false, List, [], ◌∷◌, ◌++◌, length, take, drop, slice_index, cond, ap, sym, ◌∙◌, refl, arith, map, get_or, Some, subst, length-drop, length-append, count_by, if◌then◌else◌, option_map, slice_get, AllByRecursion, sum_by, take-append-le, drop-append-le, length-map, map-append, slice_get-map, slice_get_read, drop-append_seam, drop-append-add, ne_eqb, moved, All-from_recursion, Game, Vertex, IsVertex, vertex, game_of, vertex_of_row, vertices_of, AreStored, Row}
 use Rattle.std.proofs.lemmas.List.Sums.{sum_by-append, sum_by-cons}
 use Rattle.game.specs.declared.graph.Game.TheInside.{Inside}
 
@@ -7,6 +7,11 @@ use Rattle.game.specs.declared.graph.Game.TheInside.{Inside}
 pub all_more : {X : Type 0} (P : X → Type 0) (xs : List X) (x : X) → AllByRecursion P xs → P x → AllByRecursion P (xs ++ x ∷ [])
 all_more P [] x h k = (k, tt)
 all_more P (y ∷ xs) x h k = (h.0, all_more P xs x h.1 k)
+
+-- what holds of each of two lists holds of each of both
+pub all_append : {X : Type 0} (P : X → Type 0) (xs ys : List X) → AllByRecursion P xs → AllByRecursion P ys → AllByRecursion P (xs ++ ys)
+all_append P [] ys h k = k
+all_append P (x ∷ xs) ys h k = (h.0, all_append P xs ys h.1 k)
 
 -- what follows from the one follows of each from the other
 pub all_from : {X : Type 0} (P Q : X → Type 0) → ((x : X) → P x → Q x) → (xs : List X) → AllByRecursion P xs → AllByRecursion Q xs
@@ -62,6 +67,38 @@ stored_more rows r xs ys counts after h start count counted =
     more p =
         ap (count_by (λ v. v.priority == p)) (vertices_more rows r xs ys h.within start count)
         ∙ (sum_by-append (λ (v : Vertex). cond (v.priority == p) 1 0) (vertices_of rows xs) (record { owner = r.owner; priority = r.priority; successors = ys } ∷ []) ∙ ap (λ n. count_by (λ v. v.priority == p) (vertices_of rows xs) + n) (one p))
+
+-- The rows of other vertices keep theirs where their successors come after those of these.
+moved_same : (more : List Row) (xs ys : List ℕ) → vertices_of (map (moved (length xs)) more) (xs ++ ys) ≡ vertices_of more ys
+moved_same [] xs ys = refl
+moved_same (r ∷ more) xs ys = λ i. record { owner = r.owner; priority = r.priority; successors = same i } ∷ moved_same more xs ys i
+  where
+    places : r.start + length xs ≡ length xs + r.start
+    places = omega arith
+
+    same : take r.count (drop (r.start + length xs) (xs ++ ys)) ≡ take r.count (drop r.start ys)
+    same = ap (λ n. take r.count (drop n (xs ++ ys))) places ∙ ap (take r.count) (drop-append-add xs ys r.start)
+
+-- The vertices of two builders, one after the other.
+pub vertices_joined : (rows more : List Row) (xs ys : List ℕ) → AllByRecursion (λ r. r.start + r.count ≤ length xs) rows
+    → vertices_of (rows ++ map (moved (length xs)) more) (xs ++ ys) ≡ vertices_of rows xs ++ vertices_of more ys
+vertices_joined rows more xs ys h = map-append (vertex_of_row (xs ++ ys)) rows (map (moved (length xs)) more) ∙ (λ i. rows_same rows xs ys h i ++ moved_same more xs ys i)
+
+all_moved : (more : List Row) (xs ys : List ℕ) → AllByRecursion (λ r. r.start + r.count ≤ length ys) more → AllByRecursion (λ r. r.start + r.count ≤ length (xs ++ ys)) (map (moved (length xs)) more)
+all_moved [] xs ys h = tt
+all_moved (r ∷ more) xs ys h = (omega (arith, h.0, length-append xs ys), all_moved more xs ys h.1)
+
+-- .. and the counts are right where those of both are added.
+pub stored_joined : (rows more : List Row) (xs ys counts others after : List ℕ) → AreStored rows xs counts → AreStored more ys others
+    → ((p : ℕ) → p ≤ 32 → slice_index after p ≡ slice_index counts p + slice_index others p) → AreStored (rows ++ map (moved (length xs)) more) (xs ++ ys) after
+stored_joined rows more xs ys counts others after h k added =
+    record {
+      within = all_append _ rows (map (moved (length xs)) more) (stored_longer rows xs ys counts h).within (all_moved more xs ys k.within);
+      counted = λ p le. added p le ∙ ((λ i. h.counted p le i + k.counted p le i) ∙ sym (both p));
+    }
+  where
+    both : (p : ℕ) → count_by (λ v. v.priority == p) (vertices_of (rows ++ map (moved (length xs)) more) (xs ++ ys)) ≡ count_by (λ v. v.priority == p) (vertices_of rows xs) + count_by (λ v. v.priority == p) (vertices_of more ys)
+    both p = ap (count_by (λ v. v.priority == p)) (vertices_joined rows more xs ys h.within) ∙ sum_by-append (λ (v : Vertex). cond (v.priority == p) 1 0) (vertices_of rows xs) (vertices_of more ys)
 
 -- No vertex has a priority above the greatest.
 pub count_past : (n p : ℕ) (vs : List Vertex) → 32 < p → AllByRecursion (IsVertex n) vs → count_by (λ v. v.priority == p) vs ≡ 0

@@ -7,3 +7,4 @@ pub mod Rises
 pub mod View
 pub mod Steps
 pub mod Refused
+pub mod Parts

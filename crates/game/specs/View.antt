@@ -11,6 +11,10 @@ use Rattle.game.specs.declared.graph.GameBuilder.TheInside as builder
 abbrev pub vertex_of_row : List ℕ → Row → Vertex
 vertex_of_row successors row = record { owner = row.owner; priority = row.priority; successors = take row.count (drop row.start successors) }
 
+-- the row, where the list of its successors comes after so many others
+abbrev pub moved : ℕ → Row → Row
+moved places row = record { start = row.start + places; count = row.count; owner = row.owner; priority = row.priority }
+
 abbrev pub vertices_of : List Row → List ℕ → List Vertex
 vertices_of rows successors = map (vertex_of_row successors) rows
 

@@ -1,13 +1,14 @@
 // The parity game of a system and a normal form.
 
-ghost use Rattle.std.specs.Prelude.{◌≡◌, ◌+◌, ◌*◌, ◌<◌, ◌≤◌, ◌++◌, ◌∷◌, [], Bool, false, length, map, slice_index_or, vec_len, IfOk, OnOk, OnErr, IfErr};
-ghost use Rattle.std.specs.List.{AllByRecursion};
+ghost use Rattle.std.specs.Prelude.{◌≡◌, ◌+◌, ◌-◌, ◌*◌, ◌<◌, ◌≤◌, ◌++◌, ◌∷◌, [], Bool, false, length, map, slice_index_or, vec_len, IfOk, OnOk, OnErr, IfErr};
+ghost use Rattle.std.specs.List.{AllByRecursion, flat_map, range_with_len};
 ghost use Rattle.formula.specs.View.{action_of};
 ghost use Rattle.normal.specs.Form.{IsForm, IsNode};
 ghost use Rattle.normal.specs.View.{node_of, shape_of};
 ghost use Rattle.normal.specs.Normal.{normal_nodes};
 ghost use Rattle.game.specs.Game.{IsGame, greatest};
-ghost use Rattle.game.specs.Arena.{arena, vertex_of, or_else, place};
+ghost use Rattle.game.specs.Arena.{arena, rows, vertex_of, or_else, place};
+ghost use Rattle.game.specs.Parts.{part_of, two_sinks};
 ghost use Rattle.game.specs.Steps.{IsSetOf, IsSetFor, AreSets, IsRowOf, picks, is_in, vertex_by};
 ghost use Rattle.game.specs.Refused.{HasRefusal};
 
@@ -19,9 +20,18 @@ use lts::system::{Lts, Transition};
 use normal::form::Normal;
 use normal::limits::{GREATEST_PRIORITY, MOST_NODES};
 use normal::node::{Kind, Node};
+use rayon::current_num_threads;
+use rayon::prelude::*;
 use std::alloc::{AllocError, Global};
+use std::thread::Threads;
 use trees::holds;
 use trees::tree::Act;
+
+// How many ranges the states of a large game are cut into. The game is the same for each number.
+const RANGES: u32 = 64;
+
+// A game of fewer vertices is made in one thread, since more of them cost more than they save.
+const LEAST_SPLIT: u64 = 65_536;
 
 // For each label whether the action formula holds of it.
 fn set_of(alloc: Global, lts: &Lts, action: &Act) -> Result<Vec<bool>, AllocError>
@@ -173,9 +183,179 @@ fn push_state(
     Ok(())
 }
 
+// The vertices of the states from the first one up to the end, with each node.
+fn push_states(
+    builder: &mut GameBuilder,
+    alloc: Global,
+    lts: &Lts,
+    form: &Normal,
+    sets: &[Vec<bool>],
+    first: u32,
+    end: u32,
+) -> Result<(), AllocError>
+    requires states { (first ≤ end) × (end ≤ lts.now.system.states) }
+    requires sets { AreSets lts.now.labels (normal_nodes form.now) (map (λ set. set.items) sets.now) }
+    requires count { length sets.now ≡ length (normal_nodes form.now) }
+    requires room { length builder.old + (end - first) * length (normal_nodes form.now) ≤ MOST_VERTICES }
+    ensures { OnOk result (builder.new ≡ builder.old ++ rows lts.now.system (normal_nodes form.now) (range_with_len first (end - first))) }
+{
+    let mut row = Vec::new(alloc);
+    let mut reached = Vec::new(alloc);
+    for state in first..end {
+        push_state(builder, lts, form, sets, state, &mut row, &mut reached)?;
+    }
+    Ok(())
+}
+
+// The two sinks, and room for so many vertices.
+fn sinks(alloc: Global, vertices: u32) -> Result<GameBuilder, AllocError>
+    ensures { IfOk result (λ builder. builder ≡ two_sinks) }
+{
+    let mut builder = GameBuilder::with_room(alloc, vertices as usize)?;
+    builder.push(Player::Even, 0, &[0])?;
+    builder.push(Player::Even, 1, &[1])?;
+    Ok(builder)
+}
+
+// All vertices, in this thread.
+fn whole(
+    alloc: Global,
+    lts: &Lts,
+    form: &Normal,
+    sets: &[Vec<bool>],
+) -> Result<GameBuilder, AllocError>
+    requires sets { AreSets lts.now.labels (normal_nodes form.now) (map (λ set. set.items) sets.now) }
+    requires count { length sets.now ≡ length (normal_nodes form.now) }
+    requires few { 2 + lts.now.system.states * length (normal_nodes form.now) ≤ MOST_VERTICES }
+    ensures { IfOk result (λ builder. builder ≡ (arena lts.now.system (normal_nodes form.now)).vertices) }
+{
+    let states = lts.states();
+    let mut builder = sinks(alloc, 2 + states * form.count())?;
+    push_states(&mut builder, alloc, lts, form, sets, 0, states)?;
+    Ok(builder)
+}
+
+// The vertices of the states of one range, where the states are cut into ranges of this size.
+fn part(
+    alloc: Global,
+    lts: &Lts,
+    form: &Normal,
+    sets: &[Vec<bool>],
+    size: u32,
+    range: u32,
+) -> Result<GameBuilder, AllocError>
+    requires sets { AreSets lts.now.labels (normal_nodes form.now) (map (λ set. set.items) sets.now) }
+    requires count { length sets.now ≡ length (normal_nodes form.now) }
+    requires few { 2 + lts.now.system.states * length (normal_nodes form.now) ≤ MOST_VERTICES }
+    ensures { IfOk result (λ builder. builder ≡ part_of lts.now.system (normal_nodes form.now) size range) }
+{
+    let states = lts.states();
+    let first = (u64::from(range) * u64::from(size)).min(u64::from(states)) as u32;
+    let end = first + size.min(states - first);
+    let room = (end - first) * form.count();
+    let mut builder = GameBuilder::with_room(alloc, room as usize)?;
+    push_states(&mut builder, alloc, lts, form, sets, first, end)?;
+    Ok(builder)
+}
+
+// The vertices of each range of states, in order, made by threads.
+fn parts(
+    rt: &(impl Threads + Sync),
+    alloc: Global,
+    lts: &Lts,
+    form: &Normal,
+    sets: &[Vec<bool>],
+    size: u32,
+    ranges: u32,
+) -> Result<Vec<GameBuilder>, AllocError>
+    requires sets { AreSets lts.now.labels (normal_nodes form.now) (map (λ set. set.items) sets.now) }
+    requires count { length sets.now ≡ length (normal_nodes form.now) }
+    requires few { 2 + lts.now.system.states * length (normal_nodes form.now) ≤ MOST_VERTICES }
+    ensures { IfOk result (λ parts. parts.items ≡ map (part_of lts.now.system (normal_nodes form.now) size) (range_with_len 0 ranges)) }
+{
+    (0..ranges)
+        .into_par_iter()
+        .with_min_len(1)
+        .map(
+            |range: u32| -> Result<GameBuilder, AllocError>
+                requires sets { AreSets lts.now.labels (normal_nodes form.now) (map (λ set. set.items) sets.now) }
+                requires count { length sets.now ≡ length (normal_nodes form.now) }
+                requires few { 2 + lts.now.system.states * length (normal_nodes form.now) ≤ MOST_VERTICES }
+                ensures { IfOk result (λ builder. builder ≡ part_of lts.entry.now.system (normal_nodes form.entry.now) size range) }
+            { part(alloc, lts, form, sets, size, range) },
+        )
+        .collect::<Result<Vec<GameBuilder>, AllocError>>(rt, alloc)?
+}
+
+// The vertices of the parts after those of the first builder. A part is let go as soon as it is joined.
+fn join_all(first: GameBuilder, parts: Vec<GameBuilder>) -> Result<GameBuilder, AllocError>
+    requires { length first + length (flat_map (λ part. part) parts.items) ≤ MOST_VERTICES }
+    ensures { IfOk result (λ builder. builder ≡ first ++ flat_map (λ part. part) parts.items) }
+{
+    let mut builder = first;
+    for part in parts {
+        builder = builder.joined(&part)?;
+    }
+    Ok(builder)
+}
+
+// All vertices, where the states are cut into this many ranges, which threads share.
+fn split(
+    rt: &(impl Threads + Sync),
+    alloc: Global,
+    lts: &Lts,
+    form: &Normal,
+    sets: &[Vec<bool>],
+    ranges: u32,
+) -> Result<GameBuilder, AllocError>
+    requires ranges { 1 ≤ ranges }
+    requires sets { AreSets lts.now.labels (normal_nodes form.now) (map (λ set. set.items) sets.now) }
+    requires count { length sets.now ≡ length (normal_nodes form.now) }
+    requires few { 2 + lts.now.system.states * length (normal_nodes form.now) ≤ MOST_VERTICES }
+    ensures { IfOk result (λ builder. builder ≡ (arena lts.now.system (normal_nodes form.now)).vertices) }
+{
+    let states = lts.states();
+    let size = states.div_ceil(ranges);
+    let parts = parts(rt, alloc, lts, form, sets, size, ranges)?;
+    match sinks(alloc, 2 + states * form.count()) {
+        Ok(first) => join_all(first, parts),
+        Err(error) => Err(error),
+    }
+}
+
 /// The game of each state with each node, after two sinks: Even wins the vertex of a state with a node where the node's formula
-/// holds at the state (Emerson and Jutla 1991). Vertices follow each other by state and then by node.
-pub fn build(alloc: Global, lts: &Lts, form: &Normal) -> Result<Game, BuildError>
+/// holds at the state (Emerson and Jutla 1991). Vertices follow each other by state and then by node. Threads make the vertices
+/// of a large game, each those of some states.
+pub fn build(
+    rt: &(impl Threads + Sync),
+    alloc: Global,
+    lts: &Lts,
+    form: &Normal,
+) -> Result<Game, BuildError>
+    ensures game { IfOk result (λ g. g ≡ arena lts.now.system (normal_nodes form.now)) }
+    ensures within { OnOk result (2 + lts.now.system.states * length (normal_nodes form.now) ≤ MOST_VERTICES) }
+    ensures low { IfOk result (λ g. greatest g ≤ GREATEST_PRIORITY) }
+    ensures refused { IfErr result (HasRefusal lts.now.system.states (length (normal_nodes form.now))) }
+{
+    form.known();
+    let vertices = u64::from(lts.states()) * u64::from(form.count());
+    let ranges = if vertices < LEAST_SPLIT || current_num_threads(rt) == 1 {
+        1
+    } else {
+        RANGES
+    };
+    build_split(rt, alloc, lts, form, ranges)
+}
+
+/// The same game, whose states are cut into so many ranges of one size. Threads share the ranges where there are several.
+pub fn build_split(
+    rt: &(impl Threads + Sync),
+    alloc: Global,
+    lts: &Lts,
+    form: &Normal,
+    ranges: u32,
+) -> Result<Game, BuildError>
+    requires { 1 ≤ ranges }
     ensures game { IfOk result (λ g. g ≡ arena lts.now.system (normal_nodes form.now)) }
     ensures within { OnOk result (2 + lts.now.system.states * length (normal_nodes form.now) ≤ MOST_VERTICES) }
     ensures low { IfOk result (λ g. greatest g ≤ GREATEST_PRIORITY) }
@@ -188,21 +368,10 @@ pub fn build(alloc: Global, lts: &Lts, form: &Normal) -> Result<Game, BuildError
         return Err(BuildError::TooManyVertices);
     }
     let sets = sets(alloc, lts, form)?;
-    let mut row = Vec::new(alloc);
-    let mut reached = Vec::new(alloc);
-    let mut builder = GameBuilder::new(alloc);
-    builder.push(Player::Even, 0, &[0])?;
-    builder.push(Player::Even, 1, &[1])?;
-    for state in 0..states {
-        push_state(
-            &mut builder,
-            lts,
-            form,
-            &sets,
-            state,
-            &mut row,
-            &mut reached,
-        )?;
-    }
+    let builder = if ranges == 1 {
+        whole(alloc, lts, form, &sets)?
+    } else {
+        split(rt, alloc, lts, form, &sets, ranges)?
+    };
     Ok(builder.into_game(Some((states, nodes))))
 }

@@ -1,10 +1,11 @@
 // Parity games, stored as one list of successors.
 
-ghost use Rattle.std.specs.Prelude.{◌≡◌, ◌==◌, ◌↔◌, ◌<◌, ◌≤◌, ◌+◌, ◌++◌, ◌∷◌, [], ℕ, None, length, slice_index, option_map, if◌then◌else◌, IsTrue, IsSome, IfSome, OnOk, OnErr};
+ghost use Rattle.std.specs.Prelude.{◌≡◌, ◌==◌, ◌↔◌, ◌<◌, ◌≤◌, ◌+◌, ◌^◌, ◌++◌, ◌∷◌, [], ℕ, None, length, map, slice_index, option_map, if◌then◌else◌, IsTrue, IsSome, IfSome, IfOk, OnOk, OnErr};
 ghost use Rattle.std.specs.List.{AllByRecursion};
 ghost use Rattle.game.specs.Game.{IsGame, IsVertex, vertex, count as count_of};
 ghost use Rattle.game.specs.Arena.{AreNames, place_in};
 ghost use Rattle.game.specs.Rises.{rises};
+ghost use Rattle.game.specs.View.{moved};
 
 use crate::limits::MOST_VERTICES;
 use crate::player::Player;
@@ -119,6 +120,30 @@ fn count_one(counts: &mut [u32; PRIORITIES], priority: u8)
     }
 }
 
+// The counts of other vertices are added to those of these.
+fn add_counts(counts: &mut [u32; PRIORITIES], others: &[u32; PRIORITIES])
+    requires { (p : ℕ) → p ≤ 32 → slice_index counts.old p + slice_index others.now p ≤ MOST_VERTICES }
+    ensures { (p : ℕ) → p ≤ 32 → slice_index counts.new p ≡ slice_index counts.old p + slice_index others.now p }
+{
+    for priority in 0..PRIORITIES {
+        counts[priority] += others[priority];
+    }
+}
+
+// Rows of vertices whose successors stand that many places further on.
+fn push_moved(rows: &mut Vec<Row>, more: &[Row], places: usize) -> Result<(), AllocError>
+    requires { AllByRecursion (λ row. row.start + places < 2 ^ 64) more.now }
+    ensures { OnOk result (rows.new.items ≡ rows.old.items ++ map (moved places) more.now) }
+{
+    rows.reserve(more.len())?;
+    for row in more {
+        let row = *row;
+        let start = row.start + places;
+        rows.push(Row { start, ..row })?;
+    }
+    Ok(())
+}
+
 // Whether the numbers rise and are below the limit.
 fn is_ascending(limit: usize, numbers: &[u32]) -> bool
     ensures { result ≡ rises limit 0 numbers.now }
@@ -198,6 +223,27 @@ impl GameBuilder {
         })?;
         count_one(&mut self.counts, priority);
         Ok(())
+    }
+
+    /// No vertex yet, and room for so many.
+    pub fn with_room(alloc: Global, vertices: usize) -> Result<Self, AllocError>
+        ensures { IfOk result (λ builder. builder ≡ []) }
+    {
+        let mut builder = GameBuilder::new(alloc);
+        builder.rows.reserve_exact(vertices)?;
+        Ok(builder)
+    }
+
+    /// These vertices, and then those of another builder.
+    pub fn joined(mut self, other: &GameBuilder) -> Result<GameBuilder, AllocError>
+        requires { length self + length other.now ≤ MOST_VERTICES }
+        ensures { IfOk result (λ builder. builder ≡ self ++ other.now) }
+    {
+        let base = self.successors.len();
+        self.successors.extend_from_slice(&other.successors)?;
+        push_moved(&mut self.rows, &other.rows, base)?;
+        add_counts(&mut self.counts, &other.counts);
+        Ok(self)
     }
 
     /// The game of these vertices, where they make one: each successor is one of them.
