@@ -11,7 +11,7 @@ use Rattle.std.proofs.lemmas.Grind.{div_ceil_times}
 use Rattle.std.proofs.Math.Seq.{take-add}
 use Rattle.std.proofs.lemmas.Grind.{flat_map-append}
 use Rattle.std.proofs.lemmas.List.FromFn.{length-range_with_len}
-use Rattle.game.specs.Parts.{part_of, range_of}
+use Rattle.game.specs.Parts.{part_of}
 use Rattle.game.proofs.Arenas.{range_more, rows_append}
 
 drop_range : (k a n : ℕ) → drop k (range_with_len a n) ≡ range_with_len (a + k) (n - k)

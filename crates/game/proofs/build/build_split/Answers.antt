@@ -1,4 +1,4 @@
-use Rattle.game.proofs.Common.{◌≡◌, ◌+◌, ◌*◌, ◌≤◌, ℕ, Some, length, subst, sym, ap, ◌∙◌, arith, normal_nodes, IsGame, arena}
+use Rattle.game.proofs.Common.{◌≡◌, ◌+◌, ◌*◌, ◌≤◌, ℕ, Some, length, subst, sym, ◌∙◌, arith, normal_nodes, IsGame, arena}
 use Rattle.game.proofs.Arenas.{arena_is_game, arena_low}
 use Rattle.game.specs.Game.{greatest}
 use Rattle.game.proofs.build.build_split.Goals as goal

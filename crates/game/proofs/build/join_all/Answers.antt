@@ -1,10 +1,9 @@
-use Rattle.game.proofs.Common.{◌≡◌, ◌+◌, ◌∷◌, [], ◌++◌, List, length, vec_len, rules, ap, ◌∙◌, arith, take, take_all}
+use Rattle.game.proofs.Common.{◌≡◌, ◌++◌, List, length, vec_len, rules, ap, ◌∙◌, arith, take_all}
 use Rattle.std.specs.List.{flat_map}
-use Rattle.std.proofs.lemmas.List.{length_push}
 use Rattle.std.proofs.lemmas.Iterator.Adapters.{YieldsList-from_vec}
 use Rattle.std.proofs.lemmas.Iterator.Consumers.{YieldsList-turn, YieldsList-end}
 use Rattle.game.specs.Game.{Vertex}
-use Rattle.game.proofs.Parts.{joined_more, joined_fit}
+use Rattle.game.proofs.Parts.{joined_fit}
 use Rattle.game.proofs.build.join_all.Goals as goal
 
 pub joined-requires : goal.joined-requires

@@ -1,4 +1,4 @@
-use Rattle.game.proofs.Common.{◌≡◌, ◌++◌, length, ap, ◌∙◌, arith, normal_nodes}
+use Rattle.game.proofs.Common.{◌++◌, length, ap, ◌∙◌, arith, normal_nodes}
 use Rattle.std.specs.Int.{div_ceil}
 use Rattle.rayon.proofs.ListFacts.{IfOk-then}
 use Rattle.game.proofs.Arenas.{rows_count}

@@ -1,4 +1,4 @@
-use Rattle.game.proofs.Common.{◌≡◌, ◌++◌, List, ℕ, map, length, sym, ap, ◌∙◌, arith, rules, subst, length-append, length-map, Row, AreStored, Vertex, moved, vertices_of, vertex_of_row}
+use Rattle.game.proofs.Common.{◌≡◌, ◌++◌, map, length, sym, ap, ◌∙◌, arith, rules, length-append, length-map, moved, vertices_of, vertex_of_row}
 use Rattle.game.proofs.Rows.{stored_joined, vertices_joined}
 use Rattle.game.proofs.graph.GameBuilder.joined.Goals as goal
 
