@@ -20,7 +20,7 @@ use std::thread::Threads;
 /// # Errors
 /// Those of the normal form and of the game, unchanged.
 pub fn game_of<H: Threads + Sync>(
-    _rt: &H,
+    rt: &H,
     alloc: Global,
     system: &Lts,
     formula: &Closed,
@@ -30,7 +30,7 @@ pub fn game_of<H: Threads + Sync>(
         MatchResult result (IsGameOf priorities l f) (IsBeyond (ByGame priorities None) l f) }
 {
     match normal_with(alloc, formula, priorities) {
-        Ok(normal) => match build(alloc, system, &normal) {
+        Ok(normal) => match build(rt, alloc, system, &normal) {
             Ok(game) => Ok(game),
             Err(error) => Err(MuError::Build(error)),
         },
