@@ -18,6 +18,7 @@ use measures::settle::solve_one;
 use std::alloc::{AllocError, Global};
 use std::process::Abort;
 use std::test::Fail;
+use std::thread::Threads;
 
 // Worked example: the formula with which the ring makes the game of sixteen vertices, and its evidence.
 const OFTEN_A: &str = "nu X. mu Y. (<a>X || <b>Y)";
@@ -33,10 +34,13 @@ const EVEN_OF_STEP: &str = "evidence even\n0 0 (0)\n2 5 (0)\n3 0 (0)\n5 0 (0)\n"
 const ODD_OF_STEP: &str = "evidence odd\n1 - (0)\n4 - (1)\n";
 
 // The game of a formula on the ring.
-fn game_of_formula(alloc: Global, formula: &str) -> Result<Game, Fail> {
-    let lts = system_of(alloc, RING)?;
-    let form = form_of(alloc, formula).ok_or("no form")?;
-    Ok(build(alloc, &lts, &form)?)
+fn game_of_formula(
+    rt: &(impl AllocGlobal + Threads + Sync),
+    formula: &str,
+) -> Result<Game, Fail> {
+    let lts = system_of(rt.alloc(), RING)?;
+    let form = form_of(rt.alloc(), formula).ok_or("no form")?;
+    Ok(build(rt, rt.alloc(), &lts, &form)?)
 }
 
 fn read(alloc: Global, game: &Game, text: &str) -> Result<Evidence, EvidenceError>
@@ -89,13 +93,13 @@ const CHANGED: [(&str, &str, &str); 11] = [
 
 #[test]
 fn verdicts_of_the_example(rt: HostRuntime) -> Result<(), Fail> {
-    let game = game_of_formula(rt.alloc(), OFTEN_A)?;
+    let game = game_of_formula(&rt, OFTEN_A)?;
     for (line, other, wanted) in &CHANGED {
         let text = with_line(rt.alloc(), EVEN, line, other)?;
         says(&rt, &game, text.as_str(), wanted)?;
     }
     says(&rt, &game, ODD, "verified odd 3 of 16\n")?;
-    let step = game_of_formula(rt.alloc(), "<a>true")?;
+    let step = game_of_formula(&rt, "<a>true")?;
     says(&rt, &step, EVEN_OF_STEP, "verified even 4 of 6\n")?;
     says(&rt, &step, ODD_OF_STEP, "verified odd 2 of 6\n")
 }
@@ -103,7 +107,7 @@ fn verdicts_of_the_example(rt: HostRuntime) -> Result<(), Fail> {
 // Lines in any order, the last end missing.
 #[test]
 fn lines_stand_in_any_order(rt: HostRuntime) -> Result<(), Fail> {
-    let game = game_of_formula(rt.alloc(), "<a>true")?;
+    let game = game_of_formula(&rt, "<a>true")?;
     let turned = "evidence even\n5 0 (0)\n0 0 (0)\n3 0 (0)\n2 5 (0)";
     says(&rt, &game, turned, "verified even 4 of 6\n")?;
     says(&rt, &game, "evidence odd", "verified odd 0 of 6\n")?;
@@ -141,7 +145,7 @@ fn is_written(rt: &(impl Abort + AllocGlobal), evidence: &Evidence, wanted: &str
 #[test]
 fn made_evidence_is_written(rt: HostRuntime) -> Result<(), Fail> {
     for (formula, even, odd) in &[(OFTEN_A, EVEN, ODD), ("<a>true", EVEN_OF_STEP, ODD_OF_STEP)] {
-        let game = game_of_formula(rt.alloc(), formula)?;
+        let game = game_of_formula(&rt, formula)?;
         assert!(rt; greatest_priority(&game) <= 31);
         let settled = solve_one(rt.alloc(), &game)?;
         is_written(&rt, &even_evidence(rt.alloc(), &game, &settled)?, even);
@@ -183,7 +187,7 @@ const REFUSED: [(&str, &str); 20] = [
 
 #[test]
 fn faults_of_texts(rt: HostRuntime) -> Result<(), Fail> {
-    let game = game_of_formula(rt.alloc(), OFTEN_A)?;
+    let game = game_of_formula(&rt, OFTEN_A)?;
     for (text, wanted) in &REFUSED {
         let told = refusal(rt.alloc(), &game, text)?;
         same(&rt, text, told.as_str(), wanted);
@@ -197,7 +201,7 @@ fn faults_of_texts(rt: HostRuntime) -> Result<(), Fail> {
 // Each read fails in turn.
 #[test]
 fn failed_reads_are_told(rt: HostRuntime) -> Result<(), Fail> {
-    let game = game_of_formula(rt.alloc(), OFTEN_A)?;
+    let game = game_of_formula(&rt, OFTEN_A)?;
     for count in 0..EVEN.len() {
         let reader = Slow {
             left: &EVEN.as_bytes()[..count],
@@ -229,7 +233,7 @@ fn says_of_two(
 
 #[test]
 fn two_texts(rt: HostRuntime) -> Result<(), Fail> {
-    let game = game_of_formula(rt.alloc(), OFTEN_A)?;
+    let game = game_of_formula(&rt, OFTEN_A)?;
     let all = "verified both even 13 odd 3 of 16\n";
     says_of_two(&rt, &game, EVEN, ODD, all)?;
     says_of_two(&rt, &game, ODD, EVEN, all)?;
@@ -239,7 +243,7 @@ fn two_texts(rt: HostRuntime) -> Result<(), Fail> {
     says_of_two(&rt, &game, gone.as_str(), EVEN, "refused first C2 at 7\n")?;
     let left = with_line(rt.alloc(), ODD, "7 - (0,1)", "")?;
     says_of_two(&rt, &game, EVEN, left.as_str(), "refused C5 at 7\n")?;
-    let step = game_of_formula(rt.alloc(), "<a>true")?;
+    let step = game_of_formula(&rt, "<a>true")?;
     let six = "verified both even 4 odd 2 of 6\n";
     says_of_two(&rt, &step, EVEN_OF_STEP, ODD_OF_STEP, six)
 }

@@ -129,7 +129,7 @@ fn want_of_memory_is_told_as_such(rt: HostRuntime) {
 fn names_are_written_and_not_read(rt: HostRuntime) -> Result<(), Fail> {
     let lts = system_of(rt.alloc(), "des (0,0,1)")?;
     let form = form_of(rt.alloc(), "[true]false").ok_or("no formula")?;
-    let game = build(rt.alloc(), &lts, &form)?;
+    let game = build(&rt, rt.alloc(), &lts, &form)?;
     let text = text_of(rt.alloc(), &game)?;
     same(
         &rt,

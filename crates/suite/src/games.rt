@@ -1,14 +1,18 @@
 // Games that were worked out by hand, in the order of PGSolver's format: a vertex, its priority, its owner (0 is Even) and
 // its successors.
 
+ghost use Rattle.std.specs.Prelude.{◌≤◌};
+
 use crate::common::{RING, Row, form_of, game_of, made, repeated, same, system_of};
-use game::build::build;
+use game::build::{build, build_split};
+use game::error::BuildError;
 use game::graph::Game;
 use game::player::Player;
 use lts::Lts;
 use normal::form::Normal;
 use std::alloc::{AllocError, Global};
 use std::test::Fail;
+use std::thread::Threads;
 
 // A line for each vertex.
 fn shown(alloc: Global, game: &Game) -> Result<String, AllocError> {
@@ -29,18 +33,36 @@ fn shown(alloc: Global, game: &Game) -> Result<String, AllocError> {
 }
 
 // The game of a system and a normal form, or the refusal.
-fn text_of(alloc: Global, lts: &Lts, form: &Normal) -> Result<String, AllocError> {
-    match build(alloc, lts, form) {
+fn text_of(alloc: Global, game: Result<Game, BuildError>) -> Result<String, AllocError> {
+    match game {
         Ok(game) => shown(alloc, &game),
         Err(error) => error.to_string(alloc),
     }
 }
 
 // The same of texts, if they are a system and a formula.
-fn built(alloc: Global, system: &str, formula: &str) -> Option<String> {
-    let lts = system_of(alloc, system).ok()?;
-    let form = form_of(alloc, formula)?;
-    text_of(alloc, &lts, &form).ok()
+fn built(
+    rt: &(impl AllocGlobal + Threads + Sync),
+    system: &str,
+    formula: &str,
+) -> Option<String> {
+    let lts = system_of(rt.alloc(), system).ok()?;
+    let form = form_of(rt.alloc(), formula)?;
+    text_of(rt.alloc(), build(rt, rt.alloc(), &lts, &form)).ok()
+}
+
+// The same, where the states are cut into so many ranges.
+fn split(
+    rt: &(impl AllocGlobal + Threads + Sync),
+    system: &str,
+    formula: &str,
+    ranges: u32,
+) -> Option<String>
+    requires { 1 ≤ ranges }
+{
+    let lts = system_of(rt.alloc(), system).ok()?;
+    let form = form_of(rt.alloc(), formula)?;
+    text_of(rt.alloc(), build_split(rt, rt.alloc(), &lts, &form, ranges)).ok()
 }
 
 // Systems, formulas, and their games.
@@ -65,8 +87,40 @@ const GAMES: [(&str, &str, &str); 3] = [
 #[test]
 fn vertices_are_states_with_nodes(rt: HostRuntime) -> Result<(), Fail> {
     for (system, formula, wanted) in &GAMES {
-        let told = built(rt.alloc(), system, formula).ok_or("no texts")?;
+        let told = built(&rt, system, formula).ok_or("no texts")?;
         same(&rt, formula, told.as_str(), wanted);
+    }
+    Ok(())
+}
+
+// However many ranges the states are cut into: as many as states, fewer, and more, of which some have none.
+#[test]
+fn each_split_gives_the_same_game(rt: HostRuntime) -> Result<(), Fail> {
+    for (system, formula, wanted) in &GAMES {
+        for ranges in [1, 2, 7] {
+            let told = split(&rt, system, formula, ranges).ok_or("no texts")?;
+            same(&rt, formula, told.as_str(), wanted);
+        }
+    }
+    Ok(())
+}
+
+const RING_OF_NINE: u32 = 9;
+
+// A ring of nine states: each leads to the next one, where truth is.
+#[test]
+fn each_split_of_a_ring_gives_its_game(rt: HostRuntime) -> Result<(), Fail> {
+    let mut system = format!(in rt.alloc(); "des (0,{RING_OF_NINE},{RING_OF_NINE})\n")?;
+    let mut wanted = format!(in rt.alloc(); "0 0 0 0\n1 1 0 1\n")?;
+    for state in 0..RING_OF_NINE {
+        let next = (state + 1) % RING_OF_NINE;
+        let (step, truth, after) = (2 + 2 * state, 3 + 2 * state, 3 + 2 * next);
+        write!(system, "({state},\"a\",{next})\n")?;
+        write!(wanted, "{step} 0 0 {after}\n{truth} 0 0 0\n")?;
+    }
+    for ranges in [1, 2, 7, RING_OF_NINE] {
+        let told = split(&rt, system.as_str(), "<a>true", ranges).ok_or("no texts")?;
+        same(&rt, "a ring of nine", told.as_str(), wanted.as_str());
     }
     Ok(())
 }
@@ -75,8 +129,10 @@ fn vertices_are_states_with_nodes(rt: HostRuntime) -> Result<(), Fail> {
 #[test]
 fn want_of_memory_is_told_as_such(rt: HostRuntime) {
     let (system, formula, wanted) = GAMES[0];
-    if let Some(told) = built(rt.alloc(), system, formula) {
-        assert!(rt; told.as_str() == wanted || told.as_str() == "B2", "{told}");
+    for ranges in [1, 2] {
+        if let Some(told) = split(&rt, system, formula, ranges) {
+            assert!(rt; told.as_str() == wanted || told.as_str() == "B2", "{told}");
+        }
     }
 }
 
@@ -87,7 +143,7 @@ const MILLION: &str = "des (0,0,1000000)\n";
 fn a_million_states_have_vertices(rt: HostRuntime) -> Result<(), Fail> {
     let lts = system_of(rt.alloc(), MILLION)?;
     let form = form_of(rt.alloc(), "true").ok_or("no form")?;
-    assert!(rt; build(rt.alloc(), &lts, &form)?.vertices() == 1_000_002);
+    assert!(rt; build(&rt, rt.alloc(), &lts, &form)?.vertices() == 1_000_002);
     Ok(())
 }
 
@@ -96,7 +152,7 @@ fn a_million_states_have_vertices(rt: HostRuntime) -> Result<(), Fail> {
 fn vertices_are_known_by_their_names(rt: HostRuntime) -> Result<(), Fail> {
     let lts = system_of(rt.alloc(), RING)?;
     let form = form_of(rt.alloc(), "<a>true").ok_or("no form")?;
-    let game = build(rt.alloc(), &lts, &form)?;
+    let game = build(&rt, rt.alloc(), &lts, &form)?;
     assert!(rt; lts.states() == 2 && form.count() == 2);
     assert!(rt; game.vertex_of(0, 1) == 3 && game.vertex_of(1, 0) == 4);
     Ok(())
@@ -106,7 +162,7 @@ fn vertices_are_known_by_their_names(rt: HostRuntime) -> Result<(), Fail> {
 #[test]
 fn vertices_are_counted_before_they_are_made(rt: HostRuntime) -> Result<(), Fail> {
     let formula = repeated(rt.alloc(), "", "<a>", 16, "true")?;
-    let told = built(rt.alloc(), MILLION, formula.as_str()).ok_or("no texts")?;
+    let told = built(&rt, MILLION, formula.as_str()).ok_or("no texts")?;
     same(&rt, "a million states", told.as_str(), "B1");
     Ok(())
 }

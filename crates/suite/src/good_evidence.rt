@@ -18,6 +18,7 @@ use measures::settle::solve_one;
 use std::alloc::{AllocError, Global};
 use std::process::Abort;
 use std::test::Fail;
+use std::thread::Threads;
 
 // Counts in parentheses.
 fn show_rank(text: &mut String, rank: &[u32]) -> Result<(), AllocError> {
@@ -122,22 +123,22 @@ const EXAMPLE: Wanted = Wanted {
 };
 
 // The game of the example.
-fn example(alloc: Global) -> Result<Game, Fail> {
-    let lts = system_of(alloc, RING)?;
-    let form = form_of(alloc, "nu X. mu Y. (<a>X || <b>Y)").ok_or("no form")?;
-    Ok(build(alloc, &lts, &form)?)
+fn example(rt: &(impl AllocGlobal + Threads + Sync)) -> Result<Game, Fail> {
+    let lts = system_of(rt.alloc(), RING)?;
+    let form = form_of(rt.alloc(), "nu X. mu Y. (<a>X || <b>Y)").ok_or("no form")?;
+    Ok(build(rt, rt.alloc(), &lts, &form)?)
 }
 
 #[test]
 fn evidence_of_the_example(rt: HostRuntime) -> Result<(), Fail> {
-    let game = example(rt.alloc())?;
+    let game = example(&rt)?;
     assert!(rt; greatest_priority(&game) == 2);
     gives_both(&rt, &game, &EXAMPLE)
 }
 
 #[test]
 fn the_dual_of_the_example(rt: HostRuntime) -> Result<(), Fail> {
-    let game = example(rt.alloc())?;
+    let game = example(&rt)?;
     assert!(rt; greatest_priority(&game) <= 31);
     let turned = dual(rt.alloc(), &game)?;
     assert!(rt; greatest_priority(&turned) == 3 && turned.vertices() == 16);

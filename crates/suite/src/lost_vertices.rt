@@ -14,6 +14,7 @@ use search::lost::Lost;
 use search::predecessors::Predecessors;
 use std::alloc::{AllocError, Global};
 use std::test::Fail;
+use std::thread::Threads;
 
 // Games, and who wins each vertex.
 const GAMES: [(&[Row], &str); 11] = [
@@ -127,11 +128,11 @@ fn branching(alloc: Global) -> Result<String, AllocError> {
     Ok(text)
 }
 
-fn branching_game(alloc: Global) -> Result<Game, Fail> {
-    let text = branching(alloc)?;
-    let lts = system_of(alloc, text.as_str())?;
-    let form = form_of(alloc, "mu X. (<c>true || <true>X)").ok_or("no form")?;
-    Ok(build(alloc, &lts, &form)?)
+fn branching_game(rt: &(impl AllocGlobal + Threads + Sync)) -> Result<Game, Fail> {
+    let text = branching(rt.alloc())?;
+    let lts = system_of(rt.alloc(), text.as_str())?;
+    let form = form_of(rt.alloc(), "mu X. (<c>true || <true>X)").ok_or("no form")?;
+    Ok(build(rt, rt.alloc(), &lts, &form)?)
 }
 
 // Whether Even wins just the vertex of truth, and the fourth of the six nodes at each state, which is `true`.
@@ -150,7 +151,7 @@ fn are_trues(game: &Game, settled: &Settled) -> bool
 // Lifting alone would take minutes, which is more than a test has.
 #[test]
 fn what_is_lost_is_found_at_once(rt: HostRuntime) -> Result<(), Fail> {
-    let game = branching_game(rt.alloc())?;
+    let game = branching_game(&rt)?;
     let settled = solve_one(rt.alloc(), &game)?;
     assert!(rt; game.vertices() == 2 + 6 * STATES);
     assert!(rt; are_trues(&game, &settled));
