@@ -54,6 +54,8 @@ mod readers;
 #[cfg(test)]
 mod reports;
 #[cfg(test)]
+mod schedules;
+#[cfg(test)]
 mod system_texts;
 #[cfg(test)]
 mod writers;
