@@ -1,5 +1,5 @@
 -- What a check has found out.
-use Rattle.std.proofs.Common.{◌≡◌, ℕ, List, Bool, false, Some, Ok, Err, refl, subst, sym, slice_index_or}
+use Rattle.std.proofs.Common.{◌≡◌, ℕ, List, Bool, false, Some, None, Ok, Err, refl, subst, sym, slice_index_or}
 use Rattle.std.specs.Prelude.{IfSome, IfOk, IfErr, IsErrAnd, MatchResult, Option, Result}
 use Rattle.std.proofs.lemmas.Result.{IfOk-weaker}
 use Rattle.text.specs.declared.write_loop.WriteFault.{WriteFault}
@@ -13,7 +13,10 @@ use Rattle.evidence.specs.declared.error.EvidenceError.TheVariants as evidence
 use Rattle.engines.specs.Check.{Way, ByGame, Answers, AreSpelled, AreMarks, IsBeyond, IsTextOf, IsWithin, SpellsSystem, HasRefused}
 use Rattle.engines.specs.Writers.{EvenText, Lent, IsLentFor, AreKept, AreWritten}
 use Rattle.engines.specs.Texts.{IsFormulaOf, IsReadRefusal}
-use Rattle.engines.specs.Findings.{formula_of, system_of}
+use Rattle.engines.specs.Findings.{AreFindings, IsGameOf, IsTextFound, formula_of, system_of, way_in}
+use Rattle.engines.specs.Solver.{IsUnsolved}
+use Rattle.game.specs.Game.{Game}
+use Rattle.workers.specs.declared.team.BoardKind.{BoardKind}
 use Rattle.engines.specs.declared.findings.Findings.{Findings}
 use Rattle.engines.specs.declared.texts.Texts.{Texts}
 use Rattle.formula.specs.Closed.{closed_formula}
@@ -52,27 +55,60 @@ unread_of way first second writers (error.Solve e) spelled h kept = absurd h
 unread_of way first second writers (error.Write e) spelled h kept = absurd h
 
 -- That a limit is passed is told where both texts are spelled.
-pub beyond_of : (priorities : Priorities) (first second : List ℕ) (writers : List Lent) (l : System) (f : Formula) (e : MuError) → AreSpelled first second l f
-    → IsBeyond (ByGame priorities) l f e → AreKept writers → HasRefused (ByGame priorities) first second writers e
-beyond_of p first second writers l f error.Memory spelled h kept = ((l, spelled.system.spelled), kept)
-beyond_of p first second writers l f (error.Normal e) spelled h kept = (record { l = l; f = f; spelled = spelled; beyond = h }, kept)
-beyond_of p first second writers l f (error.Build e) spelled h kept = (record { l = l; f = f; spelled = spelled; beyond = h }, kept)
-beyond_of p first second writers l f (error.Arguments e) spelled h kept = absurd h
-beyond_of p first second writers l f error.File spelled h kept = absurd h
-beyond_of p first second writers l f error.Read spelled h kept = absurd h
-beyond_of p first second writers l f (error.System e) spelled h kept = absurd h
-beyond_of p first second writers l f (error.Formula e) spelled h kept = absurd h
-beyond_of p first second writers l f (error.Game e) spelled h kept = absurd h
-beyond_of p first second writers l f (error.Evidence e) spelled h kept = absurd h
-beyond_of p first second writers l f (error.Table e) spelled h kept = absurd h
-beyond_of p first second writers l f (error.Solve e) spelled h kept = absurd h
-beyond_of p first second writers l f (error.Write e) spelled h kept = absurd h
+pub beyond_of : (rule : Priorities) (board : Option BoardKind) (first second : List ℕ) (writers : List Lent) (l : System) (f : Formula) (e : MuError) → AreSpelled first second l f
+    → IsBeyond (ByGame rule board) l f e → AreKept writers → HasRefused (ByGame rule board) first second writers e
+beyond_of rule board first second writers l f error.Memory spelled h kept = ((l, spelled.system.spelled), kept)
+beyond_of rule board first second writers l f (error.Normal e) spelled h kept = (record { l = l; f = f; spelled = spelled; beyond = h }, kept)
+beyond_of rule board first second writers l f (error.Build e) spelled h kept = (record { l = l; f = f; spelled = spelled; beyond = h }, kept)
+beyond_of rule board first second writers l f (error.Table e) spelled h kept = (record { l = l; f = f; spelled = spelled; beyond = h }, kept)
+beyond_of rule board first second writers l f (error.Solve e) spelled h kept = (record { l = l; f = f; spelled = spelled; beyond = h }, kept)
+beyond_of rule board first second writers l f (error.Arguments e) spelled h kept = absurd h
+beyond_of rule board first second writers l f error.File spelled h kept = absurd h
+beyond_of rule board first second writers l f error.Read spelled h kept = absurd h
+beyond_of rule board first second writers l f (error.System e) spelled h kept = absurd h
+beyond_of rule board first second writers l f (error.Formula e) spelled h kept = absurd h
+beyond_of rule board first second writers l f (error.Game e) spelled h kept = absurd h
+beyond_of rule board first second writers l f (error.Evidence e) spelled h kept = absurd h
+beyond_of rule board first second writers l f (error.Write e) spelled h kept = absurd h
 
--- What was read is what is found out of.
-pub spelled_by : (first second : List ℕ) (texts : Texts) (r : Result Findings MuError) → AreSpelled first second texts.system.system (closed_formula texts.formula)
-    → IfOk r (λ x. x.texts.value ≡ texts) → IfOk r (λ x. AreSpelled first second (system_of x) (formula_of x))
-spelled_by first second texts (Ok x) h e = subst (λ (t : Texts). AreSpelled first second t.system.system (closed_formula t.formula)) (sym e) h
-spelled_by first second texts (Err e) h same = tt
+-- What is beyond a limit before a board is asked for is so whatever board is.
+pub beyond_any : (rule : Priorities) (board : Option BoardKind) (l : System) (f : Formula) (e : MuError) → IsBeyond (ByGame rule None) l f e → IsBeyond (ByGame rule board) l f e
+beyond_any rule board l f error.Memory h = tt
+beyond_any rule board l f (error.Normal e) h = h
+beyond_any rule board l f (error.Build e) h = h
+beyond_any rule board l f (error.Table e) h = absurd h.1
+beyond_any rule board l f (error.Solve e) h = absurd h.1
+beyond_any rule board l f (error.Arguments e) h = absurd h
+beyond_any rule board l f error.File h = absurd h
+beyond_any rule board l f error.Read h = absurd h
+beyond_any rule board l f (error.System e) h = absurd h
+beyond_any rule board l f (error.Formula e) h = absurd h
+beyond_any rule board l f (error.Game e) h = absurd h
+beyond_any rule board l f (error.Evidence e) h = absurd h
+beyond_any rule board l f (error.Write e) h = absurd h
+
+-- A game that isn't solved is one that was made.
+pub beyond_board : (rule : Priorities) (kind : BoardKind) (l : System) (f : Formula) (g : Game) (e : MuError) → IsGameOf rule l f g → IsUnsolved (Some kind) g e
+    → IsBeyond (ByGame rule (Some kind)) l f e
+beyond_board rule kind l f g error.Memory is h = tt
+beyond_board rule kind l f g (error.Table e) is h = (is.within, subst (λ x. IsUnsolved (Some kind) x (error.Table e)) is.same h)
+beyond_board rule kind l f g (error.Solve e) is h = (is.within, subst (λ x. IsUnsolved (Some kind) x (error.Solve e)) is.same h)
+beyond_board rule kind l f g (error.Normal e) is h = absurd h
+beyond_board rule kind l f g (error.Build e) is h = absurd h
+beyond_board rule kind l f g (error.Arguments e) is h = absurd h
+beyond_board rule kind l f g error.File is h = absurd h
+beyond_board rule kind l f g error.Read is h = absurd h
+beyond_board rule kind l f g (error.System e) is h = absurd h
+beyond_board rule kind l f g (error.Formula e) is h = absurd h
+beyond_board rule kind l f g (error.Game e) is h = absurd h
+beyond_board rule kind l f g (error.Evidence e) is h = absurd h
+beyond_board rule kind l f g (error.Write e) is h = absurd h
+
+-- What was read is what something is made of.
+pub spelled_by : {T : Type 0} → (texts_of : T → Texts) (first second : List ℕ) (texts : Texts) (r : Result T MuError) → AreSpelled first second texts.system.system (closed_formula texts.formula)
+    → IfOk r (λ x. texts_of x ≡ texts) → IfOk r (λ x. AreSpelled first second (texts_of x).system.system (closed_formula (texts_of x).formula))
+spelled_by texts_of first second texts (Ok x) h e = subst (λ (t : Texts). AreSpelled first second t.system.system (closed_formula t.formula)) (sym e) h
+spelled_by texts_of first second texts (Err e) h same = tt
 
 -- No writer was written to before evidence was made, which there was no memory for.
 pub wanting_of : (way : Way) (first second : List ℕ) (writers : List Lent) (l : System) (f : Formula) (r : Result Bool MuError) → AreSpelled first second l f → IsWithin way l f
@@ -80,10 +116,9 @@ pub wanting_of : (way : Way) (first second : List ℕ) (writers : List Lent) (l 
 wanting_of way first second writers l f r spelled within asked kept e =
     subst (Answers way first second writers) (sym e) (record { l = l; f = f; spelled = spelled; within = within; asked = asked; memory = refl }, kept)
 
--- What was found by a rule is found by an equal one.
-pub by_rule : (p q : Priorities) (first second : List ℕ) (writers : List Lent) (r : Result Bool MuError) → p ≡ q → Answers (ByGame p) first second writers r
-    → Answers (ByGame q) first second writers r
-by_rule p q first second writers r e h = subst (λ x. Answers (ByGame x) first second writers r) e h
+-- What was found one way is found an equal way.
+pub by_way : (p q : Way) (first second : List ℕ) (writers : List Lent) (r : Result Bool MuError) → p ≡ q → Answers p first second writers r → Answers q first second writers r
+by_way p q first second writers r e h = subst (λ x. Answers x first second writers r) e h
 
 -- An answer that was written, or begun.
 pub answer_of : (way : Way) (first second : List ℕ) (writers : List Lent) (l : System) (f : Formula) (marks : List Bool) (wrote : Result Unit WriteFault) (r : Result Bool MuError)
@@ -93,6 +128,14 @@ answer_of way first second writers l f marks (Ok x) r spelled found written e =
     subst (Answers way first second writers) (sym e) (record { l = l; f = f; marks = marks; spelled = spelled; found = found; written = written; answered = refl })
 answer_of way first second writers l f marks (Err fault) r spelled found begun e =
     subst (Answers way first second writers) (sym e) (record { l = l; f = f; marks = marks; spelled = spelled; found = found; begun = begun })
+
+-- The same of what was found out.
+pub found_answer : (x : Findings) (way : Way) (first second : List ℕ) (writers : List Lent) (wrote : Result Unit WriteFault) (r : Result Bool MuError) → way_in x ≡ way → AreFindings x
+    → AreSpelled first second (system_of x) (formula_of x) → AreWritten (IsTextFound x) writers wrote
+    → MatchResult wrote (λ _. r ≡ Ok (slice_index_or x.marks.items (system_of x).initial false)) (λ fault. r ≡ Err (error.Write fault)) → Answers way first second writers r
+found_answer x way first second writers wrote r e found spelled written answered =
+    by_way (way_in x) way first second writers r e
+    (answer_of (way_in x) first second writers (system_of x) (formula_of x) x.marks.items wrote r spelled found.marks written answered)
 
 ok_same : {T : Type 0} → (x y : T) → ◌≡◌ {A = Result T MuError} (Ok x) (Ok y) → x ≡ y
 ok_same x y h = cc

@@ -26,14 +26,16 @@ use Rattle.evidence.specs.Canon.{evidence_text}
 use Rattle.engines.specs.declared.error.MuError.{MuError}
 use Rattle.engines.specs.declared.error.MuError.TheVariants as error
 use Rattle.engines.specs.Texts.{IsSystemOf, IsFormulaOf}
+use Rattle.workers.specs.declared.team.BoardKind.{BoardKind}
 use Rattle.engines.specs.Report.{report}
 use Rattle.engines.specs.Roots.{WinsRoot}
+use Rattle.engines.specs.Solver.{IsFitting, IsUnsolved}
 use Rattle.engines.specs.Writers.{Kind, GameText, EvenText, OddText, ReportText, Lent, IsLentFor, AreWhole, AreKept, AreWrittenUpTo}
 
--- how the states are found: by sets of states, or by the game with the priorities of a rule
+-- how the states are found: by sets of states, or by the game with the priorities of a rule, solved over the board that is asked for, if one is
 pub data Way : Type 0 where
   BySets : Way
-  ByGame : Priorities → Way
+  ByGame : Priorities → Option BoardKind → Way
 
 -- The texts spell one system and one admitted formula each, within the limits.
 pub record AreSpelled (first second : List ℕ) (l : System) (f : Formula) : Type 0 where
@@ -57,21 +59,23 @@ game_of rule l f = arena l (nodes_with rule f)
 -- what is asked for can be found this way: sets of states have no limits
 abbrev pub IsWithin : Way → System → Formula → Type 0
 IsWithin BySets l f = Unit {0}
-IsWithin (ByGame rule) l f = HasGame rule l f
+IsWithin (ByGame rule board) l f = HasGame rule l f × IsFitting board (game_of rule l f)
 
--- Why it can't: the first limit that is passed, in the order of nodes, priorities, vertices. Memory may be wanting within the limits or not.
+-- Why it can't: the first limit that is passed, in the order of nodes, priorities, vertices, ranks. Memory may be wanting within the limits or not.
 abbrev pub IsBeyond : Way → System → Formula → MuError → Type 0
 IsBeyond BySets l f error.Memory = Unit {0}
 IsBeyond BySets l f e = ⊥
-IsBeyond (ByGame rule) l f error.Memory = Unit {0}
-IsBeyond (ByGame rule) l f (error.Normal e) = normal.HasRefusalWith rule f e
-IsBeyond (ByGame rule) l f (error.Build e) = HasForm rule f × game.HasRefusal l.states (length (nodes_with rule f)) e
-IsBeyond (ByGame rule) l f e = ⊥
+IsBeyond (ByGame rule board) l f error.Memory = Unit {0}
+IsBeyond (ByGame rule board) l f (error.Normal e) = normal.HasRefusalWith rule f e
+IsBeyond (ByGame rule board) l f (error.Build e) = HasForm rule f × game.HasRefusal l.states (length (nodes_with rule f)) e
+IsBeyond (ByGame rule board) l f (error.Table e) = HasGame rule l f × IsUnsolved board (game_of rule l f) (error.Table e)
+IsBeyond (ByGame rule board) l f (error.Solve e) = HasGame rule l f × IsUnsolved board (game_of rule l f) (error.Solve e)
+IsBeyond (ByGame rule board) l f e = ⊥
 
 -- Where a game is made, Even wins the vertex of a state with the root exactly where the state's mark is true.
 abbrev pub AreWon : Way → System → Formula → List Bool → Type 0
 AreWon BySets l f marks = Unit {0}
-AreWon (ByGame rule) l f marks = Marks l.states marks (WinsRoot (game_of rule l f))
+AreWon (ByGame rule board) l f marks = Marks l.states marks (WinsRoot (game_of rule l f))
 
 -- the marks of the states in the formula's meaning, found this way
 pub record AreMarks (way : Way) (l : System) (f : Formula) (marks : List Bool) : Type 0 where
@@ -85,10 +89,10 @@ IsTextOf BySets l f marks GameText text = ⊥
 IsTextOf BySets l f marks EvenText text = ⊥
 IsTextOf BySets l f marks OddText text = ⊥
 IsTextOf BySets l f marks ReportText text = text ≡ report l f marks
-IsTextOf (ByGame rule) l f marks GameText text = text ≡ game_text (game_of rule l f)
-IsTextOf (ByGame rule) l f marks EvenText text = (e : Evidence) × IsEvenOf (game_of rule l f) e × (text ≡ evidence_text e)
-IsTextOf (ByGame rule) l f marks OddText text = (e : Evidence) × IsOddOf (game_of rule l f) e × (text ≡ evidence_text e)
-IsTextOf (ByGame rule) l f marks ReportText text = text ≡ report l f marks
+IsTextOf (ByGame rule board) l f marks GameText text = text ≡ game_text (game_of rule l f)
+IsTextOf (ByGame rule board) l f marks EvenText text = (e : Evidence) × IsEvenOf (game_of rule l f) e × (text ≡ evidence_text e)
+IsTextOf (ByGame rule board) l f marks OddText text = (e : Evidence) × IsOddOf (game_of rule l f) e × (text ≡ evidence_text e)
+IsTextOf (ByGame rule board) l f marks ReportText text = text ≡ report l f marks
 
 -- Each text was written whole, the report among them on the states in the formula's meaning, and the answer is the initial state's.
 pub record HasReported (way : Way) (first second : List ℕ) (writers : List Lent) (answer : Bool) : Type 0 where
@@ -109,7 +113,7 @@ pub record HasBegun (way : Way) (first second : List ℕ) (writers : List Lent) 
   pub found : AreMarks way l f marks
   pub begun : AreWrittenUpTo (IsTextOf way l f marks) writers
 
--- Both texts are spelled, and a limit is passed.
+-- Both texts are spelled, and a limit is passed, or memory is wanting within the limits.
 pub record HasNoGame (way : Way) (first second : List ℕ) (e : MuError) : Type 0 where
   pub l : System
   pub f : Formula
@@ -141,8 +145,8 @@ HasRefused way first second writers (error.Normal e) = HasNoGame way first secon
 HasRefused way first second writers (error.Build e) = HasNoGame way first second (error.Build e) × AreKept writers
 HasRefused way first second writers (error.Game e) = ⊥
 HasRefused way first second writers (error.Evidence e) = HasNoEvidence way first second writers e × AreKept writers
-HasRefused way first second writers (error.Table e) = ⊥
-HasRefused way first second writers (error.Solve e) = ⊥
+HasRefused way first second writers (error.Table e) = HasNoGame way first second (error.Table e) × AreKept writers
+HasRefused way first second writers (error.Solve e) = HasNoGame way first second (error.Solve e) × AreKept writers
 HasRefused way first second writers (error.Write e) = HasBegun way first second writers
 
 abbrev pub Answers : Way → (first second : List ℕ) → List Lent → Result Bool MuError → Type 0
@@ -162,4 +166,4 @@ IsErrorOf BySets (error.Evidence e) = ⊥
 IsErrorOf BySets (error.Table e) = ⊥
 IsErrorOf BySets (error.Solve e) = ⊥
 IsErrorOf BySets e = Unit {0}
-IsErrorOf (ByGame rule) e = Unit {0}
+IsErrorOf (ByGame rule board) e = Unit {0}

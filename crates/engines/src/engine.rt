@@ -1,14 +1,14 @@
 // The engines: from both texts to the report.
 
-ghost use Rattle.std.specs.Prelude.{◌≡◌, ◌∷◌, ◌++◌, [], ℕ, List, IfErr, MatchResult};
+ghost use Rattle.std.specs.Prelude.{◌≡◌, ◌∷◌, ◌++◌, [], ℕ, List, None, Some, IfErr, MatchResult};
 ghost use Rattle.formula.specs.Closed.{closed_formula};
 ghost use Rattle.engines.specs.Check.{BySets, ByGame, AreMarks, AreSpelled, Answers, Checks, HasNoEvidence, IsBeyond, IsErrorOf};
 ghost use Rattle.engines.specs.Command.{way_of};
-ghost use Rattle.engines.specs.Findings.{AreFindings, IsTextFound, formula_of, rule_in, system_of};
+ghost use Rattle.engines.specs.Findings.{AreFindings, IsTextFound, formula_of, system_of, way_in};
 ghost use Rattle.engines.specs.Writers.{AreKept, AreWritten, EvenText, GameText, OddText, ReportText, evidence_writers, game_writer, lent_for, report_writer};
 
 use crate::error::MuError;
-use crate::findings::{Findings, evidence_pair, read_and_find};
+use crate::findings::{Findings, evidence_pair, find_alone, find_with};
 use crate::outputs::{answer, put_all, put_evidence_first, put_game_first, put_report};
 use crate::report::report_text;
 use crate::request::{Check, Options};
@@ -18,6 +18,9 @@ use lts::{Memory, put};
 use meaning::plain::plain_states;
 use std::alloc::Global;
 use std::io::{Read, Write};
+use std::sync::Wait;
+use std::thread::Threads;
+use workers::gate::{Gate, NoGate};
 
 /// Checks a formula at each state of a system by sets of states, without a game, and reports. It answers whether the
 /// initial state satisfies the formula. The system is read first; nothing is written before all memory was taken.
@@ -80,7 +83,13 @@ fn report<W: Write>(
 ///
 /// # Errors
 /// Those of `check_plain`, or of `check`.
-pub fn check_asked<R: Read + Drop, S: Read + Drop, W: Write>(
+pub fn check_asked<
+    R: Read + Drop,
+    S: Read + Drop,
+    W: Write,
+    H: Threads + Wait + Clone + Copy + Drop + Send + Sync,
+>(
+    rt: &H,
     alloc: Global,
     request: &Check<'_>,
     aut: R,
@@ -95,16 +104,27 @@ pub fn check_asked<R: Read + Drop, S: Read + Drop, W: Write>(
     let no_game: Option<&mut Vec<u8>> = None;
     let no_evidence: EvidenceWriters<'_, Vec<u8>, Vec<u8>> = EvidenceWriters::Neither;
     let options = &request.options;
-    check(alloc, aut, formula, options, out, no_game, no_evidence)
+    check(rt, alloc, aut, formula, options, out, no_game, no_evidence)
 }
 
-/// Checks a formula at each state of a system by a parity game, with the priorities of the options' rule. It answers whether the
-/// initial state satisfies the formula. The game, the evidence of both players and the report are written in this order, each
-/// to its writer where one is lent, and nothing before all memory was taken.
+/// Checks a formula at each state of a system by a parity game, with the priorities of the options' rule, which is solved by the
+/// options' workers over their board. It answers whether the initial state satisfies the formula. The game, the evidence of both
+/// players and the report are written in this order, each to its writer where one is lent, and nothing before all memory was
+/// taken. Neither the board nor the workers show in what is written.
 ///
 /// # Errors
-/// Those of `check_one`.
-pub fn check<R: Read + Drop, S: Read + Drop, W: Write, G: Write, E: Write, O: Write>(
+/// Those of `check_one`; T1 where the packed board is asked for and the rank of top doesn't fit a word, and only there; T2 and V1
+/// for memory of the board and of the workers' table.
+pub fn check<
+    R: Read + Drop,
+    S: Read + Drop,
+    W: Write,
+    G: Write,
+    E: Write,
+    O: Write,
+    H: Threads + Wait + Clone + Copy + Drop + Send + Sync,
+>(
+    rt: &H,
     alloc: Global,
     aut: R,
     formula: S,
@@ -113,10 +133,10 @@ pub fn check<R: Read + Drop, S: Read + Drop, W: Write, G: Write, E: Write, O: Wr
     game: Option<&mut G>,
     evidence: EvidenceWriters<'_, E, O>,
 ) -> Result<bool, MuError>
-    ensures { Checks (ByGame options.now.priorities) (R.remaining aut) (S.remaining formula)
+    ensures { Checks (ByGame options.now.priorities (Some options.now.board)) (R.remaining aut) (S.remaining formula)
         (game_writer G.contents game.entry game.exit ++ (evidence_writers E.contents O.contents evidence.entry evidence.exit ++ report_writer (W.contents out.old) (W.contents out.new))) result }
 {
-    let found = match read_and_find(alloc, aut, formula, options.priorities) {
+    let found = match find_with(rt, alloc, aut, formula, options, &NoGate) {
         Ok(found) => found,
         Err(error) => return Err(error),
     };
@@ -132,12 +152,64 @@ pub fn check<R: Read + Drop, S: Read + Drop, W: Write, G: Write, E: Write, O: Wr
     }
 }
 
-/// The same on one thread: the least progress table of the parity game tells which states satisfy the formula.
+/// The same, with a gate that each worker calls before each of its turns.
+///
+/// # Errors
+/// Those of `check`.
+pub fn check_gated<
+    R: Read + Drop,
+    S: Read + Drop,
+    W: Write,
+    G: Write,
+    E: Write,
+    O: Write,
+    T: Gate + Sync,
+    H: Threads + Wait + Clone + Copy + Drop + Send + Sync,
+>(
+    rt: &H,
+    alloc: Global,
+    aut: R,
+    formula: S,
+    options: &Options,
+    out: &mut W,
+    game: Option<&mut G>,
+    evidence: EvidenceWriters<'_, E, O>,
+    gate: &T,
+) -> Result<bool, MuError>
+    ensures { Checks (ByGame options.now.priorities (Some options.now.board)) (R.remaining aut) (S.remaining formula)
+        (game_writer G.contents game.entry game.exit ++ (evidence_writers E.contents O.contents evidence.entry evidence.exit ++ report_writer (W.contents out.old) (W.contents out.new))) result }
+{
+    let found = match find_with(rt, alloc, aut, formula, options, gate) {
+        Ok(found) => found,
+        Err(error) => return Err(error),
+    };
+    match evidence {
+        EvidenceWriters::Neither => match game {
+            None => answer(&found, put_report(&found, out)),
+            Some(game) => answer(&found, put_game_first(&found, game, out)),
+        },
+        EvidenceWriters::Both(even, odd) => match game {
+            None => with_evidence(alloc, &found, even, odd, out),
+            Some(game) => with_all(alloc, &found, game, even, odd, out),
+        },
+    }
+}
+
+/// The same on one thread and without a board, whatever the options ask for of workers, shards and board. It waits for nobody.
 ///
 /// # Errors
 /// Those of the readers, of the normal form and of the game, unchanged; E5 for memory in evidence; U3 where a read of the
 /// formula failed, U4 for memory in the engine. W1 where a write failed: the texts before it are whole, those after it empty.
-pub fn check_one<R: Read + Drop, S: Read + Drop, W: Write, G: Write, E: Write, O: Write>(
+pub fn check_one<
+    R: Read + Drop,
+    S: Read + Drop,
+    W: Write,
+    G: Write,
+    E: Write,
+    O: Write,
+    H: Threads + Sync,
+>(
+    rt: &H,
     alloc: Global,
     aut: R,
     formula: S,
@@ -146,10 +218,10 @@ pub fn check_one<R: Read + Drop, S: Read + Drop, W: Write, G: Write, E: Write, O
     game: Option<&mut G>,
     evidence: EvidenceWriters<'_, E, O>,
 ) -> Result<bool, MuError>
-    ensures { Checks (ByGame options.now.priorities) (R.remaining aut) (S.remaining formula)
+    ensures { Checks (ByGame options.now.priorities None) (R.remaining aut) (S.remaining formula)
         (game_writer G.contents game.entry game.exit ++ (evidence_writers E.contents O.contents evidence.entry evidence.exit ++ report_writer (W.contents out.old) (W.contents out.new))) result }
 {
-    let found = match read_and_find(alloc, aut, formula, options.priorities) {
+    let found = match find_alone(rt, alloc, aut, formula, options.priorities) {
         Ok(found) => found,
         Err(error) => return Err(error),
     };
@@ -175,7 +247,7 @@ fn with_evidence<E: Write, O: Write, W: Write>(
 ) -> Result<bool, MuError>
     requires { AreFindings found.now }
     ensures { (first second : List ℕ) → AreSpelled first second (system_of found.now) (formula_of found.now)
-        → Answers (ByGame (rule_in found.now)) first second (lent_for EvenText (E.contents even.old) (E.contents even.new)
+        → Answers (way_in found.now) first second (lent_for EvenText (E.contents even.old) (E.contents even.new)
         ∷ lent_for OddText (O.contents odd.old) (O.contents odd.new) ∷ lent_for ReportText (W.contents out.old) (W.contents out.new) ∷ []) result }
 {
     match evidence_pair(alloc, found) {
@@ -195,7 +267,7 @@ fn with_all<G: Write, E: Write, O: Write, W: Write>(
 ) -> Result<bool, MuError>
     requires { AreFindings found.now }
     ensures { (first second : List ℕ) → AreSpelled first second (system_of found.now) (formula_of found.now)
-        → Answers (ByGame (rule_in found.now)) first second (lent_for GameText (G.contents game.old) (G.contents game.new)
+        → Answers (way_in found.now) first second (lent_for GameText (G.contents game.old) (G.contents game.new)
         ∷ lent_for EvenText (E.contents even.old) (E.contents even.new) ∷ lent_for OddText (O.contents odd.old) (O.contents odd.new)
         ∷ lent_for ReportText (W.contents out.old) (W.contents out.new) ∷ []) result }
 {

@@ -1,21 +1,35 @@
 // What a check by a game finds out before it writes.
 
-ghost use Rattle.std.specs.Prelude.{◌≡◌, MatchResult, IfOk, IfErr, ℕ, List, Some};
+ghost use Rattle.std.specs.Prelude.{◌≡◌, IfOk, IfErr, ℕ, List, Some, None, Option};
+ghost use Rattle.std.specs.Arc.{arc_value};
 ghost use Rattle.formula.specs.Closed.{closed_formula};
+ghost use Rattle.workers.specs.declared.team.BoardKind.{BoardKind};
 ghost use Rattle.engines.specs.Check.{ByGame, AreSpelled, HasRefused, IsBeyond};
-ghost use Rattle.engines.specs.Findings.{AreFindings, IsPairOf, IsSolvedGame, formula_of, rule_in, system_of};
+ghost use Rattle.engines.specs.Findings.{AreFindings, ArePosed, IsPairOf, formula_of, system_of, way_in};
+ghost use Rattle.engines.specs.Solver.{IsFitting, IsUnsolved};
 ghost use Rattle.engines.specs.Writers.{AreKept, Lent};
 
+use crate::arena::game_of;
 use crate::error::MuError;
-use crate::lifting::{SolvedGame, solve_game, state_marks};
+use crate::lifting::{SolvedGame, state_marks};
 use crate::report::report_text;
+use crate::request::Options;
+use crate::solver::solve_with;
 use crate::texts::{Texts, read_both};
 use evidence::error::EvidenceError;
 use evidence::evidence::Evidence;
 use evidence::make::{even_evidence, odd_evidence};
+use game::graph::Game;
+use lts::Memory;
+use measures::settle::solve_one;
+use measures::table::Settled;
 use normal::priorities::Priorities;
 use std::alloc::Global;
 use std::io::Read;
+use std::sync::{Arc, Wait};
+use std::thread::Threads;
+use workers::gate::Gate;
+use workers::team::BoardKind;
 
 /// What a check by a game finds out, with all that its texts need but evidence.
 #[derive(Drop)]
@@ -33,54 +47,178 @@ pub struct EvidencePair {
     pub odd: Evidence,
 }
 
-/// Reads both texts, and finds out which states satisfy the formula.
+/// Both texts, and their game, which is to be solved.
+#[derive(Drop)]
+pub struct Posed {
+    pub texts: Box<Texts>,
+    pub priorities: Priorities,
+    pub game: Arc<Game, Global>,
+}
+
+/// Reads both texts, and finds out on one thread which states satisfy the formula.
 ///
 /// # Errors
 /// Those of the readers, of the normal form and of the game, unchanged; U3 where a read of the formula failed, U4 for memory
 /// in the engine.
-pub fn read_and_find<R: Read + Drop, S: Read + Drop>(
+pub fn find_alone<R: Read + Drop, S: Read + Drop, H: Threads + Sync>(
+    rt: &H,
     alloc: Global,
     aut: R,
     formula: S,
     priorities: Priorities,
 ) -> Result<Findings, MuError>
     ensures found { IfOk result AreFindings }
-    ensures rule { IfOk result (λ found. rule_in found ≡ priorities) }
+    ensures way { IfOk result (λ found. way_in found ≡ ByGame priorities None) }
     ensures spelled { (first second : List ℕ) → R.remaining aut ≡ Some first → S.remaining formula ≡ Some second
         → IfOk result (λ found. AreSpelled first second (system_of found) (formula_of found)) }
     ensures refusal { (first second : List ℕ) → R.remaining aut ≡ Some first → S.remaining formula ≡ Some second
-        → (writers : List Lent) → AreKept writers → IfErr result (HasRefused (ByGame priorities) first second writers) }
+        → (writers : List Lent) → AreKept writers → IfErr result (HasRefused (ByGame priorities None) first second writers) }
+{
+    match read_and_build(rt, alloc, aut, formula, priorities) {
+        Ok(posed) => find_by_one(alloc, posed),
+        Err(error) => Err(error),
+    }
+}
+
+/// The same by the workers over the board that the options ask for. The gate is told of each turn.
+///
+/// # Errors
+/// The same, and those of the board and of the workers' table: T1 where the packed board can't be had, and only there.
+pub fn find_with<
+    R: Read + Drop,
+    S: Read + Drop,
+    T: Gate + Sync,
+    H: Threads + Wait + Clone + Copy + Drop + Send + Sync,
+>(
+    rt: &H,
+    alloc: Global,
+    aut: R,
+    formula: S,
+    options: &Options,
+    gate: &T,
+) -> Result<Findings, MuError>
+    ensures found { IfOk result AreFindings }
+    ensures way { IfOk result (λ found. way_in found ≡ ByGame options.now.priorities (Some options.now.board)) }
+    ensures spelled { (first second : List ℕ) → R.remaining aut ≡ Some first → S.remaining formula ≡ Some second
+        → IfOk result (λ found. AreSpelled first second (system_of found) (formula_of found)) }
+    ensures refusal { (first second : List ℕ) → R.remaining aut ≡ Some first → S.remaining formula ≡ Some second
+        → (writers : List Lent) → AreKept writers → IfErr result (HasRefused (ByGame options.now.priorities (Some options.now.board)) first second writers) }
+{
+    match read_and_build(rt, alloc, aut, formula, options.priorities) {
+        Ok(posed) => find_by_workers(rt, alloc, posed, options, gate),
+        Err(error) => Err(error),
+    }
+}
+
+/// Reads both texts, and makes their game.
+fn read_and_build<R: Read + Drop, S: Read + Drop, H: Threads + Sync>(
+    rt: &H,
+    alloc: Global,
+    aut: R,
+    formula: S,
+    priorities: Priorities,
+) -> Result<Posed, MuError>
+    ensures posed { IfOk result ArePosed }
+    ensures rule { IfOk result (λ posed. posed.priorities ≡ priorities) }
+    ensures spelled { (first second : List ℕ) → R.remaining aut ≡ Some first → S.remaining formula ≡ Some second
+        → IfOk result (λ posed. AreSpelled first second posed.texts.value.system.system (closed_formula posed.texts.value.formula)) }
+    ensures refusal { (first second : List ℕ) → R.remaining aut ≡ Some first → S.remaining formula ≡ Some second
+        → (board : Option BoardKind) (writers : List Lent) → AreKept writers → IfErr result (HasRefused (ByGame priorities board) first second writers) }
 {
     match read_both(alloc, aut, formula) {
         Ok(texts) => match Box::new(alloc, texts) {
-            Ok(texts) => find(alloc, texts, priorities),
+            Ok(texts) => build_of(rt, alloc, texts, priorities),
             Err(_) => Err(MuError::Memory),
         },
         Err(error) => Err(error),
     }
 }
 
-/// What is found out of these texts.
-fn find(alloc: Global, texts: Box<Texts>, priorities: Priorities) -> Result<Findings, MuError>
-    ensures found { IfOk result AreFindings }
-    ensures rule { IfOk result (λ found. rule_in found ≡ priorities) }
-    ensures texts { IfOk result (λ found. found.texts.value ≡ texts.value) }
-    ensures refusal { IfErr result (IsBeyond (ByGame priorities) texts.value.system.system (closed_formula texts.value.formula)) }
+/// Makes the game of these texts.
+fn build_of<H: Threads + Sync>(
+    rt: &H,
+    alloc: Global,
+    texts: Box<Texts>,
+    priorities: Priorities,
+) -> Result<Posed, MuError>
+    ensures posed { IfOk result ArePosed }
+    ensures rule { IfOk result (λ posed. posed.priorities ≡ priorities) }
+    ensures texts { IfOk result (λ posed. posed.texts.value ≡ texts.value) }
+    ensures refusal { IfErr result (IsBeyond (ByGame priorities None) texts.value.system.system (closed_formula texts.value.formula)) }
 {
-    match solve_game(alloc, &texts.system, &texts.formula, priorities) {
-        Ok(solution) => find_solved(alloc, texts, solution),
+    match game_of(rt, alloc, &texts.system, &texts.formula, priorities) {
+        Ok(game) => match Arc::new(alloc, game) {
+            Ok(game) => Ok(Posed {
+                texts,
+                priorities,
+                game,
+            }),
+            Err(_) => Err(MuError::Memory),
+        },
         Err(error) => Err(error),
     }
 }
 
-/// The same, where the game is solved.
-fn find_solved(alloc: Global, texts: Box<Texts>, solution: SolvedGame) -> Result<Findings, MuError>
-    requires { IsSolvedGame texts.value.system.system (closed_formula texts.value.formula) solution }
+/// What is found out of these texts on one thread.
+fn find_by_one(alloc: Global, posed: Posed) -> Result<Findings, MuError>
+    requires { ArePosed posed }
     ensures found { IfOk result AreFindings }
-    ensures rule { IfOk result (λ found. rule_in found ≡ solution.priorities) }
-    ensures texts { IfOk result (λ found. found.texts.value ≡ texts.value) }
+    ensures way { IfOk result (λ found. way_in found ≡ ByGame posed.priorities None) }
+    ensures texts { IfOk result (λ found. found.texts.value ≡ posed.texts.value) }
     ensures refusal { IfErr result (λ e. e ≡ MuError.Memory) }
 {
+    match solve_one(alloc, &posed.game) {
+        Ok(settled) => find_solved(alloc, posed, None, settled),
+        Err(Memory) => Err(MuError::Memory),
+    }
+}
+
+/// What is found out of these texts by workers.
+fn find_by_workers<T: Gate + Sync, H: Threads + Wait + Clone + Copy + Drop + Send + Sync>(
+    rt: &H,
+    alloc: Global,
+    posed: Posed,
+    options: &Options,
+    gate: &T,
+) -> Result<Findings, MuError>
+    requires { ArePosed posed }
+    ensures found { IfOk result AreFindings }
+    ensures way { IfOk result (λ found. way_in found ≡ ByGame posed.priorities (Some options.now.board)) }
+    ensures texts { IfOk result (λ found. found.texts.value ≡ posed.texts.value) }
+    ensures refusal { IfErr result (IsUnsolved (Some options.now.board) (arc_value posed.game)) }
+{
+    match solve_with(rt, alloc, &posed.game, options, gate) {
+        Ok(settled) => find_solved(alloc, posed, Some(options.board), settled),
+        Err(error) => Err(error),
+    }
+}
+
+/// What is found out where the game is solved.
+fn find_solved(
+    alloc: Global,
+    posed: Posed,
+    board: Option<BoardKind>,
+    settled: Settled,
+) -> Result<Findings, MuError>
+    requires posed { ArePosed posed }
+    requires board { IsFitting board (arc_value posed.game) }
+    requires settled { settled.game ≡ arc_value posed.game }
+    ensures found { IfOk result AreFindings }
+    ensures way { IfOk result (λ found. way_in found ≡ ByGame posed.priorities board) }
+    ensures texts { IfOk result (λ found. found.texts.value ≡ posed.texts.value) }
+    ensures refusal { IfErr result (λ e. e ≡ MuError.Memory) }
+{
+    let Posed {
+        texts,
+        priorities,
+        game,
+    } = posed;
+    let solution = SolvedGame {
+        priorities,
+        board,
+        game,
+        settled,
+    };
     let marks = state_marks(alloc, &texts.system, &texts.formula, &solution)?;
     let report = report_text(alloc, &texts.system, &texts.formula, &marks)?;
     Ok(Findings {
@@ -97,7 +235,7 @@ fn find_solved(alloc: Global, texts: Box<Texts>, solution: SolvedGame) -> Result
 /// E5.
 pub fn evidence_pair(alloc: Global, found: &Findings) -> Result<EvidencePair, MuError>
     requires { AreFindings found.now }
-    ensures pair { IfOk result (IsPairOf found.now.solution.game) }
+    ensures pair { IfOk result (IsPairOf (arc_value found.now.solution.game)) }
     ensures memory { IfErr result (λ e. e ≡ MuError.Evidence EvidenceError.Memory) }
 {
     let game = &found.solution.game;

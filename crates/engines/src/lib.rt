@@ -1,6 +1,7 @@
 // The engines of the commands, over readers and writers: from the texts to the report, the exit status.
 #![tactic(auto)]
 
+pub mod arena;
 pub mod engine;
 pub mod error;
 mod findings;

@@ -1,6 +1,7 @@
 // The texts of a check, written in their order: the game, Even's evidence, Odd's, the report.
 
 ghost use Rattle.std.specs.Prelude.{◌≡◌, ◌∷◌, [], MatchResult, Ok, Err, slice_index_or, false};
+ghost use Rattle.std.specs.Arc.{arc_value};
 ghost use Rattle.engines.specs.Findings.{AreFindings, IsPairOf, IsTextFound};
 ghost use Rattle.engines.specs.Writers.{AreWritten, EvenText, GameText, OddText, ReportText, lent_for};
 
@@ -42,7 +43,7 @@ pub fn put_evidence_first<E: Write, O: Write, W: Write>(
     out: &mut W,
 ) -> Result<(), WriteFault>
     requires found { AreFindings found.now }
-    requires pair { IsPairOf found.now.solution.game pair.now }
+    requires pair { IsPairOf (arc_value found.now.solution.game) pair.now }
     ensures { AreWritten (IsTextFound found.now) (lent_for EvenText (E.contents even.old) (E.contents even.new)
         ∷ lent_for OddText (O.contents odd.old) (O.contents odd.new) ∷ lent_for ReportText (W.contents out.old) (W.contents out.new) ∷ []) result }
 {
@@ -61,7 +62,7 @@ pub fn put_all<G: Write, E: Write, O: Write, W: Write>(
     out: &mut W,
 ) -> Result<(), WriteFault>
     requires found { AreFindings found.now }
-    requires pair { IsPairOf found.now.solution.game pair.now }
+    requires pair { IsPairOf (arc_value found.now.solution.game) pair.now }
     ensures { AreWritten (IsTextFound found.now) (lent_for GameText (G.contents game.old) (G.contents game.new)
         ∷ lent_for EvenText (E.contents even.old) (E.contents even.new) ∷ lent_for OddText (O.contents odd.old) (O.contents odd.new)
         ∷ lent_for ReportText (W.contents out.old) (W.contents out.new) ∷ []) result }

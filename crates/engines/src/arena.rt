@@ -1,0 +1,39 @@
+// The parity game of a system and a formula.
+
+ghost use Rattle.std.specs.Prelude.{◌≡◌, ◌≤◌, None, MatchResult};
+ghost use Rattle.formula.specs.Closed.{closed_formula};
+ghost use Rattle.engines.specs.Check.{ByGame, IsBeyond};
+ghost use Rattle.engines.specs.Findings.{IsGameOf};
+
+use crate::error::MuError;
+use formula::closed::Closed;
+use game::build::build;
+use game::graph::Game;
+use lts::system::Lts;
+use normal::make::normal_with;
+use normal::priorities::Priorities;
+use std::alloc::Global;
+use std::thread::Threads;
+
+/// The game of a system and a formula's normal form, with the priorities of this rule.
+///
+/// # Errors
+/// Those of the normal form and of the game, unchanged.
+pub fn game_of<H: Threads + Sync>(
+    _rt: &H,
+    alloc: Global,
+    system: &Lts,
+    formula: &Closed,
+    priorities: Priorities,
+) -> Result<Game, MuError>
+    ensures { let l = system.now.system in let f = closed_formula formula.now in
+        MatchResult result (IsGameOf priorities l f) (IsBeyond (ByGame priorities None) l f) }
+{
+    match normal_with(alloc, formula, priorities) {
+        Ok(normal) => match build(alloc, system, &normal) {
+            Ok(game) => Ok(game),
+            Err(error) => Err(MuError::Build(error)),
+        },
+        Err(error) => Err(MuError::Normal(error)),
+    }
+}
