@@ -137,7 +137,7 @@ fn check_parser<'a>(alloc: Global) -> Result<Parser<'a>, AllocError> {
         .arg(file(alloc, FORMULA, FORMULA_HELP))?
         .arg(plain(alloc))?;
     let parser = parser.arg(rule(alloc))?;
-    with_outputs(alloc, with_workers(alloc, parser, true)?)
+    with_outputs(alloc, with_workers(alloc, parser)?)
 }
 
 fn normal_parser<'a>(alloc: Global) -> Result<Parser<'a>, AllocError> {
@@ -153,7 +153,7 @@ fn solve_parser<'a>(alloc: Global) -> Result<Parser<'a>, AllocError> {
         .about(SOLVE_ABOUT)
         .after_help(SOLVE_AFTER)
         .arg(file(alloc, GAME, GAME_HELP))?;
-    with_workers(alloc, parser, false)
+    with_workers(alloc, parser)
 }
 
 fn verify_parser<'a>(alloc: Global) -> Result<Parser<'a>, AllocError> {
@@ -205,37 +205,17 @@ fn rule<'a>(alloc: Global) -> Arg<'a> {
         .help(RULES_HELP)
 }
 
-/// Workers, shards and board. A check takes them with `--plain` alone, where they have no effect, and its help leaves them out.
-fn with_workers<'a>(
-    alloc: Global,
-    parser: Parser<'a>,
-    is_check: bool,
-) -> Result<Parser<'a>, AllocError> {
+/// Workers, shards and board.
+fn with_workers<'a>(alloc: Global, parser: Parser<'a>) -> Result<Parser<'a>, AllocError> {
     let workers = clap::value_parser!(u32).range(1..=64);
-    let arg = lifter(alloc, WORKERS, "1 to 64", WORKERS_HELP, is_check)?;
+    let arg = option_with_value(alloc, WORKERS, "1 to 64").help(WORKERS_HELP);
     let parser = parser.arg(arg.value_parser(workers))?;
     let shards = clap::value_parser!(u32).range(1..=256);
-    let arg = lifter(alloc, SHARDS, "1 to 256", SHARDS_HELP, is_check)?;
+    let arg = option_with_value(alloc, SHARDS, "1 to 256").help(SHARDS_HELP);
     let parser = parser.arg(arg.value_parser(shards))?;
     let boards = ValueParser::from(BOARDS.as_slice());
-    let arg = lifter(alloc, BOARD, "KIND", BOARD_HELP, is_check)?;
+    let arg = option_with_value(alloc, BOARD, "KIND").help(BOARD_HELP);
     parser.arg(arg.value_parser(boards))
-}
-
-/// An option of how a game is solved.
-fn lifter<'a>(
-    alloc: Global,
-    name: &'a str,
-    value: &'a str,
-    help: &'a str,
-    is_check: bool,
-) -> Result<Arg<'a>, AllocError> {
-    let arg = option_with_value(alloc, name, value).help(help);
-    if is_check {
-        arg.hide(true).requires_arg(PLAIN)
-    } else {
-        Ok(arg)
-    }
 }
 
 /// Where the game and the evidence go, which are made of a game alone.

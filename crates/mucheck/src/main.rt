@@ -39,7 +39,7 @@ fn run<T: Threads + Wait + Clone + Copy + Drop + Send + Sync>(
 ) -> Result<bool, MuError> {
     let words = words(rt)?;
     match command(rt.alloc(), &words)? {
-        Command::Check(request, outputs) => run_check(rt, &request, &outputs),
+        Command::Check(request, outputs) => run_check(rt, threads, &request, &outputs),
         Command::Normal(request) => run_normal(rt, &request),
         Command::Solve(request) => run_solve(rt, threads, &request),
         Command::Verify(request) => run_verify(rt, &request),
@@ -62,8 +62,9 @@ fn open(rt: &HostRuntime, name: &str) -> Result<File, MuError> {
 }
 
 /// Both files are opened, in the order of the command line, before the first is read.
-fn run_check(
+fn run_check<T: Threads + Wait + Clone + Copy + Drop + Send + Sync>(
     rt: &HostRuntime,
+    threads: &T,
     request: &Check<'_>,
     outputs: &Outputs<'_>,
 ) -> Result<bool, MuError> {
@@ -77,7 +78,7 @@ fn run_check(
         return Err(MuError::Memory);
     };
     let files = Files::new(rt, outputs.game, names);
-    let answer = write_files(rt, request, system, formula, &files);
+    let answer = write_files(rt, threads, request, system, formula, &files);
     if files.is_refused() {
         return Err(MuError::File);
     }
@@ -85,46 +86,38 @@ fn run_check(
 }
 
 /// Writes what is asked for to the files, and then the report.
-fn write_files(
+fn write_files<T: Threads + Wait + Clone + Copy + Drop + Send + Sync>(
     rt: &HostRuntime,
+    threads: &T,
     request: &Check<'_>,
     system: File,
     formula: File,
     files: &Files<'_>,
 ) -> Result<bool, MuError> {
+    let alloc = rt.alloc();
     let out = &mut io::writer(rt);
     let options = &request.options;
     let (game, even, odd) = (&mut files.game(), &mut files.even(), &mut files.odd());
     match (files.has_game(), files.has_evidence()) {
-        (false, false) => check_asked(rt.alloc(), request, system, formula, out),
+        (false, false) => check_asked(threads, alloc, request, system, formula, out),
         (true, false) => {
-            let evidence: EvidenceWriters<'_, FileWriter<'_>, FileWriter<'_>> =
+            let game = Some(game);
+            let none: EvidenceWriters<'_, FileWriter<'_>, FileWriter<'_>> =
                 EvidenceWriters::Neither;
-            check(
-                rt.alloc(),
-                system,
-                formula,
-                options,
-                out,
-                Some(game),
-                evidence,
-            )
+            check(threads, alloc, system, formula, options, out, game, none)
         }
         (false, true) => {
-            let no_game: Option<&mut FileWriter<'_>> = None;
-            let evidence = EvidenceWriters::Both(even, odd);
-            check(rt.alloc(), system, formula, options, out, no_game, evidence)
-        }
-        (true, true) => {
+            let none: Option<&mut FileWriter<'_>> = None;
             let evidence = EvidenceWriters::Both(even, odd);
             check(
-                rt.alloc(),
-                system,
-                formula,
-                options,
-                out,
-                Some(game),
-                evidence,
+                threads, alloc, system, formula, options, out, none, evidence,
+            )
+        }
+        (true, true) => {
+            let game = Some(game);
+            let evidence = EvidenceWriters::Both(even, odd);
+            check(
+                threads, alloc, system, formula, options, out, game, evidence,
             )
         }
     }

@@ -73,7 +73,19 @@ fn request_of(alloc: Global, words: &[String]) -> Result<String, AllocError> {
 }
 
 /// Lines and what they ask for, with the defaults of the program's description.
-const TAKEN: [(&str, &str); 14] = [
+const TAKEN: [(&str, &str); 17] = [
+    (
+        "mucheck check s f --workers 8",
+        "check s f nested 8 16 auto false - -",
+    ),
+    (
+        "mucheck check s f --shards 256 --workers 64 --board locked",
+        "check s f nested 64 256 locked false - -",
+    ),
+    (
+        "mucheck check --board packed s --workers 2 f --game g --evidence e",
+        "check s f nested 2 16 packed false g e",
+    ),
     (
         "mucheck check s f --game g",
         "check s f nested 1 16 auto false g -",
@@ -125,12 +137,15 @@ fn takes_command_lines(rt: HostRuntime) -> Result<(), AllocError> {
     Ok(())
 }
 
-const REFUSED: [&str; 25] = [
+const REFUSED: [&str; 28] = [
     "mucheck",
     "mucheck check s",
     "mucheck check s f --plain --workers 65",
     "mucheck check s f --plain --workers 0",
-    "mucheck check s f --workers 2",
+    "mucheck check s f --workers 65",
+    "mucheck check s f --shards 0",
+    "mucheck check s f --shards 257",
+    "mucheck check s f --board other",
     "mucheck check s f --game ",
     "mucheck check s f --evidence ",
     "mucheck check s f --plain --game g",
@@ -177,8 +192,8 @@ const SHOWN: [(&str, [&str; 4]); 4] = [
         "mucheck check --help",
         [
             "--game",
-            "--evidence",
-            "--plain",
+            "--workers",
+            "--board",
             "Example:\n  mucheck check ",
         ],
     ),

@@ -26,6 +26,8 @@ mod game_texts;
 #[cfg(test)]
 mod games;
 #[cfg(test)]
+mod gated_checks;
+#[cfg(test)]
 mod good_evidence;
 #[cfg(test)]
 mod known_games;

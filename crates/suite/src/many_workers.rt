@@ -90,20 +90,20 @@ const MOST_LOOKS: u64 = 10_000_000;
 
 /// Holds each of two workers at its first turn until the other's has come.
 #[derive(Drop)]
-struct Meeting {
+pub struct Meeting {
     came: [AtomicU64; 2],
     missed: AtomicU64,
 }
 
 impl Meeting {
-    fn new() -> Self {
+    pub fn new() -> Self {
         Meeting {
             came: [AtomicU64::new(0), AtomicU64::new(0)],
             missed: AtomicU64::new(0),
         }
     }
 
-    fn took_place(&self) -> bool {
+    pub fn took_place(&self) -> bool {
         self.came
             .iter()
             .all(|came| came.load(Ordering::SeqCst) == 1)

@@ -11,6 +11,8 @@ use normal::priorities::Priorities;
 use std::alloc::{AllocError, Global};
 use std::io;
 use std::process::Abort;
+use std::sync::Wait;
+use std::thread::Threads;
 
 const LOOP: &str = "des (0,2,2)\n(0,\"a\",1)\n(1,\"b\",1)\n";
 
@@ -37,6 +39,13 @@ fn first_line(system: &str) -> &'static str {
 const DEFAULTS: Options = Options {
     priorities: Priorities::Nested,
     workers: 1,
+    shards: 16,
+    board: BoardKind::Auto,
+};
+
+const BY_TWO: Options = Options {
+    priorities: Priorities::Nested,
+    workers: 2,
     shards: 16,
     board: BoardKind::Auto,
 };
@@ -112,31 +121,61 @@ const WORKED_OUT: [Row<'static>; 30] = [
     (TWICE, "<a>true", "<a>true", "yn"),
 ];
 
-/// The ways to check: by sets of states, by a game on one thread, and by a game.
+/// The ways to check: by sets of states, by a game on one thread, and by a game that one worker solves, or two.
 #[derive(Clone, Copy, Debug)]
 enum Engine {
     Plain,
     One,
     Game,
+    Two,
 }
 
-const ENGINES: [Engine; 3] = [Engine::Plain, Engine::One, Engine::Game];
+const ENGINES: [Engine; 4] = [Engine::Plain, Engine::One, Engine::Game, Engine::Two];
 
-fn run<W: io::Write>(
-    alloc: Global,
+fn run<W: io::Write, R: Abort + AllocGlobal + Threads + Wait + Clone + Copy + Drop + Send + Sync>(
+    rt: &R,
     system: &str,
     formula: &str,
     engine: Engine,
     out: &mut W,
 ) -> Result<bool, MuError> {
+    let alloc = rt.alloc();
     let system = system.as_bytes();
     let formula = formula.as_bytes();
     let no_game: Option<&mut Vec<u8>> = None;
     let no_evidence: EvidenceWriters<'_, Vec<u8>, Vec<u8>> = EvidenceWriters::Neither;
     match engine {
         Engine::Plain => check_plain(alloc, system, formula, out),
-        Engine::One => check_one(alloc, system, formula, &DEFAULTS, out, no_game, no_evidence),
-        Engine::Game => check(alloc, system, formula, &DEFAULTS, out, no_game, no_evidence),
+        Engine::One => check_one(
+            rt,
+            alloc,
+            system,
+            formula,
+            &DEFAULTS,
+            out,
+            no_game,
+            no_evidence,
+        ),
+        Engine::Game => check(
+            rt,
+            alloc,
+            system,
+            formula,
+            &DEFAULTS,
+            out,
+            no_game,
+            no_evidence,
+        ),
+        Engine::Two => check(
+            rt,
+            alloc,
+            system,
+            formula,
+            &BY_TWO,
+            out,
+            no_game,
+            no_evidence,
+        ),
     }
 }
 
@@ -172,31 +211,39 @@ fn report_of(alloc: Global, row: &Row<'_>) -> Result<String, AllocError> {
 }
 
 /// Whether the engine answers so, and writes this.
-fn is_reported(
-    alloc: Global,
+fn is_reported<R: Abort + AllocGlobal + Threads + Wait + Clone + Copy + Drop + Send + Sync>(
+    rt: &R,
     system: &str,
     formula: &str,
     engine: Engine,
     wanted: (bool, &str),
 ) -> bool {
     let (initial, report) = wanted;
-    let mut out = Vec::new(alloc);
-    let answer = run(alloc, system, formula, engine, &mut out).ok();
+    let mut out = Vec::new(rt.alloc());
+    let answer = run(rt, system, formula, engine, &mut out).ok();
     answer == Some(initial) && out.as_slice() == report.as_bytes()
 }
 
 /// Each engine gives this report.
-fn report(rt: &(impl Abort + AllocGlobal), system: &str, formula: &str, wanted: (bool, &str)) {
+fn report<R: Abort + AllocGlobal + Threads + Wait + Clone + Copy + Drop + Send + Sync>(
+    rt: &R,
+    system: &str,
+    formula: &str,
+    wanted: (bool, &str),
+) {
     for engine in &ENGINES {
         assert!(rt;
-            is_reported(rt.alloc(), system, formula, *engine, wanted),
+            is_reported(rt, system, formula, *engine, wanted),
             "{formula} by {engine:?}"
         );
     }
 }
 
 /// Each engine gives the report with these marks.
-fn reports(rt: &(impl Abort + AllocGlobal), row: &Row<'_>) -> Result<(), AllocError> {
+fn reports<R: Abort + AllocGlobal + Threads + Wait + Clone + Copy + Drop + Send + Sync>(
+    rt: &R,
+    row: &Row<'_>,
+) -> Result<(), AllocError> {
     let (system, formula, _, marks) = *row;
     let text = report_of(rt.alloc(), row)?;
     report(rt, system, formula, (marks.starts_with('y'), text.as_str()));
@@ -212,7 +259,7 @@ fn reports_what_was_worked_out(rt: HostRuntime) -> Result<(), AllocError> {
 }
 
 /// The code and place of a refusal.
-fn shown(alloc: Global, answer: &Result<bool, MuError>) -> Result<String, AllocError> {
+pub fn shown(alloc: Global, answer: &Result<bool, MuError>) -> Result<String, AllocError> {
     match answer {
         Ok(_) => String::from_str(alloc, "answered"),
         Err(error) => error.to_string(alloc),
@@ -242,23 +289,23 @@ const REFUSED: [(&str, &str, &str); 14] = [
 ];
 
 /// An engine refuses so, and writes nothing.
-fn refuses_by(
-    rt: &(impl Abort + AllocGlobal),
+fn refuses_by<R: Abort + AllocGlobal + Threads + Wait + Clone + Copy + Drop + Send + Sync>(
+    rt: &R,
     texts: (&str, &str),
     refusal: &str,
     engine: Engine,
 ) -> Result<(), AllocError> {
     let (system, formula) = texts;
     let mut out = Vec::new(rt.alloc());
-    let answer = run(rt.alloc(), system, formula, engine, &mut out);
+    let answer = run(rt, system, formula, engine, &mut out);
     assert!(rt; out.is_empty(), "written by {engine:?}");
     let text = shown(rt.alloc(), &answer)?;
     same(rt, "refusal", text.as_str(), refusal);
     Ok(())
 }
 
-fn refuses(
-    rt: &(impl Abort + AllocGlobal),
+fn refuses<R: Abort + AllocGlobal + Threads + Wait + Clone + Copy + Drop + Send + Sync>(
+    rt: &R,
     texts: (&str, &str),
     refusal: &str,
     engines: &[Engine],
@@ -306,7 +353,7 @@ fn refuses_what_is_too_large_for_a_game(rt: HostRuntime) -> Result<(), AllocErro
             &rt,
             (system, formula.as_str()),
             refusal,
-            &[Engine::One, Engine::Game],
+            &[Engine::One, Engine::Game, Engine::Two],
         )?;
     }
     Ok(())
@@ -342,8 +389,8 @@ fn written_as(
     repeated(alloc, open.as_str(), ")", closing, end)
 }
 
-fn reports_parts(
-    rt: &(impl Abort + AllocGlobal),
+fn reports_parts<R: Abort + AllocGlobal + Threads + Wait + Clone + Copy + Drop + Send + Sync>(
+    rt: &R,
     parts: &Parts,
     canonical: &str,
     marks: &str,
@@ -362,9 +409,12 @@ fn answers_formulas_at_a_limit(rt: HostRuntime) -> Result<(), AllocError> {
 }
 
 /// Whether the report on a million states without transitions, of which `true` holds, is as it has to be.
-fn reports_a_million(alloc: Global, engine: Engine) -> bool {
-    let mut out = Vec::new(alloc);
-    let answer = run(alloc, "des (0,0,1000000)\n", "true", engine, &mut out).ok();
+fn reports_a_million<R: Abort + AllocGlobal + Threads + Wait + Clone + Copy + Drop + Send + Sync>(
+    rt: &R,
+    engine: Engine,
+) -> bool {
+    let mut out = Vec::new(rt.alloc());
+    let answer = run(rt, "des (0,0,1000000)\n", "true", engine, &mut out).ok();
     answer == Some(true) && is_of_a_million(out.as_slice())
 }
 
@@ -380,21 +430,26 @@ fn is_of_a_million(report: &[u8]) -> bool {
 
 #[test]
 fn a_million_states_by_sets(rt: HostRuntime) {
-    assert!(rt; reports_a_million(rt.alloc(), Engine::Plain));
+    assert!(rt; reports_a_million(&rt, Engine::Plain));
 }
 
 #[test]
 fn a_million_states_by_a_game_on_one_thread(rt: HostRuntime) {
-    assert!(rt; reports_a_million(rt.alloc(), Engine::One));
+    assert!(rt; reports_a_million(&rt, Engine::One));
+}
+
+#[test]
+fn a_million_states_by_two_workers(rt: HostRuntime) {
+    assert!(rt; reports_a_million(&rt, Engine::Two));
 }
 
 #[test]
 fn a_million_states_by_a_game(rt: HostRuntime) {
-    assert!(rt; reports_a_million(rt.alloc(), Engine::Game));
+    assert!(rt; reports_a_million(&rt, Engine::Game));
 }
 
 /// The report on a ring of 2,500 states, at each of which the formula holds.
-fn report_of_the_ring(alloc: Global) -> Result<String, AllocError> {
+pub fn report_of_the_ring(alloc: Global) -> Result<String, AllocError> {
     let head =
         "system 2500 states 2500 transitions initial 0\nformula [true*]<true*><a>true\nyes 2500 of 2500\ninitial yes\n";
     let mut want = String::from_str(alloc, head)?;
@@ -414,14 +469,14 @@ fn reports_a_ring_of_many_states(rt: HostRuntime) -> Result<(), AllocError> {
 }
 
 /// A writer with this little room has a beginning of the report.
-fn is_cut(
-    rt: &(impl Abort + AllocGlobal),
+fn is_cut<R: Abort + AllocGlobal + Threads + Wait + Clone + Copy + Drop + Send + Sync>(
+    rt: &R,
     want: &str,
     left: usize,
     engine: Engine,
 ) -> Result<(), AllocError> {
     let mut out = Narrow::new(rt.alloc(), want.len(), left);
-    let answer = run(rt.alloc(), RING, "<a>true", engine, &mut out);
+    let answer = run(rt, RING, "<a>true", engine, &mut out);
     assert!(rt; status(&answer) == 3, "{left} by {engine:?}");
     assert!(rt; out.taken.len() == left && want.as_bytes().starts_with(out.taken.as_slice()));
     let text = shown(rt.alloc(), &answer)?;

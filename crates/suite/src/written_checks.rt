@@ -9,10 +9,12 @@ use engines::request::{BoardKind, Options};
 use engines::writers::EvidenceWriters;
 use normal::priorities::Priorities;
 use std::alloc::Global;
+use std::sync::Wait;
+use std::thread::Threads;
 
 const OPTIONS: Options = Options {
     priorities: Priorities::Nested,
-    workers: 1,
+    workers: 2,
     shards: 16,
     board: BoardKind::Auto,
 };
@@ -63,14 +65,21 @@ impl Writers {
     }
 }
 
-/// A check that writes all texts, on one thread or not.
-fn run(alloc: Global, formula: &str, is_one: bool, writers: &mut Writers) -> Result<bool, MuError> {
+/// A check that writes all texts, on one thread or by two workers.
+fn run<R: Threads + Wait + Clone + Copy + Drop + Send + Sync>(
+    rt: &R,
+    alloc: Global,
+    formula: &str,
+    is_one: bool,
+    writers: &mut Writers,
+) -> Result<bool, MuError> {
     let system = RING.as_bytes();
     let formula = formula.as_bytes();
     let evidence = EvidenceWriters::Both(&mut writers.even, &mut writers.odd);
     let game = Some(&mut writers.game);
     if is_one {
         check_one(
+            rt,
             alloc,
             system,
             formula,
@@ -81,6 +90,7 @@ fn run(alloc: Global, formula: &str, is_one: bool, writers: &mut Writers) -> Res
         )
     } else {
         check(
+            rt,
             alloc,
             system,
             formula,
@@ -106,7 +116,7 @@ fn every_text_is_written(rt: HostRuntime) {
     for texts in &CHECKS {
         for is_one in [true, false] {
             let mut writers = Writers::new(rt.alloc());
-            let answer = run(rt.alloc(), texts.formula, is_one, &mut writers);
+            let answer = run(&rt, rt.alloc(), texts.formula, is_one, &mut writers);
             assert!(rt; answer.ok() == Some(true));
             assert!(rt; has_all(&writers.game, texts.game));
             assert!(rt; has_all(&writers.even, texts.even));
@@ -126,7 +136,7 @@ fn a_failed_game_ends_the_check(rt: HostRuntime) {
         for room in 0..texts.game.len() {
             let mut writers = Writers::new(rt.alloc());
             writers.game = Narrow::new(rt.alloc(), 9, room);
-            let answer = run(rt.alloc(), texts.formula, false, &mut writers);
+            let answer = run(&rt, rt.alloc(), texts.formula, false, &mut writers);
             assert!(rt; is_write_fault(&answer));
             assert!(rt; has(&writers.game, texts.game, room));
             assert!(rt; writers.even.taken.is_empty() && writers.odd.taken.is_empty());
@@ -141,7 +151,7 @@ fn failed_evidence_ends_the_check(rt: HostRuntime) {
         for room in 0..texts.odd.len() {
             let mut writers = Writers::new(rt.alloc());
             writers.odd = Narrow::new(rt.alloc(), 9, room);
-            let answer = run(rt.alloc(), texts.formula, false, &mut writers);
+            let answer = run(&rt, rt.alloc(), texts.formula, false, &mut writers);
             assert!(rt; is_write_fault(&answer));
             assert!(rt; has_all(&writers.game, texts.game));
             assert!(rt; has_all(&writers.even, texts.even));
@@ -157,7 +167,7 @@ fn a_failed_report_leaves_the_other_texts_whole(rt: HostRuntime) {
         for room in 0..texts.report.len() {
             let mut writers = Writers::new(rt.alloc());
             writers.report = Narrow::new(rt.alloc(), 9, room);
-            let answer = run(rt.alloc(), texts.formula, true, &mut writers);
+            let answer = run(&rt, rt.alloc(), texts.formula, true, &mut writers);
             assert!(rt; is_write_fault(&answer));
             assert!(rt; has_all(&writers.game, texts.game));
             assert!(rt; has_all(&writers.odd, texts.odd));
@@ -175,7 +185,7 @@ fn the_game_may_be_written_alone(rt: HostRuntime) {
         let game = Some(&mut writers.game);
         let (system, formula) = (RING.as_bytes(), texts.formula.as_bytes());
         let out = &mut writers.report;
-        let answer = check(rt.alloc(), system, formula, &OPTIONS, out, game, none);
+        let answer = check(&rt, rt.alloc(), system, formula, &OPTIONS, out, game, none);
         assert!(rt; answer.is_ok());
         assert!(rt; has_all(&writers.game, texts.game));
         assert!(rt; has_all(&writers.report, texts.report));
