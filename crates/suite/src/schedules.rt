@@ -11,7 +11,7 @@ use std::alloc::Global;
 use std::test::Fail;
 
 // The game of `<a>true` on two states, of which the first leads to the second by a, and the second to the first by b.
-const STEP: [Row; 6] = [
+pub const STEP: [Row; 6] = [
     (Player::Even, 0, &[0]),
     (Player::Even, 1, &[1]),
     (Player::Even, 0, &[5]),
@@ -21,7 +21,7 @@ const STEP: [Row; 6] = [
 ];
 
 // The same of `<a><a>true`.
-const TWO_STEPS: [Row; 8] = [
+pub const TWO_STEPS: [Row; 8] = [
     (Player::Even, 0, &[0]),
     (Player::Even, 1, &[1]),
     (Player::Even, 0, &[6]),
