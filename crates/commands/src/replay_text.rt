@@ -131,22 +131,22 @@ fn replay_events<W: Write>(
         → IsScheduleOf workers (length game.now.vertices) third events.now → Answers workers first second third (W.contents out.old) (W.contents out.new) result }
 {
     match Core::new(alloc, game, workers as usize) {
-        Ok(core) => follow_and_write(core, events, out),
+        Ok(mut core) => follow_and_write(&mut core, events, out),
         Err(CoreError::Memory) => Err(MuError::Schedule(ScheduleError::Memory)),
     }
 }
 
-/// The same from the start, which was made.
+/// The same, where the start is made.
 fn follow_and_write<W: Write>(
-    mut core: Core<'_>,
+    core: &mut Core<'_>,
     events: &[Event],
     out: &mut W,
 ) -> Result<bool, MuError>
-    ensures { (first second third : List ℕ) (l : System) (f : Formula) (workers : ℕ) → AreSpelled first second l f → HasGame Nested l f → core ≡ start (nested_game l f) workers
+    ensures { (first second third : List ℕ) (l : System) (f : Formula) (workers : ℕ) → AreSpelled first second l f → HasGame Nested l f → core.old ≡ start (nested_game l f) workers
         → IsScheduleOf workers (length (nested_game l f).vertices) third events.now → Answers workers first second third (W.contents out.old) (W.contents out.new) result }
 {
     let tally = core.follow(events);
-    match write_replay(&core, tally, out) {
+    match write_replay(core, tally, out) {
         Ok(()) => Ok(true),
         Err(fault) => Err(MuError::Write(fault)),
     }
