@@ -1,19 +1,10 @@
 -- Writers that may be lent.
 use Rattle.std.proofs.Common.{◌≡◌, ℕ, List, [], ◌∷◌, ◌++◌, Option, Some, None, inl, inr, refl, subst, sym}
 use Rattle.std.proofs.KnownBytes.{Keeps-refl}
-use Rattle.std.specs.Prelude.{◌⊎◌}
 use Rattle.std.specs.Borrow.{MutBor}
 use Rattle.engines.specs.declared.writers.EvidenceWriters.{EvidenceWriters}
 use Rattle.engines.specs.declared.writers.EvidenceWriters.TheVariants.{Neither, Both}
 use Rattle.engines.specs.Writers.{AreKept, Left, LeftBoth, Lent, evidence_writers, game_writer, report_writer}
-
-pub lent_or_not : {W : Type 0} → (o : Option W) → (o ≡ None) ⊎ ((x : W) × (o ≡ Some x))
-lent_or_not None = inl refl
-lent_or_not (Some x) = inr (x, refl)
-
-pub both_or_neither : {E O : Type 0} → (w : EvidenceWriters E O) → (w ≡ Neither) ⊎ ((even : MutBor E) × (odd : MutBor O) × (w ≡ Both even odd))
-both_or_neither Neither = inl refl
-both_or_neither (Both even odd) = inr (even, odd, refl)
 
 -- What is left of a writer that was not written to keeps its bytes.
 pub kept_game : {G : Type 0} → (contents : G → Option (List ℕ)) (game : Option (MutBor G)) (left : Left G) → ((x : MutBor G) → game ≡ Some x → left ≡ inr (inl (x, tt)))

@@ -1,6 +1,8 @@
 -- Texts that are written one after another, each to a writer of its own.
-use Rattle.std.proofs.Common.{ℕ, List, Result, Ok, Err, sym, ap, true≢false}
+use Rattle.std.proofs.Common.{◌≡◌, ℕ, List, Result, Ok, Err, sym, ap, ◌∙◌, true≢false}
 use Rattle.std.specs.Result.{IsErr}
+use Rattle.std.specs.Arc.{arc_value}
+use Rattle.game.specs.Game.{Game}
 use Rattle.pgsolver.specs.Canon.{game_text}
 use Rattle.engines.specs.declared.findings.Findings.{Findings}
 use Rattle.engines.specs.Findings.{AreFindings, IsTextFound}
@@ -12,5 +14,5 @@ stopped_at IsText ws (Ok x) h w = absurd (true≢false (sym h))
 stopped_at IsText ws (Err e) h w = w
 
 -- the game's text is that of the system and the formula
-pub found_game : (x : Findings) → AreFindings x → IsTextFound x GameText (game_text x.solution.game)
-found_game x h = ap game_text h.solution.game.same
+pub found_game : (x : Findings) (g : Game) → g ≡ arc_value x.solution.game → AreFindings x → IsTextFound x GameText (game_text g)
+found_game x g e h = ap game_text (e ∙ h.solution.game.same)

@@ -1,9 +1,10 @@
-use Rattle.std.proofs.Common.{subst}
+use Rattle.std.proofs.Common.{subst, ◌∙◌}
 use Rattle.formula.specs.Closed.{closed_formula}
 use Rattle.formula.specs.Meaning.{Marks}
 use Rattle.normal.specs.Rules.{nodes_with}
 use Rattle.game.specs.Game.{Game}
 use Rattle.engines.specs.Roots.{WinsRoot}
+use Rattle.engines.specs.Solver.{IsFitting}
 use Rattle.engines.proofs.Limits.{nodes_some}
 use Rattle.engines.proofs.Roots.{arena_roots, roots_mean}
 use Rattle.engines.proofs.lifting.state_marks.Goals as goal
@@ -12,7 +13,7 @@ pub root_marks-requires-clause-named : goal.root_marks-requires-clause-named
 root_marks-requires-clause-named c =
     let f = closed_formula c.args.formula.now in
     let rule = c.args.solution.now.priorities in
-    arena_roots c.args.system.now.system (nodes_with rule f) c.args.solution.now.game c.states-states.result c.requires.game.same c.states-states.ensures.count (nodes_some rule f)
+    arena_roots c.args.system.now.system (nodes_with rule f) c.deref.result.now c.states-states.result (c.deref.ensures ∙ c.requires.game.same) c.states-states.ensures.count (nodes_some rule f)
 
 pub returns-in-Ok-clause-marks : goal.returns-in-Ok-clause-marks
 returns-in-Ok-clause-marks c =
@@ -20,12 +21,12 @@ returns-in-Ok-clause-marks c =
     let f = closed_formula c.args.formula.now in
     let rule = c.args.solution.now.priorities in
     let marks = c.in-Ok.marks.items in
-    let counted = subst (λ n. Marks n marks (WinsRoot c.args.solution.now.game)) c.states-states.ensures.count c.in-Ok.ensures in
-    let won = subst (λ (g : Game). Marks l.states marks (WinsRoot g)) c.requires.game.same counted in
+    let counted = subst (λ n. Marks n marks (WinsRoot c.deref.result.now)) c.states-states.ensures.count c.in-Ok.ensures in
+    let won = subst (λ (g : Game). Marks l.states marks (WinsRoot g)) (c.deref.ensures ∙ c.requires.game.same) counted in
     let admitted = c.args.formula.now.admitted in
     let known = c.states-states.ensures.known in
     record {
-      within = c.requires.game.within;
+      within = (c.requires.game.within, subst (IsFitting c.args.solution.now.board) c.requires.game.same c.requires.board);
       exact = roots_mean l f (nodes_with rule f) marks c.even_wins_where_meant.ensures.root known admitted (c.chosen_is_admissible.ensures rule f admitted) won;
       won = won;
     }
