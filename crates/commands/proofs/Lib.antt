@@ -1,3 +1,4 @@
 mod Lines
 mod Marked
 mod Judged
+mod Replayed

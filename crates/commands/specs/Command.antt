@@ -3,7 +3,7 @@ use Rattle.std.specs.Prelude.{◌≢◌, ◌≤◌, [], IfSome}
 use Rattle.engines.specs.declared.request.Options.{Options}
 use Rattle.commands.specs.declared.request.Outputs.{Outputs}
 use Rattle.commands.specs.declared.request.Command.{Command}
-use Rattle.commands.specs.declared.request.Command.TheVariants.{Check, Normal, Solve, Verify}
+use Rattle.commands.specs.declared.request.Command.TheVariants.{Check, Normal, Replay, Solve, Verify}
 
 -- the numbers of workers and of shards are within the limits
 abbrev pub AreWithin : Options → Type 0
@@ -19,3 +19,4 @@ IsComplete (Check check outputs) = (check.system.now ≢ []) × (check.formula.n
 IsComplete (Normal form) = form.formula.now ≢ []
 IsComplete (Solve solve) = (solve.game.now ≢ []) × AreWithin solve.options
 IsComplete (Verify verify) = (verify.game.now ≢ []) × (verify.evidence.now ≢ []) × IfSome verify.other (λ name. name.now ≢ [])
+IsComplete (Replay replay) = (replay.system.now ≢ []) × (replay.formula.now ≢ []) × (replay.schedule.now ≢ []) × (1 ≤ replay.workers) × (replay.workers ≤ 64)

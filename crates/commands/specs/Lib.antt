@@ -5,3 +5,4 @@ pub mod Winners
 pub mod Solves
 pub mod Verifies
 pub mod Example
+pub mod Replays

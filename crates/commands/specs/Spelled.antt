@@ -1,4 +1,4 @@
--- What the texts of games and of evidence spell.
+-- What the texts of games, of evidence and of schedules spell.
 use Rattle.std.specs.Prelude.{◌≡◌, ℕ, List, IfSome}
 use Rattle.game.specs.Game.{Game}
 use Rattle.pgsolver.specs.Spelling.{IsGameText}
@@ -9,6 +9,10 @@ use Rattle.evidence.specs.Evidence.{Evidence}
 use Rattle.evidence.specs.Spelling.{IsEvidenceText}
 use Rattle.evidence.specs.Fault as evidence
 use Rattle.evidence.specs.declared.error.EvidenceError.{EvidenceError}
+use Rattle.liftcore.specs.Schedule.{IsSchedule}
+use Rattle.liftcore.specs.Schedule as schedule
+use Rattle.liftcore.specs.declared.event.Event.{Event}
+use Rattle.liftcore.specs.declared.error.ScheduleError.{ScheduleError}
 
 -- the text spells this game alone
 pub record IsGameOf (text : List ℕ) (g : Game) : Type 0 where
@@ -27,3 +31,12 @@ IsGameTold text error = IfSome (game_left.named error) (game.HasFaultAt text)
 -- the same of a text of evidence for a game
 abbrev pub IsEvidenceTold : Game → List ℕ → EvidenceError → Type 0
 IsEvidenceTold g text error = IfSome (evidence.named error) (evidence.HasFaultAt g text)
+
+-- the text spells this schedule alone, for so many workers and vertices
+pub record IsScheduleOf (workers vertices : ℕ) (text : List ℕ) (events : List Event) : Type 0 where
+  pub spelled : IsSchedule workers vertices text events
+  pub only : (other : List Event) → IsSchedule workers vertices text other → other ≡ events
+
+-- the same of a text of a schedule
+abbrev pub IsScheduleTold : (workers vertices : ℕ) → List ℕ → ScheduleError → Type 0
+IsScheduleTold workers vertices text error = IfSome (schedule.named error) (schedule.HasFaultAt workers vertices text)

@@ -4,10 +4,10 @@ ghost use Rattle.std.specs.Prelude.{◌≤◌, ◌≢◌, [], IfOk, IfSome, leng
 ghost use Rattle.commands.specs.Command.{AreNamed, AreWithin, IsComplete};
 
 use crate::parser::{
-    BOARD, EVIDENCE, EVIDENCE_FILES, FORMULA, GAME, GAME_FILE, OTHER, PLAIN, PRIORITIES, SHARDS,
-    SYSTEM, WORKERS, parser,
+    BOARD, EVIDENCE, EVIDENCE_FILES, FORMULA, GAME, GAME_FILE, OTHER, PLAIN, PRIORITIES, SCHEDULE,
+    SHARDS, SYSTEM, WORKERS, parser,
 };
-use crate::request::{Command, Normal, Outputs, Solve, Verify};
+use crate::request::{Command, Normal, Outputs, Replay, Solve, Verify};
 use clap::error::ErrorKind;
 use clap::{ArgMatches, Error as ClapError};
 use engines::error::{ArgumentError, MuError};
@@ -69,8 +69,21 @@ fn request_of<'a>(matches: &ArgMatches<'a>) -> Result<Command<'a>, ArgumentError
             evidence: file_name(found, EVIDENCE)?,
             other: optional_name(found, OTHER)?,
         })),
+        Some(("replay", found)) => replay_of(found),
         _ => Err(ArgumentError::NoCommand),
     }
+}
+
+/// The replay that the matches of its command ask for.
+fn replay_of<'a>(matches: &ArgMatches<'a>) -> Result<Command<'a>, ArgumentError>
+    ensures { IfOk result IsComplete }
+{
+    Ok(Command::Replay(Replay {
+        system: file_name(matches, SYSTEM)?,
+        formula: file_name(matches, FORMULA)?,
+        schedule: file_name(matches, SCHEDULE)?,
+        workers: number(matches, WORKERS, 2, 64)?,
+    }))
 }
 
 /// The check that the matches of its command ask for.

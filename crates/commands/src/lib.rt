@@ -4,6 +4,7 @@
 pub mod command_line;
 pub mod normal_text;
 mod parser;
+pub mod replay_text;
 pub mod request;
 pub mod solve_text;
 pub mod verify_text;

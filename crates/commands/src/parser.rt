@@ -14,6 +14,8 @@ pub(crate) const EVIDENCE: &str = "EVIDENCE";
 
 pub(crate) const OTHER: &str = "OTHER";
 
+pub(crate) const SCHEDULE: &str = "SCHEDULE";
+
 pub(crate) const PLAIN: &str = "plain";
 
 pub(crate) const PRIORITIES: &str = "priorities";
@@ -68,6 +70,16 @@ player wins. The status is 0 where they are verified, 1 where they are not, 2 wh
 argument or a text is refused, and 3 where memory, a file, a read or a write failed.\n\n\
 Example:\n  mucheck verify examples/two-states/endless-a.pg examples/two-states/endless-a.even";
 
+const REPLAY_ABOUT: &str = "Writes what the events of a schedule come to in a parity game";
+
+const REPLAY_AFTER: &str =
+    "The game is that of the system and the formula. Its workers do one event after another; an\n\
+event that can't be done is skipped. Then the measures of the vertices are written, the\n\
+pending vertices, and whether the table is settled and all is quiet. The status is 0, or 2\n\
+where an argument or a text is refused, and 3 where memory, a file, a read or a write\n\
+failed.\n\n\
+Example:\n  mucheck replay examples/late-read/system.aut examples/late-read/formula.mcf examples/late-read/late.schedule";
+
 const SYSTEM_HELP: &str = "The system's file, in the Aldebaran format (.aut)";
 
 const FORMULA_HELP: &str = "The formula's file, in the mu-calculus format (.mcf)";
@@ -75,6 +87,8 @@ const FORMULA_HELP: &str = "The formula's file, in the mu-calculus format (.mcf)
 const GAME_HELP: &str = "The game's file, in the format of PGSolver";
 
 const EVIDENCE_HELP: &str = "The file of the evidence";
+
+const SCHEDULE_HELP: &str = "The schedule's file, with an event on each line";
 
 const OTHER_HELP: &str = "The file of the other player's evidence";
 
@@ -88,6 +102,8 @@ const EVIDENCE_FILES_HELP: &str =
     "Write the evidence of both players to PATH.even and PATH.odd, which verify checks";
 
 const WORKERS_HELP: &str = "How many workers lift at once: 1 is the default";
+
+const SEATS_HELP: &str = "How many workers the schedule has: 2 is the default";
 
 const SHARDS_HELP: &str = "How many locks the locked board has: 16 is the default";
 
@@ -109,7 +125,8 @@ pub(crate) fn parser<'a>(alloc: Global) -> Result<Parser<'a>, AllocError> {
 fn with_texts<'a>(alloc: Global, parser: Parser<'a>) -> Result<Parser<'a>, AllocError> {
     let parser = parser.subcommand(normal_parser(alloc)?)?;
     let parser = parser.subcommand(solve_parser(alloc)?)?;
-    parser.subcommand(verify_parser(alloc)?)
+    let parser = parser.subcommand(verify_parser(alloc)?)?;
+    parser.subcommand(replay_parser(alloc)?)
 }
 
 fn check_parser<'a>(alloc: Global) -> Result<Parser<'a>, AllocError> {
@@ -146,6 +163,21 @@ fn verify_parser<'a>(alloc: Global) -> Result<Parser<'a>, AllocError> {
         .arg(file(alloc, GAME, GAME_HELP))?
         .arg(file(alloc, EVIDENCE, EVIDENCE_HELP))?
         .arg(file(alloc, OTHER, OTHER_HELP).required(false))
+}
+
+fn replay_parser<'a>(alloc: Global) -> Result<Parser<'a>, AllocError> {
+    let workers = clap::value_parser!(u32).range(1..=64);
+    Parser::new(alloc, "replay")
+        .about(REPLAY_ABOUT)
+        .after_help(REPLAY_AFTER)
+        .arg(file(alloc, SYSTEM, SYSTEM_HELP))?
+        .arg(file(alloc, FORMULA, FORMULA_HELP))?
+        .arg(file(alloc, SCHEDULE, SCHEDULE_HELP))?
+        .arg(
+            option_with_value(alloc, WORKERS, "1 to 64")
+                .value_parser(workers)
+                .help(SEATS_HELP),
+        )
 }
 
 fn file<'a>(alloc: Global, id: &'a str, help: &'a str) -> Arg<'a> {

@@ -11,6 +11,7 @@ pub enum Command<'a> {
     Normal(Normal<'a>),
     Solve(Solve<'a>),
     Verify(Verify<'a>),
+    Replay(Replay<'a>),
 }
 
 /// Where a check's texts go beside the report.
@@ -42,4 +43,13 @@ pub struct Verify<'a> {
     pub game: &'a str,
     pub evidence: &'a str,
     pub other: Option<&'a str>,
+}
+
+/// What the events of a schedule come to in the game of a system and a formula.
+#[derive(Clone, Copy)]
+pub struct Replay<'a> {
+    pub system: &'a str,
+    pub formula: &'a str,
+    pub schedule: &'a str,
+    pub workers: u32,
 }

@@ -50,6 +50,7 @@ unread_of way first second writers (error.Normal e) spelled h kept = absurd h
 unread_of way first second writers (error.Build e) spelled h kept = absurd h
 unread_of way first second writers (error.Game e) spelled h kept = absurd h
 unread_of way first second writers (error.Evidence e) spelled h kept = absurd h
+unread_of way first second writers (error.Schedule e) spelled h kept = absurd h
 unread_of way first second writers (error.Table e) spelled h kept = absurd h
 unread_of way first second writers (error.Solve e) spelled h kept = absurd h
 unread_of way first second writers (error.Write e) spelled h kept = absurd h
@@ -69,6 +70,7 @@ beyond_of rule board first second writers l f (error.System e) spelled h kept = 
 beyond_of rule board first second writers l f (error.Formula e) spelled h kept = absurd h
 beyond_of rule board first second writers l f (error.Game e) spelled h kept = absurd h
 beyond_of rule board first second writers l f (error.Evidence e) spelled h kept = absurd h
+beyond_of rule board first second writers l f (error.Schedule e) spelled h kept = absurd h
 beyond_of rule board first second writers l f (error.Write e) spelled h kept = absurd h
 
 -- What is beyond a limit before a board is asked for is so whatever board is.
@@ -85,6 +87,7 @@ beyond_any rule board l f (error.System e) h = absurd h
 beyond_any rule board l f (error.Formula e) h = absurd h
 beyond_any rule board l f (error.Game e) h = absurd h
 beyond_any rule board l f (error.Evidence e) h = absurd h
+beyond_any rule board l f (error.Schedule e) h = absurd h
 beyond_any rule board l f (error.Write e) h = absurd h
 
 -- A game that isn't solved is one that was made.
@@ -102,6 +105,7 @@ beyond_board rule kind l f g (error.System e) is h = absurd h
 beyond_board rule kind l f g (error.Formula e) is h = absurd h
 beyond_board rule kind l f g (error.Game e) is h = absurd h
 beyond_board rule kind l f g (error.Evidence e) is h = absurd h
+beyond_board rule kind l f g (error.Schedule e) is h = absurd h
 beyond_board rule kind l f g (error.Write e) is h = absurd h
 
 -- What was read is what something is made of.

@@ -147,6 +147,7 @@ HasRefused way first second writers (error.Game e) = ⊥
 HasRefused way first second writers (error.Evidence e) = HasNoEvidence way first second writers e × AreKept writers
 HasRefused way first second writers (error.Table e) = HasNoGame way first second (error.Table e) × AreKept writers
 HasRefused way first second writers (error.Solve e) = HasNoGame way first second (error.Solve e) × AreKept writers
+HasRefused way first second writers (error.Schedule e) = ⊥
 HasRefused way first second writers (error.Write e) = HasBegun way first second writers
 
 abbrev pub Answers : Way → (first second : List ℕ) → List Lent → Result Bool MuError → Type 0
@@ -165,5 +166,6 @@ IsErrorOf BySets (error.Game e) = ⊥
 IsErrorOf BySets (error.Evidence e) = ⊥
 IsErrorOf BySets (error.Table e) = ⊥
 IsErrorOf BySets (error.Solve e) = ⊥
+IsErrorOf BySets (error.Schedule e) = ⊥
 IsErrorOf BySets e = Unit {0}
 IsErrorOf (ByGame rule board) e = Unit {0}

@@ -14,8 +14,10 @@ use Rattle.evidence.specs.declared.error.EvidenceError.{EvidenceError}
 use Rattle.evidence.specs.declared.error.EvidenceError.TheVariants as evidence
 use Rattle.tables.specs.declared.error.TableError.{TableError}
 use Rattle.tables.specs.declared.error.TableError.TheVariants as table
+use Rattle.liftcore.specs.declared.error.ScheduleError.{ScheduleError}
+use Rattle.liftcore.specs.declared.error.ScheduleError.TheVariants as schedule
 use Rattle.engines.specs.declared.error.MuError.{MuError}
-use Rattle.engines.specs.declared.error.MuError.TheVariants.{Arguments, File, Read, Memory, System, Formula, Normal, Build, Game, Evidence, Table, Solve, Write}
+use Rattle.engines.specs.declared.error.MuError.TheVariants.{Arguments, File, Read, Memory, System, Formula, Normal, Build, Game, Evidence, Table, Solve, Schedule, Write}
 
 -- 2 where the text is at fault, 3 where a read or memory failed
 abbrev pub system_status : AutError → ℕ
@@ -51,6 +53,10 @@ table_status table.TooManyRanks = 2
 table_status table.Memory = 3
 table_status table.NoSeat = 3
 
+abbrev pub schedule_status : ScheduleError → ℕ
+schedule_status (schedule.Fault fault line) = 2
+schedule_status schedule.Memory = 3
+
 abbrev pub error_status : MuError → ℕ
 error_status (Arguments error) = 2
 error_status File = 3
@@ -64,6 +70,7 @@ error_status (Game error) = game_status error
 error_status (Evidence error) = evidence_status error
 error_status (Table error) = table_status error
 error_status (Solve error) = 3
+error_status (Schedule error) = schedule_status error
 error_status (Write error) = 3
 
 -- 0 for yes and 1 for no

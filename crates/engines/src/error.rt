@@ -3,6 +3,7 @@
 use evidence::error::EvidenceError;
 use formula::error::FormulaError;
 use game::error::BuildError;
+use liftcore::error::ScheduleError;
 use lts::WriteFault;
 use lts::error::AutError;
 use normal::error::NormalError;
@@ -70,6 +71,9 @@ pub enum MuError {
     /// The workers' table.
     #[error("{0}")]
     Solve(SolveError),
+    /// The text of a schedule, or the state that it is replayed from.
+    #[error("{0}")]
+    Schedule(ScheduleError),
     /// A write failed.
     #[error("{0}")]
     Write(WriteFault),

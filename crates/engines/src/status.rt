@@ -7,6 +7,7 @@ use crate::error::MuError;
 use evidence::error::EvidenceError;
 use formula::error::FormulaError;
 use game::error::BuildError;
+use liftcore::error::ScheduleError;
 use lts::error::AutError;
 use normal::error::NormalError;
 use pgsolver::error::PgError;
@@ -40,6 +41,7 @@ fn error_status(error: &MuError) -> u8
         MuError::Game(PgError::Fault { fault: _, line: _ }) => 2,
         MuError::Evidence(EvidenceError::Fault { fault: _, line: _ }) => 2,
         MuError::Table(TableError::TooManyRanks) => 2,
+        MuError::Schedule(ScheduleError::Fault { fault: _, line: _ }) => 2,
         _ => 3,
     }
 }

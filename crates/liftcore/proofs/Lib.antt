@@ -11,3 +11,6 @@ pub mod Seated
 pub mod Stated
 pub mod Reached
 pub mod Written
+pub mod Cut
+pub mod Lines
+pub mod Schedules

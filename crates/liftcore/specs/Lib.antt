@@ -5,5 +5,7 @@ pub mod Marks
 pub mod Seats
 pub mod Work
 pub mod Runs
+pub mod Schedule
+pub mod Scan
 pub mod Replay
 pub mod Laws

@@ -1,4 +1,4 @@
-// Why there is no core.
+// Why there is no core, and no schedule.
 
 use lts::error::Memory;
 use std::alloc::AllocError;
@@ -34,4 +34,29 @@ impl From<AllocError> for CoreError {
         let AllocError = error;
         CoreError::Memory
     }
+}
+
+/// What is wrong with a text that spells no schedule. It is shown as its code.
+#[derive(Clone, Copy, Debug, PartialEq, Eq, Error)]
+pub enum ScheduleFault {
+    /// A line has not the shape of an event.
+    #[error("S1")]
+    BadLine,
+    /// There is no such worker.
+    #[error("S2")]
+    NoSuchWorker,
+    /// There is no such vertex.
+    #[error("S3")]
+    NoSuchVertex,
+}
+
+/// Why there is no schedule.
+#[derive(Clone, Copy, Debug, PartialEq, Eq, Error)]
+pub enum ScheduleError {
+    /// The first fault of the text, and its line, from 1.
+    #[error("{fault} at line {line}")]
+    Fault { fault: ScheduleFault, line: u64 },
+    /// A growth was refused.
+    #[error("S4")]
+    Memory,
 }

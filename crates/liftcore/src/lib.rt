@@ -6,6 +6,7 @@ pub mod event;
 pub mod law;
 pub mod machine;
 pub mod marks;
+pub mod schedule;
 mod seat;
 mod state;
 pub mod turn;

@@ -7,7 +7,8 @@ mod files;
 use crate::files::{EvidenceNames, FileWriter, Files};
 use commands::command_line::command;
 use commands::normal_text::normal_text;
-use commands::request::{Command, Normal, Outputs, Solve, Verify};
+use commands::replay_text::replay_text;
+use commands::request::{Command, Normal, Outputs, Replay, Solve, Verify};
 use commands::solve_text::solve_text;
 use commands::verify_text::{verify_both_text, verify_text};
 use engines::engine::{check, check_asked};
@@ -42,6 +43,7 @@ fn run<T: Threads + Wait + Clone + Copy + Drop + Send + Sync>(
         Command::Normal(request) => run_normal(rt, &request),
         Command::Solve(request) => run_solve(rt, threads, &request),
         Command::Verify(request) => run_verify(rt, &request),
+        Command::Replay(request) => run_replay(rt, threads, &request),
     }
 }
 
@@ -145,6 +147,27 @@ fn run_verify(rt: &HostRuntime, request: &Verify<'_>) -> Result<bool, MuError> {
         None => verify_text(rt.alloc(), game, evidence, out),
         Some(other) => verify_both_text(rt.alloc(), game, evidence, open(rt, other)?, out),
     }
+}
+
+/// All files are opened, in the order of the command line, before the first is read.
+fn run_replay<T: Threads + Sync>(
+    rt: &HostRuntime,
+    threads: &T,
+    request: &Replay<'_>,
+) -> Result<bool, MuError> {
+    let system = open(rt, request.system)?;
+    let formula = open(rt, request.formula)?;
+    let schedule = open(rt, request.schedule)?;
+    let out = &mut io::writer(rt);
+    replay_text(
+        threads,
+        rt.alloc(),
+        system,
+        formula,
+        schedule,
+        request.workers,
+        out,
+    )
 }
 
 /// One line with the code and the place; after wrong arguments also what is wrong with them, or the help.

@@ -68,12 +68,17 @@ fn request_of(alloc: Global, words: &[String]) -> Result<String, AllocError> {
             let other = verify.other.unwrap_or("-");
             format!(in alloc; "verify {game} {evidence} {other}")
         }
+        Ok(Command::Replay(replay)) => {
+            let (system, formula, schedule) = (replay.system, replay.formula, replay.schedule);
+            let workers = replay.workers;
+            format!(in alloc; "replay {system} {formula} {schedule} {workers}")
+        }
         Err(error) => error.to_string(alloc),
     }
 }
 
 /// Lines and what they ask for, with the defaults of the program's description.
-const TAKEN: [(&str, &str); 17] = [
+const TAKEN: [(&str, &str); 19] = [
     (
         "mucheck check s f --workers 8",
         "check s f nested 8 16 auto false - -",
@@ -121,6 +126,8 @@ const TAKEN: [(&str, &str); 17] = [
     ("mucheck verify g e", "verify g e -"),
     ("mucheck verify g e o", "verify g e o"),
     ("mucheck verify g g g", "verify g g g"),
+    ("mucheck replay s f t", "replay s f t 2"),
+    ("mucheck replay --workers 64 s f t", "replay s f t 64"),
 ];
 
 #[test]
@@ -137,7 +144,7 @@ fn takes_command_lines(rt: HostRuntime) -> Result<(), AllocError> {
     Ok(())
 }
 
-const REFUSED: [&str; 28] = [
+const REFUSED: [&str; 34] = [
     "mucheck",
     "mucheck check s",
     "mucheck check s f --plain --workers 65",
@@ -165,6 +172,12 @@ const REFUSED: [&str; 28] = [
     "mucheck verify g",
     "mucheck verify g e ",
     "mucheck verify g e o p",
+    "mucheck replay s f",
+    "mucheck replay s f t u",
+    "mucheck replay s f ",
+    "mucheck replay s f t --workers 0",
+    "mucheck replay s f t --workers 65",
+    "mucheck replay s f t --priorities nested",
     "mucheck other",
 ];
 
@@ -187,7 +200,7 @@ fn help(alloc: Global, words: &[String]) -> Result<String, AllocError> {
 }
 
 /// A command, and parts of its help.
-const SHOWN: [(&str, [&str; 4]); 4] = [
+const SHOWN: [(&str, [&str; 4]); 5] = [
     (
         "mucheck check --help",
         [
@@ -218,6 +231,15 @@ const SHOWN: [(&str, [&str; 4]); 4] = [
     (
         "mucheck verify --help",
         ["GAME", "EVIDENCE", "OTHER", "Example:\n  mucheck verify "],
+    ),
+    (
+        "mucheck replay --help",
+        [
+            "SCHEDULE",
+            "--workers",
+            "2 is the default",
+            "Example:\n  mucheck replay ",
+        ],
     ),
 ];
 

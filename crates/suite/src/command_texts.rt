@@ -1,6 +1,6 @@
 // What the commands `normal`, `solve` and `verify` write, answer and refuse: the worked examples of docs/FORMATS.md, and games that were solved by hand.
 
-use crate::common::{repeated, same};
+use crate::common::{repeated, same, shown};
 use crate::readers::Slow;
 use crate::writers::{AMPLE, AtEnd, Narrow};
 use commands::normal_text::normal_text;
@@ -66,15 +66,6 @@ fn run<W: Write, H: Threads + Wait + AllocGlobal + Clone + Copy + Drop + Send + 
             let evidence = (first.as_bytes(), second.as_bytes());
             verify_both_text(alloc, game.as_bytes(), evidence.0, evidence.1, out)
         }
-    }
-}
-
-/// The answer, or the code of the refusal and its place.
-fn shown(alloc: Global, answer: &Result<bool, MuError>) -> Result<String, AllocError> {
-    match answer {
-        Ok(true) => String::from_str(alloc, "yes"),
-        Ok(false) => String::from_str(alloc, "no"),
-        Err(error) => error.to_string(alloc),
     }
 }
 

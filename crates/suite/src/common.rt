@@ -1,5 +1,6 @@
 // What the tests of several topics use.
 
+use engines::error::MuError;
 use formula::closed::Closed;
 use formula::error::FormulaError;
 use formula::parse;
@@ -55,6 +56,15 @@ pub fn formula_of(alloc: Global, text: &str) -> Result<Closed, FormulaError> {
 pub fn form_of(alloc: Global, text: &str) -> Option<Normal> {
     let formula = formula_of(alloc, text).ok()?;
     normal(alloc, &formula).ok()
+}
+
+/// The answer, or the code of the refusal and its place.
+pub fn shown(alloc: Global, answer: &Result<bool, MuError>) -> Result<String, AllocError> {
+    match answer {
+        Ok(true) => String::from_str(alloc, "yes"),
+        Ok(false) => String::from_str(alloc, "no"),
+        Err(error) => error.to_string(alloc),
+    }
 }
 
 /// Of a text what was found is what was wanted.

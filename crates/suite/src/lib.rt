@@ -54,9 +54,15 @@ mod progress_measures;
 #[cfg(test)]
 mod random_games;
 #[cfg(test)]
+mod random_schedules;
+#[cfg(test)]
 mod readers;
 #[cfg(test)]
+mod replays;
+#[cfg(test)]
 mod reports;
+#[cfg(test)]
+mod schedules;
 #[cfg(test)]
 mod system_texts;
 #[cfg(test)]

@@ -1,7 +1,7 @@
 use Rattle.std.proofs.Common.{◌<◌, ◌∙◌, ◌++◌, List, ℕ, ap, decimal, length, subst, sym, true≢false}
 use Rattle.std.proofs.lemmas.Bool.{false_from_ne_true}
 use Rattle.std.specs.Io.KnownBytes.{Appends}
-use Rattle.text.proofs.Writing.{HasWritten, HasWritten-all, HasWritten-more, HasWritten-stops, Wrote-as, Wrote-err}
+use Rattle.text.proofs.Writing.{HasWritten, HasWritten-more, HasWritten-stops, Wrote-as, Wrote-err}
 use Rattle.text.specs.Wrote.{WroteFront}
 use Rattle.liftcore.specs.Replay.{listed}
 use Rattle.liftcore.proofs.Written.{all_marked, next_marked, next_unmarked}

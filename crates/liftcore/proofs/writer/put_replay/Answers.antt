@@ -1,4 +1,4 @@
-use Rattle.std.proofs.Common.{List, ap, codes, subst, ℕ}
+use Rattle.std.proofs.Common.{List, codes, subst, ℕ}
 use Rattle.std.specs.Io.KnownBytes.{Appends}
 use Rattle.text.specs.Wrote.{Wrote, WroteFront}
 use Rattle.liftcore.specs.Replay.{end_lines}

@@ -1,0 +1,153 @@
+// The engine of the command `replay`.
+
+ghost use Rattle.std.specs.Prelude.{◌≡◌, ℕ, List, Some, IfErr, IfOk, IfSome, MatchResult, length};
+ghost use Rattle.lts.specs.System.{System};
+ghost use Rattle.formula.specs.Tree.{Formula};
+ghost use Rattle.formula.specs.Closed.{closed_formula};
+ghost use Rattle.normal.specs.declared.priorities.Priorities.TheVariants.{Nested};
+ghost use Rattle.liftcore.specs.Core.{start};
+ghost use Rattle.engines.specs.Check.{AreSpelled, HasGame};
+ghost use Rattle.engines.specs.Findings.{IsGameOf};
+ghost use Rattle.engines.specs.Texts.{IsReadFault};
+ghost use Rattle.commands.specs.Replays.{Answers, IsUnread, Replays, nested_game};
+ghost use Rattle.commands.specs.Spelled.{IsScheduleOf};
+
+use engines::arena::game_of;
+use engines::error::MuError;
+use engines::texts::{Texts, read_both};
+use game::graph::Game;
+use liftcore::error::{CoreError, ScheduleError};
+use liftcore::event::Event;
+use liftcore::machine::Core;
+use liftcore::schedule::read_schedule;
+use liftcore::writer::write_replay;
+use normal::priorities::Priorities;
+use std::alloc::Global;
+use std::io::{ErrorKind, Read, Write};
+use std::thread::Threads;
+
+/// Writes what the events of a schedule come to in the game of a system and a formula: how many were done and how many skipped,
+/// the measure of each vertex, the pending vertices, and whether the table is settled and all is quiet. The answer is true. The
+/// game is made by the nested rule, and the schedule is read once it is made.
+///
+/// # Errors
+/// Those of the readers, of the normal form and of the game, unchanged; S1 to S3 for the schedule's text, S4 for memory of its
+/// events or of their state; U3 where a read of the formula or of the schedule failed, U4 for the memory of their texts; W1
+/// where a write failed. Nothing is written before all memory was taken.
+pub fn replay_text<R: Read + Drop, S: Read + Drop, T: Read + Drop, W: Write, H: Threads + Sync>(
+    rt: &H,
+    alloc: Global,
+    aut: R,
+    formula: S,
+    schedule: T,
+    workers: u32,
+    out: &mut W,
+) -> Result<bool, MuError>
+    ensures replays { Replays workers (R.remaining aut) (S.remaining formula) (T.remaining schedule) (W.contents out.old) (W.contents out.new) result }
+{
+    match read_both(alloc, aut, formula) {
+        Ok(texts) => replay_of(rt, alloc, &texts, schedule, workers, out),
+        Err(error) => Err(error),
+    }
+}
+
+/// The same for a system and a formula that were read.
+fn replay_of<T: Read + Drop, W: Write, H: Threads + Sync>(
+    rt: &H,
+    alloc: Global,
+    texts: &Texts,
+    schedule: T,
+    workers: u32,
+    out: &mut W,
+) -> Result<bool, MuError>
+    ensures { (first second third : List ℕ) → AreSpelled first second texts.now.system.system (closed_formula texts.now.formula) → T.remaining schedule ≡ Some third
+        → Answers workers first second third (W.contents out.old) (W.contents out.new) result }
+{
+    match game_of(rt, alloc, &texts.system, &texts.formula, Priorities::Nested) {
+        Ok(game) => replay_in(alloc, &game, schedule, workers, out),
+        Err(error) => Err(error),
+    }
+}
+
+/// The same for a game that was made.
+fn replay_in<T: Read + Drop, W: Write>(
+    alloc: Global,
+    game: &Game,
+    schedule: T,
+    workers: u32,
+    out: &mut W,
+) -> Result<bool, MuError>
+    ensures { (first second third : List ℕ) (l : System) (f : Formula) → AreSpelled first second l f → IsGameOf Nested l f game.now → T.remaining schedule ≡ Some third
+        → Answers workers first second third (W.contents out.old) (W.contents out.new) result }
+{
+    match read_events(alloc, schedule, workers, game.vertices()) {
+        Ok(events) => replay_events(alloc, game, &events, workers, out),
+        Err(error) => Err(error),
+    }
+}
+
+/// The events of a schedule for so many workers and vertices.
+fn read_events<T: Read + Drop>(
+    alloc: Global,
+    schedule: T,
+    workers: u32,
+    vertices: u32,
+) -> Result<Vec<Event>, MuError>
+    ensures { (text : List ℕ) → T.remaining schedule ≡ Some text → MatchResult result (λ events. IsScheduleOf workers vertices text events.items) (IsUnread workers vertices text) }
+{
+    match read_whole(alloc, schedule) {
+        Ok(text) => match read_schedule(alloc, &text, workers, vertices) {
+            Ok(events) => Ok(events),
+            Err(error) => Err(MuError::Schedule(error)),
+        },
+        Err(error) => Err(error),
+    }
+}
+
+/// All bytes of the reader.
+fn read_whole<T: Read + Drop>(alloc: Global, mut reader: T) -> Result<Vec<u8>, MuError>
+    ensures whole { IfOk result (λ text. IfSome (T.remaining reader) (λ all. text.items ≡ all)) }
+    ensures refusal { IfErr result IsReadFault }
+{
+    let mut text = Vec::new(alloc);
+    match reader.read_to_end(&mut text) {
+        Ok(_) => Ok(text),
+        Err(error) => match error.kind() {
+            ErrorKind::OutOfMemory => Err(MuError::Memory),
+            _ => Err(MuError::Read),
+        },
+    }
+}
+
+/// Replays the events, and writes what they come to.
+fn replay_events<W: Write>(
+    alloc: Global,
+    game: &Game,
+    events: &[Event],
+    workers: u32,
+    out: &mut W,
+) -> Result<bool, MuError>
+    ensures { (first second third : List ℕ) (l : System) (f : Formula) → AreSpelled first second l f → IsGameOf Nested l f game.now
+        → IsScheduleOf workers (length game.now.vertices) third events.now → Answers workers first second third (W.contents out.old) (W.contents out.new) result }
+{
+    match Core::new(alloc, game, workers as usize) {
+        Ok(mut core) => follow_and_write(&mut core, events, out),
+        Err(CoreError::Memory) => Err(MuError::Schedule(ScheduleError::Memory)),
+    }
+}
+
+/// The same, where the start is made.
+fn follow_and_write<W: Write>(
+    core: &mut Core<'_>,
+    events: &[Event],
+    out: &mut W,
+) -> Result<bool, MuError>
+    ensures { (first second third : List ℕ) (l : System) (f : Formula) (workers : ℕ) → AreSpelled first second l f → HasGame Nested l f → core.old ≡ start (nested_game l f) workers
+        → IsScheduleOf workers (length (nested_game l f).vertices) third events.now → Answers workers first second third (W.contents out.old) (W.contents out.new) result }
+{
+    let tally = core.follow(events);
+    match write_replay(core, tally, out) {
+        Ok(()) => Ok(true),
+        Err(fault) => Err(MuError::Write(fault)),
+    }
+}

@@ -1,0 +1,175 @@
+// What the command `replay` writes, answers and refuses: the worked examples of docs/FORMATS.md, and schedules worked out by hand.
+
+use crate::common::{RING, same, shown};
+use crate::readers::Slow;
+use crate::writers::{AMPLE, AtEnd, Narrow};
+use commands::replay_text::replay_text;
+use engines::error::MuError;
+use std::alloc::AllocError;
+use std::io::Write;
+use std::process::Abort;
+use std::thread::Threads;
+
+/// A formula, a schedule and a number of workers: a replay in the game of the formula on the ring of two states.
+type Asked<'a> = (&'a str, &'a str, u32);
+
+fn run<W: Write, H: Threads + Sync + AllocGlobal>(
+    rt: &H,
+    asked: Asked<'_>,
+    out: &mut W,
+) -> Result<bool, MuError> {
+    let (formula, schedule, workers) = asked;
+    let schedule = Slow {
+        left: schedule.as_bytes(),
+        step: 7,
+        fails: false,
+    };
+    let (system, formula) = (RING.as_bytes(), formula.as_bytes());
+    replay_text(rt, rt.alloc(), system, formula, schedule, workers, out)
+}
+
+/// The command writes this, and answers so.
+fn tells<H: Abort + Threads + Sync + AllocGlobal>(
+    rt: &H,
+    asked: Asked<'_>,
+    text: &str,
+    answer: &str,
+) -> Result<(), AllocError> {
+    let mut out = Narrow::new(rt.alloc(), 7, AMPLE);
+    let found = shown(rt.alloc(), &run(rt, asked, &mut out))?;
+    same(rt, asked.1, found.as_str(), answer);
+    assert!(rt; out.taken.as_slice() == text.as_bytes(), "{text}");
+    Ok(())
+}
+
+/// A read that comes late: vertex 6 is raised after worker 0 has read it, so vertex 2 is raised by an old value, and is pending again.
+const LATE: &str =
+    "take 0 2\nread 0 6\ntake 1 6\nread 1 1\nraise 1\nraise 0\npush 1 2\ntake 0 2\nread 0 6\nraise 0\ntake 1 5\nread 1 1\nraise 1\n";
+
+const LATE_BUT_FIRST: &str =
+    "raise 0\ntake 0 2\nread 0 6\ntake 1 6\nread 1 1\nraise 1\nraise 0\npush 1 2\ntake 0 2\nread 0 6\nraise 0\ntake 1 5\nread 1 1\nraise 1\n";
+
+/// Two workers lift each vertex of the game of `<a>true` once, in turns.
+const QUIET: &str =
+    "take 0 0\nread 0 0\nraise 0\ntake 1 1\nread 1 1\nraise 1\ntake 0 2\nread 0 5\nraise 0\ntake 1 3\nread 1 0\nraise 1\ntake 0 4\nread 0 1\nraise 0\ntake 1 5\nread 1 0\nraise 1\n";
+
+/// Schedules, and what is written of them.
+const TOLD: [(Asked<'static>, &str); 8] = [
+    (
+        ("<a>true", "take 0 4\nread 0 1\nraise 0\n", 2),
+        "events 3 done 3 skipped 0\n0 (0)\n1 top\n2 (0)\n3 (0)\n4 top\n5 (0)\npending 0,1,2,3,5\nsettled yes\nquiet no\n",
+    ),
+    (
+        ("<a>true", "take 0 4\nread 0 1\nraise 0\nraise 0", 2),
+        "events 4 done 3 skipped 1\n0 (0)\n1 top\n2 (0)\n3 (0)\n4 top\n5 (0)\npending 0,1,2,3,5\nsettled yes\nquiet no\n",
+    ),
+    (
+        ("<a>true", "take 2 4\nread 2 1\nraise 2\n", 3),
+        "events 3 done 3 skipped 0\n0 (0)\n1 top\n2 (0)\n3 (0)\n4 top\n5 (0)\npending 0,1,2,3,5\nsettled yes\nquiet no\n",
+    ),
+    (
+        ("<a>true", "take 63 4\ntake 0 4\nread 63 1\nraise 63\n", 64),
+        "events 4 done 3 skipped 1\n0 (0)\n1 top\n2 (0)\n3 (0)\n4 top\n5 (0)\npending 0,1,2,3,5\nsettled yes\nquiet no\n",
+    ),
+    (
+        ("<a>true", "", 2),
+        "events 0 done 0 skipped 0\n0 (0)\n1 top\n2 (0)\n3 (0)\n4 (0)\n5 (0)\npending 0,1,2,3,4,5\nsettled no\nquiet no\n",
+    ),
+    (
+        ("<a>true", QUIET, 2),
+        "events 18 done 18 skipped 0\n0 (0)\n1 top\n2 (0)\n3 (0)\n4 top\n5 (0)\npending -\nsettled yes\nquiet yes\n",
+    ),
+    (
+        ("<a><a>true", LATE, 2),
+        "events 13 done 13 skipped 0\n0 (0)\n1 top\n2 top\n3 (0)\n4 (0)\n5 top\n6 top\n7 (0)\npending 0,1,3,4,7\nsettled yes\nquiet no\n",
+    ),
+    (
+        ("<a><a>true", LATE_BUT_FIRST, 2),
+        "events 14 done 13 skipped 1\n0 (0)\n1 top\n2 top\n3 (0)\n4 (0)\n5 top\n6 top\n7 (0)\npending 0,1,3,4,7\nsettled yes\nquiet no\n",
+    ),
+];
+
+#[test]
+fn replays_write_what_was_worked_out(rt: HostRuntime) -> Result<(), AllocError> {
+    for (asked, text) in &TOLD {
+        tells(&rt, *asked, text, "yes")?;
+    }
+    Ok(())
+}
+
+/// Texts that are refused: the system's before the formula's, and the schedule's last. In a line its shape comes before its worker,
+/// and that before its vertex.
+const REFUSED: [(Asked<'static>, &str); 12] = [
+    (("<a><a>true", "take 2 0\n", 2), "S2 at line 1"),
+    (("<a><a>true", "take 0 8\n", 2), "S3 at line 1"),
+    (("<a><a>true", "take 0\n", 2), "S1 at line 1"),
+    (("<a><a>true", "take 2 8", 2), "S2 at line 1"),
+    (("<a><a>true", "raise 0\ntake 3 8\n", 3), "S2 at line 2"),
+    (("<a><a>true", "take 2 7\nread 2 8\n", 3), "S3 at line 2"),
+    (("<a><a>true", "take 0 8\n\n", 2), "S3 at line 1"),
+    (("<a><a>true", "raise 1\n\nraise 0\n", 2), "S1 at line 2"),
+    (("<a><a>true", "raise 0\r\n", 2), "S1 at line 1"),
+    (("<a><a>true", "push 00 1\n", 2), "S1 at line 1"),
+    (("<a><a>true", "raise 4294967296\n", 2), "S2 at line 1"),
+    (("mu X. Y", "take 2 0\n", 2), "F5 at offset 6"),
+];
+
+#[test]
+fn replays_pass_refusals_on(rt: HostRuntime) -> Result<(), AllocError> {
+    for (asked, refusal) in &REFUSED {
+        tells(&rt, *asked, "", refusal)?;
+    }
+    let mut out = Vec::new(rt.alloc());
+    let (system, formula, schedule) = (b"".as_slice(), b"<a".as_slice(), b"\n".as_slice());
+    let answer = replay_text(&rt, rt.alloc(), system, formula, schedule, 2, &mut out);
+    same(&rt, "no system", shown(rt.alloc(), &answer)?.as_str(), "A1 at line 1");
+    Ok(())
+}
+
+#[test]
+fn failed_reads_of_schedules_are_told(rt: HostRuntime) {
+    for given in 0..=7 {
+        let (left, _) = LATE.as_bytes().split_at(given);
+        let schedule = Slow {
+            left,
+            step: 3,
+            fails: true,
+        };
+        let mut out = Vec::new(rt.alloc());
+        let (system, formula) = (RING.as_bytes(), b"<a>true".as_slice());
+        let answer = replay_text(&rt, rt.alloc(), system, formula, schedule, 2, &mut out);
+        assert!(rt; matches!(&answer, Err(MuError::Read)));
+        assert!(rt; out.is_empty());
+    }
+}
+
+/// A writer without room for the whole text is given a beginning, and W1 is told.
+#[test]
+fn failed_writes_of_replays_leave_a_beginning(rt: HostRuntime) {
+    for (asked, text) in &TOLD {
+        for room in 0..text.len() {
+            let mut out = Narrow::new(rt.alloc(), 4, room);
+            out.at_end = if room % 2 == 0 {
+                AtEnd::Fails
+            } else {
+                AtEnd::TakesNothing
+            };
+            assert!(rt; matches!(run(&rt, *asked, &mut out), Err(MuError::Write(_))));
+            assert!(rt; out.taken.len() == room);
+            assert!(rt; text.as_bytes().starts_with(out.taken.as_slice()), "{text}");
+        }
+    }
+}
+
+/// Each growth may be refused: nothing is written then. `rt try --test --fail-alloc N` refuses the Nth.
+#[test]
+fn replays_want_memory_before_they_write(rt: HostRuntime) {
+    for (asked, text) in &TOLD {
+        let mut out = Narrow::new(rt.alloc(), AMPLE, AMPLE);
+        if run(&rt, *asked, &mut out).is_ok() {
+            assert!(rt; out.taken.as_slice() == text.as_bytes(), "{text}");
+        } else {
+            assert!(rt; out.taken.is_empty());
+        }
+    }
+}
