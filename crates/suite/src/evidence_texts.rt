@@ -34,10 +34,7 @@ const EVEN_OF_STEP: &str = "evidence even\n0 0 (0)\n2 5 (0)\n3 0 (0)\n5 0 (0)\n"
 const ODD_OF_STEP: &str = "evidence odd\n1 - (0)\n4 - (1)\n";
 
 // The game of a formula on the ring.
-fn game_of_formula(
-    rt: &(impl AllocGlobal + Threads + Sync),
-    formula: &str,
-) -> Result<Game, Fail> {
+fn game_of_formula(rt: &(impl AllocGlobal + Threads + Sync), formula: &str) -> Result<Game, Fail> {
     let lts = system_of(rt.alloc(), RING)?;
     let form = form_of(rt.alloc(), formula).ok_or("no form")?;
     Ok(build(rt, rt.alloc(), &lts, &form)?)

@@ -41,11 +41,7 @@ fn text_of(alloc: Global, game: Result<Game, BuildError>) -> Result<String, Allo
 }
 
 // The same of texts, if they are a system and a formula.
-fn built(
-    rt: &(impl AllocGlobal + Threads + Sync),
-    system: &str,
-    formula: &str,
-) -> Option<String> {
+fn built(rt: &(impl AllocGlobal + Threads + Sync), system: &str, formula: &str) -> Option<String> {
     let lts = system_of(rt.alloc(), system).ok()?;
     let form = form_of(rt.alloc(), formula)?;
     text_of(rt.alloc(), build(rt, rt.alloc(), &lts, &form)).ok()
