@@ -78,7 +78,7 @@ event that can't be done is skipped. Then the measures of the vertices are writt
 pending vertices, and whether the table is settled and all is quiet. The status is 0, or 2\n\
 where an argument or a text is refused, and 3 where memory, a file, a read or a write\n\
 failed.\n\n\
-Example:\n  mucheck replay examples/late-read/system.aut examples/late-read/formula.mcf examples/late-read/late.schedule";
+Example:\n  mucheck replay examples/two-states/system.aut examples/two-states/a-then-a.mcf examples/two-states/late-read.schedule";
 
 const SYSTEM_HELP: &str = "The system's file, in the Aldebaran format (.aut)";
 
