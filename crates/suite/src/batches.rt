@@ -7,6 +7,7 @@ use std::io::Write;
 use text::{Lines, WriteFault, put, put_lines};
 
 /// So many lines that are all the same.
+#[derive(Drop)]
 struct Alike<'a> {
     count: usize,
     line: &'a [u8],
@@ -27,6 +28,7 @@ impl Lines for Alike<'_> {
 }
 
 /// A writer that takes everything, and counts the writes.
+#[derive(Drop)]
 struct Counting {
     taken: Vec<u8>,
     writes: usize,
@@ -57,7 +59,7 @@ fn a_thousand_short_lines_take_two_writes(rt: HostRuntime) -> Result<(), AllocEr
     assert!(rt; put_lines(&lines, &mut out).is_ok());
     assert_eq!(rt; out.writes, 2);
     assert_eq!(rt; out.taken.len(), 11_000);
-    assert!(rt; out.taken.chunks(11).all(|line| line == b"0123456789\n"));
+    assert!(rt; out.taken.chunks(11).all(|line| line == b"0123456789\n".as_slice()));
     Ok(())
 }
 
