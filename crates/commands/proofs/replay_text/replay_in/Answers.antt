@@ -1,4 +1,4 @@
-use Rattle.std.proofs.Common.{subst, sym}
+use Rattle.std.proofs.Common.{subst}
 use Rattle.commands.specs.Spelled.{IsScheduleOf}
 use Rattle.commands.proofs.replay_text.replay_in.Goals as goal
 
