@@ -439,11 +439,6 @@ fn a_million_states_by_a_game_on_one_thread(rt: HostRuntime) {
 }
 
 #[test]
-fn a_million_states_by_two_workers(rt: HostRuntime) {
-    assert!(rt; reports_a_million(&rt, Engine::Two));
-}
-
-#[test]
 fn a_million_states_by_a_game(rt: HostRuntime) {
     assert!(rt; reports_a_million(&rt, Engine::Game));
 }
