@@ -2,7 +2,7 @@
 use Rattle.std.specs.Prelude.{◌≡◌, ℕ, ◌+◌, ◌≤◌, List, length, map, take, drop, count_by, slice_index, ◌==◌}
 use Rattle.std.specs.List.{AllByRecursion}
 use Rattle.game.specs.declared.limits.TheConstants.{MOST_VERTICES}
-use Rattle.game.specs.Game.{Vertex, Game, IsGame}
+use Rattle.game.specs.Game.{Vertex, Game, IsGame, greatest}
 use Rattle.game.specs.declared.graph.Row.{Row}
 use Rattle.game.specs.declared.graph.Game.TheInside as game
 use Rattle.game.specs.declared.graph.GameBuilder.TheInside as builder
@@ -29,6 +29,7 @@ game_of a = record { vertices = vertices_of a.rows.items a.successors.items; nam
 pub record IsStoredGame (a : game.Inside) : Type 0 where
   pub game : IsGame (game_of a)
   pub stored : AreStored a.rows.items a.successors.items a.counts
+  pub greatest : a.greatest ≡ greatest (game_of a)
 
 abbrev pub vertices_in : builder.Inside → List Vertex
 vertices_in a = vertices_of a.rows.items a.successors.items

@@ -9,20 +9,11 @@ use crate::player::Player;
 use normal::limits::GREATEST_PRIORITY;
 use std::alloc::Global;
 
-// The greatest priority that a vertex may have.
-const GREATEST: u32 = 32;
-
 /// The greatest priority that a vertex of the game has, and 0 where there is no vertex. It takes no look at the vertices.
 pub fn greatest_priority(game: &Game) -> u32
     ensures { result ≡ greatest game.now }
 {
-    game.known();
-    for p in (0..GREATEST).rev() {
-        if game.count(p + 1) > 0 {
-            return p + 1;
-        }
-    }
-    0
+    game.greatest()
 }
 
 fn opponent(player: Player) -> Player

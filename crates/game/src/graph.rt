@@ -1,8 +1,8 @@
 // Parity games, stored as one list of successors.
 
-ghost use Rattle.std.specs.Prelude.{◌≡◌, ◌==◌, ◌↔◌, ◌<◌, ◌≤◌, ◌+◌, ◌^◌, ◌++◌, ◌∷◌, [], ℕ, None, length, map, slice_index, option_map, if◌then◌else◌, IsTrue, IsSome, IfSome, IfOk, OnOk, OnErr};
+ghost use Rattle.std.specs.Prelude.{◌≡◌, ◌==◌, ◌↔◌, ◌<◌, ◌≤◌, ◌+◌, ◌^◌, ◌⊎◌, ◌++◌, ◌∷◌, [], ℕ, None, length, map, slice_index, option_map, if◌then◌else◌, IsTrue, IsSome, IfSome, IfOk, OnOk, OnErr};
 ghost use Rattle.std.specs.List.{AllByRecursion};
-ghost use Rattle.game.specs.Game.{IsGame, IsVertex, vertex, count as count_of};
+ghost use Rattle.game.specs.Game.{IsGame, IsVertex, vertex, greatest, count as count_of};
 ghost use Rattle.game.specs.Arena.{AreNames, place_in};
 ghost use Rattle.game.specs.Rises.{rises};
 ghost use Rattle.game.specs.View.{moved};
@@ -30,6 +30,7 @@ pub struct Game {
     rows: Vec<Row>,
     successors: Vec<u32>,
     counts: [u32; PRIORITIES],
+    greatest: u32,
     named: Option<(u32, u32)>,
 }
 
@@ -58,6 +59,13 @@ impl Game {
         ensures { result ≡ length self.now.vertices }
     {
         self.rows.len() as u32
+    }
+
+    /// The greatest priority that a vertex has, and 0 where there is no vertex. It takes no look at the vertices.
+    pub fn greatest(&self) -> u32
+        ensures { result ≡ greatest self.now }
+    {
+        self.greatest
     }
 
     pub fn priority(&self, v: u32) -> u8
@@ -118,6 +126,20 @@ fn count_one(counts: &mut [u32; PRIORITIES], priority: u8)
     if place < PRIORITIES {
         counts[place] += 1;
     }
+}
+
+// The greatest priority that is counted, and 0 where none is.
+fn greatest_counted(counts: &[u32; PRIORITIES]) -> u32
+    ensures none { (p : ℕ) → result < p → p ≤ 32 → slice_index counts.now p ≡ 0 }
+    ensures some { (result ≡ 0) ⊎ (0 < slice_index counts.now result) }
+    ensures low { result ≤ 32 }
+{
+    for p in (0..PRIORITIES as u32 - 1).rev() {
+        if counts[p as usize + 1] > 0 {
+            return p + 1;
+        }
+    }
+    0
 }
 
 // The counts of other vertices are added to those of these.
@@ -284,6 +306,7 @@ impl GameBuilder {
         Game {
             rows: self.rows,
             successors: self.successors,
+            greatest: greatest_counted(&counts),
             counts,
             named,
         }
