@@ -59,7 +59,11 @@ fn a_thousand_short_lines_take_two_writes(rt: HostRuntime) -> Result<(), AllocEr
     assert!(rt; put_lines(&lines, &mut out).is_ok());
     assert_eq!(rt; out.writes, 2);
     assert_eq!(rt; out.taken.len(), 11_000);
-    assert!(rt; out.taken.chunks(11).all(|line| line == b"0123456789\n".as_slice()));
+    assert!(rt;
+        out.taken
+            .chunks(11)
+            .all(|line| line == b"0123456789\n".as_slice())
+    );
     Ok(())
 }
 

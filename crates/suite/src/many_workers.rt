@@ -11,6 +11,7 @@ use measures::measure::Measure;
 use measures::settle::{is_settled, solve_one};
 use measures::table::PlainTable;
 use std::alloc::{AllocError, Global};
+use std::hint::spin_loop;
 use std::marker::Brand;
 use std::process::Abort;
 use std::sync::atomic::{AtomicBool, AtomicU64, Ordering};
@@ -85,7 +86,7 @@ fn any_number_of_workers_finds_the_least_table(rt: HostRuntime) -> Result<(), Fa
     Ok(())
 }
 
-/// How long a worker is held at most.
+/// How often a worker that is held looks at most. Between two looks it leaves the processor some time: a thread may be slow to begin.
 const MOST_LOOKS: u64 = 10_000_000;
 
 /// Holds each of two workers at its first turn until the other's has come.
@@ -120,6 +121,7 @@ impl Gate for Meeting {
             if self.came[1 - worker].load(Ordering::SeqCst) == 1 {
                 return;
             }
+            spin_loop();
         }
         self.missed.store(1, Ordering::SeqCst);
     }

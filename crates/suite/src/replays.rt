@@ -122,7 +122,12 @@ fn replays_pass_refusals_on(rt: HostRuntime) -> Result<(), AllocError> {
     let mut out = Vec::new(rt.alloc());
     let (system, formula, schedule) = (b"".as_slice(), b"<a".as_slice(), b"\n".as_slice());
     let answer = replay_text(&rt, rt.alloc(), system, formula, schedule, 2, &mut out);
-    same(&rt, "no system", shown(rt.alloc(), &answer)?.as_str(), "A1 at line 1");
+    same(
+        &rt,
+        "no system",
+        shown(rt.alloc(), &answer)?.as_str(),
+        "A1 at line 1",
+    );
     Ok(())
 }
 
