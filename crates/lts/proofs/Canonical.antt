@@ -1,21 +1,21 @@
 -- The canonical text of a system, line by line, and that it spells the system.
-use Rattle.std.proofs.Common.{◌≡◌, ℕ, ◌+◌, ◌^◌, ◌<◌, ◌≤◌, Bool, true, false, not, ◌&&◌, ◌==◌, List, [], ◌∷◌, ◌++◌, length, map, drop, get_or, codes, decimal, refl, sym, ap, ◌∙◌, subst, arith, append_assoc, add-one}
+use Rattle.std.proofs.Common.{◌≡◌, ℕ, ◌+◌, ◌^◌, ◌<◌, ◌≤◌, Bool, true, false, not, ◌&&◌, ◌==◌, List, [], ◌∷◌, ◌++◌, length, map, codes, decimal, refl, sym, ap, ◌∙◌, subst, arith, append_assoc}
 use Rattle.std.specs.Prelude.{nat_le}
 use Rattle.std.specs.List.{flat_map, list_all, list_any, AllZip, AllByRecursion}
-use Rattle.std.proofs.Math.Seq.{drop-cons}
-use Rattle.std.proofs.Math.ListN.{drop_of_length-le}
 use Rattle.std.proofs.lemmas.List.{length-map}
 use Rattle.std.proofs.lemmas.List.Concat.{flat_map-cons}
 use Rattle.std.proofs.lemmas.List.Folds.{list_all-append}
 use Rattle.text.specs.Text.{lines}
+use Rattle.text.specs.Wrote.{lines_from}
 use Rattle.lts.specs.declared.limits.TheConstants.{MOST_TRANSITIONS, MOST_STATES, LONGEST_LABEL}
 use Rattle.lts.specs.Label.{is_label, is_label_byte}
 use Rattle.lts.specs.System.{Arrow, System, IsArrow, IsSystem}
-use Rattle.lts.specs.Numbered.{Numbered, arrow_of}
+use Rattle.lts.specs.Numbered.{Numbered, arrow_of, system_with}
 use Rattle.lts.specs.Aut.{IsAut, IsHeader, IsTransition}
-use Rattle.lts.specs.Canon.{arrow_line, header_line, aut_text}
+use Rattle.lts.specs.Canon.{arrow_line, header_line, aut_text, line_at, line_of}
 use Rattle.lts.specs.declared.system.Transition.{Transition}
 use Rattle.std.proofs.lemmas.Bool.{and_parts}
+use Rattle.lts.proofs.Listed.{listed}
 use Rattle.text.proofs.Plain.{plain, first_line, numeral, over, over_rest, spaced, over_plain, number_plain}
 
 -- ---- the lines as they are written
@@ -24,14 +24,9 @@ use Rattle.text.proofs.Plain.{plain, first_line, numeral, over, over_rest, space
 abbrev pub lines_of : List (List ℕ) → List Transition → List ℕ
 lines_of labels ts = flat_map arrow_line (map (arrow_of labels) ts)
 
--- the lines from a transition on begin with its own
-pub next_line : (labels : List (List ℕ)) (ts : List Transition) (i : ℕ) (t : Transition) → i < length ts
-    → lines_of labels (drop i ts) ≡ arrow_line (arrow_of labels (get_or ts i t)) ++ lines_of labels (drop (i + 1) ts)
-next_line labels ts i t h = rw (drop-cons ts i t h, add-one i) refl
-
--- past the last transition no lines are left
-pub no_lines : (labels : List (List ℕ)) (ts : List Transition) (i : ℕ) → length ts ≤ i → lines_of labels (drop i ts) ≡ []
-no_lines labels ts i past = ap (lines_of labels) (drop_of_length-le ts past)
+-- the lines by number are all of them
+pub all_lines : (labels : List (List ℕ)) (ts : List Transition) → lines_from (line_at labels ts) 0 (length ts) ≡ lines_of labels ts
+all_lines labels ts = listed arrow_line (arrow_of labels) (line_at labels ts) 0 ts (λ i t h. (let same : 0 + i ≡ i = omega arith in ap (λ n. line_at labels ts n) same ∙ ap (line_of labels) h))
 
 -- ---- the header
 
@@ -146,11 +141,15 @@ canon_spells l h few =
       within = h.arrows;
     }
 
--- the same by the transitions that are stored
-pub stored_spells : (l : Numbered) (ts : List Transition) → IsSystem l.system → map (arrow_of l.labels) ts ≡ l.system.arrows → length ts ≤ MOST_TRANSITIONS → IsAut (aut_text l.system) l.system
-stored_spells l ts known is few = canon_spells l.system known (omega (arith, few, ap length is, length-map ts (arrow_of l.labels)))
+-- with all its transitions it is the whole system
+pub system_is : (l : Numbered) (ts : List Transition) → map (arrow_of l.labels) ts ≡ l.system.arrows → system_with l ts ≡ l.system
+system_is l ts is = λ j. record { states = l.system.states; initial = l.system.initial; arrows = is j }
+
+-- the same by the transitions that are at hand
+pub part_spells : (l : Numbered) (ts : List Transition) → IsSystem (system_with l ts) → length ts ≤ MOST_TRANSITIONS → IsAut (aut_text (system_with l ts)) (system_with l ts)
+part_spells l ts is few = canon_spells (system_with l ts) is (omega (arith, few, length-map ts (arrow_of l.labels)))
 
 -- the text by what the program has at hand
-pub text_is : (l : Numbered) (i m n : ℕ) (ts : List Transition) → i ≡ l.system.initial → m ≡ length l.system.arrows → n ≡ l.system.states → map (arrow_of l.labels) ts ≡ l.system.arrows
-    → header_line i m n ++ lines_of l.labels ts ≡ aut_text l.system
-text_is l i m n ts ei em en is = λ j. header_line (ei j) (em j) (en j) ++ flat_map arrow_line (is j)
+pub text_is : (l : Numbered) (i m n : ℕ) (ts : List Transition) → i ≡ l.system.initial → m ≡ length ts → n ≡ l.system.states
+    → header_line i m n ++ lines_of l.labels ts ≡ aut_text (system_with l ts)
+text_is l i m n ts ei em en = let count = em ∙ sym (length-map ts (arrow_of l.labels)) in λ j. header_line (ei j) (count j) (en j) ++ lines_of l.labels ts

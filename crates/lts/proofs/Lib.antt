@@ -12,5 +12,6 @@ pub mod Storing
 pub mod Whole
 pub mod Faults
 pub use Rattle.text.proofs.Writing
+pub mod Listed
 pub mod Canonical
 pub use Rattle.text.proofs.PassedOn

@@ -1,7 +1,9 @@
 -- The canonical Aldebaran text of a system.
-use Rattle.std.specs.Prelude.{ℕ, List, [], ◌∷◌, ◌++◌, length, codes, decimal}
+use Rattle.std.specs.Prelude.{ℕ, List, [], ◌∷◌, ◌++◌, length, codes, decimal, Option, Some, None, slice_get}
 use Rattle.std.specs.List.{flat_map}
 use Rattle.lts.specs.System.{Arrow, System}
+use Rattle.lts.specs.Numbered.{arrow_of}
+use Rattle.lts.specs.declared.system.Transition.{Transition}
 
 -- LF
 abbrev pub line_end : List ℕ
@@ -18,3 +20,12 @@ header_line initial transitions states = codes "des (" ++ (decimal initial ++ (c
 -- the header, and then a line for each transition, which stand in order
 abbrev pub aut_text : System → List ℕ
 aut_text l = header_line l.initial (length l.arrows) l.states ++ flat_map arrow_line l.arrows
+
+-- the line of a transition, if there is one
+abbrev pub line_of : List (List ℕ) → Option Transition → List ℕ
+line_of labels None = []
+line_of labels (Some t) = arrow_line (arrow_of labels t)
+
+-- the line of the transition of this number
+abbrev pub line_at : List (List ℕ) → List Transition → ℕ → List ℕ
+line_at labels transitions i = line_of labels (slice_get transitions i)

@@ -1,6 +1,7 @@
 -- A system whose labels have numbers.
-use Rattle.std.specs.Prelude.{ℕ, ◌<◌, List, [], length, filter, IsTrue, ◌==◌}
-use Rattle.std.specs.List.{slice_index_or, AllByRecursion}
+use Rattle.std.specs.Prelude.{ℕ, ◌<◌, List, [], length, map, filter, IsTrue, ◌==◌}
+use Rattle.std.specs.List.{slice_index_or, AllByRecursion, AllByRecursion-prop}
+use Rattle.std.specs.Coded.{le_prop}
 use Rattle.std.specs.Ordering.{is_lt}
 use Rattle.lts.specs.Label.{bytes_cmp}
 use Rattle.lts.specs.System.{System, Arrow}
@@ -34,3 +35,10 @@ pub record IsTransitionOf (l : Numbered) (t : Transition) : Type 0 where
 
 abbrev pub IsInside : Numbered → List Transition → Type 0
 IsInside l transitions = AllByRecursion (IsTransitionOf l) transitions
+
+pub IsInside-prop : (l : Numbered) (transitions : List Transition) → IsProp (IsInside l transitions)
+IsInside-prop l transitions = AllByRecursion-prop (IsTransitionOf l) (λ t p q i. record { source = le_prop p.source q.source i; label = le_prop p.label q.label i; target = le_prop p.target q.target i }) transitions
+
+-- the system with these of its transitions, and all its states
+abbrev pub system_with : Numbered → List Transition → System
+system_with l transitions = record { states = l.system.states; initial = l.system.initial; arrows = map (arrow_of l.labels) transitions }

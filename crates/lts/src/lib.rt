@@ -17,4 +17,4 @@ pub use label::{Label, LabelView};
 pub use reader::read_aut;
 pub use system::{Lts, Transition};
 pub use text::{Memory, Piece, WriteFault, put, put_number, put_pieces};
-pub use writer::write_aut;
+pub use writer::{write_aut, write_part};

@@ -1,15 +1,17 @@
-// The writer of systems.
+// The writers of systems.
 
-ghost use Rattle.std.specs.Prelude.{◌≡◌, ◌<◌, ◌++◌, length, map, decimal};
+ghost use Rattle.std.specs.Prelude.{◌≡◌, ◌<◌, ◌≤◌, ◌++◌, length, map, decimal};
 ghost use Rattle.std.specs.List.{flat_map};
-ghost use Rattle.lts.specs.Numbered.{arrow_of, IsInside};
+ghost use Rattle.lts.specs.System.{IsSystem};
+ghost use Rattle.lts.specs.Numbered.{IsInside, IsInside-prop, arrow_of, system_with};
 ghost use Rattle.lts.specs.Aut.{IsAut};
 ghost use Rattle.lts.specs.Canon.{aut_text, header_line, arrow_line};
 ghost use Rattle.text.specs.Wrote.{Wrote};
 
+use crate::limits::MOST_TRANSITIONS;
 use crate::system::{Lts, Transition};
 use std::io::Write;
-use text::{Piece, WriteFault, put_pieces};
+use text::{Lines, Piece, WriteFault, put_lines, put_pieces};
 
 /// Writes the system as its canonical Aldebaran text: a header, and a line for each distinct transition, ascending by
 /// source, by the label's bytes and by target. It takes no memory.
@@ -21,9 +23,24 @@ pub fn write_aut<W: Write>(lts: &Lts, out: &mut W) -> Result<(), WriteFault>
     // The text spells the system.
     ensures spelled { IsAut (aut_text lts.now.system) lts.now.system }
 {
-    let transitions = lts.all();
-    put_header(lts.initial(), lts.transitions(), lts.states(), out)?;
-    put_lines(lts, transitions, out)
+    let _states = lts.states();
+    write_part(lts, lts.all(), out)
+}
+
+/// Writes the system with these of its transitions alone, in the order in which they are given, and with all its states. It
+/// takes no memory.
+///
+/// # Errors
+/// After a fault the writer holds a beginning of the text.
+pub fn write_part<W: Write>(lts: &Lts, part: &[Transition], out: &mut W) -> Result<(), WriteFault>
+    requires { IsInside lts.now part.now }
+    ensures wrote { Wrote (W.contents out.old) (W.contents out.new) result (aut_text (system_with lts.now part.now)) }
+    // The text spells it, where the transitions are given in order and each once.
+    ensures spelled { IsSystem (system_with lts.now part.now) → length part.now ≤ MOST_TRANSITIONS
+        → IsAut (aut_text (system_with lts.now part.now)) (system_with lts.now part.now) }
+{
+    put_header(lts.initial(), part.len(), lts.states(), out)?;
+    put_arrows(lts, part, out)
 }
 
 fn put_header<W: Write>(
@@ -48,19 +65,40 @@ fn put_header<W: Write>(
     )
 }
 
-// Writes a line for each of the transitions.
-fn put_lines<W: Write>(lts: &Lts, transitions: &[Transition], out: &mut W) -> Result<(), WriteFault>
-    requires { IsInside lts.now transitions.now }
-    ensures { Wrote (W.contents out.old) (W.contents out.new) result
-        (flat_map arrow_line (map (arrow_of lts.now.labels) transitions.now)) }
-{
-    for transition in transitions {
-        put_line(lts, *transition, out)?;
-    }
-    Ok(())
+// A line for each of the transitions.
+#[derive(Clone, Copy)]
+struct ArrowLines<'a> {
+    lts: &'a Lts,
+    part: &'a [Transition],
+    ghost inside: { IsInside lts.now part.now } by { IsInside-prop lts.now part.now },
 }
 
-fn put_line<W: Write>(lts: &Lts, transition: Transition, out: &mut W) -> Result<(), WriteFault>
+impl Lines for ArrowLines<'_> {
+    ghost use Rattle.std.specs.Prelude.{length};
+    ghost use Rattle.lts.specs.Canon.{line_at};
+
+    ghost count = { λ lines. length lines.part.now };
+
+    ghost line = { λ lines number. line_at lines.lts.now.labels lines.part.now number };
+
+    fn count(&self) -> usize {
+        self.part.len()
+    }
+
+    fn put_line<W: Write>(&self, number: usize, writer: &mut W) -> Result<(), WriteFault> {
+        put_arrow(self.lts, self.part[number], writer)
+    }
+}
+
+// Writes a line for each of the transitions.
+fn put_arrows<W: Write>(lts: &Lts, part: &[Transition], out: &mut W) -> Result<(), WriteFault>
+    requires { IsInside lts.now part.now }
+    ensures { Wrote (W.contents out.old) (W.contents out.new) result (flat_map arrow_line (map (arrow_of lts.now.labels) part.now)) }
+{
+    put_lines(&ArrowLines { lts, part }, out)
+}
+
+fn put_arrow<W: Write>(lts: &Lts, transition: Transition, out: &mut W) -> Result<(), WriteFault>
     requires { transition.label < length lts.now.labels }
     ensures { Wrote (W.contents out.old) (W.contents out.new) result (arrow_line (arrow_of lts.now.labels transition)) }
 {

@@ -1,20 +1,15 @@
-use Rattle.lts.specs.Canon.{header_line}
-use Rattle.lts.proofs.Canonical.{stored_spells, text_is}
-use Rattle.text.proofs.Writing.{Wrote-err, Wrote-as, Wrote-after, WroteFront-more}
+use Rattle.std.proofs.Common.{ap, subst, sym}
+use Rattle.lts.specs.Aut.{IsAut}
+use Rattle.lts.specs.Canon.{aut_text}
+use Rattle.lts.specs.System.{IsSystem}
+use Rattle.lts.proofs.Canonical.{system_is}
+use Rattle.text.proofs.Writing.{Wrote-as}
 use Rattle.lts.proofs.writer.write_aut.Goals as goal
 
-pub returns-in_err-put_header-clause-wrote : goal.returns-in_err-put_header-clause-wrote
-returns-in_err-put_header-clause-wrote g c =
-    let text = text_is c.args.lts.now _ _ _ _ c.initial.ensures.value c.transitions.ensures c.states.ensures.count c.all-transitions.ensures.arrows in
-    Wrote-as _ _ _ _ _ text (Wrote-err _ _ _ _ c.from_residual.ensures.0 (WroteFront-more _ _ (header_line c.initial.result c.transitions.result c.states.result) _ c.in_err-put_header.ensures))
-
-pub returns-in_err-put_header-clause-spelled : goal.returns-in_err-put_header-clause-spelled
-returns-in_err-put_header-clause-spelled g c = stored_spells c.args.lts.now c.all-transitions.result.now c.states.ensures.known c.all-transitions.ensures.arrows c.all-transitions.ensures.few
-
 pub returns-clause-wrote : goal.returns-clause-wrote
-returns-clause-wrote g c =
-    let text = text_is c.args.lts.now _ _ _ _ c.initial.ensures.value c.transitions.ensures c.states.ensures.count c.all-transitions.ensures.arrows in
-    Wrote-as _ _ _ _ _ text (Wrote-after _ _ _ (header_line c.initial.result c.transitions.result c.states.result) _ _ c.in_ok-put_header.ensures c.put_lines.ensures)
+returns-clause-wrote g c = Wrote-as _ _ _ _ _ (ap aut_text (system_is c.args.lts.now c.all.result.now c.all.ensures.arrows)) c.write_part.ensures.wrote
 
 pub returns-clause-spelled : goal.returns-clause-spelled
-returns-clause-spelled g c = stored_spells c.args.lts.now c.all-transitions.result.now c.states.ensures.known c.all-transitions.ensures.arrows c.all-transitions.ensures.few
+returns-clause-spelled g c =
+    let same = system_is c.args.lts.now c.all.result.now c.all.ensures.arrows in
+    subst (λ l. IsAut (aut_text l) l) same (c.write_part.ensures.spelled (subst IsSystem (sym same) c.states-states.ensures.known) c.all.ensures.few)
