@@ -159,6 +159,7 @@ arena_is_game l nodes form few =
     let first : IsVertex (2 + l.states * length nodes) (record { owner = Even; priority = 0; successors = 0 ∷ [] }) = record { priority = omega arith; some = omega arith; ascending = tt; within = (omega arith, tt) } in
     let second : IsVertex (2 + l.states * length nodes) (record { owner = Even; priority = 1; successors = 1 ∷ [] }) = record { priority = omega arith; some = omega arith; ascending = tt; within = (omega arith, tt) } in
     record {
+      some = omega (arith, count);
       limit = omega (arith, count, few);
       vertices = subst (λ n. AllByRecursion (IsVertex n) (arena l nodes).vertices) (sym count) (first, (second, rows_good l nodes (range_with_len 0 l.states) form.numbered (range_below 0 l.states l.states (omega arith))));
       named = λ states n is. count ∙ ap named_count is;

@@ -23,6 +23,7 @@ turned_all n m (v ∷ vs) e h l = (
 
 pub dual_game : (g : Game) → IsGame g → greatest g ≤ 31 → IsGame (dual g)
 dual_game g game l = record {
+  some = (let a = game.some in omega (arith, a, long_dual g));
   limit = (let a = game.limit in omega (arith, a, long_dual g));
   vertices = turned_all (length g.vertices) (length (dual g).vertices) g.vertices (sym (long_dual g)) game.vertices l;
   named = λ states nodes e. absurd cc;

@@ -65,20 +65,17 @@ vertex_to n v h =
     (and_from (nat_lt v.priority 33) (not (length v.successors == 0)) (lt-ltb v.priority 33 (omega (arith, h.priority))) (ap not (ne_eqb (length v.successors) 0 (λ e. omega (arith, h.some, e)))))
     (ascending_to n 0 v.successors (begins_from_none v.successors) h.ascending h.within)
 
-vertices_from : (n : ℕ) (vs : List Vertex) → list_all (is_vertex n) vs ≡ true → AllByRecursion (IsVertex n) vs
+pub vertices_from : (n : ℕ) (vs : List Vertex) → list_all (is_vertex n) vs ≡ true → AllByRecursion (IsVertex n) vs
 vertices_from n [] h = tt
 vertices_from n (v ∷ vs) h = let parts = and_parts (is_vertex n v) (list_all (is_vertex n) vs) h in (vertex_from n v parts.0, vertices_from n vs parts.1)
 
-vertices_to : (n : ℕ) (vs : List Vertex) → AllByRecursion (IsVertex n) vs → list_all (is_vertex n) vs ≡ true
+pub vertices_to : (n : ℕ) (vs : List Vertex) → AllByRecursion (IsVertex n) vs → list_all (is_vertex n) vs ≡ true
 vertices_to n [] h = refl
 vertices_to n (v ∷ vs) h = and_from (is_vertex n v) (list_all (is_vertex n) vs) (vertex_to n v h.0) (vertices_to n vs h.1)
 
--- Vertices that are not too many make a game where each passes the test.
-pub game_from : (vs : List Vertex) → length vs ≤ 16777216 → list_all (is_vertex (length vs)) vs ≡ true → IsGame (record { vertices = vs; named = None })
-game_from vs few h = record { limit = few; vertices = vertices_from (length vs) vs h; named = λ n k e. cc }
-
-pub game_to : (vs : List Vertex) → IsGame (record { vertices = vs; named = None }) → list_all (is_vertex (length vs)) vs ≡ true
-game_to vs h = vertices_to (length vs) vs h.vertices
+-- Some vertices that are not too many make a game where each is one of so many.
+pub game_from : (vs : List Vertex) → 1 ≤ length vs → length vs ≤ 16777216 → AllByRecursion (IsVertex (length vs)) vs → IsGame (record { vertices = vs; named = None })
+game_from vs some few h = record { some = some; limit = few; vertices = h; named = λ n k e. cc }
 
 -- The test of the rows is that of their vertices.
 pub rows_test : (n : ℕ) (successors : List ℕ) (rows : List Row) → list_all (is_fit n successors) rows ≡ list_all (is_vertex n) (vertices_of rows successors)

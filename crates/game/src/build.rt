@@ -57,8 +57,8 @@ fn set_for(alloc: Global, lts: &Lts, node: &Node) -> Result<Vec<bool>, AllocErro
     }
 }
 
-// The same for each node.
-fn sets(alloc: Global, lts: &Lts, form: &Normal) -> Result<Vec<Vec<bool>>, AllocError>
+/// For each node and each label whether the node's action formula holds of the label. A node without one has no labels.
+pub fn label_sets(alloc: Global, lts: &Lts, form: &Normal) -> Result<Vec<Vec<bool>>, AllocError>
     ensures sets { IfOk result (λ sets. AreSets lts.now.labels (normal_nodes form.now) (map (λ set. set.items) sets.items)) }
     ensures count { IfOk result (λ sets. vec_len sets ≡ length (normal_nodes form.now)) }
 {
@@ -367,7 +367,7 @@ pub fn build_split(
     if 2 + states * nodes > MOST_VERTICES as u32 {
         return Err(BuildError::TooManyVertices);
     }
-    let sets = sets(alloc, lts, form)?;
+    let sets = label_sets(alloc, lts, form)?;
     let builder = if ranges == 1 {
         whole(alloc, lts, form, &sets)?
     } else {

@@ -280,9 +280,17 @@ impl GameBuilder {
         }
     }
 
-    /// Whether these vertices make a game: each has successors, all of them vertices, and its priority is within the limit.
+    /// Whether these vertices make a game: there is one at least, and each has successors, all of them vertices, and a priority
+    /// within the limit.
     pub fn is_game(&self) -> bool
         ensures { IsTrue result ↔ IsGame record { vertices = self.now; named = None } }
+    {
+        !self.rows.is_empty() && self.are_vertices()
+    }
+
+    // Whether each of these is a vertex of a game of so many.
+    fn are_vertices(&self) -> bool
+        ensures { IsTrue result ↔ AllByRecursion (IsVertex (length self.now)) self.now }
     {
         let limit = self.rows.len();
         for row in &self.rows {

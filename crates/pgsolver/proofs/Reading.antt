@@ -230,6 +230,7 @@ pub read_game_is : (n good : ℕ) → good ≡ n + 1 → n < MOST_VERTICES → (
 read_game_is n good all small old now vertices places so =
     let count = row_count n good old now vertices places so in
     record {
+      some = omega (arith, count, all);
       limit = omega (arith, count);
       vertices = subst (AllByRecursion (IsVertex (length vertices))) (sym so.kept) (fits n (length vertices) so.spelled (count ∙ all) so.good_lines.within);
       named = λ states nodes e. cc;

@@ -66,6 +66,7 @@ one_next p t h k = whole p Even (t ∷ []) h (omega arith) tt (k, tt)
 
 pub is_game_often_a : IsGame often_a_game
 is_game_often_a = record {
+  some = omega arith;
   limit = omega arith;
   vertices = (
     one_next 0 0 (omega arith) (omega arith),

@@ -1,5 +1,5 @@
 use Rattle.game.proofs.Common.{◌≡◌, ◌<◌, ℕ, [], Some, vec_len, map, slice_index_or, slice_get, Node, normal_nodes, IsSetFor}
-use Rattle.game.proofs.build.sets.Given as goal
+use Rattle.game.proofs.build.label_sets.Given as goal
 
 abbrev pub invariant-loop-node : goal.invariant-loop-node
 invariant-loop-node l = record {

@@ -1,7 +1,7 @@
-use Rattle.game.proofs.Common.{◌≡◌, ◌≤◌, true, false, length, drop, sym, ap, ◌∙◌, arith, rules, true≢false, common_steps, list_all, length-map, vertex_of_row}
-use Rattle.game.proofs.Tests.{is_fit, tested, game_from, game_to}
-use Rattle.game.proofs.graph.GameBuilder.is_game.Goals as goal
-use Rattle.game.proofs.graph.GameBuilder.is_game.Goals.{then-from-ge-PRIORITIES-via-then-from-ge-PRIORITIES, then-from-ge-PRIORITIES-via-else-from-ge-PRIORITIES+then-is_empty, then-from-ge-PRIORITIES-via-else-from-ge-PRIORITIES+else-is_empty+then-not-is_ascending}
+use Rattle.game.proofs.Common.{◌≡◌, true, false, length, drop, sym, ap, ◌∙◌, arith, rules, true≢false, common_steps, list_all, vertex_of_row}
+use Rattle.game.proofs.Tests.{is_fit, tested, vertices_from, vertices_to}
+use Rattle.game.proofs.graph.GameBuilder.are_vertices.Goals as goal
+use Rattle.game.proofs.graph.GameBuilder.are_vertices.Goals.{then-from-ge-PRIORITIES-via-then-from-ge-PRIORITIES, then-from-ge-PRIORITIES-via-else-from-ge-PRIORITIES+then-is_empty, then-from-ge-PRIORITIES-via-else-from-ge-PRIORITIES+else-is_empty+then-not-is_ascending}
 
 pub returns-then-from-ge-PRIORITIES : goal.returns-then-from-ge-PRIORITIES
 returns-then-from-ge-PRIORITIES c =
@@ -15,7 +15,7 @@ returns-then-from-ge-PRIORITIES c =
     in
     let count : c.len-limit.result ≡ length i.rows.items = search rules in
     let test = tested c.len-limit.result i.successors.items i.rows.items c.args.self.now false count c.self.view_is (sym c.loop-row.invariant ∙ fails) in
-    (λ e. absurd (true≢false (sym e)), λ g. sym test ∙ game_to c.args.self.now g)
+    (λ e. absurd (true≢false (sym e)), λ g. sym test ∙ vertices_to (length c.args.self.now) c.args.self.now g)
 
 pub returns : goal.returns
 returns c =
@@ -23,5 +23,4 @@ returns c =
     let passes : list_all (is_fit c.len-limit.result i.successors.items) (drop c.loop-row.row-index i.rows.items) ≡ true = grind (arith, common_steps) in
     let count : c.len-limit.result ≡ length i.rows.items = search rules in
     let test = tested c.len-limit.result i.successors.items i.rows.items c.args.self.now true count c.self.view_is (sym c.loop-row.invariant ∙ passes) in
-    let few : length c.args.self.now ≤ 16777216 = omega (arith, c.self.invariant.limit, length-map i.rows.items (vertex_of_row i.successors.items), ap length c.self.view_is) in
-    (λ e. game_from c.args.self.now few test, λ g. search rules)
+    (λ e. vertices_from (length c.args.self.now) c.args.self.now test, λ g. search rules)

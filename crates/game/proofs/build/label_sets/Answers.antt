@@ -1,7 +1,7 @@
 use Rattle.game.proofs.Common.{◌≡◌, ◌+◌, ◌<◌, ◌∷◌, [], ◌++◌, ℕ, Bool, List, Some, Vec, Global, length, map, slice_index_or, subst, sym, ap, ◌∙◌, arith, rules, slice_get, length-map, map-append, slice_get_within, Node, node_of, normal_nodes, IsSetFor}
 use Rattle.game.proofs.Steps.{sets_more}
 use Rattle.game.proofs.Arenas.{read_node}
-use Rattle.game.proofs.build.sets.Goals as goal
+use Rattle.game.proofs.build.label_sets.Goals as goal
 
 abbrev items_of : List (Vec Bool Global) → List (List Bool)
 items_of = map (λ set. set.items)
