@@ -1,6 +1,5 @@
 -- Tables that only rise.
-use Rattle.measures.proofs.Common.{◌≡◌, ◌<◌, ℕ, Bool, true, false, List, MatchBool, length, sym, ap, subst, ◌∙◌, inl, inr, slice_set, eqb_tells, Measure, IsAtMost, greater_of, value_at, Option, None, Some, AreRaised, Entry, entry_at, raised_by}
-use Rattle.measures.specs.Claim.{Jumps}
+use Rattle.measures.proofs.Common.{◌<◌, ℕ, List, length, sym, subst, inl, inr, slice_set, eqb_tells, Measure, IsAtMost, value_at, Option, None, Some, AreRaised, Entry, entry_at, raised_by}
 use Rattle.measures.proofs.Measures.{at_most_itself, at_most_trans}
 use Rattle.measures.proofs.Monotone.{LiesUnder, greater_rises}
 use Rattle.measures.proofs.Plain.{value_set_other, value_set_same}

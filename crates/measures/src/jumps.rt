@@ -108,6 +108,21 @@ fn jump_to_counts(
     table.jump(game, claim);
 }
 
+// Whether there are several vertices of this priority, and not all of them at top: else there is nothing to count.
+fn are_left(game: &Game, table: &PlainTable, priority: u8) -> bool
+    requires { table.now.game ≡ game.now }
+{
+    if game.count(u32::from(priority)) <= 1 {
+        return false;
+    }
+    for v in 0..game.vertices() {
+        if game.priority(v) == priority && !table.is_top(v) {
+            return true;
+        }
+    }
+    false
+}
+
 // The same of each odd priority that counts can climb.
 #[tactic(auto, using(crate::proofs::Rising::under_itself, crate::proofs::Rising::under_trans))]
 fn jump_to_all_counts(
@@ -126,7 +141,7 @@ fn jump_to_all_counts(
 {
     for back in 0..16u8 {
         let odd = 31 - 2 * back;
-        if game.count(u32::from(odd)) > 1 {
+        if are_left(game, table, odd) {
             let layers = Layers::of(alloc, game, table.predecessors(), lost, odd)?;
             jump_to_counts(game, table, claim, &layers, rank);
         }

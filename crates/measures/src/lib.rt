@@ -5,6 +5,7 @@ pub mod bounds;
 pub mod claim;
 mod jumps;
 pub mod measure;
+pub mod observer;
 mod pending;
 pub mod progs;
 pub mod rank;

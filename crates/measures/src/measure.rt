@@ -13,10 +13,11 @@ use std::marker::Model;
 pub const COMPONENTS: usize = 16;
 
 /// Top, or a count for each component of a game, that of the greatest first.
+// The mark stands last, so that a measure is copied in whole words.
 #[derive(Debug, Drop)]
 pub struct Measure {
-    top: bool,
     counts: ArrayVec<u32, 16>,
+    top: bool,
 }
 
 impl Model for Measure {
@@ -37,8 +38,8 @@ impl Measure {
         ensures { result ≡ Top }
     {
         Measure {
-            top: true,
             counts: ArrayVec::new(),
+            top: true,
         }
     }
 
@@ -48,8 +49,8 @@ impl Measure {
         ensures { result ≡ Counts counts.now }
     {
         Measure {
-            top: false,
             counts: copy_of(counts),
+            top: false,
         }
     }
 
@@ -76,7 +77,7 @@ impl Measure {
         for _ in counts.len()..width {
             counts.push(0);
         }
-        Measure { top: false, counts }
+        Measure { counts, top: false }
     }
 
     /// The same measure. It takes no memory.
@@ -84,8 +85,8 @@ impl Measure {
         ensures { result ≡ self.now }
     {
         Measure {
-            top: self.is_top(),
             counts: copy_of(self.counts()),
+            top: self.is_top(),
         }
     }
 

@@ -7,13 +7,14 @@ ghost use Rattle.measures.specs.Progress.{IsLeastTable, IsProgress, LiesUnder, o
 ghost use Rattle.measures.specs.Settling.{Sweeps};
 
 use crate::jumps::jump_ahead;
+use crate::observer::{Lifts, Observer, Silent, Stage};
 use crate::table::{PlainTable, Settled, opening};
 use game::graph::Game;
 use lts::error::Memory;
 use std::alloc::Global;
 
 // Lifts each vertex once. The answer says whether one rose.
-fn sweep(game: &Game, table: &mut PlainTable) -> bool
+fn sweep<O: Observer>(game: &Game, table: &mut PlainTable, lifts: &mut Lifts<'_, O>) -> bool
     requires { table.old.game ≡ game.now }
     ensures game { table.new.game ≡ game.now }
     ensures sweeps { Sweeps game.now table.old.values table.new.values result }
@@ -21,6 +22,7 @@ fn sweep(game: &Game, table: &mut PlainTable) -> bool
 {
     let mut rose = false;
     for v in (0..game.vertices()).rev() {
+        lifts.count();
         if table.lift_at(game, v) {
             rose = true;
         }
@@ -30,7 +32,7 @@ fn sweep(game: &Game, table: &mut PlainTable) -> bool
 }
 
 // Lifts the vertices that may rise, as long as some are noted.
-fn drain(game: &Game, table: &mut PlainTable)
+fn drain<O: Observer>(game: &Game, table: &mut PlainTable, lifts: &mut Lifts<'_, O>)
     requires { table.old.game ≡ game.now }
     ensures game { table.new.game ≡ game.now }
     ensures kept { sum_of game.now table.old.values ≤ sum_of game.now table.new.values }
@@ -38,6 +40,7 @@ fn drain(game: &Game, table: &mut PlainTable)
     for _ in 0..u64::MAX {
         match table.next_pending() {
             Some(v) if v < game.vertices() => {
+                lifts.count();
                 table.lift_at(game, v);
             }
             _ => return,
@@ -48,15 +51,25 @@ fn drain(game: &Game, table: &mut PlainTable)
 /// Leaves the least progress table. It takes no memory.
 ///
 /// It drains the list of what may rise, which is fast, and ends when a sweep over all vertices raises none.
-#[tactic(auto, using(crate::proofs::Settling::swept_least))]
 pub fn settle(game: &Game, table: &mut PlainTable)
     requires { table.old.game ≡ game.now }
     ensures game { table.new.game ≡ game.now }
     ensures least { IsLeastTable game.now table.new.values }
 {
+    settle_seen(game, table, &Silent);
+}
+
+// The same, told to an observer as it goes on.
+#[tactic(auto, using(crate::proofs::Settling::swept_least))]
+fn settle_seen<O: Observer>(game: &Game, table: &mut PlainTable, observer: &O)
+    requires { table.old.game ≡ game.now }
+    ensures game { table.new.game ≡ game.now }
+    ensures least { IsLeastTable game.now table.new.values }
+{
+    let mut lifts = Lifts::new(observer, game.vertices());
     loop {
-        drain(game, table);
-        let rose = sweep(game, table);
+        drain(game, table, &mut lifts);
+        let rose = sweep(game, table, &mut lifts);
         if !rose {
             table.known();
             return;
@@ -97,8 +110,23 @@ pub fn solve_one(alloc: Global, game: &Game) -> Result<Settled, Memory>
     ensures game { IfOk result (λ s. s.game ≡ game.now) }
     ensures least { IfOk result (λ s. IsLeastTable game.now s.values) }
 {
+    solve_one_seen(alloc, game, &Silent)
+}
+
+/// The same, told to an observer: that the search begins, that lifting does, and then every 4,096th lift.
+pub fn solve_one_seen<O: Observer>(
+    alloc: Global,
+    game: &Game,
+    observer: &O,
+) -> Result<Settled, Memory>
+    ensures game { IfOk result (λ s. s.game ≡ game.now) }
+    ensures least { IfOk result (λ s. IsLeastTable game.now s.values) }
+{
+    observer.sees(Stage::Searching {
+        vertices: game.vertices(),
+    });
     let mut table = first_table(alloc, game)?;
-    settle(game, &mut table);
+    settle_seen(game, &mut table, observer);
     Ok(table.into_settled())
 }
 

@@ -1,6 +1,6 @@
 use Rattle.measures.proofs.Rising.{under_trans}
 use Rattle.measures.proofs.jumps.jump_to_all_counts.Goals as goal
-use Rattle.measures.proofs.jumps.jump_to_all_counts.Goals.{then-count-gt1+in_ok-layers, else-count-gt1}
+use Rattle.measures.proofs.jumps.jump_to_all_counts.Goals.{then-are_left+in_ok-layers, else-are_left}
 use Rattle.std.proofs.Common.{rules}
 use Rattle.measures.proofs.Common.{Table, subst, sym}
 use Rattle.measures.proofs.Monotone.{LiesUnder}
@@ -8,12 +8,12 @@ use Rattle.measures.proofs.Monotone.{LiesUnder}
 pub loop-back-preserved : goal.loop-back-preserved
 loop-back-preserved c =
     let inv = c.loop-back.invariant in
-    elim c.if-count-gt1.branch [
-      | then-count-gt1+in_ok-layers w ↦ record {
+    elim c.if-are_left.branch [
+      | then-are_left+in_ok-layers w ↦ record {
         table = search rules;
         claim = search rules;
         kept = subst (λ (t : Table). LiesUnder c.args.table.now.values t.values) (sym w.table-is)
             (under_trans c.args.table.now.values c.loop-back.table.values w.jump_to_counts.new.table.values inv.kept w.jump_to_counts.ensures.kept);
       }
-      | else-count-gt1 w ↦ search rules
+      | else-are_left w ↦ search rules
     ]

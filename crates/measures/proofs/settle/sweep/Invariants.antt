@@ -3,7 +3,7 @@ use Rattle.measures.proofs.Settling.{Swept}
 use Rattle.measures.proofs.settle.sweep.Given as goal
 
 abbrev pub invariant-loop-v : goal.invariant-loop-v
-invariant-loop-v l = record {
+invariant-loop-v g l = record {
   game : l.table.game ≡ l.game;
   swept : Swept l.game l.v l.fn.table.values l.table.values l.rose;
 }

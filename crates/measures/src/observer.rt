@@ -1,0 +1,82 @@
+// What a run says of what it is doing.
+
+/// What a run has come to.
+#[derive(Clone, Copy, Debug, PartialEq, Eq)]
+pub enum Stage {
+    /// The system's text is read.
+    ReadingSystem,
+    /// The formula's text is read.
+    ReadingFormula,
+    /// The game of a system with so many states is built.
+    Building { states: u32 },
+    /// What Odd wins is searched for in a game with so many vertices.
+    Searching { vertices: u32 },
+    /// A game with so many vertices is lifted, and so many lifts were done.
+    Lifting { vertices: u32, lifts: u64 },
+    /// The formula is evaluated by sets of a system's states, of which there are so many.
+    Evaluating { states: u32 },
+    /// What was found is written.
+    Writing,
+}
+
+/// Is told what a run is doing. Nothing that a run promises rests on what an observer does.
+pub trait Observer {
+    /// The run has come to this stage, or further in it.
+    fn sees(&self, stage: Stage);
+}
+
+/// An observer that does nothing.
+#[derive(Clone, Copy, Debug)]
+pub struct Silent;
+
+impl Observer for Silent {
+    fn sees(&self, _stage: Stage) {}
+}
+
+/// How many lifts are done from one telling to the next.
+pub const LIFTS_APART: u64 = 4096;
+
+/// Counts the lifts of one thread, and tells of them now and then.
+pub(crate) struct Lifts<'a, O> {
+    observer: &'a O,
+    vertices: u32,
+    done: u64,
+}
+
+impl<'a, O: Observer> Lifts<'a, O> {
+    /// None yet, of which the observer is told.
+    pub(crate) fn new(observer: &'a O, vertices: u32) -> Self {
+        let lifts = Lifts {
+            observer,
+            vertices,
+            done: 0,
+        };
+        lifts.tell();
+        lifts
+    }
+
+    /// One more.
+    pub(crate) fn count(&mut self) {
+        self.done = self.done.wrapping_add(1);
+        if self.done % LIFTS_APART == 0 {
+            self.tell();
+        }
+    }
+
+    fn tell(&self) {
+        self.observer.sees(Stage::Lifting {
+            vertices: self.vertices,
+            lifts: self.done,
+        });
+    }
+}
+
+impl<O> Drop for Lifts<'_, O> {
+    fn drop(self) {
+        let Lifts {
+            observer: _,
+            vertices: _,
+            done: _,
+        } = self;
+    }
+}
