@@ -201,3 +201,12 @@ closed_over key g words s id w values same kept at e long over v = elim (leb_tel
       let there : IsAtMost (value_at w.seen v) (of_rank g (slice_index words v)) = subst (λ (ws : List ℕ). IsAtMost (value_at w.seen v) (of_rank g (slice_index ws v))) e (was.under v here.1) in
       at_most_trans (value_at w.seen v) (of_rank g (slice_index words v)) (value_at values v) there (over v here.1))
 ]
+
+-- After a look at a word that is no less than a number nothing that was seen is less, and what has that rank is seen.
+pub looked_high : (g : Game) (was now : List Measure) (v found number : ℕ) → now ≡ slice_set was v (of_rank g found) → v < length was → IsAtMost (value_at was v) (of_rank g found) → number ≤ found
+    → LiesUnder was now × IsAtMost (of_rank g number) (value_at now v)
+looked_high g was now v found number e lt later high = (
+  subst (LiesUnder was) (sym e) (set_under was v (of_rank g found) lt later),
+  subst (λ (t : List Measure). IsAtMost (of_rank g number) (value_at t v)) (sym e)
+      (subst (IsAtMost (of_rank g number)) (sym (value_set_same was v (of_rank g found) lt)) (of_rank_up g number found high)),
+)

@@ -43,6 +43,18 @@ pub trait Board {
         requires below { LiesBelow (game self.now) v m.now }
         ensures { fits self.now seat.new };
 
+    /// Raises a vertex to what it asks for in the board's own way, and says whether it rose. None where the board has no way of its
+    /// own, and then nothing was done: what the successors have is read, and the vertex is raised.
+    fn own_lift(&self, seat: &mut Self::Seat, v: u32) -> Option<bool>
+        requires seat { fits self.now seat.old }
+        requires vertex { v < length (game self.now).vertices }
+        ensures { fits self.now seat.new }
+    {
+        let _ = seat;
+        let _ = v;
+        None
+    }
+
     /// A worker's last call.
     fn last(&self, seat: &mut Self::Seat)
         requires { fits self.now seat.old }

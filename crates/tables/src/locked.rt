@@ -20,7 +20,9 @@ pub struct LockedBoard<K: GameName, R: Wait + Drop> {
     rt: R,
     game: Arc<Game, Global>,
     shards: Vec<Mutex<Shard<K>>>,
-    ghost some: { 0 < vec_len shards },
+    count: u32,
+    ghost counted: { vec_len shards ≡ count },
+    ghost some: { 0 < count },
     ghost named: { arc_value game ≡ K.game },
 }
 
@@ -48,12 +50,18 @@ impl<K: GameName, R: Wait + Drop> LockedBoard<K, R> {
             rt,
             game,
             shards: row,
+            count: shards,
         })
     }
 
     // The lock of the shard that has a vertex.
     fn lock_of(&self, v: u32) -> &Mutex<Shard<K>> {
-        &self.shards[v as usize % self.shards.len()]
+        &self.shards[(v % self.count) as usize]
+    }
+
+    // Where it stands there.
+    fn place_of(&self, v: u32) -> u32 {
+        v / self.count
     }
 }
 
@@ -69,17 +77,19 @@ impl<K: GameName, R: Wait + Drop> Board for LockedBoard<K, R> {
     }
 
     fn read(&self, _seat: &mut (), v: u32) -> Measure {
+        let place = self.place_of(v);
         let shard = self.lock_of(v).lock(&self.rt);
-        if shard.has(v) {
-            shard.read(v)
+        if shard.has_at(v, place) {
+            shard.read_at(v, place)
         } else {
             opening_value(&self.game, v)
         }
     }
 
     fn raise(&self, _seat: &mut (), v: u32, m: &Measure) -> bool {
+        let place = self.place_of(v);
         let mut shard = self.lock_of(v).lock(&self.rt);
-        shard.has(v) && shard.raise(v, m)
+        shard.has_at(v, place) && shard.raise_at(v, place, m)
     }
 
     fn last(&self, _seat: &mut ()) {}

@@ -228,8 +228,8 @@ impl PackedBoard {
         best
     }
 
-    // Raises the word of a vertex to this rank, and says whether it rose.
-    fn raise_to(&self, seat: &mut PackedSeat, v: u32, number: u64) -> bool
+    // Leaves the greater of the word of a vertex and this rank, and says whether it rose.
+    fn max_to(&self, seat: &mut PackedSeat, v: u32, number: u64) -> bool
         requires seat { IsSeatOf self.now seat.old }
         requires vertex { v < length (board_game self.now).vertices }
         requires low { number ≤ height (board_game self.now) }
@@ -243,6 +243,24 @@ impl PackedBoard {
             .shared
             .fetch_max::<Raises>(&mut seat.seat, v as usize, number);
         found < number
+    }
+
+    // Raises the word of a vertex to this rank, and says whether it rose. A word that needn't rise is only looked at: to write
+    // it takes the processor many times as long.
+    fn raise_to(&self, seat: &mut PackedSeat, v: u32, number: u64) -> bool
+        requires seat { IsSeatOf self.now seat.old }
+        requires vertex { v < length (board_game self.now).vertices }
+        requires low { number ≤ height (board_game self.now) }
+        requires below { LiesBelow (board_game self.now) v (measure_of_rank (board_game self.now) number) }
+        ensures seat { IsSeatOf self.now seat.new }
+        ensures kept { LiesUnder (seen seat.old) (seen seat.new) }
+        ensures raised { IsAtMost (measure_of_rank (board_game self.now) number) (value_at (seen seat.new) v) }
+    {
+        let found = self.look_at(seat, v);
+        if number <= found {
+            return false;
+        }
+        self.max_to(seat, v, number)
     }
 
     /// Raises the measure of a vertex to this one, and says whether it rose.

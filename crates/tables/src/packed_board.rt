@@ -37,6 +37,10 @@ impl Board for PackedBoard {
         self.lift_to(seat, v, m)
     }
 
+    fn own_lift(&self, seat: &mut PackedSeat, v: u32) -> Option<bool> {
+        Some(self.lift(seat, v))
+    }
+
     fn last(&self, seat: &mut PackedSeat)
         requires { IsSeatOf self.now seat.old }
         ensures seat { IsSeatOf self.now seat.new }

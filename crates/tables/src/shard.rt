@@ -75,15 +75,59 @@ impl<K: GameName> Shard<K> {
         v % self.shards == self.index
     }
 
-    /// The measure of one of the shard's vertices.
+    /// Whether a vertex is one of the shard's and stands at this place. It divides nothing: under a lock that would take the
+    /// longest.
+    pub(crate) fn has_at(&self, v: u32, place: u32) -> bool
+        ensures has { IsTrue result → Has self.now v }
+        ensures place { IsTrue result → v / self.now.shards ≡ place }
+    {
+        if self.index >= self.shards {
+            return false;
+        }
+        u64::from(place) * u64::from(self.shards) + u64::from(self.index) == u64::from(v)
+    }
+
+    /// The measure of one of the shard's vertices, which stands at this place.
     #[tactic(auto, using(measures::proofs::Plain::bounds_few))]
+    pub(crate) fn read_at(&self, v: u32, place: u32) -> Measure
+        requires vertex { v < length K.game.vertices }
+        requires here { Has self.now v }
+        requires place { v / self.now.shards ≡ place }
+        ensures value { result ≡ value_in self.now v }
+        ensures below { LiesBelow K.game v result }
+    {
+        let _ = v;
+        self.rows.value(place as usize)
+    }
+
+    /// The measure of one of the shard's vertices.
     pub fn read(&self, v: u32) -> Measure
         requires vertex { v < length K.game.vertices }
         requires here { Has self.now v }
         ensures value { result ≡ value_in self.now v }
         ensures below { LiesBelow K.game v result }
     {
-        self.rows.value((v / self.shards) as usize)
+        self.read_at(v, v / self.shards)
+    }
+
+    /// Leaves the greater of the old measure and the new, at a vertex that stands at this place. The answer says whether it rose.
+    pub(crate) fn raise_at(&mut self, v: u32, place: u32, m: &Measure) -> bool
+        requires vertex { v < length K.game.vertices }
+        requires here { Has self.old v }
+        requires place { v / self.old.shards ≡ place }
+        requires below { LiesBelow K.game v m.now }
+        ensures index { self.new.index ≡ self.old.index }
+        ensures shards { self.new.shards ≡ self.old.shards }
+        ensures values { self.new.values ≡ slice_set self.old.values (v / self.old.shards) (greater_of (value_in self.old v) m.now) }
+        ensures rose { IsTrue result ↔ IsBelow (value_in self.old v) m.now }
+    {
+        let _ = v;
+        let place = place as usize;
+        if self.rows.compare_with(place, m).is_ge() {
+            return false;
+        }
+        self.rows.set(place, m);
+        true
     }
 
     /// Leaves the greater of the old measure and the new. The answer says whether it rose.
@@ -96,12 +140,7 @@ impl<K: GameName> Shard<K> {
         ensures values { self.new.values ≡ slice_set self.old.values (v / self.old.shards) (greater_of (value_in self.old v) m.now) }
         ensures rose { IsTrue result ↔ IsBelow (value_in self.old v) m.now }
     {
-        let place = (v / self.shards) as usize;
-        if self.rows.compare_with(place, m).is_ge() {
-            return false;
-        }
-        self.rows.set(place, m);
-        true
+        self.raise_at(v, v / self.shards, m)
     }
 
     /// Raises a table to what the shard has.

@@ -1,6 +1,6 @@
 // Weights of ranks, found once for a board.
 
-ghost use Rattle.std.specs.Prelude.{◌≡◌, ◌<◌, ◌≤◌, length};
+ghost use Rattle.std.specs.Prelude.{◌≡◌, ◌<◌, ◌≤◌, ◌%◌, length};
 ghost use Rattle.measures.specs.Lifting.{height, of_rank as measure_of_rank};
 ghost use Rattle.measures.specs.Progs.{IsProgAt};
 ghost use Rattle.measures.specs.declared.rank.TheConstants.{RANK_LIMIT};
@@ -26,6 +26,20 @@ pub(crate) fn weights(game: &Game) -> ArrayVec<u64, 17>
     weights
 }
 
+// What is left of a number that is cut to whole weights. Most numbers are small or weights are one, and then nothing is divided.
+fn rest_of(number: u64, weight: u64) -> u64
+    requires { 0 < weight }
+    ensures { result ≡ number % weight }
+{
+    if weight == 1 {
+        0
+    } else if number < weight {
+        number
+    } else {
+        number % weight
+    }
+}
+
 /// What a vertex asks for where its play goes on at a measure of this rank, as a rank.
 pub(crate) fn prog_rank(game: &Game, weights: &[u64], top: u64, v: u32, number: u64) -> u64
     requires weights { AreWeights game.now weights.now }
@@ -36,9 +50,12 @@ pub(crate) fn prog_rank(game: &Game, weights: &[u64], top: u64, v: u32, number: 
     ensures low { result ≤ height game.now }
     ensures prog { IsProgAt game.now v (measure_of_rank game.now number) (measure_of_rank game.now result) }
 {
+    if number == top {
+        return top;
+    }
     let priority = game.priority(v);
     let weight = weights[usize::from(priority / 2)];
-    let floor = number - number % weight;
+    let floor = number - rest_of(number, weight);
     if priority % 2 == 0 {
         floor
     } else {

@@ -7,4 +7,5 @@ mod jobs;
 pub mod locked;
 pub mod solving;
 pub mod team;
+mod watch;
 mod worker;

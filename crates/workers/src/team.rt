@@ -1,6 +1,6 @@
 // Solving over the board that is asked for.
 
-ghost use Rattle.std.specs.Prelude.{◌≡◌, ◌<◌, IfErr, IfOk, MatchResult};
+ghost use Rattle.std.specs.Prelude.{◌≡◌, ◌<◌, IfErr, IfOk, IsTrue, MatchResult};
 ghost use Rattle.std.specs.Arc.{arc_value};
 ghost use Rattle.measures.specs.Lifting.{height};
 ghost use Rattle.measures.specs.Progress.{IsLeastTable};
@@ -11,9 +11,11 @@ use crate::error::{SolveError, TeamError};
 use crate::gate::Gate;
 use crate::locked::solve_locked;
 use crate::solving::solve;
+use crate::watch::Watched;
 use game::graph::Game;
+use measures::observer::{Observer, Silent, Stage};
 use measures::rank::top_rank;
-use measures::settle::solve_one;
+use measures::settle::solve_one_seen;
 use measures::table::Settled;
 use std::alloc::Global;
 use std::sync::{Arc, Wait};
@@ -59,30 +61,93 @@ pub fn solve_by<G: Gate + Sync, R: Threads + Wait + Clone + Copy + Drop + Send +
     ensures least { IfOk result (λ s. IsLeastTable (arc_value game.now) s.values) }
     ensures refused { MatchResult result (λ s. IsTooGreat team.now.board (arc_value game.now) → ⊥) (IsRefusal team.now.board (arc_value game.now)) }
 {
+    if team.workers == 1 {
+        solve_alone(alloc, game, team.board, &Silent)
+    } else {
+        solve_together(rt, alloc, game, team, gate)
+    }
+}
+
+/// The same, told to an observer: that the search begins, that lifting does, and then every 4,096th lift of a worker.
+///
+/// # Errors
+/// Those of `solve_by`.
+pub fn solve_by_seen<
+    G: Gate + Sync,
+    O: Observer + Sync,
+    R: Threads + Wait + Clone + Copy + Drop + Send + Sync,
+>(
+    rt: &R,
+    alloc: Global,
+    game: &Arc<Game, Global>,
+    team: &Team,
+    gate: &G,
+    observer: &O,
+) -> Result<Settled, TeamError>
+    ensures game { IfOk result (λ s. s.game ≡ arc_value game.now) }
+    ensures least { IfOk result (λ s. IsLeastTable (arc_value game.now) s.values) }
+    ensures refused { MatchResult result (λ s. IsTooGreat team.now.board (arc_value game.now) → ⊥) (IsRefusal team.now.board (arc_value game.now)) }
+{
+    if team.workers == 1 {
+        return solve_alone(alloc, game, team.board, observer);
+    }
+    let vertices = game.vertices();
+    observer.sees(Stage::Searching { vertices });
+    let watched = Watched::new(gate, observer, vertices);
+    solve_together(rt, alloc, game, team, &watched)
+}
+
+// Whether ranks fit a word. Where they don't, the packed board is refused.
+fn fits_words(game: &Game, board: BoardKind) -> Result<bool, TeamError>
+    ensures fits { IfOk result (λ fits. IsTrue fits → height game.now < RANK_LIMIT) }
+    ensures board { IfOk result (λ fits. IsTooGreat board game.now → ⊥) }
+    ensures refused { IfErr result (IsRefusal board game.now) }
+{
     let fits = top_rank(game).is_some();
-    if team.board == BoardKind::Packed && !fits {
+    if board == BoardKind::Packed && !fits {
         return Err(TeamError::Board(TableError::TooManyRanks));
     }
-    if team.workers == 1 {
-        return solve_alone(alloc, game);
+    Ok(fits)
+}
+
+// By one worker, without a board.
+fn solve_alone<O: Observer>(
+    alloc: Global,
+    game: &Game,
+    board: BoardKind,
+    observer: &O,
+) -> Result<Settled, TeamError>
+    ensures game { IfOk result (λ s. s.game ≡ game.now) }
+    ensures least { IfOk result (λ s. IsLeastTable game.now s.values) }
+    ensures refused { MatchResult result (λ s. IsTooGreat board game.now → ⊥) (IsRefusal board game.now) }
+{
+    match fits_words(game, board) {
+        Ok(_) => match solve_one_seen(alloc, game, observer) {
+            Ok(settled) => Ok(settled),
+            Err(Memory) => Err(TeamError::Solve(SolveError::Memory)),
+        },
+        Err(error) => Err(error),
     }
+}
+
+// By workers over the board.
+fn solve_together<G: Gate + Sync, R: Threads + Wait + Clone + Copy + Drop + Send + Sync>(
+    rt: &R,
+    alloc: Global,
+    game: &Arc<Game, Global>,
+    team: &Team,
+    gate: &G,
+) -> Result<Settled, TeamError>
+    ensures game { IfOk result (λ s. s.game ≡ arc_value game.now) }
+    ensures least { IfOk result (λ s. IsLeastTable (arc_value game.now) s.values) }
+    ensures refused { MatchResult result (λ s. IsTooGreat team.now.board (arc_value game.now) → ⊥) (IsRefusal team.now.board (arc_value game.now)) }
+{
+    let fits = fits_words(game, team.board)?;
     let workers = team.workers as usize;
     if team.board == BoardKind::Locked || !fits {
         solve_locked(rt, alloc, game, team.shards, workers, gate)
     } else {
         solve_packed(rt, alloc, game, workers, gate)
-    }
-}
-
-// The same without a board.
-fn solve_alone(alloc: Global, game: &Game) -> Result<Settled, TeamError>
-    ensures game { IfOk result (λ s. s.game ≡ game.now) }
-    ensures least { IfOk result (λ s. IsLeastTable game.now s.values) }
-    ensures refused { IfErr result IsMemory }
-{
-    match solve_one(alloc, game) {
-        Ok(settled) => Ok(settled),
-        Err(Memory) => Err(TeamError::Solve(SolveError::Memory)),
     }
 }
 

@@ -78,7 +78,13 @@ fn begin<K: GameName, B: Board>(
 }
 
 // Reads the measures of a vertex's successors, and raises the vertex to what they ask for. The answer says whether it rose.
-fn lift_at<B: Board>(game: &Game, board: &B, seat: &mut B::Seat, turn: &mut Turn, v: u32) -> bool
+fn lift_by_reads<B: Board>(
+    game: &Game,
+    board: &B,
+    seat: &mut B::Seat,
+    turn: &mut Turn,
+    v: u32,
+) -> bool
     requires on_board { B.game board.now ≡ game.now }
     requires seat { B.fits board.now seat.old }
     requires turn { turn.old.game ≡ game.now }
@@ -93,6 +99,21 @@ fn lift_at<B: Board>(game: &Game, board: &B, seat: &mut B::Seat, turn: &mut Turn
         turn.note(place, board.read(seat, successors[place]));
     }
     board.raise(seat, v, &turn.lifted(game))
+}
+
+// Raises a vertex to what it asks for, and says whether it rose: in the board's own way, if it has one.
+fn lift_at<B: Board>(game: &Game, board: &B, seat: &mut B::Seat, turn: &mut Turn, v: u32) -> bool
+    requires on_board { B.game board.now ≡ game.now }
+    requires seat { B.fits board.now seat.old }
+    requires turn { turn.old.game ≡ game.now }
+    requires vertex { v < length game.now.vertices }
+    ensures seat { B.fits board.now seat.new }
+    ensures turn { turn.new.game ≡ game.now }
+{
+    match board.own_lift(seat, v) {
+        Some(rose) => rose,
+        None => lift_by_reads(game, board, seat, turn, v),
+    }
 }
 
 // Takes jobs until one pass finds none, or a job isn't taken.

@@ -1,45 +1,29 @@
-use Rattle.std.proofs.Common.{◌<◌, ◌≤◌, length, max, subst, sym, ◌∙◌}
-use Rattle.std.specs.Arc.{arc_value}
-use Rattle.game.specs.Game.{Game}
-use Rattle.measures.specs.Lifting.{of_rank, height}
-use Rattle.measures.specs.Tables.{LiesBelow}
-use Rattle.tables.specs.Packed.{IsWord}
-use Rattle.tables.proofs.Packing.{raised_seen, raises, seen_more, word_max}
+use Rattle.std.proofs.Common.{◌<◌, arith, length}
+use Rattle.measures.specs.Lifting.{of_rank}
+use Rattle.measures.specs.Measure.{IsAtMost}
+use Rattle.measures.specs.Progress.{LiesUnder, value_at}
+use Rattle.measures.proofs.Rising.{under_trans}
+use Rattle.tables.specs.Seats.{board_game, seen}
+use Rattle.tables.proofs.Packing.{looked_high}
 use Rattle.tables.proofs.packed.PackedBoard.raise_to.Goals as goal
 
-pub fetch_max-found-requires : goal.fetch_max-found-requires
-fetch_max-found-requires c =
-    let board = c.args.self.now in
-    let shared = board.table.shared in
-    let me = c.args.seat.now.seat in (
-      c.requires.seat.table,
-      subst (λ n. c.args.v < n) (sym board.sized) c.requires.vertex,
-      raises shared.key shared.table_id.slots me.id c.args.v c.args.number me.me (c.requires.seat.game ∙ sym board.keyed) (subst (λ (g : Game). c.args.v < length g.vertices) (sym board.keyed) c.requires.vertex)
-          (subst (λ (g : Game). c.args.number ≤ height g) (sym board.keyed) c.requires.low)
-          (subst (λ (g : Game). LiesBelow g c.args.v (of_rank g c.args.number)) (sym board.keyed) c.requires.below),
-    )
+pub returns-then-number-found-clause-kept : goal.returns-then-number-found-clause-kept
+returns-then-number-found-clause-kept c =
+    let was = seen c.args.seat.now in
+    let there : c.args.v < length was = omega (arith, c.requires.vertex, c.requires.seat.plain.long) in
+    (looked_high (board_game c.args.self.now) was (seen c.look_at-found.new.seat) c.args.v c.look_at-found.result c.args.number c.look_at-found.ensures.seen there c.look_at-found.ensures.later c.if-number-found.true).0
 
-pub returns-clause-seat : goal.returns-clause-seat
-returns-clause-seat c =
-    let g = arc_value c.args.self.now.game in
-    let was = c.args.seat.now.seat.me.0 in
-    let told = c.fetch_max-found.ensures.2 in
-    let found = c.fetch_max-found.result in
-    let word : IsWord g c.args.v found = subst (λ (h : Game). IsWord h c.args.v found) c.requires.seat.game told.word in
-    let now : IsWord g c.args.v (max found c.args.number) = word_max g c.args.v found c.args.number word c.requires.low c.requires.below in
-    let more = seen_more g was c.fetch_max-found.new.seat.me.0 c.args.v (of_rank was.of (max found c.args.number)) c.requires.seat.game c.requires.seat.plain c.requires.vertex
-    (subst (λ (h : Game). LiesBelow g c.args.v (of_rank h (max found c.args.number))) (sym c.requires.seat.game) now.below) told.view in record {
-      table = c.fetch_max-found.ensures.0 ∙ c.requires.seat.table;
-      game = more.0;
-      plain = more.1;
-    }
+pub returns-then-number-found-clause-raised : goal.returns-then-number-found-clause-raised
+returns-then-number-found-clause-raised c =
+    let was = seen c.args.seat.now in
+    let there : c.args.v < length was = omega (arith, c.requires.vertex, c.requires.seat.plain.long) in
+    (looked_high (board_game c.args.self.now) was (seen c.look_at-found.new.seat) c.args.v c.look_at-found.result c.args.number c.look_at-found.ensures.seen there c.look_at-found.ensures.later c.if-number-found.true).1
 
 pub returns-clause-kept : goal.returns-clause-kept
 returns-clause-kept c =
-    let told = c.fetch_max-found.ensures.2 in
-    (raised_seen (arc_value c.args.self.now.game) c.args.seat.now.seat.me.0 c.fetch_max-found.new.seat.me.0 c.args.v c.fetch_max-found.result c.args.number c.requires.seat.game c.requires.seat.plain c.requires.vertex told.view told.later).0
-
-pub returns-clause-raised : goal.returns-clause-raised
-returns-clause-raised c =
-    let told = c.fetch_max-found.ensures.2 in
-    (raised_seen (arc_value c.args.self.now.game) c.args.seat.now.seat.me.0 c.fetch_max-found.new.seat.me.0 c.args.v c.fetch_max-found.result c.args.number c.requires.seat.game c.requires.seat.plain c.requires.vertex told.view told.later).1
+    let was = seen c.args.seat.now in
+    let there : c.args.v < length was = omega (arith, c.requires.vertex, c.requires.seat.plain.long) in
+    let g = board_game c.args.self.now in
+    let found = c.look_at-found.result in
+    under_trans was (seen c.look_at-found.new.seat) (seen c.max_to.new.seat)
+    (looked_high g was (seen c.look_at-found.new.seat) c.args.v found found c.look_at-found.ensures.seen there c.look_at-found.ensures.later (omega arith)).0 c.max_to.ensures.kept
