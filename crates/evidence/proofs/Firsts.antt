@@ -1,5 +1,5 @@
 -- The first of the successors with the least prog, as they are gone over.
-use Rattle.std.proofs.Common.{◌≡◌, ℕ, zero, suc, ◌+◌, ◌<◌, ◌≤◌, List, [], ◌∷◌, length, sym, ap, subst, ◌∙◌, inl, inr, arith, Contains, Some, slice_index}
+use Rattle.std.proofs.Common.{◌≡◌, ℕ, zero, suc, ◌+◌, ◌<◌, ◌≤◌, List, [], ◌∷◌, length, refl, sym, ap, subst, ◌∙◌, inl, inr, arith, Contains, Some, slice_index}
 use Rattle.std.proofs.lemmas.Bool.Decides.{eqb_tells}
 use Rattle.game.specs.Game.{Game, IsAscending, Vertex, vertex}
 use Rattle.measures.specs.Laws.{IsLeastSuccessor}
@@ -88,3 +88,10 @@ module _ (g : Game) (table : List Measure) (x : Vertex) (v : ℕ) (at : vertex g
             let r = prog g x.priority (value_at table u) (value_measure g table least.progress.0.1 u) in
             (all u other.successor r.0 r.1).1 (other.least b c r.0 m r.1 is.prog)),
       )
+
+  -- the only successor
+  pub first_alone : (b : ℕ) → IsLeastTable g table → slice_index x.successors 0 ≡ b → length x.successors ≡ 1 → IsLeastSuccessor g table x b × ((u : ℕ) → IsLeastSuccessor g table x u → b ≤ u)
+  first_alone b least same one =
+      let value = value_at table b in
+      let r = prog g x.priority value (value_measure g table least.progress.0.1 b) in
+      first_of_all 1 b r.0 least (first_one b value r.0 same refl (x, at, r.1)) (omega (arith, one)) (omega (arith, one))

@@ -27,8 +27,12 @@ fn best_successor(game: &Game, settled: &Settled, v: u32) -> u32
     ensures { IsBestSuccessor game.now settled.now.values v result }
 {
     game.known();
+    settled.known();
     let successors = game.successors(v);
     let mut best = successors[0];
+    if successors.len() == 1 {
+        return best;
+    }
     let mut least = prog(game, v, &settled.value(best));
     for k in 1..successors.len() {
         let risen = prog(game, v, &settled.value(successors[k]));

@@ -5,12 +5,20 @@ use Rattle.measures.specs.Measure.{Measure}
 use Rattle.measures.specs.Progress.{IsLeastTable}
 use Rattle.measures.proofs.Bests.{vertex_tells}
 use Rattle.evidence.proofs.Checked.{ascending_of, some_successors, successors_inside}
-use Rattle.evidence.proofs.Firsts.{IsFirstOf, first_left, first_of_all, first_one, first_taken}
+use Rattle.evidence.proofs.Firsts.{IsFirstOf, first_alone, first_left, first_of_all, first_one, first_taken}
 use Rattle.evidence.proofs.make.best_successor.Goals as goal
 use Rattle.evidence.proofs.make.best_successor.Goals.{then-is_below, else-is_below}
 
 pub bounds-successors-0 : goal.bounds-successors-0
 bounds-successors-0 c = some_successors c.args.game.now c.args.v c.requires.vertex c.known.ensures c.successors-successors.result.now c.successors-successors.ensures
+
+pub returns-then-successors-eq1 : goal.returns-then-successors-eq1
+returns-then-successors-eq1 c = λ x at.
+    let g = c.args.game.now in
+    let ts = c.successors-successors.result.now in
+    let same = vertex_tells (λ (y : Vertex). y.successors) g c.args.v ts x at c.successors-successors.ensures in
+    first_alone g c.args.settled.now.values x c.args.v at (slice_index ts 0) (subst (λ (h : Game). IsLeastTable h c.args.settled.now.values) c.requires.same c.known-2.ensures.least) (ap (λ us. slice_index us 0) same)
+    (let l = ap length same in let one = c.if-successors-eq1.true in omega (arith, l, one))
 
 pub value-requires : goal.value-requires
 value-requires c =
