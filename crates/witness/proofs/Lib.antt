@@ -1,0 +1,5 @@
+pub mod Setting
+pub mod Walking
+pub mod Keeping
+pub mod Means
+pub mod Drawn

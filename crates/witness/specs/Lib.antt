@@ -1,0 +1,4 @@
+pub mod Witness
+pub mod Walk
+pub mod Taken
+pub mod Drawing

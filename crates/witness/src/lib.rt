@@ -1,0 +1,6 @@
+// The part of a system on which the answer for its initial state rests.
+#![tactic(auto)]
+
+pub mod drawing;
+pub mod part;
+mod walk;
