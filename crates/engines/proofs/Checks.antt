@@ -1,6 +1,8 @@
 -- What a check has found out.
-use Rattle.std.proofs.Common.{◌≡◌, ℕ, List, Bool, false, Some, None, Ok, Err, refl, subst, sym, slice_index_or}
-use Rattle.std.specs.Prelude.{IfSome, IfOk, IfErr, IsErrAnd, MatchResult, Option, Result}
+use Rattle.std.proofs.Common.{◌≡◌, ℕ, List, Bool, false, Some, None, Ok, Err, [], inl, inr, refl, subst, sym, ap, true≢false, slice_index_or}
+use Rattle.std.specs.Option.{is_some}
+use Rattle.std.specs.Prelude.{◌⊎◌, IsTrue, IfSome, IfOk, IfErr, IsErrAnd, MatchResult, Option, Result}
+use Rattle.std.proofs.KnownBytes.{Appends-nil, Keeps-refl}
 use Rattle.std.proofs.lemmas.Result.{IfOk-weaker}
 use Rattle.text.specs.declared.write_loop.WriteFault.{WriteFault}
 use Rattle.lts.specs.System.{System}
@@ -9,11 +11,13 @@ use Rattle.formula.specs.Tree.{Formula}
 use Rattle.engines.specs.declared.error.MuError.{MuError}
 use Rattle.engines.specs.declared.error.MuError.TheVariants as error
 use Rattle.normal.specs.declared.priorities.Priorities.{Priorities}
-use Rattle.evidence.specs.declared.error.EvidenceError.TheVariants as evidence
-use Rattle.engines.specs.Check.{Way, ByGame, Answers, AreSpelled, AreMarks, IsBeyond, IsTextOf, IsWithin, SpellsSystem, HasRefused}
-use Rattle.engines.specs.Writers.{EvenText, Lent, IsLentFor, AreKept, AreWritten}
+use Rattle.engines.specs.Check.{Way, BySets, ByGame, IsErrorOf, Answers, AreSpelled, AreMarks, IsBeyond, IsTextOf, IsWithin, SpellsSystem, HasRefused}
+use Rattle.engines.specs.declared.request.WitnessForm.{WitnessForm}
+use Rattle.engines.specs.declared.request.WitnessForm.TheVariants.{System as AsSystem, Drawing}
+use Rattle.engines.specs.Writers.{EvenText, WitnessText, DrawingText, Lent, IsLentFor, Unasked, AreKept, AreWritten, IsWhole, all_writers, kind_where, lent_for, report_writer, witness_kind}
 use Rattle.engines.specs.Texts.{IsFormulaOf, IsReadRefusal}
-use Rattle.engines.specs.Findings.{AreFindings, IsGameOf, IsTextFound, formula_of, system_of, way_in}
+use Rattle.engines.specs.declared.request.Wanted.{Wanted}
+use Rattle.engines.specs.Findings.{AreFindings, IsGameOf, IsTextFound, IsUnprepared, IsUnshown, formula_of, system_of, way_in}
 use Rattle.engines.specs.Solver.{IsUnsolved}
 use Rattle.game.specs.Game.{Game}
 use Rattle.workers.specs.declared.team.BoardKind.{BoardKind}
@@ -114,11 +118,35 @@ pub spelled_by : {T : Type 0} → (texts_of : T → Texts) (first second : List 
 spelled_by texts_of first second texts (Ok x) h e = subst (λ (t : Texts). AreSpelled first second t.system.system (closed_formula t.formula)) (sym e) h
 spelled_by texts_of first second texts (Err e) h same = tt
 
--- No writer was written to before evidence was made, which there was no memory for.
-pub wanting_of : (way : Way) (first second : List ℕ) (writers : List Lent) (l : System) (f : Formula) (r : Result Bool MuError) → AreSpelled first second l f → IsWithin way l f
-    → IsLentFor EvenText writers → AreKept writers → r ≡ Err (error.Evidence evidence.Memory) → Answers way first second writers r
-wanting_of way first second writers l f r spelled within asked kept e =
-    subst (Answers way first second writers) (sym e) (record { l = l; f = f; spelled = spelled; within = within; asked = asked; memory = refl }, kept)
+-- None of the writers of all texts was written to.
+pub kept_writers : (wanted : Wanted) (game even odd witness out : Option (List ℕ)) → AreKept (all_writers wanted game game even even odd odd witness witness out out)
+kept_writers wanted game even odd witness out = (Keeps-refl game, (Keeps-refl even, (Keeps-refl odd, (Keeps-refl witness, (Keeps-refl out, tt)))))
+
+-- No writer was written to before all that is wanted was made, which there was no memory for.
+pub unprepared_of : (x : Findings) (wanted : Wanted) (first second : List ℕ) (writers : List Lent) (e : MuError) → AreSpelled first second (system_of x) (formula_of x)
+    → AreFindings x → AreKept writers → (IsTrue wanted.evidence → IsLentFor EvenText writers)
+    → (IsTrue (is_some wanted.witness) → IsLentFor WitnessText writers ⊎ IsLentFor DrawingText writers) → IsUnprepared x wanted e → HasRefused (way_in x) first second writers e
+unprepared_of x wanted first second writers e spelled found kept even witness (inl (asked, is)) =
+    subst (HasRefused (way_in x) first second writers) (sym is)
+    (record { l = system_of x; f = formula_of x; spelled = spelled; within = found.marks.within; needed = inl (even asked); memory = refl }, kept)
+unprepared_of x wanted first second writers e spelled found kept even witness (inr (asked, is)) = unshown e is
+  where
+    unshown : (e : MuError) → IsUnshown x e → HasRefused (way_in x) first second writers e
+    unshown error.Memory h = ((system_of x, spelled.system.spelled), kept)
+    unshown (error.Normal e) h = (record { l = system_of x; f = formula_of x; spelled = spelled; beyond = h }, kept)
+    unshown (error.Evidence e) h =
+        (record { l = system_of x; f = formula_of x; spelled = spelled; within = found.marks.within; needed = inr (witness asked); memory = h }, kept)
+    unshown (error.Build e) h = absurd h
+    unshown (error.Table e) h = absurd h
+    unshown (error.Solve e) h = absurd h
+    unshown (error.Arguments e) h = absurd h
+    unshown error.File h = absurd h
+    unshown error.Read h = absurd h
+    unshown (error.System e) h = absurd h
+    unshown (error.Formula e) h = absurd h
+    unshown (error.Game e) h = absurd h
+    unshown (error.Schedule e) h = absurd h
+    unshown (error.Write e) h = absurd h
 
 -- What was found one way is found an equal way.
 pub by_way : (p q : Way) (first second : List ℕ) (writers : List Lent) (r : Result Bool MuError) → p ≡ q → Answers p first second writers r → Answers q first second writers r
@@ -169,3 +197,64 @@ pub err_after : {T E : Type 0} → (make : E → MuError) (r : Result T E) (s : 
 err_after make (Ok x) s P h p = subst (λ y. IfErr y P) (sym h) tt
 err_after make (Err e) (Ok x) P h p = absurd h
 err_after make (Err e) (Err d) P h p = subst P (sym h) p
+
+-- The writer of a witness that is wanted is lent for it.
+witness_lent : (form : Option WitnessForm) → IsTrue (is_some form) → (witness_kind form ≡ WitnessText) ⊎ (witness_kind form ≡ DrawingText)
+witness_lent None h = absurd (true≢false (sym h))
+witness_lent (Some AsSystem) h = inl refl
+witness_lent (Some Drawing) h = inr refl
+
+-- Nothing was written where what is wanted could not be made.
+pub unprepared_all : (x : Findings) (wanted : Wanted) (first second : List ℕ) (game even odd witness out : Option (List ℕ)) (e : MuError) → AreSpelled first second (system_of x) (formula_of x)
+    → AreFindings x → IsUnprepared x wanted e → HasRefused (way_in x) first second (all_writers wanted game game even even odd odd witness witness out out) e
+unprepared_all x wanted first second game even odd witness out e spelled found is =
+    unprepared_of x wanted first second (all_writers wanted game game even even odd odd witness witness out out) e spelled found (kept_writers wanted game even odd witness out)
+    (λ h. inr (inl (ap (λ b. kind_where b EvenText) h)))
+    (λ h. elim (witness_lent wanted.witness h) [
+      | inl k ↦ inl (inr (inr (inr (inl k))))
+      | inr k ↦ inr (inr (inr (inr (inl k))))
+    ]) is
+
+alone_kept : (game even odd witness old new : Option (List ℕ)) → AreKept (report_writer old new)
+    → AreKept (all_writers (record { game = false; evidence = false; witness = None }) game game even even odd odd witness witness old new)
+alone_kept game even odd witness old new h = (Keeps-refl game, (Keeps-refl even, (Keeps-refl odd, (Keeps-refl witness, h))))
+
+-- By sets of states the report alone is written.
+pub alone_of : (first second : List ℕ) (game even odd witness old new : Option (List ℕ)) (r : Result Bool MuError) → Answers BySets first second (report_writer old new) r → IfErr r (IsErrorOf BySets)
+    → Answers BySets first second (all_writers (record { game = false; evidence = false; witness = None }) game game even even odd odd witness witness old new) r
+alone_of first second game even odd witness old new (Ok a) h plain = record {
+  l = h.l;
+  f = h.f;
+  marks = h.marks;
+  spelled = h.spelled;
+  found = h.found;
+  written = (nothing game, (nothing even, (nothing odd, (nothing witness, h.written))));
+  answered = h.answered;
+}
+  where
+    nothing : (bytes : Option (List ℕ)) → IsWhole (IsTextOf BySets h.l h.f h.marks) (lent_for Unasked bytes bytes)
+    nothing bytes = ([], refl, Appends-nil bytes)
+alone_of first second game even odd witness old new (Err error.Read) h plain = (h.0, alone_kept game even odd witness old new h.1)
+alone_of first second game even odd witness old new (Err error.Memory) h plain = (h.0, alone_kept game even odd witness old new h.1)
+alone_of first second game even odd witness old new (Err (error.System e)) h plain = (h.0, alone_kept game even odd witness old new h.1)
+alone_of first second game even odd witness old new (Err (error.Formula e)) h plain = (h.0, h.1, alone_kept game even odd witness old new h.2)
+alone_of first second game even odd witness old new (Err (error.Write e)) h plain = record {
+  l = h.l;
+  f = h.f;
+  marks = h.marks;
+  spelled = h.spelled;
+  found = h.found;
+  begun = inr (nothing game, inr (nothing even, inr (nothing odd, inr (nothing witness, h.begun))));
+}
+  where
+    nothing : (bytes : Option (List ℕ)) → IsWhole (IsTextOf BySets h.l h.f h.marks) (lent_for Unasked bytes bytes)
+    nothing bytes = ([], refl, Appends-nil bytes)
+alone_of first second game even odd witness old new (Err (error.Arguments e)) h plain = absurd h
+alone_of first second game even odd witness old new (Err error.File) h plain = absurd h
+alone_of first second game even odd witness old new (Err (error.Normal e)) h plain = absurd plain
+alone_of first second game even odd witness old new (Err (error.Build e)) h plain = absurd plain
+alone_of first second game even odd witness old new (Err (error.Game e)) h plain = absurd h
+alone_of first second game even odd witness old new (Err (error.Evidence e)) h plain = absurd plain
+alone_of first second game even odd witness old new (Err (error.Table e)) h plain = absurd plain
+alone_of first second game even odd witness old new (Err (error.Solve e)) h plain = absurd plain
+alone_of first second game even odd witness old new (Err (error.Schedule e)) h plain = absurd h

@@ -5,3 +5,6 @@ mod Limits
 mod Roots
 mod Orders
 mod Lendings
+mod Winning
+mod Noting
+mod Putting

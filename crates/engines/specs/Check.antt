@@ -1,8 +1,9 @@
 -- What a check answers.
-use Rattle.std.specs.Prelude.{◌≡◌, ℕ, ◌+◌, ◌*◌, ◌≤◌, Bool, false, List, length, Option, Some, Result, MatchResult}
+use Rattle.std.specs.Prelude.{◌≡◌, ℕ, ◌+◌, ◌*◌, ◌≤◌, Bool, false, List, [], length, Option, Some, Result, MatchResult}
 use Rattle.std.specs.List.{slice_index_or}
 use Rattle.lts.specs.System.{System}
 use Rattle.lts.specs.Aut.{IsAut, HasFault}
+use Rattle.lts.specs.Canon.{aut_text}
 use Rattle.lts.specs.Left.{Refuses}
 use Rattle.formula.specs.Tree.{Formula}
 use Rattle.formula.specs.Meaning.{Marks, Satisfies}
@@ -23,6 +24,8 @@ use Rattle.evidence.specs.declared.error.EvidenceError.TheVariants as evidence
 use Rattle.evidence.specs.Evidence.{Evidence}
 use Rattle.evidence.specs.Best.{IsEvenOf, IsOddOf}
 use Rattle.evidence.specs.Canon.{evidence_text}
+use Rattle.witness.specs.Witness.{IsWitness}
+use Rattle.witness.specs.Drawing.{drawing}
 use Rattle.engines.specs.declared.error.MuError.{MuError}
 use Rattle.engines.specs.declared.error.MuError.TheVariants as error
 use Rattle.engines.specs.Texts.{IsSystemOf, IsFormulaOf}
@@ -30,7 +33,7 @@ use Rattle.workers.specs.declared.team.BoardKind.{BoardKind}
 use Rattle.engines.specs.Report.{report}
 use Rattle.engines.specs.Roots.{WinsRoot}
 use Rattle.engines.specs.Solver.{IsFitting, IsUnsolved}
-use Rattle.engines.specs.Writers.{Kind, GameText, EvenText, OddText, ReportText, Lent, IsLentFor, AreWhole, AreKept, AreWrittenUpTo}
+use Rattle.engines.specs.Writers.{Kind, GameText, EvenText, OddText, WitnessText, DrawingText, ReportText, Unasked, Lent, NeedsEvidence, AreWhole, AreKept, AreWrittenUpTo}
 
 -- how the states are found: by sets of states, or by the game with the priorities of a rule, solved over the board that is asked for, if one is
 pub data Way : Type 0 where
@@ -83,16 +86,22 @@ pub record AreMarks (way : Way) (l : System) (f : Formula) (marks : List Bool) :
   pub exact : Marks l.states marks (Satisfies l f)
   pub won : AreWon way l f marks
 
--- The texts that are written where these are the marks. Without a game there is the report alone.
+-- The texts that are written where these are the marks. Without a game there is the report alone. Where nothing is asked for, nothing is written.
 abbrev pub IsTextOf : Way → System → Formula → List Bool → Kind → List ℕ → Type 0
 IsTextOf BySets l f marks GameText text = ⊥
 IsTextOf BySets l f marks EvenText text = ⊥
 IsTextOf BySets l f marks OddText text = ⊥
+IsTextOf BySets l f marks WitnessText text = ⊥
+IsTextOf BySets l f marks DrawingText text = ⊥
 IsTextOf BySets l f marks ReportText text = text ≡ report l f marks
+IsTextOf BySets l f marks Unasked text = text ≡ []
 IsTextOf (ByGame rule board) l f marks GameText text = text ≡ game_text (game_of rule l f)
 IsTextOf (ByGame rule board) l f marks EvenText text = (e : Evidence) × IsEvenOf (game_of rule l f) e × (text ≡ evidence_text e)
 IsTextOf (ByGame rule board) l f marks OddText text = (e : Evidence) × IsOddOf (game_of rule l f) e × (text ≡ evidence_text e)
+IsTextOf (ByGame rule board) l f marks WitnessText text = (part : System) × IsWitness l f part × (text ≡ aut_text part)
+IsTextOf (ByGame rule board) l f marks DrawingText text = (part : System) × IsWitness l f part × (text ≡ drawing part)
 IsTextOf (ByGame rule board) l f marks ReportText text = text ≡ report l f marks
+IsTextOf (ByGame rule board) l f marks Unasked text = text ≡ []
 
 -- Each text was written whole, the report among them on the states in the formula's meaning, and the answer is the initial state's.
 pub record HasReported (way : Way) (first second : List ℕ) (writers : List Lent) (answer : Bool) : Type 0 where
@@ -120,13 +129,13 @@ pub record HasNoGame (way : Way) (first second : List ℕ) (e : MuError) : Type 
   pub spelled : AreSpelled first second l f
   pub beyond : IsBeyond way l f e
 
--- Both texts are spelled, and memory is wanting for evidence that is asked for.
+-- Both texts are spelled, and memory is wanting for evidence that is needed for what is asked for.
 pub record HasNoEvidence (way : Way) (first second : List ℕ) (writers : List Lent) (e : EvidenceError) : Type 0 where
   pub l : System
   pub f : Formula
   pub spelled : AreSpelled first second l f
   pub within : IsWithin way l f
-  pub asked : IsLentFor EvenText writers
+  pub needed : NeedsEvidence writers
   pub memory : e ≡ evidence.Memory
 
 abbrev pub SpellsSystem : List ℕ → Type 0

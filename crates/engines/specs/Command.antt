@@ -1,8 +1,13 @@
 -- What a command has.
-use Rattle.std.specs.Prelude.{if◌then◌else◌, Some}
+use Rattle.std.specs.Prelude.{if◌then◌else◌, Some, None, true, false}
 use Rattle.engines.specs.declared.request.Check.{Check as TheCheck}
+use Rattle.engines.specs.declared.request.Wanted.{Wanted}
 use Rattle.engines.specs.Check.{Way, BySets, ByGame}
 
 -- `--plain` asks for sets of states, and else a rule of priorities and a board are given.
 abbrev pub way_of : TheCheck → Way
 way_of check = if check.plain then BySets else ByGame check.options.priorities (Some check.options.board)
+
+-- With sets of states there is the report alone.
+abbrev pub wanted_in : TheCheck → Wanted → Wanted
+wanted_in check wanted = if check.plain then record { game = false; evidence = false; witness = None } else wanted

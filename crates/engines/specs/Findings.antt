@@ -1,13 +1,28 @@
--- What a check by a game finds out.
-use Rattle.std.specs.Prelude.{◌≡◌, ℕ, ◌≤◌, List}
+-- What a check by a game finds out, and what it makes of that.
+use Rattle.std.specs.Prelude.{◌≡◌, ℕ, ◌≤◌, ◌⊎◌, ◌↔◌, List, Some, IfSome, IsTrue, option_map}
 use Rattle.std.specs.Arc.{arc_value}
+use Rattle.std.specs.Option.{is_some}
 use Rattle.lts.specs.System.{System}
+use Rattle.lts.specs.Numbered.{IsInside, system_with}
+use Rattle.lts.specs.declared.system.Transition.{Transition}
 use Rattle.formula.specs.Tree.{Formula}
 use Rattle.formula.specs.Closed.{closed_formula}
 use Rattle.normal.specs.declared.limits.TheConstants.{GREATEST_PRIORITY}
 use Rattle.normal.specs.declared.priorities.Priorities.{Priorities}
+use Rattle.normal.specs.Refused.{HasRefusalWith}
 use Rattle.game.specs.Game.{Game, greatest}
+use Rattle.game.specs.Arena.{place_in}
+use Rattle.game.specs.Wins.{OddWins, Wins}
 use Rattle.evidence.specs.Best.{IsEvenOf, IsOddOf}
+use Rattle.evidence.specs.Evidence.{IsGood, has}
+use Rattle.evidence.specs.View.{Piece}
+use Rattle.evidence.specs.declared.error.EvidenceError.TheVariants as evidence
+use Rattle.witness.specs.Witness.{IsWitness}
+use Rattle.engines.specs.declared.error.MuError.{MuError}
+use Rattle.engines.specs.declared.error.MuError.TheVariants as error
+use Rattle.engines.specs.declared.request.Wanted.{Wanted}
+use Rattle.engines.specs.declared.prepared.Prepared.{Prepared}
+use Rattle.engines.specs.declared.prepared.Shown.{Shown}
 use Rattle.engines.specs.declared.lifting.SolvedGame.{SolvedGame}
 use Rattle.engines.specs.declared.findings.Findings.{Findings}
 use Rattle.engines.specs.declared.findings.Posed.{Posed}
@@ -54,5 +69,40 @@ IsTextFound x = IsTextOf (way_in x) (system_of x) (formula_of x) x.marks.items
 
 -- evidence of all that each player wins
 pub record IsPairOf (g : Game) (pair : EvidencePair) : Type 0 where
+  pub even_game : pair.even.game ≡ g
+  pub even_good : IsGood g pair.even.evidence
+  pub even_exact : (v : ℕ) → IsTrue (has pair.even.evidence v) ↔ Wins g v
+  pub odd_game : pair.odd.game ≡ g
+  pub odd_good : IsGood g pair.odd.evidence
+  pub odd_exact : (v : ℕ) → IsTrue (has pair.odd.evidence v) ↔ OddWins g v
   pub even : IsEvenOf g pair.even.evidence
   pub odd : IsOddOf g pair.odd.evidence
+
+-- good evidence that has the initial state's vertex with the root node
+pub record IsWinning (x : Findings) (e : Piece) : Type 0 where
+  pub game : e.game ≡ arc_value x.solution.game
+  pub good : IsGood e.game e.evidence
+  pub root : (v : ℕ) → place_in e.game (system_of x).initial 0 ≡ Some v → IsTrue (has e.evidence v)
+
+-- the transitions of a witness
+pub record AreShown (x : Findings) (part : List Transition) : Type 0 where
+  pub inside : IsInside x.texts.value.system part
+  pub witness : IsWitness (system_of x) (formula_of x) (system_with x.texts.value.system part)
+
+-- Memory was wanting for a witness: that of the evidence, of the normal form or of the walk.
+abbrev pub IsUnshown : Findings → MuError → Type 0
+IsUnshown x error.Memory = Unit {0}
+IsUnshown x (error.Normal e) = HasRefusalWith x.solution.priorities (formula_of x) e
+IsUnshown x (error.Evidence e) = e ≡ evidence.Memory
+IsUnshown x e = ⊥
+
+-- The evidence and the witness that are wanted are made.
+pub record ArePrepared (x : Findings) (p : Prepared) : Type 0 where
+  pub pair : IfSome p.pair (IsPairOf (arc_value x.solution.game))
+  pub evidence : is_some p.pair ≡ p.wanted.evidence
+  pub shown : IfSome p.shown (λ shown. AreShown x shown.part.items)
+  pub form : option_map (λ (shown : Shown). shown.form) p.shown ≡ p.wanted.witness
+
+-- Memory was wanting for what is wanted.
+abbrev pub IsUnprepared : Findings → Wanted → MuError → Type 0
+IsUnprepared x wanted e = (IsTrue wanted.evidence × (e ≡ error.Evidence evidence.Memory)) ⊎ (IsTrue (is_some wanted.witness) × IsUnshown x e)

@@ -8,3 +8,4 @@ pub mod Status
 pub mod Command
 pub mod Roots
 pub mod Solver
+pub mod Notes

@@ -1,18 +1,24 @@
 -- The writers that a check is lent, and what it writes to them.
 use Rattle.std.proofs.Common.{inl, inr}
-use Rattle.std.specs.Prelude.{◌≡◌, ℕ, ◌⊎◌, List, [], ◌∷◌, Option, Some, None, Result, MatchResult}
+use Rattle.std.specs.Prelude.{◌≡◌, ℕ, ◌⊎◌, Bool, List, [], ◌∷◌, Option, Some, None, Result, MatchResult, if◌then◌else◌}
 use Rattle.std.specs.Borrow.{MutBor}
 use Rattle.std.specs.Io.KnownBytes.{Appends, Keeps}
 use Rattle.text.specs.Wrote.{WroteFront}
+use Rattle.engines.specs.declared.request.Wanted.{Wanted}
+use Rattle.engines.specs.declared.request.WitnessForm.{WitnessForm}
+use Rattle.engines.specs.declared.request.WitnessForm.TheVariants.{System, Drawing}
 use Rattle.engines.specs.declared.writers.EvidenceWriters.{EvidenceWriters}
 use Rattle.engines.specs.declared.writers.EvidenceWriters.TheVariants.{Neither, Both}
 
--- the texts that a check writes
+-- the texts that a check writes; `Unasked` is that of a writer from which none is asked for
 pub data Kind : Type 0 where
   GameText : Kind
   EvenText : Kind
   OddText : Kind
+  WitnessText : Kind
+  DrawingText : Kind
   ReportText : Kind
+  Unasked : Kind
 
 -- a writer that is lent for a text, and what is known of its bytes before and after
 pub record Lent : Type 0 where
@@ -27,6 +33,10 @@ lent_for kind old new = record { kind = kind; old = old; new = new }
 abbrev pub IsLentFor : Kind → List Lent → Type 0
 IsLentFor kind [] = ⊥
 IsLentFor kind (w ∷ ws) = (w.kind ≡ kind) ⊎ IsLentFor kind ws
+
+-- Evidence is needed for what is asked for.
+abbrev pub NeedsEvidence : List Lent → Type 0
+NeedsEvidence ws = IsLentFor EvenText ws ⊎ (IsLentFor WitnessText ws ⊎ IsLentFor DrawingText ws)
 
 -- Its whole text was written.
 abbrev pub IsWhole : (Kind → List ℕ → Type 0) → Lent → Type 0
@@ -62,19 +72,41 @@ Left W = Unit {0} ⊎ ((MutBor W × Unit {0}) ⊎ ⊥)
 abbrev pub LeftBoth : Type 0 → Type 0 → Type 0
 LeftBoth E O = Unit {0} ⊎ ((MutBor E × (MutBor O × Unit {0})) ⊎ ⊥)
 
+-- where no writer is lent: one from which nothing is asked, and of which nothing is known
+abbrev pub nobody : Lent
+nobody = lent_for Unasked None None
+
 -- the writer for the game's text, if it is lent
 abbrev pub game_writer : {G : Type 0} → (G → Option (List ℕ)) → Option (MutBor G) → Left G → List Lent
-game_writer contents None left = []
+game_writer contents None left = nobody ∷ []
 game_writer contents (Some game) (inl x) = lent_for GameText (contents game.now) None ∷ []
 game_writer contents (Some game) (inr (inl left)) = lent_for GameText (contents game.now) (contents left.0.now) ∷ []
 game_writer contents (Some game) (inr (inr x)) = absurd x
 
 -- those for the texts of evidence, if they are lent
 abbrev pub evidence_writers : {E O : Type 0} → (E → Option (List ℕ)) → (O → Option (List ℕ)) → EvidenceWriters E O → LeftBoth E O → List Lent
-evidence_writers evens odds Neither left = []
+evidence_writers evens odds Neither left = nobody ∷ nobody ∷ []
 evidence_writers evens odds (Both even odd) (inl x) = lent_for EvenText (evens even.now) None ∷ lent_for OddText (odds odd.now) None ∷ []
 evidence_writers evens odds (Both even odd) (inr (inl left)) = lent_for EvenText (evens even.now) (evens left.0.now) ∷ lent_for OddText (odds odd.now) (odds left.1.0.now) ∷ []
 evidence_writers evens odds (Both even odd) (inr (inr x)) = absurd x
 
 abbrev pub report_writer : (old new : Option (List ℕ)) → List Lent
 report_writer old new = lent_for ReportText old new ∷ []
+
+-- the kinds of text that are wanted
+abbrev pub kind_where : Bool → Kind → Kind
+kind_where wanted kind = if wanted then kind else Unasked
+
+abbrev pub witness_kind : Option WitnessForm → Kind
+witness_kind None = Unasked
+witness_kind (Some System) = WitnessText
+witness_kind (Some Drawing) = DrawingText
+
+-- the writers of all texts in their order, each for its text where that is wanted
+abbrev pub all_writers : Wanted → (old_game new_game old_even new_even old_odd new_odd old_witness new_witness old_report new_report : Option (List ℕ)) → List Lent
+all_writers wanted old_game new_game old_even new_even old_odd new_odd old_witness new_witness old_report new_report =
+    lent_for (kind_where wanted.game GameText) old_game new_game
+    ∷ (lent_for (kind_where wanted.evidence EvenText) old_even new_even
+    ∷ (lent_for (kind_where wanted.evidence OddText) old_odd new_odd
+    ∷ (lent_for (witness_kind wanted.witness) old_witness new_witness
+    ∷ (lent_for ReportText old_report new_report ∷ []))))

@@ -3,24 +3,55 @@
 ghost use Rattle.std.specs.Prelude.{◌≡◌, ◌∷◌, ◌++◌, [], ℕ, List, None, Some, IfErr, MatchResult};
 ghost use Rattle.formula.specs.Closed.{closed_formula};
 ghost use Rattle.engines.specs.Check.{BySets, ByGame, AreMarks, AreSpelled, Answers, Checks, HasNoEvidence, IsBeyond, IsErrorOf};
-ghost use Rattle.engines.specs.Command.{way_of};
-ghost use Rattle.engines.specs.Findings.{AreFindings, IsTextFound, formula_of, system_of, way_in};
-ghost use Rattle.engines.specs.Writers.{AreKept, AreWritten, EvenText, GameText, OddText, ReportText, evidence_writers, game_writer, lent_for, report_writer};
+ghost use Rattle.engines.specs.Command.{wanted_in, way_of};
+ghost use Rattle.engines.specs.Findings.{AreFindings, formula_of, system_of, way_in};
+ghost use Rattle.engines.specs.Writers.{all_writers, evidence_writers, game_writer, nobody, report_writer};
 
 use crate::error::MuError;
-use crate::findings::{Findings, evidence_pair, find_alone, find_with};
-use crate::outputs::{answer, put_all, put_evidence_first, put_game_first, put_report};
+use crate::findings::{Findings, find_alone, find_seen, find_with};
+use crate::outputs::{answer, put_wanted};
+use crate::prepared::prepare;
 use crate::report::report_text;
-use crate::request::{Check, Options};
-use crate::texts::{Texts, read_both};
-use crate::writers::EvidenceWriters;
+use crate::request::{Check, Options, Wanted};
+use crate::texts::{Texts, read_both_seen};
+use crate::watch::Watcher;
+use crate::writers::{EvidenceWriters, Nobody};
 use lts::{Memory, put};
 use meaning::plain::plain_states;
+use measures::observer::{Observer, Silent, Stage};
 use std::alloc::Global;
 use std::io::{Read, Write};
 use std::sync::Wait;
 use std::thread::Threads;
 use workers::gate::{Gate, NoGate};
+
+/// The report and no other text.
+const REPORT: Wanted = Wanted {
+    game: false,
+    evidence: false,
+    witness: None,
+};
+
+/// The game and the report.
+const GAME: Wanted = Wanted {
+    game: true,
+    evidence: false,
+    witness: None,
+};
+
+/// The evidence of both players and the report.
+const EVIDENCE: Wanted = Wanted {
+    game: false,
+    evidence: true,
+    witness: None,
+};
+
+/// All of these.
+const BOTH: Wanted = Wanted {
+    game: true,
+    evidence: true,
+    witness: None,
+};
 
 /// Checks a formula at each state of a system by sets of states, without a game, and reports. It answers whether the
 /// initial state satisfies the formula. The system is read first; nothing is written before all memory was taken.
@@ -36,9 +67,30 @@ pub fn check_plain<R: Read + Drop, S: Read + Drop, W: Write>(
     ensures checks { Checks BySets (R.remaining aut) (S.remaining formula) (report_writer (W.contents out.old) (W.contents out.new)) result }
     ensures plain { IfErr result (IsErrorOf BySets) }
 {
-    match read_both(alloc, aut, formula) {
+    check_plain_seen(alloc, aut, formula, out, &Silent)
+}
+
+/// The same, told to a watcher: what is read and evaluated.
+///
+/// # Errors
+/// Those of `check_plain`.
+pub fn check_plain_seen<R: Read + Drop, S: Read + Drop, W: Write, U: Watcher>(
+    alloc: Global,
+    aut: R,
+    formula: S,
+    out: &mut W,
+    watcher: &U,
+) -> Result<bool, MuError>
+    ensures checks { Checks BySets (R.remaining aut) (S.remaining formula) (report_writer (W.contents out.old) (W.contents out.new)) result }
+    ensures plain { IfErr result (IsErrorOf BySets) }
+{
+    match read_both_seen(alloc, aut, formula, watcher) {
         Ok(texts) => {
+            watcher.sees(Stage::Evaluating {
+                states: texts.system.states(),
+            });
             let marks = plain_marks(alloc, &texts);
+            watcher.sees(Stage::Writing);
             report(alloc, &texts, marks, out)
         }
         Err(error) => Err(error),
@@ -79,32 +131,46 @@ fn report<W: Write>(
     }
 }
 
-/// The check that a command asks for: by sets of states where it is plain, else by a game.
+/// The check that a command asks for: by sets of states where it is plain, and then it writes the report alone; else by a game, with
+/// what is wanted.
 ///
 /// # Errors
-/// Those of `check_plain`, or of `check`.
+/// Those of `check_plain`, or of `check_all`.
 pub fn check_asked<
     R: Read + Drop,
     S: Read + Drop,
     W: Write,
+    G: Write,
+    E: Write,
+    O: Write,
+    V: Write,
+    U: Watcher + Sync,
     H: Threads + Wait + Clone + Copy + Drop + Send + Sync,
 >(
     rt: &H,
     alloc: Global,
     request: &Check<'_>,
+    wanted: Wanted,
     aut: R,
     formula: S,
     out: &mut W,
+    game: &mut G,
+    even: &mut E,
+    odd: &mut O,
+    witness: &mut V,
+    watcher: &U,
 ) -> Result<bool, MuError>
-    ensures { Checks (way_of request.now) (R.remaining aut) (S.remaining formula) (report_writer (W.contents out.old) (W.contents out.new)) result }
+    ensures { Checks (way_of request.now) (R.remaining aut) (S.remaining formula)
+        (all_writers (wanted_in request.now wanted) (G.contents game.old) (G.contents game.new) (E.contents even.old) (E.contents even.new)
+        (O.contents odd.old) (O.contents odd.new) (V.contents witness.old) (V.contents witness.new) (W.contents out.old) (W.contents out.new)) result }
 {
     if request.plain {
-        return check_plain(alloc, aut, formula, out);
+        return check_plain_seen(alloc, aut, formula, out, watcher);
     }
-    let no_game: Option<&mut Vec<u8>> = None;
-    let no_evidence: EvidenceWriters<'_, Vec<u8>, Vec<u8>> = EvidenceWriters::Neither;
     let options = &request.options;
-    check(rt, alloc, aut, formula, options, out, no_game, no_evidence)
+    check_all(
+        rt, alloc, aut, formula, options, wanted, out, game, even, odd, witness, watcher,
+    )
 }
 
 /// Checks a formula at each state of a system by a parity game, with the priorities of the options' rule, which is solved by the
@@ -134,7 +200,7 @@ pub fn check<
     evidence: EvidenceWriters<'_, E, O>,
 ) -> Result<bool, MuError>
     ensures { Checks (ByGame options.now.priorities (Some options.now.board)) (R.remaining aut) (S.remaining formula)
-        (game_writer G.contents game.entry game.exit ++ (evidence_writers E.contents O.contents evidence.entry evidence.exit ++ report_writer (W.contents out.old) (W.contents out.new))) result }
+        (game_writer G.contents game.entry game.exit ++ (evidence_writers E.contents O.contents evidence.entry evidence.exit ++ (nobody ∷ report_writer (W.contents out.old) (W.contents out.new)))) result }
 {
     let found = match find_with(rt, alloc, aut, formula, options, &NoGate) {
         Ok(found) => found,
@@ -142,12 +208,39 @@ pub fn check<
     };
     match evidence {
         EvidenceWriters::Neither => match game {
-            None => answer(&found, put_report(&found, out)),
-            Some(game) => answer(&found, put_game_first(&found, game, out)),
+            None => answer_wanted(
+                alloc,
+                &found,
+                REPORT,
+                &mut Nobody,
+                &mut Nobody,
+                &mut Nobody,
+                &mut Nobody,
+                out,
+            ),
+            Some(game) => answer_wanted(
+                alloc,
+                &found,
+                GAME,
+                game,
+                &mut Nobody,
+                &mut Nobody,
+                &mut Nobody,
+                out,
+            ),
         },
         EvidenceWriters::Both(even, odd) => match game {
-            None => with_evidence(alloc, &found, even, odd, out),
-            Some(game) => with_all(alloc, &found, game, even, odd, out),
+            None => answer_wanted(
+                alloc,
+                &found,
+                EVIDENCE,
+                &mut Nobody,
+                even,
+                odd,
+                &mut Nobody,
+                out,
+            ),
+            Some(game) => answer_wanted(alloc, &found, BOTH, game, even, odd, &mut Nobody, out),
         },
     }
 }
@@ -177,7 +270,7 @@ pub fn check_gated<
     gate: &T,
 ) -> Result<bool, MuError>
     ensures { Checks (ByGame options.now.priorities (Some options.now.board)) (R.remaining aut) (S.remaining formula)
-        (game_writer G.contents game.entry game.exit ++ (evidence_writers E.contents O.contents evidence.entry evidence.exit ++ report_writer (W.contents out.old) (W.contents out.new))) result }
+        (game_writer G.contents game.entry game.exit ++ (evidence_writers E.contents O.contents evidence.entry evidence.exit ++ (nobody ∷ report_writer (W.contents out.old) (W.contents out.new)))) result }
 {
     let found = match find_with(rt, alloc, aut, formula, options, gate) {
         Ok(found) => found,
@@ -185,17 +278,87 @@ pub fn check_gated<
     };
     match evidence {
         EvidenceWriters::Neither => match game {
-            None => answer(&found, put_report(&found, out)),
-            Some(game) => answer(&found, put_game_first(&found, game, out)),
+            None => answer_wanted(
+                alloc,
+                &found,
+                REPORT,
+                &mut Nobody,
+                &mut Nobody,
+                &mut Nobody,
+                &mut Nobody,
+                out,
+            ),
+            Some(game) => answer_wanted(
+                alloc,
+                &found,
+                GAME,
+                game,
+                &mut Nobody,
+                &mut Nobody,
+                &mut Nobody,
+                out,
+            ),
         },
         EvidenceWriters::Both(even, odd) => match game {
-            None => with_evidence(alloc, &found, even, odd, out),
-            Some(game) => with_all(alloc, &found, game, even, odd, out),
+            None => answer_wanted(
+                alloc,
+                &found,
+                EVIDENCE,
+                &mut Nobody,
+                even,
+                odd,
+                &mut Nobody,
+                out,
+            ),
+            Some(game) => answer_wanted(alloc, &found, BOTH, game, even, odd, &mut Nobody, out),
         },
     }
 }
 
-/// The same on one thread and without a board, whatever the options ask for of workers, shards and board. It waits for nobody.
+/// The same, told to a watcher, with a writer for each text, to which it is written where it is wanted; nothing is written to the
+/// others. Of the witness it is proved that it is a part of the system, with the same states and the same initial state, which
+/// satisfies the formula in it exactly where it does in the system.
+///
+/// # Errors
+/// Those of `check`. E5 and N3 also for want of memory where a witness is made.
+pub fn check_all<
+    R: Read + Drop,
+    S: Read + Drop,
+    W: Write,
+    G: Write,
+    E: Write,
+    O: Write,
+    V: Write,
+    U: Watcher + Sync,
+    H: Threads + Wait + Clone + Copy + Drop + Send + Sync,
+>(
+    rt: &H,
+    alloc: Global,
+    aut: R,
+    formula: S,
+    options: &Options,
+    wanted: Wanted,
+    out: &mut W,
+    game: &mut G,
+    even: &mut E,
+    odd: &mut O,
+    witness: &mut V,
+    watcher: &U,
+) -> Result<bool, MuError>
+    ensures { Checks (ByGame options.now.priorities (Some options.now.board)) (R.remaining aut) (S.remaining formula)
+        (all_writers wanted (G.contents game.old) (G.contents game.new) (E.contents even.old) (E.contents even.new) (O.contents odd.old) (O.contents odd.new)
+        (V.contents witness.old) (V.contents witness.new) (W.contents out.old) (W.contents out.new)) result }
+{
+    match find_seen(rt, alloc, aut, formula, options, &NoGate, watcher) {
+        Ok(found) => {
+            watcher.sees(Stage::Writing);
+            answer_wanted(alloc, &found, wanted, game, even, odd, witness, out)
+        }
+        Err(error) => Err(error),
+    }
+}
+
+/// The same as `check` on one thread and without a board, whatever the options ask for of workers, shards and board. It waits for nobody.
 ///
 /// # Errors
 /// Those of the readers, of the normal form and of the game, unchanged; E5 for memory in evidence; U3 where a read of the
@@ -219,7 +382,7 @@ pub fn check_one<
     evidence: EvidenceWriters<'_, E, O>,
 ) -> Result<bool, MuError>
     ensures { Checks (ByGame options.now.priorities None) (R.remaining aut) (S.remaining formula)
-        (game_writer G.contents game.entry game.exit ++ (evidence_writers E.contents O.contents evidence.entry evidence.exit ++ report_writer (W.contents out.old) (W.contents out.new))) result }
+        (game_writer G.contents game.entry game.exit ++ (evidence_writers E.contents O.contents evidence.entry evidence.exit ++ (nobody ∷ report_writer (W.contents out.old) (W.contents out.new)))) result }
 {
     let found = match find_alone(rt, alloc, aut, formula, options.priorities) {
         Ok(found) => found,
@@ -227,52 +390,65 @@ pub fn check_one<
     };
     match evidence {
         EvidenceWriters::Neither => match game {
-            None => answer(&found, put_report(&found, out)),
-            Some(game) => answer(&found, put_game_first(&found, game, out)),
+            None => answer_wanted(
+                alloc,
+                &found,
+                REPORT,
+                &mut Nobody,
+                &mut Nobody,
+                &mut Nobody,
+                &mut Nobody,
+                out,
+            ),
+            Some(game) => answer_wanted(
+                alloc,
+                &found,
+                GAME,
+                game,
+                &mut Nobody,
+                &mut Nobody,
+                &mut Nobody,
+                out,
+            ),
         },
         EvidenceWriters::Both(even, odd) => match game {
-            None => with_evidence(alloc, &found, even, odd, out),
-            Some(game) => with_all(alloc, &found, game, even, odd, out),
+            None => answer_wanted(
+                alloc,
+                &found,
+                EVIDENCE,
+                &mut Nobody,
+                even,
+                odd,
+                &mut Nobody,
+                out,
+            ),
+            Some(game) => answer_wanted(alloc, &found, BOTH, game, even, odd, &mut Nobody, out),
         },
     }
 }
 
-/// Writes the evidence of both players and the report, and answers.
-fn with_evidence<E: Write, O: Write, W: Write>(
+/// Writes what is wanted, and answers.
+fn answer_wanted<G: Write, E: Write, O: Write, V: Write, W: Write>(
     alloc: Global,
     found: &Findings,
-    even: &mut E,
-    odd: &mut O,
-    out: &mut W,
-) -> Result<bool, MuError>
-    requires { AreFindings found.now }
-    ensures { (first second : List ℕ) → AreSpelled first second (system_of found.now) (formula_of found.now)
-        → Answers (way_in found.now) first second (lent_for EvenText (E.contents even.old) (E.contents even.new)
-        ∷ lent_for OddText (O.contents odd.old) (O.contents odd.new) ∷ lent_for ReportText (W.contents out.old) (W.contents out.new) ∷ []) result }
-{
-    match evidence_pair(alloc, found) {
-        Ok(pair) => answer(found, put_evidence_first(found, &pair, even, odd, out)),
-        Err(error) => Err(error),
-    }
-}
-
-/// Writes all texts, and answers.
-fn with_all<G: Write, E: Write, O: Write, W: Write>(
-    alloc: Global,
-    found: &Findings,
+    wanted: Wanted,
     game: &mut G,
     even: &mut E,
     odd: &mut O,
+    witness: &mut V,
     out: &mut W,
 ) -> Result<bool, MuError>
     requires { AreFindings found.now }
     ensures { (first second : List ℕ) → AreSpelled first second (system_of found.now) (formula_of found.now)
-        → Answers (way_in found.now) first second (lent_for GameText (G.contents game.old) (G.contents game.new)
-        ∷ lent_for EvenText (E.contents even.old) (E.contents even.new) ∷ lent_for OddText (O.contents odd.old) (O.contents odd.new)
-        ∷ lent_for ReportText (W.contents out.old) (W.contents out.new) ∷ []) result }
+        → Answers (way_in found.now) first second (all_writers wanted (G.contents game.old) (G.contents game.new)
+        (E.contents even.old) (E.contents even.new) (O.contents odd.old) (O.contents odd.new) (V.contents witness.old) (V.contents witness.new)
+        (W.contents out.old) (W.contents out.new)) result }
 {
-    match evidence_pair(alloc, found) {
-        Ok(pair) => answer(found, put_all(found, &pair, game, even, odd, out)),
+    match prepare(alloc, found, wanted) {
+        Ok(prepared) => {
+            let wrote = put_wanted(found, &prepared, game, even, odd, witness, out);
+            answer(found, wrote)
+        }
         Err(error) => Err(error),
     }
 }

@@ -14,13 +14,15 @@ use crate::error::MuError;
 use crate::lifting::{SolvedGame, state_marks};
 use crate::report::report_text;
 use crate::request::Options;
-use crate::solver::solve_with;
-use crate::texts::{Texts, read_both};
+use crate::solver::solve_seen;
+use crate::texts::{Texts, read_both_seen};
+use crate::watch::Watcher;
 use evidence::error::EvidenceError;
 use evidence::evidence::Evidence;
 use evidence::make::{even_evidence, odd_evidence};
 use game::graph::Game;
 use lts::Memory;
+use measures::observer::{Observer, Silent, Stage};
 use measures::settle::solve_one;
 use measures::table::Settled;
 use normal::priorities::Priorities;
@@ -74,7 +76,7 @@ pub fn find_alone<R: Read + Drop, S: Read + Drop, H: Threads + Sync>(
     ensures refusal { (first second : List ℕ) → R.remaining aut ≡ Some first → S.remaining formula ≡ Some second
         → (writers : List Lent) → AreKept writers → IfErr result (HasRefused (ByGame priorities None) first second writers) }
 {
-    match read_and_build(rt, alloc, aut, formula, priorities) {
+    match read_and_build(rt, alloc, aut, formula, priorities, &Silent) {
         Ok(posed) => find_by_one(alloc, posed),
         Err(error) => Err(error),
     }
@@ -104,19 +106,49 @@ pub fn find_with<
     ensures refusal { (first second : List ℕ) → R.remaining aut ≡ Some first → S.remaining formula ≡ Some second
         → (writers : List Lent) → AreKept writers → IfErr result (HasRefused (ByGame options.now.priorities (Some options.now.board)) first second writers) }
 {
-    match read_and_build(rt, alloc, aut, formula, options.priorities) {
-        Ok(posed) => find_by_workers(rt, alloc, posed, options, gate),
+    find_seen(rt, alloc, aut, formula, options, gate, &Silent)
+}
+
+/// The same, told to a watcher: what is read, built, searched and lifted.
+///
+/// # Errors
+/// Those of `find_with`.
+pub fn find_seen<
+    R: Read + Drop,
+    S: Read + Drop,
+    T: Gate + Sync,
+    O: Watcher + Sync,
+    H: Threads + Wait + Clone + Copy + Drop + Send + Sync,
+>(
+    rt: &H,
+    alloc: Global,
+    aut: R,
+    formula: S,
+    options: &Options,
+    gate: &T,
+    observer: &O,
+) -> Result<Findings, MuError>
+    ensures found { IfOk result AreFindings }
+    ensures way { IfOk result (λ found. way_in found ≡ ByGame options.now.priorities (Some options.now.board)) }
+    ensures spelled { (first second : List ℕ) → R.remaining aut ≡ Some first → S.remaining formula ≡ Some second
+        → IfOk result (λ found. AreSpelled first second (system_of found) (formula_of found)) }
+    ensures refusal { (first second : List ℕ) → R.remaining aut ≡ Some first → S.remaining formula ≡ Some second
+        → (writers : List Lent) → AreKept writers → IfErr result (HasRefused (ByGame options.now.priorities (Some options.now.board)) first second writers) }
+{
+    match read_and_build(rt, alloc, aut, formula, options.priorities, observer) {
+        Ok(posed) => find_by_workers(rt, alloc, posed, options, gate, observer),
         Err(error) => Err(error),
     }
 }
 
 /// Reads both texts, and makes their game.
-fn read_and_build<R: Read + Drop, S: Read + Drop, H: Threads + Sync>(
+fn read_and_build<R: Read + Drop, S: Read + Drop, O: Watcher, H: Threads + Sync>(
     rt: &H,
     alloc: Global,
     aut: R,
     formula: S,
     priorities: Priorities,
+    observer: &O,
 ) -> Result<Posed, MuError>
     ensures posed { IfOk result ArePosed }
     ensures rule { IfOk result (λ posed. posed.priorities ≡ priorities) }
@@ -125,9 +157,9 @@ fn read_and_build<R: Read + Drop, S: Read + Drop, H: Threads + Sync>(
     ensures refusal { (first second : List ℕ) → R.remaining aut ≡ Some first → S.remaining formula ≡ Some second
         → (board : Option BoardKind) (writers : List Lent) → AreKept writers → IfErr result (HasRefused (ByGame priorities board) first second writers) }
 {
-    match read_both(alloc, aut, formula) {
+    match read_both_seen(alloc, aut, formula, observer) {
         Ok(texts) => match Box::new(alloc, texts) {
-            Ok(texts) => build_of(rt, alloc, texts, priorities),
+            Ok(texts) => build_of(rt, alloc, texts, priorities, observer),
             Err(_) => Err(MuError::Memory),
         },
         Err(error) => Err(error),
@@ -135,17 +167,21 @@ fn read_and_build<R: Read + Drop, S: Read + Drop, H: Threads + Sync>(
 }
 
 /// Makes the game of these texts.
-fn build_of<H: Threads + Sync>(
+fn build_of<O: Observer, H: Threads + Sync>(
     rt: &H,
     alloc: Global,
     texts: Box<Texts>,
     priorities: Priorities,
+    observer: &O,
 ) -> Result<Posed, MuError>
     ensures posed { IfOk result ArePosed }
     ensures rule { IfOk result (λ posed. posed.priorities ≡ priorities) }
     ensures texts { IfOk result (λ posed. posed.texts.value ≡ texts.value) }
     ensures refusal { IfErr result (IsBeyond (ByGame priorities None) texts.value.system.system (closed_formula texts.value.formula)) }
 {
+    observer.sees(Stage::Building {
+        states: texts.system.states(),
+    });
     match game_of(rt, alloc, &texts.system, &texts.formula, priorities) {
         Ok(game) => match Arc::new(alloc, game) {
             Ok(game) => Ok(Posed {
@@ -174,12 +210,17 @@ fn find_by_one(alloc: Global, posed: Posed) -> Result<Findings, MuError>
 }
 
 /// What is found out of these texts by workers.
-fn find_by_workers<T: Gate + Sync, H: Threads + Wait + Clone + Copy + Drop + Send + Sync>(
+fn find_by_workers<
+    T: Gate + Sync,
+    O: Observer + Sync,
+    H: Threads + Wait + Clone + Copy + Drop + Send + Sync,
+>(
     rt: &H,
     alloc: Global,
     posed: Posed,
     options: &Options,
     gate: &T,
+    observer: &O,
 ) -> Result<Findings, MuError>
     requires { ArePosed posed }
     ensures found { IfOk result AreFindings }
@@ -187,7 +228,7 @@ fn find_by_workers<T: Gate + Sync, H: Threads + Wait + Clone + Copy + Drop + Sen
     ensures texts { IfOk result (λ found. found.texts.value ≡ posed.texts.value) }
     ensures refusal { IfErr result (IsUnsolved (Some options.now.board) (arc_value posed.game)) }
 {
-    match solve_with(rt, alloc, &posed.game, options, gate) {
+    match solve_seen(rt, alloc, &posed.game, options, gate, observer) {
         Ok(settled) => find_solved(alloc, posed, Some(options.board), settled),
         Err(error) => Err(error),
     }

@@ -1,74 +1,108 @@
-// The texts of a check, written in their order: the game, Even's evidence, Odd's, the report.
+// The texts of a check, written in their order: the game, Even's evidence, Odd's, the witness, the report.
 
-ghost use Rattle.std.specs.Prelude.{◌≡◌, ◌∷◌, [], MatchResult, Ok, Err, slice_index_or, false};
-ghost use Rattle.std.specs.Arc.{arc_value};
-ghost use Rattle.engines.specs.Findings.{AreFindings, IsPairOf, IsTextFound};
-ghost use Rattle.engines.specs.Writers.{AreWritten, EvenText, GameText, OddText, ReportText, lent_for};
+ghost use Rattle.std.specs.Prelude.{◌≡◌, ◌∷◌, [], Some, MatchResult, Ok, Err, slice_index_or, false};
+ghost use Rattle.engines.specs.Findings.{AreFindings, ArePrepared, AreShown, IsTextFound};
+ghost use Rattle.engines.specs.Writers.{AreWritten, EvenText, OddText, all_writers, kind_where, lent_for, report_writer, witness_kind};
 
 use crate::error::MuError;
-use crate::findings::{EvidencePair, Findings};
+use crate::findings::Findings;
+use crate::prepared::{Prepared, Shown, initial_mark};
+use crate::request::WitnessForm;
 use evidence::writer::write_evidence;
+use lts::writer::write_part;
 use lts::{WriteFault, put};
 use pgsolver::writer::write_game;
 use std::io::Write;
+use witness::drawing::write_drawing;
+
+/// Writes the texts that are wanted, and then the report.
+pub fn put_wanted<G: Write, E: Write, O: Write, V: Write, W: Write>(
+    found: &Findings,
+    prepared: &Prepared,
+    game: &mut G,
+    even: &mut E,
+    odd: &mut O,
+    witness: &mut V,
+    out: &mut W,
+) -> Result<(), WriteFault>
+    requires found { AreFindings found.now }
+    requires prepared { ArePrepared found.now prepared.now }
+    ensures { AreWritten (IsTextFound found.now) (all_writers prepared.now.wanted (G.contents game.old) (G.contents game.new)
+        (E.contents even.old) (E.contents even.new) (O.contents odd.old) (O.contents odd.new) (V.contents witness.old) (V.contents witness.new)
+        (W.contents out.old) (W.contents out.new)) result }
+{
+    if prepared.wanted.game {
+        write_game(&found.solution.game, game)?;
+    }
+    put_after_game(found, prepared, even, odd, witness, out)
+}
+
+/// Writes the texts that are wanted from the evidence on, and the report.
+fn put_after_game<E: Write, O: Write, V: Write, W: Write>(
+    found: &Findings,
+    prepared: &Prepared,
+    even: &mut E,
+    odd: &mut O,
+    witness: &mut V,
+    out: &mut W,
+) -> Result<(), WriteFault>
+    requires found { AreFindings found.now }
+    requires prepared { ArePrepared found.now prepared.now }
+    ensures { AreWritten (IsTextFound found.now) (lent_for (kind_where prepared.now.wanted.evidence EvenText) (E.contents even.old) (E.contents even.new)
+        ∷ (lent_for (kind_where prepared.now.wanted.evidence OddText) (O.contents odd.old) (O.contents odd.new)
+        ∷ (lent_for (witness_kind prepared.now.wanted.witness) (V.contents witness.old) (V.contents witness.new)
+        ∷ report_writer (W.contents out.old) (W.contents out.new)))) result }
+{
+    match &prepared.pair {
+        Some(pair) => {
+            write_evidence(&pair.even, even)?;
+            write_evidence(&pair.odd, odd)?;
+            put_after_evidence(found, prepared, witness, out)
+        }
+        None => put_after_evidence(found, prepared, witness, out),
+    }
+}
+
+/// Writes the witness, if it is wanted, and the report.
+fn put_after_evidence<V: Write, W: Write>(
+    found: &Findings,
+    prepared: &Prepared,
+    witness: &mut V,
+    out: &mut W,
+) -> Result<(), WriteFault>
+    requires found { AreFindings found.now }
+    requires prepared { ArePrepared found.now prepared.now }
+    ensures { AreWritten (IsTextFound found.now) (lent_for (witness_kind prepared.now.wanted.witness) (V.contents witness.old) (V.contents witness.new)
+        ∷ report_writer (W.contents out.old) (W.contents out.new)) result }
+{
+    match &prepared.shown {
+        Some(shown) => {
+            put_witness(found, shown, witness)?;
+            put_report(found, out)
+        }
+        None => put_report(found, out),
+    }
+}
 
 /// Writes the report.
-pub fn put_report<W: Write>(found: &Findings, out: &mut W) -> Result<(), WriteFault>
+fn put_report<W: Write>(found: &Findings, out: &mut W) -> Result<(), WriteFault>
     requires { AreFindings found.now }
-    ensures { AreWritten (IsTextFound found.now) (lent_for ReportText (W.contents out.old) (W.contents out.new) ∷ []) result }
+    ensures { AreWritten (IsTextFound found.now) (report_writer (W.contents out.old) (W.contents out.new)) result }
 {
     put(out, &found.report)
 }
 
-/// Writes the game, and then the report.
-pub fn put_game_first<G: Write, W: Write>(
-    found: &Findings,
-    game: &mut G,
-    out: &mut W,
-) -> Result<(), WriteFault>
-    requires { AreFindings found.now }
-    ensures { AreWritten (IsTextFound found.now) (lent_for GameText (G.contents game.old) (G.contents game.new)
-        ∷ lent_for ReportText (W.contents out.old) (W.contents out.new) ∷ []) result }
-{
-    write_game(&found.solution.game, game)?;
-    put_report(found, out)
-}
-
-/// Writes the evidence of both players, and then the report.
-pub fn put_evidence_first<E: Write, O: Write, W: Write>(
-    found: &Findings,
-    pair: &EvidencePair,
-    even: &mut E,
-    odd: &mut O,
-    out: &mut W,
-) -> Result<(), WriteFault>
+/// Writes the witness in its form.
+fn put_witness<V: Write>(found: &Findings, shown: &Shown, out: &mut V) -> Result<(), WriteFault>
     requires found { AreFindings found.now }
-    requires pair { IsPairOf (arc_value found.now.solution.game) pair.now }
-    ensures { AreWritten (IsTextFound found.now) (lent_for EvenText (E.contents even.old) (E.contents even.new)
-        ∷ lent_for OddText (O.contents odd.old) (O.contents odd.new) ∷ lent_for ReportText (W.contents out.old) (W.contents out.new) ∷ []) result }
+    requires shown { AreShown found.now shown.now.part.items }
+    ensures { AreWritten (IsTextFound found.now) (lent_for (witness_kind (Some shown.now.form)) (V.contents out.old) (V.contents out.new) ∷ []) result }
 {
-    write_evidence(&pair.even, even)?;
-    write_evidence(&pair.odd, odd)?;
-    put_report(found, out)
-}
-
-/// Writes the game, the evidence of both players, and then the report.
-pub fn put_all<G: Write, E: Write, O: Write, W: Write>(
-    found: &Findings,
-    pair: &EvidencePair,
-    game: &mut G,
-    even: &mut E,
-    odd: &mut O,
-    out: &mut W,
-) -> Result<(), WriteFault>
-    requires found { AreFindings found.now }
-    requires pair { IsPairOf (arc_value found.now.solution.game) pair.now }
-    ensures { AreWritten (IsTextFound found.now) (lent_for GameText (G.contents game.old) (G.contents game.new)
-        ∷ lent_for EvenText (E.contents even.old) (E.contents even.new) ∷ lent_for OddText (O.contents odd.old) (O.contents odd.new)
-        ∷ lent_for ReportText (W.contents out.old) (W.contents out.new) ∷ []) result }
-{
-    write_game(&found.solution.game, game)?;
-    put_evidence_first(found, pair, even, odd, out)
+    let system = &found.texts.system;
+    match shown.form {
+        WitnessForm::System => write_part(system, &shown.part, out),
+        WitnessForm::Drawing => write_drawing(system, &shown.part, out),
+    }
 }
 
 /// The initial state's mark, where all was written.
@@ -77,9 +111,8 @@ pub fn answer(found: &Findings, wrote: Result<(), WriteFault>) -> Result<bool, M
     ensures { MatchResult wrote (λ _. result ≡ Ok (slice_index_or found.now.marks.items found.now.texts.value.system.system.initial false))
         (λ fault. result ≡ Err (MuError.Write fault)) }
 {
-    let initial = found.texts.system.initial() as usize;
     match wrote {
-        Ok(()) => Ok(found.marks[initial]),
+        Ok(()) => Ok(initial_mark(found)),
         Err(fault) => Err(MuError::Write(fault)),
     }
 }

@@ -27,3 +27,21 @@ pub struct Check<'a> {
     /// By sets of states, without a game.
     pub plain: bool,
 }
+
+/// In which form a witness is written.
+#[derive(Clone, Copy)]
+pub enum WitnessForm {
+    /// As a system in the Aldebaran format.
+    System,
+    /// As a directed graph in the format of Graphviz.
+    Drawing,
+}
+
+/// Which texts a check by a game writes before its report.
+#[derive(Clone, Copy)]
+pub struct Wanted {
+    pub game: bool,
+    /// That of both players.
+    pub evidence: bool,
+    pub witness: Option<WitnessForm>,
+}

@@ -7,13 +7,14 @@ ghost use Rattle.engines.specs.Solver.{IsFitting, IsUnsolved};
 use crate::error::MuError;
 use crate::request::Options;
 use game::graph::Game;
+use measures::observer::{Observer, Silent};
 use measures::table::Settled;
 use std::alloc::Global;
 use std::sync::{Arc, Wait};
 use std::thread::Threads;
 use workers::error::TeamError;
 use workers::gate::Gate;
-use workers::team::{Team, solve_by};
+use workers::team::{Team, solve_by_seen};
 
 /// The least progress table of a game, by the workers over the board that the options ask for. The gate is told of each turn.
 ///
@@ -30,12 +31,35 @@ pub fn solve_with<G: Gate + Sync, R: Threads + Wait + Clone + Copy + Drop + Send
     ensures board { IfOk result (λ _. IsFitting (Some options.now.board) (arc_value game.now)) }
     ensures refusal { IfErr result (IsUnsolved (Some options.now.board) (arc_value game.now)) }
 {
+    solve_seen(rt, alloc, game, options, gate, &Silent)
+}
+
+/// The same, told to an observer: that the search begins, and lifts now and then.
+///
+/// # Errors
+/// Those of `solve_with`.
+pub fn solve_seen<
+    G: Gate + Sync,
+    O: Observer + Sync,
+    R: Threads + Wait + Clone + Copy + Drop + Send + Sync,
+>(
+    rt: &R,
+    alloc: Global,
+    game: &Arc<Game, Global>,
+    options: &Options,
+    gate: &G,
+    observer: &O,
+) -> Result<Settled, MuError>
+    ensures game { IfOk result (λ s. s.game ≡ arc_value game.now) }
+    ensures board { IfOk result (λ _. IsFitting (Some options.now.board) (arc_value game.now)) }
+    ensures refusal { IfErr result (IsUnsolved (Some options.now.board) (arc_value game.now)) }
+{
     let team = Team {
         workers: options.workers,
         shards: options.shards,
         board: options.board,
     };
-    match solve_by(rt, alloc, game, &team, gate) {
+    match solve_by_seen(rt, alloc, game, &team, gate, observer) {
         Ok(settled) => Ok(settled),
         Err(TeamError::Board(error)) => Err(MuError::Table(error)),
         Err(TeamError::Solve(error)) => Err(MuError::Solve(error)),

@@ -7,11 +7,13 @@ ghost use Rattle.engines.specs.Check.{Way, BySets, AreSpelled, HasRefused, IsErr
 ghost use Rattle.engines.specs.Writers.{AreKept, Lent};
 
 use crate::error::MuError;
+use crate::watch::Watcher;
 use formula::closed::Closed;
 use formula::limits::LONGEST_TEXT;
 use formula::parse;
 use lts::reader::read_aut;
 use lts::system::Lts;
+use measures::observer::{Silent, Stage};
 use std::alloc::Global;
 use std::io::{ErrorKind, Read};
 
@@ -40,8 +42,30 @@ pub fn read_both<R: Read + Drop, S: Read + Drop>(
         → (way : Way) (writers : List Lent) → AreKept writers → IfErr result (HasRefused way first second writers) }
     ensures plain { IfErr result (IsErrorOf BySets) }
 {
+    read_both_seen(alloc, aut, formula, &Silent)
+}
+
+/// The same, told to a watcher: that the system is read, that the formula is, and what both are.
+///
+/// # Errors
+/// Those of `read_both`.
+pub fn read_both_seen<R: Read + Drop, S: Read + Drop, O: Watcher>(
+    alloc: Global,
+    aut: R,
+    formula: S,
+    observer: &O,
+) -> Result<Texts, MuError>
+    ensures spelled { (first second : List ℕ) → R.remaining aut ≡ Some first → S.remaining formula ≡ Some second
+        → IfOk result (λ texts. AreSpelled first second texts.system.system (closed_formula texts.formula)) }
+    ensures refusal { (first second : List ℕ) → R.remaining aut ≡ Some first → S.remaining formula ≡ Some second
+        → (way : Way) (writers : List Lent) → AreKept writers → IfErr result (HasRefused way first second writers) }
+    ensures plain { IfErr result (IsErrorOf BySets) }
+{
+    observer.sees(Stage::ReadingSystem);
     let system = read_aut(alloc, aut).map_err(MuError::System)?;
+    observer.sees(Stage::ReadingFormula);
     let formula = read_formula(alloc, formula)?;
+    observer.has_read(&system, &formula);
     Ok(Texts { system, formula })
 }
 

@@ -1,5 +1,5 @@
 use Rattle.std.proofs.Common.{refl}
-use Rattle.engines.proofs.Checks.{by_way, found_answer}
+use Rattle.engines.proofs.Checks.{by_way}
 use Rattle.engines.proofs.Lendings.{kept_all}
 use Rattle.engines.specs.Findings.{way_in}
 use Rattle.engines.proofs.engine.check_one.Goals as goal
@@ -12,23 +12,19 @@ returns-in-Err g c = λ first second known also.
 pub returns-in-None : goal.returns-in-None
 returns-in-None g c =
     rw (c.in-Neither.is, c.in-None.is) (λ first second known also.
-    found_answer c.in-Ok.found _ first second _ c.put_report.result c.answer.result c.in-Ok.ensures.way c.in-Ok.ensures.found (c.in-Ok.ensures.spelled first second known also)
-    c.put_report.ensures c.answer.ensures)
+    by_way (way_in c.in-Ok.found) _ first second _ c.answer_wanted.result c.in-Ok.ensures.way (c.answer_wanted.ensures first second (c.in-Ok.ensures.spelled first second known also)))
 
 pub returns-in-Neither : goal.returns-in-Neither
 returns-in-Neither g c =
     rw (c.in-Neither.is, c.in-Some.is) (λ first second known also.
-    found_answer c.in-Ok.found _ first second _ c.put_game_first.result c.answer-in-Some.result c.in-Ok.ensures.way c.in-Ok.ensures.found (c.in-Ok.ensures.spelled first second known also)
-    c.put_game_first.ensures c.answer-in-Some.ensures)
+    by_way (way_in c.in-Ok.found) _ first second _ c.answer_wanted-in-Some.result c.in-Ok.ensures.way (c.answer_wanted-in-Some.ensures first second (c.in-Ok.ensures.spelled first second known also)))
 
 pub returns-in-None-game : goal.returns-in-None-game
 returns-in-None-game g c =
     rw (c.in-Both.is, c.in-None-game.is) (λ first second known also.
-    by_way (way_in c.in-Ok.found) _ first second _ c.with_evidence.result c.in-Ok.ensures.way
-    (c.with_evidence.ensures first second (c.in-Ok.ensures.spelled first second known also)))
+    by_way (way_in c.in-Ok.found) _ first second _ c.answer_wanted-in-None-game.result c.in-Ok.ensures.way (c.answer_wanted-in-None-game.ensures first second (c.in-Ok.ensures.spelled first second known also)))
 
 pub returns : goal.returns
 returns g c =
     rw (c.in-Both.is, c.in-Some-game.is) (λ first second known also.
-    by_way (way_in c.in-Ok.found) _ first second _ c.with_all.result c.in-Ok.ensures.way
-    (c.with_all.ensures first second (c.in-Ok.ensures.spelled first second known also)))
+    by_way (way_in c.in-Ok.found) _ first second _ c.answer_wanted-in-Some-game.result c.in-Ok.ensures.way (c.answer_wanted-in-Some-game.ensures first second (c.in-Ok.ensures.spelled first second known also)))

@@ -1,7 +1,7 @@
 use Rattle.std.proofs.KnownBytes.{Keeps-refl}
 use Rattle.engines.specs.Check.{BySets}
 use Rattle.engines.specs.Writers.{report_writer}
-use Rattle.engines.proofs.engine.check_plain.Goals as goal
+use Rattle.engines.proofs.engine.check_plain_seen.Goals as goal
 
 pub returns-in-Ok-clause-checks : goal.returns-in-Ok-clause-checks
 returns-in-Ok-clause-checks g c = λ first second known also. c.report.ensures.answers first second (c.in-Ok.ensures.spelled first second known also)

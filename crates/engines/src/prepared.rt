@@ -1,0 +1,174 @@
+// What a check makes of its findings before it begins to write.
+
+ghost use Rattle.std.specs.Prelude.{◌≡◌, ◌<◌, IfOk, IfErr, IfSome, IsTrue, option_map, slice_index_or, false};
+ghost use Rattle.std.specs.Arc.{arc_value};
+ghost use Rattle.std.specs.Option.{is_some};
+ghost use Rattle.engines.specs.declared.prepared.Shown.{Shown};
+ghost use Rattle.engines.specs.Findings.{AreFindings, ArePrepared, AreShown, IsPairOf, IsUnprepared, IsUnshown, IsWinning};
+
+use crate::error::MuError;
+use crate::findings::{EvidencePair, Findings, evidence_pair};
+use crate::request::{Wanted, WitnessForm};
+use evidence::error::EvidenceError;
+use evidence::evidence::Evidence;
+use evidence::make::{even_evidence, odd_evidence};
+use laws::chosen_is_admissible;
+use laws::games::one_wins;
+use lts::{Memory, Transition};
+use normal::make::normal_with;
+use std::alloc::Global;
+use witness::part::witness;
+
+/// A witness, and the form in which it is written.
+#[derive(Drop)]
+pub struct Shown {
+    pub form: WitnessForm,
+    pub part: Vec<Transition>,
+}
+
+/// Which texts are wanted, and what is written of those that aren't found out by solving.
+#[derive(Drop)]
+pub struct Prepared {
+    pub wanted: Wanted,
+    pub pair: Option<EvidencePair>,
+    pub shown: Option<Shown>,
+}
+
+/// Makes what is wanted.
+///
+/// # Errors
+/// E5 and U4 for want of memory, N3 for that of the normal form, by which a witness is found.
+pub fn prepare(alloc: Global, found: &Findings, wanted: Wanted) -> Result<Prepared, MuError>
+    requires { AreFindings found.now }
+    ensures prepared { IfOk result (ArePrepared found.now) }
+    ensures wanted { IfOk result (λ prepared. prepared.wanted ≡ wanted) }
+    ensures refusal { IfErr result (IsUnprepared found.now wanted) }
+{
+    let pair = pair_where(alloc, found, wanted.evidence)?;
+    let shown = shown_where(alloc, found, wanted.witness, &pair)?;
+    Ok(Prepared {
+        wanted,
+        pair,
+        shown,
+    })
+}
+
+/// The evidence of both players, if it is wanted.
+fn pair_where(
+    alloc: Global,
+    found: &Findings,
+    wanted: bool,
+) -> Result<Option<EvidencePair>, MuError>
+    requires { AreFindings found.now }
+    ensures pair { IfOk result (λ pair. IfSome pair (IsPairOf (arc_value found.now.solution.game))) }
+    ensures wanted { IfOk result (λ pair. is_some pair ≡ wanted) }
+    ensures refusal { IfErr result (λ e. IsTrue wanted × (e ≡ MuError.Evidence EvidenceError.Memory)) }
+{
+    if !wanted {
+        return Ok(None);
+    }
+    match evidence_pair(alloc, found) {
+        Ok(pair) => Ok(Some(pair)),
+        Err(error) => Err(error),
+    }
+}
+
+/// A witness, if it is wanted, by what there is of evidence.
+fn shown_where(
+    alloc: Global,
+    found: &Findings,
+    form: Option<WitnessForm>,
+    pair: &Option<EvidencePair>,
+) -> Result<Option<Shown>, MuError>
+    requires found { AreFindings found.now }
+    requires pair { IfSome pair.now (IsPairOf (arc_value found.now.solution.game)) }
+    ensures shown { IfOk result (λ shown. IfSome shown (λ x. AreShown found.now x.part.items)) }
+    ensures form { IfOk result (λ shown. option_map (λ (x : Shown). x.form) shown ≡ form) }
+    ensures refusal { IfErr result (λ e. IsTrue (is_some form) × IsUnshown found.now e) }
+{
+    let Some(form) = form else {
+        return Ok(None);
+    };
+    let part = match pair {
+        Some(pair) => part_in(alloc, found, pair)?,
+        None => part_alone(alloc, found)?,
+    };
+    Ok(Some(Shown { form, part }))
+}
+
+/// The transitions that the answer rests on, by the evidence of both players.
+fn part_in(alloc: Global, found: &Findings, pair: &EvidencePair) -> Result<Vec<Transition>, MuError>
+    requires found { AreFindings found.now }
+    requires pair { IsPairOf (arc_value found.now.solution.game) pair.now }
+    ensures part { IfOk result (λ part. AreShown found.now part.items) }
+    ensures refusal { IfErr result (IsUnshown found.now) }
+{
+    one_wins();
+    found.solution.game.known();
+    if initial_mark(found) {
+        part_by(alloc, found, &pair.even)
+    } else {
+        part_by(alloc, found, &pair.odd)
+    }
+}
+
+/// The same where there is no evidence yet: that of the player who wins is made.
+fn part_alone(alloc: Global, found: &Findings) -> Result<Vec<Transition>, MuError>
+    requires { AreFindings found.now }
+    ensures part { IfOk result (λ part. AreShown found.now part.items) }
+    ensures refusal { IfErr result (IsUnshown found.now) }
+{
+    match winner_evidence(alloc, found) {
+        Ok(evidence) => part_by(alloc, found, &evidence),
+        Err(error) => Err(MuError::Evidence(error)),
+    }
+}
+
+/// The evidence of the player who wins the initial state's vertex with the root node.
+fn winner_evidence(alloc: Global, found: &Findings) -> Result<Evidence, EvidenceError>
+    requires { AreFindings found.now }
+    ensures winning { IfOk result (IsWinning found.now) }
+    ensures memory { IfErr result (λ e. e ≡ EvidenceError.Memory) }
+{
+    one_wins();
+    let game = &found.solution.game;
+    game.known();
+    if initial_mark(found) {
+        even_evidence(alloc, game, &found.solution.settled)
+    } else {
+        odd_evidence(alloc, game)
+    }
+}
+
+/// The transitions that the answer rests on, by evidence that has the initial state's vertex with the root node.
+fn part_by(alloc: Global, found: &Findings, evidence: &Evidence) -> Result<Vec<Transition>, MuError>
+    requires found { AreFindings found.now }
+    requires winning { IsWinning found.now evidence.now }
+    ensures part { IfOk result (λ part. AreShown found.now part.items) }
+    ensures refusal { IfErr result (IsUnshown found.now) }
+{
+    chosen_is_admissible();
+    let texts = &found.texts;
+    match normal_with(alloc, &texts.formula, found.solution.priorities) {
+        Ok(normal) => match witness(
+            alloc,
+            &texts.system,
+            &normal,
+            &found.solution.game,
+            evidence,
+        ) {
+            Ok(part) => Ok(part),
+            Err(Memory) => Err(MuError::Memory),
+        },
+        Err(error) => Err(MuError::Normal(error)),
+    }
+}
+
+/// Whether the initial state satisfies the formula.
+pub fn initial_mark(found: &Findings) -> bool
+    requires { AreFindings found.now }
+    ensures inside { found.now.texts.value.system.system.initial < found.now.texts.value.system.system.states }
+    ensures mark { result ≡ slice_index_or found.now.marks.items found.now.texts.value.system.system.initial false }
+{
+    found.marks[found.texts.system.initial() as usize]
+}
