@@ -11,7 +11,10 @@ AreWithin options = (1 ≤ options.workers) × (options.workers ≤ 64) × (1 �
 
 -- every file that is to be written is named
 abbrev pub AreNamed : Outputs → Type 0
-AreNamed outputs = IfSome outputs.game (λ name. name.now ≢ []) × IfSome outputs.evidence (λ name. name.now ≢ [])
+AreNamed outputs =
+    IfSome outputs.game (λ name. name.now ≢ [])
+    × IfSome outputs.evidence (λ name. name.now ≢ [])
+    × IfSome outputs.witness (λ name. name.now ≢ [])
 
 -- Every file that the command needs is named, and its numbers are within the limits.
 abbrev pub IsComplete : Command → Type 0

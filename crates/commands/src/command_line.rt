@@ -4,8 +4,8 @@ ghost use Rattle.std.specs.Prelude.{◌≤◌, ◌≢◌, [], IfOk, IfSome, leng
 ghost use Rattle.commands.specs.Command.{AreNamed, AreWithin, IsComplete};
 
 use crate::parser::{
-    BOARD, EVIDENCE, EVIDENCE_FILES, FORMULA, GAME, GAME_FILE, OTHER, PLAIN, PRIORITIES, SCHEDULE,
-    SHARDS, SYSTEM, WORKERS, parser,
+    BOARD, EVIDENCE, EVIDENCE_FILES, FORMULA, GAME, GAME_FILE, OTHER, PLAIN, PRIORITIES, QUIET,
+    SCHEDULE, SHARDS, SYSTEM, WITNESS_FILE, WORKERS, parser,
 };
 use crate::request::{Command, Normal, Outputs, Replay, Solve, Verify};
 use clap::error::ErrorKind;
@@ -18,7 +18,7 @@ use std::alloc::Global;
 /// The command that the words ask for; the first word is the program's own name.
 ///
 /// # Errors
-/// U1 where the words are no command, with what is wrong with them or the help that was asked for; U4.
+/// U1 where the words are no command, with what is wrong with them, or the help or version that was asked for; U4.
 pub fn command<'a>(alloc: Global, words: &'a [String]) -> Result<Command<'a>, MuError>
     ensures complete { IfOk result IsComplete }
 {
@@ -99,6 +99,8 @@ fn check_of<'a>(matches: &ArgMatches<'a>) -> Result<Command<'a>, ArgumentError>
     let outputs = Outputs {
         game: optional_name(matches, GAME_FILE)?,
         evidence: optional_name(matches, EVIDENCE_FILES)?,
+        witness: optional_name(matches, WITNESS_FILE)?,
+        report: !matches.get_flag(QUIET),
     };
     Ok(Command::Check(check, outputs))
 }

@@ -8,4 +8,5 @@ pub mod replay_text;
 pub mod request;
 pub mod solve_text;
 pub mod verify_text;
+pub mod version;
 mod winners;

@@ -1,5 +1,6 @@
 // The command lines that are read, as `clap` is told of them.
 
+use crate::version::VERSION;
 use clap::builder::ValueParser;
 use clap::{Arg, ArgAction, Command as Parser};
 use std::alloc::{AllocError, Global};
@@ -30,12 +31,25 @@ pub(crate) const GAME_FILE: &str = "game";
 
 pub(crate) const EVIDENCE_FILES: &str = "evidence";
 
+pub(crate) const WITNESS_FILE: &str = "witness";
+
+pub(crate) const QUIET: &str = "quiet";
+
 static BOARDS: [&str; 3] = ["auto", "locked", "packed"];
 
 static RULES: [&str; 2] = ["nested", "dependent"];
 
 const ABOUT: &str =
     "Checks formulas of the modal mu-calculus at the states of labelled transition systems";
+
+const AFTER: &str = "mucheck COMMAND --help says more of a command.\n\n\
+A refusal is one line on standard error, mucheck: CODE, with its place. docs/CODES.md says\n\
+what each code means and how to mend it. The most frequent:\n\
+\x20 A1      mostly both files in the wrong order, or a byte order mark\n\
+\x20 A2      mostly a label without quotes\n\
+\x20 F1, F2  in a modality mostly a label with parameters, which wants quotes: <\"send(1)\">true\n\
+\x20 F8      each sign nests, in a row too: put parentheses around halves of a long row\n\
+\x20 B1      the game is too large: check --plain has no such limit";
 
 const CHECK_ABOUT: &str = "Reports for each state of a system whether it satisfies a formula";
 
@@ -101,6 +115,12 @@ const GAME_FILE_HELP: &str = "Write the parity game to this file, in the format 
 const EVIDENCE_FILES_HELP: &str =
     "Write the evidence of both players to PATH.even and PATH.odd, which verify checks";
 
+const WITNESS_FILE_HELP: &str =
+    "Write the transitions that the answer for the initial state rests on to FILE, as a system (.aut), \
+or as a picture where FILE ends in .dot (a counterexample where the answer is no)";
+
+const QUIET_HELP: &str = "Write no report: the status alone tells";
+
 const WORKERS_HELP: &str = "How many workers lift at once: 1 is the default";
 
 const SEATS_HELP: &str = "How many workers the schedule has: 2 is the default";
@@ -115,6 +135,8 @@ pub(crate) fn parser<'a>(alloc: Global) -> Result<Parser<'a>, AllocError> {
     let check = check_parser(alloc)?;
     let parser = Parser::new(alloc, "mucheck")
         .about(ABOUT)
+        .version(VERSION)
+        .after_help(AFTER)
         .subcommand_required(true)
         .disable_help_subcommand(true)
         .subcommand(check)?;
@@ -135,7 +157,8 @@ fn check_parser<'a>(alloc: Global) -> Result<Parser<'a>, AllocError> {
         .after_help(CHECK_AFTER)
         .arg(file(alloc, SYSTEM, SYSTEM_HELP))?
         .arg(file(alloc, FORMULA, FORMULA_HELP))?
-        .arg(plain(alloc))?;
+        .arg(flag(alloc, PLAIN, PLAIN_HELP))?
+        .arg(flag(alloc, QUIET, QUIET_HELP))?;
     let parser = parser.arg(rule(alloc))?;
     with_outputs(alloc, with_workers(alloc, parser)?)
 }
@@ -184,11 +207,12 @@ fn file<'a>(alloc: Global, id: &'a str, help: &'a str) -> Arg<'a> {
     Arg::new(alloc, id).required(true).help(help)
 }
 
-fn plain<'a>(alloc: Global) -> Arg<'a> {
-    Arg::new(alloc, PLAIN)
-        .long(PLAIN)
+/// An option without a value.
+fn flag<'a>(alloc: Global, name: &'a str, help: &'a str) -> Arg<'a> {
+    Arg::new(alloc, name)
+        .long(name)
         .action(ArgAction::SetTrue)
-        .help(PLAIN_HELP)
+        .help(help)
 }
 
 /// An option that has a value.
@@ -218,11 +242,13 @@ fn with_workers<'a>(alloc: Global, parser: Parser<'a>) -> Result<Parser<'a>, All
     parser.arg(arg.value_parser(boards))
 }
 
-/// Where the game and the evidence go, which are made of a game alone.
+/// Where the game, the evidence and the witness go, which are made of a game alone.
 fn with_outputs<'a>(alloc: Global, parser: Parser<'a>) -> Result<Parser<'a>, AllocError> {
     let game = output(alloc, GAME_FILE, "FILE", GAME_FILE_HELP)?;
     let parser = parser.arg(game)?;
-    parser.arg(output(alloc, EVIDENCE_FILES, "PATH", EVIDENCE_FILES_HELP)?)
+    let evidence = output(alloc, EVIDENCE_FILES, "PATH", EVIDENCE_FILES_HELP)?;
+    let parser = parser.arg(evidence)?;
+    parser.arg(output(alloc, WITNESS_FILE, "FILE", WITNESS_FILE_HELP)?)
 }
 
 fn output<'a>(

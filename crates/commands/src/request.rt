@@ -6,7 +6,7 @@ use normal::priorities::Priorities;
 /// What the program is asked to do.
 #[derive(Clone, Copy)]
 pub enum Command<'a> {
-    /// A check, and where the game and the evidence go.
+    /// A check, and where its texts go.
     Check(Check<'a>, Outputs<'a>),
     Normal(Normal<'a>),
     Solve(Solve<'a>),
@@ -14,13 +14,17 @@ pub enum Command<'a> {
     Replay(Replay<'a>),
 }
 
-/// Where a check's texts go beside the report.
+/// Where a check's texts go.
 #[derive(Clone, Copy)]
 pub struct Outputs<'a> {
     /// The file of the game.
     pub game: Option<&'a str>,
     /// The files of Even's and of Odd's evidence, without `.even` and `.odd`.
     pub evidence: Option<&'a str>,
+    /// The file of the transitions that the answer rests on.
+    pub witness: Option<&'a str>,
+    /// Whether the report is written.
+    pub report: bool,
 }
 
 /// The normal form of a formula, with the priorities of a rule.
