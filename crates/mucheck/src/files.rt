@@ -1,5 +1,6 @@
 // The files that a check writes beside its report.
 
+use engines::request::{Wanted, WitnessForm};
 use std::alloc::{AllocError, Global};
 use std::cell::{Cell, OnceCell};
 use std::fs::File;
@@ -30,9 +31,11 @@ pub struct Files<'a> {
     rt: &'a HostRuntime,
     game_name: Option<&'a str>,
     evidence_names: Option<EvidenceNames>,
+    witness_name: Option<&'a str>,
     game: OnceCell<File>,
     even: OnceCell<File>,
     odd: OnceCell<File>,
+    witness: OnceCell<File>,
     refused: Cell<bool>,
 }
 
@@ -49,26 +52,32 @@ impl<'a> Files<'a> {
         rt: &'a HostRuntime,
         game_name: Option<&'a str>,
         evidence_names: Option<EvidenceNames>,
+        witness_name: Option<&'a str>,
     ) -> Self {
         Files {
             rt,
             game_name,
             evidence_names,
+            witness_name,
             game: OnceCell::new(),
             even: OnceCell::new(),
             odd: OnceCell::new(),
+            witness: OnceCell::new(),
             refused: Cell::new(false),
         }
     }
 
-    /// Whether a game is written.
-    pub fn has_game(&self) -> bool {
-        self.game_name.is_some()
-    }
-
-    /// Whether evidence is written.
-    pub fn has_evidence(&self) -> bool {
-        self.evidence_names.is_some()
+    /// Which texts are written to them: a drawing of the witness where its file's name ends in `.dot`.
+    pub fn wanted(&self) -> Wanted {
+        Wanted {
+            game: self.game_name.is_some(),
+            evidence: self.evidence_names.is_some(),
+            witness: match self.witness_name {
+                Some(name) if name.ends_with(".dot") => Some(WitnessForm::Drawing),
+                Some(_) => Some(WitnessForm::System),
+                None => None,
+            },
+        }
     }
 
     /// The game's file.
@@ -95,6 +104,14 @@ impl<'a> Files<'a> {
         }
     }
 
+    /// The witness's file.
+    pub fn witness(&'a self) -> FileWriter<'a> {
+        FileWriter {
+            all: self,
+            own: &self.witness,
+        }
+    }
+
     /// Whether one of them could not be made.
     pub fn is_refused(&self) -> bool {
         self.refused.get()
@@ -108,6 +125,9 @@ impl<'a> Files<'a> {
         if let Some(names) = &self.evidence_names {
             self.make_one(&self.even, names.even.as_str())?;
             self.make_one(&self.odd, names.odd.as_str())?;
+        }
+        if let Some(name) = self.witness_name {
+            self.make_one(&self.witness, name)?;
         }
         Ok(())
     }

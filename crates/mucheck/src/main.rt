@@ -3,24 +3,26 @@
 #![tactic(auto)]
 
 mod files;
+mod line;
 
-use crate::files::{EvidenceNames, FileWriter, Files};
+use crate::files::{EvidenceNames, Files};
+use crate::line::{Line, Output};
 use commands::command_line::command;
 use commands::normal_text::normal_text;
 use commands::replay_text::replay_text;
 use commands::request::{Command, Normal, Outputs, Replay, Solve, Verify};
 use commands::solve_text::solve_text;
 use commands::verify_text::{verify_both_text, verify_text};
-use engines::engine::{check, check_asked};
+use engines::engine::check_asked;
 use engines::error::{ArgumentError, MuError};
 use engines::request::Check;
 use engines::status::status;
-use engines::writers::EvidenceWriters;
 use std::fs::File;
 use std::io::ErrorKind;
 use std::process::ExitCode;
 use std::sync::Wait;
 use std::thread::Threads;
+use std::time::Clock;
 use std::{env, io};
 
 fn main(rt: HostRuntime) -> ExitCode {
@@ -33,7 +35,7 @@ fn main(rt: HostRuntime) -> ExitCode {
 }
 
 // Threads are handed on apart, since `main` alone has them.
-fn run<T: Threads + Wait + Clone + Copy + Drop + Send + Sync>(
+fn run<T: Threads + Wait + Clock + Clone + Copy + Drop + Send + Sync + 'static>(
     rt: &HostRuntime,
     threads: &T,
 ) -> Result<bool, MuError> {
@@ -62,7 +64,7 @@ fn open(rt: &HostRuntime, name: &str) -> Result<File, MuError> {
 }
 
 /// Both files are opened, in the order of the command line, before the first is read.
-fn run_check<T: Threads + Wait + Clone + Copy + Drop + Send + Sync>(
+fn run_check<T: Threads + Wait + Clock + Clone + Copy + Drop + Send + Sync + 'static>(
     rt: &HostRuntime,
     threads: &T,
     request: &Check<'_>,
@@ -77,8 +79,17 @@ fn run_check<T: Threads + Wait + Clone + Copy + Drop + Send + Sync>(
     let Ok(names) = names else {
         return Err(MuError::Memory);
     };
-    let files = Files::new(rt, outputs.game, names);
-    let answer = write_files(rt, threads, request, system, formula, &files);
+    let files = Files::new(rt, outputs.game, names, outputs.witness);
+    let line = Line::new(*rt, threads);
+    let ticker = line.start();
+    let mut out = Output::new(*rt, &line, outputs.report);
+    let answer = write_files(
+        rt, threads, request, system, formula, &files, &mut out, &line,
+    );
+    line.end();
+    if let Some(ticker) = ticker {
+        ticker.join(threads);
+    }
     if files.is_refused() {
         return Err(MuError::File);
     }
@@ -86,41 +97,30 @@ fn run_check<T: Threads + Wait + Clone + Copy + Drop + Send + Sync>(
 }
 
 /// Writes what is asked for to the files, and then the report.
-fn write_files<T: Threads + Wait + Clone + Copy + Drop + Send + Sync>(
+fn write_files<T: Threads + Wait + Clock + Clone + Copy + Drop + Send + Sync + 'static>(
     rt: &HostRuntime,
     threads: &T,
     request: &Check<'_>,
     system: File,
     formula: File,
     files: &Files<'_>,
+    out: &mut Output<'_, T>,
+    line: &Line<'_, T>,
 ) -> Result<bool, MuError> {
-    let alloc = rt.alloc();
-    let out = &mut io::writer(rt);
-    let options = &request.options;
-    let (game, even, odd) = (&mut files.game(), &mut files.even(), &mut files.odd());
-    match (files.has_game(), files.has_evidence()) {
-        (false, false) => check_asked(threads, alloc, request, system, formula, out),
-        (true, false) => {
-            let game = Some(game);
-            let none: EvidenceWriters<'_, FileWriter<'_>, FileWriter<'_>> =
-                EvidenceWriters::Neither;
-            check(threads, alloc, system, formula, options, out, game, none)
-        }
-        (false, true) => {
-            let none: Option<&mut FileWriter<'_>> = None;
-            let evidence = EvidenceWriters::Both(even, odd);
-            check(
-                threads, alloc, system, formula, options, out, none, evidence,
-            )
-        }
-        (true, true) => {
-            let game = Some(game);
-            let evidence = EvidenceWriters::Both(even, odd);
-            check(
-                threads, alloc, system, formula, options, out, game, evidence,
-            )
-        }
-    }
+    check_asked(
+        threads,
+        rt.alloc(),
+        request,
+        files.wanted(),
+        system,
+        formula,
+        out,
+        &mut files.game(),
+        &mut files.even(),
+        &mut files.odd(),
+        &mut files.witness(),
+        line,
+    )
 }
 
 fn run_normal(rt: &HostRuntime, request: &Normal<'_>) -> Result<bool, MuError> {

@@ -1,0 +1,258 @@
+// The line on standard error that says what a check is doing, and the notes on its formula. Both are for a person, so there is
+// neither where standard error is no terminal.
+
+use engines::notes::{Word, strange_words};
+use engines::watch::Watcher;
+use formula::closed::Closed;
+use lts::system::Lts;
+use measures::observer::{Observer, Stage};
+use std::alloc::{AllocError, Global};
+use std::io::{IsTerminal, Write};
+use std::sync::atomic::{AtomicU64, Ordering};
+use std::sync::{Arc, Condvar, Mutex, Wait};
+use std::thread::{JoinHandle, Threads};
+use std::time::{Clock, Duration, Instant};
+use std::{io, thread};
+
+/// How long a run may be until it has a line, in milliseconds.
+const FIRST: u64 = 2000;
+
+/// How long a line stands until it is written anew, in milliseconds.
+const NEXT: u64 = 250;
+
+/// Takes a line away: back to its beginning, and all after it.
+const CLEAR: &[u8] = b"\r\x1b[K";
+
+/// What has become of the line.
+#[derive(Drop)]
+struct Screen {
+    /// Something stands on it.
+    is_drawn: bool,
+    /// The run has ended, or writes where the line would stand.
+    is_over: bool,
+}
+
+/// What the run and the thread that writes the line share. The numbers tell where the run is; between two of them another
+/// stage may have come, which the next writing of the line mends.
+#[derive(Drop)]
+struct Place {
+    kind: AtomicU64,
+    count: AtomicU64,
+    lifts: AtomicU64,
+    screen: Mutex<Screen>,
+    over: Condvar,
+}
+
+impl Place {
+    fn new() -> Place {
+        Place {
+            kind: AtomicU64::new(0),
+            count: AtomicU64::new(0),
+            lifts: AtomicU64::new(0),
+            screen: Mutex::new(Screen {
+                is_drawn: false,
+                is_over: false,
+            }),
+            over: Condvar::new(),
+        }
+    }
+
+    fn store(&self, kind: u64, count: u64, lifts: u64) {
+        self.kind.store(kind, Ordering::Relaxed);
+        self.count.store(count, Ordering::Relaxed);
+        self.lifts.store(lifts, Ordering::Relaxed);
+    }
+
+    fn sees(&self, stage: Stage) {
+        match stage {
+            Stage::ReadingSystem => self.store(0, 0, 0),
+            Stage::ReadingFormula => self.store(1, 0, 0),
+            Stage::Building { states } => self.store(2, u64::from(states), 0),
+            Stage::Searching { vertices } => self.store(3, u64::from(vertices), 0),
+            Stage::Lifting { vertices, lifts } => self.store(4, u64::from(vertices), lifts),
+            Stage::Evaluating { states } => self.store(5, u64::from(states), 0),
+            Stage::Writing => self.store(6, 0, 0),
+        }
+    }
+
+    // What the line says after so many seconds.
+    fn text(&self, alloc: Global, seconds: u64) -> Result<String, AllocError> {
+        let count = self.count.load(Ordering::Relaxed);
+        let lifts = self.lifts.load(Ordering::Relaxed);
+        match self.kind.load(Ordering::Relaxed) {
+            0 => format!(in alloc; "\r\x1b[Kmucheck: reading the system, {seconds} s"),
+            1 => format!(in alloc; "\r\x1b[Kmucheck: reading the formula, {seconds} s"),
+            2 => format!(in alloc; "\r\x1b[Kmucheck: building, {count} states, {seconds} s"),
+            3 => format!(in alloc; "\r\x1b[Kmucheck: searching, {count} vertices, {seconds} s"),
+            4 => {
+                format!(in alloc;
+                    "\r\x1b[Kmucheck: lifting, {count} vertices, {lifts} lifts, {seconds} s"
+                )
+            }
+            5 => format!(in alloc;
+                "\r\x1b[Kmucheck: evaluating by sets, {count} states, {seconds} s"
+            ),
+            _ => format!(in alloc; "\r\x1b[Kmucheck: writing, {seconds} s"),
+        }
+    }
+}
+
+// Writes the line anew, some times a second, from the time on that a run may be without one.
+fn tick<T: Wait + Clock>(rt: HostRuntime, handle: &T, place: &Place) {
+    let Ok(start) = Instant::now(handle) else {
+        return;
+    };
+    let mut pause = FIRST;
+    for _ in handle.forever() {
+        let screen = place.screen.lock(handle);
+        let rest = Duration::from_millis(pause);
+        let (mut screen, _) = place
+            .over
+            .wait_timeout_while(handle, screen, rest, |screen| !screen.is_over);
+        if screen.is_over {
+            return;
+        }
+        if let Ok(elapsed) = start.elapsed(handle) {
+            screen.is_drawn = draw(rt, place, elapsed.as_secs());
+        }
+        pause = NEXT;
+    }
+}
+
+// Whether something stands on the line afterwards.
+fn draw(rt: HostRuntime, place: &Place, seconds: u64) -> bool {
+    match place.text(rt.alloc(), seconds) {
+        Ok(text) => rt.stderr().write_all(text.as_bytes()).is_ok(),
+        Err(AllocError) => true,
+    }
+}
+
+/// What a check tells a person at a terminal while it runs.
+#[derive(Drop)]
+pub struct Line<'a, T> {
+    rt: HostRuntime,
+    handle: &'a T,
+    /// None where standard error is no terminal.
+    place: Option<Arc<Place, Global>>,
+}
+
+impl<'a, T: Threads + Wait + Clock + Clone + Copy + Drop + Send + Sync + 'static> Line<'a, T> {
+    /// A line for a run that begins now.
+    pub fn new(rt: HostRuntime, handle: &'a T) -> Line<'a, T> {
+        let place = if rt.stderr().is_terminal() {
+            Arc::new(rt.alloc(), Place::new()).ok()
+        } else {
+            None
+        };
+        Line { rt, handle, place }
+    }
+
+    /// The thread that writes the line, where there is one.
+    pub fn start(&self) -> Option<JoinHandle<()>> {
+        let place = Arc::try_clone(self.place.as_ref()?).ok()?;
+        let (rt, handle) = (self.rt, *self.handle);
+        thread::spawn(self.handle, move || tick(rt, &handle, &place)).ok()
+    }
+}
+
+impl<T: Wait> Line<'_, T> {
+    /// Takes the line away for good.
+    pub fn end(&self) {
+        if let Some(place) = &self.place {
+            let mut screen = place.screen.lock(self.handle);
+            screen.is_over = true;
+            if screen.is_drawn {
+                screen.is_drawn = false;
+                // Where standard error fails, there is nobody to tell.
+                let _ = self.rt.stderr().write_all(CLEAR);
+            }
+            place.over.notify_all();
+        }
+    }
+
+    // Writes notes where the line stood.
+    fn note(&self, place: &Place, words: &[Word<'_>]) -> io::Result<()> {
+        let mut screen = place.screen.lock(self.handle);
+        if screen.is_drawn {
+            screen.is_drawn = false;
+            self.rt.stderr().write_all(CLEAR)?;
+        }
+        for word in words {
+            self.note_one(*word)?;
+        }
+        Ok(())
+    }
+
+    fn note_one(&self, word: Word<'_>) -> io::Result<()> {
+        let rt = self.rt;
+        match word {
+            Word::Name(bytes) => match str::from_utf8(bytes) {
+                Ok(name) => eprintln!(rt;
+                    "mucheck: note: {name} is a name in no label of this system"
+                ),
+                Err(_) => Ok(()),
+            },
+            Word::Atom(bytes) => match str::from_utf8(bytes) {
+                Ok(label) => eprintln!(rt; "mucheck: note: \"{label}\" is no label of this system"),
+                Err(_) => Ok(()),
+            },
+        }
+    }
+}
+
+impl<T> Observer for Line<'_, T> {
+    fn sees(&self, stage: Stage) {
+        if let Some(place) = &self.place {
+            place.sees(stage);
+        }
+    }
+}
+
+impl<T: Wait> Watcher for Line<'_, T> {
+    fn has_read(&self, system: &Lts, formula: &Closed) {
+        if let Some(place) = &self.place {
+            if let Ok(words) = strange_words(self.rt.alloc(), system, formula) {
+                // Where standard error fails, there is nobody to tell.
+                let _ = self.note(place, &words);
+            }
+        }
+    }
+}
+
+/// Where the report goes: to standard output, before whose first byte the line is taken away if it is a terminal too, or nowhere.
+#[derive(Drop)]
+pub struct Output<'a, T> {
+    rt: HostRuntime,
+    line: &'a Line<'a, T>,
+    /// Standard output is a terminal.
+    is_shown: bool,
+    /// The report is to be written.
+    is_wanted: bool,
+}
+
+impl<'a, T> Output<'a, T> {
+    pub fn new(rt: HostRuntime, line: &'a Line<'a, T>, is_wanted: bool) -> Output<'a, T> {
+        Output {
+            rt,
+            line,
+            is_shown: rt.stdout().is_terminal(),
+            is_wanted,
+        }
+    }
+}
+
+impl<T: Wait> Write for Output<'_, T> {
+    fn write(&mut self, bytes: &[u8]) -> io::Result<usize> {
+        if !self.is_wanted {
+            return Ok(bytes.len());
+        }
+        if self.is_shown {
+            self.line.end();
+        }
+        io::writer(&self.rt).write(bytes)
+    }
+
+    fn flush(&mut self) -> io::Result<()> {
+        Ok(())
+    }
+}
