@@ -41,6 +41,10 @@ fn rises_once<B: Board>(rt: &impl Abort, board: &B, source: &PlainTable)
     assert!(rt; board.raise(&mut seat, 4, &top), "it rises");
     assert!(rt; board.read(&mut seat, 4).is_top(), "it is read");
     assert!(rt; !board.raise(&mut seat, 4, &top), "it rises once");
+    assert!(rt;
+        board.own_lift(&mut seat, 4).is_none(),
+        "it is lifted by reads"
+    );
     board.last(&mut seat);
 }
 

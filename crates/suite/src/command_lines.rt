@@ -1,6 +1,7 @@
 // Command lines, and the exit statuses of their answers, by the program's table of both.
 
 use crate::common::same;
+use crate::help::HELP;
 use commands::command_line::command;
 use commands::request::Command;
 use engines::error::MuError;
@@ -52,7 +53,11 @@ fn request_of(alloc: Global, words: &[String]) -> Result<String, AllocError> {
             let (system, formula, plain) = (check.system, check.formula, check.plain);
             let game = outputs.game.unwrap_or("-");
             let evidence = outputs.evidence.unwrap_or("-");
-            format!(in alloc; "check {system} {formula} {options} {plain} {game} {evidence}")
+            let witness = outputs.witness.unwrap_or("-");
+            let report = if outputs.report { "report" } else { "quiet" };
+            format!(in alloc;
+                "check {system} {formula} {options} {plain} {game} {evidence} {witness} {report}"
+            )
         }
         Ok(Command::Normal(form)) => {
             let (formula, rule) = (form.formula, rule_of(form.priorities));
@@ -78,39 +83,58 @@ fn request_of(alloc: Global, words: &[String]) -> Result<String, AllocError> {
 }
 
 /// Lines and what they ask for, with the defaults of the program's description.
-const TAKEN: [(&str, &str); 19] = [
+const TAKEN: [(&str, &str); 23] = [
     (
         "mucheck check s f --workers 8",
-        "check s f nested 8 16 auto false - -",
+        "check s f nested 8 16 auto false - - - report",
     ),
     (
         "mucheck check s f --shards 256 --workers 64 --board locked",
-        "check s f nested 64 256 locked false - -",
+        "check s f nested 64 256 locked false - - - report",
     ),
     (
         "mucheck check --board packed s --workers 2 f --game g --evidence e",
-        "check s f nested 2 16 packed false g e",
+        "check s f nested 2 16 packed false g e - report",
     ),
     (
         "mucheck check s f --game g",
-        "check s f nested 1 16 auto false g -",
+        "check s f nested 1 16 auto false g - - report",
     ),
     (
         "mucheck check --evidence e s f --game g",
-        "check s f nested 1 16 auto false g e",
+        "check s f nested 1 16 auto false g e - report",
     ),
     (
         "mucheck check s f --plain --workers 64 --board packed",
-        "check s f nested 64 16 packed true - -",
+        "check s f nested 64 16 packed true - - - report",
     ),
-    ("mucheck check s f", "check s f nested 1 16 auto false - -"),
+    (
+        "mucheck check s f",
+        "check s f nested 1 16 auto false - - - report",
+    ),
     (
         "mucheck check s f --priorities dependent",
-        "check s f dependent 1 16 auto false - -",
+        "check s f dependent 1 16 auto false - - - report",
     ),
     (
         "mucheck check --plain s --priorities nested f",
-        "check s f nested 1 16 auto true - -",
+        "check s f nested 1 16 auto true - - - report",
+    ),
+    (
+        "mucheck check s f --witness w.dot",
+        "check s f nested 1 16 auto false - - w.dot report",
+    ),
+    (
+        "mucheck check --quiet s f",
+        "check s f nested 1 16 auto false - - - quiet",
+    ),
+    (
+        "mucheck check s f --plain --quiet",
+        "check s f nested 1 16 auto true - - - quiet",
+    ),
+    (
+        "mucheck check s f --witness w --evidence e --quiet --game g",
+        "check s f nested 1 16 auto false g e w quiet",
     ),
     ("mucheck normal f", "normal f nested"),
     ("mucheck normal f --priorities nested", "normal f nested"),
@@ -144,8 +168,17 @@ fn takes_command_lines(rt: HostRuntime) -> Result<(), AllocError> {
     Ok(())
 }
 
-const REFUSED: [&str; 34] = [
+const REFUSED: [&str; 43] = [
     "mucheck",
+    "mucheck --help",
+    "mucheck --version",
+    "mucheck check --version",
+    "mucheck check s f --plain --witness w",
+    "mucheck check s f --witness ",
+    "mucheck check s f --witness",
+    "mucheck check s f --quiet w",
+    "mucheck solve g --quiet",
+    "mucheck solve g --witness w",
     "mucheck check s",
     "mucheck check s f --plain --workers 65",
     "mucheck check s f --plain --workers 0",
@@ -204,9 +237,9 @@ const SHOWN: [(&str, [&str; 4]); 5] = [
     (
         "mucheck check --help",
         [
-            "--game",
+            "--witness",
             "--workers",
-            "--board",
+            "--quiet",
             "Example:\n  mucheck check ",
         ],
     ),
@@ -259,5 +292,24 @@ fn help_shows_what_is_served(rt: HostRuntime) -> Result<(), AllocError> {
             parts.as_slice(),
         );
     }
+    Ok(())
+}
+
+/// The first line is the program's name with its version, the second one what `rt version` says of the toolchain.
+#[test]
+fn version_tells_the_toolchain(rt: HostRuntime) -> Result<(), AllocError> {
+    let line = words(rt.alloc(), "mucheck --version")?;
+    let text = help(rt.alloc(), line.as_slice())?;
+    let wanted = "mucheck 0.9.0\nproved with rattle-kit-13b logic dac8208d650f15bf\n";
+    same(&rt, "version", text.as_str(), wanted);
+    Ok(())
+}
+
+/// The text that the script `./mucheck` shows as long as the program isn't built is the program's own.
+#[test]
+fn help_is_what_the_script_shows(rt: HostRuntime) -> Result<(), AllocError> {
+    let line = words(rt.alloc(), "mucheck --help")?;
+    let text = help(rt.alloc(), line.as_slice())?;
+    same(&rt, "help", text.as_str(), HELP);
     Ok(())
 }

@@ -195,3 +195,11 @@ fn what_is_no_game_is_told(rt: HostRuntime) -> Result<(), AllocError> {
     }
     Ok(())
 }
+
+// A game has a vertex. One that leads to itself is enough.
+#[test]
+fn no_vertex_makes_no_game(rt: HostRuntime) -> Result<(), Fail> {
+    assert!(rt; made(&rt, &[])?.is_none());
+    assert!(rt; made(&rt, &[(Player::Even, 0, &[0])])?.is_some());
+    Ok(())
+}

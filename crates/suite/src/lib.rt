@@ -32,6 +32,8 @@ mod gated_checks;
 #[cfg(test)]
 mod good_evidence;
 #[cfg(test)]
+mod help;
+#[cfg(test)]
 mod known_games;
 #[cfg(test)]
 mod labels;
@@ -47,6 +49,10 @@ mod meanings;
 mod normal_forms;
 #[cfg(test)]
 mod normal_texts;
+#[cfg(test)]
+mod notes;
+#[cfg(test)]
+mod observers;
 #[cfg(test)]
 mod packed_boards;
 #[cfg(test)]
@@ -64,7 +70,13 @@ mod reports;
 #[cfg(test)]
 mod schedules;
 #[cfg(test)]
+mod shown_checks;
+#[cfg(test)]
+mod stages;
+#[cfg(test)]
 mod system_texts;
+#[cfg(test)]
+mod witnesses;
 #[cfg(test)]
 mod writers;
 #[cfg(test)]

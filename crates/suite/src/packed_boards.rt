@@ -132,6 +132,22 @@ fn a_vertex_is_raised_once(rt: HostRuntime) -> Result<(), Fail> {
     Ok(())
 }
 
+#[test]
+fn a_vertex_is_lifted_in_the_board_s_own_way(rt: HostRuntime) -> Result<(), Fail> {
+    let game = Arc::new(rt.alloc(), game_of(&rt, &DIAMOND)?)?;
+    assert!(&rt; 4 < game.vertices());
+    let Ok(board) = PackedBoard::new(rt.alloc(), game, 1) else {
+        panic!(&rt; "no board")
+    };
+    let Ok(mut seat) = board.seat() else {
+        panic!(&rt; "no seat")
+    };
+    assert_eq!(&rt; board.own_lift(&mut seat, 4), Some(true), "it rises");
+    assert!(&rt; board.read(&mut seat, 4).is_top(), "it is read");
+    assert_eq!(&rt; board.own_lift(&mut seat, 4), Some(false), "it rises once");
+    Ok(())
+}
+
 // One thread lifts a vertex, and the other looks at it until it is top.
 fn lifts_or_looks(board: &PackedBoard, thread: usize) -> bool
     requires { 4 < length (board_game board.now).vertices }

@@ -1,0 +1,29 @@
+// What `mucheck --help` shows. The script `./mucheck` takes the lines from here as long as the program isn't built: those from the
+// one that begins the text to the one that ends it.
+
+pub const HELP: &str =
+    r#"Checks formulas of the modal mu-calculus at the states of labelled transition systems
+
+Usage: mucheck <COMMAND>
+
+Commands:
+  check   Reports for each state of a system whether it satisfies a formula
+  normal  Writes the normal form of a formula, a line for each node
+  solve   Writes for each vertex of a parity game who wins it
+  verify  Checks evidence that a player wins vertices of a parity game
+  replay  Writes what the events of a schedule come to in a parity game
+
+Options:
+  -h, --help     Print help
+  -V, --version  Print version
+
+mucheck COMMAND --help says more of a command.
+
+A refusal is one line on standard error, mucheck: CODE, with its place. docs/CODES.md says
+what each code means and how to mend it. The most frequent:
+  A1      mostly both files in the wrong order, or a byte order mark
+  A2      mostly a label without quotes
+  F1, F2  in a modality mostly a label with parameters, which wants quotes: <"send(1)">true
+  F8      each sign nests, in a row too: put parentheses around halves of a long row
+  B1      the game is too large: check --plain has no such limit
+"#;

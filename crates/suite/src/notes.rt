@@ -1,0 +1,76 @@
+// Words of formulas that no label of a system has. The systems are small, and which words are strange was read off them.
+
+use crate::common::{RING, formula_of, repeated, same, system_of};
+use engines::notes::{Word, strange_words};
+use std::alloc::{AllocError, Global};
+use std::test::Fail;
+
+/// The words, each with its kind, in their order.
+fn shown(alloc: Global, words: &[Word<'_>]) -> Result<String, AllocError> {
+    let mut text = String::new(alloc);
+    for word in words {
+        let (kind, bytes) = match *word {
+            Word::Name(bytes) => ("name", bytes),
+            Word::Atom(bytes) => ("atom", bytes),
+        };
+        let bytes = str::from_utf8(bytes).unwrap_or("no text");
+        write!(text, "{kind} {bytes};")?;
+    }
+    Ok(text)
+}
+
+/// The strange words of these texts.
+fn strange(alloc: Global, system: &str, formula: &str) -> Result<String, Fail> {
+    let system = system_of(alloc, system).map_err(|_| "no system")?;
+    let formula = formula_of(alloc, formula).map_err(|_| "no formula")?;
+    let words = strange_words(alloc, &system, &formula).map_err(|_| "no memory")?;
+    Ok(shown(alloc, &words)?)
+}
+
+/// Labels of every kind: two names, one name, the empty multiset, and a label that is read as nothing.
+const KINDS: &str = "des (0,4,1)\n(0,\"a|b\",0)\n(0,\"c\",0)\n(0,\"tau\",0)\n(0,\"send(1)\",0)\n";
+
+/// A system, a formula, and its strange words.
+const STRANGE: [(&str, &str, &str); 12] = [
+    (RING, "<a>[b]true", ""),
+    (RING, "<true*>[tau]false", ""),
+    (RING, "<c>true", "name c;"),
+    (RING, "<\"c\">true", "atom c;"),
+    (RING, "<\"a\">[!\"b\"]true", ""),
+    (
+        RING,
+        "[true* . \"entr(0)\"]<entr>true",
+        "atom entr(0);name entr;",
+    ),
+    (RING, "<c|a|b|c>[d + c]mu X. <!d>X", "name c;name d;"),
+    (RING, "(mu a. <x>a) && (nu b. [y => x]b)", "name x;name y;"),
+    (KINDS, "<a>true || <b|c>true || <tau>true", ""),
+    (KINDS, "<\"a|b\">true && <\"b|a\">true", "atom b|a;"),
+    (KINDS, "<\"send(1)\">true && <send>true", "name send;"),
+    (KINDS, "<\"a\">true && <\"tau\">true", "atom a;"),
+];
+
+#[test]
+fn strange_words_are_told_once_and_in_order(rt: HostRuntime) -> Result<(), Fail> {
+    for (system, formula, wanted) in &STRANGE {
+        let found = strange(rt.alloc(), system, formula)?;
+        same(&rt, formula, found.as_str(), wanted);
+    }
+    Ok(())
+}
+
+#[test]
+fn no_more_than_ten_are_told(rt: HostRuntime) -> Result<(), Fail> {
+    let formula = "<l|k|j|i|h|g|f|e|d|c>true && <m>true";
+    let found = strange(rt.alloc(), RING, formula)?;
+    let ten = "name c;name d;name e;name f;name g;name h;name i;name j;name k;name l;";
+    same(&rt, formula, found.as_str(), ten);
+    let long = repeated(rt.alloc(), "", "<a>", 200, "<z>true")?;
+    same(
+        &rt,
+        "long",
+        strange(rt.alloc(), RING, long.as_str())?.as_str(),
+        "name z;",
+    );
+    Ok(())
+}

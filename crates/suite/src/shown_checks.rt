@@ -1,0 +1,235 @@
+// What a check writes where a witness is wanted. The parts are worked out by hand: the winner's moves and all of the opponent's.
+
+use crate::command_texts::{EVEN_OF_STEP, ODD_OF_STEP, STEP};
+use crate::common::RING;
+use crate::writers::{AMPLE, Narrow};
+use engines::engine::{check_all, check_asked};
+use engines::error::MuError;
+use engines::request::{BoardKind, Check, Options, Wanted, WitnessForm};
+use measures::observer::Silent;
+use normal::priorities::Priorities;
+use std::alloc::Global;
+use std::sync::Wait;
+use std::thread::Threads;
+
+const OPTIONS: Options = Options {
+    priorities: Priorities::Nested,
+    workers: 1,
+    shards: 16,
+    board: BoardKind::Auto,
+};
+
+const ALL: Wanted = Wanted {
+    game: true,
+    evidence: true,
+    witness: Some(WitnessForm::System),
+};
+
+const NONE: Wanted = Wanted {
+    game: false,
+    evidence: false,
+    witness: None,
+};
+
+/// From its first state to both others, of which the last has no step.
+const FORK: &str = "des (0,3,3)\n(0,\"a\",1)\n(0,\"a\",2)\n(1,\"b\",0)\n";
+
+/// A check, whether the initial state satisfies the formula, and the part that its answer rests on.
+struct Row {
+    system: &'static str,
+    formula: &'static str,
+    holds: bool,
+    part: &'static str,
+    edges: &'static str,
+}
+
+const ROWS: [Row; 5] = [
+    Row {
+        system: RING,
+        formula: "<a>true",
+        holds: true,
+        part: "des (0,1,2)\n(0,\"a\",1)\n",
+        edges: "  0 -> 1 [label=\"a\"];\n",
+    },
+    Row {
+        system: RING,
+        formula: "[a]false",
+        holds: false,
+        part: "des (0,1,2)\n(0,\"a\",1)\n",
+        edges: "  0 -> 1 [label=\"a\"];\n",
+    },
+    Row {
+        system: RING,
+        formula: "<b>true",
+        holds: false,
+        part: "des (0,0,2)\n",
+        edges: "",
+    },
+    Row {
+        system: RING,
+        formula: "nu X. <true>X",
+        holds: true,
+        part: RING,
+        edges: "  0 -> 1 [label=\"a\"];\n  1 -> 0 [label=\"b\"];\n",
+    },
+    // The shortest way to where no step is possible.
+    Row {
+        system: FORK,
+        formula: "[true*]<true>true",
+        holds: false,
+        part: "des (0,1,3)\n(0,\"a\",2)\n",
+        edges: "  0 -> 2 [label=\"a\"];\n",
+    },
+];
+
+/// A writer for each text.
+#[derive(Drop)]
+struct Writers {
+    game: Narrow,
+    even: Narrow,
+    odd: Narrow,
+    witness: Narrow,
+    report: Narrow,
+}
+
+impl Writers {
+    fn new(alloc: Global) -> Writers {
+        Writers {
+            game: Narrow::new(alloc, 9, AMPLE),
+            even: Narrow::new(alloc, 9, AMPLE),
+            odd: Narrow::new(alloc, 9, AMPLE),
+            witness: Narrow::new(alloc, 9, AMPLE),
+            report: Narrow::new(alloc, 9, AMPLE),
+        }
+    }
+}
+
+fn run<R: Threads + Wait + Clone + Copy + Drop + Send + Sync>(
+    rt: &R,
+    alloc: Global,
+    row: &Row,
+    wanted: Wanted,
+    writers: &mut Writers,
+) -> Result<bool, MuError> {
+    check_all(
+        rt,
+        alloc,
+        row.system.as_bytes(),
+        row.formula.as_bytes(),
+        &OPTIONS,
+        wanted,
+        &mut writers.report,
+        &mut writers.game,
+        &mut writers.even,
+        &mut writers.odd,
+        &mut writers.witness,
+        &Silent,
+    )
+}
+
+/// Whether the writer has just these bytes.
+fn has(writer: &Narrow, text: &str) -> bool {
+    writer.taken.as_slice() == text.as_bytes()
+}
+
+#[test]
+fn a_witness_is_what_the_answer_rests_on(rt: HostRuntime) {
+    for row in &ROWS {
+        for evidence in [true, false] {
+            let mut writers = Writers::new(rt.alloc());
+            let wanted = Wanted {
+                game: false,
+                evidence,
+                witness: Some(WitnessForm::System),
+            };
+            let answer = run(&rt, rt.alloc(), row, wanted, &mut writers);
+            assert!(rt; answer.ok() == Some(row.holds), "{}", row.formula);
+            assert!(rt; has(&writers.witness, row.part), "{}", row.formula);
+            assert!(rt; writers.game.taken.is_empty());
+            assert_eq!(rt; writers.even.taken.is_empty(), !evidence);
+            assert!(rt; !writers.report.taken.is_empty());
+        }
+    }
+}
+
+#[test]
+fn a_drawing_has_the_same_edges(rt: HostRuntime) {
+    let head =
+        b"digraph witness {\n  rankdir=LR;\n  node [shape=circle];\n  0 [shape=doublecircle];\n";
+    for row in &ROWS {
+        let mut writers = Writers::new(rt.alloc());
+        let wanted = Wanted {
+            witness: Some(WitnessForm::Drawing),
+            ..NONE
+        };
+        let answer = run(&rt, rt.alloc(), row, wanted, &mut writers);
+        assert!(rt; answer.ok() == Some(row.holds));
+        let text = writers.witness.taken.as_slice();
+        let rest = text.strip_prefix(head.as_slice());
+        let rest = rest.and_then(|rest| rest.strip_suffix(b"}\n"));
+        assert!(rt; rest == Some(row.edges.as_bytes()), "{}", row.formula);
+    }
+}
+
+#[test]
+fn what_is_not_wanted_is_not_written(rt: HostRuntime) {
+    for row in &ROWS {
+        let mut writers = Writers::new(rt.alloc());
+        let answer = run(&rt, rt.alloc(), row, NONE, &mut writers);
+        assert!(rt; answer.ok() == Some(row.holds));
+        assert!(rt; writers.game.taken.is_empty() && writers.witness.taken.is_empty());
+        assert!(rt; writers.even.taken.is_empty() && writers.odd.taken.is_empty());
+        assert!(rt; !writers.report.taken.is_empty());
+    }
+}
+
+#[test]
+fn a_failed_witness_ends_the_check(rt: HostRuntime) {
+    let row = &ROWS[0];
+    for room in 0..row.part.len() {
+        let mut writers = Writers::new(rt.alloc());
+        writers.witness = Narrow::new(rt.alloc(), 9, room);
+        let answer = run(&rt, rt.alloc(), row, ALL, &mut writers);
+        assert!(rt; matches!(answer, Err(MuError::Write(_))));
+        assert!(rt; has(&writers.game, STEP));
+        assert!(rt; has(&writers.even, EVEN_OF_STEP) && has(&writers.odd, ODD_OF_STEP));
+        assert!(rt; writers.witness.taken.len() == room);
+        assert!(rt;
+            row.part
+                .as_bytes()
+                .starts_with(writers.witness.taken.as_slice())
+        );
+        assert!(rt; writers.report.taken.is_empty());
+    }
+}
+
+#[test]
+fn sets_of_states_give_the_report_alone(rt: HostRuntime) {
+    let request = Check {
+        system: "system",
+        formula: "formula",
+        options: OPTIONS,
+        plain: true,
+    };
+    for row in &ROWS {
+        let mut writers = Writers::new(rt.alloc());
+        let answer = check_asked(
+            &rt,
+            rt.alloc(),
+            &request,
+            ALL,
+            row.system.as_bytes(),
+            row.formula.as_bytes(),
+            &mut writers.report,
+            &mut writers.game,
+            &mut writers.even,
+            &mut writers.odd,
+            &mut writers.witness,
+            &Silent,
+        );
+        assert!(rt; answer.ok() == Some(row.holds));
+        assert!(rt; writers.game.taken.is_empty() && writers.witness.taken.is_empty());
+        assert!(rt; writers.even.taken.is_empty() && writers.odd.taken.is_empty());
+        assert!(rt; !writers.report.taken.is_empty());
+    }
+}
