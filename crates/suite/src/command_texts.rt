@@ -1,14 +1,15 @@
 // What the commands `normal`, `solve` and `verify` write, answer and refuse: the worked examples of docs/FORMATS.md, and games that were solved by hand.
 
-use crate::common::{repeated, same, shown};
-use crate::readers::Slow;
-use crate::writers::{AMPLE, AtEnd, Narrow};
+use crate::common::{same, shown};
 use commands::normal_text::normal_text;
 use commands::solve_text::solve_text;
 use commands::verify_text::{verify_both_text, verify_text};
 use engines::error::MuError;
 use engines::request::{BoardKind, Options};
 use normal::priorities::Priorities;
+use samples::readers::Slow;
+use samples::texts::repeated;
+use samples::writers::{AMPLE, AtEnd, Narrow};
 use std::alloc::{AllocError, Global};
 use std::io::Write;
 use std::process::Abort;

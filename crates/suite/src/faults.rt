@@ -1,11 +1,12 @@
 // Reads and writes that fail, are cut short or are interrupted, as the engines tell them.
 
-use crate::common::{RING, same};
-use crate::readers::{Halting, Slow};
-use crate::writers::{AMPLE, AtEnd, Narrow};
+use crate::common::same;
 use engines::engine::check_plain;
 use engines::error::MuError;
 use lts::put;
+use samples::readers::{Halting, Slow};
+use samples::texts::RING;
+use samples::writers::{AMPLE, AtEnd, Narrow};
 use std::alloc::{AllocError, Global};
 use std::io::Read;
 use std::process::Abort;

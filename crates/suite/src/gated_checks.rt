@@ -2,7 +2,7 @@
 // The reports are those that were worked out by hand; the least system without a packed board is computed from the definition.
 
 use crate::command_texts::{EVEN, ODD, OFTEN_A};
-use crate::common::{RING, repeated, ring, same};
+use crate::common::same;
 use crate::many_workers::Meeting;
 use crate::reports::{report_of_the_ring, shown};
 use engines::engine::{check, check_gated};
@@ -10,6 +10,7 @@ use engines::error::MuError;
 use engines::request::{BoardKind, Options};
 use engines::writers::EvidenceWriters;
 use normal::priorities::Priorities;
+use samples::texts::{RING, repeated, ring};
 use std::alloc::{AllocError, Global};
 use std::process::Abort;
 use std::sync::Wait;

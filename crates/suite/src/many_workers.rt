@@ -3,13 +3,13 @@
 ghost use Rattle.std.specs.Prelude.{◌≡◌, ◌<◌, length};
 ghost use Rattle.std.specs.Arc.{arc_value};
 
-use crate::common::{Row, game_of};
 use game::graph::Game;
 use game::name::GameName;
 use game::player::Player;
 use measures::measure::Measure;
 use measures::settle::{is_settled, solve_one};
 use measures::table::PlainTable;
+use samples::games::{Row, game_of};
 use std::alloc::{AllocError, Global};
 use std::hint::spin_loop;
 use std::marker::Brand;

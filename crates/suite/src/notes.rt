@@ -1,7 +1,8 @@
 // Words of formulas that no label of a system has. The systems are small, and which words are strange was read off them.
 
-use crate::common::{RING, formula_of, repeated, same, system_of};
+use crate::common::same;
 use engines::notes::{Word, strange_words};
+use samples::texts::{RING, formula_of, repeated, system_of};
 use std::alloc::{AllocError, Global};
 use std::test::Fail;
 

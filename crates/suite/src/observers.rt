@@ -1,11 +1,11 @@
 // What observers are told. The numbers of vertices are counted by hand; a lift is told of after each 4,096th, and one sweep over
 // all vertices lifts each of them once.
 
-use crate::common::{form_of, ring, system_of};
 use game::build::build;
 use game::graph::Game;
 use measures::observer::{Observer, Stage};
 use measures::settle::solve_one_seen;
+use samples::texts::{form_of, ring, system_of};
 use std::process::Abort;
 use std::sync::atomic::{AtomicU64, Ordering};
 use std::sync::{Arc, Wait};

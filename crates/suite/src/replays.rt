@@ -1,10 +1,11 @@
 // What the command `replay` writes, answers and refuses: the worked examples of docs/FORMATS.md, and schedules worked out by hand.
 
-use crate::common::{RING, same, shown};
-use crate::readers::Slow;
-use crate::writers::{AMPLE, AtEnd, Narrow};
+use crate::common::{same, shown};
 use commands::replay_text::replay_text;
 use engines::error::MuError;
+use samples::readers::Slow;
+use samples::texts::RING;
+use samples::writers::{AMPLE, AtEnd, Narrow};
 use std::alloc::AllocError;
 use std::io::Write;
 use std::process::Abort;

@@ -1,13 +1,14 @@
 // Reports and refusals of each engine, on small systems whose answers were worked out by hand (Kozen 1983; the mCRL2 manual on regular formulas).
 
-use crate::common::{RING, repeated, ring, same};
-use crate::writers::Narrow;
+use crate::common::same;
 use engines::engine::{check, check_one, check_plain};
 use engines::error::MuError;
 use engines::request::{BoardKind, Options};
 use engines::status::status;
 use engines::writers::EvidenceWriters;
 use normal::priorities::Priorities;
+use samples::texts::{RING, repeated, ring};
+use samples::writers::Narrow;
 use std::alloc::{AllocError, Global};
 use std::io;
 use std::process::Abort;

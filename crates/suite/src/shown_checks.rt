@@ -1,13 +1,13 @@
 // What a check writes where a witness is wanted. The parts are worked out by hand: the winner's moves and all of the opponent's.
 
 use crate::command_texts::{EVEN_OF_STEP, ODD_OF_STEP, STEP};
-use crate::common::RING;
-use crate::writers::{AMPLE, Narrow};
 use engines::engine::{check_all, check_asked};
 use engines::error::MuError;
 use engines::request::{BoardKind, Check, Options, Wanted, WitnessForm};
 use measures::observer::Silent;
 use normal::priorities::Priorities;
+use samples::texts::RING;
+use samples::writers::{AMPLE, Narrow};
 use std::alloc::Global;
 use std::sync::Wait;
 use std::thread::Threads;

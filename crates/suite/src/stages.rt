@@ -1,6 +1,5 @@
 // What a watcher is told of a check: each stage that its way has, and both texts once they are read.
 
-use crate::common::RING;
 use engines::engine::{check_all, check_plain_seen};
 use engines::request::{BoardKind, Options, Wanted};
 use engines::watch::Watcher;
@@ -8,6 +7,7 @@ use formula::closed::Closed;
 use lts::Lts;
 use measures::observer::{Observer, Stage};
 use normal::priorities::Priorities;
+use samples::texts::RING;
 use std::process::Abort;
 use std::sync::Wait;
 use std::sync::atomic::{AtomicU64, Ordering};

@@ -1,13 +1,13 @@
 // What a check writes: the game, both players' evidence and the report, of formulas whose games were solved by hand (the worked examples of docs/FORMATS.md).
 
 use crate::command_texts::{EVEN, EVEN_OF_STEP, ODD, ODD_OF_STEP, OFTEN_A, STEP};
-use crate::common::RING;
-use crate::writers::{AMPLE, Narrow};
 use engines::engine::{check, check_one};
 use engines::error::MuError;
 use engines::request::{BoardKind, Options};
 use engines::writers::EvidenceWriters;
 use normal::priorities::Priorities;
+use samples::texts::RING;
+use samples::writers::{AMPLE, Narrow};
 use std::alloc::Global;
 use std::sync::Wait;
 use std::thread::Threads;

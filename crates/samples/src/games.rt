@@ -1,0 +1,37 @@
+// Games by their rows.
+
+use game::graph::{Game, GameBuilder};
+use game::limits::MOST_VERTICES;
+use game::player::Player;
+use std::alloc::AllocError;
+use std::test::Fail;
+
+/// A vertex: its owner, its priority and its successors.
+pub type Row = (Player, u8, &'static [u32]);
+
+/// One more vertex. A builder that is full has no room for it.
+pub fn push(
+    builder: &mut GameBuilder,
+    owner: Player,
+    priority: u8,
+    successors: &[u32],
+) -> Result<(), AllocError> {
+    if builder.vertices() >= MOST_VERTICES || successors.len() > MOST_VERTICES {
+        return Err(AllocError);
+    }
+    builder.push(owner, priority, successors)
+}
+
+/// The game of these vertices, if they make one.
+pub fn made(rt: &impl AllocGlobal, rows: &[Row]) -> Result<Option<Game>, AllocError> {
+    let mut builder = GameBuilder::new(rt.alloc());
+    for (owner, priority, successors) in rows {
+        push(&mut builder, *owner, *priority, successors)?;
+    }
+    Ok(builder.finish())
+}
+
+/// The game of these vertices, which make one.
+pub fn game_of(rt: &impl AllocGlobal, rows: &[Row]) -> Result<Game, Fail> {
+    Ok(made(rt, rows)?.ok_or("no game")?)
+}

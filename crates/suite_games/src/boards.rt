@@ -1,0 +1,91 @@
+// Boards that workers share, by the worked example of one game.
+
+ghost use Rattle.std.specs.Prelude.{◌≡◌, ◌<◌, length};
+ghost use Rattle.std.specs.Arc.{arc_value};
+
+use game::graph::Game;
+use game::name::GameName;
+use game::player::Player;
+use measures::settle::settle;
+use measures::table::{PlainTable, opening};
+use samples::games::{Row, game_of};
+use std::alloc::Global;
+use std::marker::Brand;
+use std::process::Abort;
+use std::sync::{Arc, Wait};
+use std::test::Fail;
+use tables::board::Board;
+use tables::locked::LockedBoard;
+
+// The game of `<a>true` on two states, of which the first leads to the second by a, and the second to the first by b.
+const DIAMOND: [Row; 6] = [
+    (Player::Even, 0, &[0]),
+    (Player::Even, 1, &[1]),
+    (Player::Even, 0, &[5]),
+    (Player::Even, 0, &[0]),
+    (Player::Even, 0, &[1]),
+    (Player::Even, 0, &[0]),
+];
+
+// A seat reads a vertex, raises it to top, and raises it once more.
+fn rises_once<B: Board>(rt: &impl Abort, board: &B, source: &PlainTable)
+    requires same { source.now.game ≡ B.game board.now }
+    requires vertex { 4 < length source.now.game.vertices }
+{
+    let Ok(mut seat) = board.seat() else {
+        panic!(rt; "no seat")
+    };
+    let top = source.value(4);
+    let before = board.read(&mut seat, 4);
+    assert!(rt; top.is_top() && !before.is_top() && before.counts() == [0].as_slice());
+    assert!(rt; board.raise(&mut seat, 4, &top), "it rises");
+    assert!(rt; board.read(&mut seat, 4).is_top(), "it is read");
+    assert!(rt; !board.raise(&mut seat, 4, &top), "it rises once");
+    assert!(rt;
+        board.own_lift(&mut seat, 4).is_none(),
+        "it is lifted by reads"
+    );
+    board.last(&mut seat);
+}
+
+// The same over so many shards, and what the board is finished into.
+fn rises_on<K: GameName, R: Wait + Drop>(
+    rt: &impl Abort,
+    handle: R,
+    alloc: Global,
+    game: Arc<Game, Global>,
+    source: &PlainTable,
+    shards: u32,
+) -> Result<(), Fail>
+    requires named { arc_value game ≡ K.game }
+    requires same { source.now.game ≡ K.game }
+    requires vertex { 4 < length source.now.game.vertices }
+    requires shards { 0 < shards }
+{
+    let mut table = opening(alloc, &game)?;
+    let Ok(board) = LockedBoard::<K, R>::new(handle, alloc, game, shards) else {
+        panic!(rt; "no board")
+    };
+    rises_once(rt, &board, source);
+    board.finish(&mut table);
+    assert!(rt; table.value(4).is_top() && !table.value(2).is_top());
+    Ok(())
+}
+
+#[test]
+fn a_vertex_rises_on_one_shard(rt: HostRuntime) -> Result<(), Fail> {
+    let game = Arc::new(rt.alloc(), game_of(&rt, &DIAMOND)?)?;
+    let mut source = opening(rt.alloc(), &game)?;
+    settle(&game, &mut source);
+    assert!(rt; 4 < game.vertices());
+    rises_on::<Brand, HostRuntime>(&rt, rt, rt.alloc(), game, &source, 1)
+}
+
+#[test]
+fn a_vertex_rises_on_sixteen_shards(rt: HostRuntime) -> Result<(), Fail> {
+    let game = Arc::new(rt.alloc(), game_of(&rt, &DIAMOND)?)?;
+    let mut source = opening(rt.alloc(), &game)?;
+    settle(&game, &mut source);
+    assert!(rt; 4 < game.vertices());
+    rises_on::<Brand, HostRuntime>(&rt, rt, rt.alloc(), game, &source, 16)
+}

@@ -1,0 +1,167 @@
+// Texts of games in the format of PGSolver and what is wrong with them, with the codes of docs/FORMATS.md. Games, texts and
+// lines of faults are worked examples of that format, written by hand.
+
+use crate::common::same;
+use game::build::build;
+use game::graph::Game;
+use game::player::Player;
+use pgsolver::{read_game, write_game};
+use samples::games::{Row, game_of};
+use samples::readers::{Halting, Slow};
+use samples::texts::{form_of, system_of};
+use samples::writers::{AMPLE, AtEnd, Narrow};
+use std::alloc::{AllocError, Global};
+use std::io::Read;
+use std::process::Abort;
+use std::test::Fail;
+
+// The canonical text of what was read, or the refusal.
+fn shown<R: Read + Drop>(alloc: Global, reader: R) -> Result<String, AllocError> {
+    match read_game(alloc, reader) {
+        Ok(game) => text_of(alloc, &game),
+        Err(error) => error.to_string(alloc),
+    }
+}
+
+fn text_of(alloc: Global, game: &Game) -> Result<String, AllocError> {
+    let mut out = Narrow::new(alloc, 8192, AMPLE);
+    let fault = write_game(game, &mut out).is_err();
+    match String::from_utf8(out.taken) {
+        Ok(text) if !fault => Ok(text),
+        _ => String::from_str(alloc, "a fault"),
+    }
+}
+
+const TWO: &str = "parity 1;\n0 0 0 1;\n1 1 1 0;\n";
+
+// Texts, and what is shown of each.
+const TEXTS: [(&str, &str); 31] = [
+    (TWO, TWO),
+    // The lines in another order, blanks, names, a successor that stands twice, and no end of the last line.
+    ("parity 1;\n1 1 1 0;\n0 0 0 1;", TWO),
+    ("parity 1;\r\n0 0 0 1 \"a\";\r\n1 1 1 0 \"\";\r\n", TWO),
+    (" parity1 ; \n\t0  0\t0 1 , 1,1;\n1 1 1 0\"x;y\" ;", TWO),
+    ("parity 0;\n0 31 1 0;", "parity 0;\n0 31 1 0;\n"),
+    ("", "G1 at line 1"),
+    ("start 0;", "G1 at line 1"),
+    ("parity 1", "G1 at line 1"),
+    ("parity 01;\n", "G1 at line 1"),
+    ("parity 16777216;", "G6 at line 1"),
+    ("parity 99999999999999999999;", "G6 at line 1"),
+    ("parity 0;\n0 0 2 0;", "G2 at line 2"),
+    ("parity 0;\n0 0 0 ,;", "G2 at line 2"),
+    ("parity 0;\n0 0 0 0", "G2 at line 2"),
+    ("parity 0;\n\n", "G2 at line 2"),
+    ("parity 0;\n0 00 0;", "G2 at line 2"),
+    ("parity 0;\n0 00;", "G2 at line 2"),
+    ("parity 1;\n0 0 0 1 0;", "G2 at line 2"),
+    ("parity 0;\n0 0 0 0 \"\x7f\";", "G2 at line 2"),
+    ("parity 1;\n0 0 0 1;", "G3 at line 3"),
+    ("parity 1;\n0 0 0 1;\n0 0 0 1;", "G3 at line 3"),
+    ("parity 0;\n1 0 0 0;", "G3 at line 2"),
+    ("parity 0;\n1 40 0;", "G3 at line 2"),
+    ("parity 0;\n0 0 0 0;\n0 0 0 0;", "G3 at line 3"),
+    ("parity 0;\n0 0 0 0;\n\n", "G2 at line 3"),
+    ("parity 0;\n0 0 0;", "G4 at line 2"),
+    ("parity 0;\n0 0 0\"x\";", "G4 at line 2"),
+    ("parity 0;\n0 0 0 2;", "G4 at line 2"),
+    ("parity 0;\n0 40 0 4294967296;", "G4 at line 2"),
+    ("parity 0;\n0 32 0 0;", "G5 at line 2"),
+    ("parity 0;\n0 4294967296 0 0;", "G5 at line 2"),
+];
+
+#[test]
+fn texts_are_read(rt: HostRuntime) -> Result<(), AllocError> {
+    for (text, wanted) in &TEXTS {
+        for step in [1, 7, 8192] {
+            let reader = Slow {
+                left: text.as_bytes(),
+                step,
+                fails: false,
+            };
+            same(&rt, text, shown(rt.alloc(), reader)?.as_str(), wanted);
+        }
+    }
+    Ok(())
+}
+
+// A text that is good as far as it goes is refused for the failed read, wherever that comes.
+#[test]
+fn a_failed_read_is_told_wherever_it_comes(rt: HostRuntime) -> Result<(), AllocError> {
+    for given in 0..=TWO.len() {
+        let reader = Slow {
+            left: &TWO.as_bytes()[..given],
+            step: 5,
+            fails: true,
+        };
+        same(
+            &rt,
+            "a beginning",
+            shown(rt.alloc(), reader)?.as_str(),
+            "G7",
+        );
+    }
+    Ok(())
+}
+
+#[test]
+fn an_interrupted_read_is_tried_again(rt: HostRuntime) -> Result<(), AllocError> {
+    let reader = Halting {
+        left: TWO.as_bytes(),
+        is_interrupted: false,
+    };
+    same(&rt, TWO, shown(rt.alloc(), reader)?.as_str(), TWO);
+    Ok(())
+}
+
+// Each growth may be refused: then nothing but that is told. `rt try --test --fail-alloc N` refuses the Nth.
+#[test]
+fn want_of_memory_is_told_as_such(rt: HostRuntime) {
+    let text = "parity 2;\n2 0 0 0,1;\n0 1 1 2;\n1 2 0 1 \"x\";\n";
+    if let Ok(told) = shown(rt.alloc(), text.as_bytes()) {
+        assert!(rt;
+            told.as_str() == "parity 2;\n0 1 1 2;\n1 2 0 1;\n2 0 0 0,1;\n" || told.as_str() == "G8",
+            "{told}"
+        );
+    }
+}
+
+// A game that `build` made is written with its names, and read again without them.
+#[test]
+fn names_are_written_and_not_read(rt: HostRuntime) -> Result<(), Fail> {
+    let lts = system_of(rt.alloc(), "des (0,0,1)")?;
+    let form = form_of(rt.alloc(), "[true]false").ok_or("no formula")?;
+    let game = build(&rt, rt.alloc(), &lts, &form)?;
+    let text = text_of(rt.alloc(), &game)?;
+    same(
+        &rt,
+        "names",
+        text.as_str(),
+        "parity 3;\n0 0 0 0 \"true\";\n1 1 0 1 \"false\";\n2 0 1 0 \"0,0\";\n3 0 0 1 \"0,1\";\n",
+    );
+    same(
+        &rt,
+        "no names",
+        shown(rt.alloc(), text.as_bytes())?.as_str(),
+        "parity 3;\n0 0 0 0;\n1 1 0 1;\n2 0 1 0;\n3 0 0 1;\n",
+    );
+    Ok(())
+}
+
+const ROWS: [Row; 2] = [(Player::Even, 0, &[1]), (Player::Odd, 1, &[0])];
+
+// A writer without room for the whole text is given a beginning, and a fault is told.
+#[test]
+fn a_failed_write_leaves_a_beginning(rt: HostRuntime) -> Result<(), Fail> {
+    let game = game_of(&rt, &ROWS)?;
+    for room in 0..TWO.len() {
+        for at_end in [AtEnd::Fails, AtEnd::TakesNothing] {
+            let mut out = Narrow::new(rt.alloc(), 4, room);
+            out.at_end = at_end;
+            assert!(rt; write_game(&game, &mut out).is_err());
+            assert!(rt; out.taken.len() == room);
+            assert!(rt; TWO.as_bytes().starts_with(out.taken.as_slice()));
+        }
+    }
+    Ok(())
+}

@@ -1,0 +1,207 @@
+// Games that were worked out by hand, in the order of PGSolver's format: a vertex, its priority, its owner (0 is Even) and
+// its successors.
+
+ghost use Rattle.std.specs.Prelude.{◌≤◌};
+
+use crate::common::same;
+use game::build::{build, build_split};
+use game::error::BuildError;
+use game::graph::Game;
+use game::player::Player;
+use lts::Lts;
+use normal::form::Normal;
+use samples::games::{Row, game_of, made};
+use samples::texts::{RING, form_of, repeated, system_of};
+use std::alloc::{AllocError, Global};
+use std::test::Fail;
+use std::thread::Threads;
+
+// A line for each vertex.
+fn shown(alloc: Global, game: &Game) -> Result<String, AllocError> {
+    let mut text = String::new(alloc);
+    for v in 0..game.vertices() {
+        let owner = match game.owner(v) {
+            Player::Even => 0,
+            Player::Odd => 1,
+        };
+        write!(text, "{v} {} {owner}", game.priority(v))?;
+        for successor in game.successors(v) {
+            let t = *successor;
+            write!(text, " {t}")?;
+        }
+        text.push('\n')?;
+    }
+    Ok(text)
+}
+
+// The game of a system and a normal form, or the refusal.
+fn text_of(alloc: Global, game: Result<Game, BuildError>) -> Result<String, AllocError> {
+    match game {
+        Ok(game) => shown(alloc, &game),
+        Err(error) => error.to_string(alloc),
+    }
+}
+
+// The same of texts, if they are a system and a formula.
+fn built(rt: &(impl AllocGlobal + Threads + Sync), system: &str, formula: &str) -> Option<String> {
+    let lts = system_of(rt.alloc(), system).ok()?;
+    let form = form_of(rt.alloc(), formula)?;
+    text_of(rt.alloc(), build(rt, rt.alloc(), &lts, &form)).ok()
+}
+
+// The same, where the states are cut into so many ranges.
+fn split(
+    rt: &(impl AllocGlobal + Threads + Sync),
+    system: &str,
+    formula: &str,
+    ranges: u32,
+) -> Option<String>
+    requires { 1 ≤ ranges }
+{
+    let lts = system_of(rt.alloc(), system).ok()?;
+    let form = form_of(rt.alloc(), formula)?;
+    text_of(rt.alloc(), build_split(rt, rt.alloc(), &lts, &form, ranges)).ok()
+}
+
+// Systems, formulas, and their games.
+const GAMES: [(&str, &str, &str); 3] = [
+    (
+        RING,
+        "<a>true",
+        "0 0 0 0\n1 1 0 1\n2 0 0 5\n3 0 0 0\n4 0 0 1\n5 0 0 0\n",
+    ),
+    (
+        "des (0,0,1)\n",
+        "[true]false",
+        "0 0 0 0\n1 1 0 1\n2 0 1 0\n3 0 0 1\n",
+    ),
+    (
+        RING,
+        "nu X. mu Y. (<a>X || <b>Y)",
+        "0 0 0 0\n1 1 0 1\n2 2 0 3\n3 1 0 4\n4 0 0 5 7\n5 0 0 13\n6 0 0 2\n7 0 0 1\n8 0 0 3\n9 2 0 10\n10 1 0 11\n11 0 0 12 14\n12 0 0 1\n13 0 0 9\n14 0 0 8\n15 0 0 10\n",
+    ),
+];
+
+#[test]
+fn vertices_are_states_with_nodes(rt: HostRuntime) -> Result<(), Fail> {
+    for (system, formula, wanted) in &GAMES {
+        let told = built(&rt, system, formula).ok_or("no texts")?;
+        same(&rt, formula, told.as_str(), wanted);
+    }
+    Ok(())
+}
+
+// However many ranges the states are cut into: as many as states, fewer, and more, of which some have none.
+#[test]
+fn each_split_gives_the_same_game(rt: HostRuntime) -> Result<(), Fail> {
+    for (system, formula, wanted) in &GAMES {
+        for ranges in [1, 2, 7] {
+            let told = split(&rt, system, formula, ranges).ok_or("no texts")?;
+            same(&rt, formula, told.as_str(), wanted);
+        }
+    }
+    Ok(())
+}
+
+const RING_OF_NINE: u32 = 9;
+
+// A ring of nine states: each leads to the next one, where truth is.
+#[test]
+fn each_split_of_a_ring_gives_its_game(rt: HostRuntime) -> Result<(), Fail> {
+    let mut system = format!(in rt.alloc(); "des (0,{RING_OF_NINE},{RING_OF_NINE})\n")?;
+    let mut wanted = format!(in rt.alloc(); "0 0 0 0\n1 1 0 1\n")?;
+    for state in 0..RING_OF_NINE {
+        let next = (state + 1) % RING_OF_NINE;
+        let (step, truth, after) = (2 + 2 * state, 3 + 2 * state, 3 + 2 * next);
+        write!(system, "({state},\"a\",{next})\n")?;
+        write!(wanted, "{step} 0 0 {after}\n{truth} 0 0 0\n")?;
+    }
+    for ranges in [1, 2, 7, RING_OF_NINE] {
+        let told = split(&rt, system.as_str(), "<a>true", ranges).ok_or("no texts")?;
+        same(&rt, "a ring of nine", told.as_str(), wanted.as_str());
+    }
+    Ok(())
+}
+
+// Each growth may be refused: then nothing but that is told. `rt try --test --fail-alloc N` refuses the Nth.
+#[test]
+fn want_of_memory_is_told_as_such(rt: HostRuntime) {
+    let (system, formula, wanted) = GAMES[0];
+    for ranges in [1, 2] {
+        if let Some(told) = split(&rt, system, formula, ranges) {
+            assert!(rt; told.as_str() == wanted || told.as_str() == "B2", "{told}");
+        }
+    }
+}
+
+const MILLION: &str = "des (0,0,1000000)\n";
+
+// A million states with one node fit.
+#[test]
+fn a_million_states_have_vertices(rt: HostRuntime) -> Result<(), Fail> {
+    let lts = system_of(rt.alloc(), MILLION)?;
+    let form = form_of(rt.alloc(), "true").ok_or("no form")?;
+    assert!(rt; build(&rt, rt.alloc(), &lts, &form)?.vertices() == 1_000_002);
+    Ok(())
+}
+
+// The vertex of each state with each node.
+#[test]
+fn vertices_are_known_by_their_names(rt: HostRuntime) -> Result<(), Fail> {
+    let lts = system_of(rt.alloc(), RING)?;
+    let form = form_of(rt.alloc(), "<a>true").ok_or("no form")?;
+    let game = build(&rt, rt.alloc(), &lts, &form)?;
+    assert!(rt; lts.states() == 2 && form.count() == 2);
+    assert!(rt; game.vertex_of(0, 1) == 3 && game.vertex_of(1, 0) == 4);
+    Ok(())
+}
+
+// With seventeen nodes they don't.
+#[test]
+fn vertices_are_counted_before_they_are_made(rt: HostRuntime) -> Result<(), Fail> {
+    let formula = repeated(rt.alloc(), "", "<a>", 16, "true")?;
+    let told = built(&rt, MILLION, formula.as_str()).ok_or("no texts")?;
+    same(&rt, "a million states", told.as_str(), "B1");
+    Ok(())
+}
+
+const THREE: [Row; 3] = [
+    (Player::Even, 0, &[0]),
+    (Player::Odd, 1, &[0, 2]),
+    (Player::Even, 1, &[1]),
+];
+
+#[test]
+fn games_are_made_by_hand(rt: HostRuntime) -> Result<(), Fail> {
+    let game = game_of(&rt, &THREE)?;
+    let told = shown(rt.alloc(), &game)?;
+    same(&rt, "three", told.as_str(), "0 0 0 0\n1 1 1 0 2\n2 1 0 1\n");
+    assert!(rt; game.count(1) == 2 && game.count(40) == 0);
+    Ok(())
+}
+
+// The first of two vertices: a priority that is too great, successors that descend, one that stands twice, one that is no
+// vertex, and none.
+const FAULTY: [Row; 5] = [
+    (Player::Even, 33, &[0, 1]),
+    (Player::Even, 0, &[1, 0]),
+    (Player::Even, 0, &[1, 1]),
+    (Player::Even, 0, &[0, 2]),
+    (Player::Even, 0, &[]),
+];
+
+#[test]
+fn what_is_no_game_is_told(rt: HostRuntime) -> Result<(), AllocError> {
+    for faulty in FAULTY {
+        assert!(rt; made(&rt, &[faulty, (Player::Odd, 0, &[0])])?.is_none());
+    }
+    Ok(())
+}
+
+// A game has a vertex. One that leads to itself is enough.
+#[test]
+fn no_vertex_makes_no_game(rt: HostRuntime) -> Result<(), Fail> {
+    assert!(rt; made(&rt, &[])?.is_none());
+    assert!(rt; made(&rt, &[(Player::Even, 0, &[0])])?.is_some());
+    Ok(())
+}

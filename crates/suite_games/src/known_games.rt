@@ -1,0 +1,177 @@
+// Families of games whose winners are known, and are argued beside each. Ladders and cliques are those that Friedmann and
+// Lange compared solvers by in 2009; in climbs lifting alone goes through each measure, as in Jurdzinski's bound of 2000.
+
+ghost use Rattle.std.specs.Prelude.{◌≡◌, ◌<◌, ◌≤◌};
+
+use crate::random_games::{is_same, lifted_alone};
+use game::graph::{Game, GameBuilder};
+use game::player::Player;
+use measures::settle::{even_wins, solve_one};
+use measures::table::Settled;
+use samples::games::push;
+use std::alloc::{AllocError, Global};
+use std::process::Abort;
+use std::test::Fail;
+
+// The vertices that Even wins.
+#[derive(Clone, Copy)]
+enum EvenWins {
+    All,
+    None,
+    Own,
+}
+
+// Whether Even wins just those.
+fn are_won(game: &Game, settled: &Settled, wins: EvenWins) -> bool
+    requires { settled.now.game ≡ game.now }
+{
+    for v in 0..game.vertices() {
+        let wanted = match wins {
+            EvenWins::All => true,
+            EvenWins::None => false,
+            EvenWins::Own => matches!(game.owner(v), Player::Even),
+        };
+        if even_wins(settled, v) != wanted {
+            return false;
+        }
+    }
+    true
+}
+
+fn is_solved(alloc: Global, game: &Game, wins: EvenWins) -> Result<bool, Fail> {
+    let settled = solve_one(alloc, game)?;
+    Ok(are_won(game, &settled, wins))
+}
+
+// The same where the game is so small that lifting alone ends soon, and then as it does.
+fn is_lifted(alloc: Global, game: &Game, wins: EvenWins) -> Result<bool, Fail> {
+    let settled = solve_one(alloc, game)?;
+    let lifted = lifted_alone(alloc, game)?;
+    Ok(are_won(game, &settled, wins) && is_same(game, &settled, &lifted))
+}
+
+// Even has the even vertices, and Odd the odd ones.
+fn owner_of(v: u32) -> Player {
+    if v % 2 == 0 {
+        Player::Even
+    } else {
+        Player::Odd
+    }
+}
+
+// A ring of rungs: a vertex of Even with priority 0, and one of Odd with priority 1. From each the play goes on to one of the
+// two after it. So each player can stay at the own vertices, whose priority is good.
+fn ladder(rt: &(impl Abort + AllocGlobal), rungs: u32) -> Result<Option<Game>, AllocError>
+    requires some { 1 < rungs }
+    requires few { rungs ≤ 1_000_000 }
+{
+    let mut builder = GameBuilder::new(rt.alloc());
+    let vertices = 2 * rungs;
+    for v in 0..vertices {
+        let (near, far) = ((v + 1) % vertices, (v + 2) % vertices);
+        let next = [near.min(far), near.max(far)];
+        push(&mut builder, owner_of(v), (v % 2) as u8, &next)?;
+    }
+    Ok(builder.finish())
+}
+
+#[test]
+fn on_a_ladder_each_wins_the_own_vertices(rt: HostRuntime) -> Result<(), Fail> {
+    for rungs in 2..40 {
+        let game = ladder(&rt, rungs)?.ok_or("no ladder")?;
+        assert!(rt; is_lifted(rt.alloc(), &game, EvenWins::Own)?, "{rungs}");
+    }
+    let game = ladder(&rt, 50_000)?.ok_or("no ladder")?;
+    assert!(rt; is_solved(rt.alloc(), &game, EvenWins::Own)?);
+    Ok(())
+}
+
+// Each vertex has its number as priority, and leads to all others.
+fn clique(rt: &(impl Abort + AllocGlobal), vertices: u32) -> Result<Option<Game>, AllocError>
+    requires { vertices ≤ 33 }
+{
+    let mut builder = GameBuilder::new(rt.alloc());
+    let mut others = Vec::new(rt.alloc());
+    for v in 0..vertices {
+        others.clear();
+        for t in 0..vertices {
+            if t != v {
+                others.push(t)?;
+            }
+        }
+        push(&mut builder, owner_of(v), v as u8, others.as_slice())?;
+    }
+    Ok(builder.finish())
+}
+
+// Of two vertices the play meets both. Of three, Odd has one and must leave it, and Even goes between her two. Of more, each
+// player goes between two of the own.
+#[test]
+fn in_a_clique_who_has_two_vertices_wins_them(rt: HostRuntime) -> Result<(), Fail> {
+    for vertices in 2..=33 {
+        let wins = match vertices {
+            2 => EvenWins::None,
+            3 => EvenWins::All,
+            _ => EvenWins::Own,
+        };
+        let game = clique(&rt, vertices)?.ok_or("no clique")?;
+        assert!(rt; is_lifted(rt.alloc(), &game, wins)?, "{vertices}");
+    }
+    Ok(())
+}
+
+// A climb: a way of rows, and a round. The way ends at a vertex that leads to itself. Before it come so many vertices of the
+// greatest odd priority, before those as many of the next, and so on, each leading to the one before. In the round Even
+// goes either to the beginning of the way or to a vertex of priority 1 that leads back. So the winner at the way's end wins
+// everywhere: Even has to leave the round at some time. Lifting alone goes round it once for each measure below the one at
+// the beginning of the way.
+fn climb(
+    rt: &(impl Abort + AllocGlobal),
+    rows: u8,
+    width: u32,
+    winner: Player,
+) -> Result<Option<Game>, AllocError> {
+    assert!(rt; rows < 16);
+    let end = match winner {
+        Player::Even => 2 * rows,
+        Player::Odd => 2 * rows + 1,
+    };
+    let mut builder = GameBuilder::new(rt.alloc());
+    push(&mut builder, Player::Odd, end, &[0])?;
+    let mut last: u32 = 0;
+    for row in (0..rows).rev() {
+        for _ in 0..width {
+            push(&mut builder, owner_of(last), 2 * row + 1, &[last])?;
+            last = last.wrapping_add(1);
+        }
+    }
+    let round = last.wrapping_add(1);
+    push(
+        &mut builder,
+        Player::Even,
+        0,
+        &[last, round.wrapping_add(1)],
+    )?;
+    push(&mut builder, Player::Odd, 1, &[round])?;
+    Ok(builder.finish())
+}
+
+// Rows, and how many vertices each has.
+const SMALL: [(u8, u32); 4] = [(1, 50), (2, 12), (3, 6), (4, 3)];
+
+#[test]
+fn who_wins_at_the_end_of_a_way_wins_the_climb(rt: HostRuntime) -> Result<(), Fail> {
+    for (rows, width) in SMALL {
+        let even = climb(&rt, rows, width, Player::Even)?.ok_or("no climb")?;
+        assert!(rt;
+            is_lifted(rt.alloc(), &even, EvenWins::All)?,
+            "Even, {rows} rows"
+        );
+        let odd = climb(&rt, rows, width, Player::Odd)?.ok_or("no climb")?;
+        assert!(rt;
+            is_lifted(rt.alloc(), &odd, EvenWins::None)?,
+            "Odd, {rows} rows"
+        );
+    }
+    Ok(())
+}

@@ -1,0 +1,160 @@
+// What a search finds to be lost: in small games whose winners were worked out by hand, one letter for each vertex, and in
+// games made at random exactly what the least progress table says, which is proved.
+
+ghost use Rattle.std.specs.Prelude.{◌≡◌};
+
+use game::build::build;
+use game::graph::Game;
+use game::player::Player;
+use measures::settle::{even_wins, solve_one};
+use measures::table::Settled;
+use samples::dice::{Dice, roll_game};
+use samples::games::{Row, game_of};
+use samples::texts::{form_of, system_of};
+use search::lost::Lost;
+use search::predecessors::Predecessors;
+use std::alloc::{AllocError, Global};
+use std::test::Fail;
+use std::thread::Threads;
+
+// Games, and who wins each vertex.
+const GAMES: [(&[Row], &str); 11] = [
+    (&[(Player::Even, 0, &[0])], "e"),
+    (&[(Player::Odd, 1, &[0])], "o"),
+    (&[(Player::Even, 1, &[0, 1]), (Player::Odd, 0, &[1])], "ee"),
+    (&[(Player::Odd, 1, &[0, 1]), (Player::Even, 0, &[1])], "oe"),
+    (&[(Player::Even, 1, &[1]), (Player::Odd, 2, &[0])], "ee"),
+    (&[(Player::Even, 2, &[1]), (Player::Odd, 3, &[0])], "oo"),
+    (
+        &[
+            (Player::Odd, 1, &[1, 2]),
+            (Player::Even, 0, &[0]),
+            (Player::Even, 0, &[2]),
+        ],
+        "ooe",
+    ),
+    (
+        &[
+            (Player::Even, 0, &[1, 2]),
+            (Player::Odd, 1, &[0, 2]),
+            (Player::Odd, 2, &[0, 3]),
+            (Player::Odd, 3, &[0, 3]),
+        ],
+        "oooo",
+    ),
+    (
+        &[
+            (Player::Even, 3, &[0, 1]),
+            (Player::Odd, 2, &[1, 2]),
+            (Player::Even, 4, &[1]),
+        ],
+        "eee",
+    ),
+    (
+        &[
+            (Player::Odd, 4, &[1]),
+            (Player::Even, 3, &[0, 2]),
+            (Player::Even, 5, &[2]),
+        ],
+        "eeo",
+    ),
+    (
+        &[
+            (Player::Odd, 2, &[1, 2]),
+            (Player::Odd, 1, &[0, 1]),
+            (Player::Even, 0, &[0, 2]),
+        ],
+        "ooe",
+    ),
+];
+
+// Whether the search finds what the table says.
+fn agree(game: &Game, lost: &Lost, settled: &Settled) -> bool
+    requires { settled.now.game ≡ game.now }
+{
+    for v in 0..game.vertices() {
+        if lost.has(v) == even_wins(settled, v) {
+            return false;
+        }
+    }
+    true
+}
+
+fn is_found(alloc: Global, game: &Game) -> Result<bool, Fail> {
+    let lost = Lost::of(alloc, game, &Predecessors::of(alloc, game)?)?;
+    let settled = solve_one(alloc, game)?;
+    Ok(agree(game, &lost, &settled))
+}
+
+// Whether the search finds just the vertices with an `o`.
+fn are_lost(lost: &Lost, winners: &str) -> bool {
+    (0..99)
+        .zip(winners.bytes())
+        .all(|(v, winner)| lost.has(v) == (winner == b'o'))
+}
+
+#[test]
+fn small_games_are_searched(rt: HostRuntime) -> Result<(), Fail> {
+    for (rows, winners) in &GAMES {
+        let game = game_of(&rt, rows)?;
+        let predecessors = Predecessors::of(rt.alloc(), &game)?;
+        let lost = Lost::of(rt.alloc(), &game, &predecessors)?;
+        assert!(rt; are_lost(&lost, winners), "{winners}");
+        assert!(rt; is_found(rt.alloc(), &game)?, "{winners}");
+    }
+    Ok(())
+}
+
+#[test]
+fn games_at_random_are_searched(rt: HostRuntime) -> Result<(), Fail> {
+    let mut dice = Dice::new(1);
+    for number in 0..300 {
+        let game = roll_game(&rt, &mut dice, 10, 6)?.ok_or("no game")?;
+        assert!(rt; is_found(rt.alloc(), &game)?, "{number}");
+    }
+    Ok(())
+}
+
+const STATES: u32 = 20_000;
+
+// A ring of so many states with one more step from each, at random. No step is a `c`.
+fn branching(alloc: Global) -> Result<String, AllocError> {
+    let mut text = format!(in alloc; "des (0,{},{STATES})\n", 2 * STATES)?;
+    let mut dice = Dice::new(1);
+    for state in 0..STATES {
+        let next = (state + 1) % STATES;
+        let other = dice.roll(STATES);
+        write!(text, "({state},\"a\",{next})\n({state},\"b\",{other})\n")?;
+    }
+    Ok(text)
+}
+
+fn branching_game(rt: &(impl AllocGlobal + Threads + Sync)) -> Result<Game, Fail> {
+    let text = branching(rt.alloc())?;
+    let lts = system_of(rt.alloc(), text.as_str())?;
+    let form = form_of(rt.alloc(), "mu X. (<c>true || <true>X)").ok_or("no form")?;
+    Ok(build(rt, rt.alloc(), &lts, &form)?)
+}
+
+// Whether Even wins just the vertex of truth, and the fourth of the six nodes at each state, which is `true`.
+fn are_trues(game: &Game, settled: &Settled) -> bool
+    requires { settled.now.game ≡ game.now }
+{
+    for v in 0..game.vertices() {
+        let is_true = v == 0 || (v >= 2 && (v - 2) % 6 == 3);
+        if even_wins(settled, v) != is_true {
+            return false;
+        }
+    }
+    true
+}
+
+// Lifting alone would take minutes, which is more than a test has.
+#[test]
+fn what_is_lost_is_found_at_once(rt: HostRuntime) -> Result<(), Fail> {
+    let game = branching_game(&rt)?;
+    let settled = solve_one(rt.alloc(), &game)?;
+    assert!(rt; game.vertices() == 2 + 6 * STATES);
+    assert!(rt; are_trues(&game, &settled));
+    Ok(())
+}

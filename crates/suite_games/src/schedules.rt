@@ -1,0 +1,208 @@
+// Schedules of workers and their replays: the worked examples of docs/FORMATS.md, on the games of `<a>true` and `<a><a>true`.
+
+use game::graph::Game;
+use game::player::Player;
+use liftcore::event::{Event, Outcome};
+use liftcore::machine::{Core, run};
+use liftcore::schedule::read_schedule;
+use liftcore::writer::write_replay;
+use samples::games::{Row, game_of};
+use std::alloc::Global;
+use std::test::Fail;
+
+// The game of `<a>true` on two states, of which the first leads to the second by a, and the second to the first by b.
+pub const STEP: [Row; 6] = [
+    (Player::Even, 0, &[0]),
+    (Player::Even, 1, &[1]),
+    (Player::Even, 0, &[5]),
+    (Player::Even, 0, &[0]),
+    (Player::Even, 0, &[1]),
+    (Player::Even, 0, &[0]),
+];
+
+// The same of `<a><a>true`.
+pub const TWO_STEPS: [Row; 8] = [
+    (Player::Even, 0, &[0]),
+    (Player::Even, 1, &[1]),
+    (Player::Even, 0, &[6]),
+    (Player::Even, 0, &[7]),
+    (Player::Even, 0, &[0]),
+    (Player::Even, 0, &[1]),
+    (Player::Even, 0, &[1]),
+    (Player::Even, 0, &[0]),
+];
+
+// What a schedule for two workers comes to, or its refusal.
+fn replayed(alloc: Global, game: &Game, schedule: &str) -> Result<String, Fail> {
+    let events = match read_schedule(alloc, schedule.as_bytes(), 2, game.vertices()) {
+        Ok(events) => events,
+        Err(error) => return Ok(error.to_string(alloc)?),
+    };
+    let mut core = Core::new(alloc, game, 2)?;
+    let tally = core.follow(events.as_slice());
+    let mut text = Vec::new(alloc);
+    write_replay(&core, tally, &mut text)?;
+    Ok(String::from_utf8(text).ok().ok_or("no text")?)
+}
+
+const STEP_RAISED: &str =
+    "0 (0)\n1 top\n2 (0)\n3 (0)\n4 top\n5 (0)\npending 0,1,2,3,5\nsettled yes\nquiet no\n";
+
+const LATE: &str =
+    "take 0 2\nread 0 6\ntake 1 6\nread 1 1\nraise 1\nraise 0\npush 1 2\ntake 0 2\nread 0 6\nraise 0\ntake 1 5\nread 1 1\nraise 1\n";
+
+const LATE_RAISED: &str =
+    "0 (0)\n1 top\n2 top\n3 (0)\n4 (0)\n5 top\n6 top\n7 (0)\npending 0,1,3,4,7\nsettled yes\nquiet no\n";
+
+// The first line and the rest.
+fn after(alloc: Global, first: &str, rest: &str) -> Result<String, Fail> {
+    let mut text = String::from_str(alloc, first)?;
+    text.push_str(rest)?;
+    Ok(text)
+}
+
+#[test]
+fn one_step_is_replayed(rt: HostRuntime) -> Result<(), Fail> {
+    let game = game_of(&rt, &STEP)?;
+    let text = replayed(rt.alloc(), &game, "take 0 4\nread 0 1\nraise 0\n")?;
+    let wanted = after(rt.alloc(), "events 3 done 3 skipped 0\n", STEP_RAISED)?;
+    assert!(rt; text.as_str() == wanted.as_str());
+    let text = replayed(rt.alloc(), &game, "take 0 4\nread 0 1\nraise 0\nraise 0")?;
+    let wanted = after(rt.alloc(), "events 4 done 3 skipped 1\n", STEP_RAISED)?;
+    assert!(rt; text.as_str() == wanted.as_str());
+    Ok(())
+}
+
+#[test]
+fn a_late_read_does_no_harm(rt: HostRuntime) -> Result<(), Fail> {
+    let game = game_of(&rt, &TWO_STEPS)?;
+    let text = replayed(rt.alloc(), &game, LATE)?;
+    let wanted = after(rt.alloc(), "events 13 done 13 skipped 0\n", LATE_RAISED)?;
+    assert!(rt; text.as_str() == wanted.as_str());
+    let late = after(rt.alloc(), "raise 0\n", LATE)?;
+    let text = replayed(rt.alloc(), &game, late.as_str())?;
+    let wanted = after(rt.alloc(), "events 14 done 13 skipped 1\n", LATE_RAISED)?;
+    assert!(rt; text.as_str() == wanted.as_str());
+    Ok(())
+}
+
+// Schedules for two workers and eight vertices, and their refusals.
+const REFUSED: [(&str, &str); 9] = [
+    ("take 2 0\n", "S2 at line 1"),
+    ("take 0 8\n", "S3 at line 1"),
+    ("take 2 8\n", "S2 at line 1"),
+    ("take 0\n", "S1 at line 1"),
+    ("\n", "S1 at line 1"),
+    ("raise 0\ntake 0 8\ntake 2 0\n", "S3 at line 2"),
+    ("raise 0\r\n", "S1 at line 1"),
+    ("take 0  1\n", "S1 at line 1"),
+    ("take 99999999999 0", "S2 at line 1"),
+];
+
+#[test]
+fn faulty_schedules_are_refused(rt: HostRuntime) -> Result<(), Fail> {
+    let game = game_of(&rt, &TWO_STEPS)?;
+    for (schedule, wanted) in &REFUSED {
+        let text = replayed(rt.alloc(), &game, schedule)?;
+        assert!(rt; text.as_str() == *wanted);
+    }
+    Ok(())
+}
+
+#[test]
+fn the_empty_text_is_a_schedule(rt: HostRuntime) -> Result<(), Fail> {
+    let game = game_of(&rt, &STEP)?;
+    let text = replayed(rt.alloc(), &game, "")?;
+    let wanted =
+        "events 0 done 0 skipped 0\n0 (0)\n1 top\n2 (0)\n3 (0)\n4 (0)\n5 (0)\npending 0,1,2,3,4,5\nsettled no\nquiet no\n";
+    assert!(rt; text.as_str() == wanted);
+    Ok(())
+}
+
+#[test]
+fn events_that_cannot_be_done_are_skipped(rt: HostRuntime) -> Result<(), Fail> {
+    let game = game_of(&rt, &STEP)?;
+    let mut core = Core::new(rt.alloc(), &game, 1)?;
+    let skipped = [
+        Event::Read {
+            worker: 0,
+            vertex: 1,
+        },
+        Event::Raise { worker: 0 },
+        Event::Push {
+            worker: 0,
+            vertex: 1,
+        },
+        Event::Take {
+            worker: 1,
+            vertex: 4,
+        },
+        Event::Take {
+            worker: 0,
+            vertex: 6,
+        },
+    ];
+    for event in skipped {
+        assert_eq!(rt; core.step(event), Outcome::Skipped);
+    }
+    assert_eq!(rt;
+        core.step(Event::Take {
+            worker: 0,
+            vertex: 4
+        }),
+        Outcome::Done
+    );
+    assert_eq!(rt;
+        core.step(Event::Take {
+            worker: 0,
+            vertex: 5
+        }),
+        Outcome::Skipped
+    );
+    assert_eq!(rt;
+        core.step(Event::Read {
+            worker: 0,
+            vertex: 0
+        }),
+        Outcome::Skipped
+    );
+    assert!(rt; !core.is_pending(4) && core.is_pending(5));
+    Ok(())
+}
+
+#[test]
+fn a_quiet_core_is_settled(rt: HostRuntime) -> Result<(), Fail> {
+    let game = game_of(&rt, &STEP)?;
+    let mut core = Core::new(rt.alloc(), &game, 1)?;
+    for vertex in 0..game.vertices() {
+        for next in game.successors(vertex) {
+            core.step(Event::Take { worker: 0, vertex });
+            core.step(Event::Read {
+                worker: 0,
+                vertex: *next,
+            });
+            core.step(Event::Raise { worker: 0 });
+        }
+    }
+    assert!(rt; core.is_quiet() && core.is_settled());
+    Ok(())
+}
+
+#[test]
+fn a_run_is_its_events(rt: HostRuntime) -> Result<(), Fail> {
+    let game = game_of(&rt, &STEP)?;
+    let events = [
+        Event::Take {
+            worker: 0,
+            vertex: 4,
+        },
+        Event::Read {
+            worker: 0,
+            vertex: 1,
+        },
+        Event::Raise { worker: 0 },
+    ];
+    let core = run(rt.alloc(), &game, 1, events.as_slice())?;
+    assert!(rt; core.is_settled() && !core.is_quiet() && !core.is_pending(4));
+    Ok(())
+}

@@ -1,0 +1,47 @@
+// Canonical texts of formulas: parentheses were put by hand, by how tightly the mCRL2 manual says that operators bind.
+
+use formula::error::FormulaError;
+use formula::print;
+use samples::texts::formula_of;
+use samples::writers::{AMPLE, Narrow};
+use std::alloc::Global;
+
+const OFTEN: &str = "nu X. mu Y. (<a>X || <b>Y)";
+
+// Texts of formulas, and their canonical texts.
+const TEXTS: [(&str, &str); 5] = [
+    ("true", "true"),
+    (OFTEN, "(nu X. (mu Y. (<a>X || <b>Y)))"),
+    ("<a + + b>true", "<(a+ + b)>true"),
+    ("mu X. !(X => false)", "(mu X. !(X => false))"),
+    (
+        "[(\"r(1)\".(b|a && !tau))*]false",
+        "[(\"r(1)\" . (a|b && !tau))*]false",
+    ),
+];
+
+// Whether a writer with so much room takes this of the canonical text, and a fault is told just where that isn't all.
+fn prints(alloc: Global, text: &str, room: usize, wanted: &str) -> Result<bool, FormulaError> {
+    let formula = formula_of(alloc, text)?;
+    let mut out = Narrow::new(alloc, 7, room);
+    let is_whole = print(&formula, &mut out).is_ok();
+    Ok(is_whole == (room == AMPLE) && out.taken.as_slice() == wanted.as_bytes())
+}
+
+#[test]
+fn texts_are_canonical(rt: HostRuntime) -> Result<(), FormulaError> {
+    for (text, canonical) in &TEXTS {
+        assert!(rt; prints(rt.alloc(), text, AMPLE, canonical)?, "{text}");
+        assert!(rt;
+            prints(rt.alloc(), canonical, AMPLE, canonical)?,
+            "{canonical}"
+        );
+    }
+    Ok(())
+}
+
+#[test]
+fn printing_stops_where_the_writer_is_full(rt: HostRuntime) -> Result<(), FormulaError> {
+    assert!(rt; prints(rt.alloc(), OFTEN, 10, "(nu X. (mu")?);
+    Ok(())
+}

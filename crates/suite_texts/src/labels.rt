@@ -1,0 +1,91 @@
+// Labels, and which of them an action formula holds of: by the mCRL2 manual (multi-actions), worked out by hand.
+
+use formula::closed::Closed;
+use formula::holds;
+use formula::tree::{Act, Reg, State};
+use lts::Label;
+use normal::action::copied;
+use samples::texts::formula_of;
+use std::alloc::{AllocError, Global};
+use std::test::Fail;
+
+// The names that a label is read as, each before a stop, or a dash.
+fn names(alloc: Global, label: &Label) -> Result<Vec<u8>, AllocError> {
+    let mut text = Vec::new(alloc);
+    match label.view().names {
+        None => text.push(b'-')?,
+        Some(names) => {
+            for name in names {
+                text.extend_from_slice(name)?;
+                text.push(b'.')?;
+            }
+        }
+    }
+    Ok(text)
+}
+
+fn is_read_as(alloc: Global, text: &str, wanted: &str) -> Result<bool, AllocError> {
+    let label = Label::new(alloc, text.as_bytes())?;
+    Ok(names(alloc, &label)?.as_slice() == wanted.as_bytes())
+}
+
+// Labels, and the names that they are read as.
+const READINGS: [(&str, &str); 6] = [
+    ("b|a", "a.b."),
+    ("a|b|a", "a.a.b."),
+    ("tau", ""),
+    ("a|tau", "-"),
+    ("r(1)", "-"),
+    ("true", "true."),
+];
+
+#[test]
+fn labels_are_read_as_names(rt: HostRuntime) -> Result<(), AllocError> {
+    for (text, wanted) in &READINGS {
+        assert!(rt; is_read_as(rt.alloc(), text, wanted)?, "{text}");
+    }
+    Ok(())
+}
+
+// Labels, formulas whose modality has an action formula, and whether it holds of the label.
+const ROWS: [(&str, &str, bool); 8] = [
+    ("b|a", "<a|b>true", true),
+    ("b|a", "<a>true", false),
+    ("b|a", "<\"a|b\">true", false),
+    ("r(1)", "<\"r(1)\">true", true),
+    ("r(1)", "<r>true", false),
+    ("tau", "<tau>true", true),
+    ("tau", "<a>true", false),
+    ("tau", "<true && !tau>true", false),
+];
+
+// Whether the action formula and its copy say that of the label.
+fn agree(alloc: Global, action: &Act, label: &Label, says: bool) -> Result<bool, AllocError> {
+    let copy = copied(alloc, action)?;
+    Ok(holds(action, &label.view()) == says && holds(&copy, &label.view()) == says)
+}
+
+// The same of a formula whose modality has the action formula.
+fn says_of(alloc: Global, formula: &Closed, label: &Label, says: bool) -> Result<bool, AllocError> {
+    match formula.tree() {
+        State::Dia(Reg::Act(action), _) => agree(alloc, action, label, says),
+        _ => Ok(false),
+    }
+}
+
+fn is_as_wanted(alloc: Global, label: &str, formula: &str, says: bool) -> Result<bool, Fail> {
+    let label = Label::new(alloc, label.as_bytes())?;
+    let formula = formula_of(alloc, formula)?;
+    Ok(says_of(alloc, &formula, &label, says)?)
+}
+
+#[test]
+fn action_formulas_hold_of_labels(rt: HostRuntime) -> Result<(), Fail> {
+    for (label, formula, says) in &ROWS {
+        assert!(rt;
+            is_as_wanted(rt.alloc(), label, formula, *says)?,
+            "{label} {formula}"
+        );
+    }
+    Ok(())
+}

@@ -1,0 +1,25 @@
+// Tests of texts, formulas, their meaning and their normal forms, by what the crates offer to others.
+#![tactic(auto)]
+
+#[cfg(test)]
+mod batches;
+#[cfg(test)]
+mod canonical_texts;
+#[cfg(test)]
+mod common;
+#[cfg(test)]
+mod formula_texts;
+#[cfg(test)]
+mod labels;
+#[cfg(test)]
+mod lines_and_tokens;
+#[cfg(test)]
+mod meanings;
+#[cfg(test)]
+mod normal_forms;
+#[cfg(test)]
+mod normal_texts;
+#[cfg(test)]
+mod system_texts;
+#[cfg(test)]
+mod written_systems;

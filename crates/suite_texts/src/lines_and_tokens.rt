@@ -1,0 +1,211 @@
+// Lines, tokens and pieces of texts, as docs/FORMATS.md has them of all texts and of systems: worked out by hand.
+
+use samples::readers::Slow;
+use samples::writers::{AMPLE, Narrow};
+use std::alloc::{AllocError, Global};
+use std::io::BufReader;
+use std::test::Fail;
+use text::scan::{is_end, number, number_before, quoted, sign};
+use text::{Piece, ReadFault, next_line, put_pieces};
+
+// Texts, and their lines with a bar after each.
+const LINES: [(&str, &str); 10] = [
+    ("", ""),
+    ("a\nb\n", "a|b|"),
+    ("a\nb", "a|b|"),
+    ("a\r\nb\r\n", "a|b|"),
+    ("a\nb\r", "a|b|"),
+    ("\n\n", "||"),
+    ("\r\n\na", "||a|"),
+    ("\r", "|"),
+    ("a\rb\n", "a\rb|"),
+    ("a\r\r\n", "a\r|"),
+];
+
+// The next line with a bar, if there is one.
+fn take_line(
+    reader: &mut &[u8],
+    line: &mut Vec<u8>,
+    shown: &mut Vec<u8>,
+) -> Result<bool, AllocError> {
+    match next_line(reader, line) {
+        Ok(true) => {
+            shown.extend_from_slice(line.as_slice())?;
+            shown.push(b'|')?;
+            Ok(true)
+        }
+        _ => Ok(false),
+    }
+}
+
+fn lines_of(alloc: Global, text: &str) -> Result<Vec<u8>, AllocError> {
+    let mut reader = text.as_bytes();
+    let mut line = Vec::new(alloc);
+    let mut shown = Vec::new(alloc);
+    for _ in 0..9 {
+        if !take_line(&mut reader, &mut line, &mut shown)? {
+            break;
+        }
+    }
+    Ok(shown)
+}
+
+#[test]
+fn texts_have_lines(rt: HostRuntime) -> Result<(), AllocError> {
+    for (text, wanted) in &LINES {
+        assert!(rt;
+            lines_of(rt.alloc(), text)?.as_slice() == wanted.as_bytes(),
+            "{wanted}"
+        );
+    }
+    Ok(())
+}
+
+// The first line is read, and the second one's end fails.
+#[test]
+fn a_failed_read_is_no_line(rt: HostRuntime) -> Result<(), Fail> {
+    let slow = Slow {
+        left: b"a\nb",
+        step: 1,
+        fails: true,
+    };
+    let mut reader = BufReader::new(rt.alloc(), slow)?;
+    let mut line = Vec::new(rt.alloc());
+    assert!(rt; next_line(&mut reader, &mut line) == Ok(true));
+    assert!(rt; line.as_slice() == b"a".as_slice());
+    assert!(rt; next_line(&mut reader, &mut line) == Err(ReadFault::Read));
+    Ok(())
+}
+
+// Lines, signs, and what follows.
+const SIGNS: [(&str, &str, Option<&str>); 7] = [
+    ("des (0", "des", Some(" (0")),
+    (" \t( 0", "(", Some(" 0")),
+    ("des", "des", Some("")),
+    ("dex", "des", None),
+    ("d es", "des", None),
+    ("de", "des", None),
+    ("", "(", None),
+];
+
+// Lines, their numbers, and what follows. The greatest of the type stands for greater ones.
+const NUMBERS: [(&str, Option<(u32, &str)>); 11] = [
+    ("0,", Some((0, ","))),
+    (" \t17 ,", Some((17, " ,"))),
+    ("1 2", Some((1, " 2"))),
+    ("4294967295)", Some((4_294_967_295, ")"))),
+    ("4294967296)", Some((4_294_967_295, ")"))),
+    ("99999999999999999999999", Some((4_294_967_295, ""))),
+    ("01", None),
+    ("00", None),
+    ("-1", None),
+    (",", None),
+    ("", None),
+];
+
+// Lines, the numbers before a comma, and what follows.
+const BEFORE: [(&str, Option<(u32, &str)>); 4] = [
+    ("0 , 1", Some((0, " 1"))),
+    ("7,", Some((7, ""))),
+    ("7)", None),
+    (",", None),
+];
+
+// Lines, what they quote, and what follows.
+const QUOTES: [(&str, Option<(&str, &str)>); 6] = [
+    ("\"a\",1)", Some(("a", ",1)"))),
+    (" \t\"\"", Some(("", ""))),
+    ("\" a \" )", Some((" a ", " )"))),
+    ("\"a", None),
+    ("a\"b\"", None),
+    ("", None),
+];
+
+const ENDS: [(&str, bool); 4] = [("", true), (" \t", true), (" a", false), ("\r", false)];
+
+fn is_rest(found: Option<&[u8]>, wanted: &Option<&str>) -> bool {
+    match (found, wanted) {
+        (Some(rest), Some(text)) => rest == text.as_bytes(),
+        (None, None) => true,
+        _ => false,
+    }
+}
+
+fn is_number(found: Option<(u32, &[u8])>, wanted: &Option<(u32, &str)>) -> bool {
+    match (found, wanted) {
+        (Some((value, rest)), Some((number, text))) => value == *number && rest == text.as_bytes(),
+        (None, None) => true,
+        _ => false,
+    }
+}
+
+fn is_quote(found: Option<(&[u8], &[u8])>, wanted: &Option<(&str, &str)>) -> bool {
+    match (found, wanted) {
+        (Some((quote, rest)), Some((inner, text))) => {
+            quote == inner.as_bytes() && rest == text.as_bytes()
+        }
+        (None, None) => true,
+        _ => false,
+    }
+}
+
+#[test]
+fn signs_and_ends_are_found(rt: HostRuntime) {
+    for (line, token, wanted) in &SIGNS {
+        assert!(rt;
+            is_rest(sign(line.as_bytes(), token.as_bytes()), wanted),
+            "{line}"
+        );
+    }
+    for (line, wanted) in &ENDS {
+        assert!(rt; is_end(line.as_bytes()) == *wanted, "{line}");
+    }
+}
+
+#[test]
+fn numbers_are_found(rt: HostRuntime) {
+    for (line, wanted) in &NUMBERS {
+        assert!(rt; is_number(number(line.as_bytes()), wanted), "{line}");
+    }
+    for (line, wanted) in &BEFORE {
+        assert!(rt;
+            is_number(number_before(line.as_bytes(), b","), wanted),
+            "{line}"
+        );
+    }
+}
+
+#[test]
+fn quotes_are_found(rt: HostRuntime) {
+    for (line, wanted) in &QUOTES {
+        assert!(rt; is_quote(quoted(line.as_bytes()), wanted), "{line}");
+    }
+}
+
+const PIECES: [Piece<'static>; 5] = [
+    Piece::Bytes(b"system "),
+    Piece::Number(1_000_000),
+    Piece::Bytes(b""),
+    Piece::Bytes(b" states "),
+    Piece::Number(18_446_744_073_709_551_615),
+];
+
+const JOINED: &[u8] = b"system 1000000 states 18446744073709551615";
+
+// Whether a writer with so much room is given a beginning, and a fault is told unless it is all.
+fn is_put(alloc: Global, step: usize, room: usize) -> bool {
+    let mut out = Narrow::new(alloc, step, room);
+    let answer = put_pieces(&mut out, &PIECES);
+    answer.is_ok() == (room >= JOINED.len())
+        && out.taken.as_slice() == &JOINED[..room.min(JOINED.len())]
+}
+
+#[test]
+fn pieces_are_put_one_after_another(rt: HostRuntime) {
+    for step in [1, 7, 8192] {
+        assert!(rt; is_put(rt.alloc(), step, AMPLE));
+        for room in 0..JOINED.len() {
+            assert!(rt; is_put(rt.alloc(), step, room), "{room}");
+        }
+    }
+}

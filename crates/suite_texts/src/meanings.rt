@@ -1,0 +1,113 @@
+// The states at which formulas hold, by sets of states: what each means by Kozen 1983 and, for regular formulas, by the
+// mCRL2 manual, worked out by hand.
+
+use crate::common::same;
+use formula::closed::Closed;
+use lts::Lts;
+use meaning::plain::plain_states;
+use samples::texts::{RING, formula_of, repeated, ring, system_of};
+use std::alloc::{AllocError, Global};
+use std::test::Fail;
+
+// To its second state by `a`, and there round by `b`.
+const STAYS: &str = "des (0,2,2)\n(0,\"a\",1)\n(1,\"b\",1)\n";
+
+const ALONE: &str = "des (0,0,1)\n";
+
+const BOTH: &str = "des (0,1,2)\n(0,\"b|a\",1)\n";
+
+const DATA: &str = "des (0,1,2)\n(0,\"r(1)\",1)\n";
+
+const SILENT: &str = "des ( 0 , 1 , 1 )\r\n\t(0,\"tau\",0)";
+
+// Systems, formulas, and a mark for each state.
+const ROWS: [(&str, &str, &str); 28] = [
+    (RING, "<a>true", "yn"),
+    (RING, "mu X. X", "nn"),
+    (RING, "nu X. X", "yy"),
+    (ALONE, "<true>true", "n"),
+    (ALONE, "[true]false", "y"),
+    (RING, "nu X. mu Y. (<a>X || <b>Y)", "yy"),
+    (RING, "mu Y. nu X. (<a>X || <b>Y)", "nn"),
+    (STAYS, "nu X. mu Y. (<a>X || <b>Y)", "nn"),
+    (RING, "<a*>true", "yy"),
+    (RING, "<a+>true", "yn"),
+    (RING, "<a + + b>true", "yy"),
+    (RING, "<a+b>true", "yy"),
+    (BOTH, "<a|b>true", "yn"),
+    (BOTH, "<a>true", "nn"),
+    (BOTH, "<\"a|b\">true", "nn"),
+    (DATA, "<\"r(1)\">true", "yn"),
+    (DATA, "<r>true", "nn"),
+    (STAYS, "mu X. (<a>X || nu X. <b>X)", "yy"),
+    (RING, "mu X. !(X => false)", "nn"),
+    (SILENT, "<tau>true", "y"),
+    (SILENT, "[a]false", "y"),
+    (SILENT, "<true && !tau>true", "n"),
+    (RING, "(mu X. <a>X) => false", "yy"),
+    (RING, "<a=>b>true", "ny"),
+    (RING, "<a||b>true", "yy"),
+    (STAYS, "[b]<b>true", "yy"),
+    (STAYS, "mu X. (<a>X || <b>true)", "yy"),
+    (RING, "mu X. <a>X", "nn"),
+];
+
+// A mark for each state, `y` or `n`.
+fn shown(alloc: Global, lts: &Lts, formula: &Closed) -> Result<String, Fail> {
+    let mut text = String::new(alloc);
+    for mark in &plain_states(alloc, lts, formula)? {
+        text.push(if *mark { 'y' } else { 'n' })?;
+    }
+    Ok(text)
+}
+
+fn marks(alloc: Global, system: &str, formula: &str) -> Result<String, Fail> {
+    let lts = system_of(alloc, system)?;
+    let formula = formula_of(alloc, formula)?;
+    shown(alloc, &lts, &formula)
+}
+
+#[test]
+fn formulas_hold_where_they_are_to(rt: HostRuntime) -> Result<(), Fail> {
+    for (system, formula, wanted) in &ROWS {
+        same(
+            &rt,
+            formula,
+            marks(rt.alloc(), system, formula)?.as_str(),
+            wanted,
+        );
+    }
+    Ok(())
+}
+
+// A beginning, a piece and how often it stands, and an end; and a mark for each state of the ring. The second has 31
+// binders, of which the innermost is `mu`; the last one 120, none of whose variables stands in its formula.
+const LARGE: [(&str, &str, usize, &str, &str); 4] = [
+    ("", "!", 256, "true", "yy"),
+    ("mu X. ", "nu X. mu X. ", 15, "true", "yy"),
+    ("<a", " +", 40, ">true", "yn"),
+    ("", "mu X. <a*>nu X. <a*>", 60, "true", "yy"),
+];
+
+#[test]
+fn large_formulas_hold_too(rt: HostRuntime) -> Result<(), Fail> {
+    for (head, part, times, tail, wanted) in &LARGE {
+        let formula = repeated(rt.alloc(), head, part, *times, tail)?;
+        same(
+            &rt,
+            head,
+            marks(rt.alloc(), RING, formula.as_str())?.as_str(),
+            wanted,
+        );
+    }
+    Ok(())
+}
+
+#[test]
+fn a_long_ring_leads_back(rt: HostRuntime) -> Result<(), Fail> {
+    let text = ring(rt.alloc(), 2500)?;
+    let shown = marks(rt.alloc(), text.as_str(), "[true*]<true*>(<a>true)")?;
+    assert!(rt; shown.len() == 2500);
+    assert!(rt; shown.as_str().bytes().all(|mark| mark == b'y'));
+    Ok(())
+}

@@ -1,0 +1,139 @@
+// Normal forms, worked out by hand: negations moved inwards by the equations of Kozen 1983, and nodes in preorder.
+
+use crate::common::same;
+use formula::closed::Closed;
+use formula::tree::Act;
+use normal::count::count;
+use normal::form::Normal;
+use normal::make::normal;
+use normal::node::Kind;
+use samples::texts::{form_of, formula_of, repeated};
+use std::alloc::{AllocError, Global};
+use std::test::Fail;
+
+// The name of a multi-action of one name of these tests.
+fn letter(action: &Act) -> &'static str {
+    match action {
+        Act::Names(names) => match names.first() {
+            Some(name) if name.as_slice() == b"a".as_slice() => "a",
+            Some(name) if name.as_slice() == b"b".as_slice() => "b",
+            _ => "?",
+        },
+        _ => "?",
+    }
+}
+
+// What a node is, with its children or its binder (0 for none), and its action.
+type Shape = (&'static str, u32, u32, &'static str);
+
+fn shape(kind: &Kind) -> Shape {
+    match kind {
+        Kind::True => ("true", 0, 0, ""),
+        Kind::False => ("false", 0, 0, ""),
+        Kind::And(left, right) => ("and", *left, *right, ""),
+        Kind::Or(left, right) => ("or", *left, *right, ""),
+        Kind::Dia(action, child) => ("dia", *child, 0, letter(action)),
+        Kind::Box(action, child) => ("box", *child, 0, letter(action)),
+        Kind::Mu(child) => ("mu", *child, 0, ""),
+        Kind::Nu(child) => ("nu", *child, 0, ""),
+        Kind::Var(binder) => ("var", *binder, 0, ""),
+    }
+}
+
+// A shape, and the priority.
+type Row = (&'static str, u32, u32, &'static str, u32);
+
+// The nodes of `<a + + b>true`.
+const CHOICE: [Row; 9] = [
+    ("or", 1, 7, "", 0),
+    ("dia", 2, 0, "a", 0),
+    ("mu", 3, 0, "", 1),
+    ("or", 4, 5, "", 0),
+    ("true", 0, 0, "", 0),
+    ("dia", 6, 0, "a", 0),
+    ("var", 2, 0, "", 0),
+    ("dia", 8, 0, "b", 0),
+    ("true", 0, 0, "", 0),
+];
+
+// Those of `!(<a>true && mu X. [b]X)`.
+const NEGATION: [Row; 6] = [
+    ("or", 1, 3, "", 0),
+    ("box", 2, 0, "a", 0),
+    ("false", 0, 0, "", 0),
+    ("nu", 4, 0, "", 0),
+    ("dia", 5, 0, "b", 0),
+    ("var", 3, 0, "", 0),
+];
+
+fn has_nodes(form: &Normal, nodes: &[Row]) -> bool {
+    if form.count() as usize != nodes.len() {
+        return false;
+    }
+    for number in 0..form.count() {
+        let (word, first, second, action, priority) = nodes[number as usize];
+        let is_here = shape(&form.node(number).kind) == (word, first, second, action);
+        if !is_here || form.priority(number) != priority {
+            return false;
+        }
+    }
+    true
+}
+
+fn is_numbered(alloc: Global, text: &str, nodes: &[Row]) -> bool {
+    match form_of(alloc, text) {
+        Some(form) => has_nodes(&form, nodes),
+        None => false,
+    }
+}
+
+#[test]
+fn nodes_are_numbered_in_preorder(rt: HostRuntime) {
+    assert!(rt; is_numbered(rt.alloc(), "<a + + b>true", &CHOICE));
+    assert!(rt; is_numbered(rt.alloc(), "!(<a>true && mu X. [b]X)", &NEGATION));
+}
+
+// How many nodes are counted, how many there are and how deep binders alternate, or the refusal.
+fn size_of(alloc: Global, formula: &Closed) -> Result<String, AllocError> {
+    match normal(alloc, formula) {
+        Ok(form) => {
+            let counted = count(formula.tree()).unwrap_or(0);
+            format!(in alloc; "{counted} {} {}", form.nodes().len(), form.depth())
+        }
+        Err(error) => error.to_string(alloc),
+    }
+}
+
+// The same of a text, if it is a formula.
+fn size(alloc: Global, text: &str) -> Option<String> {
+    let formula = formula_of(alloc, text).ok()?;
+    size_of(alloc, &formula).ok()
+}
+
+// A beginning, a piece and how often it stands, and an end; and what is shown.
+const SIZES: [(&str, &str, usize, &str, &str); 6] = [
+    ("<a + + b>true", "", 0, "", "9 9 1"),
+    ("!(<a>true && mu X. [b]X)", "", 0, "", "6 6 1"),
+    ("<c><c><c><", "(a+b).", 9, "(a+b)>true", "4096 4096 0"),
+    ("<c><c><c><c><", "(a+b).", 9, "(a+b)>true", "N1"),
+    ("mu X. ", "nu X. mu X. ", 15, "true", "32 32 31"),
+    ("nu X. mu X. ", "nu X. mu X. ", 15, "true", "N2"),
+];
+
+#[test]
+fn limits_are_met_exactly(rt: HostRuntime) -> Result<(), Fail> {
+    for (head, part, times, tail, wanted) in &SIZES {
+        let text = repeated(rt.alloc(), head, part, *times, tail)?;
+        let told = size(rt.alloc(), text.as_str()).ok_or("no formula")?;
+        same(&rt, head, told.as_str(), wanted);
+    }
+    Ok(())
+}
+
+// Each growth may be refused: then nothing but that is told. `rt try --test --fail-alloc N` refuses the Nth.
+#[test]
+fn want_of_memory_is_told_as_such(rt: HostRuntime) {
+    if let Some(told) = size(rt.alloc(), "nu X. <a|b + \"c\"*>X") {
+        assert!(rt; told.as_str() == "9 9 2" || told.as_str() == "N3", "{told}");
+    }
+}

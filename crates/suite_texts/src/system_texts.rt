@@ -1,0 +1,144 @@
+// Texts of systems and what is wrong with them: the Aldebaran format of the mCRL2 manual, with its limits and codes as
+// docs/FORMATS.md has them. States and transitions were counted by hand.
+
+use crate::common::same;
+use lts::{Lts, read_aut};
+use samples::readers::{Halting, Slow};
+use samples::texts::{RING, repeated, system_of};
+use std::alloc::{AllocError, Global};
+use std::io::Read;
+use std::process::Abort;
+use std::test::Fail;
+
+// The states, the initial state, the transitions and the labels, or the refusal.
+fn shown<R: Read + Drop>(alloc: Global, reader: R) -> Result<String, AllocError> {
+    match read_aut(alloc, reader) {
+        Ok(lts) => counts(alloc, &lts),
+        Err(error) => error.to_string(alloc),
+    }
+}
+
+fn counts(alloc: Global, lts: &Lts) -> Result<String, AllocError> {
+    let states = lts.states();
+    let initial = lts.initial();
+    let transitions = lts.transitions();
+    let labels = lts.labels();
+    format!(in alloc; "{states} {initial} {transitions} {labels}")
+}
+
+// Texts, and what is shown of each.
+const TEXTS: [(&str, &str); 12] = [
+    (RING, "2 0 2 2"),
+    ("", "A1 at line 1"),
+    ("des (0,2,2)\n(0,\"a\",1)\n", "A5 at line 3"),
+    ("des (0,2,2)\n(0,\"a\",1)\n(1,\"b", "A2 at line 3"),
+    (
+        "des (0,2,2)\n(0,\"a\",2)\n(0,\"a\",1)\n(1,\"b\",0)\n",
+        "A4 at line 2",
+    ),
+    ("des (0,0,0)", "A6 at line 1"),
+    ("des ( 0 , 1 , 1 )\r\n\t(0,\"tau\",0)", "1 0 1 1"),
+    ("des (0,2,2)\n(0,\"a\",1)\n(0,\"a\",1)\n", "2 0 1 1"),
+    ("des (0,0,1000000)", "1000000 0 0 0"),
+    ("des (0,0,1000001)", "A3 at line 1"),
+    ("des (0,0,1)\n\n", "A5 at line 2"),
+    ("des (0,1,1)\n(0,\"\",0)\n", "A7 at line 2"),
+];
+
+fn shows(rt: &(impl Abort + AllocGlobal), text: &str, wanted: &str) -> Result<(), AllocError> {
+    for step in [1, 7, 8192] {
+        let reader = Slow {
+            left: text.as_bytes(),
+            step,
+            fails: false,
+        };
+        same(rt, text, shown(rt.alloc(), reader)?.as_str(), wanted);
+    }
+    Ok(())
+}
+
+#[test]
+fn texts_are_read(rt: HostRuntime) -> Result<(), AllocError> {
+    for (text, wanted) in &TEXTS {
+        shows(&rt, text, wanted)?;
+    }
+    Ok(())
+}
+
+#[test]
+fn labels_have_at_most_4096_bytes(rt: HostRuntime) -> Result<(), AllocError> {
+    for (length, wanted) in [(4096, "1 0 1 1"), (4097, "A7 at line 2")] {
+        let text = repeated(rt.alloc(), "des (0,1,1)\n(0,\"", "a", length, "\",0)\n")?;
+        shows(&rt, text.as_str(), wanted)?;
+    }
+    Ok(())
+}
+
+// A text that is good as far as it goes is refused for the failed read, wherever that comes.
+#[test]
+fn a_failed_read_is_told_wherever_it_comes(rt: HostRuntime) -> Result<(), AllocError> {
+    for given in 0..=RING.len() {
+        let reader = Slow {
+            left: &RING.as_bytes()[..given],
+            step: 5,
+            fails: true,
+        };
+        same(
+            &rt,
+            "a beginning",
+            shown(rt.alloc(), reader)?.as_str(),
+            "A8",
+        );
+    }
+    Ok(())
+}
+
+#[test]
+fn an_interrupted_read_is_tried_again(rt: HostRuntime) -> Result<(), AllocError> {
+    let reader = Halting {
+        left: RING.as_bytes(),
+        is_interrupted: false,
+    };
+    same(&rt, RING, shown(rt.alloc(), reader)?.as_str(), "2 0 2 2");
+    Ok(())
+}
+
+// Each growth may be refused: then nothing but that is told. `rt try --test --fail-alloc N` refuses the Nth.
+#[test]
+fn want_of_memory_is_told_as_such(rt: HostRuntime) {
+    let text = "des (2,4,3)\n(2,\"c|a|b\",0)\n(0,\"tau\",2)\n(2,\"c|a|b\",0)\n(1,\"r(1)\",1)\n";
+    if let Ok(told) = shown(rt.alloc(), text.as_bytes()) {
+        assert!(rt;
+            told.as_str() == "3 2 3 3" || told.as_str() == "A9",
+            "{told}"
+        );
+    }
+}
+
+// The transitions of a state, each with its label.
+fn moves(rt: &(impl Abort + AllocGlobal), lts: &Lts, state: u32) -> Result<Vec<u8>, AllocError> {
+    let mut text = Vec::new(rt.alloc());
+    assert!(rt; state < lts.states());
+    for transition in lts.from(state) {
+        assert!(rt; (transition.label as usize) < lts.labels());
+        text.extend_from_slice(lts.label(transition.label).bytes)?;
+        text.push(b' ')?;
+    }
+    Ok(text)
+}
+
+#[test]
+fn transitions_are_found_by_their_state(rt: HostRuntime) -> Result<(), Fail> {
+    let lts = system_of(
+        rt.alloc(),
+        "des (0,4,3)\n(2,\"b\",0)\n(0,\"tau\",2)\n(2,\"a|b\",1)\n(2,\"b\",2)\n",
+    )?;
+    for (state, labels) in [(0, "tau "), (1, ""), (2, "a|b b b ")] {
+        assert!(rt;
+            moves(&rt, &lts, state)?.as_slice() == labels.as_bytes(),
+            "{labels}"
+        );
+    }
+    assert!(rt; lts.all().len() == 4);
+    Ok(())
+}
