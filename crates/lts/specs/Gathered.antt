@@ -2,7 +2,7 @@
 use Rattle.std.specs.Prelude.{◌≡◌, ℕ, ◌<◌, List, ◌++◌, length, map}
 use Rattle.std.specs.List.{AllByRecursion}
 use Rattle.lts.specs.System.{Arrow}
-use Rattle.lts.specs.Numbered.{label_at, arrow_of}
+use Rattle.lts.specs.Numbered.{label_at, arrow_of, AreLabelsOf}
 use Rattle.lts.specs.declared.system.Transition.{Transition}
 
 -- the label of this number is there
@@ -10,12 +10,14 @@ pub record HasLabel (labels : List (List ℕ)) (number : ℕ) (label : List ℕ)
   pub within : number < length labels
   pub is : label_at labels number ≡ label
 
--- labels were added at the end
-pub record Extends (old new : List (List ℕ)) : Type 0 where
+-- labels were added at the end, none but this one
+pub record Extends (old new : List (List ℕ)) (label : List ℕ) : Type 0 where
   pub more : List (List ℕ)
   pub is : new ≡ old ++ more
+  pub only : AllByRecursion (λ other. other ≡ label) more
 
--- the transitions stand for these arrows, in order
+-- the transitions stand for these arrows, in order, and each label is that of one of them
 pub record Gathers (labels : List (List ℕ)) (transitions : List Transition) (arrows : List Arrow) : Type 0 where
   pub spelled : map (arrow_of labels) transitions ≡ arrows
   pub inside : AllByRecursion (λ t. t.label < length labels) transitions
+  pub used : AreLabelsOf arrows labels

@@ -1,6 +1,6 @@
 -- A system whose labels have numbers.
 use Rattle.std.specs.Prelude.{ℕ, ◌<◌, List, [], length, map, filter, IsTrue, ◌==◌}
-use Rattle.std.specs.List.{slice_index_or, AllByRecursion, AllByRecursion-prop}
+use Rattle.std.specs.List.{slice_index_or, Contains, AllByRecursion, AllByRecursion-prop}
 use Rattle.std.specs.Coded.{le_prop}
 use Rattle.std.specs.Ordering.{is_lt}
 use Rattle.lts.specs.Label.{bytes_cmp}
@@ -26,6 +26,14 @@ arrow_of labels t = record { source = t.source; label = label_at labels t.label;
 -- The labels rise in the order of their bytes, so none stands twice.
 abbrev pub AreAscending : List (List ℕ) → Type 0
 AreAscending labels = (j k : ℕ) → j < k → k < length labels → IsTrue (is_lt (bytes_cmp (label_at labels j) (label_at labels k)))
+
+-- each of these labels is that of one of these arrows
+abbrev pub AreLabelsOf : List Arrow → List (List ℕ) → Type 0
+AreLabelsOf arrows labels = AllByRecursion (Contains (map (λ a. a.label) arrows)) labels
+
+-- Each label is that of an arrow.
+abbrev pub AreUsed : Numbered → Type 0
+AreUsed l = AreLabelsOf l.system.arrows l.labels
 
 -- a transition between states of the system, with one of its labels
 pub record IsTransitionOf (l : Numbered) (t : Transition) : Type 0 where

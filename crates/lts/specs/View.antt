@@ -2,7 +2,7 @@
 use Rattle.std.specs.Prelude.{◌≡◌, ℕ, ◌+◌, ◌<◌, ◌≤◌, List, length, map, filter, slice_index, slice_range, ◌==◌}
 use Rattle.lts.specs.declared.limits.TheConstants.{MOST_TRANSITIONS}
 use Rattle.lts.specs.System.{Arrow, IsSystem}
-use Rattle.lts.specs.Numbered.{Numbered, arrow_of, AreAscending, IsInside}
+use Rattle.lts.specs.Numbered.{Numbered, arrow_of, AreAscending, AreUsed, IsInside}
 use Rattle.lts.specs.declared.system.Transition.{Transition}
 use Rattle.lts.specs.declared.system.Lts.TheInside.{Inside}
 
@@ -21,10 +21,11 @@ pub record IsRow (starts : List ℕ) (transitions : List Transition) (s : ℕ) :
   pub ends : slice_index starts (s + 1) ≤ length transitions
   pub row : slice_range transitions (slice_index starts s) (slice_index starts (s + 1)) ≡ filter (λ t. t.source == s) transitions
 
--- each transition once, in order, with a label that has a number, no more of them than a text may have, and a start for each source
+-- each transition once, in order, with a label that has a number, no label beside those, no more transitions than a text may have, and a start for each source
 pub record IsStored (a : Inside) : Type 0 where
   pub system : IsSystem (numbered a).system
   pub labels : AreAscending (labels_of a)
+  pub used : AreUsed (numbered a)
   pub inside : IsInside (numbered a) a.transitions.items
   pub few : length a.transitions.items ≤ MOST_TRANSITIONS
   pub starts : length a.starts.items ≡ a.states + 1

@@ -23,7 +23,7 @@ pub(crate) struct Rows {
 fn number_of(alloc: Global, labels: &mut IndexSet<Vec<u8>>, label: &[u8]) -> Result<u32, Memory>
     requires { length labels.old.keys < 2 ^ 32 - 1 }
     ensures number { IfOk result (λ k. HasLabel (texts labels.new.keys) k label.now) }
-    ensures kept { OnOk result (Extends (texts labels.old.keys) (texts labels.new.keys)) }
+    ensures kept { OnOk result (Extends (texts labels.old.keys) (texts labels.new.keys) label.now) }
     ensures len { OnOk result (length labels.new.keys ≤ length labels.old.keys + 1) }
 {
     if let Some(number) = labels.get_index_of(label) {

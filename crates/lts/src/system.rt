@@ -2,7 +2,7 @@
 
 ghost use Rattle.std.specs.Prelude.{◌≡◌, ◌<◌, ◌≤◌, length, map};
 ghost use Rattle.lts.specs.System.{IsSystem};
-ghost use Rattle.lts.specs.Numbered.{label_at, arrow_of, arrows_from, IsInside, AreAscending};
+ghost use Rattle.lts.specs.Numbered.{label_at, arrow_of, arrows_from, IsInside, AreAscending, AreUsed};
 
 use crate::label::{Label, LabelView};
 use crate::limits::MOST_TRANSITIONS;
@@ -88,6 +88,7 @@ impl Lts {
     pub fn labels(&self) -> usize
         ensures count { result ≡ length self.now.labels }
         ensures ascending { AreAscending self.now.labels }
+        ensures used { AreUsed self.now }
     {
         self.labels.len()
     }
