@@ -87,6 +87,13 @@ unbound = refl
 multi : holds (Names (codes "a" ∷ codes "b" ∷ [])) (codes "b|a") ≡ true
 multi = refl
 
+-- the order of names doesn't count, how often each stands does
+turned : holds (Names (codes "b" ∷ codes "a" ∷ [])) (codes "a|b") ≡ true
+turned = refl
+
+twice : (holds (Names (codes "b" ∷ codes "a" ∷ codes "b" ∷ [])) (codes "b|b|a") ≡ true) × (holds (Names (codes "a" ∷ codes "a" ∷ codes "b" ∷ [])) (codes "b|b|a") ≡ false)
+twice = (refl, refl)
+
 one_of_two : holds name_a (codes "b|a") ≡ false
 one_of_two = refl
 
