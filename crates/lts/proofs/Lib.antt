@@ -11,6 +11,7 @@ pub mod StartsLemmas
 pub mod Storing
 pub mod Whole
 pub mod Faults
+pub mod Decided
 pub use Rattle.text.proofs.Writing
 pub mod Listed
 pub mod Canonical

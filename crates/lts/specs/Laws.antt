@@ -1,5 +1,5 @@
 -- What holds of all texts of systems.
-use Rattle.std.specs.Prelude.{◌≡◌, ℕ, ◌≤◌, List, length}
+use Rattle.std.specs.Prelude.{◌≡◌, ℕ, ◌≤◌, ◌⊎◌, List, length}
 use Rattle.lts.specs.declared.limits.TheConstants.{MOST_TRANSITIONS}
 use Rattle.lts.specs.System.{System, IsSystem}
 use Rattle.lts.specs.declared.error.AutFault.{AutFault}
@@ -17,6 +17,10 @@ NoFault = (text : List ℕ) (l : System) (fault : AutFault) (line : ℕ) → IsA
 -- A text has at most one deciding fault, at one line.
 abbrev pub OneFault : Type 0
 OneFault = (text : List ℕ) (f g : AutFault) (i j : ℕ) → HasFault text f i → HasFault text g j → (f ≡ g) × (i ≡ j)
+
+-- A text spells a system, or a fault decides.
+abbrev pub Decided : Type 0
+Decided = (text : List ℕ) → ((l : System) × IsAut text l) ⊎ ((fault : AutFault) × (line : ℕ) × HasFault text fault line)
 
 -- The canonical text of a system with no more transitions than a text may have spells the system.
 abbrev pub CanonSpells : Type 0

@@ -1,6 +1,6 @@
 // What holds of all texts of systems.
 
-ghost use Rattle.lts.specs.Laws.{OneSystem, NoFault, OneFault, CanonSpells};
+ghost use Rattle.lts.specs.Laws.{OneSystem, NoFault, OneFault, Decided, CanonSpells};
 
 /// A text spells at most one system.
 pub fn one_system()
@@ -15,6 +15,11 @@ pub fn no_fault()
 /// A text has at most one deciding fault, at one line.
 pub fn one_fault()
     ensures { OneFault }
+{}
+
+/// A text spells a system, or a fault decides: with the laws above, one of the two and just one of its kind.
+pub fn decided()
+    ensures { Decided }
 {}
 
 /// The canonical text of a system spells the system, and by `one_system` no other.
