@@ -1,5 +1,5 @@
 -- The best of what a vertex asks for at its successors, read one after another, each no less than it was before.
-use Rattle.measures.proofs.Common.{◌≡◌, ℕ, suc, ◌+◌, ◌<◌, ◌≤◌, ◌⊎◌, max, List, length, map, refl, sym, ap, subst, ◌∙◌, inl, inr, arith, eqb_tells, leb_tells, Contains, Some, slice_index, slice_index_or, get_or_default, AllZip, AllByRecursion, Player, Even, Odd, Vertex, Game, IsGame, vertex, height, Measure, Top, IsMeasure, IsAtMost, IsProg, Reaches, IsBestFor, IsLiftAt, rank, option_map, true, false, nat_le, IsProgress, greater_of, value_at, LiesBelow}
+use Rattle.measures.proofs.Common.{◌≡◌, ℕ, suc, ◌<◌, ◌≤◌, ◌⊎◌, max, List, length, map, sym, subst, ◌∙◌, inl, inr, arith, eqb_tells, leb_tells, Contains, Some, slice_index, get_or_default, AllZip, Player, Even, Odd, Vertex, Game, IsGame, vertex, height, Measure, Top, IsMeasure, IsAtMost, IsProg, Reaches, IsBestFor, rank, option_map, true, false, nat_le, IsProgress, greater_of, value_at, LiesBelow}
 use Rattle.measures.specs.Progress.{IsOverLift, IsUnder}
 use Rattle.measures.proofs.Bests.{vertex_here, vertex_tells}
 use Rattle.std.proofs.Common.{min}

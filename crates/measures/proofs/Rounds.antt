@@ -1,5 +1,5 @@
 -- Two tables with a lift of each vertex between them, of which the second is nowhere less: where their sums of ranks are equal, they are the least progress table.
-use Rattle.measures.proofs.Common.{◌≡◌, ℕ, zero, suc, ◌+◌, ◌<◌, ◌≤◌, List, length, map, refl, sym, ap, subst, ◌∙◌, arith, AllZip, ext_get_or, slice_set, Vertex, Game, IsGame, vertex, rank, sum_of, total, Measure, Top, IsMeasure, IsAtMost, IsProg, IsBestFor, IsLeastTable, IsLiftAt, IsTable, greater_of, value_at, IsPlain, IsStill}
+use Rattle.measures.proofs.Common.{◌≡◌, ℕ, zero, suc, ◌+◌, ◌<◌, ◌≤◌, List, length, map, refl, sym, ap, subst, ◌∙◌, arith, AllZip, ext_get_or, slice_set, Vertex, Game, IsGame, rank, sum_of, total, Measure, Top, IsAtMost, IsProg, IsBestFor, IsLeastTable, IsLiftAt, IsTable, greater_of, value_at, IsPlain, IsStill}
 use Rattle.measures.specs.Progress.{IsOverLift, LiesUnder}
 use Rattle.measures.proofs.Bests.{vertex_here}
 use Rattle.measures.proofs.Gathering.{greater_up}

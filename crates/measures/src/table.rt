@@ -159,11 +159,13 @@ impl PlainTable {
     }
 
     /// Raises a vertex to its lift. The answer says whether it rose.
+    #[tactic(auto, using(crate::proofs::Rising::under_itself))]
     pub(crate) fn lift_at(&mut self, game: &Game, v: u32) -> bool
         requires same { self.old.game ≡ game.now }
         requires vertex { v < length game.now.vertices }
         ensures game { self.new.game ≡ game.now }
         ensures lifts { LiftsAt game.now v self.old.values self.new.values result }
+        ensures kept { LiesUnder self.old.values self.new.values }
     {
         let priority = game.priority(v);
         let best = self.rows.best(game.owner(v), game.successors(v)) as usize;

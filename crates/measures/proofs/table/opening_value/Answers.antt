@@ -1,4 +1,4 @@
-use Rattle.measures.proofs.Common.{◌≡◌, ◌∙◌, ap, length, subst, sym, true, false, LiesBelow, opening, value_at, zeros}
+use Rattle.measures.proofs.Common.{◌≡◌, ◌∙◌, ap, length, subst, sym, true, false, LiesBelow, opening, value_at}
 use Rattle.measures.proofs.Plain.{opening_below, opening_is, padded_zeros}
 use Rattle.measures.proofs.table.opening_value.Goals as goal
 

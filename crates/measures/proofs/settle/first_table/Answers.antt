@@ -1,0 +1,9 @@
+use Rattle.std.proofs.Common.{List, subst}
+use Rattle.measures.specs.Measure.{Measure}
+use Rattle.measures.specs.Progress.{LiesUnder}
+use Rattle.measures.proofs.Rising.{under_trans}
+use Rattle.measures.proofs.settle.first_table.Goals as goal
+
+pub returns-clause-raised : goal.returns-clause-raised
+returns-clause-raised c =
+    under_trans _ _ _ (subst (λ (l : List Measure). LiesUnder l c.lift_ahead.new.table.values) c.in_ok-table.ensures.values c.lift_ahead.ensures.kept) c.jump_ahead.ensures.kept
