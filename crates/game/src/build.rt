@@ -373,5 +373,5 @@ pub fn build_split(
     } else {
         split(rt, alloc, lts, form, &sets, ranges)?
     };
-    Ok(builder.into_game(Some((states, nodes))))
+    Ok(builder.into_named(Some((states, nodes))))
 }

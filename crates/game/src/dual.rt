@@ -38,5 +38,5 @@ pub fn dual(alloc: Global, game: &Game) -> Result<Game, BuildError>
         let owner = opponent(game.owner(v));
         builder.push(owner, game.priority(v) + 1, game.successors(v))?;
     }
-    Ok(builder.into_game(None))
+    Ok(builder.into_game())
 }

@@ -274,7 +274,7 @@ impl GameBuilder {
         ensures game { IfSome result (λ g. g ≡ record { vertices = self; named = None }) }
     {
         if self.is_game() {
-            Some(self.into_game(None))
+            Some(self.into_game())
         } else {
             None
         }
@@ -305,8 +305,16 @@ impl GameBuilder {
         true
     }
 
+    /// The game of these vertices, which have no names.
+    pub fn into_game(self) -> Game
+        requires { IsGame record { vertices = self; named = None } }
+        ensures { result ≡ record { vertices = self; named = None } }
+    {
+        self.into_named(None)
+    }
+
     /// The game of these vertices, which are named by numbers of states and of nodes or not at all.
-    pub fn into_game(self, named: Option<(u32, u32)>) -> Game
+    pub(crate) fn into_named(self, named: Option<(u32, u32)>) -> Game
         requires { IsGame record { vertices = self; named = named } }
         ensures { result ≡ record { vertices = self; named = named } }
     {

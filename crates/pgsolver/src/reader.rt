@@ -174,7 +174,7 @@ fn read_text<B: BufRead>(alloc: Global, reader: &mut B) -> Result<Game, PgError>
     let last = read_first(reader, &mut line)?;
     let mut rows = Rows::new(alloc, last)?;
     read_rows(reader, &mut line, last, &mut rows)?;
-    let game = rows.vertices.into_game(None);
+    let game = rows.vertices.into_game();
     Ok(put_in_order(alloc, game, &rows.places)?)
 }
 

@@ -2,7 +2,7 @@ use Rattle.std.proofs.Common.{◌≡◌, ℕ, ◌<◌, ◌⊎◌, inl, inr, sym,
 use Rattle.game.specs.Game.{IsGame, Vertex, count}
 use Rattle.game.specs.View.{vertices_in}
 use Rattle.game.proofs.Greatest.{greatest_is}
-use Rattle.game.proofs.graph.GameBuilder.into_game.Goals as goal
+use Rattle.game.proofs.graph.GameBuilder.into_named.Goals as goal
 
 pub invariant_of-result : goal.invariant_of-result
 invariant_of-result c =
