@@ -6,5 +6,4 @@ mod Roots
 mod Orders
 mod Lendings
 mod Winning
-mod Noting
 mod Putting

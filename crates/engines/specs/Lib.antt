@@ -8,4 +8,3 @@ pub mod Status
 pub mod Command
 pub mod Roots
 pub mod Solver
-pub mod Notes

@@ -6,7 +6,6 @@ pub mod engine;
 pub mod error;
 mod findings;
 mod lifting;
-pub mod notes;
 mod outputs;
 mod prepared;
 mod report;

@@ -38,7 +38,7 @@ pub struct Prepared {
 ///
 /// # Errors
 /// E5 and U4 for want of memory, N3 for that of the normal form, by which a witness is found.
-pub fn prepare(alloc: Global, found: &Findings, wanted: Wanted) -> Result<Prepared, MuError>
+pub(crate) fn prepare(alloc: Global, found: &Findings, wanted: Wanted) -> Result<Prepared, MuError>
     requires { AreFindings found.now }
     ensures prepared { IfOk result (ArePrepared found.now) }
     ensures wanted { IfOk result (λ prepared. prepared.wanted ≡ wanted) }

@@ -1,7 +1,6 @@
 // The line on standard error that says what a check is doing, and the notes on its formula. Both are for a person, so there is
 // neither where standard error is no terminal.
 
-use engines::notes::{Word, strange_words};
 use engines::watch::Watcher;
 use formula::closed::Closed;
 use lts::system::Lts;
@@ -13,6 +12,7 @@ use std::sync::{Arc, Condvar, Mutex, Wait};
 use std::thread::{JoinHandle, Threads};
 use std::time::{Clock, Duration, Instant};
 use std::{io, thread};
+use words::strange::{Word, strange_words};
 
 /// How long a run may be until it has a line, in milliseconds.
 const FIRST: u64 = 2000;

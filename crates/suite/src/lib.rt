@@ -16,8 +16,6 @@ mod help;
 #[cfg(test)]
 mod many_workers;
 #[cfg(test)]
-mod notes;
-#[cfg(test)]
 mod observers;
 #[cfg(test)]
 mod replays;

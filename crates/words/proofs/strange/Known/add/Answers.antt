@@ -2,9 +2,10 @@ use Rattle.std.proofs.Common.{◌≡◌, ◌||◌, ℕ, Bool, List, Bor, ◌∙�
 use Rattle.std.proofs.lemmas.Result.{on_ok_weaker}
 use Rattle.std.specs.List.{list_any}
 use Rattle.std.specs.Str.{bytes_eq}
-use Rattle.engines.specs.Notes.{Atom, Name, has_term, knows}
-use Rattle.engines.proofs.Noting.{names_read, no_names_read, or_cond}
-use Rattle.engines.proofs.notes.Known.add.Goals as goal
+use Rattle.words.specs.Strange.{Atom, Name, has_term}
+use Rattle.words.specs.Noted.{knows}
+use Rattle.words.proofs.Noting.{names_read, no_names_read, or_cond}
+use Rattle.words.proofs.strange.Known.add.Goals as goal
 
 abbrev among : List ℕ → List (Bor (List ℕ)) → Bool
 among bytes keys = list_any (λ (key : Bor (List ℕ)). bytes_eq bytes key.now) keys

@@ -1,8 +1,8 @@
 use Rattle.std.proofs.Common.{ap, ◌∙◌, arith}
 use Rattle.lts.specs.Numbered.{label_at}
-use Rattle.engines.specs.Notes.{knows}
-use Rattle.engines.proofs.Noting.{known_more}
-use Rattle.engines.proofs.notes.known_in.Goals as goal
+use Rattle.words.specs.Noted.{knows}
+use Rattle.words.proofs.Noting.{known_more}
+use Rattle.words.proofs.strange.known_in.Goals as goal
 
 pub loop-number-preserved : goal.loop-number-preserved
 loop-number-preserved c t =

@@ -1,7 +1,8 @@
 use Rattle.std.proofs.Common.{map}
-use Rattle.engines.specs.Notes.{knows, term_of}
-use Rattle.engines.proofs.Noting.{names_more}
-use Rattle.engines.proofs.notes.note_names.Goals as goal
+use Rattle.words.specs.Strange.{term_of}
+use Rattle.words.specs.Noted.{knows}
+use Rattle.words.proofs.Noting.{names_more}
+use Rattle.words.proofs.strange.note_names.Goals as goal
 
 pub loop-name-preserved : goal.loop-name-preserved
 loop-name-preserved c =

@@ -1,14 +1,13 @@
--- Which words of a formula no label of a system has.
-use Rattle.std.specs.Prelude.{ℕ, Bool, false, not, ◌&&◌, List, [], ◌∷◌, ◌++◌, length, map, fold, nat_lt, if◌then◌else◌, Option, Some, None}
+-- The words of a formula that no label of a system has.
+use Rattle.std.specs.Prelude.{ℕ, Bool, false, not, List, [], ◌∷◌, ◌++◌, filter, map, take, Option, Some, None}
 use Rattle.std.specs.List.{list_any}
 use Rattle.std.specs.Str.{bytes_eq}
 use Rattle.lts.specs.Label.{reading}
 use Rattle.lts.specs.Numbered.{Numbered}
 use Rattle.formula.specs.Tree.{Action, Anything, Nothing, Names, Quoted, NotAct, AndAct, OrAct, ImpliesAct, Regular, Step, Then, Either, Star, Plus, Formula, True, False, Var, Not, And, Or, Implies, Dia, Box, Mu, Nu}
-use Rattle.engines.specs.declared.notes.Word.{Word}
-use Rattle.engines.specs.declared.notes.Word.TheVariants as word
-use Rattle.engines.specs.declared.notes.Known.{Known}
-use Rattle.engines.specs.declared.notes.TheConstants.{MOST_NOTES}
+use Rattle.words.specs.declared.strange.Word.{Word}
+use Rattle.words.specs.declared.strange.Word.TheVariants as word
+use Rattle.words.specs.declared.strange.TheConstants.{MOST_NOTES}
 
 -- a name of a multi-action, or a quoted atom
 pub data Term : Type 0 where
@@ -60,24 +59,20 @@ abbrev pub has_term : Term → List ℕ → Bool
 has_term (Name bytes) label = is_among bytes (reading label)
 has_term (Atom bytes) label = bytes_eq label bytes
 
+-- no label has it
+abbrev pub is_strange : List (List ℕ) → Term → Bool
+is_strange labels t = not (list_any (has_term t) labels)
+
 abbrev pub same_term : Term → Term → Bool
 same_term (Name a) (Name b) = bytes_eq a b
 same_term (Atom a) (Atom b) = bytes_eq a b
 same_term _ _ = false
 
--- some label has it
-abbrev pub is_known : List (List ℕ) → Term → Bool
-is_known labels t = list_any (has_term t) labels
+-- each once, where it stands first
+abbrev pub distinct : List Term → List Term
+distinct [] = []
+distinct (t ∷ ts) = t ∷ filter (λ other. not (same_term other t)) (distinct ts)
 
--- one more at the end, where it passes no such test, isn't there yet, and there is room
-abbrev pub with_term : (Term → Bool) → List Term → Term → List Term
-with_term known found t = if nat_lt (length found) MOST_NOTES && not (list_any (same_term t) found) && not (known t) then found ++ t ∷ [] else found
-
--- The first of those that no label has, in order, each once.
+-- the first ten of a formula's terms, each once, that no label has
 abbrev pub strange_terms : Numbered → Formula → List Term
-strange_terms l f = fold (with_term (is_known l.labels)) [] (formula_terms f)
-
--- in the sets of labels and of names
-abbrev pub knows : Known → Term → Bool
-knows known (Name bytes) = list_any (λ name. bytes_eq bytes name.now) known.names.keys
-knows known (Atom bytes) = list_any (λ label. bytes_eq bytes label.now) known.labels.keys
+strange_terms l f = take MOST_NOTES (distinct (filter (is_strange l.labels) (formula_terms f)))

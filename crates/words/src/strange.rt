@@ -6,7 +6,8 @@ ghost use Rattle.std.specs.Str.{bytes_eq};
 ghost use Rattle.formula.specs.Closed.{closed_formula};
 ghost use Rattle.formula.specs.View.{action_of, formula_of, regular_of};
 ghost use Rattle.lts.specs.Label.{texts};
-ghost use Rattle.engines.specs.Notes.{Atom, Name, action_terms, formula_terms, has_term, is_known, knows, regular_terms, same_term, strange_terms, term_of, with_term};
+ghost use Rattle.words.specs.Noted.{is_known, knows, with_term};
+ghost use Rattle.words.specs.Strange.{Atom, Name, action_terms, formula_terms, has_term, regular_terms, same_term, strange_terms, term_of};
 
 use formula::closed::Closed;
 use lts::Memory;
@@ -105,7 +106,7 @@ fn stands_in(word: Word<'_>, found: &[Word<'_>]) -> bool
 }
 
 // Whether the word is to be noted: enough aren't noted yet, nor is it, and no label has it.
-fn is_strange(known: &Known<'_>, word: Word<'_>, found: &[Word<'_>]) -> bool
+fn is_next(known: &Known<'_>, word: Word<'_>, found: &[Word<'_>]) -> bool
     ensures { result ≡ (nat_lt (length found.now) MOST_NOTES && not (list_any (λ other. same_term (term_of word.entry) (term_of other)) found.now) && not (knows known.now (term_of word.entry))) }
 {
     found.len() < MOST_NOTES && !stands_in(word, found) && !known.has(word)
@@ -115,7 +116,7 @@ fn is_strange(known: &Known<'_>, word: Word<'_>, found: &[Word<'_>]) -> bool
 fn note<'a>(known: &Known<'_>, word: Word<'a>, found: &mut Vec<Word<'a>>) -> Result<(), AllocError>
     ensures { OnOk result (map term_of found.new.items ≡ with_term (knows known.now) (map term_of found.old.items) (term_of word.entry)) }
 {
-    if is_strange(known, word, found) {
+    if is_next(known, word, found) {
         found.push(word)?;
     }
     Ok(())

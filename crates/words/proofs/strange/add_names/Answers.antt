@@ -1,8 +1,8 @@
 use Rattle.std.proofs.Common.{ℕ, List, Bor}
 use Rattle.std.specs.List.{list_any}
 use Rattle.std.specs.Str.{bytes_eq}
-use Rattle.engines.proofs.Noting.{set_more}
-use Rattle.engines.proofs.notes.add_names.Goals as goal
+use Rattle.words.proofs.Noting.{set_more}
+use Rattle.words.proofs.strange.add_names.Goals as goal
 
 pub loop-name-preserved : goal.loop-name-preserved
 loop-name-preserved c bytes =

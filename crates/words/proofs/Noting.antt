@@ -8,9 +8,10 @@ use Rattle.std.specs.List.{list_any}
 use Rattle.std.specs.Str.{bytes_eq}
 use Rattle.lts.specs.Label.{reading, texts}
 use Rattle.lts.specs.Numbered.{label_at}
-use Rattle.engines.specs.declared.notes.Word.{Word}
-use Rattle.engines.specs.declared.notes.TheConstants.{MOST_NOTES}
-use Rattle.engines.specs.Notes.{Term, Name, has_term, is_among, is_known, same_term, term_of, with_term}
+use Rattle.words.specs.declared.strange.Word.{Word}
+use Rattle.words.specs.declared.strange.TheConstants.{MOST_NOTES}
+use Rattle.words.specs.Strange.{Term, Name, has_term, is_among, same_term, term_of}
+use Rattle.words.specs.Noted.{is_known, with_term}
 
 -- ------------------------------------------------------------------ lists
 

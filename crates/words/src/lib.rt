@@ -1,0 +1,4 @@
+// Words of a formula that no label of a system has.
+#![tactic(auto)]
+
+pub mod strange;
