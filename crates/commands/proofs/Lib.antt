@@ -2,3 +2,5 @@ mod Lines
 mod Marked
 mod Judged
 mod Replayed
+mod Tables
+mod Asked

@@ -1,4 +1,6 @@
 pub mod Command
+pub mod CommandLine
+pub mod Parsers
 pub mod Spelled
 pub mod Prints
 pub mod Winners

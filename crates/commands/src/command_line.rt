@@ -1,7 +1,24 @@
 // The command line.
 
-ghost use Rattle.std.specs.Prelude.{◌≤◌, ◌≢◌, [], IfOk, IfSome, length};
+ghost use Rattle.std.specs.Prelude.{◌≡◌, ◌≤◌, ◌≢◌, [], Bool, IfOk, IfSome, Some, codes, map};
+ghost use Rattle.std.specs.String.{string_bytes};
+ghost use Rattle.clap.specs.Words.{first_of, found_of, rows_of, subcommand_rows_of};
 ghost use Rattle.commands.specs.Command.{AreNamed, AreWithin, IsComplete};
+ghost use Rattle.commands.specs.CommandLine.{
+  AreMatchesOf,
+  AreOptions,
+  AreOutputs,
+  IsAskedFor,
+  IsCheck,
+  IsCommand,
+  IsFile,
+  IsFileIfAny,
+  IsRead,
+  board_in,
+  has_value,
+  number_in,
+  priorities_in,
+};
 
 use crate::parser::{
     BOARD, EVIDENCE, EVIDENCE_FILES, FORMULA, GAME, GAME_FILE, OTHER, PLAIN, PRIORITIES, QUIET,
@@ -20,6 +37,7 @@ use std::alloc::Global;
 /// # Errors
 /// U1 where the words are no command, with what is wrong with them, or the help or version that was asked for; U4.
 pub fn command<'a>(alloc: Global, words: &'a [String]) -> Result<Command<'a>, MuError>
+    ensures asked { IfOk result (IsAskedFor (map (λ word. string_bytes word) words.now)) }
     ensures complete { IfOk result IsComplete }
 {
     let matches = matches_of(alloc, words)?;
@@ -29,7 +47,9 @@ pub fn command<'a>(alloc: Global, words: &'a [String]) -> Result<Command<'a>, Mu
     }
 }
 
-fn matches_of<'a>(alloc: Global, words: &'a [String]) -> Result<ArgMatches<'a>, MuError> {
+fn matches_of<'a>(alloc: Global, words: &'a [String]) -> Result<ArgMatches<'a>, MuError>
+    ensures { IfOk result (AreMatchesOf (map (λ word. string_bytes word) words.now)) }
+{
     let Ok(parser) = parser(alloc) else {
         return Err(MuError::Memory);
     };
@@ -52,31 +72,89 @@ fn refusal(alloc: Global, error: &ClapError) -> MuError {
 
 /// The command that the matches ask for.
 fn request_of<'a>(matches: &ArgMatches<'a>) -> Result<Command<'a>, ArgumentError>
-    ensures { IfOk result IsComplete }
+    ensures asked { IfOk result (IsRead (subcommand_rows_of matches.now)) }
+    ensures complete { IfOk result IsComplete }
 {
-    match matches.subcommand() {
-        Some(("check", found)) => check_of(found),
-        Some(("normal", found)) => Ok(Command::Normal(Normal {
-            formula: file_name(found, FORMULA)?,
-            priorities: rule(found),
-        })),
-        Some(("solve", found)) => Ok(Command::Solve(Solve {
-            game: file_name(found, GAME)?,
-            options: options(found)?,
-        })),
-        Some(("verify", found)) => Ok(Command::Verify(Verify {
-            game: file_name(found, GAME)?,
-            evidence: file_name(found, EVIDENCE)?,
-            other: optional_name(found, OTHER)?,
-        })),
-        Some(("replay", found)) => replay_of(found),
+    let Some((name, found)) = matches.subcommand() else {
+        return Err(ArgumentError::NoCommand);
+    };
+    match name {
+        "check" => check_of(found),
+        "normal" => normal_of(found),
+        "solve" => solve_of(found),
+        "verify" => verify_of(found),
+        "replay" => replay_of(found),
         _ => Err(ArgumentError::NoCommand),
     }
 }
 
+/// The check that the matches of its command ask for.
+fn check_of<'a>(matches: &ArgMatches<'a>) -> Result<Command<'a>, ArgumentError>
+    ensures asked { IfOk result (IsCommand (codes "check") (rows_of (found_of matches.now))) }
+    ensures complete { IfOk result IsComplete }
+{
+    let system = file_name(matches, SYSTEM)?;
+    let formula = file_name(matches, FORMULA)?;
+    let check = Check {
+        system,
+        formula,
+        options: options(matches)?,
+        plain: has_value(matches, PLAIN, "true"),
+    };
+    Ok(Command::Check(check, outputs(matches)?))
+}
+
+/// Where a check's texts go.
+fn outputs<'a>(matches: &ArgMatches<'a>) -> Result<Outputs<'a>, ArgumentError>
+    ensures asked { IfOk result (AreOutputs (rows_of (found_of matches.now))) }
+    ensures named { IfOk result AreNamed }
+{
+    Ok(Outputs {
+        game: optional_name(matches, GAME_FILE)?,
+        evidence: optional_name(matches, EVIDENCE_FILES)?,
+        witness: optional_name(matches, WITNESS_FILE)?,
+        report: !has_value(matches, QUIET, "true"),
+    })
+}
+
+/// The normal form that the matches of its command ask for.
+fn normal_of<'a>(matches: &ArgMatches<'a>) -> Result<Command<'a>, ArgumentError>
+    ensures asked { IfOk result (IsCommand (codes "normal") (rows_of (found_of matches.now))) }
+    ensures complete { IfOk result IsComplete }
+{
+    Ok(Command::Normal(Normal {
+        formula: file_name(matches, FORMULA)?,
+        priorities: rule(matches),
+    }))
+}
+
+/// The game that the matches of its command ask to be solved.
+fn solve_of<'a>(matches: &ArgMatches<'a>) -> Result<Command<'a>, ArgumentError>
+    ensures asked { IfOk result (IsCommand (codes "solve") (rows_of (found_of matches.now))) }
+    ensures complete { IfOk result IsComplete }
+{
+    Ok(Command::Solve(Solve {
+        game: file_name(matches, GAME)?,
+        options: options(matches)?,
+    }))
+}
+
+/// The evidence that the matches of its command ask to be checked.
+fn verify_of<'a>(matches: &ArgMatches<'a>) -> Result<Command<'a>, ArgumentError>
+    ensures asked { IfOk result (IsCommand (codes "verify") (rows_of (found_of matches.now))) }
+    ensures complete { IfOk result IsComplete }
+{
+    Ok(Command::Verify(Verify {
+        game: file_name(matches, GAME)?,
+        evidence: file_name(matches, EVIDENCE)?,
+        other: optional_name(matches, OTHER)?,
+    }))
+}
+
 /// The replay that the matches of its command ask for.
 fn replay_of<'a>(matches: &ArgMatches<'a>) -> Result<Command<'a>, ArgumentError>
-    ensures { IfOk result IsComplete }
+    ensures asked { IfOk result (IsCommand (codes "replay") (rows_of (found_of matches.now))) }
+    ensures complete { IfOk result IsComplete }
 {
     Ok(Command::Replay(Replay {
         system: file_name(matches, SYSTEM)?,
@@ -86,28 +164,10 @@ fn replay_of<'a>(matches: &ArgMatches<'a>) -> Result<Command<'a>, ArgumentError>
     }))
 }
 
-/// The check that the matches of its command ask for.
-fn check_of<'a>(matches: &ArgMatches<'a>) -> Result<Command<'a>, ArgumentError>
-    ensures { IfOk result IsComplete }
-{
-    let check = Check {
-        system: file_name(matches, SYSTEM)?,
-        formula: file_name(matches, FORMULA)?,
-        options: options(matches)?,
-        plain: matches.get_flag(PLAIN),
-    };
-    let outputs = Outputs {
-        game: optional_name(matches, GAME_FILE)?,
-        evidence: optional_name(matches, EVIDENCE_FILES)?,
-        witness: optional_name(matches, WITNESS_FILE)?,
-        report: !matches.get_flag(QUIET),
-    };
-    Ok(Command::Check(check, outputs))
-}
-
 /// The options of a command that makes a game or solves one.
 fn options(matches: &ArgMatches<'_>) -> Result<Options, ArgumentError>
-    ensures { IfOk result AreWithin }
+    ensures asked { IfOk result (AreOptions (rows_of (found_of matches.now))) }
+    ensures within { IfOk result AreWithin }
 {
     Ok(Options {
         priorities: rule(matches),
@@ -118,24 +178,42 @@ fn options(matches: &ArgMatches<'_>) -> Result<Options, ArgumentError>
 }
 
 /// The rule of priorities; where the command has no such option, the nested one.
-fn rule(matches: &ArgMatches<'_>) -> Priorities {
-    match matches.get_str(PRIORITIES) {
-        Some("dependent") => Priorities::Dependent,
-        _ => Priorities::Nested,
+fn rule(matches: &ArgMatches<'_>) -> Priorities
+    ensures { result ≡ priorities_in (rows_of (found_of matches.now)) }
+{
+    if has_value(matches, PRIORITIES, "dependent") {
+        Priorities::Dependent
+    } else {
+        Priorities::Nested
     }
 }
 
-fn board(matches: &ArgMatches<'_>) -> BoardKind {
-    match matches.get_str(BOARD) {
-        Some("locked") => BoardKind::Locked,
-        Some("packed") => BoardKind::Packed,
-        _ => BoardKind::Auto,
+fn board(matches: &ArgMatches<'_>) -> BoardKind
+    ensures { result ≡ board_in (rows_of (found_of matches.now)) }
+{
+    if has_value(matches, BOARD, "locked") {
+        BoardKind::Locked
+    } else if has_value(matches, BOARD, "packed") {
+        BoardKind::Packed
+    } else {
+        BoardKind::Auto
+    }
+}
+
+/// Whether an argument has this value. An option without a value has the value `true` where it stands.
+fn has_value(matches: &ArgMatches<'_>, id: &str, value: &str) -> bool
+    ensures { result ≡ has_value (rows_of (found_of matches.now)) id.now value.now }
+{
+    match matches.get_str(id) {
+        Some(found) => found == value,
+        None => false,
     }
 }
 
 /// The file that an argument names.
 fn file_name<'a>(matches: &ArgMatches<'a>, id: &str) -> Result<&'a str, ArgumentError>
-    ensures { IfOk result (λ name. name.now ≢ []) }
+    ensures asked { IfOk result (IsFile (rows_of (found_of matches.now)) id.now) }
+    ensures named { IfOk result (λ name. name.now ≢ []) }
 {
     match matches.get_str(id) {
         Some(name) if !name.is_empty() => Ok(name),
@@ -145,7 +223,8 @@ fn file_name<'a>(matches: &ArgMatches<'a>, id: &str) -> Result<&'a str, Argument
 
 /// The file that an argument names, if it stands.
 fn optional_name<'a>(matches: &ArgMatches<'a>, id: &str) -> Result<Option<&'a str>, ArgumentError>
-    ensures { IfOk result (λ found. IfSome found (λ name. name.now ≢ [])) }
+    ensures asked { IfOk result (IsFileIfAny (rows_of (found_of matches.now)) id.now) }
+    ensures named { IfOk result (λ found. IfSome found (λ name. name.now ≢ [])) }
 {
     match matches.get_str(id) {
         None => Ok(None),
@@ -158,11 +237,12 @@ fn optional_name<'a>(matches: &ArgMatches<'a>, id: &str) -> Result<Option<&'a st
 fn number(matches: &ArgMatches<'_>, id: &str, default: u32, most: u32) -> Result<u32, ArgumentError>
     requires some { 1 ≤ default }
     requires few { default ≤ most }
-    ensures { IfOk result (λ n. (1 ≤ n) × (n ≤ most)) }
+    ensures asked { IfOk result (λ n. n ≡ number_in (rows_of (found_of matches.now)) id.now default) }
+    ensures within { IfOk result (λ n. (1 ≤ n) × (n ≤ most)) }
 {
-    match matches.get_one::<u32>(id) {
-        None => Ok(default),
-        Some(n) if n >= 1 && n <= most => Ok(n),
-        Some(_) => Err(ArgumentError::OverLimit),
+    match matches.try_get_one::<u32>(id) {
+        Ok(None) => Ok(default),
+        Ok(Some(n)) if n >= 1 && n <= most => Ok(n),
+        _ => Err(ArgumentError::OverLimit),
     }
 }

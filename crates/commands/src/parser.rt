@@ -1,5 +1,27 @@
 // The command lines that are read, as `clap` is told of them.
 
+ghost use Rattle.std.specs.Prelude.{IfOk, codes};
+ghost use Rattle.clap.specs.Words.{app_of, new_app};
+ghost use Rattle.commands.specs.CommandLine.{
+  IsTable,
+  board_rule,
+  check_rules,
+  file_rule,
+  flag_rule,
+  lifting_rules,
+  normal_rules,
+  output_rule,
+  output_rules,
+  priorities_rule,
+  replay_rules,
+  shards_rule,
+  solve_rules,
+  value_rule,
+  verify_rules,
+  workers_rule,
+};
+ghost use Rattle.commands.specs.Parsers.{AddsRules, HasRule, ReadsBy, command_app};
+
 use crate::version::VERSION;
 use clap::builder::ValueParser;
 use clap::{Arg, ArgAction, Command as Parser};
@@ -131,84 +153,92 @@ const BOARD_HELP: &str =
     "What the workers share: shards under locks, or a word for each vertex, or that where it fits";
 
 /// All commands.
-pub(crate) fn parser<'a>(alloc: Global) -> Result<Parser<'a>, AllocError> {
-    let check = check_parser(alloc)?;
-    let parser = Parser::new(alloc, "mucheck")
-        .about(ABOUT)
+pub(crate) fn parser<'a>(alloc: Global) -> Result<Parser<'a>, AllocError>
+    ensures { IfOk result (λ parser. IsTable (app_of parser)) }
+{
+    let rules = RULES.as_slice();
+    let boards = BOARDS.as_slice();
+    let parser = described(alloc, "mucheck", ABOUT, AFTER)
         .version(VERSION)
-        .after_help(AFTER)
         .subcommand_required(true)
-        .disable_help_subcommand(true)
-        .subcommand(check)?;
-    with_texts(alloc, parser)
-}
-
-/// The commands on one text, and on the texts of games.
-fn with_texts<'a>(alloc: Global, parser: Parser<'a>) -> Result<Parser<'a>, AllocError> {
-    let parser = parser.subcommand(normal_parser(alloc)?)?;
-    let parser = parser.subcommand(solve_parser(alloc)?)?;
+        .disable_help_subcommand(true);
+    let parser = parser.subcommand(check_parser(alloc, rules, boards)?)?;
+    let parser = parser.subcommand(normal_parser(alloc, rules)?)?;
+    let parser = parser.subcommand(solve_parser(alloc, boards)?)?;
     let parser = parser.subcommand(verify_parser(alloc)?)?;
     parser.subcommand(replay_parser(alloc)?)
 }
 
-fn check_parser<'a>(alloc: Global) -> Result<Parser<'a>, AllocError> {
-    let parser = Parser::new(alloc, "check")
-        .about(CHECK_ABOUT)
-        .after_help(CHECK_AFTER)
+/// A command without arguments yet.
+fn described<'a>(alloc: Global, name: &'a str, about: &'a str, after: &'a str) -> Parser<'a>
+    ensures { ReadsBy (new_app name.now) result }
+{
+    Parser::new(alloc, name).about(about).after_help(after)
+}
+
+fn check_parser<'a>(
+    alloc: Global,
+    rules: &'a [&'a str],
+    boards: &'a [&'a str],
+) -> Result<Parser<'a>, AllocError>
+    ensures { IfOk result (ReadsBy (command_app (codes "check") (check_rules rules.entry boards.entry))) }
+{
+    let parser = described(alloc, "check", CHECK_ABOUT, CHECK_AFTER)
         .arg(file(alloc, SYSTEM, SYSTEM_HELP))?
         .arg(file(alloc, FORMULA, FORMULA_HELP))?
         .arg(flag(alloc, PLAIN, PLAIN_HELP))?
-        .arg(flag(alloc, QUIET, QUIET_HELP))?;
-    let parser = parser.arg(rule(alloc))?;
-    with_outputs(alloc, with_workers(alloc, parser)?)
+        .arg(flag(alloc, QUIET, QUIET_HELP))?
+        .arg(rule(alloc, rules))?;
+    with_outputs(alloc, with_workers(alloc, parser, boards)?)
 }
 
-fn normal_parser<'a>(alloc: Global) -> Result<Parser<'a>, AllocError> {
-    Parser::new(alloc, "normal")
-        .about(NORMAL_ABOUT)
-        .after_help(NORMAL_AFTER)
+fn normal_parser<'a>(alloc: Global, rules: &'a [&'a str]) -> Result<Parser<'a>, AllocError>
+    ensures { IfOk result (ReadsBy (command_app (codes "normal") (normal_rules rules.entry))) }
+{
+    described(alloc, "normal", NORMAL_ABOUT, NORMAL_AFTER)
         .arg(file(alloc, FORMULA, FORMULA_HELP))?
-        .arg(rule(alloc))
+        .arg(rule(alloc, rules))
 }
 
-fn solve_parser<'a>(alloc: Global) -> Result<Parser<'a>, AllocError> {
-    let parser = Parser::new(alloc, "solve")
-        .about(SOLVE_ABOUT)
-        .after_help(SOLVE_AFTER)
-        .arg(file(alloc, GAME, GAME_HELP))?;
-    with_workers(alloc, parser)
+fn solve_parser<'a>(alloc: Global, boards: &'a [&'a str]) -> Result<Parser<'a>, AllocError>
+    ensures { IfOk result (ReadsBy (command_app (codes "solve") (solve_rules boards.entry))) }
+{
+    let parser = described(alloc, "solve", SOLVE_ABOUT, SOLVE_AFTER).arg(file(
+        alloc, GAME, GAME_HELP,
+    ))?;
+    with_workers(alloc, parser, boards)
 }
 
-fn verify_parser<'a>(alloc: Global) -> Result<Parser<'a>, AllocError> {
-    Parser::new(alloc, "verify")
-        .about(VERIFY_ABOUT)
-        .after_help(VERIFY_AFTER)
+fn verify_parser<'a>(alloc: Global) -> Result<Parser<'a>, AllocError>
+    ensures { IfOk result (ReadsBy (command_app (codes "verify") verify_rules)) }
+{
+    described(alloc, "verify", VERIFY_ABOUT, VERIFY_AFTER)
         .arg(file(alloc, GAME, GAME_HELP))?
         .arg(file(alloc, EVIDENCE, EVIDENCE_HELP))?
-        .arg(file(alloc, OTHER, OTHER_HELP).required(false))
+        .arg(Arg::new(alloc, OTHER).help(OTHER_HELP))
 }
 
-fn replay_parser<'a>(alloc: Global) -> Result<Parser<'a>, AllocError> {
-    let workers = clap::value_parser!(u32).range(1..=64);
-    Parser::new(alloc, "replay")
-        .about(REPLAY_ABOUT)
-        .after_help(REPLAY_AFTER)
+fn replay_parser<'a>(alloc: Global) -> Result<Parser<'a>, AllocError>
+    ensures { IfOk result (ReadsBy (command_app (codes "replay") replay_rules)) }
+{
+    described(alloc, "replay", REPLAY_ABOUT, REPLAY_AFTER)
         .arg(file(alloc, SYSTEM, SYSTEM_HELP))?
         .arg(file(alloc, FORMULA, FORMULA_HELP))?
         .arg(file(alloc, SCHEDULE, SCHEDULE_HELP))?
-        .arg(
-            option_with_value(alloc, WORKERS, "1 to 64")
-                .value_parser(workers)
-                .help(SEATS_HELP),
-        )
+        .arg(workers(alloc, SEATS_HELP))
 }
 
-fn file<'a>(alloc: Global, id: &'a str, help: &'a str) -> Arg<'a> {
+/// A file, by its place among the words.
+fn file<'a>(alloc: Global, id: &'a str, help: &'a str) -> Arg<'a>
+    ensures { HasRule (file_rule id.now) result }
+{
     Arg::new(alloc, id).required(true).help(help)
 }
 
 /// An option without a value.
-fn flag<'a>(alloc: Global, name: &'a str, help: &'a str) -> Arg<'a> {
+fn flag<'a>(alloc: Global, name: &'a str, help: &'a str) -> Arg<'a>
+    ensures { HasRule (flag_rule name.now) result }
+{
     Arg::new(alloc, name)
         .long(name)
         .action(ArgAction::SetTrue)
@@ -216,34 +246,67 @@ fn flag<'a>(alloc: Global, name: &'a str, help: &'a str) -> Arg<'a> {
 }
 
 /// An option that has a value.
-fn option_with_value<'a>(alloc: Global, name: &'a str, value: &'a str) -> Arg<'a> {
+fn option_with_value<'a>(alloc: Global, name: &'a str, value: &'a str) -> Arg<'a>
+    ensures { HasRule (value_rule name.now) result }
+{
     Arg::new(alloc, name)
         .long(name)
         .value_name(value)
         .action(ArgAction::Set)
 }
 
-fn rule<'a>(alloc: Global) -> Arg<'a> {
+fn rule<'a>(alloc: Global, names: &'a [&'a str]) -> Arg<'a>
+    ensures { HasRule (priorities_rule names.entry) result }
+{
     option_with_value(alloc, PRIORITIES, "RULE")
-        .value_parser(ValueParser::from(RULES.as_slice()))
+        .value_parser(ValueParser::from(names))
         .help(RULES_HELP)
 }
 
+fn workers<'a>(alloc: Global, help: &'a str) -> Arg<'a>
+    ensures { HasRule workers_rule result }
+{
+    let numbers = clap::value_parser!(u32).range(1..=64);
+    option_with_value(alloc, WORKERS, "1 to 64")
+        .value_parser(numbers)
+        .help(help)
+}
+
+fn shards<'a>(alloc: Global) -> Arg<'a>
+    ensures { HasRule shards_rule result }
+{
+    let numbers = clap::value_parser!(u32).range(1..=256);
+    option_with_value(alloc, SHARDS, "1 to 256")
+        .value_parser(numbers)
+        .help(SHARDS_HELP)
+}
+
+fn board<'a>(alloc: Global, names: &'a [&'a str]) -> Arg<'a>
+    ensures { HasRule (board_rule names.entry) result }
+{
+    option_with_value(alloc, BOARD, "KIND")
+        .value_parser(ValueParser::from(names))
+        .help(BOARD_HELP)
+}
+
 /// Workers, shards and board.
-fn with_workers<'a>(alloc: Global, parser: Parser<'a>) -> Result<Parser<'a>, AllocError> {
-    let workers = clap::value_parser!(u32).range(1..=64);
-    let arg = option_with_value(alloc, WORKERS, "1 to 64").help(WORKERS_HELP);
-    let parser = parser.arg(arg.value_parser(workers))?;
-    let shards = clap::value_parser!(u32).range(1..=256);
-    let arg = option_with_value(alloc, SHARDS, "1 to 256").help(SHARDS_HELP);
-    let parser = parser.arg(arg.value_parser(shards))?;
-    let boards = ValueParser::from(BOARDS.as_slice());
-    let arg = option_with_value(alloc, BOARD, "KIND").help(BOARD_HELP);
-    parser.arg(arg.value_parser(boards))
+fn with_workers<'a>(
+    alloc: Global,
+    parser: Parser<'a>,
+    boards: &'a [&'a str],
+) -> Result<Parser<'a>, AllocError>
+    ensures { IfOk result (AddsRules parser.entry (lifting_rules boards.entry)) }
+{
+    parser
+        .arg(workers(alloc, WORKERS_HELP))?
+        .arg(shards(alloc))?
+        .arg(board(alloc, boards))
 }
 
 /// Where the game, the evidence and the witness go, which are made of a game alone.
-fn with_outputs<'a>(alloc: Global, parser: Parser<'a>) -> Result<Parser<'a>, AllocError> {
+fn with_outputs<'a>(alloc: Global, parser: Parser<'a>) -> Result<Parser<'a>, AllocError>
+    ensures { IfOk result (AddsRules parser.entry output_rules) }
+{
     let game = output(alloc, GAME_FILE, "FILE", GAME_FILE_HELP)?;
     let parser = parser.arg(game)?;
     let evidence = output(alloc, EVIDENCE_FILES, "PATH", EVIDENCE_FILES_HELP)?;
@@ -256,7 +319,9 @@ fn output<'a>(
     name: &'a str,
     value: &'a str,
     help: &'a str,
-) -> Result<Arg<'a>, AllocError> {
+) -> Result<Arg<'a>, AllocError>
+    ensures { IfOk result (HasRule (output_rule name.now)) }
+{
     option_with_value(alloc, name, value)
         .help(help)
         .conflicts_with(PLAIN)

@@ -1,0 +1,58 @@
+-- What is read of the matches.
+use Rattle.std.proofs.Common.{◌≡◌, ◌∙◌, ap, ap₂, refl, sym, subst, ℕ, List, Option, Some, None, Result, Ok, Err}
+use Rattle.std.specs.Prelude.{IfOk, option_map, unwrap_or}
+use Rattle.std.specs.Borrow.{Bor}
+use Rattle.std.specs.Option.{option_map_or}
+use Rattle.std.specs.Str.Parse.{ParsesUnsigned}
+use Rattle.clap.specs.Words.{Row, Text, TriesOne, first_of, first_value, found_of, one_of, one_text, rows_of, subcommand_name_of, subcommand_rows_of}
+use Rattle.clap.specs.Simple.{subcommand_rows}
+use Rattle.clap.specs.declared.parser.matches.ArgMatches.{ArgMatches}
+use Rattle.clap.specs.declared.parser.matches.ArgMatches.TheViews.{out-ArgMatches}
+use Rattle.clap.specs.declared.parser.matches.Found.{Found}
+use Rattle.clap.proofs.WalkLemmas.{first_value-rows, one_text-rows}
+use Rattle.commands.specs.CommandLine.{number_in, number_of}
+
+-- the text of an argument, by the rows
+pub value_read : (f : Found) (id : Text) (found : Option (Bor Text)) → option_map (λ s. s.now) found ≡ first_value f id → first_of id (rows_of f) ≡ option_map (λ s. s.now) found
+value_read f id found is = sym (first_value-rows f id) ∙ sym is
+
+-- the number that was tried to be read
+pub number_read : (E : Type 0) (G : List ℕ → Result ℕ E → Type 0) (f : Found) (id : Text) (default : ℕ) (r : Result (Option ℕ) E)
+    → ((t : List ℕ) (x : Result ℕ E) → G t x → ParsesUnsigned 32 10 t x)
+    → (one_text f id ≡ None → r ≡ Ok None) → ((t : List ℕ) → one_text f id ≡ Some t → TriesOne G t r)
+    → IfOk r (λ o. unwrap_or o default ≡ number_in (rows_of f) id default)
+number_read E G f id default r reads none value = go (one_text f id) refl
+  where
+    tried : (t : List ℕ) (x : Result (Option ℕ) E) → TriesOne G t x → IfOk x (λ o. unwrap_or o default ≡ number_of t)
+    tried t (Ok None) h = absurd h
+    tried t (Ok (Some n)) h = (reads t (Ok n) h).1
+    tried t (Err e) h = tt
+
+    go : (o : Option Text) → one_text f id ≡ o → IfOk r (λ o. unwrap_or o default ≡ number_in (rows_of f) id default)
+    go None e =
+        let at : one_of id (rows_of f) ≡ None = sym (one_text-rows f id) ∙ e in
+        rw (none e, at) refl
+    go (Some t) e =
+        let at : one_of id (rows_of f) ≡ Some t = sym (one_text-rows f id) ∙ e in
+        rw at (tried t r (value t e))
+
+fused : {A B C : Type 0} (f : A → B) (g : B → C) (o : Option A) → option_map g (option_map f o) ≡ option_map (λ x. g (f x)) o
+fused f g None = refl
+fused f g (Some x) = refl
+
+paired : {A X Y : Type 0} (f : A → X) (g : A → Y) (o : Option A) (p : Option (X × Y)) → option_map f o ≡ option_map (λ q. q.0) p → option_map g o ≡ option_map (λ q. q.1) p
+    → p ≡ option_map (λ x. (f x, g x)) o
+paired f g None None first second = refl
+paired f g None (Some p) first second = cc
+paired f g (Some x) None first second = cc
+paired f g (Some x) (Some p) first second =
+    let one : f x ≡ p.0 = cc in
+    let two : g x ≡ p.1 = cc in
+    ap₂ (λ y z. Some (y, z)) (sym one) (sym two)
+
+-- the command that the matches name, with its own matches
+pub subcommand_read : (m : ArgMatches) (found : Option (Bor Text × Bor ArgMatches)) → option_map (λ p. p.0.now) found ≡ subcommand_name_of m
+    → option_map (λ p. rows_of (found_of p.1.now)) found ≡ option_map (λ p. p.1) (subcommand_rows (out-ArgMatches m).subcommand)
+    → subcommand_rows_of m ≡ option_map (λ p. (p.0.now, rows_of (found_of p.1.now))) found
+subcommand_read m found name rows =
+    paired (λ p. p.0.now) (λ p. rows_of (found_of p.1.now)) found (subcommand_rows_of m) (name ∙ sym (fused _ (λ q. q.0) (out-ArgMatches m).subcommand)) rows

@@ -1,0 +1,72 @@
+-- What an argument more, and a command more, make of a table.
+use Rattle.std.proofs.Common.{◌≡◌, ◌∙◌, ap, ap₂, refl, sym, Bool, true, false, true≢false, not, ◌&&◌, ◌==◌, inl, inr, List, [], ◌∷◌, ◌++◌, length, Some, arith}
+use Rattle.std.proofs.lemmas.Bool.Decides.{eqb_tells}
+use Rattle.std.proofs.lemmas.List.{length-append}
+use Rattle.std.specs.Borrow.{Bor}
+use Rattle.clap.specs.Words.{is_simple}
+use Rattle.clap.specs.Walk.{Text, is_empty, is_free_arg}
+use Rattle.clap.specs.Words.{AddsArg, AddsConflicts, AddsSubcommand, App, Rule, app_of, rule_of, with_rule, with_subcommand}
+use Rattle.clap.specs.declared.builder.arg.Arg.{Arg}
+use Rattle.clap.specs.declared.builder.command.Command.{Command as Parser}
+use Rattle.clap.specs.declared.builder.value_parser.ValueParser.{ValueParser}
+use Rattle.commands.specs.CommandLine.{IsTable, mucheck_app}
+use Rattle.commands.specs.Parsers.{AddsRules, HasRule, ReadsBy, with_rules}
+
+-- ------------------------------------------------------------------ arguments
+
+-- help changes no rule
+pub helped : (old new : Arg) (text : Bor Text) (rule : Rule) → new ≡ record old { help = Some text } → HasRule rule old → HasRule rule new
+helped old new text rule is has = record {
+  same = ap rule_of is ∙ has.same;
+  local = ap (λ (a : Arg). a.global) is ∙ has.local;
+}
+
+-- a parser of values changes the rule's parser alone
+pub parses : (old new : Arg) (parser : ValueParser) (rule : Rule) → new ≡ record old { value_parser = new.value_parser } → new.value_parser ≡ Some parser → HasRule rule old
+    → HasRule (record rule { parser = Some parser }) new
+parses old new parser rule is given has = record {
+  same = ap rule_of is ∙ ap₂ (λ (r : Rule) p. record r { parser = p }) has.same given;
+  local = ap (λ (a : Arg). a.global) is ∙ has.local;
+}
+
+and_false : (b : Bool) → (b && false) ≡ false
+and_false true = refl
+and_false false = refl
+
+not_empty : {X : Type 0} (xs : List X) (x : X) → is_empty (xs ++ x ∷ []) ≡ false
+not_empty xs x = elim (eqb_tells (length (xs ++ x ∷ [])) 0) [ inl w ↦ absurd (omega (arith, length-append xs (x ∷ []), w.1)) | inr w ↦ w.0 ]
+
+not_free : (old new : Arg) (id : Bor Text) → AddsConflicts old new (id ∷ []) → is_free_arg (record old { conflicts = new.conflicts }) ≡ false
+not_free old new id adds = rw (adds.1, not_empty) (and_false (not old.exclusive))
+
+-- what is in conflict is no longer free
+pub conflicts : (old new : Arg) (id : Bor Text) (rule : Rule) → AddsConflicts old new (id ∷ []) → HasRule rule old → HasRule (record rule { is_free = false }) new
+conflicts old new id rule adds has = record {
+  same = ap rule_of adds.0 ∙ ap₂ (λ (r : Rule) b. record r { is_free = b }) has.same (not_free old new id adds);
+  local = ap (λ (a : Arg). a.global) adds.0 ∙ has.local;
+}
+
+-- ------------------------------------------------------------------ commands
+
+-- one argument more
+pub adds_rule : (old : Parser) (arg : Arg) (new : Parser) (table : App) (rule : Rule) → AddsArg old arg new → HasRule rule arg → ReadsBy table old → ReadsBy (with_rule table rule) new
+adds_rule old arg new table rule added has reads = added.shape has.local ∙ ap₂ with_rule reads has.same
+
+-- several more
+pub adds_rules : (old new : Parser) (table : App) (rules : List Rule) → AddsRules old rules new → ReadsBy table old → ReadsBy (with_rules table rules) new
+adds_rules old new table rules adds reads = adds ∙ ap (λ t. with_rules t rules) reads
+
+third : (a b c d : Bool) → (a && (not b && (not c && d))) ≡ true → c ≡ false
+third true false false d h = refl
+third true false true d h = absurd (true≢false (sym h))
+third true true c d h = absurd (true≢false (sym h))
+third false b c d h = absurd (true≢false (sym h))
+
+-- one command more: a plain one hands no argument down
+pub adds_command : (old sub new : Parser) (table command : App) → command.top.is_plain ≡ true → AddsSubcommand old sub new → ReadsBy command sub → ReadsBy table old → ReadsBy (with_subcommand table command.top) new
+adds_command old sub new table command plain added below reads =
+    added.shape (third _ _ _ _ (ap (λ (a : App). a.top.is_plain) below ∙ plain)) ∙ ap₂ with_subcommand reads (ap (λ (a : App). a.top) below)
+
+-- of the program's table the matches are told
+pub table_is_simple : (app : App) → IsTable app → is_simple app ≡ true
+table_is_simple app is = ap is_simple is.table

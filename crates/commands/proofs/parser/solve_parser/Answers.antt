@@ -1,0 +1,9 @@
+use Rattle.std.proofs.lemmas.Result.{IfOk-weaker}
+use Rattle.commands.specs.CommandLine.{lifting_rules}
+use Rattle.commands.proofs.Tables.{adds_rule, adds_rules}
+use Rattle.commands.proofs.parser.solve_parser.Goals as goal
+
+pub returns : goal.returns
+returns c =
+    let game = adds_rule _ _ _ _ _ c.in_ok-parser.ensures c.file.ensures c.described.ensures in
+    IfOk-weaker c.with_workers.result _ _ (λ parser adds. adds_rules _ _ _ (lifting_rules c.args.boards) adds game) c.with_workers.ensures

@@ -1,0 +1,225 @@
+-- What the words of a command line ask for: the table of commands by which they are read, and what is read of them.
+use Rattle.std.specs.Prelude.{◌≡◌, ℕ, Bool, false, true, not, List, [], ◌∷◌, ◌++◌, Option, None, Some, codes, if◌then◌else◌, option_map, pos}
+use Rattle.std.specs.Borrow.{Bor}
+use Rattle.std.specs.Option.{option_map_or}
+use Rattle.std.specs.Str.{bytes_eq}
+use Rattle.std.specs.Str.Parse.{digits_value, without_leading_plus}
+use Rattle.clap.specs.Simple.{new_shape}
+use Rattle.clap.specs.Walk.{texts}
+use Rattle.clap.specs.Words.{App, Row, Rule, Shape, Text, first_of, new_rule, one_of, subcommand_of, subcommand_rows_of}
+use Rattle.clap.specs.declared.builder.action.ArgAction.TheVariants as action
+use Rattle.clap.specs.declared.builder.value_parser.ValueParser.TheVariants as value_parser
+use Rattle.clap.specs.declared.parser.matches.ArgMatches.{ArgMatches}
+use Rattle.normal.specs.declared.priorities.Priorities.{Priorities}
+use Rattle.normal.specs.declared.priorities.Priorities.TheVariants.{Dependent, Nested}
+use Rattle.workers.specs.declared.team.BoardKind.{BoardKind}
+use Rattle.workers.specs.declared.team.BoardKind.TheVariants as board
+use Rattle.engines.specs.declared.request.Check.{Check as CheckRequest}
+use Rattle.engines.specs.declared.request.Options.{Options}
+use Rattle.commands.specs.declared.request.Command.{Command}
+use Rattle.commands.specs.declared.request.Command.TheVariants.{Check, Normal, Replay, Solve, Verify}
+use Rattle.commands.specs.declared.request.Normal.{Normal as NormalRequest}
+use Rattle.commands.specs.declared.request.Outputs.{Outputs}
+use Rattle.commands.specs.declared.request.Replay.{Replay as ReplayRequest}
+use Rattle.commands.specs.declared.request.Solve.{Solve as SolveRequest}
+use Rattle.commands.specs.declared.request.Verify.{Verify as VerifyRequest}
+
+-- ------------------------------------------------------------------ the table
+
+-- a file, by its place among the words
+abbrev pub file_rule : Text → Rule
+file_rule id = record (new_rule id) { required = true }
+
+-- `--name`
+abbrev pub flag_rule : Text → Rule
+flag_rule name = record (new_rule name) { long = Some name; action = Some action.SetTrue }
+
+-- `--name` with a value
+abbrev pub value_rule : Text → Rule
+value_rule name = record (new_rule name) { long = Some name; action = Some action.Set; value_names = 1 }
+
+-- its value is a number from 1 to this one
+abbrev pub number_rule : Text → ℕ → Rule
+number_rule name most = record (value_rule name) { parser = Some (value_parser.Signed (pos 1) (pos most)) }
+
+-- names of which one is chosen
+abbrev pub Choice : Type 0
+Choice = Bor (List (Bor Text))
+
+-- its value is one of these names
+abbrev pub choice_rule : Text → Choice → Rule
+choice_rule name choice = record (value_rule name) { parser = Some (value_parser.Names choice) }
+
+-- its value is a file, and it doesn't stand beside another option
+abbrev pub output_rule : Text → Rule
+output_rule name = record (value_rule name) { is_free = false }
+
+-- how many workers lift, how many locks their board has, and which board it is
+abbrev pub workers_rule : Rule
+workers_rule = number_rule (codes "workers") 64
+
+abbrev pub shards_rule : Rule
+shards_rule = number_rule (codes "shards") 256
+
+abbrev pub board_rule : (boards : Choice) → Rule
+board_rule boards = choice_rule (codes "board") boards
+
+abbrev pub lifting_rules : (boards : Choice) → List Rule
+lifting_rules boards = workers_rule ∷ shards_rule ∷ board_rule boards ∷ []
+
+-- where the game, the evidence and the witness go
+abbrev pub output_rules : List Rule
+output_rules = output_rule (codes "game") ∷ output_rule (codes "evidence") ∷ output_rule (codes "witness") ∷ []
+
+-- the rule of priorities
+abbrev pub priorities_rule : (rules : Choice) → Rule
+priorities_rule rules = choice_rule (codes "priorities") rules
+
+abbrev pub check_rules : (rules boards : Choice) → List Rule
+check_rules rules boards =
+    file_rule (codes "SYSTEM") ∷ file_rule (codes "FORMULA") ∷ flag_rule (codes "plain") ∷ flag_rule (codes "quiet")
+    ∷ priorities_rule rules ∷ (lifting_rules boards ++ output_rules)
+
+abbrev pub normal_rules : (rules : Choice) → List Rule
+normal_rules rules = file_rule (codes "FORMULA") ∷ priorities_rule rules ∷ []
+
+abbrev pub solve_rules : (boards : Choice) → List Rule
+solve_rules boards = file_rule (codes "GAME") ∷ lifting_rules boards
+
+abbrev pub verify_rules : List Rule
+verify_rules = file_rule (codes "GAME") ∷ file_rule (codes "EVIDENCE") ∷ new_rule (codes "OTHER") ∷ []
+
+abbrev pub replay_rules : List Rule
+replay_rules = file_rule (codes "SYSTEM") ∷ file_rule (codes "FORMULA") ∷ file_rule (codes "SCHEDULE") ∷ workers_rule ∷ []
+
+-- a command with its arguments
+abbrev pub command_shape : (name : Text) → List Rule → Shape
+command_shape name rules = record (new_shape name) { rules = rules }
+
+-- the program without its commands: it has a version, and one of its commands has to be named
+abbrev pub top_shape : Shape
+top_shape = record (new_shape (codes "mucheck")) { has_version = true; subcommand_required = true; disable_help_subcommand = true; is_leaf = false }
+
+-- the program with its commands
+abbrev pub mucheck_app : (rules boards : Choice) → App
+mucheck_app rules boards = record {
+  top = top_shape;
+  subs = command_shape (codes "check") (check_rules rules boards)
+      ∷ command_shape (codes "normal") (normal_rules rules)
+      ∷ command_shape (codes "solve") (solve_rules boards)
+      ∷ command_shape (codes "verify") verify_rules
+      ∷ command_shape (codes "replay") replay_rules
+      ∷ [];
+}
+
+abbrev pub AreRules : Choice → Type 0
+AreRules choice = texts choice.now ≡ codes "nested" ∷ codes "dependent" ∷ []
+
+abbrev pub AreBoards : Choice → Type 0
+AreBoards choice = texts choice.now ≡ codes "auto" ∷ codes "locked" ∷ codes "packed" ∷ []
+
+-- the program's table, wherever the names that are chosen from lie in memory
+pub record IsTable (app : App) : Type 0 where
+  pub rules : Choice
+  pub boards : Choice
+  pub rule_names : AreRules rules
+  pub board_names : AreBoards boards
+  pub table : app ≡ mucheck_app rules boards
+
+-- ------------------------------------------------------------------ what is read
+
+-- the argument has this value
+abbrev pub has_value : List Row → (id value : Text) → Bool
+has_value rows id value = option_map_or (λ text. bytes_eq text value) (first_of id rows) false
+
+-- the option without a value stands
+abbrev pub stands : List Row → (id : Text) → Bool
+stands rows id = has_value rows id (codes "true")
+
+abbrev pub number_of : Text → ℕ
+number_of text = digits_value 10 (without_leading_plus text)
+
+-- the number that the option gives, or else the default
+abbrev pub number_in : List Row → (id : Text) → (default : ℕ) → ℕ
+number_in rows id default = option_map_or number_of (one_of id rows) default
+
+-- the rule that is asked for, or else the nested one
+abbrev pub priorities_in : List Row → Priorities
+priorities_in rows = if has_value rows (codes "priorities") (codes "dependent") then Dependent else Nested
+
+-- the board that is asked for, or else whichever fits
+abbrev pub board_in : List Row → BoardKind
+board_in rows =
+    if has_value rows (codes "board") (codes "locked") then board.Locked
+    else (if has_value rows (codes "board") (codes "packed") then board.Packed else board.Auto)
+
+-- the argument names this file
+abbrev pub IsFile : List Row → (id : Text) → Bor Text → Type 0
+IsFile rows id file = first_of id rows ≡ Some file.now
+
+-- it names this file, or stands nowhere where there is none
+abbrev pub IsFileIfAny : List Row → (id : Text) → Option (Bor Text) → Type 0
+IsFileIfAny rows id file = first_of id rows ≡ option_map (λ f. f.now) file
+
+-- the options that are given, and the defaults of the others
+pub record AreOptions (rows : List Row) (options : Options) : Type 0 where
+  pub priorities : options.priorities ≡ priorities_in rows
+  pub workers : options.workers ≡ number_in rows (codes "workers") 1
+  pub shards : options.shards ≡ number_in rows (codes "shards") 16
+  pub board : options.board ≡ board_in rows
+
+pub record IsCheck (rows : List Row) (check : CheckRequest) : Type 0 where
+  pub system : IsFile rows (codes "SYSTEM") check.system
+  pub formula : IsFile rows (codes "FORMULA") check.formula
+  pub options : AreOptions rows check.options
+  pub plain : check.plain ≡ stands rows (codes "plain")
+
+pub record AreOutputs (rows : List Row) (outputs : Outputs) : Type 0 where
+  pub game : IsFileIfAny rows (codes "game") outputs.game
+  pub evidence : IsFileIfAny rows (codes "evidence") outputs.evidence
+  pub witness : IsFileIfAny rows (codes "witness") outputs.witness
+  pub report : outputs.report ≡ not (stands rows (codes "quiet"))
+
+pub record IsNormal (rows : List Row) (form : NormalRequest) : Type 0 where
+  pub formula : IsFile rows (codes "FORMULA") form.formula
+  pub priorities : form.priorities ≡ priorities_in rows
+
+pub record IsSolve (rows : List Row) (solve : SolveRequest) : Type 0 where
+  pub game : IsFile rows (codes "GAME") solve.game
+  pub options : AreOptions rows solve.options
+
+pub record IsVerify (rows : List Row) (verify : VerifyRequest) : Type 0 where
+  pub game : IsFile rows (codes "GAME") verify.game
+  pub evidence : IsFile rows (codes "EVIDENCE") verify.evidence
+  pub other : IsFileIfAny rows (codes "OTHER") verify.other
+
+pub record IsReplay (rows : List Row) (replay : ReplayRequest) : Type 0 where
+  pub system : IsFile rows (codes "SYSTEM") replay.system
+  pub formula : IsFile rows (codes "FORMULA") replay.formula
+  pub schedule : IsFile rows (codes "SCHEDULE") replay.schedule
+  pub workers : replay.workers ≡ number_in rows (codes "workers") 2
+
+-- the command of this name, as its arguments ask
+abbrev pub IsCommand : (name : Text) → List Row → Command → Type 0
+IsCommand name rows (Check check outputs) = (name ≡ codes "check") × IsCheck rows check × AreOutputs rows outputs
+IsCommand name rows (Normal form) = (name ≡ codes "normal") × IsNormal rows form
+IsCommand name rows (Solve solve) = (name ≡ codes "solve") × IsSolve rows solve
+IsCommand name rows (Verify verify) = (name ≡ codes "verify") × IsVerify rows verify
+IsCommand name rows (Replay replay) = (name ≡ codes "replay") × IsReplay rows replay
+
+-- the command that was read, of which there is one
+abbrev pub IsRead : Option (Text × List Row) → Command → Type 0
+IsRead None command = ⊥
+IsRead (Some named) command = IsCommand named.0 named.1 command
+
+-- these matches are what the program's table finds in the words
+pub record AreMatchesOf (words : List Text) (matches : ArgMatches) : Type 0 where
+  pub app : App
+  pub table : IsTable app
+  pub rows : subcommand_rows_of matches ≡ subcommand_of app words
+
+-- The command is what the words ask for, read by the program's table: the first word is the program's own name.
+pub record IsAskedFor (words : List Text) (command : Command) : Type 0 where
+  pub app : App
+  pub table : IsTable app
+  pub read : IsRead (subcommand_of app words) command
