@@ -37,3 +37,7 @@ pub mod StateSpine
 pub mod StatePlaces
 pub mod StateEnds
 pub mod StateRefusals
+pub mod Beginnings
+pub mod Signs
+pub mod Placing
+pub mod OneOrOther

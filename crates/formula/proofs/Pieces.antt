@@ -214,7 +214,7 @@ plain_tokens (Comment bytes ∷ ps) = plain_tokens ps
 plain_tokens (Word t ∷ ps) = ap (λ ts. plain_token t ∷ ts) (plain_tokens ps)
 
 -- the token that the next ones make of a plain one
-abbrev decided : Token → List Token → Token
+abbrev pub decided : Token → List Token → Token
 decided ChoiceSign ts = if is_after_postfix ts then PlusSign else ChoiceSign
 decided t ts = t
 

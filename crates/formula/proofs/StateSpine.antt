@@ -68,7 +68,7 @@ one_sign connective.Implies connective.Implies e = refl
 one_sign _ _ e = absurd (omega (arith, e))
 
 -- the tokens of a joined formula, sign by sign
-joined-split : (mark : Connective) (l r : Syntax) (m : List Token) → tokens (joined mark l r) ++ m ≡ tokens l ++ connective_token mark ∷ (tokens r ++ m)
+pub joined-split : (mark : Connective) (l r : Syntax) (m : List Token) → tokens (joined mark l r) ++ m ≡ tokens l ++ connective_token mark ∷ (tokens r ++ m)
 joined-split mark l r m = ap (λ ts. ts ++ m) (joined-tokens mark l r) ∙ append_assoc (tokens l) (connective_token mark ∷ tokens r) m
 
 -- a formula that may stand before this sign as its left operand
@@ -77,7 +77,7 @@ pub record LeftOperand (mark : Connective) (left : Syntax) : Type 0 where
   pub below : form left < connective_row mark
   pub open_end : ends_in_binder left ≡ false
 
-own_left : (mark : Connective) (l r : Syntax) → IsTrue (fits (joined mark l r)) → LeftOperand mark l
+pub own_left : (mark : Connective) (l r : Syntax) → IsTrue (fits (joined mark l r)) → LeftOperand mark l
 own_left mark l r h = let o = joined-operands mark l r h in record { grammatical = o.left; below = o.below; open_end = o.open_end }
 
 -- a left operand stands before its sign

@@ -27,3 +27,7 @@ NoFault = (text : List ℕ) (f : Formula) (fault : FormulaFault) (place : ℕ) �
 -- A text has at most one deciding fault, at one place.
 abbrev pub OneFault : Type 0
 OneFault = (text : List ℕ) (f g : FormulaFault) (p q : ℕ) → HasFault text f p → HasFault text g q → (f ≡ g) × (p ≡ q)
+
+-- No text is without both: an admitted formula that it spells within the limits, and a deciding fault.
+abbrev pub Decided : Type 0
+Decided = (text : List ℕ) → (((f : Formula) × SpellsWithin text f × IsAdmitted f) → ⊥) → (((fault : FormulaFault) × (place : ℕ) × HasFault text fault place) → ⊥) → ⊥

@@ -1,6 +1,6 @@
 // What holds of all texts of formulas.
 
-ghost use Rattle.formula.specs.Laws.{OneFormula, CanonSpells, CanonSpellsWithin, NoFault, OneFault};
+ghost use Rattle.formula.specs.Laws.{OneFormula, CanonSpells, CanonSpellsWithin, NoFault, OneFault, Decided};
 
 /// A text spells at most one formula: the grammar is unambiguous.
 pub fn one_formula()
@@ -26,4 +26,10 @@ pub fn no_fault()
 /// A text has at most one deciding fault, at one place.
 pub fn one_fault()
     ensures { OneFault }
+{}
+
+/// No text is without both: an admitted formula that it spells within the limits, and a deciding fault. So by
+/// `no_fault` it has just one of the two, and by `one_fault` one fault.
+pub fn decided()
+    ensures { Decided }
 {}
