@@ -28,6 +28,6 @@ NoFault = (text : List ℕ) (f : Formula) (fault : FormulaFault) (place : ℕ) �
 abbrev pub OneFault : Type 0
 OneFault = (text : List ℕ) (f g : FormulaFault) (p q : ℕ) → HasFault text f p → HasFault text g q → (f ≡ g) × (p ≡ q)
 
--- No text is without both: an admitted formula that it spells within the limits, and a deciding fault.
+-- It can't be that a text has neither: an admitted formula that it spells within the limits, or a deciding fault.
 abbrev pub Decided : Type 0
 Decided = (text : List ℕ) → (((f : Formula) × SpellsWithin text f × IsAdmitted f) → ⊥) → (((fault : FormulaFault) × (place : ℕ) × HasFault text fault place) → ⊥) → ⊥

@@ -28,8 +28,8 @@ pub fn one_fault()
     ensures { OneFault }
 {}
 
-/// No text is without both: an admitted formula that it spells within the limits, and a deciding fault. So by
-/// `no_fault` it has just one of the two, and by `one_fault` one fault.
+/// It can't be that a text has neither: an admitted formula that it spells within the limits, or a deciding fault. So by
+/// `no_fault` it has just one of the two, and by `one_fault` one fault. Which of them isn't computed here: `parse` does.
 pub fn decided()
     ensures { Decided }
 {}
