@@ -1,5 +1,5 @@
 -- Marks of the iterates of a binder's map.
-use Rattle.std.proofs.Common.{◌≡◌, ℕ, zero, suc, ◌+◌, ◌-◌, ◌≤◌, ◌↔◌, Bool, true, false, List, add-zero, add-suc, add-one, subst, arith}
+use Rattle.std.proofs.Common.{◌≡◌, ℕ, zero, suc, ◌+◌, ◌-◌, ◌≤◌, Bool, true, false, List, add-zero, add-suc, add-one, subst, arith}
 use Rattle.std.specs.Prelude.{IsTrue}
 use Rattle.lts.specs.System.{System, IsSystem}
 use Rattle.formula.specs.Tree.{Formula}

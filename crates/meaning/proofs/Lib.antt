@@ -9,6 +9,7 @@ pub mod Arrows
 pub mod Regulars
 pub mod Iterated
 pub mod Unused
+pub mod Closed
 pub mod Growth
 pub mod Setting
 pub mod Extremes

@@ -1,5 +1,5 @@
 -- What a formula means doesn't depend on a variable that isn't free in it.
-use Rattle.std.proofs.Common.{◌≡◌, ℕ, zero, suc, ◌<◌, ◌↔◌, Bool, true, false, not, ◌&&◌, ◌||◌, List, inl, inr, refl, sym, ◌∙◌, ap, subst, arith, true≢false}
+use Rattle.std.proofs.Common.{◌≡◌, ℕ, zero, suc, ◌<◌, ◌↔◌, Bool, true, false, not, ◌&&◌, List, inl, inr, refl, subst, arith}
 use Rattle.std.specs.Prelude.{MatchBool}
 use Rattle.std.specs.Str.{bytes_eq}
 use Rattle.std.proofs.lemmas.Bool.{or_parts}

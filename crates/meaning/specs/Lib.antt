@@ -1,6 +1,8 @@
 pub mod Arrivals
+pub mod Bound
 pub mod Extreme
 pub mod Free
 pub mod Into
 pub mod Scope
 pub mod Signs
+pub mod Term

@@ -10,3 +10,4 @@ mod scope;
 mod search;
 mod sets;
 mod signs;
+mod term;

@@ -3,21 +3,21 @@
 ghost use Rattle.std.specs.Prelude.{◌≡◌, ℕ, List, IfOk, IsTrue};
 ghost use Rattle.lts.specs.System.{IsSystem};
 ghost use Rattle.formula.specs.Tree.{Formula, Mu, Nu};
-ghost use Rattle.formula.specs.View.{formula_of};
 ghost use Rattle.formula.specs.Closed.{closed_formula};
 ghost use Rattle.formula.specs.Meaning.{Satisfies, mean, Marks, iterate, with_set};
 ghost use Rattle.meaning.specs.Extreme.{IsLeast, IsGreatest};
+ghost use Rattle.meaning.specs.Free.{is_free_in};
 ghost use Rattle.meaning.specs.Scope.{sets_of, FitsScope};
+ghost use Rattle.meaning.specs.Term.{formula_in, IsRight};
 
-use crate::free::has_free;
 use crate::regular::leading;
 use crate::scope::Scope;
-use crate::sets::{all, complement, intersection, union};
+use crate::sets::{all, complement, copied, intersection, union};
+use crate::term::{Term, term_of};
 use formula::closed::Closed;
 use lts::error::Memory;
 use lts::system::Lts;
 use std::alloc::{AllocError, Global};
-use trees::tree::State;
 
 /// The set of a variable, none if the scope has none.
 fn set_of(
@@ -44,24 +44,27 @@ fn set_of(
 /// The nth iterate, for n states, of the map of sets that a binder's formula is: the first that repeats. Where the
 /// binder's variable isn't free in the formula, one turn suffices.
 #[cycle(plain)]
-fn iterated<'x>(
+fn iterated<'x, 'a>(
     alloc: Global,
     lts: &Lts,
     name: &'x Vec<u8>,
-    body: &'x State,
+    used: bool,
+    body: &'x Term<'a>,
     scope: &'x Scope<'x>,
     from: bool,
 ) -> Result<Vec<bool>, AllocError>
-    requires { FitsScope lts.now.system.states scope.now }
-    ensures { IfOk result (λ marks. Marks lts.now.system.states marks.items (iterate lts.now.system.states (λ set. mean lts.now.system (formula_of body.now) (with_set (sets_of scope.now) name.now.items set)) (λ s. IsTrue from))) }
+    requires scope { FitsScope lts.now.system.states scope.now }
+    requires right { IsRight lts.now.system body.now }
+    requires used { used ≡ is_free_in name.now.items (formula_in body.now) }
+    ensures { IfOk result (λ marks. Marks lts.now.system.states marks.items (iterate lts.now.system.states (λ set. mean lts.now.system (formula_in body.now) (with_set (sets_of scope.now) name.now.items set)) (λ s. IsTrue from))) }
 {
     let count = lts.states();
     let mut set = all(alloc, count as usize, from)?;
-    if !has_free(body, name) {
-        return marks_of(alloc, lts, body, &Scope::More(&*name, &set, &*scope));
+    if !used {
+        return marks_of(alloc, lts, &*body, &Scope::More(&*name, &set, &*scope));
     }
     for turn in 0..count {
-        let next = marks_of(alloc, lts, body, &Scope::More(&*name, &set, &*scope))?;
+        let next = marks_of(alloc, lts, &*body, &Scope::More(&*name, &set, &*scope))?;
         if next == set {
             return Ok(set);
         }
@@ -72,51 +75,53 @@ fn iterated<'x>(
 
 /// The states at which the formula holds, where the scope has the sets of its variables.
 #[cycle(plain)]
-fn marks_of<'x>(
+pub fn marks_of<'x, 'a>(
     alloc: Global,
     lts: &Lts,
-    formula: &'x State,
+    term: &'x Term<'a>,
     scope: &'x Scope<'x>,
 ) -> Result<Vec<bool>, AllocError>
-    requires { FitsScope lts.now.system.states scope.now }
-    ensures marks { IfOk result (λ marks. Marks lts.now.system.states marks.items (mean lts.now.system (formula_of formula.now) (sets_of scope.now))) }
+    requires scope { FitsScope lts.now.system.states scope.now }
+    requires right { IsRight lts.now.system term.now }
+    ensures marks { IfOk result (λ marks. Marks lts.now.system.states marks.items (mean lts.now.system (formula_in term.now) (sets_of scope.now))) }
     ensures known { IsSystem lts.now.system }
 {
     let count = lts.states() as usize;
-    match formula {
-        State::True => all(alloc, count, true),
-        State::False => all(alloc, count, false),
-        State::Var(name) => set_of(alloc, scope, name, count),
-        State::Not(operand) => {
+    match term {
+        Term::Known(_, marks) => copied(alloc, marks),
+        Term::True => all(alloc, count, true),
+        Term::False => all(alloc, count, false),
+        Term::Var(name) => set_of(alloc, scope, name, count),
+        Term::Not(operand) => {
             let marks = marks_of(alloc, lts, operand, scope)?;
             Ok(complement(marks))
         }
-        State::And(left, right) => {
+        Term::And(left, right) => {
             let one = marks_of(alloc, lts, left, scope)?;
             let other = marks_of(alloc, lts, right, scope)?;
             Ok(intersection(one, &other))
         }
-        State::Or(left, right) => {
+        Term::Or(left, right) => {
             let one = marks_of(alloc, lts, left, scope)?;
             let other = marks_of(alloc, lts, right, scope)?;
             Ok(union(one, &other))
         }
-        State::Implies(left, right) => {
+        Term::Implies(left, right) => {
             let one = marks_of(alloc, lts, left, scope)?;
             let other = marks_of(alloc, lts, right, scope)?;
             Ok(union(complement(one), &other))
         }
-        State::Dia(regular, operand) => {
+        Term::Dia(regular, operand) => {
             let marks = marks_of(alloc, lts, operand, scope)?;
             leading(alloc, lts, regular, &marks)
         }
-        State::Box(regular, operand) => {
+        Term::Box(regular, operand) => {
             let marks = marks_of(alloc, lts, operand, scope)?;
             let found = leading(alloc, lts, regular, &complement(marks))?;
             Ok(complement(found))
         }
-        State::Mu(name, body) => iterated(alloc, lts, name, body, scope, false),
-        State::Nu(name, body) => iterated(alloc, lts, name, body, scope, true),
+        Term::Mu(name, used, body) => iterated(alloc, lts, name, *used, body, scope, false),
+        Term::Nu(name, used, body) => iterated(alloc, lts, name, *used, body, scope, true),
     }
 }
 
@@ -126,5 +131,6 @@ pub fn plain_states(alloc: Global, lts: &Lts, formula: &Closed) -> Result<Vec<bo
     ensures least { IfOk result (λ marks. (name : List ℕ) (f : Formula) → closed_formula formula.now ≡ Mu name f → IsLeast lts.now.system name f marks.items) }
     ensures greatest { IfOk result (λ marks. (name : List ℕ) (f : Formula) → closed_formula formula.now ≡ Nu name f → IsGreatest lts.now.system name f marks.items) }
 {
-    Ok(marks_of(alloc, lts, formula.tree(), &Scope::Empty)?)
+    let term = term_of(alloc, lts, formula.tree(), false)?;
+    Ok(marks_of(alloc, lts, &term, &Scope::Empty)?)
 }

@@ -1,0 +1,105 @@
+// Formulas as they are evaluated.
+
+ghost use Rattle.std.specs.Prelude.{IfOk, ◌≡◌};
+ghost use Rattle.formula.specs.View.{formula_of};
+ghost use Rattle.meaning.specs.Term.{formula_in, IsRight};
+
+use crate::free::{has_free, is_closed};
+use crate::plain::marks_of;
+use crate::scope::Scope;
+use lts::system::Lts;
+use std::alloc::{AllocError, Global};
+use trees::tree::{Reg, State};
+
+/// A formula of which closed parts are known. A binder tells whether its variable is free in its formula.
+#[derive(Drop)]
+pub enum Term<'a> {
+    Known(&'a State, Vec<bool>),
+    True,
+    False,
+    Var(&'a Vec<u8>),
+    Not(Box<Term<'a>>),
+    And(Box<Term<'a>>, Box<Term<'a>>),
+    Or(Box<Term<'a>>, Box<Term<'a>>),
+    Implies(Box<Term<'a>>, Box<Term<'a>>),
+    Dia(&'a Reg, Box<Term<'a>>),
+    Box(&'a Reg, Box<Term<'a>>),
+    Mu(&'a Vec<u8>, bool, Box<Term<'a>>),
+    Nu(&'a Vec<u8>, bool, Box<Term<'a>>),
+}
+
+/// The formula with its closed parts evaluated, each once, where it stands below a binder: so no turn evaluates them again.
+#[cycle(terms)]
+pub fn term_of<'a>(
+    alloc: Global,
+    lts: &Lts,
+    formula: &'a State,
+    below: bool,
+) -> Result<Term<'a>, AllocError>
+    ensures formula { IfOk result (λ term. formula_in term ≡ formula_of formula.now) }
+    ensures right { IfOk result (λ term. IsRight lts.now.system term) }
+{
+    let term = parts_of(alloc, lts, formula, below)?;
+    if !below || !is_closed(formula) {
+        return Ok(term);
+    }
+    let marks = marks_of(alloc, lts, &term, &Scope::Empty)?;
+    Ok(Term::Known(formula, marks))
+}
+
+/// The formula with its operands as they are evaluated.
+#[cycle(terms)]
+fn parts_of<'a>(
+    alloc: Global,
+    lts: &Lts,
+    formula: &'a State,
+    below: bool,
+) -> Result<Term<'a>, AllocError>
+    ensures formula { IfOk result (λ term. formula_in term ≡ formula_of formula.now) }
+    ensures right { IfOk result (λ term. IsRight lts.now.system term) }
+{
+    match formula {
+        State::True => Ok(Term::True),
+        State::False => Ok(Term::False),
+        State::Var(name) => Ok(Term::Var(name)),
+        State::Not(operand) => Ok(Term::Not(boxed(alloc, lts, operand, below)?)),
+        State::And(left, right) => {
+            let one = boxed(alloc, lts, left, below)?;
+            Ok(Term::And(one, boxed(alloc, lts, right, below)?))
+        }
+        State::Or(left, right) => {
+            let one = boxed(alloc, lts, left, below)?;
+            Ok(Term::Or(one, boxed(alloc, lts, right, below)?))
+        }
+        State::Implies(left, right) => {
+            let one = boxed(alloc, lts, left, below)?;
+            Ok(Term::Implies(one, boxed(alloc, lts, right, below)?))
+        }
+        State::Dia(regular, operand) => Ok(Term::Dia(regular, boxed(alloc, lts, operand, below)?)),
+        State::Box(regular, operand) => Ok(Term::Box(regular, boxed(alloc, lts, operand, below)?)),
+        State::Mu(name, body) => Ok(Term::Mu(
+            name,
+            has_free(body, name),
+            boxed(alloc, lts, body, true)?,
+        )),
+        State::Nu(name, body) => Ok(Term::Nu(
+            name,
+            has_free(body, name),
+            boxed(alloc, lts, body, true)?,
+        )),
+    }
+}
+
+/// The same in a box.
+#[cycle(terms)]
+fn boxed<'a>(
+    alloc: Global,
+    lts: &Lts,
+    formula: &'a State,
+    below: bool,
+) -> Result<Box<Term<'a>>, AllocError>
+    ensures formula { IfOk result (λ term. formula_in term.value ≡ formula_of formula.now) }
+    ensures right { IfOk result (λ term. IsRight lts.now.system term.value) }
+{
+    Ok(Box::new(alloc, term_of(alloc, lts, formula, below)?)?)
+}
