@@ -81,12 +81,14 @@ fn formulas_hold_where_they_are_to(rt: HostRuntime) -> Result<(), Fail> {
 }
 
 // A beginning, a piece and how often it stands, and an end; and a mark for each state of the ring. The second has 31
-// binders, of which the innermost is `mu`; the last one 120, none of whose variables stands in its formula.
-const LARGE: [(&str, &str, usize, &str, &str); 4] = [
+// binders, of which the innermost is `mu`; the fourth 120, none of whose variables stands in its formula; the last one 60,
+// each of which says that a `b` can be reached, or that what stands inside holds, which is closed.
+const LARGE: [(&str, &str, usize, &str, &str); 5] = [
     ("", "!", 256, "true", "yy"),
     ("mu X. ", "nu X. mu X. ", 15, "true", "yy"),
     ("<a", " +", 40, ">true", "yn"),
     ("", "mu X. <a*>nu X. <a*>", 60, "true", "yy"),
+    ("", "mu X. <true>X || ", 60, "<b>true", "yy"),
 ];
 
 #[test]
