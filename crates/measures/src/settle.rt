@@ -14,7 +14,7 @@ use lts::error::Memory;
 use std::alloc::Global;
 
 /// How often each vertex is lifted, taken together, before a search begins: most games are settled by then, in less time than it takes.
-const FIRST_LIFTS: u64 = 8;
+const FIRST_LIFTS: u64 = 2;
 
 // Lifts each vertex once. The answer says whether one rose.
 fn sweep<O: Observer>(game: &Game, table: &mut PlainTable, lifts: &mut Lifts<'_, O>) -> bool
