@@ -4,7 +4,7 @@ use game::graph::{Game, GameBuilder};
 use game::limits::MOST_VERTICES;
 use game::player::Player;
 use std::alloc::AllocError;
-use std::test::Fail;
+use std::sync::Arc;
 
 /// A vertex: its owner, its priority and its successors.
 pub type Row = (Player, u8, &'static [u32]);
@@ -31,7 +31,12 @@ pub fn made(rt: &impl AllocGlobal, rows: &[Row]) -> Result<Option<Game>, AllocEr
     Ok(builder.finish())
 }
 
-/// The game of these vertices, which make one.
-pub fn game_of(rt: &impl AllocGlobal, rows: &[Row]) -> Result<Game, Fail> {
-    Ok(made(rt, rows)?.ok_or("no game")?)
+/// The game of these vertices, which make one, where memory suffices.
+pub fn game_of(rt: &impl AllocGlobal, rows: &[Row]) -> Option<Game> {
+    made(rt, rows).ok()?
+}
+
+/// The same game, to be shared.
+pub fn shared_game_of(rt: &impl AllocGlobal, rows: &[Row]) -> Option<Arc<Game>> {
+    Arc::new(rt.alloc(), game_of(rt, rows)?).ok()
 }

@@ -155,17 +155,18 @@ const TAKEN: [(&str, &str); 23] = [
 ];
 
 #[test]
-fn takes_command_lines(rt: HostRuntime) -> Result<(), AllocError> {
+fn takes_command_lines(rt: HostRuntime) {
     for (line, wanted) in &TAKEN {
-        let words = words(rt.alloc(), line)?;
+        let words = words(rt.alloc(), line).expect(&rt, "memory");
         same(
             &rt,
             line,
-            request_of(rt.alloc(), words.as_slice())?.as_str(),
+            request_of(rt.alloc(), words.as_slice())
+                .expect(&rt, "memory")
+                .as_str(),
             wanted,
         );
     }
-    Ok(())
 }
 
 const REFUSED: [&str; 43] = [
@@ -215,13 +216,12 @@ const REFUSED: [&str; 43] = [
 ];
 
 #[test]
-fn refuses_command_lines(rt: HostRuntime) -> Result<(), AllocError> {
+fn refuses_command_lines(rt: HostRuntime) {
     for line in &REFUSED {
-        let words = words(rt.alloc(), line)?;
+        let words = words(rt.alloc(), line).expect(&rt, "memory");
         let answer = command(rt.alloc(), words.as_slice());
         assert!(rt; matches!(&answer, Err(MuError::Arguments(_))), "{line}");
     }
-    Ok(())
 }
 
 /// What is written of the help that was asked for.
@@ -283,33 +283,32 @@ fn shows(rt: &impl Abort, text: &str, parts: &[&str]) {
 }
 
 #[test]
-fn help_shows_what_is_served(rt: HostRuntime) -> Result<(), AllocError> {
+fn help_shows_what_is_served(rt: HostRuntime) {
     for (line, parts) in &SHOWN {
-        let line = words(rt.alloc(), line)?;
+        let line = words(rt.alloc(), line).expect(&rt, "memory");
         shows(
             &rt,
-            help(rt.alloc(), line.as_slice())?.as_str(),
+            help(rt.alloc(), line.as_slice())
+                .expect(&rt, "memory")
+                .as_str(),
             parts.as_slice(),
         );
     }
-    Ok(())
 }
 
 /// The first line is the program's name with its version, the second one what `rt version` says of the toolchain.
 #[test]
-fn version_tells_the_toolchain(rt: HostRuntime) -> Result<(), AllocError> {
-    let line = words(rt.alloc(), "mucheck --version")?;
-    let text = help(rt.alloc(), line.as_slice())?;
+fn version_tells_the_toolchain(rt: HostRuntime) {
+    let line = words(rt.alloc(), "mucheck --version").expect(&rt, "memory");
+    let text = help(rt.alloc(), line.as_slice()).expect(&rt, "memory");
     let wanted = "mucheck 0.9.0\nproved with rattle-kit-13b logic dac8208d650f15bf\n";
     same(&rt, "version", text.as_str(), wanted);
-    Ok(())
 }
 
 /// The text that the script `./mucheck` shows as long as the program isn't built is the program's own.
 #[test]
-fn help_is_what_the_script_shows(rt: HostRuntime) -> Result<(), AllocError> {
-    let line = words(rt.alloc(), "mucheck --help")?;
-    let text = help(rt.alloc(), line.as_slice())?;
+fn help_is_what_the_script_shows(rt: HostRuntime) {
+    let line = words(rt.alloc(), "mucheck --help").expect(&rt, "memory");
+    let text = help(rt.alloc(), line.as_slice()).expect(&rt, "memory");
     same(&rt, "help", text.as_str(), HELP);
-    Ok(())
 }

@@ -14,7 +14,6 @@ use std::alloc::{AllocError, Global};
 use std::io::Write;
 use std::process::Abort;
 use std::sync::Wait;
-use std::test::Fail;
 use std::thread::Threads;
 
 const OPTIONS: Options = Options {
@@ -76,7 +75,7 @@ fn tells<H: Abort + Threads + Wait + AllocGlobal + Clone + Copy + Drop + Send + 
     asked: &Asked<'_>,
     text: &str,
     answer: &str,
-) -> Result<(), AllocError> {
+) {
     tells_with(rt, asked, &OPTIONS, (text, answer))
 }
 
@@ -86,13 +85,12 @@ fn tells_with<H: Abort + Threads + Wait + AllocGlobal + Clone + Copy + Drop + Se
     asked: &Asked<'_>,
     options: &Options,
     wanted: (&str, &str),
-) -> Result<(), AllocError> {
+) {
     let (text, answer) = wanted;
     let mut out = Narrow::new(rt.alloc(), 7, AMPLE);
-    let found = shown(rt.alloc(), &run(rt, asked, options, &mut out))?;
+    let found = shown(rt.alloc(), &run(rt, asked, options, &mut out)).expect(rt, "memory");
     same(rt, text, found.as_str(), answer);
     assert!(rt; out.taken.as_slice() == text.as_bytes(), "{text}");
-    Ok(())
 }
 
 const TOLD: [(Asked<'static>, &str, &str); 13] = [
@@ -156,11 +154,10 @@ const TOLD: [(Asked<'static>, &str, &str); 13] = [
 ];
 
 #[test]
-fn commands_write_what_was_worked_out(rt: HostRuntime) -> Result<(), AllocError> {
+fn commands_write_what_was_worked_out(rt: HostRuntime) {
     for (asked, text, answer) in &TOLD {
-        tells(&rt, asked, text, answer)?;
+        tells(&rt, asked, text, answer);
     }
-    Ok(())
 }
 
 /// Formulas, and the first line of the normal form by the nested rule and by the dependent one.
@@ -189,17 +186,19 @@ fn begins(rt: &(impl Abort + AllocGlobal), formula: &str, rule: Priorities, line
 }
 
 #[test]
-fn normal_forms_by_either_rule(rt: HostRuntime) -> Result<(), AllocError> {
+fn normal_forms_by_either_rule(rt: HostRuntime) {
     for (formula, nested, dependent) in &FIRST_LINES {
         begins(&rt, formula, Priorities::Nested, nested);
         begins(&rt, formula, Priorities::Dependent, dependent);
     }
-    let binders = repeated(rt.alloc(), "", "nu X. mu X. ", 16, "true")?;
+    let binders = repeated(rt.alloc(), "", "nu X. mu X. ", 16, "true").expect(&rt, "memory");
     let line = "nodes 33 priority 1 depth 32\n";
     begins(&rt, binders.as_str(), Priorities::Dependent, line);
     let nested = Asked::Normal(binders.as_str(), Priorities::Nested);
-    tells(&rt, &nested, "", "N2")?;
-    let large = repeated(rt.alloc(), "<c><c><c><c><", "(a+b).", 9, "(a+b)>true")?;
+    tells(&rt, &nested, "", "N2");
+    let large = repeated(rt.alloc(), "<c><c><c><c><", "(a+b).", 9, "(a+b)>true").expect(
+        &rt, "memory",
+    );
     tells(
         &rt,
         &Asked::Normal(large.as_str(), Priorities::Nested),
@@ -237,17 +236,17 @@ const CHANGED: [(&str, &str, &str, &str); 11] = [
 ];
 
 #[test]
-fn changed_evidence_is_refused(rt: HostRuntime) -> Result<(), AllocError> {
+fn changed_evidence_is_refused(rt: HostRuntime) {
     for (line, other, text, answer) in &CHANGED {
-        let changed = with_line(rt.alloc(), EVEN, line, other)?;
-        tells(&rt, &Asked::Verify(OFTEN_A, changed.as_str()), text, answer)?;
+        let changed = with_line(rt.alloc(), EVEN, line, other).expect(&rt, "memory");
+        tells(&rt, &Asked::Verify(OFTEN_A, changed.as_str()), text, answer);
     }
-    let gone = with_line(rt.alloc(), ODD, "1 - (0,0)", "")?;
+    let gone = with_line(rt.alloc(), ODD, "1 - (0,0)", "").expect(&rt, "memory");
     let second = Asked::Both(OFTEN_A, EVEN, gone.as_str());
-    tells(&rt, &second, "refused second C2 at 7\n", "no")?;
+    tells(&rt, &second, "refused second C2 at 7\n", "no");
     let first = Asked::Both(OFTEN_A, gone.as_str(), EVEN);
-    tells(&rt, &first, "refused first C2 at 7\n", "no")?;
-    let left = with_line(rt.alloc(), ODD, "7 - (0,1)", "")?;
+    tells(&rt, &first, "refused first C2 at 7\n", "no");
+    let left = with_line(rt.alloc(), ODD, "7 - (0,1)", "").expect(&rt, "memory");
     let both = Asked::Both(OFTEN_A, EVEN, left.as_str());
     tells(&rt, &both, "refused C5 at 7\n", "no")
 }
@@ -279,11 +278,10 @@ const REFUSED: [(Asked<'static>, &str); 16] = [
 ];
 
 #[test]
-fn commands_pass_refusals_on(rt: HostRuntime) -> Result<(), AllocError> {
+fn commands_pass_refusals_on(rt: HostRuntime) {
     for (asked, refusal) in &REFUSED {
-        tells(&rt, asked, "", refusal)?;
+        tells(&rt, asked, "", refusal);
     }
-    Ok(())
 }
 
 /// Fifteen loops of Even of each odd priority from 3 to 31, and so many of priority 1: Odd wins them all.
@@ -298,12 +296,12 @@ fn loops(alloc: Global, last: u8) -> Result<String, AllocError> {
 }
 
 #[test]
-fn odd_wins_loops_of_odd_priorities(rt: HostRuntime) -> Result<(), AllocError> {
-    let mut wanted = String::from_str(rt.alloc(), "vertices 227\neven 0\n")?;
+fn odd_wins_loops_of_odd_priorities(rt: HostRuntime) {
+    let mut wanted = String::from_str(rt.alloc(), "vertices 227\neven 0\n").expect(&rt, "memory");
     for v in 0..227 {
-        write!(wanted, "{v} odd\n")?;
+        write!(wanted, "{v} odd\n").expect(&rt, "memory");
     }
-    let game = loops(rt.alloc(), 2)?;
+    let game = loops(rt.alloc(), 2).expect(&rt, "memory");
     tells(&rt, &Asked::Solve(game.as_str()), wanted.as_str(), "yes")
 }
 
@@ -332,33 +330,31 @@ fn options_of(crew: (u32, u32, BoardKind)) -> Option<Options> {
 }
 
 #[test]
-fn any_workers_over_any_board_tell_the_same(rt: HostRuntime) -> Result<(), Fail> {
-    let game = loops(rt.alloc(), 2)?;
+fn any_workers_over_any_board_tell_the_same(rt: HostRuntime) {
+    let game = loops(rt.alloc(), 2).expect(&rt, "memory");
     for crew in CREWS {
-        let options = options_of(crew).ok_or("no options")?;
+        let options = options_of(crew).expect(&rt, "options");
         for (asked, text, answer) in &TOLD {
-            tells_with(&rt, asked, &options, (text, answer))?;
+            tells_with(&rt, asked, &options, (text, answer));
         }
         let mut out = Vec::new(rt.alloc());
         assert!(rt; run(&rt, &Asked::Solve(game.as_str()), &options, &mut out).is_ok());
         assert!(rt; out.starts_with(b"vertices 227\neven 0\n0 odd\n"));
     }
-    Ok(())
 }
 
 /// With one loop more of priority 1 the rank of top is 2 to the 62nd, which the packed board has no room for.
 #[test]
-fn ranks_too_great_for_the_packed_board_are_told(rt: HostRuntime) -> Result<(), Fail> {
-    let game = loops(rt.alloc(), 3)?;
+fn ranks_too_great_for_the_packed_board_are_told(rt: HostRuntime) {
+    let game = loops(rt.alloc(), 3).expect(&rt, "memory");
     let asked = Asked::Solve(game.as_str());
     for workers in [1, 2] {
-        let packed = options_of((workers, 16, BoardKind::Packed)).ok_or("no options")?;
-        tells_with(&rt, &asked, &packed, ("", "T1"))?;
-        let auto = options_of((workers, 16, BoardKind::Auto)).ok_or("no options")?;
+        let packed = options_of((workers, 16, BoardKind::Packed)).expect(&rt, "options");
+        tells_with(&rt, &asked, &packed, ("", "T1"));
+        let auto = options_of((workers, 16, BoardKind::Auto)).expect(&rt, "options");
         let mut out = Vec::new(rt.alloc());
         assert!(rt; run(&rt, &asked, &auto, &mut out).is_ok());
     }
-    Ok(())
 }
 
 /// A reader of a beginning of the text that fails behind it.

@@ -38,22 +38,21 @@ fn refusal<R: Read + Drop, S: Read + Drop>(
     rt: &(impl Abort + AllocGlobal),
     aut: R,
     formula: S,
-) -> Result<String, AllocError> {
+) -> String {
     let mut out = Vec::new(rt.alloc());
     let answer = check_plain(rt.alloc(), aut, formula, &mut out);
     assert!(rt; out.is_empty());
-    told(rt.alloc(), &answer)
+    told(rt.alloc(), &answer).expect(rt, "memory")
 }
 
 #[test]
-fn a_failed_read_has_the_code_of_its_text(rt: HostRuntime) -> Result<(), AllocError> {
-    let system = refusal(&rt, slow(RING, true), slow(FORMULA, false))?;
+fn a_failed_read_has_the_code_of_its_text(rt: HostRuntime) {
+    let system = refusal(&rt, slow(RING, true), slow(FORMULA, false));
     same(&rt, "system", system.as_str(), "A8");
-    let formula = refusal(&rt, slow(RING, false), slow(FORMULA, true))?;
+    let formula = refusal(&rt, slow(RING, false), slow(FORMULA, true));
     same(&rt, "formula", formula.as_str(), "U3");
-    let both = refusal(&rt, slow(RING, true), slow(FORMULA, true))?;
+    let both = refusal(&rt, slow(RING, true), slow(FORMULA, true));
     same(&rt, "both", both.as_str(), "A8");
-    Ok(())
 }
 
 /// Whether the whole report is written, to such a writer.
@@ -91,30 +90,33 @@ fn texts_may_come_a_few_bytes_at_a_time(rt: HostRuntime) {
 }
 
 #[test]
-fn a_writer_that_takes_nothing_is_a_failed_write(rt: HostRuntime) -> Result<(), AllocError> {
+fn a_writer_that_takes_nothing_is_a_failed_write(rt: HostRuntime) {
     for room in 0..REPORT.len() {
         let mut out = Narrow::new(rt.alloc(), 7, room);
         out.at_end = AtEnd::TakesNothing;
         let answer = check_plain(rt.alloc(), RING.as_bytes(), FORMULA.as_bytes(), &mut out);
-        same(&rt, "code", told(rt.alloc(), &answer)?.as_str(), "W1");
+        same(
+            &rt,
+            "code",
+            told(rt.alloc(), &answer).expect(&rt, "memory").as_str(),
+            "W1",
+        );
         assert!(rt; out.taken.len() == room);
     }
-    Ok(())
 }
 
 /// More than any writer here takes at once.
 const PIECE: usize = 200_000;
 
 #[test]
-fn a_large_piece_is_written_whole(rt: HostRuntime) -> Result<(), AllocError> {
-    let mut piece = Vec::with_capacity(rt.alloc(), PIECE)?;
+fn a_large_piece_is_written_whole(rt: HostRuntime) {
+    let mut piece = Vec::with_capacity(rt.alloc(), PIECE).expect(&rt, "memory");
     for _ in 0..PIECE {
-        piece.push(b'x')?;
+        piece.push(b'x').expect(&rt, "memory");
     }
     for step in [1_000, 65_537, PIECE] {
         let mut out = Narrow::new(rt.alloc(), step, AMPLE);
         assert!(rt; put(&mut out, &piece).is_ok(), "{step} at a time");
         assert!(rt; out.taken.as_slice() == piece.as_slice());
     }
-    Ok(())
 }

@@ -14,7 +14,6 @@ use samples::texts::{RING, repeated, ring};
 use std::alloc::{AllocError, Global};
 use std::process::Abort;
 use std::sync::Wait;
-use std::test::Fail;
 use std::thread::Threads;
 
 // The options of so many workers over this board. Each row of the tests is within the limits.
@@ -60,39 +59,36 @@ fn shows_no_team<R: Abort + AllocGlobal + Threads + Wait + Clone + Copy + Drop +
     workers: u32,
     shards: u32,
     board: BoardKind,
-) -> Result<(), Fail> {
-    let system = ring(rt.alloc(), 2500)?;
-    let wanted = report_of_the_ring(rt.alloc())?;
-    let options = options(workers, shards, board).ok_or("no options")?;
+) {
+    let system = ring(rt.alloc(), 2500).expect(rt, "memory");
+    let wanted = report_of_the_ring(rt.alloc()).expect(rt, "memory");
+    let options = options(workers, shards, board).expect(rt, "options");
     let (answer, report) = checked(rt, system.as_str(), "[true*]<true*>(<a>true)", &options);
     assert!(rt; answer.ok() == Some(true), "{workers} {shards} {board:?}");
     assert!(rt;
         report.as_slice() == wanted.as_bytes(),
         "{workers} {shards} {board:?}"
     );
-    Ok(())
 }
 
 #[test]
-fn no_locked_board_shows_in_a_report(rt: HostRuntime) -> Result<(), Fail> {
+fn no_locked_board_shows_in_a_report(rt: HostRuntime) {
     for workers in [1, 2, 8] {
-        shows_no_team(&rt, workers, 1, BoardKind::Locked)?;
-        shows_no_team(&rt, workers, 16, BoardKind::Locked)?;
+        shows_no_team(&rt, workers, 1, BoardKind::Locked);
+        shows_no_team(&rt, workers, 16, BoardKind::Locked);
     }
-    Ok(())
 }
 
 #[test]
-fn no_packed_board_shows_in_a_report(rt: HostRuntime) -> Result<(), Fail> {
+fn no_packed_board_shows_in_a_report(rt: HostRuntime) {
     for workers in [1, 2, 8] {
-        shows_no_team(&rt, workers, 1, BoardKind::Packed)?;
-        shows_no_team(&rt, workers, 16, BoardKind::Packed)?;
+        shows_no_team(&rt, workers, 1, BoardKind::Packed);
+        shows_no_team(&rt, workers, 16, BoardKind::Packed);
     }
-    Ok(())
 }
 
 #[test]
-fn as_many_workers_as_may_be_show_in_no_report(rt: HostRuntime) -> Result<(), Fail> {
+fn as_many_workers_as_may_be_show_in_no_report(rt: HostRuntime) {
     shows_no_team(&rt, 64, 256, BoardKind::Auto)
 }
 
@@ -130,10 +126,10 @@ impl Texts {
 fn meets<R: Abort + AllocGlobal + Threads + Wait + Clone + Copy + Drop + Send + Sync>(
     rt: &R,
     board: BoardKind,
-) -> Result<bool, Fail> {
+) -> bool {
     let mut texts = Texts::new(rt.alloc());
     let gate = Meeting::new();
-    let options = options(2, 16, board).ok_or("no options")?;
+    let options = options(2, 16, board).expect(rt, "options");
     let (system, formula) = (RING.as_bytes(), "nu X. mu Y. (<a>X || <b>Y)".as_bytes());
     let evidence = EvidenceWriters::Both(&mut texts.even, &mut texts.odd);
     let (out, game) = (&mut texts.report, Some(&mut texts.game));
@@ -148,15 +144,14 @@ fn meets<R: Abort + AllocGlobal + Threads + Wait + Clone + Copy + Drop + Send + 
         evidence,
         &gate,
     );
-    Ok(answer.ok() == Some(true) && texts.are_often_a() && gate.took_place())
+    answer.ok() == Some(true) && texts.are_often_a() && gate.took_place()
 }
 
 #[test]
-fn two_workers_of_a_check_meet(rt: HostRuntime) -> Result<(), Fail> {
-    assert!(rt; meets(&rt, BoardKind::Locked)?, "over shards");
-    assert!(rt; meets(&rt, BoardKind::Packed)?, "over words");
-    assert!(rt; meets(&rt, BoardKind::Auto)?, "over either");
-    Ok(())
+fn two_workers_of_a_check_meet(rt: HostRuntime) {
+    assert!(rt; meets(&rt, BoardKind::Locked), "over shards");
+    assert!(rt; meets(&rt, BoardKind::Packed), "over words");
+    assert!(rt; meets(&rt, BoardKind::Auto), "over either");
 }
 
 // 31 fixpoints in one another, each of a priority of its own. On n states there are n vertices of each odd priority from 3 to 31,
@@ -170,11 +165,11 @@ fn refused<R: Abort + AllocGlobal + Threads + Wait + Clone + Copy + Drop + Send 
     rt: &R,
     system: &str,
     options: &Options,
-) -> Result<String, AllocError> {
-    let formula = sixteen_counts(rt.alloc())?;
+) -> String {
+    let formula = sixteen_counts(rt.alloc()).expect(rt, "memory");
     let (answer, report) = checked(rt, system, formula.as_str(), options);
     assert!(rt; report.is_empty(), "nothing is written");
-    shown(rt.alloc(), &answer)
+    shown(rt.alloc(), &answer).expect(rt, "memory")
 }
 
 // 15 ^ 15 * 16 is above 2 ^ 62, and 14 ^ 15 * 15 is below.
@@ -183,13 +178,12 @@ const TOO_MANY: &str = "des (0,0,14)\n";
 const FEW_ENOUGH: &str = "des (0,0,13)\n";
 
 #[test]
-fn a_packed_board_that_can_t_be_had_is_refused(rt: HostRuntime) -> Result<(), Fail> {
+fn a_packed_board_that_can_t_be_had_is_refused(rt: HostRuntime) {
     for workers in [1, 2, 8] {
-        let options = options(workers, 16, BoardKind::Packed).ok_or("no options")?;
-        let refusal = refused(&rt, TOO_MANY, &options)?;
+        let options = options(workers, 16, BoardKind::Packed).expect(&rt, "options");
+        let refusal = refused(&rt, TOO_MANY, &options);
         same(&rt, "fourteen states", refusal.as_str(), "T1");
     }
-    Ok(())
 }
 
 // Whether the check answers yes.
@@ -198,19 +192,18 @@ fn is_answered<R: Abort + AllocGlobal + Threads + Wait + Clone + Copy + Drop + S
     system: &str,
     board: BoardKind,
     workers: u32,
-) -> Result<bool, Fail> {
-    let formula = sixteen_counts(rt.alloc())?;
-    let options = options(workers, 16, board).ok_or("no options")?;
+) -> bool {
+    let formula = sixteen_counts(rt.alloc()).expect(rt, "memory");
+    let options = options(workers, 16, board).expect(rt, "options");
     let (answer, _) = checked(rt, system, formula.as_str(), &options);
-    Ok(answer.ok() == Some(true))
+    answer.ok() == Some(true)
 }
 
 #[test]
-fn every_other_board_can_be_had(rt: HostRuntime) -> Result<(), Fail> {
+fn every_other_board_can_be_had(rt: HostRuntime) {
     for workers in [1, 2, 8] {
-        assert!(rt; is_answered(&rt, FEW_ENOUGH, BoardKind::Packed, workers)?);
-        assert!(rt; is_answered(&rt, TOO_MANY, BoardKind::Auto, workers)?);
-        assert!(rt; is_answered(&rt, TOO_MANY, BoardKind::Locked, workers)?);
+        assert!(rt; is_answered(&rt, FEW_ENOUGH, BoardKind::Packed, workers));
+        assert!(rt; is_answered(&rt, TOO_MANY, BoardKind::Auto, workers));
+        assert!(rt; is_answered(&rt, TOO_MANY, BoardKind::Locked, workers));
     }
-    Ok(())
 }

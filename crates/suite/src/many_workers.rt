@@ -9,14 +9,13 @@ use game::player::Player;
 use measures::measure::Measure;
 use measures::settle::{is_settled, solve_one};
 use measures::table::PlainTable;
-use samples::games::{Row, game_of};
+use samples::games::{Row, shared_game_of};
 use std::alloc::{AllocError, Global};
 use std::hint::spin_loop;
 use std::marker::Brand;
 use std::process::Abort;
 use std::sync::atomic::{AtomicBool, AtomicU64, Ordering};
 use std::sync::{Arc, Wait};
-use std::test::Fail;
 use std::thread::Threads;
 use tables::board::Board;
 use tables::error::TableError;
@@ -53,37 +52,36 @@ fn same_table<R: Abort + AllocGlobal + Threads + Wait + Clone + Copy + Drop + Se
     rows: &[Row],
     shards: u32,
     workers: usize,
-) -> Result<bool, Fail>
+) -> bool
     requires shards { 0 < shards }
     requires workers { 0 < workers }
 {
-    let game = Arc::new(rt.alloc(), game_of(rt, rows)?)?;
-    let one = solve_one(rt.alloc(), &game)?;
+    let game = shared_game_of(rt, rows).expect(rt, "a game");
+    let one = solve_one(rt.alloc(), &game).expect(rt, "memory");
     let Ok(many) = solve_locked(rt, rt.alloc(), &game, shards, workers, &NoGate) else {
-        return Ok(false);
+        return false;
     };
     for v in 0..game.vertices() {
         if !one.value(v).compare(&many.value(v)).is_eq() {
-            return Ok(false);
+            return false;
         }
     }
-    Ok(true)
+    true
 }
 
 #[test]
-fn any_number_of_workers_finds_the_least_table(rt: HostRuntime) -> Result<(), Fail> {
+fn any_number_of_workers_finds_the_least_table(rt: HostRuntime) {
     for workers in [1, 2, 8] {
         assert!(rt;
-            same_table(&rt, &ODD_RING, 1, workers)?,
+            same_table(&rt, &ODD_RING, 1, workers),
             "{workers} on a ring"
         );
         assert!(rt;
-            same_table(&rt, &ODD_RING, 16, workers)?,
+            same_table(&rt, &ODD_RING, 16, workers),
             "{workers} on a ring in shards"
         );
-        assert!(rt; same_table(&rt, &WAY, 16, workers)?, "{workers} on a way");
+        assert!(rt; same_table(&rt, &WAY, 16, workers), "{workers} on a way");
     }
-    Ok(())
 }
 
 /// How often a worker that is held looks at most. Between two looks it leaves the processor some time: a thread may be slow to begin.
@@ -128,12 +126,11 @@ impl Gate for Meeting {
 }
 
 #[test]
-fn two_workers_meet(rt: HostRuntime) -> Result<(), Fail> {
-    let game = Arc::new(rt.alloc(), game_of(&rt, &ODD_RING)?)?;
+fn two_workers_meet(rt: HostRuntime) {
+    let game = shared_game_of(&rt, &ODD_RING).expect(&rt, "a game");
     let gate = Meeting::new();
     assert!(rt; solve_locked(&rt, rt.alloc(), &game, 16, 2, &gate).is_ok());
     assert!(rt; gate.took_place());
-    Ok(())
 }
 
 /// What is noted of a run.
@@ -259,24 +256,23 @@ impl<'a, B: Board> Board for Noted<'a, B> {
 }
 
 // Whether workers over a noted board end well.
-fn ends_well<K: GameName + Send + Sync, R: Threads + Wait + Clone + Copy + Drop + Send + Sync>(
-    rt: &R,
-    alloc: Global,
-    game: &Arc<Game, Global>,
-    workers: usize,
-) -> Result<bool, Fail>
+fn ends_well<
+    K: GameName + Send + Sync,
+    R: Abort + Threads + Wait + Clone + Copy + Drop + Send + Sync,
+>(rt: &R, alloc: Global, game: &Arc<Game, Global>, workers: usize) -> bool
     requires named { arc_value game.now ≡ K.game }
     requires workers { 0 < workers }
 {
-    let notes = Notes::new(alloc, game.vertices())?;
-    let inner = LockedBoard::<K, R>::new(*rt, alloc, Arc::try_clone(game)?, 16)?;
+    let notes = Notes::new(alloc, game.vertices()).expect(rt, "memory");
+    let shared = Arc::try_clone(game).expect(rt, "memory");
+    let inner = LockedBoard::<K, R>::new(*rt, alloc, shared, 16).expect(rt, "memory");
     let board = Noted {
         inner,
         game,
         notes: &notes,
     };
     let solved = solve(rt, alloc, game, board, workers, &notes);
-    Ok(solved.is_ok() && notes.ended_well() && notes.are_read(game))
+    solved.is_ok() && notes.ended_well() && notes.are_read(game)
 }
 
 // The same of the game of these vertices.
@@ -284,21 +280,20 @@ fn all_end_well<R: Abort + AllocGlobal + Threads + Wait + Clone + Copy + Drop + 
     rt: &R,
     rows: &[Row],
     workers: usize,
-) -> Result<bool, Fail>
+) -> bool
     requires { 0 < workers }
 {
-    let game = Arc::new(rt.alloc(), game_of(rt, rows)?)?;
+    let game = shared_game_of(rt, rows).expect(rt, "a game");
     ends_well::<Brand, R>(rt, rt.alloc(), &game, workers)
 }
 
 #[test]
-fn workers_leave_nothing_to_lift(rt: HostRuntime) -> Result<(), Fail> {
+fn workers_leave_nothing_to_lift(rt: HostRuntime) {
     for workers in [1, 2, 8] {
         assert!(rt;
-            all_end_well(&rt, &ODD_RING, workers)?,
+            all_end_well(&rt, &ODD_RING, workers),
             "{workers} on a ring"
         );
-        assert!(rt; all_end_well(&rt, &WAY, workers)?, "{workers} on a way");
+        assert!(rt; all_end_well(&rt, &WAY, workers), "{workers} on a way");
     }
-    Ok(())
 }

@@ -9,7 +9,6 @@ use samples::texts::{form_of, ring, system_of};
 use std::process::Abort;
 use std::sync::atomic::{AtomicU64, Ordering};
 use std::sync::{Arc, Wait};
-use std::test::Fail;
 use std::thread::Threads;
 use workers::gate::NoGate;
 use workers::team::{BoardKind, Team, solve_by_seen};
@@ -51,16 +50,16 @@ impl Observer for Tally {
 }
 
 /// The game of a formula with seven nodes at a ring of 2,500 states: 17,502 vertices.
-fn game_of_the_ring(rt: &(impl AllocGlobal + Threads + Sync)) -> Result<Game, Fail> {
-    let text = ring(rt.alloc(), 2500)?;
-    let system = system_of(rt.alloc(), text.as_str()).map_err(|_| "no system")?;
-    let form = form_of(rt.alloc(), "nu X. mu Y. (<a>X || <b>Y)").ok_or("no form")?;
-    Ok(build(rt, rt.alloc(), &system, &form).map_err(|_| "no game")?)
+fn game_of_the_ring(rt: &(impl Abort + AllocGlobal + Threads + Sync)) -> Game {
+    let text = ring(rt.alloc(), 2500).expect(rt, "memory");
+    let system = system_of(rt.alloc(), text.as_str()).expect(rt, "a system");
+    let form = form_of(rt.alloc(), "nu X. mu Y. (<a>X || <b>Y)").expect(rt, "a normal form");
+    build(rt, rt.alloc(), &system, &form).expect(rt, "a game")
 }
 
 #[test]
-fn one_thread_tells_of_the_search_and_of_lifts(rt: HostRuntime) -> Result<(), Fail> {
-    let game = game_of_the_ring(&rt)?;
+fn one_thread_tells_of_the_search_and_of_lifts(rt: HostRuntime) {
+    let game = game_of_the_ring(&rt);
     let tally = Tally::new();
     let solved = solve_one_seen(rt.alloc(), &game, &tally);
     assert!(rt; solved.is_ok());
@@ -70,15 +69,14 @@ fn one_thread_tells_of_the_search_and_of_lifts(rt: HostRuntime) -> Result<(), Fa
     assert!(rt; lifts >= 16384 && lifts % 4096 == 0, "{lifts}");
     // The first telling is of no lift, and then there is one for each 4,096.
     assert_eq!(rt; tally.tellings.load(Ordering::SeqCst), 1 + lifts / 4096);
-    Ok(())
 }
 
 /// Each vertex is a job of some worker once at least, so of 17,502 lifts by two workers one at least tells of 4,096.
 fn tells_of_workers<R: Abort + AllocGlobal + Threads + Wait + Clone + Copy + Drop + Send + Sync>(
     rt: &R,
     board: BoardKind,
-) -> Result<(), Fail> {
-    let game = Arc::new(rt.alloc(), game_of_the_ring(rt)?).map_err(|_| "no memory")?;
+) {
+    let game = Arc::new(rt.alloc(), game_of_the_ring(rt)).expect(rt, "memory");
     let tally = Tally::new();
     let team = Team {
         workers: 2,
@@ -91,11 +89,10 @@ fn tells_of_workers<R: Abort + AllocGlobal + Threads + Wait + Clone + Copy + Dro
     let lifts = tally.lifts.load(Ordering::SeqCst);
     assert!(rt; lifts >= 4096 && lifts % 4096 == 0, "{lifts}");
     assert_eq!(rt; tally.tellings.load(Ordering::SeqCst), lifts / 4096);
-    Ok(())
 }
 
 #[test]
-fn workers_tell_of_lifts(rt: HostRuntime) -> Result<(), Fail> {
-    tells_of_workers(&rt, BoardKind::Locked)?;
+fn workers_tell_of_lifts(rt: HostRuntime) {
+    tells_of_workers(&rt, BoardKind::Locked);
     tells_of_workers(&rt, BoardKind::Packed)
 }

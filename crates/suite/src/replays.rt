@@ -6,7 +6,6 @@ use engines::error::MuError;
 use samples::readers::Slow;
 use samples::texts::RING;
 use samples::writers::{AMPLE, AtEnd, Narrow};
-use std::alloc::AllocError;
 use std::io::Write;
 use std::process::Abort;
 use std::thread::Threads;
@@ -35,12 +34,11 @@ fn tells<H: Abort + Threads + Sync + AllocGlobal>(
     asked: Asked<'_>,
     text: &str,
     answer: &str,
-) -> Result<(), AllocError> {
+) {
     let mut out = Narrow::new(rt.alloc(), 7, AMPLE);
-    let found = shown(rt.alloc(), &run(rt, asked, &mut out))?;
+    let found = shown(rt.alloc(), &run(rt, asked, &mut out)).expect(rt, "memory");
     same(rt, asked.1, found.as_str(), answer);
     assert!(rt; out.taken.as_slice() == text.as_bytes(), "{text}");
-    Ok(())
 }
 
 /// A read that comes late: vertex 6 is raised after worker 0 has read it, so vertex 2 is raised by an old value, and is pending again.
@@ -91,11 +89,10 @@ const TOLD: [(Asked<'static>, &str); 8] = [
 ];
 
 #[test]
-fn replays_write_what_was_worked_out(rt: HostRuntime) -> Result<(), AllocError> {
+fn replays_write_what_was_worked_out(rt: HostRuntime) {
     for (asked, text) in &TOLD {
-        tells(&rt, *asked, text, "yes")?;
+        tells(&rt, *asked, text, "yes");
     }
-    Ok(())
 }
 
 /// Texts that are refused: the system's before the formula's, and the schedule's last. In a line its shape comes before its worker,
@@ -116,9 +113,9 @@ const REFUSED: [(Asked<'static>, &str); 12] = [
 ];
 
 #[test]
-fn replays_pass_refusals_on(rt: HostRuntime) -> Result<(), AllocError> {
+fn replays_pass_refusals_on(rt: HostRuntime) {
     for (asked, refusal) in &REFUSED {
-        tells(&rt, *asked, "", refusal)?;
+        tells(&rt, *asked, "", refusal);
     }
     let mut out = Vec::new(rt.alloc());
     let (system, formula, schedule) = (b"".as_slice(), b"<a".as_slice(), b"\n".as_slice());
@@ -126,10 +123,9 @@ fn replays_pass_refusals_on(rt: HostRuntime) -> Result<(), AllocError> {
     same(
         &rt,
         "no system",
-        shown(rt.alloc(), &answer)?.as_str(),
+        shown(rt.alloc(), &answer).expect(&rt, "memory").as_str(),
         "A1 at line 1",
     );
-    Ok(())
 }
 
 #[test]

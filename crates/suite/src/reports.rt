@@ -244,19 +244,17 @@ fn report<R: Abort + AllocGlobal + Threads + Wait + Clone + Copy + Drop + Send +
 fn reports<R: Abort + AllocGlobal + Threads + Wait + Clone + Copy + Drop + Send + Sync>(
     rt: &R,
     row: &Row<'_>,
-) -> Result<(), AllocError> {
+) {
     let (system, formula, _, marks) = *row;
-    let text = report_of(rt.alloc(), row)?;
+    let text = report_of(rt.alloc(), row).expect(rt, "memory");
     report(rt, system, formula, (marks.starts_with('y'), text.as_str()));
-    Ok(())
 }
 
 #[test]
-fn reports_what_was_worked_out(rt: HostRuntime) -> Result<(), AllocError> {
+fn reports_what_was_worked_out(rt: HostRuntime) {
     for row in &WORKED_OUT {
-        reports(&rt, row)?;
+        reports(&rt, row);
     }
-    Ok(())
 }
 
 /// The code and place of a refusal.
@@ -295,14 +293,13 @@ fn refuses_by<R: Abort + AllocGlobal + Threads + Wait + Clone + Copy + Drop + Se
     texts: (&str, &str),
     refusal: &str,
     engine: Engine,
-) -> Result<(), AllocError> {
+) {
     let (system, formula) = texts;
     let mut out = Vec::new(rt.alloc());
     let answer = run(rt, system, formula, engine, &mut out);
     assert!(rt; out.is_empty(), "written by {engine:?}");
-    let text = shown(rt.alloc(), &answer)?;
+    let text = shown(rt.alloc(), &answer).expect(rt, "memory");
     same(rt, "refusal", text.as_str(), refusal);
-    Ok(())
 }
 
 fn refuses<R: Abort + AllocGlobal + Threads + Wait + Clone + Copy + Drop + Send + Sync>(
@@ -310,19 +307,18 @@ fn refuses<R: Abort + AllocGlobal + Threads + Wait + Clone + Copy + Drop + Send 
     texts: (&str, &str),
     refusal: &str,
     engines: &[Engine],
-) -> Result<(), AllocError> {
+) {
     for engine in engines {
-        refuses_by(rt, texts, refusal, *engine)?;
+        refuses_by(rt, texts, refusal, *engine);
     }
-    Ok(())
 }
 
 #[test]
-fn passes_refusals_on(rt: HostRuntime) -> Result<(), AllocError> {
+fn passes_refusals_on(rt: HostRuntime) {
     for (system, formula, refusal) in &REFUSED {
-        refuses(&rt, (system, formula), refusal, &ENGINES)?;
+        refuses(&rt, (system, formula), refusal, &ENGINES);
     }
-    let negations = repeated(rt.alloc(), "", "!", 257, "true")?;
+    let negations = repeated(rt.alloc(), "", "!", 257, "true").expect(&rt, "memory");
     refuses(
         &rt,
         (RING, negations.as_str()),
@@ -347,17 +343,16 @@ fn formula_of(alloc: Global, parts: &Parts) -> Result<String, AllocError> {
 }
 
 #[test]
-fn refuses_what_is_too_large_for_a_game(rt: HostRuntime) -> Result<(), AllocError> {
+fn refuses_what_is_too_large_for_a_game(rt: HostRuntime) {
     for (system, parts, refusal) in &TOO_LARGE {
-        let formula = formula_of(rt.alloc(), parts)?;
+        let formula = formula_of(rt.alloc(), parts).expect(&rt, "a formula");
         refuses(
             &rt,
             (system, formula.as_str()),
             refusal,
             &[Engine::One, Engine::Game, Engine::Two],
-        )?;
+        );
     }
-    Ok(())
 }
 
 /// Formulas at a limit: what each is written as, with how many parentheses before its end, and the marks on the ring. They
@@ -395,18 +390,17 @@ fn reports_parts<R: Abort + AllocGlobal + Threads + Wait + Clone + Copy + Drop +
     parts: &Parts,
     canonical: &str,
     marks: &str,
-) -> Result<(), AllocError> {
-    let formula = formula_of(rt.alloc(), parts)?;
+) {
+    let formula = formula_of(rt.alloc(), parts).expect(rt, "a formula");
     reports(rt, &(RING, formula.as_str(), canonical, marks))
 }
 
 #[test]
-fn answers_formulas_at_a_limit(rt: HostRuntime) -> Result<(), AllocError> {
+fn answers_formulas_at_a_limit(rt: HostRuntime) {
     for (parts, written, closing, end, marks) in &AT_A_LIMIT {
-        let canonical = written_as(rt.alloc(), written, *closing, end)?;
-        reports_parts(&rt, parts, canonical.as_str(), marks)?;
+        let canonical = written_as(rt.alloc(), written, *closing, end).expect(&rt, "memory");
+        reports_parts(&rt, parts, canonical.as_str(), marks);
     }
-    Ok(())
 }
 
 /// Whether the report on a million states without transitions, of which `true` holds, is as it has to be.
@@ -456,12 +450,11 @@ pub fn report_of_the_ring(alloc: Global) -> Result<String, AllocError> {
 }
 
 #[test]
-fn reports_a_ring_of_many_states(rt: HostRuntime) -> Result<(), AllocError> {
-    let system = ring(rt.alloc(), 2500)?;
-    let want = report_of_the_ring(rt.alloc())?;
+fn reports_a_ring_of_many_states(rt: HostRuntime) {
+    let system = ring(rt.alloc(), 2500).expect(&rt, "memory");
+    let want = report_of_the_ring(rt.alloc()).expect(&rt, "memory");
     let formula = "[true*]<true*>(<a>true)";
     report(&rt, system.as_str(), formula, (true, want.as_str()));
-    Ok(())
 }
 
 /// A writer with this little room has a beginning of the report.
@@ -470,24 +463,22 @@ fn is_cut<R: Abort + AllocGlobal + Threads + Wait + Clone + Copy + Drop + Send +
     want: &str,
     left: usize,
     engine: Engine,
-) -> Result<(), AllocError> {
+) {
     let mut out = Narrow::new(rt.alloc(), want.len(), left);
     let answer = run(rt, RING, "<a>true", engine, &mut out);
     assert!(rt; status(&answer) == 3, "{left} by {engine:?}");
     assert!(rt; out.taken.len() == left && want.as_bytes().starts_with(out.taken.as_slice()));
-    let text = shown(rt.alloc(), &answer)?;
+    let text = shown(rt.alloc(), &answer).expect(rt, "memory");
     same(rt, "refusal", text.as_str(), "W1");
-    Ok(())
 }
 
 #[test]
-fn a_write_fault_leaves_a_beginning(rt: HostRuntime) -> Result<(), AllocError> {
+fn a_write_fault_leaves_a_beginning(rt: HostRuntime) {
     let want =
         "system 2 states 2 transitions initial 0\nformula <a>true\nyes 1 of 2\ninitial yes\n0 yes\n1 no\n";
     for left in 0..want.len() {
         for engine in &ENGINES {
-            is_cut(&rt, want, left, *engine)?;
+            is_cut(&rt, want, left, *engine);
         }
     }
-    Ok(())
 }

@@ -8,12 +8,11 @@ use game::name::GameName;
 use game::player::Player;
 use measures::settle::settle;
 use measures::table::{PlainTable, opening};
-use samples::games::{Row, game_of};
+use samples::games::{Row, shared_game_of};
 use std::alloc::Global;
 use std::marker::Brand;
 use std::process::Abort;
 use std::sync::{Arc, Wait};
-use std::test::Fail;
 use tables::board::Board;
 use tables::locked::LockedBoard;
 
@@ -56,35 +55,34 @@ fn rises_on<K: GameName, R: Wait + Drop>(
     game: Arc<Game, Global>,
     source: &PlainTable,
     shards: u32,
-) -> Result<(), Fail>
+)
     requires named { arc_value game ≡ K.game }
     requires same { source.now.game ≡ K.game }
     requires vertex { 4 < length source.now.game.vertices }
     requires shards { 0 < shards }
 {
-    let mut table = opening(alloc, &game)?;
+    let mut table = opening(alloc, &game).expect(rt, "memory");
     let Ok(board) = LockedBoard::<K, R>::new(handle, alloc, game, shards) else {
         panic!(rt; "no board")
     };
     rises_once(rt, &board, source);
     board.finish(&mut table);
     assert!(rt; table.value(4).is_top() && !table.value(2).is_top());
-    Ok(())
 }
 
 #[test]
-fn a_vertex_rises_on_one_shard(rt: HostRuntime) -> Result<(), Fail> {
-    let game = Arc::new(rt.alloc(), game_of(&rt, &DIAMOND)?)?;
-    let mut source = opening(rt.alloc(), &game)?;
+fn a_vertex_rises_on_one_shard(rt: HostRuntime) {
+    let game = shared_game_of(&rt, &DIAMOND).expect(&rt, "a game");
+    let mut source = opening(rt.alloc(), &game).expect(&rt, "memory");
     settle(&game, &mut source);
     assert!(rt; 4 < game.vertices());
     rises_on::<Brand, HostRuntime>(&rt, rt, rt.alloc(), game, &source, 1)
 }
 
 #[test]
-fn a_vertex_rises_on_sixteen_shards(rt: HostRuntime) -> Result<(), Fail> {
-    let game = Arc::new(rt.alloc(), game_of(&rt, &DIAMOND)?)?;
-    let mut source = opening(rt.alloc(), &game)?;
+fn a_vertex_rises_on_sixteen_shards(rt: HostRuntime) {
+    let game = shared_game_of(&rt, &DIAMOND).expect(&rt, "a game");
+    let mut source = opening(rt.alloc(), &game).expect(&rt, "memory");
     settle(&game, &mut source);
     assert!(rt; 4 < game.vertices());
     rises_on::<Brand, HostRuntime>(&rt, rt, rt.alloc(), game, &source, 16)

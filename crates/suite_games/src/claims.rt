@@ -12,7 +12,6 @@ use measures::settle::settle;
 use measures::table::{PlainTable, opening};
 use samples::games::{Row, game_of};
 use std::process::Abort;
-use std::test::Fail;
 
 // Odd goes round between the first two vertices, and need not go on to the third.
 const ROUND: [Row; 3] = [
@@ -77,11 +76,10 @@ fn stays(rt: &impl Abort, game: &Game, table: &mut PlainTable)
 }
 
 #[test]
-fn jumps_to_top(rt: HostRuntime) -> Result<(), Fail> {
-    let game = game_of(&rt, &ROUND)?;
-    let mut table = opening(rt.alloc(), &game)?;
-    let mut claim = Claim::new(rt.alloc(), &game)?;
+fn jumps_to_top(rt: HostRuntime) {
+    let game = game_of(&rt, &ROUND).expect(&rt, "a game");
+    let mut table = opening(rt.alloc(), &game).expect(&rt, "memory");
+    let mut claim = Claim::new(rt.alloc(), &game).expect(&rt, "memory");
     jumps(&rt, &game, &mut table, &mut claim);
     stays(&rt, &game, &mut table);
-    Ok(())
 }

@@ -18,7 +18,6 @@ use samples::texts::{RING, form_of, system_of};
 use samples::writers::{AMPLE, Narrow};
 use std::alloc::{AllocError, Global};
 use std::process::Abort;
-use std::test::Fail;
 use std::thread::Threads;
 
 // Worked example: the formula with which the ring makes the game of sixteen vertices, and its evidence.
@@ -35,10 +34,10 @@ const EVEN_OF_STEP: &str = "evidence even\n0 0 (0)\n2 5 (0)\n3 0 (0)\n5 0 (0)\n"
 const ODD_OF_STEP: &str = "evidence odd\n1 - (0)\n4 - (1)\n";
 
 // The game of a formula on the ring.
-fn game_of_formula(rt: &(impl AllocGlobal + Threads + Sync), formula: &str) -> Result<Game, Fail> {
-    let lts = system_of(rt.alloc(), RING)?;
-    let form = form_of(rt.alloc(), formula).ok_or("no form")?;
-    Ok(build(rt, rt.alloc(), &lts, &form)?)
+fn game_of_formula(rt: &(impl Abort + AllocGlobal + Threads + Sync), formula: &str) -> Game {
+    let lts = system_of(rt.alloc(), RING).expect(rt, "a system");
+    let form = form_of(rt.alloc(), formula).expect(rt, "a normal form");
+    build(rt, rt.alloc(), &lts, &form).expect(rt, "memory")
 }
 
 fn read(alloc: Global, game: &Game, text: &str) -> Result<Evidence, EvidenceError>
@@ -61,17 +60,11 @@ fn with_line(alloc: Global, text: &str, line: &str, other: &str) -> Result<Strin
 }
 
 // What a checker says of a text.
-fn says(
-    rt: &(impl Abort + AllocGlobal),
-    game: &Game,
-    text: &str,
-    wanted: &str,
-) -> Result<(), Fail> {
-    let evidence = read(rt.alloc(), game, text)?;
+fn says(rt: &(impl Abort + AllocGlobal), game: &Game, text: &str, wanted: &str) {
+    let evidence = read(rt.alloc(), game, text).expect(rt, "memory");
     let mut out = Narrow::new(rt.alloc(), 3, AMPLE);
     assert!(rt; write_verdict(&evidence, verify(game, &evidence), &mut out).is_ok());
     assert!(rt; out.taken.as_slice() == wanted.as_bytes(), "{text}");
-    Ok(())
 }
 
 // A line of Even's evidence, what stands in its place, and what the checker says then. In the last one no rank is the least.
@@ -90,38 +83,32 @@ const CHANGED: [(&str, &str, &str); 11] = [
 ];
 
 #[test]
-fn verdicts_of_the_example(rt: HostRuntime) -> Result<(), Fail> {
-    let game = game_of_formula(&rt, OFTEN_A)?;
+fn verdicts_of_the_example(rt: HostRuntime) {
+    let game = game_of_formula(&rt, OFTEN_A);
     for (line, other, wanted) in &CHANGED {
-        let text = with_line(rt.alloc(), EVEN, line, other)?;
-        says(&rt, &game, text.as_str(), wanted)?;
+        let text = with_line(rt.alloc(), EVEN, line, other).expect(&rt, "memory");
+        says(&rt, &game, text.as_str(), wanted);
     }
-    says(&rt, &game, ODD, "verified odd 3 of 16\n")?;
-    let step = game_of_formula(&rt, "<a>true")?;
-    says(&rt, &step, EVEN_OF_STEP, "verified even 4 of 6\n")?;
+    says(&rt, &game, ODD, "verified odd 3 of 16\n");
+    let step = game_of_formula(&rt, "<a>true");
+    says(&rt, &step, EVEN_OF_STEP, "verified even 4 of 6\n");
     says(&rt, &step, ODD_OF_STEP, "verified odd 2 of 6\n")
 }
 
 // Lines in any order, the last end missing.
 #[test]
-fn lines_stand_in_any_order(rt: HostRuntime) -> Result<(), Fail> {
-    let game = game_of_formula(&rt, "<a>true")?;
+fn lines_stand_in_any_order(rt: HostRuntime) {
+    let game = game_of_formula(&rt, "<a>true");
     let turned = "evidence even\n5 0 (0)\n0 0 (0)\n3 0 (0)\n2 5 (0)";
-    says(&rt, &game, turned, "verified even 4 of 6\n")?;
-    says(&rt, &game, "evidence odd", "verified odd 0 of 6\n")?;
+    says(&rt, &game, turned, "verified even 4 of 6\n");
+    says(&rt, &game, "evidence odd", "verified odd 0 of 6\n");
     writes(&rt, &game, turned, EVEN_OF_STEP)
 }
 
 // The evidence of a text is written as the other text.
-fn writes(
-    rt: &(impl Abort + AllocGlobal),
-    game: &Game,
-    text: &str,
-    wanted: &str,
-) -> Result<(), Fail> {
-    let evidence = read(rt.alloc(), game, text)?;
+fn writes(rt: &(impl Abort + AllocGlobal), game: &Game, text: &str, wanted: &str) {
+    let evidence = read(rt.alloc(), game, text).expect(rt, "memory");
     is_written(rt, &evidence, wanted);
-    Ok(())
 }
 
 // By writers that take some bytes at a time, or that have too little room, which hold a beginning then.
@@ -141,15 +128,22 @@ fn is_written(rt: &(impl Abort + AllocGlobal), evidence: &Evidence, wanted: &str
 
 // What is made of each player is the worked text.
 #[test]
-fn made_evidence_is_written(rt: HostRuntime) -> Result<(), Fail> {
+fn made_evidence_is_written(rt: HostRuntime) {
     for (formula, even, odd) in &[(OFTEN_A, EVEN, ODD), ("<a>true", EVEN_OF_STEP, ODD_OF_STEP)] {
-        let game = game_of_formula(&rt, formula)?;
+        let game = game_of_formula(&rt, formula);
         assert!(rt; greatest_priority(&game) <= 31);
-        let settled = solve_one(rt.alloc(), &game)?;
-        is_written(&rt, &even_evidence(rt.alloc(), &game, &settled)?, even);
-        is_written(&rt, &odd_evidence(rt.alloc(), &game)?, odd);
+        let settled = solve_one(rt.alloc(), &game).expect(&rt, "memory");
+        is_written(
+            &rt,
+            &even_evidence(rt.alloc(), &game, &settled).expect(&rt, "memory"),
+            even,
+        );
+        is_written(
+            &rt,
+            &odd_evidence(rt.alloc(), &game).expect(&rt, "memory"),
+            odd,
+        );
     }
-    Ok(())
 }
 
 fn refusal(alloc: Global, game: &Game, text: &str) -> Result<String, AllocError> {
@@ -184,22 +178,21 @@ const REFUSED: [(&str, &str); 20] = [
 ];
 
 #[test]
-fn faults_of_texts(rt: HostRuntime) -> Result<(), Fail> {
-    let game = game_of_formula(&rt, OFTEN_A)?;
+fn faults_of_texts(rt: HostRuntime) {
+    let game = game_of_formula(&rt, OFTEN_A);
     for (text, wanted) in &REFUSED {
-        let told = refusal(rt.alloc(), &game, text)?;
+        let told = refusal(rt.alloc(), &game, text).expect(&rt, "memory");
         same(&rt, text, told.as_str(), wanted);
     }
-    let other = with_line(rt.alloc(), EVEN, "evidence even", "evidence odd")?;
-    let told = refusal(rt.alloc(), &game, other.as_str())?;
+    let other = with_line(rt.alloc(), EVEN, "evidence even", "evidence odd").expect(&rt, "memory");
+    let told = refusal(rt.alloc(), &game, other.as_str()).expect(&rt, "memory");
     same(&rt, "Even's lines as Odd's", told.as_str(), "E2 at line 2");
-    Ok(())
 }
 
 // Each read fails in turn.
 #[test]
-fn failed_reads_are_told(rt: HostRuntime) -> Result<(), Fail> {
-    let game = game_of_formula(&rt, OFTEN_A)?;
+fn failed_reads_are_told(rt: HostRuntime) {
+    let game = game_of_formula(&rt, OFTEN_A);
     for count in 0..EVEN.len() {
         let reader = Slow {
             left: &EVEN.as_bytes()[..count],
@@ -209,7 +202,6 @@ fn failed_reads_are_told(rt: HostRuntime) -> Result<(), Fail> {
         let read = read_evidence(rt.alloc(), reader, &game);
         assert!(rt; matches!(read, Err(EvidenceError::Read)));
     }
-    Ok(())
 }
 
 // What a checker says of two texts.
@@ -219,29 +211,28 @@ fn says_of_two(
     first: &str,
     second: &str,
     wanted: &str,
-) -> Result<(), Fail> {
-    let first = read(rt.alloc(), game, first)?;
-    let second = read(rt.alloc(), game, second)?;
+) {
+    let first = read(rt.alloc(), game, first).expect(rt, "memory");
+    let second = read(rt.alloc(), game, second).expect(rt, "memory");
     let mut out = Narrow::new(rt.alloc(), 3, AMPLE);
     let both = check_both(game, &first, &second);
     assert!(rt; write_both(&first, &second, both, &mut out).is_ok());
     assert!(rt; out.taken.as_slice() == wanted.as_bytes(), "{wanted}");
-    Ok(())
 }
 
 #[test]
-fn two_texts(rt: HostRuntime) -> Result<(), Fail> {
-    let game = game_of_formula(&rt, OFTEN_A)?;
+fn two_texts(rt: HostRuntime) {
+    let game = game_of_formula(&rt, OFTEN_A);
     let all = "verified both even 13 odd 3 of 16\n";
-    says_of_two(&rt, &game, EVEN, ODD, all)?;
-    says_of_two(&rt, &game, ODD, EVEN, all)?;
-    says_of_two(&rt, &game, EVEN, EVEN, "refused C4\n")?;
-    let gone = with_line(rt.alloc(), ODD, "1 - (0,0)", "")?;
-    says_of_two(&rt, &game, EVEN, gone.as_str(), "refused second C2 at 7\n")?;
-    says_of_two(&rt, &game, gone.as_str(), EVEN, "refused first C2 at 7\n")?;
-    let left = with_line(rt.alloc(), ODD, "7 - (0,1)", "")?;
-    says_of_two(&rt, &game, EVEN, left.as_str(), "refused C5 at 7\n")?;
-    let step = game_of_formula(&rt, "<a>true")?;
+    says_of_two(&rt, &game, EVEN, ODD, all);
+    says_of_two(&rt, &game, ODD, EVEN, all);
+    says_of_two(&rt, &game, EVEN, EVEN, "refused C4\n");
+    let gone = with_line(rt.alloc(), ODD, "1 - (0,0)", "").expect(&rt, "memory");
+    says_of_two(&rt, &game, EVEN, gone.as_str(), "refused second C2 at 7\n");
+    says_of_two(&rt, &game, gone.as_str(), EVEN, "refused first C2 at 7\n");
+    let left = with_line(rt.alloc(), ODD, "7 - (0,1)", "").expect(&rt, "memory");
+    says_of_two(&rt, &game, EVEN, left.as_str(), "refused C5 at 7\n");
+    let step = game_of_formula(&rt, "<a>true");
     let six = "verified both even 4 odd 2 of 6\n";
     says_of_two(&rt, &step, EVEN_OF_STEP, ODD_OF_STEP, six)
 }

@@ -12,8 +12,6 @@ use samples::texts::{form_of, system_of};
 use samples::writers::{AMPLE, AtEnd, Narrow};
 use std::alloc::{AllocError, Global};
 use std::io::Read;
-use std::process::Abort;
-use std::test::Fail;
 
 // The canonical text of what was read, or the refusal.
 fn shown<R: Read + Drop>(alloc: Global, reader: R) -> Result<String, AllocError> {
@@ -71,7 +69,7 @@ const TEXTS: [(&str, &str); 31] = [
 ];
 
 #[test]
-fn texts_are_read(rt: HostRuntime) -> Result<(), AllocError> {
+fn texts_are_read(rt: HostRuntime) {
     for (text, wanted) in &TEXTS {
         for step in [1, 7, 8192] {
             let reader = Slow {
@@ -79,15 +77,19 @@ fn texts_are_read(rt: HostRuntime) -> Result<(), AllocError> {
                 step,
                 fails: false,
             };
-            same(&rt, text, shown(rt.alloc(), reader)?.as_str(), wanted);
+            same(
+                &rt,
+                text,
+                shown(rt.alloc(), reader).expect(&rt, "memory").as_str(),
+                wanted,
+            );
         }
     }
-    Ok(())
 }
 
 // A text that is good as far as it goes is refused for the failed read, wherever that comes.
 #[test]
-fn a_failed_read_is_told_wherever_it_comes(rt: HostRuntime) -> Result<(), AllocError> {
+fn a_failed_read_is_told_wherever_it_comes(rt: HostRuntime) {
     for given in 0..=TWO.len() {
         let reader = Slow {
             left: &TWO.as_bytes()[..given],
@@ -97,21 +99,24 @@ fn a_failed_read_is_told_wherever_it_comes(rt: HostRuntime) -> Result<(), AllocE
         same(
             &rt,
             "a beginning",
-            shown(rt.alloc(), reader)?.as_str(),
+            shown(rt.alloc(), reader).expect(&rt, "memory").as_str(),
             "G7",
         );
     }
-    Ok(())
 }
 
 #[test]
-fn an_interrupted_read_is_tried_again(rt: HostRuntime) -> Result<(), AllocError> {
+fn an_interrupted_read_is_tried_again(rt: HostRuntime) {
     let reader = Halting {
         left: TWO.as_bytes(),
         is_interrupted: false,
     };
-    same(&rt, TWO, shown(rt.alloc(), reader)?.as_str(), TWO);
-    Ok(())
+    same(
+        &rt,
+        TWO,
+        shown(rt.alloc(), reader).expect(&rt, "memory").as_str(),
+        TWO,
+    );
 }
 
 // Each growth may be refused: then nothing but that is told. `rt try --test --fail-alloc N` refuses the Nth.
@@ -128,11 +133,11 @@ fn want_of_memory_is_told_as_such(rt: HostRuntime) {
 
 // A game that `build` made is written with its names, and read again without them.
 #[test]
-fn names_are_written_and_not_read(rt: HostRuntime) -> Result<(), Fail> {
-    let lts = system_of(rt.alloc(), "des (0,0,1)")?;
-    let form = form_of(rt.alloc(), "[true]false").ok_or("no formula")?;
-    let game = build(&rt, rt.alloc(), &lts, &form)?;
-    let text = text_of(rt.alloc(), &game)?;
+fn names_are_written_and_not_read(rt: HostRuntime) {
+    let lts = system_of(rt.alloc(), "des (0,0,1)").expect(&rt, "a system");
+    let form = form_of(rt.alloc(), "[true]false").expect(&rt, "a formula");
+    let game = build(&rt, rt.alloc(), &lts, &form).expect(&rt, "memory");
+    let text = text_of(rt.alloc(), &game).expect(&rt, "memory");
     same(
         &rt,
         "names",
@@ -142,18 +147,19 @@ fn names_are_written_and_not_read(rt: HostRuntime) -> Result<(), Fail> {
     same(
         &rt,
         "no names",
-        shown(rt.alloc(), text.as_bytes())?.as_str(),
+        shown(rt.alloc(), text.as_bytes())
+            .expect(&rt, "memory")
+            .as_str(),
         "parity 3;\n0 0 0 0;\n1 1 0 1;\n2 0 1 0;\n3 0 0 1;\n",
     );
-    Ok(())
 }
 
 const ROWS: [Row; 2] = [(Player::Even, 0, &[1]), (Player::Odd, 1, &[0])];
 
 // A writer without room for the whole text is given a beginning, and a fault is told.
 #[test]
-fn a_failed_write_leaves_a_beginning(rt: HostRuntime) -> Result<(), Fail> {
-    let game = game_of(&rt, &ROWS)?;
+fn a_failed_write_leaves_a_beginning(rt: HostRuntime) {
+    let game = game_of(&rt, &ROWS).expect(&rt, "a game");
     for room in 0..TWO.len() {
         for at_end in [AtEnd::Fails, AtEnd::TakesNothing] {
             let mut out = Narrow::new(rt.alloc(), 4, room);
@@ -163,5 +169,4 @@ fn a_failed_write_leaves_a_beginning(rt: HostRuntime) -> Result<(), Fail> {
             assert!(rt; TWO.as_bytes().starts_with(out.taken.as_slice()));
         }
     }
-    Ok(())
 }

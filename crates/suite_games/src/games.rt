@@ -8,12 +8,9 @@ use game::build::{build, build_split};
 use game::error::BuildError;
 use game::graph::Game;
 use game::player::Player;
-use lts::Lts;
-use normal::form::Normal;
 use samples::games::{Row, game_of, made};
 use samples::texts::{RING, form_of, repeated, system_of};
 use std::alloc::{AllocError, Global};
-use std::test::Fail;
 use std::thread::Threads;
 
 // A line for each vertex.
@@ -83,44 +80,43 @@ const GAMES: [(&str, &str, &str); 3] = [
 ];
 
 #[test]
-fn vertices_are_states_with_nodes(rt: HostRuntime) -> Result<(), Fail> {
+fn vertices_are_states_with_nodes(rt: HostRuntime) {
     for (system, formula, wanted) in &GAMES {
-        let told = built(&rt, system, formula).ok_or("no texts")?;
+        let told = built(&rt, system, formula).expect(&rt, "texts");
         same(&rt, formula, told.as_str(), wanted);
     }
-    Ok(())
 }
 
 // However many ranges the states are cut into: as many as states, fewer, and more, of which some have none.
 #[test]
-fn each_split_gives_the_same_game(rt: HostRuntime) -> Result<(), Fail> {
+fn each_split_gives_the_same_game(rt: HostRuntime) {
     for (system, formula, wanted) in &GAMES {
         for ranges in [1, 2, 7] {
-            let told = split(&rt, system, formula, ranges).ok_or("no texts")?;
+            let told = split(&rt, system, formula, ranges).expect(&rt, "texts");
             same(&rt, formula, told.as_str(), wanted);
         }
     }
-    Ok(())
 }
 
 const RING_OF_NINE: u32 = 9;
 
 // A ring of nine states: each leads to the next one, where truth is.
 #[test]
-fn each_split_of_a_ring_gives_its_game(rt: HostRuntime) -> Result<(), Fail> {
-    let mut system = format!(in rt.alloc(); "des (0,{RING_OF_NINE},{RING_OF_NINE})\n")?;
-    let mut wanted = format!(in rt.alloc(); "0 0 0 0\n1 1 0 1\n")?;
+fn each_split_of_a_ring_gives_its_game(rt: HostRuntime) {
+    let mut system = format!(in rt.alloc(); "des (0,{RING_OF_NINE},{RING_OF_NINE})\n").expect(
+        &rt, "memory",
+    );
+    let mut wanted = format!(in rt.alloc(); "0 0 0 0\n1 1 0 1\n").expect(&rt, "memory");
     for state in 0..RING_OF_NINE {
         let next = (state + 1) % RING_OF_NINE;
         let (step, truth, after) = (2 + 2 * state, 3 + 2 * state, 3 + 2 * next);
-        write!(system, "({state},\"a\",{next})\n")?;
-        write!(wanted, "{step} 0 0 {after}\n{truth} 0 0 0\n")?;
+        write!(system, "({state},\"a\",{next})\n").expect(&rt, "memory");
+        write!(wanted, "{step} 0 0 {after}\n{truth} 0 0 0\n").expect(&rt, "memory");
     }
     for ranges in [1, 2, 7, RING_OF_NINE] {
-        let told = split(&rt, system.as_str(), "<a>true", ranges).ok_or("no texts")?;
+        let told = split(&rt, system.as_str(), "<a>true", ranges).expect(&rt, "texts");
         same(&rt, "a ring of nine", told.as_str(), wanted.as_str());
     }
-    Ok(())
 }
 
 // Each growth may be refused: then nothing but that is told. `rt try --test --fail-alloc N` refuses the Nth.
@@ -138,31 +134,33 @@ const MILLION: &str = "des (0,0,1000000)\n";
 
 // A million states with one node fit.
 #[test]
-fn a_million_states_have_vertices(rt: HostRuntime) -> Result<(), Fail> {
-    let lts = system_of(rt.alloc(), MILLION)?;
-    let form = form_of(rt.alloc(), "true").ok_or("no form")?;
-    assert!(rt; build(&rt, rt.alloc(), &lts, &form)?.vertices() == 1_000_002);
-    Ok(())
+fn a_million_states_have_vertices(rt: HostRuntime) {
+    let lts = system_of(rt.alloc(), MILLION).expect(&rt, "a system");
+    let form = form_of(rt.alloc(), "true").expect(&rt, "a normal form");
+    assert!(rt;
+        build(&rt, rt.alloc(), &lts, &form)
+            .expect(&rt, "memory")
+            .vertices()
+            == 1_000_002
+    );
 }
 
 // The vertex of each state with each node.
 #[test]
-fn vertices_are_known_by_their_names(rt: HostRuntime) -> Result<(), Fail> {
-    let lts = system_of(rt.alloc(), RING)?;
-    let form = form_of(rt.alloc(), "<a>true").ok_or("no form")?;
-    let game = build(&rt, rt.alloc(), &lts, &form)?;
+fn vertices_are_known_by_their_names(rt: HostRuntime) {
+    let lts = system_of(rt.alloc(), RING).expect(&rt, "a system");
+    let form = form_of(rt.alloc(), "<a>true").expect(&rt, "a normal form");
+    let game = build(&rt, rt.alloc(), &lts, &form).expect(&rt, "memory");
     assert!(rt; lts.states() == 2 && form.count() == 2);
     assert!(rt; game.vertex_of(0, 1) == 3 && game.vertex_of(1, 0) == 4);
-    Ok(())
 }
 
 // With seventeen nodes they don't.
 #[test]
-fn vertices_are_counted_before_they_are_made(rt: HostRuntime) -> Result<(), Fail> {
-    let formula = repeated(rt.alloc(), "", "<a>", 16, "true")?;
-    let told = built(&rt, MILLION, formula.as_str()).ok_or("no texts")?;
+fn vertices_are_counted_before_they_are_made(rt: HostRuntime) {
+    let formula = repeated(rt.alloc(), "", "<a>", 16, "true").expect(&rt, "memory");
+    let told = built(&rt, MILLION, formula.as_str()).expect(&rt, "texts");
     same(&rt, "a million states", told.as_str(), "B1");
-    Ok(())
 }
 
 const THREE: [Row; 3] = [
@@ -172,12 +170,11 @@ const THREE: [Row; 3] = [
 ];
 
 #[test]
-fn games_are_made_by_hand(rt: HostRuntime) -> Result<(), Fail> {
-    let game = game_of(&rt, &THREE)?;
-    let told = shown(rt.alloc(), &game)?;
+fn games_are_made_by_hand(rt: HostRuntime) {
+    let game = game_of(&rt, &THREE).expect(&rt, "a game");
+    let told = shown(rt.alloc(), &game).expect(&rt, "memory");
     same(&rt, "three", told.as_str(), "0 0 0 0\n1 1 1 0 2\n2 1 0 1\n");
     assert!(rt; game.count(1) == 2 && game.count(40) == 0);
-    Ok(())
 }
 
 // The first of two vertices: a priority that is too great, successors that descend, one that stands twice, one that is no
@@ -191,17 +188,23 @@ const FAULTY: [Row; 5] = [
 ];
 
 #[test]
-fn what_is_no_game_is_told(rt: HostRuntime) -> Result<(), AllocError> {
+fn what_is_no_game_is_told(rt: HostRuntime) {
     for faulty in FAULTY {
-        assert!(rt; made(&rt, &[faulty, (Player::Odd, 0, &[0])])?.is_none());
+        assert!(rt;
+            made(&rt, &[faulty, (Player::Odd, 0, &[0])])
+                .expect(&rt, "memory")
+                .is_none()
+        );
     }
-    Ok(())
 }
 
 // A game has a vertex. One that leads to itself is enough.
 #[test]
-fn no_vertex_makes_no_game(rt: HostRuntime) -> Result<(), Fail> {
-    assert!(rt; made(&rt, &[])?.is_none());
-    assert!(rt; made(&rt, &[(Player::Even, 0, &[0])])?.is_some());
-    Ok(())
+fn no_vertex_makes_no_game(rt: HostRuntime) {
+    assert!(rt; made(&rt, &[]).expect(&rt, "memory").is_none());
+    assert!(rt;
+        made(&rt, &[(Player::Even, 0, &[0])])
+            .expect(&rt, "memory")
+            .is_some()
+    );
 }

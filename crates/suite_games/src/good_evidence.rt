@@ -19,7 +19,6 @@ use samples::games::{Row, game_of};
 use samples::texts::{RING, form_of, system_of};
 use std::alloc::{AllocError, Global};
 use std::process::Abort;
-use std::test::Fail;
 use std::thread::Threads;
 
 // Counts in parentheses.
@@ -68,18 +67,12 @@ fn even_of(alloc: Global, game: &Game) -> Result<Evidence, EvidenceError>
     even_evidence(alloc, game, &settled)
 }
 
-fn shows(
-    rt: &(impl Abort + AllocGlobal),
-    game: &Game,
-    evidence: &Evidence,
-    wanted: &str,
-) -> Result<(), AllocError>
+fn shows(rt: &(impl Abort + AllocGlobal), game: &Game, evidence: &Evidence, wanted: &str)
     requires { evidence.now.game ≡ game.now }
 {
     assert!(rt; verify(game, evidence) == Verdict::Good, "{wanted}");
-    let text = shown(rt.alloc(), game, evidence)?;
+    let text = shown(rt.alloc(), game, evidence).expect(rt, "memory");
     same(rt, "evidence", text.as_str(), wanted);
-    Ok(())
 }
 
 // Both pieces are good, and of two players whom no vertex escapes.
@@ -95,25 +88,19 @@ fn checks(rt: &impl Abort, game: &Game, even: &Evidence, odd: &Evidence)
 }
 
 // Even's evidence of a game, and Odd's.
-fn gives(
-    rt: &(impl Abort + AllocGlobal),
-    game: &Game,
-    wanted: &Wanted,
-    even: &Evidence,
-) -> Result<(), Fail>
+fn gives(rt: &(impl Abort + AllocGlobal), game: &Game, wanted: &Wanted, even: &Evidence)
     requires { even.now.game ≡ game.now }
 {
     assert!(rt; greatest_priority(game) <= 31);
-    let odd = odd_evidence(rt.alloc(), game)?;
+    let odd = odd_evidence(rt.alloc(), game).expect(rt, "memory");
     checks(rt, game, even, &odd);
     assert!(rt; even.len() == wanted.evens && odd.len() == wanted.odds);
-    shows(rt, game, even, wanted.even)?;
-    shows(rt, game, &odd, wanted.odd)?;
-    Ok(())
+    shows(rt, game, even, wanted.even);
+    shows(rt, game, &odd, wanted.odd);
 }
 
-fn gives_both(rt: &(impl Abort + AllocGlobal), game: &Game, wanted: &Wanted) -> Result<(), Fail> {
-    let even = even_of(rt.alloc(), game)?;
+fn gives_both(rt: &(impl Abort + AllocGlobal), game: &Game, wanted: &Wanted) {
+    let even = even_of(rt.alloc(), game).expect(rt, "memory");
     gives(rt, game, wanted, &even)
 }
 
@@ -125,28 +112,27 @@ const EXAMPLE: Wanted = Wanted {
 };
 
 // The game of the example.
-fn example(rt: &(impl AllocGlobal + Threads + Sync)) -> Result<Game, Fail> {
-    let lts = system_of(rt.alloc(), RING)?;
-    let form = form_of(rt.alloc(), "nu X. mu Y. (<a>X || <b>Y)").ok_or("no form")?;
-    Ok(build(rt, rt.alloc(), &lts, &form)?)
+fn example(rt: &(impl Abort + AllocGlobal + Threads + Sync)) -> Game {
+    let lts = system_of(rt.alloc(), RING).expect(rt, "a system");
+    let form = form_of(rt.alloc(), "nu X. mu Y. (<a>X || <b>Y)").expect(rt, "a normal form");
+    build(rt, rt.alloc(), &lts, &form).expect(rt, "memory")
 }
 
 #[test]
-fn evidence_of_the_example(rt: HostRuntime) -> Result<(), Fail> {
-    let game = example(&rt)?;
+fn evidence_of_the_example(rt: HostRuntime) {
+    let game = example(&rt);
     assert!(rt; greatest_priority(&game) == 2);
     gives_both(&rt, &game, &EXAMPLE)
 }
 
 #[test]
-fn the_dual_of_the_example(rt: HostRuntime) -> Result<(), Fail> {
-    let game = example(&rt)?;
+fn the_dual_of_the_example(rt: HostRuntime) {
+    let game = example(&rt);
     assert!(rt; greatest_priority(&game) <= 31);
-    let turned = dual(rt.alloc(), &game)?;
+    let turned = dual(rt.alloc(), &game).expect(&rt, "memory");
     assert!(rt; greatest_priority(&turned) == 3 && turned.vertices() == 16);
     assert!(rt; turned.owner(11) == Player::Odd && turned.priority(9) == 3);
     assert!(rt; turned.successors(11) == [12, 14].as_slice());
-    Ok(())
 }
 
 // Small games, and the evidence of each.
@@ -180,33 +166,33 @@ const SMALL: [(&[Row], Wanted); 2] = [
 ];
 
 #[test]
-fn evidence_of_small_games(rt: HostRuntime) -> Result<(), Fail> {
+fn evidence_of_small_games(rt: HostRuntime) {
     for (rows, wanted) in &SMALL {
-        let game = game_of(&rt, rows)?;
-        gives_both(&rt, &game, wanted)?;
+        let game = game_of(&rt, rows).expect(&rt, "a game");
+        gives_both(&rt, &game, wanted);
     }
-    Ok(())
 }
 
 // Each vertex leads to half its number, and so each to 0, which leads to itself with priority 0: Even wins all.
-fn halving(rt: &(impl Abort + AllocGlobal), vertices: u32) -> Result<Game, Fail> {
+fn halving(rt: &(impl Abort + AllocGlobal), vertices: u32) -> Game {
     let mut builder = GameBuilder::new(rt.alloc());
     for v in 0..vertices {
         assert!(rt; builder.vertices() < 16_777_216);
         let priority = if v == 0 { 0 } else { 1 };
-        builder.push(Player::Odd, priority, &[v / 2])?;
+        builder
+            .push(Player::Odd, priority, &[v / 2])
+            .expect(rt, "memory");
     }
-    Ok(builder.finish().ok_or("no game")?)
+    builder.finish().expect(rt, "a game")
 }
 
 #[test]
-fn a_million_vertices_are_verified(rt: HostRuntime) -> Result<(), Fail> {
-    let game = halving(&rt, 1_000_000)?;
+fn a_million_vertices_are_verified(rt: HostRuntime) {
+    let game = halving(&rt, 1_000_000);
     assert!(rt; greatest_priority(&game) == 1);
-    let even = even_of(rt.alloc(), &game)?;
-    let odd = odd_evidence(rt.alloc(), &game)?;
+    let even = even_of(rt.alloc(), &game).expect(&rt, "memory");
+    let odd = odd_evidence(rt.alloc(), &game).expect(&rt, "memory");
     assert!(rt; even.len() == 1_000_000 && odd.len() == 0);
     assert!(rt; verify(&game, &even) == Verdict::Good);
     checks(&rt, &game, &even, &odd);
-    Ok(())
 }

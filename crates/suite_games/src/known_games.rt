@@ -9,9 +9,7 @@ use game::player::Player;
 use measures::settle::{even_wins, solve_one};
 use measures::table::Settled;
 use samples::games::push;
-use std::alloc::{AllocError, Global};
 use std::process::Abort;
-use std::test::Fail;
 
 // The vertices that Even wins.
 #[derive(Clone, Copy)]
@@ -38,16 +36,16 @@ fn are_won(game: &Game, settled: &Settled, wins: EvenWins) -> bool
     true
 }
 
-fn is_solved(alloc: Global, game: &Game, wins: EvenWins) -> Result<bool, Fail> {
-    let settled = solve_one(alloc, game)?;
-    Ok(are_won(game, &settled, wins))
+fn is_solved(rt: &(impl Abort + AllocGlobal), game: &Game, wins: EvenWins) -> bool {
+    let settled = solve_one(rt.alloc(), game).expect(rt, "memory");
+    are_won(game, &settled, wins)
 }
 
 // The same where the game is so small that lifting alone ends soon, and then as it does.
-fn is_lifted(alloc: Global, game: &Game, wins: EvenWins) -> Result<bool, Fail> {
-    let settled = solve_one(alloc, game)?;
-    let lifted = lifted_alone(alloc, game)?;
-    Ok(are_won(game, &settled, wins) && is_same(game, &settled, &lifted))
+fn is_lifted(rt: &(impl Abort + AllocGlobal), game: &Game, wins: EvenWins) -> bool {
+    let settled = solve_one(rt.alloc(), game).expect(rt, "memory");
+    let lifted = lifted_alone(rt.alloc(), game).expect(rt, "memory");
+    are_won(game, &settled, wins) && is_same(game, &settled, &lifted)
 }
 
 // Even has the even vertices, and Odd the odd ones.
@@ -61,7 +59,7 @@ fn owner_of(v: u32) -> Player {
 
 // A ring of rungs: a vertex of Even with priority 0, and one of Odd with priority 1. From each the play goes on to one of the
 // two after it. So each player can stay at the own vertices, whose priority is good.
-fn ladder(rt: &(impl Abort + AllocGlobal), rungs: u32) -> Result<Option<Game>, AllocError>
+fn ladder(rt: &(impl Abort + AllocGlobal), rungs: u32) -> Option<Game>
     requires some { 1 < rungs }
     requires few { rungs ≤ 1_000_000 }
 {
@@ -70,24 +68,23 @@ fn ladder(rt: &(impl Abort + AllocGlobal), rungs: u32) -> Result<Option<Game>, A
     for v in 0..vertices {
         let (near, far) = ((v + 1) % vertices, (v + 2) % vertices);
         let next = [near.min(far), near.max(far)];
-        push(&mut builder, owner_of(v), (v % 2) as u8, &next)?;
+        push(&mut builder, owner_of(v), (v % 2) as u8, &next).expect(rt, "memory");
     }
-    Ok(builder.finish())
+    builder.finish()
 }
 
 #[test]
-fn on_a_ladder_each_wins_the_own_vertices(rt: HostRuntime) -> Result<(), Fail> {
+fn on_a_ladder_each_wins_the_own_vertices(rt: HostRuntime) {
     for rungs in 2..40 {
-        let game = ladder(&rt, rungs)?.ok_or("no ladder")?;
-        assert!(rt; is_lifted(rt.alloc(), &game, EvenWins::Own)?, "{rungs}");
+        let game = ladder(&rt, rungs).expect(&rt, "a ladder");
+        assert!(rt; is_lifted(&rt, &game, EvenWins::Own), "{rungs}");
     }
-    let game = ladder(&rt, 50_000)?.ok_or("no ladder")?;
-    assert!(rt; is_solved(rt.alloc(), &game, EvenWins::Own)?);
-    Ok(())
+    let game = ladder(&rt, 50_000).expect(&rt, "a ladder");
+    assert!(rt; is_solved(&rt, &game, EvenWins::Own));
 }
 
 // Each vertex has its number as priority, and leads to all others.
-fn clique(rt: &(impl Abort + AllocGlobal), vertices: u32) -> Result<Option<Game>, AllocError>
+fn clique(rt: &(impl Abort + AllocGlobal), vertices: u32) -> Option<Game>
     requires { vertices ≤ 33 }
 {
     let mut builder = GameBuilder::new(rt.alloc());
@@ -96,28 +93,27 @@ fn clique(rt: &(impl Abort + AllocGlobal), vertices: u32) -> Result<Option<Game>
         others.clear();
         for t in 0..vertices {
             if t != v {
-                others.push(t)?;
+                others.push(t).expect(rt, "memory");
             }
         }
-        push(&mut builder, owner_of(v), v as u8, others.as_slice())?;
+        push(&mut builder, owner_of(v), v as u8, others.as_slice()).expect(rt, "memory");
     }
-    Ok(builder.finish())
+    builder.finish()
 }
 
 // Of two vertices the play meets both. Of three, Odd has one and must leave it, and Even goes between her two. Of more, each
 // player goes between two of the own.
 #[test]
-fn in_a_clique_who_has_two_vertices_wins_them(rt: HostRuntime) -> Result<(), Fail> {
+fn in_a_clique_who_has_two_vertices_wins_them(rt: HostRuntime) {
     for vertices in 2..=33 {
         let wins = match vertices {
             2 => EvenWins::None,
             3 => EvenWins::All,
             _ => EvenWins::Own,
         };
-        let game = clique(&rt, vertices)?.ok_or("no clique")?;
-        assert!(rt; is_lifted(rt.alloc(), &game, wins)?, "{vertices}");
+        let game = clique(&rt, vertices).expect(&rt, "a clique");
+        assert!(rt; is_lifted(&rt, &game, wins), "{vertices}");
     }
-    Ok(())
 }
 
 // A climb: a way of rows, and a round. The way ends at a vertex that leads to itself. Before it come so many vertices of the
@@ -125,23 +121,18 @@ fn in_a_clique_who_has_two_vertices_wins_them(rt: HostRuntime) -> Result<(), Fai
 // goes either to the beginning of the way or to a vertex of priority 1 that leads back. So the winner at the way's end wins
 // everywhere: Even has to leave the round at some time. Lifting alone goes round it once for each measure below the one at
 // the beginning of the way.
-fn climb(
-    rt: &(impl Abort + AllocGlobal),
-    rows: u8,
-    width: u32,
-    winner: Player,
-) -> Result<Option<Game>, AllocError> {
+fn climb(rt: &(impl Abort + AllocGlobal), rows: u8, width: u32, winner: Player) -> Option<Game> {
     assert!(rt; rows < 16);
     let end = match winner {
         Player::Even => 2 * rows,
         Player::Odd => 2 * rows + 1,
     };
     let mut builder = GameBuilder::new(rt.alloc());
-    push(&mut builder, Player::Odd, end, &[0])?;
+    push(&mut builder, Player::Odd, end, &[0]).expect(rt, "memory");
     let mut last: u32 = 0;
     for row in (0..rows).rev() {
         for _ in 0..width {
-            push(&mut builder, owner_of(last), 2 * row + 1, &[last])?;
+            push(&mut builder, owner_of(last), 2 * row + 1, &[last]).expect(rt, "memory");
             last = last.wrapping_add(1);
         }
     }
@@ -151,27 +142,21 @@ fn climb(
         Player::Even,
         0,
         &[last, round.wrapping_add(1)],
-    )?;
-    push(&mut builder, Player::Odd, 1, &[round])?;
-    Ok(builder.finish())
+    )
+    .expect(rt, "memory");
+    push(&mut builder, Player::Odd, 1, &[round]).expect(rt, "memory");
+    builder.finish()
 }
 
 // Rows, and how many vertices each has.
 const SMALL: [(u8, u32); 4] = [(1, 50), (2, 12), (3, 6), (4, 3)];
 
 #[test]
-fn who_wins_at_the_end_of_a_way_wins_the_climb(rt: HostRuntime) -> Result<(), Fail> {
+fn who_wins_at_the_end_of_a_way_wins_the_climb(rt: HostRuntime) {
     for (rows, width) in SMALL {
-        let even = climb(&rt, rows, width, Player::Even)?.ok_or("no climb")?;
-        assert!(rt;
-            is_lifted(rt.alloc(), &even, EvenWins::All)?,
-            "Even, {rows} rows"
-        );
-        let odd = climb(&rt, rows, width, Player::Odd)?.ok_or("no climb")?;
-        assert!(rt;
-            is_lifted(rt.alloc(), &odd, EvenWins::None)?,
-            "Odd, {rows} rows"
-        );
+        let even = climb(&rt, rows, width, Player::Even).expect(&rt, "a climb");
+        assert!(rt; is_lifted(&rt, &even, EvenWins::All), "Even, {rows} rows");
+        let odd = climb(&rt, rows, width, Player::Odd).expect(&rt, "a climb");
+        assert!(rt; is_lifted(&rt, &odd, EvenWins::None), "Odd, {rows} rows");
     }
-    Ok(())
 }

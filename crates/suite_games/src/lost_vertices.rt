@@ -14,7 +14,7 @@ use samples::texts::{form_of, system_of};
 use search::lost::Lost;
 use search::predecessors::Predecessors;
 use std::alloc::{AllocError, Global};
-use std::test::Fail;
+use std::process::Abort;
 use std::thread::Threads;
 
 // Games, and who wins each vertex.
@@ -80,10 +80,15 @@ fn agree(game: &Game, lost: &Lost, settled: &Settled) -> bool
     true
 }
 
-fn is_found(alloc: Global, game: &Game) -> Result<bool, Fail> {
-    let lost = Lost::of(alloc, game, &Predecessors::of(alloc, game)?)?;
-    let settled = solve_one(alloc, game)?;
-    Ok(agree(game, &lost, &settled))
+fn is_found(rt: &(impl Abort + AllocGlobal), game: &Game) -> bool {
+    let lost = Lost::of(
+        rt.alloc(),
+        game,
+        &Predecessors::of(rt.alloc(), game).expect(rt, "memory"),
+    )
+    .expect(rt, "memory");
+    let settled = solve_one(rt.alloc(), game).expect(rt, "memory");
+    agree(game, &lost, &settled)
 }
 
 // Whether the search finds just the vertices with an `o`.
@@ -94,25 +99,25 @@ fn are_lost(lost: &Lost, winners: &str) -> bool {
 }
 
 #[test]
-fn small_games_are_searched(rt: HostRuntime) -> Result<(), Fail> {
+fn small_games_are_searched(rt: HostRuntime) {
     for (rows, winners) in &GAMES {
-        let game = game_of(&rt, rows)?;
-        let predecessors = Predecessors::of(rt.alloc(), &game)?;
-        let lost = Lost::of(rt.alloc(), &game, &predecessors)?;
+        let game = game_of(&rt, rows).expect(&rt, "a game");
+        let predecessors = Predecessors::of(rt.alloc(), &game).expect(&rt, "memory");
+        let lost = Lost::of(rt.alloc(), &game, &predecessors).expect(&rt, "memory");
         assert!(rt; are_lost(&lost, winners), "{winners}");
-        assert!(rt; is_found(rt.alloc(), &game)?, "{winners}");
+        assert!(rt; is_found(&rt, &game), "{winners}");
     }
-    Ok(())
 }
 
 #[test]
-fn games_at_random_are_searched(rt: HostRuntime) -> Result<(), Fail> {
+fn games_at_random_are_searched(rt: HostRuntime) {
     let mut dice = Dice::new(1);
     for number in 0..300 {
-        let game = roll_game(&rt, &mut dice, 10, 6)?.ok_or("no game")?;
-        assert!(rt; is_found(rt.alloc(), &game)?, "{number}");
+        let game = roll_game(&rt, &mut dice, 10, 6)
+            .expect(&rt, "memory")
+            .expect(&rt, "a game");
+        assert!(rt; is_found(&rt, &game), "{number}");
     }
-    Ok(())
 }
 
 const STATES: u32 = 20_000;
@@ -129,11 +134,11 @@ fn branching(alloc: Global) -> Result<String, AllocError> {
     Ok(text)
 }
 
-fn branching_game(rt: &(impl AllocGlobal + Threads + Sync)) -> Result<Game, Fail> {
-    let text = branching(rt.alloc())?;
-    let lts = system_of(rt.alloc(), text.as_str())?;
-    let form = form_of(rt.alloc(), "mu X. (<c>true || <true>X)").ok_or("no form")?;
-    Ok(build(rt, rt.alloc(), &lts, &form)?)
+fn branching_game(rt: &(impl Abort + AllocGlobal + Threads + Sync)) -> Game {
+    let text = branching(rt.alloc()).expect(rt, "memory");
+    let lts = system_of(rt.alloc(), text.as_str()).expect(rt, "a system");
+    let form = form_of(rt.alloc(), "mu X. (<c>true || <true>X)").expect(rt, "a normal form");
+    build(rt, rt.alloc(), &lts, &form).expect(rt, "memory")
 }
 
 // Whether Even wins just the vertex of truth, and the fourth of the six nodes at each state, which is `true`.
@@ -151,10 +156,9 @@ fn are_trues(game: &Game, settled: &Settled) -> bool
 
 // Lifting alone would take minutes, which is more than a test has.
 #[test]
-fn what_is_lost_is_found_at_once(rt: HostRuntime) -> Result<(), Fail> {
-    let game = branching_game(&rt)?;
-    let settled = solve_one(rt.alloc(), &game)?;
+fn what_is_lost_is_found_at_once(rt: HostRuntime) {
+    let game = branching_game(&rt);
+    let settled = solve_one(rt.alloc(), &game).expect(&rt, "memory");
     assert!(rt; game.vertices() == 2 + 6 * STATES);
     assert!(rt; are_trues(&game, &settled));
-    Ok(())
 }

@@ -11,10 +11,9 @@ use measures::progs::is_measure;
 use measures::rank::{of_rank, rank, top_rank};
 use measures::settle::settle;
 use measures::table::opening;
-use samples::games::{Row, game_of, push};
+use samples::games::{Row, push, shared_game_of};
 use std::process::Abort;
 use std::sync::Arc;
-use std::test::Fail;
 use std::thread::map_indices;
 use tables::board::Board;
 use tables::error::TableError;
@@ -35,17 +34,17 @@ const DIAMOND: [Row; 6] = [
 const TURNS: u32 = 10_000_000;
 
 // Loops of Even: 15 of each odd priority from 3 to 31, and so many of priority 1.
-fn loops(rt: &(impl Abort + AllocGlobal), ones: u32) -> Result<Game, Fail> {
+fn loops(rt: &(impl Abort + AllocGlobal), ones: u32) -> Game {
     let mut builder = GameBuilder::new(rt.alloc());
     let mut v = 0;
     for half in 0..16u8 {
         let times = if half == 0 { ones } else { 15 };
         for _ in 0..times {
-            push(&mut builder, Player::Even, 2 * half + 1, &[v])?;
+            push(&mut builder, Player::Even, 2 * half + 1, &[v]).expect(rt, "memory");
             v = v.wrapping_add(1);
         }
     }
-    Ok(builder.finish().ok_or("no game")?)
+    builder.finish().expect(rt, "a game")
 }
 
 // The counts of a measure of the game have this rank, and the rank has them.
@@ -61,8 +60,8 @@ fn has_rank(rt: &impl Abort, game: &Game, counts: &[u32; 2], wanted: u64) {
 }
 
 #[test]
-fn the_rank_is_the_number_of_the_lesser_measures(rt: HostRuntime) -> Result<(), Fail> {
-    let game = nested(&rt)?;
+fn the_rank_is_the_number_of_the_lesser_measures(rt: HostRuntime) {
+    let game = nested(&rt);
     has_rank(&rt, &game, &[1, 1], 5);
     has_rank(&rt, &game, &[2, 0], 8);
     has_rank(&rt, &game, &[0, 0], 0);
@@ -72,25 +71,23 @@ fn the_rank_is_the_number_of_the_lesser_measures(rt: HostRuntime) -> Result<(), 
     };
     assert_eq!(&rt; top, 12);
     assert!(&rt; of_rank(&game, top).is_top());
-    Ok(())
 }
 
 #[test]
-fn top_has_a_rank_just_below_the_limit(rt: HostRuntime) -> Result<(), Fail> {
-    let many = Arc::new(rt.alloc(), loops(&rt, 3)?)?;
+fn top_has_a_rank_just_below_the_limit(rt: HostRuntime) {
+    let many = Arc::new(rt.alloc(), loops(&rt, 3)).expect(&rt, "memory");
     assert!(&rt; top_rank(&many).is_none());
     let refused = PackedBoard::new(rt.alloc(), many, 1);
     assert!(&rt; matches!(&refused, Err(TableError::TooManyRanks)));
-    let few = Arc::new(rt.alloc(), loops(&rt, 2)?)?;
+    let few = Arc::new(rt.alloc(), loops(&rt, 2)).expect(&rt, "memory");
     assert!(&rt; top_rank(&few) == Some(3 << 60));
     let board = PackedBoard::new(rt.alloc(), few, 1);
     assert!(&rt; board.is_ok());
-    Ok(())
 }
 
 #[test]
-fn a_vertex_is_lifted_once(rt: HostRuntime) -> Result<(), Fail> {
-    let game = Arc::new(rt.alloc(), game_of(&rt, &DIAMOND)?)?;
+fn a_vertex_is_lifted_once(rt: HostRuntime) {
+    let game = shared_game_of(&rt, &DIAMOND).expect(&rt, "a game");
     assert!(&rt; 4 < game.vertices());
     let Ok(board) = PackedBoard::new(rt.alloc(), game, 1) else {
         panic!(&rt; "no board")
@@ -106,17 +103,16 @@ fn a_vertex_is_lifted_once(rt: HostRuntime) -> Result<(), Fail> {
         panic!(&rt; "no table")
     };
     assert!(&rt; table.value(4).is_top());
-    Ok(())
 }
 
 #[test]
-fn a_vertex_is_raised_once(rt: HostRuntime) -> Result<(), Fail> {
-    let game = Arc::new(rt.alloc(), game_of(&rt, &DIAMOND)?)?;
+fn a_vertex_is_raised_once(rt: HostRuntime) {
+    let game = shared_game_of(&rt, &DIAMOND).expect(&rt, "a game");
     assert!(&rt; 4 < game.vertices());
-    let mut source = opening(rt.alloc(), &game)?;
+    let mut source = opening(rt.alloc(), &game).expect(&rt, "memory");
     settle(&game, &mut source);
     let top = source.value(4);
-    let mut table = opening(rt.alloc(), &game)?;
+    let mut table = opening(rt.alloc(), &game).expect(&rt, "memory");
     let Ok(board) = PackedBoard::new(rt.alloc(), game, 1) else {
         panic!(&rt; "no board")
     };
@@ -129,12 +125,11 @@ fn a_vertex_is_raised_once(rt: HostRuntime) -> Result<(), Fail> {
     assert!(&rt; !board.raise(&mut seat, 4, &top), "it rises once");
     board.finish(&mut table);
     assert!(&rt; table.value(4).is_top() && !table.value(2).is_top());
-    Ok(())
 }
 
 #[test]
-fn a_vertex_is_lifted_in_the_board_s_own_way(rt: HostRuntime) -> Result<(), Fail> {
-    let game = Arc::new(rt.alloc(), game_of(&rt, &DIAMOND)?)?;
+fn a_vertex_is_lifted_in_the_board_s_own_way(rt: HostRuntime) {
+    let game = shared_game_of(&rt, &DIAMOND).expect(&rt, "a game");
     assert!(&rt; 4 < game.vertices());
     let Ok(board) = PackedBoard::new(rt.alloc(), game, 1) else {
         panic!(&rt; "no board")
@@ -145,7 +140,6 @@ fn a_vertex_is_lifted_in_the_board_s_own_way(rt: HostRuntime) -> Result<(), Fail
     assert_eq!(&rt; board.own_lift(&mut seat, 4), Some(true), "it rises");
     assert!(&rt; board.read(&mut seat, 4).is_top(), "it is read");
     assert_eq!(&rt; board.own_lift(&mut seat, 4), Some(false), "it rises once");
-    Ok(())
 }
 
 // One thread lifts a vertex, and the other looks at it until it is top.
@@ -167,8 +161,8 @@ fn lifts_or_looks(board: &PackedBoard, thread: usize) -> bool
 }
 
 #[test]
-fn what_one_seat_lifts_another_sees(rt: HostRuntime) -> Result<(), Fail> {
-    let game = Arc::new(rt.alloc(), game_of(&rt, &DIAMOND)?)?;
+fn what_one_seat_lifts_another_sees(rt: HostRuntime) {
+    let game = shared_game_of(&rt, &DIAMOND).expect(&rt, "a game");
     assert!(&rt; 4 < game.vertices());
     let Ok(board) = PackedBoard::new(rt.alloc(), game, 2) else {
         panic!(&rt; "no board")
@@ -181,9 +175,9 @@ fn what_one_seat_lifts_another_sees(rt: HostRuntime) -> Result<(), Fail> {
         &|thread: usize|
             requires { 4 < length (board_game board.now).vertices }
         { lifts_or_looks(board, thread) },
-    )?;
+    )
+    .expect(&rt, "memory");
     assert!(&rt; seen.iter().all(|seen| *seen));
-    Ok(())
 }
 
 // A seat settles the board, and then loads the least measures.
@@ -203,8 +197,8 @@ fn settles_least(board: &PackedBoard) -> bool
 }
 
 #[test]
-fn two_seats_settle_at_once(rt: HostRuntime) -> Result<(), Fail> {
-    let game = Arc::new(rt.alloc(), nested(&rt)?)?;
+fn two_seats_settle_at_once(rt: HostRuntime) {
+    let game = Arc::new(rt.alloc(), nested(&rt)).expect(&rt, "memory");
     assert!(&rt; 18 <= game.vertices());
     let Ok(board) = PackedBoard::new(rt.alloc(), game, 2) else {
         panic!(&rt; "no board")
@@ -217,7 +211,7 @@ fn two_seats_settle_at_once(rt: HostRuntime) -> Result<(), Fail> {
         &|_thread: usize|
             requires { 18 ≤ length (board_game board.now).vertices }
         { settles_least(board) },
-    )?;
+    )
+    .expect(&rt, "memory");
     assert!(&rt; least.iter().all(|least| *least));
-    Ok(())
 }

@@ -11,7 +11,6 @@ use measures::settle::{even_wins, is_settled, settle, solve_one};
 use measures::table::{PlainTable, opening};
 use samples::games::{Row, game_of};
 use std::process::Abort;
-use std::test::Fail;
 
 // The game of `mu Z. nu Y. mu X. (<a>Z || <b>Y)` on the system whose first state leads by a to the second, which leads by b
 // to itself. All vertices are Even's.
@@ -67,8 +66,8 @@ const PROGS: [(u32, [u32; 2], Option<[u32; 2]>); 5] = [
     (5, [1, 3], Some([1, 3])),
 ];
 
-pub fn nested(rt: &(impl Abort + AllocGlobal)) -> Result<Game, Fail> {
-    game_of(rt, &NESTED)
+pub fn nested(rt: &(impl Abort + AllocGlobal)) -> Game {
+    game_of(rt, &NESTED).expect(rt, "a game")
 }
 
 pub fn is_as_wanted(m: &Measure, want: &Option<[u32; 2]>) -> bool {
@@ -79,24 +78,22 @@ pub fn is_as_wanted(m: &Measure, want: &Option<[u32; 2]>) -> bool {
 }
 
 #[test]
-fn finds_the_least_measures(rt: HostRuntime) -> Result<(), Fail> {
-    let game = nested(&rt)?;
-    let settled = solve_one(rt.alloc(), &game)?;
+fn finds_the_least_measures(rt: HostRuntime) {
+    let game = nested(&rt);
+    let settled = solve_one(rt.alloc(), &game).expect(&rt, "memory");
     for (v, want) in (0..18).zip(LEAST.iter()) {
         assert!(rt; v < game.vertices());
         assert!(rt; is_as_wanted(&settled.value(v), want), "at {v}");
     }
-    Ok(())
 }
 
 #[test]
-fn settles_the_opening_table(rt: HostRuntime) -> Result<(), Fail> {
-    let game = nested(&rt)?;
-    let mut table = opening(rt.alloc(), &game)?;
+fn settles_the_opening_table(rt: HostRuntime) {
+    let game = nested(&rt);
+    let mut table = opening(rt.alloc(), &game).expect(&rt, "memory");
     assert!(rt; !is_settled(&game, &table));
     settle(&game, &mut table);
     assert!(rt; is_settled(&game, &table));
-    Ok(())
 }
 
 // A table is raised at one vertex, to what another has there.
@@ -110,18 +107,21 @@ fn rises(rt: &impl Abort, table: &mut PlainTable, source: &PlainTable)
 }
 
 #[test]
-fn raises_one_vertex(rt: HostRuntime) -> Result<(), Fail> {
-    let game = nested(&rt)?;
-    let mut source = opening(rt.alloc(), &game)?;
+fn raises_one_vertex(rt: HostRuntime) {
+    let game = nested(&rt);
+    let mut source = opening(rt.alloc(), &game).expect(&rt, "memory");
     settle(&game, &mut source);
     assert!(rt; 4 < game.vertices());
-    rises(&rt, &mut opening(rt.alloc(), &game)?, &source);
-    Ok(())
+    rises(
+        &rt,
+        &mut opening(rt.alloc(), &game).expect(&rt, "memory"),
+        &source,
+    );
 }
 
 #[test]
-fn asks_for_the_least(rt: HostRuntime) -> Result<(), Fail> {
-    let game = nested(&rt)?;
+fn asks_for_the_least(rt: HostRuntime) {
+    let game = nested(&rt);
     for (v, counts, want) in &PROGS {
         let m = Measure::of_counts(counts);
         assert!(rt; *v < game.vertices());
@@ -130,25 +130,24 @@ fn asks_for_the_least(rt: HostRuntime) -> Result<(), Fail> {
         let lifted = lift(&game, *v, &Measure::of_counts(&[0, 0]), &[m]);
         assert!(rt; is_as_wanted(&lifted, want), "lifted at {v}");
     }
-    Ok(())
 }
 
 // Whether Even wins each of two vertices between which the play goes round.
-fn wins(rt: &(impl Abort + AllocGlobal), priority: u8) -> Result<(bool, bool), Fail> {
+fn wins(rt: &(impl Abort + AllocGlobal), priority: u8) -> (bool, bool) {
     let game = game_of(
         rt,
         &[(Player::Even, 0, &[1]), (Player::Odd, priority, &[0])],
-    )?;
-    let settled = solve_one(rt.alloc(), &game)?;
+    )
+    .expect(rt, "a game");
+    let settled = solve_one(rt.alloc(), &game).expect(rt, "memory");
     assert!(rt; game.vertices() == 2);
-    Ok((even_wins(&settled, 0), even_wins(&settled, 1)))
+    (even_wins(&settled, 0), even_wins(&settled, 1))
 }
 
 #[test]
-fn tells_who_wins(rt: HostRuntime) -> Result<(), Fail> {
-    assert!(rt; wins(&rt, 2)? == (true, true));
-    assert!(rt; wins(&rt, 1)? == (false, false));
-    Ok(())
+fn tells_who_wins(rt: HostRuntime) {
+    assert!(rt; wins(&rt, 2) == (true, true));
+    assert!(rt; wins(&rt, 1) == (false, false));
 }
 
 #[test]

@@ -9,7 +9,7 @@ use measures::settle::{first_table, settle, solve_one};
 use measures::table::{PlainTable, Settled, opening};
 use samples::dice::{Dice, roll_game};
 use std::alloc::Global;
-use std::test::Fail;
+use std::process::Abort;
 
 /// The least progress table, from the opening one by lifting alone.
 pub fn lifted_alone(alloc: Global, game: &Game) -> Result<PlainTable, Memory>
@@ -51,22 +51,23 @@ fn are_claimed(game: &Game, first: &PlainTable, solved: &Settled) -> bool
     true
 }
 
-fn ends_alike(alloc: Global, game: &Game) -> Result<bool, Fail> {
-    let first = first_table(alloc, game)?;
-    let solved = solve_one(alloc, game)?;
-    let lifted = lifted_alone(alloc, game)?;
+fn ends_alike(rt: &(impl Abort + AllocGlobal), game: &Game) -> bool {
+    let first = first_table(rt.alloc(), game).expect(rt, "memory");
+    let solved = solve_one(rt.alloc(), game).expect(rt, "memory");
+    let lifted = lifted_alone(rt.alloc(), game).expect(rt, "memory");
     let is_found = !can_climb(game) || are_claimed(game, &first, &solved);
-    Ok(is_found && is_same(game, &solved, &lifted))
+    is_found && is_same(game, &solved, &lifted)
 }
 
 #[test]
-fn claims_and_lifting_alone_end_alike(rt: HostRuntime) -> Result<(), Fail> {
+fn claims_and_lifting_alone_end_alike(rt: HostRuntime) {
     let mut dice = Dice::new(20);
     for number in 0..2_000 {
         let vertices = 1 + dice.roll(16);
         let priorities = 1 + dice.roll(8);
-        let game = roll_game(&rt, &mut dice, vertices, priorities)?.ok_or("no game")?;
-        assert!(rt; ends_alike(rt.alloc(), &game)?, "{number}");
+        let game = roll_game(&rt, &mut dice, vertices, priorities)
+            .expect(&rt, "memory")
+            .expect(&rt, "a game");
+        assert!(rt; ends_alike(&rt, &game), "{number}");
     }
-    Ok(())
 }

@@ -14,7 +14,6 @@ use samples::dice::{Dice, roll_game};
 use samples::games::game_of;
 use std::alloc::{AllocError, Global};
 use std::process::Abort;
-use std::test::Fail;
 
 const WORKERS: usize = 3;
 
@@ -145,35 +144,34 @@ fn has_table(game: &Game, core: &Core<'_>, settled: &Settled) -> bool
 }
 
 /// Replays so many events at random from the start.
-fn replay_at_random(
-    rt: &(impl Abort + AllocGlobal),
-    dice: &mut Dice,
-    game: &Game,
-    events: usize,
-) -> Result<(), Fail> {
+fn replay_at_random(rt: &(impl Abort + AllocGlobal), dice: &mut Dice, game: &Game, events: usize) {
     let vertices = game.vertices();
     assert!(rt; vertices > 0);
-    let settled = solve_one(rt.alloc(), game)?;
-    let mut core = Core::new(rt.alloc(), game, WORKERS)?;
-    let mut told = Told::new(rt.alloc(), vertices)?;
+    let settled = solve_one(rt.alloc(), game).expect(rt, "memory");
+    let mut core = Core::new(rt.alloc(), game, WORKERS).expect(rt, "memory");
+    let mut told = Told::new(rt.alloc(), vertices).expect(rt, "memory");
     for number in 0..events {
         step(game, &mut core, &mut told, roll_event(dice, vertices));
         assert!(rt; agree(&core, &told), "{number}");
     }
     assert!(rt; core.is_settled() == has_table(game, &core, &settled));
     assert!(rt; core.is_settled() || !core.is_quiet());
-    Ok(())
 }
 
 #[test]
-fn random_events_agree_with_their_outcomes(rt: HostRuntime) -> Result<(), Fail> {
+fn random_events_agree_with_their_outcomes(rt: HostRuntime) {
     let mut dice = Dice::new(6);
-    let rolled = roll_game(&rt, &mut dice, 12, 6)?.ok_or("no game")?;
-    let games = [game_of(&rt, &STEP)?, game_of(&rt, &TWO_STEPS)?, rolled];
+    let rolled = roll_game(&rt, &mut dice, 12, 6)
+        .expect(&rt, "memory")
+        .expect(&rt, "a game");
+    let games = [
+        game_of(&rt, &STEP).expect(&rt, "a game"),
+        game_of(&rt, &TWO_STEPS).expect(&rt, "a game"),
+        rolled,
+    ];
     for game in &games {
         for _ in 0..20 {
-            replay_at_random(&rt, &mut dice, game, 5_000)?;
+            replay_at_random(&rt, &mut dice, game, 5_000);
         }
     }
-    Ok(())
 }

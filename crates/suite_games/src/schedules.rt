@@ -7,8 +7,7 @@ use liftcore::machine::{Core, run};
 use liftcore::schedule::read_schedule;
 use liftcore::writer::write_replay;
 use samples::games::{Row, game_of};
-use std::alloc::Global;
-use std::test::Fail;
+use std::process::Abort;
 
 // The game of `<a>true` on two states, of which the first leads to the second by a, and the second to the first by b.
 pub const STEP: [Row; 6] = [
@@ -33,16 +32,16 @@ pub const TWO_STEPS: [Row; 8] = [
 ];
 
 // What a schedule for two workers comes to, or its refusal.
-fn replayed(alloc: Global, game: &Game, schedule: &str) -> Result<String, Fail> {
-    let events = match read_schedule(alloc, schedule.as_bytes(), 2, game.vertices()) {
+fn replayed(rt: &(impl Abort + AllocGlobal), game: &Game, schedule: &str) -> String {
+    let events = match read_schedule(rt.alloc(), schedule.as_bytes(), 2, game.vertices()) {
         Ok(events) => events,
-        Err(error) => return Ok(error.to_string(alloc)?),
+        Err(error) => return error.to_string(rt.alloc()).expect(rt, "memory"),
     };
-    let mut core = Core::new(alloc, game, 2)?;
+    let mut core = Core::new(rt.alloc(), game, 2).expect(rt, "memory");
     let tally = core.follow(events.as_slice());
-    let mut text = Vec::new(alloc);
-    write_replay(&core, tally, &mut text)?;
-    Ok(String::from_utf8(text).ok().ok_or("no text")?)
+    let mut text = Vec::new(rt.alloc());
+    write_replay(&core, tally, &mut text).expect(rt, "memory");
+    String::from_utf8(text).ok().expect(rt, "a text")
 }
 
 const STEP_RAISED: &str =
@@ -55,35 +54,33 @@ const LATE_RAISED: &str =
     "0 (0)\n1 top\n2 top\n3 (0)\n4 (0)\n5 top\n6 top\n7 (0)\npending 0,1,3,4,7\nsettled yes\nquiet no\n";
 
 // The first line and the rest.
-fn after(alloc: Global, first: &str, rest: &str) -> Result<String, Fail> {
-    let mut text = String::from_str(alloc, first)?;
-    text.push_str(rest)?;
-    Ok(text)
+fn after(rt: &(impl Abort + AllocGlobal), first: &str, rest: &str) -> String {
+    let mut text = String::from_str(rt.alloc(), first).expect(rt, "memory");
+    text.push_str(rest).expect(rt, "memory");
+    text
 }
 
 #[test]
-fn one_step_is_replayed(rt: HostRuntime) -> Result<(), Fail> {
-    let game = game_of(&rt, &STEP)?;
-    let text = replayed(rt.alloc(), &game, "take 0 4\nread 0 1\nraise 0\n")?;
-    let wanted = after(rt.alloc(), "events 3 done 3 skipped 0\n", STEP_RAISED)?;
+fn one_step_is_replayed(rt: HostRuntime) {
+    let game = game_of(&rt, &STEP).expect(&rt, "a game");
+    let text = replayed(&rt, &game, "take 0 4\nread 0 1\nraise 0\n");
+    let wanted = after(&rt, "events 3 done 3 skipped 0\n", STEP_RAISED);
     assert!(rt; text.as_str() == wanted.as_str());
-    let text = replayed(rt.alloc(), &game, "take 0 4\nread 0 1\nraise 0\nraise 0")?;
-    let wanted = after(rt.alloc(), "events 4 done 3 skipped 1\n", STEP_RAISED)?;
+    let text = replayed(&rt, &game, "take 0 4\nread 0 1\nraise 0\nraise 0");
+    let wanted = after(&rt, "events 4 done 3 skipped 1\n", STEP_RAISED);
     assert!(rt; text.as_str() == wanted.as_str());
-    Ok(())
 }
 
 #[test]
-fn a_late_read_does_no_harm(rt: HostRuntime) -> Result<(), Fail> {
-    let game = game_of(&rt, &TWO_STEPS)?;
-    let text = replayed(rt.alloc(), &game, LATE)?;
-    let wanted = after(rt.alloc(), "events 13 done 13 skipped 0\n", LATE_RAISED)?;
+fn a_late_read_does_no_harm(rt: HostRuntime) {
+    let game = game_of(&rt, &TWO_STEPS).expect(&rt, "a game");
+    let text = replayed(&rt, &game, LATE);
+    let wanted = after(&rt, "events 13 done 13 skipped 0\n", LATE_RAISED);
     assert!(rt; text.as_str() == wanted.as_str());
-    let late = after(rt.alloc(), "raise 0\n", LATE)?;
-    let text = replayed(rt.alloc(), &game, late.as_str())?;
-    let wanted = after(rt.alloc(), "events 14 done 13 skipped 1\n", LATE_RAISED)?;
+    let late = after(&rt, "raise 0\n", LATE);
+    let text = replayed(&rt, &game, late.as_str());
+    let wanted = after(&rt, "events 14 done 13 skipped 1\n", LATE_RAISED);
     assert!(rt; text.as_str() == wanted.as_str());
-    Ok(())
 }
 
 // Schedules for two workers and eight vertices, and their refusals.
@@ -100,29 +97,27 @@ const REFUSED: [(&str, &str); 9] = [
 ];
 
 #[test]
-fn faulty_schedules_are_refused(rt: HostRuntime) -> Result<(), Fail> {
-    let game = game_of(&rt, &TWO_STEPS)?;
+fn faulty_schedules_are_refused(rt: HostRuntime) {
+    let game = game_of(&rt, &TWO_STEPS).expect(&rt, "a game");
     for (schedule, wanted) in &REFUSED {
-        let text = replayed(rt.alloc(), &game, schedule)?;
+        let text = replayed(&rt, &game, schedule);
         assert!(rt; text.as_str() == *wanted);
     }
-    Ok(())
 }
 
 #[test]
-fn the_empty_text_is_a_schedule(rt: HostRuntime) -> Result<(), Fail> {
-    let game = game_of(&rt, &STEP)?;
-    let text = replayed(rt.alloc(), &game, "")?;
+fn the_empty_text_is_a_schedule(rt: HostRuntime) {
+    let game = game_of(&rt, &STEP).expect(&rt, "a game");
+    let text = replayed(&rt, &game, "");
     let wanted =
         "events 0 done 0 skipped 0\n0 (0)\n1 top\n2 (0)\n3 (0)\n4 (0)\n5 (0)\npending 0,1,2,3,4,5\nsettled no\nquiet no\n";
     assert!(rt; text.as_str() == wanted);
-    Ok(())
 }
 
 #[test]
-fn events_that_cannot_be_done_are_skipped(rt: HostRuntime) -> Result<(), Fail> {
-    let game = game_of(&rt, &STEP)?;
-    let mut core = Core::new(rt.alloc(), &game, 1)?;
+fn events_that_cannot_be_done_are_skipped(rt: HostRuntime) {
+    let game = game_of(&rt, &STEP).expect(&rt, "a game");
+    let mut core = Core::new(rt.alloc(), &game, 1).expect(&rt, "memory");
     let skipped = [
         Event::Read {
             worker: 0,
@@ -167,13 +162,12 @@ fn events_that_cannot_be_done_are_skipped(rt: HostRuntime) -> Result<(), Fail> {
         Outcome::Skipped
     );
     assert!(rt; !core.is_pending(4) && core.is_pending(5));
-    Ok(())
 }
 
 #[test]
-fn a_quiet_core_is_settled(rt: HostRuntime) -> Result<(), Fail> {
-    let game = game_of(&rt, &STEP)?;
-    let mut core = Core::new(rt.alloc(), &game, 1)?;
+fn a_quiet_core_is_settled(rt: HostRuntime) {
+    let game = game_of(&rt, &STEP).expect(&rt, "a game");
+    let mut core = Core::new(rt.alloc(), &game, 1).expect(&rt, "memory");
     for vertex in 0..game.vertices() {
         for next in game.successors(vertex) {
             core.step(Event::Take { worker: 0, vertex });
@@ -185,12 +179,11 @@ fn a_quiet_core_is_settled(rt: HostRuntime) -> Result<(), Fail> {
         }
     }
     assert!(rt; core.is_quiet() && core.is_settled());
-    Ok(())
 }
 
 #[test]
-fn a_run_is_its_events(rt: HostRuntime) -> Result<(), Fail> {
-    let game = game_of(&rt, &STEP)?;
+fn a_run_is_its_events(rt: HostRuntime) {
+    let game = game_of(&rt, &STEP).expect(&rt, "a game");
     let events = [
         Event::Take {
             worker: 0,
@@ -202,7 +195,6 @@ fn a_run_is_its_events(rt: HostRuntime) -> Result<(), Fail> {
         },
         Event::Raise { worker: 0 },
     ];
-    let core = run(rt.alloc(), &game, 1, events.as_slice())?;
+    let core = run(rt.alloc(), &game, 1, events.as_slice()).expect(&rt, "memory");
     assert!(rt; core.is_settled() && !core.is_quiet() && !core.is_pending(4));
-    Ok(())
 }

@@ -1,6 +1,6 @@
 // Parts of systems on which answers rest: each is written, read again and checked by sets of states, which know no game.
 
-ghost use Rattle.std.specs.Prelude.{◌≡◌, ◌<◌, ◌≤◌, IfOk};
+ghost use Rattle.std.specs.Prelude.{◌≡◌, ◌<◌, ◌≤◌};
 ghost use Rattle.lts.specs.Numbered.{IsInside};
 ghost use Rattle.normal.specs.Normal.{normal_nodes};
 ghost use Rattle.game.specs.Arena.{arena};
@@ -21,7 +21,6 @@ use samples::texts::{RING, form_of, formula_of, system_of};
 use samples::writers::{AMPLE, AtEnd, Narrow};
 use std::alloc::{AllocError, Global};
 use std::process::Abort;
-use std::test::Fail;
 use std::thread::Threads;
 use witness::drawing::write_drawing;
 use witness::part::{has_root, witness};
@@ -34,81 +33,68 @@ const BRANCH: &str = "des (0,4,3)\n(0,\"a\",1)\n(0,\"a\",2)\n(0,\"b\",1)\n(1,\"b
 
 // The witness of the player who wins at the initial state.
 fn part_of_game(
-    alloc: Global,
+    rt: &(impl Abort + AllocGlobal),
     system: &Lts,
     normal: &Normal,
     game: &Game,
-) -> Result<Vec<Transition>, Fail>
+) -> Vec<Transition>
     requires game { game.now ≡ arena system.now.system (normal_nodes normal.now) }
     requires low { greatest game.now ≤ GREATEST_PRIORITY }
-    ensures { IfOk result (λ part. IsInside system.now part.items) }
+    ensures { IsInside system.now result.items }
 {
-    let settled = solve_one(alloc, game)?;
-    let even = even_evidence(alloc, game, &settled)?;
+    let settled = solve_one(rt.alloc(), game).expect(rt, "memory");
+    let even = even_evidence(rt.alloc(), game, &settled).expect(rt, "memory");
     if has_root(system, normal, game, &even) {
-        return Ok(witness(alloc, system, normal, game, &even)?);
+        return witness(rt.alloc(), system, normal, game, &even).expect(rt, "memory");
     }
-    let odd = odd_evidence(alloc, game)?;
+    let odd = odd_evidence(rt.alloc(), game).expect(rt, "memory");
     if has_root(system, normal, game, &odd) {
-        return Ok(witness(alloc, system, normal, game, &odd)?);
+        return witness(rt.alloc(), system, normal, game, &odd).expect(rt, "memory");
     }
-    Err(Fail::new("neither player has the initial state"))
+    panic!(rt; "neither player has the initial state")
 }
 
 // The witness of a formula.
 fn part_of(
-    rt: &(impl AllocGlobal + Threads + Sync),
+    rt: &(impl Abort + AllocGlobal + Threads + Sync),
     system: &Lts,
     formula: &Closed,
-) -> Result<Vec<Transition>, Fail>
-    ensures { IfOk result (λ part. IsInside system.now part.items) }
+) -> Vec<Transition>
+    ensures { IsInside system.now result.items }
 {
-    let normal = normal(rt.alloc(), formula)?;
-    let game = build(rt, rt.alloc(), system, &normal)?;
-    part_of_game(rt.alloc(), system, &normal, &game)
+    let normal = normal(rt.alloc(), formula).expect(rt, "a normal form");
+    let game = build(rt, rt.alloc(), system, &normal).expect(rt, "memory");
+    part_of_game(rt, system, &normal, &game)
 }
 
 // The text of a part.
-fn written(
-    rt: &(impl Abort + AllocGlobal),
-    system: &Lts,
-    part: &[Transition],
-) -> Result<Vec<u8>, AllocError>
+fn written(rt: &(impl Abort + AllocGlobal), system: &Lts, part: &[Transition]) -> Vec<u8>
     requires { IsInside system.now part.now }
 {
     let mut out = Narrow::new(rt.alloc(), 5, AMPLE);
     assert!(rt; write_part(system, part, &mut out).is_ok());
-    Ok(out.taken)
+    out.taken
 }
 
 // Whether the formula holds at the initial state, by sets of states.
-fn holds_at_first(alloc: Global, system: &Lts, formula: &Closed) -> Result<bool, Fail> {
-    let marks = plain_states(alloc, system, formula)?;
-    Ok(
-        marks
-            .get(system.initial() as usize)
-            .copied()
-            .unwrap_or(false),
-    )
+fn holds_at_first(rt: &(impl Abort + AllocGlobal), system: &Lts, formula: &Closed) -> bool {
+    let marks = plain_states(rt.alloc(), system, formula).expect(rt, "memory");
+    marks
+        .get(system.initial() as usize)
+        .copied()
+        .unwrap_or(false)
 }
 
 // The part is a system, in which the formula holds at the initial state where it holds there in the whole. It answers the part's text.
-fn shows(
-    rt: &(impl Abort + AllocGlobal + Threads + Sync),
-    system: &Lts,
-    text: &str,
-) -> Result<Vec<u8>, Fail> {
-    let formula = formula_of(rt.alloc(), text)?;
-    let part = part_of(rt, system, &formula)?;
-    let bytes = written(rt, system, &part)?;
-    let read = read_aut(rt.alloc(), bytes.as_slice())?;
-    let first = holds_at_first(rt.alloc(), system, &formula)?;
-    assert!(rt;
-        holds_at_first(rt.alloc(), &read, &formula)? == first,
-        "{text}"
-    );
+fn shows(rt: &(impl Abort + AllocGlobal + Threads + Sync), system: &Lts, text: &str) -> Vec<u8> {
+    let formula = formula_of(rt.alloc(), text).expect(rt, "a formula");
+    let part = part_of(rt, system, &formula);
+    let bytes = written(rt, system, &part);
+    let read = read_aut(rt.alloc(), bytes.as_slice()).expect(rt, "a system");
+    let first = holds_at_first(rt, system, &formula);
+    assert!(rt; holds_at_first(rt, &read, &formula) == first, "{text}");
     assert!(rt; read.states() == system.states() && read.transitions() == part.len());
-    Ok(bytes)
+    bytes
 }
 
 // Systems, formulas, and the parts on which the answers rest, worked out by hand.
@@ -133,13 +119,12 @@ const ROWS: [(&str, &str, &str); 13] = [
 ];
 
 #[test]
-fn parts_have_what_the_answer_rests_on(rt: HostRuntime) -> Result<(), Fail> {
+fn parts_have_what_the_answer_rests_on(rt: HostRuntime) {
     for (system, formula, wanted) in &ROWS {
-        let system = system_of(rt.alloc(), system)?;
-        let bytes = shows(&rt, &system, formula)?;
+        let system = system_of(rt.alloc(), system).expect(&rt, "a system");
+        let bytes = shows(&rt, &system, formula);
         assert!(rt; bytes.as_slice() == wanted.as_bytes(), "{formula}");
     }
-    Ok(())
 }
 
 // ---- systems at random
@@ -156,35 +141,36 @@ const FORMULAS: [&str; 8] = [
 ];
 
 // A system of so many states, with a transition by one of three labels from each state to some.
-fn roll_system(alloc: Global, dice: &mut Dice, states: u32) -> Result<Lts, Fail>
+fn roll_system(rt: &(impl Abort + AllocGlobal), dice: &mut Dice, states: u32) -> Lts
     requires { 0 < states }
 {
-    let mut lines = String::new(alloc);
+    let mut lines = String::new(rt.alloc());
     let mut count = 0u32;
     for source in 0..states {
         for target in 0..states {
             if dice.roll(3) == 0 {
                 let label = ["a", "b", "c"][dice.roll(3) as usize];
-                write!(lines, "({source},\"{label}\",{target})\n")?;
+                write!(lines, "({source},\"{label}\",{target})\n").expect(rt, "memory");
                 count = count.saturating_add(1);
             }
         }
     }
     let initial = dice.roll(states);
-    let text = format!(in alloc; "des ({initial},{count},{states})\n{lines}")?;
-    Ok(system_of(alloc, text.as_str())?)
+    let text = format!(in rt.alloc(); "des ({initial},{count},{states})\n{lines}").expect(
+        rt, "memory",
+    );
+    system_of(rt.alloc(), text.as_str()).expect(rt, "a system")
 }
 
 #[test]
-fn parts_at_random_say_what_the_whole_says(rt: HostRuntime) -> Result<(), Fail> {
+fn parts_at_random_say_what_the_whole_says(rt: HostRuntime) {
     let mut dice = Dice::new(7);
     for round in 0..300u32 {
-        let system = roll_system(rt.alloc(), &mut dice, 2 + round % 5)?;
+        let system = roll_system(&rt, &mut dice, 2 + round % 5);
         for formula in &FORMULAS {
-            shows(&rt, &system, formula)?;
+            shows(&rt, &system, formula);
         }
     }
-    Ok(())
 }
 
 // ---- deadlocks
@@ -240,20 +226,19 @@ fn way_of(system: &Lts, part: &[Transition]) -> Option<u32> {
 
 // The evidence's ranks count the steps here, and its moves have the least; so the way is a shortest one.
 #[test]
-fn a_deadlock_is_shown_by_a_shortest_way(rt: HostRuntime) -> Result<(), Fail> {
-    let formula = formula_of(rt.alloc(), "[true*]<true>true")?;
+fn a_deadlock_is_shown_by_a_shortest_way(rt: HostRuntime) {
+    let formula = formula_of(rt.alloc(), "[true*]<true>true").expect(&rt, "a formula");
     let mut dice = Dice::new(11);
     let mut found = 0u32;
     for round in 0..200u32 {
-        let system = roll_system(rt.alloc(), &mut dice, 3 + round % 6)?;
-        if let Some(steps) = steps_to_deadlock(rt.alloc(), &system)? {
-            let part = part_of(&rt, &system, &formula)?;
+        let system = roll_system(&rt, &mut dice, 3 + round % 6);
+        if let Some(steps) = steps_to_deadlock(rt.alloc(), &system).expect(&rt, "memory") {
+            let part = part_of(&rt, &system, &formula);
             assert!(rt; way_of(&system, &part) == Some(steps), "{round}");
             found = found.saturating_add(1);
         }
     }
     assert!(rt; found >= 40, "{found}");
-    Ok(())
 }
 
 // ---- drawings
@@ -265,14 +250,13 @@ const DRAWING: &str =
     "digraph witness {\n  rankdir=LR;\n  node [shape=circle];\n  1 [shape=doublecircle];\n  0 -> 1 [label=\"c\"];\n  1 -> 0 [label=\"a\\\\n\"];\n  1 -> 3 [label=\"b|a\"];\n}\n";
 
 #[test]
-fn drawings_are_to_the_letter(rt: HostRuntime) -> Result<(), Fail> {
-    let system = system_of(rt.alloc(), DRAWN)?;
+fn drawings_are_to_the_letter(rt: HostRuntime) {
+    let system = system_of(rt.alloc(), DRAWN).expect(&rt, "a system");
     for step in [1, 7, 8192] {
         let mut out = Narrow::new(rt.alloc(), step, AMPLE);
         assert!(rt; write_drawing(&system, system.all(), &mut out).is_ok());
         assert!(rt; out.taken.as_slice() == DRAWING.as_bytes());
     }
-    Ok(())
 }
 
 // A writer without room for the whole is given a beginning, and a fault is told.
@@ -285,8 +269,8 @@ fn is_cut(alloc: Global, system: &Lts, room: usize, at_end: AtEnd) -> bool {
 }
 
 #[test]
-fn a_failed_write_leaves_a_beginning_of_the_drawing(rt: HostRuntime) -> Result<(), Fail> {
-    let system = system_of(rt.alloc(), DRAWN)?;
+fn a_failed_write_leaves_a_beginning_of_the_drawing(rt: HostRuntime) {
+    let system = system_of(rt.alloc(), DRAWN).expect(&rt, "a system");
     for room in 0..DRAWING.len() {
         assert!(rt; is_cut(rt.alloc(), &system, room, AtEnd::Fails), "{room}");
         assert!(rt;
@@ -294,20 +278,18 @@ fn a_failed_write_leaves_a_beginning_of_the_drawing(rt: HostRuntime) -> Result<(
             "{room}"
         );
     }
-    Ok(())
 }
 
 // ---- labels by node
 
 // The diamond's `a` and the box's `!a`, by the ring's labels `a` and `b`; the other nodes have no labels.
 #[test]
-fn nodes_know_the_labels_that_pass(rt: HostRuntime) -> Result<(), Fail> {
-    let system = system_of(rt.alloc(), RING)?;
-    let form = form_of(rt.alloc(), "<a>[!a]false").ok_or("no form")?;
-    let sets = label_sets(rt.alloc(), &system, &form)?;
+fn nodes_know_the_labels_that_pass(rt: HostRuntime) {
+    let system = system_of(rt.alloc(), RING).expect(&rt, "a system");
+    let form = form_of(rt.alloc(), "<a>[!a]false").expect(&rt, "a normal form");
+    let sets = label_sets(rt.alloc(), &system, &form).expect(&rt, "memory");
     assert!(rt; sets.len() == 3);
     assert!(rt; sets[0].as_slice() == [true, false].as_slice());
     assert!(rt; sets[1].as_slice() == [false, true].as_slice());
     assert!(rt; sets[2].is_empty());
-    Ok(())
 }

@@ -1,7 +1,6 @@
 // Short lines that are written many at a time. The numbers are counted by hand: 8,192 bytes wait at the most.
 
 use samples::writers::{AMPLE, Narrow};
-use std::alloc::AllocError;
 use std::io;
 use std::io::Write;
 use text::{Lines, WriteFault, put, put_lines};
@@ -47,7 +46,7 @@ impl Write for Counting {
 }
 
 #[test]
-fn a_thousand_short_lines_take_two_writes(rt: HostRuntime) -> Result<(), AllocError> {
+fn a_thousand_short_lines_take_two_writes(rt: HostRuntime) {
     let mut out = Counting {
         taken: Vec::new(rt.alloc()),
         writes: 0,
@@ -64,12 +63,11 @@ fn a_thousand_short_lines_take_two_writes(rt: HostRuntime) -> Result<(), AllocEr
             .chunks(11)
             .all(|line| line == b"0123456789\n".as_slice())
     );
-    Ok(())
 }
 
 #[test]
-fn a_line_that_has_no_room_is_written_by_itself(rt: HostRuntime) -> Result<(), AllocError> {
-    let long = vec![in rt.alloc(); b'x'; 8193]?;
+fn a_line_that_has_no_room_is_written_by_itself(rt: HostRuntime) {
+    let long = vec![in rt.alloc(); b'x'; 8193].expect(&rt, "memory");
     let mut out = Counting {
         taken: Vec::new(rt.alloc()),
         writes: 0,
@@ -81,7 +79,6 @@ fn a_line_that_has_no_room_is_written_by_itself(rt: HostRuntime) -> Result<(), A
     assert!(rt; put_lines(&lines, &mut out).is_ok());
     assert_eq!(rt; out.writes, 3);
     assert_eq!(rt; out.taken.len(), 3 * 8193);
-    Ok(())
 }
 
 #[test]

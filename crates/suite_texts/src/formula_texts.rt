@@ -53,11 +53,15 @@ const REFUSALS: [(&str, &str); 34] = [
 ];
 
 #[test]
-fn the_deciding_fault_is_told(rt: HostRuntime) -> Result<(), AllocError> {
+fn the_deciding_fault_is_told(rt: HostRuntime) {
     for (text, wanted) in &REFUSALS {
-        same(&rt, text, refusal(rt.alloc(), text)?.as_str(), wanted);
+        same(
+            &rt,
+            text,
+            refusal(rt.alloc(), text).expect(&rt, "memory").as_str(),
+            wanted,
+        );
     }
-    Ok(())
 }
 
 // A piece, how often it stands, what follows, another piece and how often that stands; and what is shown.
@@ -75,18 +79,19 @@ const LIMITS: [(&str, usize, &str, &str, usize, &str); 10] = [
 ];
 
 #[test]
-fn limits_are_met_exactly(rt: HostRuntime) -> Result<(), AllocError> {
+fn limits_are_met_exactly(rt: HostRuntime) {
     for (open, times, middle, close, again, wanted) in &LIMITS {
-        let front = repeated(rt.alloc(), "", open, *times, middle)?;
-        let text = repeated(rt.alloc(), front.as_str(), close, *again, "")?;
+        let front = repeated(rt.alloc(), "", open, *times, middle).expect(&rt, "memory");
+        let text = repeated(rt.alloc(), front.as_str(), close, *again, "").expect(&rt, "memory");
         same(
             &rt,
             open,
-            refusal(rt.alloc(), text.as_str())?.as_str(),
+            refusal(rt.alloc(), text.as_str())
+                .expect(&rt, "memory")
+                .as_str(),
             wanted,
         );
     }
-    Ok(())
 }
 
 // Each growth may be refused: then nothing but that is told. `rt try --test --fail-alloc N` refuses the Nth.

@@ -7,7 +7,7 @@ use lts::Label;
 use normal::action::copied;
 use samples::texts::formula_of;
 use std::alloc::{AllocError, Global};
-use std::test::Fail;
+use std::process::Abort;
 
 // The names that a label is read as, each before a stop, or a dash.
 fn names(alloc: Global, label: &Label) -> Result<Vec<u8>, AllocError> {
@@ -40,11 +40,13 @@ const READINGS: [(&str, &str); 6] = [
 ];
 
 #[test]
-fn labels_are_read_as_names(rt: HostRuntime) -> Result<(), AllocError> {
+fn labels_are_read_as_names(rt: HostRuntime) {
     for (text, wanted) in &READINGS {
-        assert!(rt; is_read_as(rt.alloc(), text, wanted)?, "{text}");
+        assert!(rt;
+            is_read_as(rt.alloc(), text, wanted).expect(&rt, "memory"),
+            "{text}"
+        );
     }
-    Ok(())
 }
 
 // Labels, formulas whose modality has an action formula, and whether it holds of the label.
@@ -73,19 +75,18 @@ fn says_of(alloc: Global, formula: &Closed, label: &Label, says: bool) -> Result
     }
 }
 
-fn is_as_wanted(alloc: Global, label: &str, formula: &str, says: bool) -> Result<bool, Fail> {
-    let label = Label::new(alloc, label.as_bytes())?;
-    let formula = formula_of(alloc, formula)?;
-    Ok(says_of(alloc, &formula, &label, says)?)
+fn is_as_wanted(rt: &(impl Abort + AllocGlobal), label: &str, formula: &str, says: bool) -> bool {
+    let label = Label::new(rt.alloc(), label.as_bytes()).expect(rt, "memory");
+    let formula = formula_of(rt.alloc(), formula).expect(rt, "a formula");
+    says_of(rt.alloc(), &formula, &label, says).expect(rt, "memory")
 }
 
 #[test]
-fn action_formulas_hold_of_labels(rt: HostRuntime) -> Result<(), Fail> {
+fn action_formulas_hold_of_labels(rt: HostRuntime) {
     for (label, formula, says) in &ROWS {
         assert!(rt;
-            is_as_wanted(rt.alloc(), label, formula, *says)?,
+            is_as_wanted(&rt, label, formula, *says),
             "{label} {formula}"
         );
     }
-    Ok(())
 }

@@ -4,7 +4,6 @@ use samples::readers::Slow;
 use samples::writers::{AMPLE, Narrow};
 use std::alloc::{AllocError, Global};
 use std::io::BufReader;
-use std::test::Fail;
 use text::scan::{is_end, number, number_before, quoted, sign};
 use text::{Piece, ReadFault, next_line, put_pieces};
 
@@ -51,30 +50,28 @@ fn lines_of(alloc: Global, text: &str) -> Result<Vec<u8>, AllocError> {
 }
 
 #[test]
-fn texts_have_lines(rt: HostRuntime) -> Result<(), AllocError> {
+fn texts_have_lines(rt: HostRuntime) {
     for (text, wanted) in &LINES {
         assert!(rt;
-            lines_of(rt.alloc(), text)?.as_slice() == wanted.as_bytes(),
+            lines_of(rt.alloc(), text).expect(&rt, "memory").as_slice() == wanted.as_bytes(),
             "{wanted}"
         );
     }
-    Ok(())
 }
 
 // The first line is read, and the second one's end fails.
 #[test]
-fn a_failed_read_is_no_line(rt: HostRuntime) -> Result<(), Fail> {
+fn a_failed_read_is_no_line(rt: HostRuntime) {
     let slow = Slow {
         left: b"a\nb",
         step: 1,
         fails: true,
     };
-    let mut reader = BufReader::new(rt.alloc(), slow)?;
+    let mut reader = BufReader::new(rt.alloc(), slow).expect(&rt, "memory");
     let mut line = Vec::new(rt.alloc());
     assert!(rt; next_line(&mut reader, &mut line) == Ok(true));
     assert!(rt; line.as_slice() == b"a".as_slice());
     assert!(rt; next_line(&mut reader, &mut line) == Err(ReadFault::Read));
-    Ok(())
 }
 
 // Lines, signs, and what follows.

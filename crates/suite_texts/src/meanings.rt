@@ -6,8 +6,7 @@ use formula::closed::Closed;
 use lts::Lts;
 use meaning::plain::plain_states;
 use samples::texts::{RING, formula_of, repeated, ring, system_of};
-use std::alloc::{AllocError, Global};
-use std::test::Fail;
+use std::process::Abort;
 
 // To its second state by `a`, and there round by `b`.
 const STAYS: &str = "des (0,2,2)\n(0,\"a\",1)\n(1,\"b\",1)\n";
@@ -53,31 +52,26 @@ const ROWS: [(&str, &str, &str); 28] = [
 ];
 
 // A mark for each state, `y` or `n`.
-fn shown(alloc: Global, lts: &Lts, formula: &Closed) -> Result<String, Fail> {
-    let mut text = String::new(alloc);
-    for mark in &plain_states(alloc, lts, formula)? {
-        text.push(if *mark { 'y' } else { 'n' })?;
+fn shown(rt: &(impl Abort + AllocGlobal), lts: &Lts, formula: &Closed) -> String {
+    let mut text = String::new(rt.alloc());
+    for mark in &plain_states(rt.alloc(), lts, formula).expect(rt, "memory") {
+        text.push(if *mark { 'y' } else { 'n' })
+            .expect(rt, "memory");
     }
-    Ok(text)
+    text
 }
 
-fn marks(alloc: Global, system: &str, formula: &str) -> Result<String, Fail> {
-    let lts = system_of(alloc, system)?;
-    let formula = formula_of(alloc, formula)?;
-    shown(alloc, &lts, &formula)
+fn marks(rt: &(impl Abort + AllocGlobal), system: &str, formula: &str) -> String {
+    let lts = system_of(rt.alloc(), system).expect(rt, "a system");
+    let formula = formula_of(rt.alloc(), formula).expect(rt, "a formula");
+    shown(rt, &lts, &formula)
 }
 
 #[test]
-fn formulas_hold_where_they_are_to(rt: HostRuntime) -> Result<(), Fail> {
+fn formulas_hold_where_they_are_to(rt: HostRuntime) {
     for (system, formula, wanted) in &ROWS {
-        same(
-            &rt,
-            formula,
-            marks(rt.alloc(), system, formula)?.as_str(),
-            wanted,
-        );
+        same(&rt, formula, marks(&rt, system, formula).as_str(), wanted);
     }
-    Ok(())
 }
 
 // A beginning, a piece and how often it stands, and an end; and a mark for each state of the ring. The second has 31
@@ -92,24 +86,22 @@ const LARGE: [(&str, &str, usize, &str, &str); 5] = [
 ];
 
 #[test]
-fn large_formulas_hold_too(rt: HostRuntime) -> Result<(), Fail> {
+fn large_formulas_hold_too(rt: HostRuntime) {
     for (head, part, times, tail, wanted) in &LARGE {
-        let formula = repeated(rt.alloc(), head, part, *times, tail)?;
+        let formula = repeated(rt.alloc(), head, part, *times, tail).expect(&rt, "memory");
         same(
             &rt,
             head,
-            marks(rt.alloc(), RING, formula.as_str())?.as_str(),
+            marks(&rt, RING, formula.as_str()).as_str(),
             wanted,
         );
     }
-    Ok(())
 }
 
 #[test]
-fn a_long_ring_leads_back(rt: HostRuntime) -> Result<(), Fail> {
-    let text = ring(rt.alloc(), 2500)?;
-    let shown = marks(rt.alloc(), text.as_str(), "[true*]<true*>(<a>true)")?;
+fn a_long_ring_leads_back(rt: HostRuntime) {
+    let text = ring(rt.alloc(), 2500).expect(&rt, "memory");
+    let shown = marks(&rt, text.as_str(), "[true*]<true*>(<a>true)");
     assert!(rt; shown.len() == 2500);
     assert!(rt; shown.as_str().bytes().all(|mark| mark == b'y'));
-    Ok(())
 }

@@ -9,7 +9,6 @@ use normal::make::normal;
 use normal::node::Kind;
 use samples::texts::{form_of, formula_of, repeated};
 use std::alloc::{AllocError, Global};
-use std::test::Fail;
 
 // The name of a multi-action of one name of these tests.
 fn letter(action: &Act) -> &'static str {
@@ -121,13 +120,12 @@ const SIZES: [(&str, &str, usize, &str, &str); 6] = [
 ];
 
 #[test]
-fn limits_are_met_exactly(rt: HostRuntime) -> Result<(), Fail> {
+fn limits_are_met_exactly(rt: HostRuntime) {
     for (head, part, times, tail, wanted) in &SIZES {
-        let text = repeated(rt.alloc(), head, part, *times, tail)?;
-        let told = size(rt.alloc(), text.as_str()).ok_or("no formula")?;
+        let text = repeated(rt.alloc(), head, part, *times, tail).expect(&rt, "memory");
+        let told = size(rt.alloc(), text.as_str()).expect(&rt, "a formula");
         same(&rt, head, told.as_str(), wanted);
     }
-    Ok(())
 }
 
 // Each growth may be refused: then nothing but that is told. `rt try --test --fail-alloc N` refuses the Nth.

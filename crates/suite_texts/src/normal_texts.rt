@@ -8,7 +8,6 @@ use normal::priorities::Priorities;
 use samples::texts::{form_of, formula_of, repeated};
 use samples::writers::{AMPLE, Narrow};
 use std::alloc::{AllocError, Global};
-use std::test::Fail;
 
 // Two texts in full.
 const TEXTS: [(&str, &str); 2] = [
@@ -120,18 +119,17 @@ const LINES: [(&str, &str, usize, &str, &str, &str); 7] = [
 ];
 
 #[test]
-fn first_lines_are_those_of_the_rule(rt: HostRuntime) -> Result<(), Fail> {
+fn first_lines_are_those_of_the_rule(rt: HostRuntime) {
     for (head, part, times, tail, nested, dependent) in &LINES {
-        let text = repeated(rt.alloc(), head, part, *times, tail)?;
+        let text = repeated(rt.alloc(), head, part, *times, tail).expect(&rt, "memory");
         let by_nested = first_line(rt.alloc(), text.as_str(), Priorities::Nested);
         let by_dependent = first_line(rt.alloc(), text.as_str(), Priorities::Dependent);
-        same(&rt, head, by_nested.ok_or("no line")?.as_str(), nested);
+        same(&rt, head, by_nested.expect(&rt, "a line").as_str(), nested);
         same(
             &rt,
             head,
-            by_dependent.ok_or("no line")?.as_str(),
+            by_dependent.expect(&rt, "a line").as_str(),
             dependent,
         );
     }
-    Ok(())
 }

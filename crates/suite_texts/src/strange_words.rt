@@ -3,7 +3,7 @@
 use crate::common::same;
 use samples::texts::{RING, formula_of, repeated, system_of};
 use std::alloc::{AllocError, Global};
-use std::test::Fail;
+use std::process::Abort;
 use words::strange::{Word, strange_words};
 
 /// The words, each with its kind, in their order.
@@ -14,18 +14,18 @@ fn shown(alloc: Global, words: &[Word<'_>]) -> Result<String, AllocError> {
             Word::Name(bytes) => ("name", bytes),
             Word::Atom(bytes) => ("atom", bytes),
         };
-        let bytes = str::from_utf8(bytes).unwrap_or("no text");
+        let bytes = str::from_utf8(bytes).unwrap_or("a text");
         write!(text, "{kind} {bytes};")?;
     }
     Ok(text)
 }
 
 /// The strange words of these texts.
-fn strange(alloc: Global, system: &str, formula: &str) -> Result<String, Fail> {
-    let system = system_of(alloc, system).map_err(|_| "no system")?;
-    let formula = formula_of(alloc, formula).map_err(|_| "no formula")?;
-    let words = strange_words(alloc, &system, &formula).map_err(|_| "no memory")?;
-    Ok(shown(alloc, &words)?)
+fn strange(rt: &(impl Abort + AllocGlobal), system: &str, formula: &str) -> String {
+    let system = system_of(rt.alloc(), system).expect(rt, "a system");
+    let formula = formula_of(rt.alloc(), formula).expect(rt, "a formula");
+    let words = strange_words(rt.alloc(), &system, &formula).expect(rt, "memory");
+    shown(rt.alloc(), &words).expect(rt, "memory")
 }
 
 /// Labels of every kind: two names, one name, the empty multiset, and a label that is read as nothing.
@@ -52,26 +52,24 @@ const STRANGE: [(&str, &str, &str); 12] = [
 ];
 
 #[test]
-fn strange_words_are_told_once_and_in_order(rt: HostRuntime) -> Result<(), Fail> {
+fn strange_words_are_told_once_and_in_order(rt: HostRuntime) {
     for (system, formula, wanted) in &STRANGE {
-        let found = strange(rt.alloc(), system, formula)?;
+        let found = strange(&rt, system, formula);
         same(&rt, formula, found.as_str(), wanted);
     }
-    Ok(())
 }
 
 #[test]
-fn no_more_than_ten_are_told(rt: HostRuntime) -> Result<(), Fail> {
+fn no_more_than_ten_are_told(rt: HostRuntime) {
     let formula = "<l|k|j|i|h|g|f|e|d|c>true && <m>true";
-    let found = strange(rt.alloc(), RING, formula)?;
+    let found = strange(&rt, RING, formula);
     let ten = "name c;name d;name e;name f;name g;name h;name i;name j;name k;name l;";
     same(&rt, formula, found.as_str(), ten);
-    let long = repeated(rt.alloc(), "", "<a>", 200, "<z>true")?;
+    let long = repeated(rt.alloc(), "", "<a>", 200, "<z>true").expect(&rt, "memory");
     same(
         &rt,
         "long",
-        strange(rt.alloc(), RING, long.as_str())?.as_str(),
+        strange(&rt, RING, long.as_str()).as_str(),
         "name z;",
     );
-    Ok(())
 }

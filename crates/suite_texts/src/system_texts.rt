@@ -8,7 +8,6 @@ use samples::texts::{RING, repeated, system_of};
 use std::alloc::{AllocError, Global};
 use std::io::Read;
 use std::process::Abort;
-use std::test::Fail;
 
 // The states, the initial state, the transitions and the labels, or the refusal.
 fn shown<R: Read + Drop>(alloc: Global, reader: R) -> Result<String, AllocError> {
@@ -45,38 +44,42 @@ const TEXTS: [(&str, &str); 12] = [
     ("des (0,1,1)\n(0,\"\",0)\n", "A7 at line 2"),
 ];
 
-fn shows(rt: &(impl Abort + AllocGlobal), text: &str, wanted: &str) -> Result<(), AllocError> {
+fn shows(rt: &(impl Abort + AllocGlobal), text: &str, wanted: &str) {
     for step in [1, 7, 8192] {
         let reader = Slow {
             left: text.as_bytes(),
             step,
             fails: false,
         };
-        same(rt, text, shown(rt.alloc(), reader)?.as_str(), wanted);
+        same(
+            rt,
+            text,
+            shown(rt.alloc(), reader).expect(rt, "memory").as_str(),
+            wanted,
+        );
     }
-    Ok(())
 }
 
 #[test]
-fn texts_are_read(rt: HostRuntime) -> Result<(), AllocError> {
+fn texts_are_read(rt: HostRuntime) {
     for (text, wanted) in &TEXTS {
-        shows(&rt, text, wanted)?;
+        shows(&rt, text, wanted);
     }
-    Ok(())
 }
 
 #[test]
-fn labels_have_at_most_4096_bytes(rt: HostRuntime) -> Result<(), AllocError> {
+fn labels_have_at_most_4096_bytes(rt: HostRuntime) {
     for (length, wanted) in [(4096, "1 0 1 1"), (4097, "A7 at line 2")] {
-        let text = repeated(rt.alloc(), "des (0,1,1)\n(0,\"", "a", length, "\",0)\n")?;
-        shows(&rt, text.as_str(), wanted)?;
+        let text = repeated(rt.alloc(), "des (0,1,1)\n(0,\"", "a", length, "\",0)\n").expect(
+            &rt, "memory",
+        );
+        shows(&rt, text.as_str(), wanted);
     }
-    Ok(())
 }
 
 // A text that is good as far as it goes is refused for the failed read, wherever that comes.
 #[test]
-fn a_failed_read_is_told_wherever_it_comes(rt: HostRuntime) -> Result<(), AllocError> {
+fn a_failed_read_is_told_wherever_it_comes(rt: HostRuntime) {
     for given in 0..=RING.len() {
         let reader = Slow {
             left: &RING.as_bytes()[..given],
@@ -86,21 +89,24 @@ fn a_failed_read_is_told_wherever_it_comes(rt: HostRuntime) -> Result<(), AllocE
         same(
             &rt,
             "a beginning",
-            shown(rt.alloc(), reader)?.as_str(),
+            shown(rt.alloc(), reader).expect(&rt, "memory").as_str(),
             "A8",
         );
     }
-    Ok(())
 }
 
 #[test]
-fn an_interrupted_read_is_tried_again(rt: HostRuntime) -> Result<(), AllocError> {
+fn an_interrupted_read_is_tried_again(rt: HostRuntime) {
     let reader = Halting {
         left: RING.as_bytes(),
         is_interrupted: false,
     };
-    same(&rt, RING, shown(rt.alloc(), reader)?.as_str(), "2 0 2 2");
-    Ok(())
+    same(
+        &rt,
+        RING,
+        shown(rt.alloc(), reader).expect(&rt, "memory").as_str(),
+        "2 0 2 2",
+    );
 }
 
 // Each growth may be refused: then nothing but that is told. `rt try --test --fail-alloc N` refuses the Nth.
@@ -116,29 +122,30 @@ fn want_of_memory_is_told_as_such(rt: HostRuntime) {
 }
 
 // The transitions of a state, each with its label.
-fn moves(rt: &(impl Abort + AllocGlobal), lts: &Lts, state: u32) -> Result<Vec<u8>, AllocError> {
+fn moves(rt: &(impl Abort + AllocGlobal), lts: &Lts, state: u32) -> Vec<u8> {
     let mut text = Vec::new(rt.alloc());
     assert!(rt; state < lts.states());
     for transition in lts.from(state) {
         assert!(rt; (transition.label as usize) < lts.labels());
-        text.extend_from_slice(lts.label(transition.label).bytes)?;
-        text.push(b' ')?;
+        text.extend_from_slice(lts.label(transition.label).bytes)
+            .expect(rt, "memory");
+        text.push(b' ').expect(rt, "memory");
     }
-    Ok(text)
+    text
 }
 
 #[test]
-fn transitions_are_found_by_their_state(rt: HostRuntime) -> Result<(), Fail> {
+fn transitions_are_found_by_their_state(rt: HostRuntime) {
     let lts = system_of(
         rt.alloc(),
         "des (0,4,3)\n(2,\"b\",0)\n(0,\"tau\",2)\n(2,\"a|b\",1)\n(2,\"b\",2)\n",
-    )?;
+    )
+    .expect(&rt, "a system");
     for (state, labels) in [(0, "tau "), (1, ""), (2, "a|b b b ")] {
         assert!(rt;
-            moves(&rt, &lts, state)?.as_slice() == labels.as_bytes(),
+            moves(&rt, &lts, state).as_slice() == labels.as_bytes(),
             "{labels}"
         );
     }
     assert!(rt; lts.all().len() == 4);
-    Ok(())
 }

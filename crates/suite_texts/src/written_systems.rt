@@ -5,9 +5,8 @@ use crate::common::same;
 use lts::{Lts, WriteFault, put, put_number, write_aut};
 use samples::texts::{RING, system_of};
 use samples::writers::{AMPLE, AtEnd, Narrow};
-use std::alloc::{AllocError, Global};
+use std::alloc::Global;
 use std::process::Abort;
-use std::test::Fail;
 
 // Texts of systems, and their canonical texts.
 const TEXTS: [(&str, &str); 7] = [
@@ -36,24 +35,22 @@ const TEXTS: [(&str, &str); 7] = [
 ];
 
 // A writer that never fails is given the whole text, and no fault is told.
-fn writes(rt: &(impl Abort + AllocGlobal), text: &str, wanted: &str) -> Result<(), Fail> {
-    let lts = system_of(rt.alloc(), text)?;
+fn writes(rt: &(impl Abort + AllocGlobal), text: &str, wanted: &str) {
+    let lts = system_of(rt.alloc(), text).expect(rt, "a system");
     for step in [1, 3, 8192] {
         let mut out = Narrow::new(rt.alloc(), step, AMPLE);
         assert!(rt; write_aut(&lts, &mut out).is_ok());
         assert!(rt; out.taken.as_slice() == wanted.as_bytes(), "{wanted}");
     }
-    Ok(())
 }
 
 // What is written is read again as the same system.
 #[test]
-fn texts_are_canonical(rt: HostRuntime) -> Result<(), Fail> {
+fn texts_are_canonical(rt: HostRuntime) {
     for (text, wanted) in &TEXTS {
-        writes(&rt, text, wanted)?;
-        writes(&rt, wanted, wanted)?;
+        writes(&rt, text, wanted);
+        writes(&rt, wanted, wanted);
     }
-    Ok(())
 }
 
 // A writer without room for the whole ring is given a beginning, and a fault is told.
@@ -66,8 +63,8 @@ fn is_cut(alloc: Global, lts: &Lts, step: usize, room: usize, at_end: AtEnd) -> 
 }
 
 #[test]
-fn a_failed_write_leaves_a_beginning(rt: HostRuntime) -> Result<(), Fail> {
-    let lts = system_of(rt.alloc(), RING)?;
+fn a_failed_write_leaves_a_beginning(rt: HostRuntime) {
+    let lts = system_of(rt.alloc(), RING).expect(&rt, "a system");
     for room in 0..RING.len() {
         for step in [4, 8192] {
             assert!(rt;
@@ -80,28 +77,28 @@ fn a_failed_write_leaves_a_beginning(rt: HostRuntime) -> Result<(), Fail> {
             );
         }
     }
-    Ok(())
 }
 
 #[test]
-fn a_failed_write_has_a_code(rt: HostRuntime) -> Result<(), AllocError> {
+fn a_failed_write_has_a_code(rt: HostRuntime) {
     same(
         &rt,
         "code",
-        WriteFault.to_string(rt.alloc())?.as_str(),
+        WriteFault
+            .to_string(rt.alloc())
+            .expect(&rt, "memory")
+            .as_str(),
         "W1",
     );
-    Ok(())
 }
 
 #[test]
-fn an_interrupted_write_is_tried_again(rt: HostRuntime) -> Result<(), Fail> {
-    let lts = system_of(rt.alloc(), RING)?;
+fn an_interrupted_write_is_tried_again(rt: HostRuntime) {
+    let lts = system_of(rt.alloc(), RING).expect(&rt, "a system");
     let mut out = Narrow::new(rt.alloc(), 4, AMPLE);
     out.interrupts = true;
     assert!(rt; write_aut(&lts, &mut out).is_ok());
     assert!(rt; out.taken.as_slice() == RING.as_bytes());
-    Ok(())
 }
 
 // Nothing is a piece that any writer takes.
