@@ -14,7 +14,7 @@ fn shown(alloc: Global, words: &[Word<'_>]) -> Result<String, AllocError> {
             Word::Name(bytes) => ("name", bytes),
             Word::Atom(bytes) => ("atom", bytes),
         };
-        let bytes = str::from_utf8(bytes).unwrap_or("a text");
+        let bytes = str::from_utf8(bytes).unwrap_or("no text");
         write!(text, "{kind} {bytes};")?;
     }
     Ok(text)
