@@ -4,5 +4,6 @@ pub mod Tests
 pub mod Steps
 pub mod Arenas
 pub mod Parts
+pub mod Placing
 pub mod Greatest
 pub mod Duals

@@ -1,6 +1,7 @@
 pub mod Game
 pub mod NumberSet
 pub mod Predecessors
+pub mod Placing
 pub mod Arena
 pub mod Wins
 pub mod Rises

@@ -8,3 +8,4 @@ pub mod graph;
 pub mod limits;
 pub mod name;
 pub mod player;
+pub mod predecessors;

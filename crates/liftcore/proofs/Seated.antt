@@ -21,7 +21,7 @@ use Rattle.liftcore.specs.declared.seat.Seat.{Seat}
 use Rattle.liftcore.proofs.Notes.{holds_owes, holds_same, idle_owes, owes_same, owing_has}
 use Rattle.liftcore.proofs.Marked.{marked_member, member_marked}
 use Rattle.measures.proofs.Bests.{vertex_here}
-use Rattle.search.proofs.Placing.{successors_of as successors_are}
+use Rattle.game.proofs.Placing.{successors_of as successors_are}
 use Rattle.liftcore.proofs.Sets.{same_eqb}
 
 -- ---- ascending numbers

@@ -1,7 +1,7 @@
 -- The state after an event.
-use Rattle.std.proofs.Common.{◌≡◌, ℕ, zero, suc, ◌+◌, ◌<◌, ◌≤◌, Bool, true, false, cond, ◌⊎◌, ◌&&◌, List, [], ◌∷◌, ◌++◌, length, map, replicate, take, refl, sym, ◌∙◌, ap, ap₂, subst, inl, inr, arith, true≢false, Some, option_map, slice_index_or, slice_set, get_or, if◌then◌else◌}
-use Rattle.std.specs.Prelude.{◌==◌, slice_get, nat_lt, filter}
-use Rattle.std.specs.List.{AllByRecursion, AllZip, list_all, list_any, range_with_len}
+use Rattle.std.proofs.Common.{◌≡◌, ℕ, zero, suc, ◌+◌, ◌<◌, Bool, true, false, ◌⊎◌, ◌&&◌, List, [], ◌∷◌, ◌++◌, length, map, replicate, take, refl, sym, ◌∙◌, ap, ap₂, subst, inl, inr, arith, true≢false, Some, option_map, slice_index_or, slice_set, get_or, if◌then◌else◌}
+use Rattle.std.specs.Prelude.{◌==◌, slice_get, nat_lt}
+use Rattle.std.specs.List.{AllZip, list_all, list_any}
 use Rattle.std.specs.Ordering.{is_lt}
 use Rattle.std.proofs.lemmas.Bool.{cases_Bool, cases_lt, false_from_ne_true, lt-ltb, ltb-true}
 use Rattle.std.proofs.lemmas.List.{get_or_past, length-set}
@@ -237,18 +237,6 @@ release_keeps g s is = record {
   long = is.long;
   free = λ t. absurd (true≢false (sym t));
 }
-
-range_within : (p : ℕ → Bool) (a n m : ℕ) → a + n ≤ m → AllByRecursion (λ t. t < m) (filter p (range_with_len a n))
-range_within p a zero m h = tt
-range_within p a (suc n) m h = by (p a) (range_within p (a + 1) n m (omega arith))
-  where
-    by : (b : Bool) → AllByRecursion (λ t. t < m) (filter p (range_with_len (a + 1) n)) → AllByRecursion (λ t. t < m) (cond b (a ∷ filter p (range_with_len (a + 1) n)) (filter p (range_with_len (a + 1) n)))
-    by true rest = (omega arith, rest)
-    by false rest = rest
-
-pub predecessors_within : (g : Game) (v : ℕ) → AllByRecursion (λ t. t < length g.vertices) (predecessors g v)
-unfolding predecessors
-predecessors_within g v = range_within (λ u. list_any (λ t. t == v) (successors_at (vertex g u))) 0 (length g.vertices) (length g.vertices) (omega arith)
 
 pub owing_predecessors : (g : Game) (v : ℕ) (s : Seat) → IsSeat g s → s.holding ≡ false → AreOwed (predecessors g v) s.owed → worker_of s ≡ owing (predecessors g v)
 unfolding predecessors

@@ -11,7 +11,7 @@ use Rattle.measures.specs.Progs.{IsDemandOf}
 use Rattle.measures.specs.Tables.{LiesBelow}
 use Rattle.measures.proofs.Demands.{EachBelow, demand_below}
 use Rattle.measures.proofs.Lists.{all_from}
-use Rattle.search.proofs.Placing.{successors_of as successors_are}
+use Rattle.game.proofs.Placing.{successors_of as successors_are}
 use Rattle.liftcore.specs.Reading.{AreRead, IsReading, Reading, successors_of, values_of}
 
 -- what has a successor is a vertex

@@ -12,4 +12,4 @@ mod state;
 pub mod turn;
 pub mod writer;
 
-pub use search::predecessors::Predecessors;
+pub use game::predecessors::Predecessors;

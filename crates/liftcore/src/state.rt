@@ -12,8 +12,8 @@ use crate::event::Event;
 use crate::marks::Marks;
 use crate::seat::Seat;
 use game::graph::Game;
+use game::predecessors::Predecessors;
 use measures::table::{PlainTable, opening};
-use search::predecessors::Predecessors;
 use std::alloc::{AllocError, Global};
 
 /// The parts of a core.

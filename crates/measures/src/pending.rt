@@ -3,7 +3,7 @@
 ghost use Rattle.std.specs.Prelude.{◌≤◌, vec_len};
 
 use game::graph::Game;
-use search::predecessors::Predecessors;
+use game::predecessors::Predecessors;
 use std::alloc::{AllocError, Global};
 
 // A vertex on a walk's path, and how many of its successors the walk has seen.
@@ -81,10 +81,12 @@ impl Walk {
 }
 
 // The vertices by a walk: each comes after those that lead to it, as far as cycles let it.
-fn walked(alloc: Global, game: &Game, edges: usize) -> Result<Vec<u32>, AllocError> {
-    let vertices = game.vertices() as usize;
-    let mut walk = Walk::new(alloc, vertices)?;
-    for _ in 0..vertices.saturating_mul(2).saturating_add(edges) {
+fn walked(alloc: Global, game: &Game) -> Result<Vec<u32>, AllocError> {
+    let mut walk = Walk::new(alloc, game.vertices() as usize)?;
+    for _ in 0..u64::MAX {
+        if walk.unplaced == 0 {
+            break;
+        }
         walk.go_on(game);
     }
     Ok(walk.list)
@@ -158,7 +160,7 @@ impl Pending {
     pub(crate) fn of(alloc: Global, game: &Game, climbs: bool) -> Result<Self, AllocError> {
         let predecessors = Predecessors::of(alloc, game)?;
         let list = if climbs {
-            walked(alloc, game, predecessors.edges())?
+            walked(alloc, game)?
         } else {
             numbered(alloc, game.vertices())?
         };

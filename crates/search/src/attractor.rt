@@ -3,8 +3,8 @@
 use crate::edges::{is_odds, priority};
 use crate::field::{Field, NONE, Tops, Won};
 use crate::numbers::{Numbers, Queue, Span};
-use crate::predecessors::Predecessors;
 use game::graph::Game;
+use game::predecessors::Predecessors;
 use std::alloc::{AllocError, Global};
 
 /// Attractors, with the memory to find them.
@@ -34,8 +34,8 @@ impl<'p> Attractors<'p> {
     }
 
     /// A vertex has been looked at, with so many edges.
-    pub(crate) fn toil(&mut self, edges: u32) {
-        self.work = self.work.saturating_add(1).saturating_add(u64::from(edges));
+    pub(crate) fn toil(&mut self, edges: usize) {
+        self.work = self.work.saturating_add(1).saturating_add(edges as u64);
     }
 
     /// Decides what the decided vertices around a part decide. The answer is what is left.
@@ -62,7 +62,7 @@ impl<'p> Attractors<'p> {
         let next = field.winning(game, v, won.by(is_odds(game, v)));
         let left = field.inside(game, v, id);
         self.left.set(v, left);
-        self.toil(left);
+        self.toil(left as usize);
         if next != NONE || left == 0 {
             field.moves.set(v, next);
             self.queue.push(v);
@@ -91,13 +91,12 @@ impl<'p> Attractors<'p> {
 
     fn spread_from(&mut self, game: &Game, field: &mut Field, v: u32, id: u32, won: Won) {
         let odd = field.ids.get(v) == won.odd;
-        let places = self.predecessors.places(v);
-        self.toil(places.len());
-        for place in places.from..places.to {
-            let u = self.predecessors.at(place);
-            if field.ids.get(u) == id && self.falls(game, field, u, v, odd) {
-                field.ids.set(u, won.by(odd));
-                self.queue.push(u);
+        let before = self.predecessors.get(v);
+        self.toil(before.len());
+        for u in before {
+            if field.ids.get(*u) == id && self.falls(game, field, *u, v, odd) {
+                field.ids.set(*u, won.by(odd));
+                self.queue.push(*u);
             }
         }
     }
@@ -118,7 +117,7 @@ impl<'p> Attractors<'p> {
             let v = field.list.get(place);
             let left = field.inside(game, v, id);
             self.left.set(v, left);
-            self.toil(left);
+            self.toil(left as usize);
         }
     }
 

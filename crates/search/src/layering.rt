@@ -8,9 +8,9 @@ use crate::field::Field;
 use crate::lost::Lost;
 use crate::numbers::{Numbers, Queue, Span};
 use crate::part::Part;
-use crate::predecessors::Predecessors;
 use crate::ways::Ways;
 use game::graph::Game;
+use game::predecessors::Predecessors;
 use std::alloc::{AllocError, Global};
 
 // The count of a vertex that has none yet.
@@ -141,11 +141,10 @@ impl<'p> Layering<'p> {
 
     fn spread_from(&mut self, game: &Game, v: u32) {
         let count = self.counts.get(v);
-        let places = self.attractors.predecessors.places(v);
-        for place in places.from..places.to {
-            let u = self.attractors.predecessors.at(place);
-            if self.counts.get(u) == OPEN && self.falls(game, u, v) {
-                self.settle(game, u, count);
+        let before = self.attractors.predecessors;
+        for u in before.get(v) {
+            if self.counts.get(*u) == OPEN && self.falls(game, *u, v) {
+                self.settle(game, *u, count);
             }
         }
     }

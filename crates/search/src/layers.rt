@@ -3,9 +3,9 @@
 use crate::layering::Layering;
 use crate::lost::Lost;
 use crate::numbers::Numbers;
-use crate::predecessors::Predecessors;
 use crate::ranks::Ranks;
 use game::graph::Game;
+use game::predecessors::Predecessors;
 use lts::error::Memory;
 use std::alloc::Global;
 

@@ -11,7 +11,6 @@ pub mod lost;
 mod numbers;
 mod order;
 mod part;
-pub mod predecessors;
 mod ranks;
 mod tasks;
 mod ways;

@@ -1,10 +1,10 @@
 // What Odd wins, with reasons.
 
 use crate::numbers::Numbers;
-use crate::predecessors::Predecessors;
 use crate::ranks::Ranks;
 use crate::winners::Winners;
 use game::graph::Game;
+use game::predecessors::Predecessors;
 use lts::error::Memory;
 use std::alloc::Global;
 

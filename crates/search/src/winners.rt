@@ -2,13 +2,14 @@
 
 use crate::attractor::Attractors;
 use crate::components::Components;
+use crate::edges::edges;
 use crate::field::{Field, Won};
 use crate::numbers::Span;
 use crate::part::Part;
-use crate::predecessors::Predecessors;
 use crate::tasks::{Core, Task, Tasks};
 use crate::ways::Ways;
 use game::graph::Game;
+use game::predecessors::Predecessors;
 use std::alloc::{AllocError, Global};
 
 // How many vertices and edges are looked at: this many, and so many times those of the game.
@@ -60,8 +61,7 @@ impl<'p> Winners<'p> {
     }
 
     fn budget(&self, game: &Game) -> u64 {
-        let edges = self.attractors.predecessors.edges() as u64;
-        let size = u64::from(game.vertices()).saturating_add(edges);
+        let size = u64::from(game.vertices()).saturating_add(edges(game));
         size.saturating_mul(TIMES).saturating_add(LEAST_BUDGET)
     }
 

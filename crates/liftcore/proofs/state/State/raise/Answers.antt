@@ -10,7 +10,7 @@ use Rattle.measures.specs.Progress.{greater_of, value_at}
 use Rattle.liftcore.specs.Seats.{HasSeat, worker_of}
 use Rattle.liftcore.specs.Work.{AreOwed, CanRaise}
 use Rattle.liftcore.specs.declared.seat.Seat.{Seat}
-use Rattle.liftcore.proofs.Stated.{at_index, owing_predecessors, predecessors_within, raises_whole, read_idle, release_keeps, rise_step, seats_kept, skip_raise, stay_step}
+use Rattle.liftcore.proofs.Stated.{at_index, owing_predecessors, raises_whole, read_idle, release_keeps, rise_step, seats_kept, skip_raise, stay_step}
 use Rattle.liftcore.proofs.state.State.raise.Goals as goal
 
 pub returns-then-not-is_whole-clause-step : goal.returns-then-not-is_whole-clause-step
@@ -59,8 +59,7 @@ owe-requires-clause-none c =
 
 pub owe-requires-clause-within : goal.owe-requires-clause-within
 owe-requires-clause-within c =
-    subst (λ (ts : List ℕ). AllByRecursion (λ t. t < length c.args.game.now.vertices) ts) (sym (c.get.ensures ∙ ap (λ (g : Game). predecessors g c.vertex-vertex.result) c.requires.edges))
-    (predecessors_within c.args.game.now c.vertex-vertex.result)
+    subst (λ (g : Game). AllByRecursion (λ t. t < length g.vertices) c.get.result.now) c.requires.edges c.get.ensures.vertices
 
 pub returns-then-is_below-clause-state : goal.returns-then-is_below-clause-state
 returns-then-is_below-clause-state c =
@@ -86,7 +85,7 @@ returns-then-is_below-clause-step c =
     let own = c.value.ensures.value ∙ ap (value_at s.table.values) c.vertex-vertex.ensures in
     let high = ap (λ (m : Measure). is_lt (measure_cmp m d)) (sym own) ∙ c.is_below.ensures.0 c.if-is_below.true in
     let raised = subst (λ (u : ℕ). c.raise.new.self.values ≡ slice_set s.table.values u (greater_of (value_at s.table.values u) d)) c.vertex-vertex.ensures c.raise.ensures.values in
-    let preds = c.get.ensures ∙ (ap (λ (h : Game). predecessors h c.vertex-vertex.result) c.requires.edges ∙ ap (predecessors g) c.vertex-vertex.ensures) in
+    let preds = c.get.ensures.are ∙ (ap (λ (h : Game). predecessors h c.vertex-vertex.result) c.requires.edges ∙ ap (predecessors g) c.vertex-vertex.ensures) in
     let owed = subst (λ (ts : List ℕ). AreOwed ts new.owed) preds c.owe.ensures.owed in
     rise_step s c.args.worker r new (slice_set s.seats.items c.args.worker new) there.0 refl g is c.requires.game d there.1 c.lifted-lifted.ensures.value c.raise.new.self high c.raise.ensures.game raised
     (owing_predecessors g r.turn.vertex new c.owe.ensures.seat c.owe.ensures.holding owed)
