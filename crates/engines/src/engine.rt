@@ -53,6 +53,52 @@ const BOTH: Wanted = Wanted {
     witness: None,
 };
 
+/// Writes to each writer that is lent, and answers. A macro and no function: of a writer that a function is given for good its caller
+/// would know nothing any more.
+macro_rules! answer_lent {
+    ($alloc:expr, $found:expr, $game:expr, $evidence:expr, $out:expr) => {
+        match $evidence {
+            EvidenceWriters::Neither => match $game {
+                None => answer_wanted(
+                    $alloc,
+                    $found,
+                    REPORT,
+                    &mut Nobody,
+                    &mut Nobody,
+                    &mut Nobody,
+                    &mut Nobody,
+                    $out,
+                ),
+                Some(game) => answer_wanted(
+                    $alloc,
+                    $found,
+                    GAME,
+                    game,
+                    &mut Nobody,
+                    &mut Nobody,
+                    &mut Nobody,
+                    $out,
+                ),
+            },
+            EvidenceWriters::Both(even, odd) => match $game {
+                None => answer_wanted(
+                    $alloc,
+                    $found,
+                    EVIDENCE,
+                    &mut Nobody,
+                    even,
+                    odd,
+                    &mut Nobody,
+                    $out,
+                ),
+                Some(game) => {
+                    answer_wanted($alloc, $found, BOTH, game, even, odd, &mut Nobody, $out)
+                }
+            },
+        }
+    };
+}
+
 /// Checks a formula at each state of a system by sets of states, without a game, and reports. It answers whether the
 /// initial state satisfies the formula. The system is read first; nothing is written before all memory was taken.
 ///
@@ -206,43 +252,7 @@ pub fn check<
         Ok(found) => found,
         Err(error) => return Err(error),
     };
-    match evidence {
-        EvidenceWriters::Neither => match game {
-            None => answer_wanted(
-                alloc,
-                &found,
-                REPORT,
-                &mut Nobody,
-                &mut Nobody,
-                &mut Nobody,
-                &mut Nobody,
-                out,
-            ),
-            Some(game) => answer_wanted(
-                alloc,
-                &found,
-                GAME,
-                game,
-                &mut Nobody,
-                &mut Nobody,
-                &mut Nobody,
-                out,
-            ),
-        },
-        EvidenceWriters::Both(even, odd) => match game {
-            None => answer_wanted(
-                alloc,
-                &found,
-                EVIDENCE,
-                &mut Nobody,
-                even,
-                odd,
-                &mut Nobody,
-                out,
-            ),
-            Some(game) => answer_wanted(alloc, &found, BOTH, game, even, odd, &mut Nobody, out),
-        },
-    }
+    answer_lent!(alloc, &found, game, evidence, out)
 }
 
 /// The same, with a gate that each worker calls before each of its turns.
@@ -276,43 +286,7 @@ pub fn check_gated<
         Ok(found) => found,
         Err(error) => return Err(error),
     };
-    match evidence {
-        EvidenceWriters::Neither => match game {
-            None => answer_wanted(
-                alloc,
-                &found,
-                REPORT,
-                &mut Nobody,
-                &mut Nobody,
-                &mut Nobody,
-                &mut Nobody,
-                out,
-            ),
-            Some(game) => answer_wanted(
-                alloc,
-                &found,
-                GAME,
-                game,
-                &mut Nobody,
-                &mut Nobody,
-                &mut Nobody,
-                out,
-            ),
-        },
-        EvidenceWriters::Both(even, odd) => match game {
-            None => answer_wanted(
-                alloc,
-                &found,
-                EVIDENCE,
-                &mut Nobody,
-                even,
-                odd,
-                &mut Nobody,
-                out,
-            ),
-            Some(game) => answer_wanted(alloc, &found, BOTH, game, even, odd, &mut Nobody, out),
-        },
-    }
+    answer_lent!(alloc, &found, game, evidence, out)
 }
 
 /// The same, told to a watcher, with a writer for each text, to which it is written where it is wanted; nothing is written to the
@@ -388,43 +362,7 @@ pub fn check_one<
         Ok(found) => found,
         Err(error) => return Err(error),
     };
-    match evidence {
-        EvidenceWriters::Neither => match game {
-            None => answer_wanted(
-                alloc,
-                &found,
-                REPORT,
-                &mut Nobody,
-                &mut Nobody,
-                &mut Nobody,
-                &mut Nobody,
-                out,
-            ),
-            Some(game) => answer_wanted(
-                alloc,
-                &found,
-                GAME,
-                game,
-                &mut Nobody,
-                &mut Nobody,
-                &mut Nobody,
-                out,
-            ),
-        },
-        EvidenceWriters::Both(even, odd) => match game {
-            None => answer_wanted(
-                alloc,
-                &found,
-                EVIDENCE,
-                &mut Nobody,
-                even,
-                odd,
-                &mut Nobody,
-                out,
-            ),
-            Some(game) => answer_wanted(alloc, &found, BOTH, game, even, odd, &mut Nobody, out),
-        },
-    }
+    answer_lent!(alloc, &found, game, evidence, out)
 }
 
 /// Writes what is wanted, and answers.
