@@ -11,6 +11,7 @@ use crate::limits::MOST_VERTICES;
 use crate::player::Player;
 use std::alloc::{AllocError, Global};
 use std::marker::Model;
+use std::ops::Range;
 
 // One more than the greatest priority of a game.
 const PRIORITIES: usize = 33;
@@ -112,6 +113,21 @@ impl Game {
     {
         match self.named {
             Some((_, nodes)) => 2 + (state * nodes + node),
+            None => unreachable!(),
+        }
+    }
+
+    /// The vertices of a state, one for each node in the nodes' order, in a game of states with nodes.
+    pub fn state_rows(&self, state: u32) -> Range<u32>
+        requires { AreNames self.now state 0 }
+        ensures first { place_in self.now state 0 ≡ Some result.start }
+        ensures end { place_in self.now (state + 1) 0 ≡ Some result.end }
+    {
+        match self.named {
+            Some((_, nodes)) => {
+                let first = 2 + state * nodes;
+                first..first + nodes
+            }
             None => unreachable!(),
         }
     }

@@ -153,6 +153,8 @@ fn vertices_are_known_by_their_names(rt: HostRuntime) {
     let game = build(&rt, rt.alloc(), &lts, &form).expect(&rt, "memory");
     assert!(rt; lts.states() == 2 && form.count() == 2);
     assert!(rt; game.vertex_of(0, 1) == 3 && game.vertex_of(1, 0) == 4);
+    let rows = game.state_rows(1);
+    assert!(rt; rows.start == 4 && rows.end == 6);
 }
 
 // With seventeen nodes they don't.
