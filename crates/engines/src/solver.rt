@@ -14,7 +14,7 @@ use std::sync::{Arc, Wait};
 use std::thread::Threads;
 use workers::error::TeamError;
 use workers::gate::Gate;
-use workers::team::{Team, solve_by_seen};
+use workers::team::{Team, solve_by};
 
 /// The least progress table of a game, by the workers over the board that the options ask for. The gate is told of each turn.
 ///
@@ -59,7 +59,7 @@ pub fn solve_seen<
         shards: options.shards,
         board: options.board,
     };
-    match solve_by_seen(rt, alloc, game, &team, gate, observer) {
+    match solve_by(rt, alloc, game, &team, gate, observer) {
         Ok(settled) => Ok(settled),
         Err(TeamError::Board(error)) => Err(MuError::Table(error)),
         Err(TeamError::Solve(error)) => Err(MuError::Solve(error)),

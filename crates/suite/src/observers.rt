@@ -11,7 +11,7 @@ use std::sync::atomic::{AtomicU64, Ordering};
 use std::sync::{Arc, Wait};
 use std::thread::Threads;
 use workers::gate::NoGate;
-use workers::team::{BoardKind, Team, solve_by_seen};
+use workers::team::{BoardKind, Team, solve_by};
 
 /// Keeps how often each stage was told, and the last numbers.
 #[derive(Drop)]
@@ -83,7 +83,7 @@ fn tells_of_workers<R: Abort + AllocGlobal + Threads + Wait + Clone + Copy + Dro
         shards: 16,
         board,
     };
-    let solved = solve_by_seen(rt, rt.alloc(), &game, &team, &NoGate, &tally);
+    let solved = solve_by(rt, rt.alloc(), &game, &team, &NoGate, &tally);
     assert!(rt; solved.is_ok());
     assert_eq!(rt; tally.searches.load(Ordering::SeqCst), 1);
     let lifts = tally.lifts.load(Ordering::SeqCst);

@@ -13,7 +13,7 @@ use crate::locked::solve_locked;
 use crate::solving::solve;
 use crate::watch::Watched;
 use game::graph::Game;
-use measures::observer::{Observer, Silent, Stage};
+use measures::observer::{Observer, Stage};
 use measures::rank::top_rank;
 use measures::settle::solve_one_seen;
 use measures::table::Settled;
@@ -45,34 +45,13 @@ pub struct Team {
     pub ghost some_shards: { 0 < shards },
 }
 
-/// The least progress table of a game, by a team. One worker alone needs no board, and no thread beside the caller's.
+/// The least progress table of a game, by a team, and an observer is told that the search begins, that lifting does, and then every 4,096th
+/// lift of a worker. One worker alone needs no board, no gate, and no thread beside the caller's.
 ///
 /// # Errors
 /// T1 where the packed board is asked for and the rank of top doesn't fit a word, and only there. T2 where memory for the board is
 /// refused, and V1 where memory for the table is.
-pub fn solve_by<G: Gate + Sync, R: Threads + Wait + Clone + Copy + Drop + Send + Sync>(
-    rt: &R,
-    alloc: Global,
-    game: &Arc<Game, Global>,
-    team: &Team,
-    gate: &G,
-) -> Result<Settled, TeamError>
-    ensures game { IfOk result (λ s. s.game ≡ arc_value game.now) }
-    ensures least { IfOk result (λ s. IsLeastTable (arc_value game.now) s.values) }
-    ensures refused { MatchResult result (λ s. IsTooGreat team.now.board (arc_value game.now) → ⊥) (IsRefusal team.now.board (arc_value game.now)) }
-{
-    if team.workers == 1 {
-        solve_alone(alloc, game, team.board, &Silent)
-    } else {
-        solve_together(rt, alloc, game, team, gate)
-    }
-}
-
-/// The same, told to an observer: that the search begins, that lifting does, and then every 4,096th lift of a worker.
-///
-/// # Errors
-/// Those of `solve_by`.
-pub fn solve_by_seen<
+pub fn solve_by<
     G: Gate + Sync,
     O: Observer + Sync,
     R: Threads + Wait + Clone + Copy + Drop + Send + Sync,
