@@ -15,6 +15,7 @@ use std::process::Abort;
 use std::sync::{Arc, Wait};
 use tables::board::Board;
 use tables::locked::LockedBoard;
+use tables::shard::Shard;
 
 // The game of `<a>true` on two states, of which the first leads to the second by a, and the second to the first by b.
 const DIAMOND: [Row; 6] = [
@@ -68,6 +69,31 @@ fn rises_on<K: GameName, R: Wait + Drop>(
     rises_once(rt, &board, source);
     board.finish(&mut table);
     assert!(rt; table.value(4).is_top() && !table.value(2).is_top());
+}
+
+// A shard of every second vertex keeps the greater of two measures, and tells whether its own rose.
+fn keeps_the_greater<K: GameName>(rt: &impl Abort, alloc: Global, game: &Game, source: &PlainTable)
+    requires named { game.now ≡ K.game }
+    requires same { source.now.game ≡ K.game }
+    requires vertex { 4 < length source.now.game.vertices }
+{
+    let mut shard = Shard::<K>::new(alloc, game, 0, 2).expect(rt, "memory");
+    assert!(rt; shard.has(4) && !shard.has(3));
+    let top = source.value(4);
+    let low = shard.read(4);
+    assert!(rt; top.is_top() && !low.is_top());
+    assert!(rt; shard.raise(4, &top), "it rises");
+    assert!(rt; !shard.raise(4, &low), "it doesn't fall");
+    assert!(rt; shard.read(4).is_top());
+}
+
+#[test]
+fn a_shard_keeps_the_greater(rt: HostRuntime) {
+    let game = shared_game_of(&rt, &DIAMOND).expect(&rt, "a game");
+    let mut source = opening(rt.alloc(), &game).expect(&rt, "memory");
+    settle(&game, &mut source);
+    assert!(rt; 4 < game.vertices());
+    keeps_the_greater::<Brand>(&rt, rt.alloc(), &game, &source)
 }
 
 #[test]
