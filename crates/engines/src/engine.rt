@@ -255,7 +255,7 @@ pub fn check<
     answer_lent!(alloc, &found, game, evidence, out)
 }
 
-/// The same, with a gate that each worker calls before each of its turns.
+/// The same, with a gate that each worker calls before each of its turns; one worker alone calls none.
 ///
 /// # Errors
 /// Those of `check`.
