@@ -4,10 +4,12 @@ use Rattle.std.specs.Prelude.{if◌then◌else◌}
 use Rattle.std.specs.List.{AllZip}
 use Rattle.std.proofs.lemmas.Bool.Decides.{eqb_tells}
 use Rattle.normal.specs.Tree.{Norm, Constant, Junction, Modality, Fixpoint, Variable, size, chain, depth, normal_form}
-use Rattle.normal.specs.Nodes.{Node, nodes_by, nested, greatest, parity_from}
-use Rattle.normal.specs.Rules.{names, above, dependent}
-use Rattle.normal.specs.Laws.{DependentIsLower}
+use Rattle.normal.specs.Nodes.{Node, nodes_by, nested, greatest, greatest_priority, parity_from}
+use Rattle.normal.specs.Rules.{names, above, dependent, nodes_with}
+use Rattle.normal.specs.declared.priorities.Priorities.TheVariants.{Nested, Dependent}
+use Rattle.normal.specs.Laws.{PriorityWithinDepth, DependentIsLower}
 use Rattle.normal.proofs.Numbers.{no_less}
+use Rattle.normal.proofs.Surveying.{greatest_append}
 
 -- A chain that begins with the kind of the greatest priority is at least as long.
 record Rises (f : Norm) : Type 0 where
@@ -37,10 +39,19 @@ rises (Fixpoint false f) = let h = rises f in let o = h.odd in let e = h.even in
     up m a b o e = elim (eqb_tells (m % 2) 1) [ inl w ↦ omega (arith, o w.1, w.1) | inr w ↦ let even : m % 2 ≡ 0 = omega (arith, w.1) in omega (arith, e even, even) ]
 rises (Variable binder) = record { odd = λ e. omega arith; even = λ e. omega arith }
 
-pub priority_within_depth : (f : Norm) → greatest f ≤ depth f
-priority_within_depth f =
+greatest_within_depth : (f : Norm) → greatest f ≤ depth f
+greatest_within_depth f =
     let h = rises f in
     elim (eqb_tells (greatest f % 2) 1) [ inl w ↦ omega (arith, h.odd w.1) | inr w ↦ let even : greatest f % 2 ≡ 0 = omega (arith, w.1) in omega (arith, h.even even) ]
+
+-- the greatest priority in the tree is the greatest that a node has
+nodes_greatest : (at : ℕ) (f : Norm) → greatest_priority (nodes_by nested at f) ≡ greatest f
+nodes_greatest at (Constant flag) = omega arith
+nodes_greatest at (Junction flag f g) =
+    omega (arith, greatest_append (nodes_by nested (at + 1) f) (nodes_by nested (at + 1 + size f) g), nodes_greatest (at + 1) f, nodes_greatest (at + 1 + size f) g)
+nodes_greatest at (Modality flag a f) = omega (arith, nodes_greatest (at + 1) f)
+nodes_greatest at (Fixpoint flag f) = omega (arith, nodes_greatest (at + 1) f, no_less flag (greatest f))
+nodes_greatest at (Variable binder) = omega arith
 
 -- ---- dependent priorities
 
@@ -82,3 +93,17 @@ lower at (Variable c) = (omega arith, tt)
 
 pub dependent_is_lower : DependentIsLower
 dependent_is_lower f = lower 0 (normal_form f)
+
+-- ---- either rule
+
+greatest_lower : (xs ys : List Node) → AllZip IsLower xs ys → greatest_priority xs ≤ greatest_priority ys
+greatest_lower [] [] h = omega arith
+greatest_lower [] (y ∷ ys) h = absurd h
+greatest_lower (x ∷ xs) [] h = absurd h
+greatest_lower (x ∷ xs) (y ∷ ys) h = omega (arith, h.0, greatest_lower xs ys h.1)
+
+pub priority_within_depth : PriorityWithinDepth
+priority_within_depth Nested f = omega (arith, nodes_greatest 0 (normal_form f), greatest_within_depth (normal_form f))
+priority_within_depth Dependent f =
+    let low = greatest_lower (nodes_with Dependent f) (nodes_with Nested f) (dependent_is_lower f) in
+    omega (arith, low, nodes_greatest 0 (normal_form f), greatest_within_depth (normal_form f))

@@ -2,14 +2,15 @@
 use Rattle.std.specs.Prelude.{◌≡◌, ◌≤◌}
 use Rattle.std.specs.List.{AllZip}
 use Rattle.formula.specs.Tree.{Formula}
-use Rattle.normal.specs.Tree.{Norm, size, count, depth, normal_form}
-use Rattle.normal.specs.Nodes.{greatest}
+use Rattle.normal.specs.Tree.{size, count, depth, normal_form}
+use Rattle.normal.specs.Nodes.{greatest_priority}
 use Rattle.normal.specs.Rules.{nodes_with}
+use Rattle.normal.specs.declared.priorities.Priorities.{Priorities}
 use Rattle.normal.specs.declared.priorities.Priorities.TheVariants.{Nested, Dependent}
 
--- No nested priority is above the length of the longest alternating chain.
+-- By either rule, no node's priority is above the length of the longest alternating chain.
 abbrev pub PriorityWithinDepth : Type 0
-PriorityWithinDepth = (f : Norm) → greatest f ≤ depth f
+PriorityWithinDepth = (priorities : Priorities) (f : Formula) → greatest_priority (nodes_with priorities f) ≤ depth (normal_form f)
 
 abbrev pub CountIsSize : Type 0
 CountIsSize = (f : Formula) → count f ≡ size (normal_form f)

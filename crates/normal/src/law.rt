@@ -2,7 +2,7 @@
 
 ghost use Rattle.normal.specs.Laws.{PriorityWithinDepth, CountIsSize, DependentIsLower};
 
-/// The greatest priority is at most the depth.
+/// The greatest priority, nested or dependent, is at most the depth.
 pub fn priority_within_depth()
     ensures { PriorityWithinDepth }
 {}
