@@ -74,6 +74,7 @@ pub fn rank(game: &Game, m: &Measure) -> u64
     ensures value { result ≡ rank_of game.now m.now }
     ensures lesser { IsRank game.now m.now result }
     ensures order { (other : Measure) → IsMeasure game.now other → (IsBelow m.now other ↔ (result < rank_of game.now other)) }
+    ensures measure { measure_of_rank game.now result ≡ m.now }
 {
     if m.is_top() {
         return top_rank(game).unwrap();

@@ -1,5 +1,6 @@
 use Rattle.measures.proofs.Common.{◌≡◌, ap, arith, height, rules, sym, true≢false, rank, ◌∙◌}
-use Rattle.measures.proofs.Numbers.{counts_within, number_is, rank_order, rank_tells, size_is}
+use Rattle.measures.proofs.Numbers.{counts_within, number_is, of_rank_rank, rank_order, rank_tells, size_is}
+use Rattle.measures.specs.Lifting.{of_rank}
 use Rattle.measures.proofs.rank.rank.Goals as goal
 
 pub returns-then-is_top-clause-value : goal.returns-then-is_top-clause-value
@@ -12,6 +13,9 @@ returns-then-is_top-clause-lesser c = rank_tells c.args.game.now c.args.m.now c.
 
 pub returns-then-is_top-clause-order : goal.returns-then-is_top-clause-order
 returns-then-is_top-clause-order c = λ other is. rank_order c.args.game.now c.args.m.now other c.unwrap.result c.requires.measure (returns-then-is_top-clause-value c) is
+
+pub returns-then-is_top-clause-measure : goal.returns-then-is_top-clause-measure
+returns-then-is_top-clause-measure c = ap (of_rank c.args.game.now) (returns-then-is_top-clause-value c) ∙ of_rank_rank c.args.game.now c.args.m.now c.requires.measure
 
 pub number_of-requires-clause-within : goal.number_of-requires-clause-within
 number_of-requires-clause-within c =
@@ -32,3 +36,6 @@ returns-clause-lesser c = rank_tells c.args.game.now c.args.m.now c.number_of.re
 
 pub returns-clause-order : goal.returns-clause-order
 returns-clause-order c = λ other is. rank_order c.args.game.now c.args.m.now other c.number_of.result c.requires.measure (returns-clause-value c) is
+
+pub returns-clause-measure : goal.returns-clause-measure
+returns-clause-measure c = ap (of_rank c.args.game.now) (returns-clause-value c) ∙ of_rank_rank c.args.game.now c.args.m.now c.requires.measure
