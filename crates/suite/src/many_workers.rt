@@ -7,19 +7,20 @@ use game::graph::Game;
 use game::name::GameName;
 use game::player::Player;
 use measures::measure::Measure;
-use measures::settle::{is_settled, solve_one};
+use measures::settle::{first_table, is_settled, solve_one};
 use measures::table::PlainTable;
 use samples::games::{Row, shared_game_of};
 use std::alloc::{AllocError, Global};
 use std::hint::spin_loop;
 use std::marker::Brand;
 use std::process::Abort;
-use std::sync::atomic::{AtomicBool, AtomicU64, Ordering};
+use std::sync::atomic::{AtomicBool, AtomicU32, AtomicU64, Ordering};
 use std::sync::{Arc, Wait};
 use std::thread::Threads;
 use tables::board::Board;
 use tables::error::TableError;
 use tables::locked::LockedBoard;
+use tables::packed::PackedBoard;
 use workers::gate::{Gate, NoGate};
 use workers::locked::solve_locked;
 use workers::solving::solve;
@@ -44,6 +45,36 @@ const WAY: [Row; 6] = [
     (Player::Odd, 1, &[4]),
     (Player::Even, 2, &[4, 5]),
     (Player::Even, 3, &[5]),
+];
+
+// Two rings of priority 1, and a way of six vertices of priority 3 to a loop of priority 4. Odd may go over from the first ring to
+// the second, but not back. Even wins all: she leaves the rings where she may, at 0 and at 8, and then there is only the way to
+// the loop. Yet she asks for less by staying until what the rings ask for has climbed past six threes: for each of them through
+// the counts of sixteen ones.
+const TWO_RINGS: [Row; 23] = [
+    (Player::Even, 1, &[1, 16]),
+    (Player::Odd, 1, &[2]),
+    (Player::Even, 1, &[3]),
+    (Player::Odd, 1, &[4, 11]),
+    (Player::Even, 1, &[5]),
+    (Player::Odd, 1, &[6]),
+    (Player::Even, 1, &[7]),
+    (Player::Odd, 1, &[0]),
+    (Player::Even, 1, &[9, 16]),
+    (Player::Odd, 1, &[10]),
+    (Player::Even, 1, &[11]),
+    (Player::Odd, 1, &[12]),
+    (Player::Even, 1, &[13]),
+    (Player::Odd, 1, &[14]),
+    (Player::Even, 1, &[15]),
+    (Player::Odd, 1, &[8]),
+    (Player::Even, 3, &[17]),
+    (Player::Odd, 3, &[18]),
+    (Player::Even, 3, &[19]),
+    (Player::Odd, 3, &[20]),
+    (Player::Even, 3, &[21]),
+    (Player::Odd, 3, &[22]),
+    (Player::Even, 4, &[22]),
 ];
 
 // The workers' table is that of one thread.
@@ -133,15 +164,21 @@ fn two_workers_meet(rt: HostRuntime) {
     assert!(rt; gate.took_place());
 }
 
-/// What is noted of a run.
+/// What is noted of a run: of each vertex how often it was read, lifted in the board's own way, and somebody's turn, and of two
+/// seats how often they read or lifted so.
 #[derive(Drop)]
 struct Notes {
-    seats: AtomicU64,
-    lasts: AtomicU64,
-    lasts_at_the_end: AtomicU64,
+    workers: usize,
+    meeting: Meeting,
+    seats: AtomicU32,
+    lasts: AtomicU32,
+    lasts_at_the_end: AtomicU32,
     settled_at_the_end: AtomicBool,
     reads: Vec<AtomicU64>,
+    own_lifts: Vec<AtomicU64>,
     turns: Vec<AtomicU64>,
+    by_seats: [AtomicU64; 2],
+    ghost some_workers: { 0 < workers },
 }
 
 // Counters that stand at zero.
@@ -153,14 +190,14 @@ fn counters(alloc: Global, count: u32) -> Result<Vec<AtomicU64>, AllocError> {
     Ok(counters)
 }
 
-// One more in the counter of a vertex.
+// One more in the counter of a vertex or a seat.
 fn count(counters: &[AtomicU64], v: u32) {
     if let Some(counter) = counters.get(v as usize) {
         counter.fetch_add(1, Ordering::SeqCst);
     }
 }
 
-// What the counter of a vertex stands at.
+// What the counter of a vertex or a seat stands at.
 fn counted(counters: &[AtomicU64], v: u32) -> u64 {
     match counters.get(v as usize) {
         Some(counter) => counter.load(Ordering::SeqCst),
@@ -169,14 +206,20 @@ fn counted(counters: &[AtomicU64], v: u32) -> u64 {
 }
 
 impl Notes {
-    fn new(alloc: Global, vertices: u32) -> Result<Self, AllocError> {
+    fn new(alloc: Global, vertices: u32, workers: usize) -> Result<Self, AllocError>
+        requires { 0 < workers }
+    {
         Ok(Notes {
-            seats: AtomicU64::new(0),
-            lasts: AtomicU64::new(0),
-            lasts_at_the_end: AtomicU64::new(0),
+            workers,
+            meeting: Meeting::new(),
+            seats: AtomicU32::new(0),
+            lasts: AtomicU32::new(0),
+            lasts_at_the_end: AtomicU32::new(0),
             settled_at_the_end: AtomicBool::new(false),
             reads: counters(alloc, vertices)?,
+            own_lifts: counters(alloc, vertices)?,
             turns: counters(alloc, vertices)?,
+            by_seats: [AtomicU64::new(0), AtomicU64::new(0)],
         })
     }
 
@@ -194,6 +237,27 @@ impl Notes {
         looked >= u64::from(game.vertices())
     }
 
+    // Whether each turn of a vertex was a lift in the board's own way.
+    fn are_own(&self, game: &Game) -> bool {
+        let mut looked = 0u64;
+        for v in 0..game.vertices() {
+            if counted(&self.own_lifts, v) != counted(&self.turns, v) {
+                return false;
+            }
+            looked = looked.saturating_add(counted(&self.turns, v));
+        }
+        looked >= u64::from(game.vertices())
+    }
+
+    // Whether two workers met at their first turns, and each of their seats read or lifted. Of another number of workers this asks
+    // nothing.
+    fn both_came(&self) -> bool {
+        self.workers != 2
+            || self.meeting.took_place()
+                && counted(&self.by_seats, 0) > 0
+                && counted(&self.by_seats, 1) > 0
+    }
+
     // Whether each seat had its last call before the board was finished into the table, which was settled then.
     fn ended_well(&self) -> bool {
         let seats = self.seats.load(Ordering::SeqCst);
@@ -204,12 +268,23 @@ impl Notes {
 }
 
 impl Gate for Notes {
-    fn before(&self, _worker: usize, v: u32) {
+    fn before(&self, worker: usize, v: u32) {
         count(&self.turns, v);
+        if self.workers == 2 {
+            self.meeting.before(worker, v);
+        }
     }
 }
 
-/// A board round another. It passes all on but the last calls, which it notes.
+/// A seat of the inner board, with its number.
+#[derive(Drop)]
+struct NotedSeat<S> {
+    inner: S,
+    number: u32,
+}
+
+/// A board round another. It passes all on but the last calls, in which a board may settle itself: those it only notes. So what
+/// it is finished into has what the workers did, and no more.
 #[derive(Drop)]
 struct Noted<'a, B: Board> {
     inner: B,
@@ -219,28 +294,38 @@ struct Noted<'a, B: Board> {
 }
 
 impl<'a, B: Board> Board for Noted<'a, B> {
-    type Seat = B::Seat;
+    type Seat = NotedSeat<B::Seat>;
 
     ghost game = { λ b. B.game b.inner };
 
-    ghost fits = { λ b s. B.fits b.inner s };
+    ghost fits = { λ b s. B.fits b.inner s.inner };
 
-    fn seat(&self) -> Result<B::Seat, TableError> {
-        let seat = self.inner.seat()?;
-        self.notes.seats.fetch_add(1, Ordering::SeqCst);
-        Ok(seat)
+    fn seat(&self) -> Result<NotedSeat<B::Seat>, TableError> {
+        let inner = self.inner.seat()?;
+        let number = self.notes.seats.fetch_add(1, Ordering::SeqCst);
+        Ok(NotedSeat { inner, number })
     }
 
-    fn read(&self, seat: &mut B::Seat, v: u32) -> Measure {
+    fn read(&self, seat: &mut NotedSeat<B::Seat>, v: u32) -> Measure {
         count(&self.notes.reads, v);
-        self.inner.read(seat, v)
+        count(&self.notes.by_seats, seat.number);
+        self.inner.read(&mut seat.inner, v)
     }
 
-    fn raise(&self, seat: &mut B::Seat, v: u32, m: &Measure) -> bool {
-        self.inner.raise(seat, v, m)
+    fn raise(&self, seat: &mut NotedSeat<B::Seat>, v: u32, m: &Measure) -> bool {
+        self.inner.raise(&mut seat.inner, v, m)
     }
 
-    fn last(&self, _seat: &mut B::Seat) {
+    fn own_lift(&self, seat: &mut NotedSeat<B::Seat>, v: u32) -> Option<bool> {
+        let rose = self.inner.own_lift(&mut seat.inner, v);
+        if rose.is_some() {
+            count(&self.notes.own_lifts, v);
+            count(&self.notes.by_seats, seat.number);
+        }
+        rose
+    }
+
+    fn last(&self, _seat: &mut NotedSeat<B::Seat>) {
         self.notes.lasts.fetch_add(1, Ordering::SeqCst);
     }
 
@@ -256,6 +341,21 @@ impl<'a, B: Board> Board for Noted<'a, B> {
 }
 
 // Whether workers over a noted board end well.
+fn ends_well_on<B: Board + Drop + Sync, R: Threads + Wait + Sync>(
+    rt: &R,
+    alloc: Global,
+    game: &Arc<Game, Global>,
+    inner: B,
+    notes: &Notes,
+) -> bool
+    requires { B.game inner ≡ arc_value game.now }
+{
+    let board = Noted { inner, game, notes };
+    let solved = solve(rt, alloc, game, board, notes.workers, notes);
+    solved.is_ok() && notes.ended_well() && notes.both_came()
+}
+
+// Whether they do over shards under locks.
 fn ends_well<
     K: GameName + Send + Sync,
     R: Abort + Threads + Wait + Clone + Copy + Drop + Send + Sync,
@@ -263,16 +363,10 @@ fn ends_well<
     requires named { arc_value game.now ≡ K.game }
     requires workers { 0 < workers }
 {
-    let notes = Notes::new(alloc, game.vertices()).expect(rt, "memory");
+    let notes = Notes::new(alloc, game.vertices(), workers).expect(rt, "memory");
     let shared = Arc::try_clone(game).expect(rt, "memory");
     let inner = LockedBoard::<K, R>::new(*rt, alloc, shared, 16).expect(rt, "memory");
-    let board = Noted {
-        inner,
-        game,
-        notes: &notes,
-    };
-    let solved = solve(rt, alloc, game, board, workers, &notes);
-    solved.is_ok() && notes.ended_well() && notes.are_read(game)
+    ends_well_on(rt, alloc, game, inner, &notes) && notes.are_read(game)
 }
 
 // The same of the game of these vertices.
@@ -287,13 +381,62 @@ fn all_end_well<R: Abort + AllocGlobal + Threads + Wait + Clone + Copy + Drop + 
     ends_well::<Brand, R>(rt, rt.alloc(), &game, workers)
 }
 
+// Whether they end well over words, which they lift in the board's own way.
+fn all_end_well_over_words<R: Abort + AllocGlobal + Threads + Wait + Sync>(
+    rt: &R,
+    rows: &[Row],
+    workers: usize,
+) -> bool
+    requires { 0 < workers }
+{
+    let game = shared_game_of(rt, rows).expect(rt, "a game");
+    let notes = Notes::new(rt.alloc(), game.vertices(), workers).expect(rt, "memory");
+    let shared = Arc::try_clone(&game).expect(rt, "memory");
+    let inner = PackedBoard::new(rt.alloc(), shared, 1).expect(rt, "a board");
+    ends_well_on(rt, rt.alloc(), &game, inner, &notes) && notes.are_own(&game)
+}
+
+// Whether the table that workers begin with leaves something to lift.
+fn is_left_to_workers(rt: &(impl Abort + AllocGlobal), rows: &[Row]) -> bool {
+    let game = shared_game_of(rt, rows).expect(rt, "a game");
+    let first = first_table(rt.alloc(), &game).expect(rt, "memory");
+    !is_settled(&game, &first)
+}
+
+// Settled is what no lift raises, which is looked up at each vertex. The ring and the way are settled before workers begin; the two
+// rings aren't, so there it is the workers' doing.
 #[test]
 fn workers_leave_nothing_to_lift(rt: HostRuntime) {
+    assert!(&rt; is_left_to_workers(&rt, &TWO_RINGS));
     for workers in [1, 2, 8] {
         assert!(rt;
             all_end_well(&rt, &ODD_RING, workers),
             "{workers} on a ring"
         );
         assert!(rt; all_end_well(&rt, &WAY, workers), "{workers} on a way");
+        assert!(rt;
+            all_end_well(&rt, &TWO_RINGS, workers),
+            "{workers} on two rings"
+        );
+    }
+}
+
+// The same over words.
+#[test]
+fn workers_leave_nothing_to_lift_over_words(rt: HostRuntime) {
+    assert!(&rt; is_left_to_workers(&rt, &TWO_RINGS));
+    for workers in [1, 2, 8] {
+        assert!(rt;
+            all_end_well_over_words(&rt, &ODD_RING, workers),
+            "{workers} on a ring"
+        );
+        assert!(rt;
+            all_end_well_over_words(&rt, &WAY, workers),
+            "{workers} on a way"
+        );
+        assert!(rt;
+            all_end_well_over_words(&rt, &TWO_RINGS, workers),
+            "{workers} on two rings"
+        );
     }
 }
