@@ -1,6 +1,7 @@
 -- The nodes of a part, when its first node is mended after its operands are written.
 use Rattle.std.proofs.Common.{◌≡◌, ◌+◌, ◌<◌, ℕ, Bool, List, [], ◌∷◌, ◌++◌, length, set, get_or, refl, sym, ap, ◌∙◌, subst, arith, append_assoc, length-append}
-use Rattle.std.specs.Prelude.{slice_index}
+use Rattle.std.specs.Prelude.{slice_index, vec_len}
+use Rattle.std.specs.Vec.{with_item}
 use Rattle.std.proofs.lemmas.List.{map-set, get_or-map, length-map}
 use Rattle.std.proofs.Math.Seq.{set-append_seam, get_or-append_seam}
 use Rattle.normal.specs.Tree.{Norm, Constant, Junction, Modality, Fixpoint, Variable, Shape, JunctionNode, size, two, preorder}
@@ -9,6 +10,7 @@ use Rattle.normal.specs.Surveys.{noted}
 use Rattle.normal.specs.View.{shape_of, node_of, nodes_of}
 use Rattle.normal.specs.Writes.{Writes}
 use Rattle.normal.specs.declared.node as declared
+use Rattle.normal.specs.declared.write.Preorder.{Preorder}
 
 -- A tree has as many nodes as are listed.
 pub preorder_length : {A : Type 0} (say : ℕ → Norm → A) (at : ℕ) (f : Norm) → length (preorder say at f) ≡ size f
@@ -19,9 +21,16 @@ preorder_length say at (Modality flag a f) = omega (arith, preorder_length say (
 preorder_length say at (Fixpoint flag f) = omega (arith, preorder_length say (at + 1) f)
 preorder_length say at (Variable binder) = refl
 
+-- these nodes follow the old ones
+abbrev Follows : List ℕ → (at : ℕ) (old new : List Node) → Norm → Type 0
+Follows priorities at old new f = new ≡ old ++ nodes_by (noted priorities) at f
+
 -- Writing a part makes as many nodes as its tree has.
-pub writes_length : (priorities : List ℕ) (at : ℕ) (old : List Node) (xs : List declared.Node.Node) (f : Norm) → Writes priorities at old (nodes_of xs) f → length xs ≡ length old + size f
-writes_length priorities at old xs f w = omega (arith, length-map xs node_of, ap length w, length-append old (nodes_by (noted priorities) at f), preorder_length (node_at (noted priorities)) at f)
+pub writes_length : (old new : Preorder) (f : Norm) → Writes old new f → vec_len new.nodes ≡ vec_len old.nodes + size f
+writes_length old new f w =
+    let at = vec_len old.nodes in
+    let table = noted old.priorities.now in
+    omega (arith, old.nodes.ok.0, new.nodes.ok.0, length-map old.nodes.items node_of, length-map new.nodes.items node_of, ap length w.nodes, length-append (nodes_of old.nodes.items) (nodes_by table at f), preorder_length (node_at table) at f)
 
 -- the node that stands between these
 node_there : (xs : List declared.Node.Node) (old rest : List Node) (p : Node) (i : ℕ) (x : declared.Node.Node) → nodes_of xs ≡ old ++ p ∷ rest → i ≡ length old → i < length xs → x ≡ get_or xs i x → node_of x ≡ p
@@ -36,20 +45,20 @@ node_set xs old rest p i y is at =
 between : (xs : List declared.Node.Node) (old rest : List Node) (p : Node) → nodes_of xs ≡ old ++ p ∷ rest → length old < length xs
 between xs old rest p is = omega (arith, length-map xs node_of, ap length is, length-append old (p ∷ rest))
 
--- Two operands are written: a node first, which is put right when the numbers are known, and then the one and the other.
-pub junction_writes : (priorities : List ℕ) (i at m n : ℕ) (old mid : List Node) (ys : List Node) (xs : List declared.Node.Node) (x : declared.Node.Node) (k : declared.Kind.Kind) (slot : Shape) (flag : Bool) (f g : ℕ → Norm)
-    → i ≡ length old → mid ≡ old ++ record { shape = slot; priority = slice_index priorities at } ∷ [] → at ≡ length old → m ≡ at + 1 → Writes priorities m mid ys (f m) → n ≡ length ys → Writes priorities n ys (nodes_of xs) (g n)
+-- two operands follow a node that is put right when their numbers are known
+junction_nodes : (priorities : List ℕ) (i at m n : ℕ) (old mid : List Node) (ys : List Node) (xs : List declared.Node.Node) (x : declared.Node.Node) (k : declared.Kind.Kind) (slot : Shape) (flag : Bool) (f g : ℕ → Norm)
+    → i ≡ length old → mid ≡ old ++ record { shape = slot; priority = slice_index priorities at } ∷ [] → at ≡ length old → m ≡ at + 1 → Follows priorities m mid ys (f m) → n ≡ length ys → Follows priorities n ys (nodes_of xs) (g n)
     → x ≡ get_or xs i x → shape_of k ≡ JunctionNode flag (at + 1) n
-    → Writes priorities at old (nodes_of (set xs i (record { kind = k; priority = x.priority }))) (two flag f g at)
-junction_writes priorities i at m n old mid ys xs x k shape flag f g start reserved at_is next w count v read kind =
+    → Follows priorities at old (nodes_of (set xs i (record { kind = k; priority = x.priority }))) (two flag f g at)
+junction_nodes priorities i at m n old mid ys xs x k shape flag f g start reserved at_is next w count v read kind =
     let table = noted priorities in
-    let left : Writes priorities (at + 1) mid ys (f (at + 1)) = subst (λ n. Writes priorities n mid ys (f n)) next w in
+    let left : Follows priorities (at + 1) mid ys (f (at + 1)) = subst (λ n. Follows priorities n mid ys (f n)) next w in
     let front = nodes_by table (at + 1) (f (at + 1)) in
     let slot : Node = record { shape = shape; priority = slice_index priorities at } in
     let middle : n ≡ at + 1 + size (f (at + 1)) =
     omega (arith, ap length left, length-append mid front, ap length reserved, length-append old (slot ∷ []), preorder_length (node_at table) (at + 1) (f (at + 1)))
     in
-    let right : Writes priorities (at + 1 + size (f (at + 1))) ys (nodes_of xs) (g (at + 1 + size (f (at + 1)))) = subst (λ n. Writes priorities n ys (nodes_of xs) (g n)) middle v in
+    let right : Follows priorities (at + 1 + size (f (at + 1))) ys (nodes_of xs) (g (at + 1 + size (f (at + 1)))) = subst (λ n. Follows priorities n ys (nodes_of xs) (g n)) middle v in
     let back = nodes_by table (at + 1 + size (f (at + 1))) (g (at + 1 + size (f (at + 1)))) in
     let is : nodes_of xs ≡ old ++ slot ∷ (front ++ back) =
     right ∙ (ap (λ zs. zs ++ back) (left ∙ (ap (λ zs. zs ++ front) reserved ∙ append_assoc old (slot ∷ []) front)) ∙ append_assoc old (slot ∷ front) back)
@@ -58,3 +67,19 @@ junction_writes priorities i at m n old mid ys xs x k shape flag f g start reser
     let same : x.priority ≡ slice_index priorities at = ap (λ (n : Node). n.priority) there in
     let named : shape_of k ≡ JunctionNode flag (at + 1) (at + 1 + size (f (at + 1))) = kind ∙ ap (JunctionNode flag (at + 1)) middle in
     node_set xs old (front ++ back) slot i (record { kind = k; priority = x.priority }) is start ∙ (λ j. old ++ record { shape = named j; priority = same j } ∷ (front ++ back))
+
+-- Two operands are written: a node first, which is put right when the numbers are known, and then the one and the other.
+pub junction_writes : (old first left right : Preorder) (i : ℕ) (x : declared.Node.Node) (k : declared.Kind.Kind) (slot : Shape) (flag : Bool) (f g : ℕ → Norm)
+    → i ≡ vec_len old.nodes → nodes_of first.nodes.items ≡ nodes_of old.nodes.items ++ record { shape = slot; priority = slice_index old.priorities.now (vec_len old.nodes) } ∷ [] → vec_len first.nodes ≡ vec_len old.nodes + 1 → first.priorities ≡ old.priorities
+    → Writes first left (f (vec_len first.nodes)) → Writes left right (g (vec_len left.nodes)) → x ≡ get_or right.nodes.items i x → shape_of k ≡ JunctionNode flag (vec_len old.nodes + 1) (vec_len left.nodes)
+    → Writes old (record right { nodes = with_item right.nodes i (record { kind = k; priority = x.priority }) }) (two flag f g (vec_len old.nodes))
+junction_writes old first left right i x k slot flag f g start reserved next same w v read kind =
+    let at_is : vec_len old.nodes ≡ length (nodes_of old.nodes.items) = omega (arith, old.nodes.ok.0, length-map old.nodes.items node_of) in
+    let count : vec_len left.nodes ≡ length (nodes_of left.nodes.items) = omega (arith, left.nodes.ok.0, length-map left.nodes.items node_of) in
+    let a : Follows old.priorities.now (vec_len first.nodes) (nodes_of first.nodes.items) (nodes_of left.nodes.items) (f (vec_len first.nodes)) = rw (← same) w.nodes in
+    let b : Follows old.priorities.now (vec_len left.nodes) (nodes_of left.nodes.items) (nodes_of right.nodes.items) (g (vec_len left.nodes)) = rw (← same, ← w.priorities) v.nodes in
+    record {
+      nodes = junction_nodes old.priorities.now i (vec_len old.nodes) (vec_len first.nodes) (vec_len left.nodes) (nodes_of old.nodes.items) (nodes_of first.nodes.items) (nodes_of left.nodes.items) right.nodes.items x k slot flag f g
+          (start ∙ at_is) reserved at_is next a count b read kind;
+      priorities = v.priorities ∙ (w.priorities ∙ same);
+    }

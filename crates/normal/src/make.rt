@@ -15,7 +15,7 @@ use crate::limits::{GREATEST_PRIORITY, MOST_NODES};
 use crate::part::{Part, Scope};
 use crate::priorities::Priorities;
 use crate::survey::{Place, Survey};
-use crate::write::write;
+use crate::write::Preorder;
 use formula::closed::Closed;
 use std::alloc::Global;
 
@@ -60,7 +60,7 @@ pub fn normal_with(
     if summary.greatest > GREATEST_PRIORITY {
         return Err(NormalError::PriorityTooGreat);
     }
-    let mut nodes = Vec::new(alloc);
-    write(alloc, &mut nodes, &survey.priorities, &part)?;
-    Ok(Normal::of(nodes, summary.depth()))
+    let mut preorder = Preorder::new(alloc, &survey.priorities);
+    preorder.part(&part)?;
+    Ok(Normal::of(preorder.nodes, summary.depth()))
 }
