@@ -210,11 +210,11 @@ row_of width line = fields_of line >>= λ f. rank_of width f.2 >>= λ rank. Some
 
 pub row_gives : (width : ℕ) (line : List ℕ) (row : Row) → row_of width line ≡ Some row → IsShaped width line row
 row_gives width line row e =
-    let (f, found, e1) = bind_some (fields_of line) (λ f. rank_of width f.2 >>= λ rank. Some (record { vertex = f.0; entry = record { move = f.1; rank = rank } })) row e in
-    let (rank, read, e2) = bind_some (rank_of width f.2) (λ rank. Some (record { vertex = f.0; entry = record { move = f.1; rank = rank } })) row e1 in
+    let (f, found, after) = bind_some (fields_of line) (λ f. rank_of width f.2 >>= λ rank. Some (record { vertex = f.0; entry = record { move = f.1; rank = rank } })) row e in
+    let (rank, read, said) = bind_some (rank_of width f.2) (λ rank. Some (record { vertex = f.0; entry = record { move = f.1; rank = rank } })) row after in
     let (x, y, vertex, move, cut) = fields_give line f.0 f.1 f.2 found in
     let r = rank_gives width f.2 rank read in
-    subst (IsShaped width line) (some_is (record { vertex = f.0; entry = record { move = f.1; rank = rank } }) row e2)
+    subst (IsShaped width line) (some_is (record { vertex = f.0; entry = record { move = f.1; rank = rank } }) row said)
     (record { spelled = record { v = x; m = y; r = f.2; vertex = vertex; move = move; rank = r.counts; joined = cut }; count = r.long; small = r.small })
 
 pub row_found : (width : ℕ) (line : List ℕ) (row : Row) → IsShaped width line row → row_of width line ≡ Some row

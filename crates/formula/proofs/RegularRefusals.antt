@@ -24,7 +24,7 @@ use Rattle.formula.proofs.RegularSpine.{sign_row, repeat_row, not_postfix, one_a
 use Rattle.formula.proofs.RegularPlaces.{opens_regular, in_joined, row_taken, above_taken, first_taken, low-as}
 use Rattle.formula.proofs.RegularEnds.{no_token, no_start, not_too_deep, open_too_many, word_barred, close_barred, no_name, repeated-fits, repeated-is, begins, begun, begun_left}
 
--- no token has the row 1
+-- a token that stands in a row at all stands above the first one
 pub row_not_one : (ts : List Token) → 0 < reg_row ts → 1 < reg_row ts
 row_not_one [] h = omega arith
 row_not_one (Bar ∷ ts) h = absurd (omega arith)

@@ -61,8 +61,8 @@ left_out_line = refl
 
 -- ---- what is read
 
-abbrev row : ℕ → Option ℕ → List ℕ → Row
-row v move rank = record { vertex = v; entry = record { move = move; rank = rank } }
+abbrev spelled_row : ℕ → Option ℕ → List ℕ → Row
+spelled_row v move rank = record { vertex = v; entry = record { move = move; rank = rank } }
 
 -- two vertices that go to themselves, of the priorities 0 and 1
 abbrev two_sinks : Game
@@ -72,7 +72,7 @@ abbrev of_second : Evidence
 of_second = record { player = Odd; entries = None ∷ Some (record { move = None; rank = 0 ∷ [] }) ∷ [] }
 
 -- 1 - (0)
-line_1 : IsShaped 1 (codes "1 - (0)") (row 1 None (0 ∷ []))
+line_1 : IsShaped 1 (codes "1 - (0)") (spelled_row 1 None (0 ∷ []))
 line_1 = record {
   spelled = record { v = codes "1"; m = codes "-"; r = codes "(0)"; vertex = (refl, refl); move = refl; rank = (codes "0" ∷ [], ((refl, refl), tt), refl); joined = refl };
   count = refl;
@@ -85,19 +85,19 @@ spelled_odd = record {
   rest = codes "1 - (0)" ∷ [];
   cut = refl;
   lines = record {
-    rows = row 1 None (0 ∷ []) ∷ [];
+    rows = spelled_row 1 None (0 ∷ []) ∷ [];
     good = record { each = (line_1, tt); inside = (record { vertex = omega arith; move = λ t e. cc }, tt); once = λ i j d l k. absurd (omega (arith, l, k)) };
     long = refl;
     same = λ v x. (to v x, from v x);
   };
 }
   where
-    to : (v : ℕ) (x : Entry) → slice_index_or of_second.entries v None ≡ Some x → Contains (row 1 None (0 ∷ []) ∷ []) (record { vertex = v; entry = x })
+    to : (v : ℕ) (x : Entry) → slice_index_or of_second.entries v None ≡ Some x → Contains (spelled_row 1 None (0 ∷ []) ∷ []) (record { vertex = v; entry = x })
     to zero x e = absurd cc
     to (suc zero) x e = let same : record { move = None; rank = 0 ∷ [] } ≡ x = cc in (0, omega arith, λ i. record { vertex = 1; entry = same i })
     to (suc (suc v)) x e = absurd cc
 
-    from : (v : ℕ) (x : Entry) → Contains (row 1 None (0 ∷ []) ∷ []) (record { vertex = v; entry = x }) → slice_index_or of_second.entries v None ≡ Some x
+    from : (v : ℕ) (x : Entry) → Contains (spelled_row 1 None (0 ∷ []) ∷ []) (record { vertex = v; entry = x }) → slice_index_or of_second.entries v None ≡ Some x
     from v x (zero, h, is) = subst (λ (r : Row). slice_index_or of_second.entries r.vertex None ≡ Some r.entry) is refl
     from v x (suc k, h, is) = absurd (omega (arith, h))
 
@@ -131,7 +131,7 @@ nothing_before : AreGood 16 1 [] []
 nothing_before = record { each = tt; inside = tt; once = λ i j d l k. absurd (omega (arith, k)) }
 
 -- 16 0 (0): there are vertices 0 to 15
-line_16 : IsShaped 1 (codes "16 0 (0)") (row 16 (Some 0) (0 ∷ []))
+line_16 : IsShaped 1 (codes "16 0 (0)") (spelled_row 16 (Some 0) (0 ∷ []))
 line_16 = record {
   spelled = record { v = codes "16"; m = codes "0"; r = codes "(0)"; vertex = (refl, refl); move = (refl, refl); rank = (codes "0" ∷ [], ((refl, refl), tt), refl); joined = refl };
   count = refl;
@@ -144,7 +144,7 @@ no_vertex = (
   codes "16 0 (0)" ∷ [],
   0,
   refl,
-  record { front = []; line = codes "16 0 (0)"; back = []; before = []; cut = refl; fine = nothing_before; count = refl; wrong = (row 16 (Some 0) (0 ∷ []), line_16, inl (omega arith)) },
+  record { front = []; line = codes "16 0 (0)"; back = []; before = []; cut = refl; fine = nothing_before; count = refl; wrong = (spelled_row 16 (Some 0) (0 ∷ []), line_16, inl (omega arith)) },
   refl,
 )
 
