@@ -38,7 +38,7 @@ pub fn solve_with<G: Gate + Sync, R: Threads + Wait + Clone + Copy + Drop + Send
 ///
 /// # Errors
 /// Those of `solve_with`.
-pub fn solve_seen<
+pub(crate) fn solve_seen<
     G: Gate + Sync,
     O: Observer + Sync,
     R: Threads + Wait + Clone + Copy + Drop + Send + Sync,

@@ -49,7 +49,7 @@ pub fn read_both<R: Read + Drop, S: Read + Drop>(
 ///
 /// # Errors
 /// Those of `read_both`.
-pub fn read_both_seen<R: Read + Drop, S: Read + Drop, O: Watcher>(
+pub(crate) fn read_both_seen<R: Read + Drop, S: Read + Drop, O: Watcher>(
     alloc: Global,
     aut: R,
     formula: S,

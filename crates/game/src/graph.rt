@@ -63,7 +63,7 @@ impl Game {
     }
 
     /// The greatest priority that a vertex has, and 0 where there is no vertex. It takes no look at the vertices.
-    pub fn greatest(&self) -> u32
+    pub(crate) fn greatest(&self) -> u32
         ensures { result ≡ greatest self.now }
     {
         self.greatest
@@ -264,7 +264,7 @@ impl GameBuilder {
     }
 
     /// No vertex yet, and room for so many.
-    pub fn with_room(alloc: Global, vertices: usize) -> Result<Self, AllocError>
+    pub(crate) fn with_room(alloc: Global, vertices: usize) -> Result<Self, AllocError>
         ensures { IfOk result (λ builder. builder ≡ []) }
     {
         let mut builder = GameBuilder::new(alloc);
@@ -273,7 +273,7 @@ impl GameBuilder {
     }
 
     /// These vertices, and then those of another builder.
-    pub fn joined(mut self, other: &GameBuilder) -> Result<GameBuilder, AllocError>
+    pub(crate) fn joined(mut self, other: &GameBuilder) -> Result<GameBuilder, AllocError>
         requires { length self + length other.now ≤ MOST_VERTICES }
         ensures { IfOk result (λ builder. builder ≡ self ++ other.now) }
     {

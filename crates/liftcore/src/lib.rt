@@ -5,7 +5,7 @@ pub mod error;
 pub mod event;
 pub mod law;
 pub mod machine;
-pub mod marks;
+mod marks;
 pub mod schedule;
 mod seat;
 mod state;

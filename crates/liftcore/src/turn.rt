@@ -99,7 +99,7 @@ impl Turn {
     }
 
     /// The vertex.
-    pub fn vertex(&self) -> u32
+    pub(crate) fn vertex(&self) -> u32
         ensures { result ≡ self.now.vertex }
     {
         self.vertex
@@ -120,7 +120,7 @@ impl Turn {
     }
 
     /// Whether the successor at this place was read.
-    pub fn is_read(&self, place: usize) -> bool
+    pub(crate) fn is_read(&self, place: usize) -> bool
         ensures { IsTrue result ↔ IsReadAt self.now place }
     {
         self.marks.get(place).copied().unwrap_or(false)

@@ -75,7 +75,7 @@ fn iterated<'x, 'a>(
 
 /// The states at which the formula holds, where the scope has the sets of its variables.
 #[cycle(plain)]
-pub fn marks_of<'x, 'a>(
+pub(crate) fn marks_of<'x, 'a>(
     alloc: Global,
     lts: &Lts,
     term: &'x Term<'a>,

@@ -243,8 +243,8 @@ impl PlainTable {
         }
     }
 
-    /// Whether a claim is good over the table. It looks at each edge of each entry once.
-    pub fn is_good_claim(&self, game: &Game, claim: &Claim) -> bool
+    // Whether a claim is good over the table. It looks at each edge of each entry once.
+    fn is_good_claim(&self, game: &Game, claim: &Claim) -> bool
         requires same { self.now.game ≡ game.now }
         requires claim { claim.now.game ≡ game.now }
         ensures { IsTrue result ↔ IsGoodClaim game.now self.now.values claim.now.entries }

@@ -1,7 +1,7 @@
 // The normal form of a formula.
 #![tactic(auto)]
 
-pub mod action;
+mod action;
 pub mod count;
 pub mod error;
 pub mod form;
@@ -9,8 +9,8 @@ pub mod law;
 pub mod limits;
 pub mod make;
 pub mod node;
-pub mod part;
+mod part;
 pub mod printer;
 pub mod priorities;
-pub mod survey;
-pub mod write;
+mod survey;
+mod write;

@@ -2,9 +2,8 @@
 
 use formula::closed::Closed;
 use formula::holds;
-use formula::tree::{Act, Reg, State};
+use formula::tree::{Reg, State};
 use lts::Label;
-use normal::action::copied;
 use samples::texts::formula_of;
 use std::alloc::{AllocError, Global};
 use std::process::Abort;
@@ -61,24 +60,18 @@ const ROWS: [(&str, &str, bool); 8] = [
     ("tau", "<true && !tau>true", false),
 ];
 
-// Whether the action formula and its copy say that of the label.
-fn agree(alloc: Global, action: &Act, label: &Label, says: bool) -> Result<bool, AllocError> {
-    let copy = copied(alloc, action)?;
-    Ok(holds(action, &label.view()) == says && holds(&copy, &label.view()) == says)
-}
-
-// The same of a formula whose modality has the action formula.
-fn says_of(alloc: Global, formula: &Closed, label: &Label, says: bool) -> Result<bool, AllocError> {
+// Whether the action formula in the formula's modality says that of the label.
+fn says_of(formula: &Closed, label: &Label, says: bool) -> bool {
     match formula.tree() {
-        State::Dia(Reg::Act(action), _) => agree(alloc, action, label, says),
-        _ => Ok(false),
+        State::Dia(Reg::Act(action), _) => holds(action, &label.view()) == says,
+        _ => false,
     }
 }
 
 fn is_as_wanted(rt: &(impl Abort + AllocGlobal), label: &str, formula: &str, says: bool) -> bool {
     let label = Label::new(rt.alloc(), label.as_bytes()).expect(rt, "memory");
     let formula = formula_of(rt.alloc(), formula).expect(rt, "a formula");
-    says_of(rt.alloc(), &formula, &label, says).expect(rt, "memory")
+    says_of(&formula, &label, says)
 }
 
 #[test]

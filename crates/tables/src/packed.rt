@@ -264,7 +264,7 @@ impl PackedBoard {
     }
 
     /// Raises the measure of a vertex to this one, and says whether it rose.
-    pub fn lift_to(&self, seat: &mut PackedSeat, v: u32, m: &Measure) -> bool
+    pub(crate) fn lift_to(&self, seat: &mut PackedSeat, v: u32, m: &Measure) -> bool
         requires seat { IsSeatOf self.now seat.old }
         requires vertex { v < length (board_game self.now).vertices }
         requires below { LiesBelow (board_game self.now) v m.now }

@@ -145,7 +145,7 @@ impl<K: GameName> Shard<K> {
 
     /// Raises a table to what the shard has.
     #[tactic(auto, using(measures::proofs::Rising::under_itself, measures::proofs::Rising::under_trans))]
-    pub fn raise_table(&self, game: &Game, table: &mut PlainTable)
+    pub(crate) fn raise_table(&self, game: &Game, table: &mut PlainTable)
         requires game { game.now ≡ K.game }
         requires same { table.old.game ≡ K.game }
         ensures game { table.new.game ≡ K.game }
