@@ -120,15 +120,15 @@ opened_whole g v r is h = same_values (length g.vertices) r.values (opening g) i
 
 -- ------------------------------------------------------------------ as they are stored
 
-pub stored_width : (g : Game) (limits : List ℕ) (w : ℕ) (values : List Measure) → IsStored (record { game = g; values = values }) limits w → w ≡ length (bounds g)
-stored_width g limits w values is = is.wide ∙ ap length is.bounded
+pub stored_width : (g edges : Game) (limits : List ℕ) (w : ℕ) (values : List Measure) → IsStored (record { game = g; values = values }) limits w edges → w ≡ length (bounds g)
+stored_width g edges limits w values is = is.wide ∙ ap length is.bounded
 
 -- a stored table under the name that a call gives its game
-pub stored_as : (of g : Game) (limits : List ℕ) (w : ℕ) (values : List Measure) → of ≡ g → IsStored (record { game = of; values = values }) limits w
+pub stored_as : (of g edges : Game) (limits : List ℕ) (w : ℕ) (values : List Measure) → of ≡ g → IsStored (record { game = of; values = values }) limits w edges
     → IsPlain (record { game = g; values = values }) × (length (components g) ≡ w)
-stored_as of g limits w values same is = (
+stored_as of g edges limits w values same is = (
   subst (λ (h : Game). IsPlain (record { game = h; values = values })) same is.plain,
-  sym (stored_width of limits w values is ∙ (bounds_long of ∙ ap (λ (h : Game). length (components h)) same)),
+  sym (stored_width of edges limits w values is ∙ (bounds_long of ∙ ap (λ (h : Game). length (components h)) same)),
 )
 
 -- what is told of a vertex by the name of the table's game
@@ -141,10 +141,11 @@ module _ (of g : Game) (values : List Measure) (plain : IsPlain (record { game =
       let long : length g.vertices ≡ length values = ap (λ (k : Game). length k.vertices) (sym same) ∙ sym plain.long in
       subst (λ n. AllByRecursion (λ t. t < n) ts × (0 < length ts)) long (its_successors g (subst IsGame same plain.game) v h ts e)
 
-pub set_stored : (g : Game) (limits : List ℕ) (r new : Rows) (v : ℕ) (m : Measure) → IsStored (record { game = g; values = r.values }) limits r.width → v < length g.vertices → LiesBelow g v m
-    → new ≡ record { width = r.width; values = slice_set r.values v m } → IsStored (record { game = g; values = new.values }) limits new.width
-set_stored g limits r new v m is h below e = subst (λ (s : Rows). IsStored (record { game = g; values = s.values }) limits s.width) (sym e) (record {
+pub set_stored : (g edges noted : Game) (limits : List ℕ) (r new : Rows) (v : ℕ) (m : Measure) → IsStored (record { game = g; values = r.values }) limits r.width edges → v < length g.vertices → LiesBelow g v m
+    → new ≡ record { width = r.width; values = slice_set r.values v m } → noted ≡ edges → IsStored (record { game = g; values = new.values }) limits new.width noted
+set_stored g edges noted limits r new v m is h below e same = subst (λ (s : Rows). IsStored (record { game = g; values = s.values }) limits s.width noted) (sym e) (record {
   plain = set_plain (record { game = g; values = r.values }) v m is.plain h below;
   bounded = is.bounded;
   wide = is.wide;
+  edges_are = same ∙ is.edges_are;
 })

@@ -21,11 +21,12 @@ pub record IsPlain (t : Table) : Type 0 where
   pub long : length t.values ≡ length t.game.vertices
   pub below : (v : ℕ) → v < length t.game.vertices → LiesBelow t.game v (value_at t.values v)
 
--- a table that is stored with the bounds of its game's counts, in rows of so many counts
-pub record IsStored (t : Table) (limits : List ℕ) (width : ℕ) : Type 0 where
+-- a table that is stored with the bounds of its game's counts, in rows of so many counts, and with its game's predecessors
+pub record IsStored (t : Table) (limits : List ℕ) (width : ℕ) (edges : Game) : Type 0 where
   pub plain : IsPlain t
   pub bounded : limits ≡ bounds t.game
   pub wide : width ≡ length limits
+  pub edges_are : edges ≡ t.game
 
 -- the least progress table of its game
 pub record IsSettled (t : Table) : Type 0 where

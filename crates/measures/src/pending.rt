@@ -1,10 +1,11 @@
 // Which vertices may rise next. Nothing rests on these lists but time: what they miss, a sweep over all vertices finds.
 
-ghost use Rattle.std.specs.Prelude.{◌≤◌, vec_len};
+ghost use Rattle.std.specs.Prelude.{◌≡◌, ◌≤◌, IfOk, vec_len};
 
 use game::graph::Game;
 use game::predecessors::Predecessors;
 use std::alloc::{AllocError, Global};
+use std::marker::Model;
 
 // A vertex on a walk's path, and how many of its successors the walk has seen.
 #[derive(Clone, Copy)]
@@ -147,17 +148,27 @@ impl Stack {
     }
 }
 
-/// What may rise next, with all the memory that lifting needs.
+/// What may rise next, with all the memory that lifting needs. It is seen as the game whose predecessors it has.
 #[derive(Drop)]
 pub(crate) struct Pending {
     predecessors: Predecessors,
     stack: Stack,
 }
 
+impl Model for Pending {
+    ghost use Rattle.game.specs.Game.{Game};
+
+    ghost Value = { Game };
+
+    ghost view = { λ p. p.predecessors };
+}
+
 impl Pending {
     /// All vertices. Where counts can climb, those come first to which others lead: so what is lost is seen to be lost at
     /// once, and not when all counts have climbed.
-    pub(crate) fn of(alloc: Global, game: &Game, climbs: bool) -> Result<Self, AllocError> {
+    pub(crate) fn of(alloc: Global, game: &Game, climbs: bool) -> Result<Self, AllocError>
+        ensures { IfOk result (λ p. p ≡ game.now) }
+    {
         let predecessors = Predecessors::of(alloc, game)?;
         let list = if climbs {
             walked(alloc, game)?
@@ -171,19 +182,25 @@ impl Pending {
     }
 
     /// Those that lifting goes back along.
-    pub(crate) fn predecessors(&self) -> &Predecessors {
+    pub(crate) fn predecessors(&self) -> &Predecessors
+        ensures { result.now ≡ self.now }
+    {
         &self.predecessors
     }
 
     /// A vertex rose: those that have it among their successors may rise too.
-    pub(crate) fn note(&mut self, v: u32) {
+    pub(crate) fn note(&mut self, v: u32)
+        ensures { self.new ≡ self.old }
+    {
         for u in self.predecessors.get(v) {
             self.stack.push(*u);
         }
     }
 
     /// The vertex that came last.
-    pub(crate) fn next(&mut self) -> Option<u32> {
+    pub(crate) fn next(&mut self) -> Option<u32>
+        ensures { self.new ≡ self.old }
+    {
         self.stack.pop()
     }
 }

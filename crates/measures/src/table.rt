@@ -40,7 +40,7 @@ impl Model for PlainTable {
 
     ghost view = { λ t. record { game = t.of.value; values = t.rows.values } };
 
-    ghost invariant = { λ t. IsStored record { game = t.of.value; values = t.rows.values } t.bounds.items t.rows.width };
+    ghost invariant = { λ t. IsStored record { game = t.of.value; values = t.rows.values } t.bounds.items t.rows.width t.pending };
 }
 
 /// Whether a vertex is Odd's for ever: its priority is odd, and its only successor is itself. Its opening value is then top,
@@ -98,7 +98,9 @@ impl PlainTable {
     }
 
     /// The predecessors of its game's vertices.
-    pub(crate) fn predecessors(&self) -> &Predecessors {
+    pub fn predecessors(&self) -> &Predecessors
+        ensures { result.now ≡ self.now.game }
+    {
         self.pending.predecessors()
     }
 

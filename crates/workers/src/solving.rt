@@ -10,7 +10,6 @@ use crate::jobs::{Own, deques};
 use crate::worker::work;
 use game::graph::Game;
 use game::name::GameName;
-use game::predecessors::Predecessors;
 use measures::settle::{first_table, settle};
 use measures::table::{PlainTable, Settled};
 use std::alloc::{AllocError, Global};
@@ -35,10 +34,9 @@ fn run<K: GameName + Send + Sync, B: Board + Sync, G: Gate + Sync, R: Threads + 
     requires begun { first.now.game ≡ game.now }
     requires workers { 0 < workers }
 {
-    let predecessors = Predecessors::of(alloc, game)?;
     let room = game.vertices() as usize / workers + 1;
     let (mut own, others) = deques::<K>(alloc, workers, room)?;
-    let predecessors = &predecessors;
+    let predecessors = first.predecessors();
     let others = others.as_slice();
     thread::for_each_mut(
         rt,

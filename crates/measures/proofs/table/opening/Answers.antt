@@ -1,4 +1,4 @@
-use Rattle.measures.proofs.Common.{◌∙◌, ◌+◌, ◌<◌, ap, arith, length, subst, sym, Game, IsStored, Rows}
+use Rattle.measures.proofs.Common.{◌∙◌, ◌+◌, ◌<◌, ap, arith, length, subst, sym, bounds, Game, IsPlain, Rows}
 use Rattle.measures.proofs.Plain.{IsOpened, opened_first, opened_left, opened_top, opened_whole, opening_plain}
 use Rattle.measures.proofs.table.opening.Goals as goal
 use Rattle.measures.proofs.table.opening.Goals.{then-turns_odd, else-turns_odd}
@@ -25,8 +25,10 @@ pub invariant_of-result : goal.invariant_of-result
 invariant_of-result c =
     let g = c.args.game.now in
     let whole = opened_whole g c.loop-v.v c.loop-v.rows c.loop-v.invariant (omega arith) in
-    subst (λ (h : Game). IsStored (record { game = h; values = c.loop-v.rows.values }) c.bounds-bounds.result.items c.loop-v.rows.width) (sym c.of-2.ensures) (record {
-      plain = opening_plain g c.loop-v.rows.values c.known.ensures whole;
-      bounded = c.bounds-bounds.ensures;
+    let same = sym c.of-2.ensures in
+    record {
+      plain = subst (λ (h : Game). IsPlain (record { game = h; values = c.loop-v.rows.values })) same (opening_plain g c.loop-v.rows.values c.known.ensures whole);
+      bounded = c.bounds-bounds.ensures ∙ ap bounds same;
       wide = c.loop-v.invariant.width ∙ ap length (sym c.bounds-bounds.ensures);
-    })
+      edges_are = c.in_ok-of.ensures ∙ same;
+    }

@@ -19,7 +19,7 @@ returns c =
     let i = c.self.inside in
     let values = i.rows.values in
     let same : i.of.value ≡ g = ap (λ (t : Table). t.game) c.self.view_is ∙ c.requires.same in
-    let (plain, wide) = stored_as i.of.value g i.bounds.items i.rows.width values same c.self.invariant in
+    let (plain, wide) = stored_as i.of.value g i.pending i.bounds.items i.rows.width values same c.self.invariant in
     let reaches = c.reaches.ensures g wide in
     subst (λ (t : Table). IsTrue c.reaches.result ↔ IsStill g t.values c.args.v) c.self.view_is (
       (λ b. still_from g values plain c.args.v c.requires.vertex c.owner.result c.priority.result c.successors.result.now c.best-best.result c.owner.ensures c.priority.ensures c.successors.ensures c.best-best.ensures.best (reaches.0 b)),

@@ -12,7 +12,7 @@ returns-then-reaches-clause-lifts c =
     let i = c.self.inside in
     let values = i.rows.values in
     let same : i.of.value ≡ g = ap (λ (t : Table). t.game) c.self.view_is ∙ c.requires.same in
-    let (plain, wide) = stored_as i.of.value g i.bounds.items i.rows.width values same c.self.invariant in
+    let (plain, wide) = stored_as i.of.value g i.pending i.bounds.items i.rows.width values same c.self.invariant in
     let reaches = c.reaches.ensures g wide in (
       refl,
       subst (λ (t : Table). IsStill g t.values c.args.v) c.self.view_is
@@ -23,7 +23,7 @@ pub set-requires-clause-width : goal.set-requires-clause-width
 set-requires-clause-width c =
     let i = c.self.inside in
     let is = subst (λ (t : Table). IsProg t.game c.priority-priority.result (value_at t.values c.best-best.result) c.prog_of-risen.result) (sym c.self.view_is) c.prog_of-risen.ensures in
-    measure_width i.of.value i.rows.width c.prog_of-risen.result (stored_width i.of.value i.bounds.items i.rows.width i.rows.values c.self.invariant) is.measure
+    measure_width i.of.value i.rows.width c.prog_of-risen.result (stored_width i.of.value i.pending i.bounds.items i.rows.width i.rows.values c.self.invariant) is.measure
 
 pub invariant_of-self : goal.invariant_of-self
 invariant_of-self c =
@@ -31,15 +31,15 @@ invariant_of-self c =
     let i = c.self.inside in
     let values = i.rows.values in
     let same : i.of.value ≡ g = ap (λ (t : Table). t.game) c.self.view_is ∙ c.requires.same in
-    let (plain, wide) = stored_as i.of.value g i.bounds.items i.rows.width values same c.self.invariant in
+    let (plain, wide) = stored_as i.of.value g i.pending i.bounds.items i.rows.width values same c.self.invariant in
     let reaches = c.reaches.ensures g wide in
     let is = subst (λ (h : Game). IsProg h c.priority-priority.result (value_at values c.best-best.result) c.prog_of-risen.result) same
     (subst (λ (t : Table). IsProg t.game c.priority-priority.result (value_at t.values c.best-best.result) c.prog_of-risen.result) (sym c.self.view_is) c.prog_of-risen.ensures) in
     let lift = risen_lift g values plain c.args.v c.requires.vertex c.owner.result c.priority-priority.result c.successors.result.now c.best-best.result c.owner.ensures c.priority-priority.ensures c.successors.ensures
     c.best-best.ensures.best c.prog_of-risen.result is (λ r. true≢false (sym (reaches.1 r) ∙ c.if-reaches.false)) in
     let below = lift_below g values plain c.args.v c.prog_of-risen.result lift in
-    set_stored i.of.value i.bounds.items i.rows c.set.new.self c.args.v c.prog_of-risen.result c.self.invariant (subst (λ (h : Game). c.args.v < length h.vertices) (sym same) c.requires.vertex)
-    (subst (λ (h : Game). LiesBelow h c.args.v c.prog_of-risen.result) (sym same) below) c.set.ensures
+    set_stored i.of.value i.pending c.note.new.self i.bounds.items i.rows c.set.new.self c.args.v c.prog_of-risen.result c.self.invariant (subst (λ (h : Game). c.args.v < length h.vertices) (sym same) c.requires.vertex)
+    (subst (λ (h : Game). LiesBelow h c.args.v c.prog_of-risen.result) (sym same) below) c.set.ensures c.note.ensures
 
 pub returns-clause-lifts : goal.returns-clause-lifts
 returns-clause-lifts c =
@@ -47,7 +47,7 @@ returns-clause-lifts c =
     let i = c.self.inside in
     let values = i.rows.values in
     let same : i.of.value ≡ g = ap (λ (t : Table). t.game) c.self.view_is ∙ c.requires.same in
-    let (plain, wide) = stored_as i.of.value g i.bounds.items i.rows.width values same c.self.invariant in
+    let (plain, wide) = stored_as i.of.value g i.pending i.bounds.items i.rows.width values same c.self.invariant in
     let reaches = c.reaches.ensures g wide in
     let never = λ (r : Reaches g c.priority-priority.result (value_at values c.best-best.result) (value_at values c.args.v)). true≢false (sym (reaches.1 r) ∙ c.if-reaches.false) in
     let is = subst (λ (h : Game). IsProg h c.priority-priority.result (value_at values c.best-best.result) c.prog_of-risen.result) same
@@ -82,7 +82,7 @@ returns-clause-kept c =
     let i = c.self.inside in
     let values = i.rows.values in
     let same : i.of.value ≡ g = ap (λ (t : Table). t.game) c.self.view_is ∙ c.requires.same in
-    let (plain, wide) = stored_as i.of.value g i.bounds.items i.rows.width values same c.self.invariant in
+    let (plain, wide) = stored_as i.of.value g i.pending i.bounds.items i.rows.width values same c.self.invariant in
     let reaches = c.reaches.ensures g wide in
     let is = subst (λ (h : Game). IsProg h c.priority-priority.result (value_at values c.best-best.result) c.prog_of-risen.result) same
     (subst (λ (t : Table). IsProg t.game c.priority-priority.result (value_at t.values c.best-best.result) c.prog_of-risen.result) (sym c.self.view_is) c.prog_of-risen.ensures) in

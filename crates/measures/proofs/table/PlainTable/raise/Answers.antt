@@ -10,13 +10,13 @@ invariant_of-self c =
     let i = c.self.inside in
     let inside = subst (λ (t : Table). c.args.v < length t.game.vertices) (sym c.self.view_is) c.requires.vertex in
     let below = subst (λ (t : Table). LiesBelow t.game c.args.v c.args.m.now) (sym c.self.view_is) c.requires.below in
-    set_stored i.of.value i.bounds.items i.rows c.set.new.self c.args.v c.args.m.now c.self.invariant inside below c.set.ensures
+    set_stored i.of.value i.pending c.note.new.self i.bounds.items i.rows c.set.new.self c.args.v c.args.m.now c.self.invariant inside below c.set.ensures c.note.ensures
 
 pub set-requires-clause-width : goal.set-requires-clause-width
 set-requires-clause-width c =
     let i = c.self.inside in
     let below = subst (λ (t : Table). LiesBelow t.game c.args.v c.args.m.now) (sym c.self.view_is) c.requires.below in
-    measure_width i.of.value i.rows.width c.args.m.now (stored_width i.of.value i.bounds.items i.rows.width i.rows.values c.self.invariant) below.measure
+    measure_width i.of.value i.rows.width c.args.m.now (stored_width i.of.value i.pending i.bounds.items i.rows.width i.rows.values c.self.invariant) below.measure
 
 pub returns-then-is_lt-clause-kept : goal.returns-then-is_lt-clause-kept
 returns-then-is_lt-clause-kept c =
