@@ -1,15 +1,16 @@
 -- Why a call refused what a reader had left, and what stands there.
-use Rattle.std.specs.Prelude.{◌≡◌, ℕ, ◌+◌, ◌<◌, ◌≤◌, ◌⊎◌, List, [], ◌∷◌, ◌++◌, length, Option, Some, None, IfSome}
+use Rattle.std.specs.Prelude.{◌≡◌, ℕ, ◌+◌, ◌<◌, ◌≤◌, ◌⊎◌, List, [], ◌∷◌, ◌++◌, length, Option, Some, None, IfSome, IsTrue, IsFalse}
 use Rattle.std.specs.List.{AllZip, AllByRecursion}
 use Rattle.text.specs.Text.{lines}
 use Rattle.text.specs.Lines.{IfKnown}
 use Rattle.lts.specs.declared.limits.TheConstants.{MOST_TRANSITIONS, MOST_STATES}
 use Rattle.lts.specs.declared.error.AutFault.{AutFault}
-use Rattle.lts.specs.declared.error.AutFault.TheVariants.{OverLimit, BadStates}
+use Rattle.lts.specs.declared.error.AutFault.TheVariants.{OverLimit, NoSuchState, BadStates, BadLabel}
 use Rattle.lts.specs.declared.error.AutError.{AutError}
 use Rattle.lts.specs.declared.error.AutError.TheVariants.{Fault, Read, Memory}
 use Rattle.lts.specs.declared.scan.Announced.{Announced}
 use Rattle.lts.specs.declared.system.Transition.{Transition}
+use Rattle.lts.specs.Label.{is_label}
 use Rattle.lts.specs.System.{Arrow, IsArrow}
 use Rattle.lts.specs.Gathered.{Gathers}
 use Rattle.lts.specs.Aut.{IsHeader, IsTransition, BodyFault}
@@ -51,19 +52,23 @@ IsFirstFault h OverLimit = (MOST_TRANSITIONS < h.transitions) ⊎ (MOST_STATES <
 IsFirstFault h BadStates = (h.transitions ≤ MOST_TRANSITIONS) × (h.states ≤ MOST_STATES) × (h.states ≤ h.initial)
 IsFirstFault h _ = ⊥
 
--- the first lines are these, and the others are left
-abbrev pub IsCut : List (List ℕ) → List ℕ → List ℕ → Type 0
-IsCut done text left = lines text ≡ done ++ lines left
+-- what is wrong with a transition of a system with n states
+abbrev pub IsRowFault : ℕ → Arrow → AutFault → Type 0
+IsRowFault n a BadLabel = IsFalse (is_label a.label)
+IsRowFault n a NoSuchState = IsTrue (is_label a.label) × ((n ≤ a.source) ⊎ (n ≤ a.target))
+IsRowFault n a _ = ⊥
 
--- the lines of transitions that were read so far, so many and all of them good, and what they spell
+-- the first lines are these transitions, and the others are left
+abbrev pub BeginsWithRows : List Arrow → List ℕ → List ℕ → Type 0
+BeginsWithRows arrows text left = (done : List (List ℕ)) × (lines text ≡ done ++ lines left) × AllZip IsTransition done arrows
+
+-- the transitions that were read so far, so many and all of them good, and how they are stored
 pub record SoFar (n good : ℕ) (old now : Option (List ℕ)) (labels : List (List ℕ)) (transitions : List Transition) : Type 0 where
-  pub done : List (List ℕ)
   pub arrows : List Arrow
-  pub each : AllZip IsTransition done arrows
   pub within : AllByRecursion (IsArrow n) arrows
   pub gathered : Gathers labels transitions arrows
-  pub count : length done ≡ good
-  pub cut : IfKnown old now (IsCut done)
+  pub count : length arrows ≡ good
+  pub cut : IfKnown old now (BeginsWithRows arrows)
 
 -- no line was left
 abbrev pub HasNoLine : List ℕ → List ℕ → Type 0

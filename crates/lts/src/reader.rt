@@ -6,22 +6,22 @@ ghost use Rattle.text.specs.Lines.{IfKnown};
 ghost use Rattle.text.specs.Reads.{Reads};
 ghost use Rattle.lts.specs.Label as label;
 ghost use Rattle.lts.specs.System.{Arrow, IsArrow, set_of};
-ghost use Rattle.lts.specs.Aut.{IsAut, IsTransition, LineFault, HasFault, HasFaultAt};
+ghost use Rattle.lts.specs.Aut.{IsAut, HasFault, HasFaultAt};
 ghost use Rattle.lts.specs.Scan.{said};
 ghost use Rattle.lts.specs.Label.{texts};
 ghost use Rattle.lts.specs.Gathered.{Gathers};
-ghost use Rattle.lts.specs.Left.{Refuses, IsAdmitted, BeginsWith, SoFar, HasNoLine, AreTransitions, HasRestFault, IsFirstFault, named};
+ghost use Rattle.lts.specs.Left.{Refuses, IsAdmitted, BeginsWith, SoFar, HasNoLine, AreTransitions, HasRestFault, IsFirstFault, IsRowFault, named};
 
 use crate::assemble::assemble;
 use crate::error::{AutError, AutFault};
 use crate::intake::Rows;
 use crate::limits::{LONGEST_LABEL, MOST_STATES, MOST_TRANSITIONS};
-use crate::scan::{Announced, Spelled, header, transition};
+use crate::scan::{Announced, Kept, Spelled, header, transition};
 use crate::system::{Lts, Transition};
 use std::alloc::Global;
 use std::io::{BufRead, BufReader, Read};
 use std::mem;
-use text::lines::next_line;
+use text::stream::has_line;
 
 // What is wrong with what a header announces, if anything is.
 fn first_fault(found: Announced) -> Option<AutFault>
@@ -38,16 +38,13 @@ fn first_fault(found: Announced) -> Option<AutFault>
 }
 
 // Reads the header.
-fn read_first<B: BufRead>(reader: &mut B, line: &mut Vec<u8>) -> Result<Announced, AutError>
+fn read_first<B: BufRead>(reader: &mut B, digits: &mut Vec<u8>) -> Result<Announced, AutError>
     ensures first { IfOk result (λ found. IfKnown (B.remaining reader.old) (B.remaining reader.new) (BeginsWith found)) }
     ensures within { IfOk result IsAdmitted }
     ensures fault { IfErr result (Refuses (B.remaining reader.old) HasFault) }
 {
-    let fault = AutFault::BadHeader;
-    if !next_line(reader, line)? {
-        return Err(AutError::Fault { fault, line: 1 });
-    }
-    let Some(found) = header(line) else {
+    let Some(found) = header(reader, digits)? else {
+        let fault = AutFault::BadHeader;
         return Err(AutError::Fault { fault, line: 1 });
     };
     match first_fault(found) {
@@ -70,28 +67,25 @@ fn is_label(bytes: &[u8]) -> bool
     1 <= bytes.len() && bytes.len() <= LONGEST_LABEL && are_label_bytes(bytes)
 }
 
-// The transition that the line spells, in a system of so many states.
-fn good_line(line: &[u8], states: u32) -> Result<Spelled<'_>, AutFault>
-    ensures good { IfOk result (λ found. IsTransition line.now (said found) × IsArrow states (said found)) }
-    ensures fault { IfErr result (LineFault states line.now) }
+// What is wrong with the transition in a system of so many states, if anything is.
+fn row_fault(spelled: Spelled<'_>, states: u32) -> Option<AutFault>
+    ensures none { IfNone result (IsArrow states (said spelled.entry)) }
+    ensures some { IfSome result (IsRowFault states (said spelled.entry)) }
 {
-    let Some(found) = transition(line) else {
-        return Err(AutFault::BadLine);
-    };
-    if !is_label(found.label) {
-        return Err(AutFault::BadLabel);
+    if !is_label(spelled.label) {
+        Some(AutFault::BadLabel)
+    } else if spelled.source >= states || spelled.target >= states {
+        Some(AutFault::NoSuchState)
+    } else {
+        None
     }
-    if found.source >= states || found.target >= states {
-        return Err(AutFault::NoSuchState);
-    }
-    Ok(found)
 }
 
 // Reads the transition that comes after so many of them.
 fn read_row<B: BufRead>(
     alloc: Global,
     reader: &mut B,
-    line: &mut Vec<u8>,
+    kept: &mut Kept,
     found: Announced,
     good: u32,
     rows: &mut Rows,
@@ -105,31 +99,36 @@ fn read_row<B: BufRead>(
     ensures fault { IfErr result (λ e. (old : Option (List ℕ)) → SoFar found.states good old (B.remaining reader.old) (texts rows.old.labels.keys) rows.old.transitions.items
         → Refuses old (HasRestFault found) e) }
 {
-    let place = u64::from(good) + 2;
-    if !next_line(reader, line)? {
+    let line = u64::from(good) + 2;
+    if !has_line(reader)? {
         let fault = AutFault::WrongCount;
-        return Err(AutError::Fault { fault, line: place });
+        return Err(AutError::Fault { fault, line });
     }
-    match good_line(line, found.states) {
-        Ok(spelled) => Ok(rows.add(alloc, spelled)?),
-        Err(fault) => Err(AutError::Fault { fault, line: place }),
+    let Some(ends) = transition(reader, kept)? else {
+        let fault = AutFault::BadLine;
+        return Err(AutError::Fault { fault, line });
+    };
+    let spelled = Spelled {
+        source: ends.source,
+        label: &kept.label,
+        target: ends.target,
+    };
+    match row_fault(spelled, found.states) {
+        None => Ok(rows.add(alloc, spelled)?),
+        Some(fault) => Err(AutError::Fault { fault, line }),
     }
 }
 
 // Reads on to the end of the text, where no line may stand.
-fn read_end<B: BufRead>(
-    reader: &mut B,
-    line: &mut Vec<u8>,
-    found: Announced,
-) -> Result<(), AutError>
+fn read_end<B: BufRead>(reader: &mut B, found: Announced) -> Result<(), AutError>
     ensures end { OnOk result (IfKnown (B.remaining reader.old) (B.remaining reader.new) HasNoLine) }
     ensures fault { IfErr result (λ e. (old : Option (List ℕ)) (labels : List (List ℕ)) (transitions : List Transition)
         → SoFar found.states found.transitions old (B.remaining reader.old) labels transitions → Refuses old (HasRestFault found) e) }
 {
-    if next_line(reader, line)? {
+    if has_line(reader)? {
         let fault = AutFault::WrongCount;
-        let place = u64::from(found.transitions) + 2;
-        return Err(AutError::Fault { fault, line: place });
+        let line = u64::from(found.transitions) + 2;
+        return Err(AutError::Fault { fault, line });
     }
     Ok(())
 }
@@ -138,7 +137,7 @@ fn read_end<B: BufRead>(
 fn read_rows<B: BufRead>(
     alloc: Global,
     reader: &mut B,
-    line: &mut Vec<u8>,
+    kept: &mut Kept,
     found: Announced,
     rows: &mut Rows,
 ) -> Result<(), AutError>
@@ -154,16 +153,16 @@ fn read_rows<B: BufRead>(
     ensures fault { IfErr result (Refuses (B.remaining reader.old) (HasRestFault found)) }
 {
     for good in 0..found.transitions {
-        read_row(alloc, reader, line, found, good, rows)?;
+        read_row(alloc, reader, kept, found, good, rows)?;
     }
-    read_end(reader, line, found)
+    read_end(reader, found)
 }
 
 // Reads what follows the header, by way of rows that have no transition yet.
 fn read_rest<B: BufRead>(
     alloc: Global,
     reader: &mut B,
-    line: &mut Vec<u8>,
+    kept: &mut Kept,
     found: Announced,
     rows: &mut Rows,
 ) -> Result<Lts, AutError>
@@ -176,7 +175,7 @@ fn read_rest<B: BufRead>(
         × (l.system ≡ record { states = found.states; initial = found.initial; arrows = set_of arrows })) }
     ensures fault { IfErr result (Refuses (B.remaining reader.old) (HasRestFault found)) }
 {
-    read_rows(alloc, reader, line, found, rows)?;
+    read_rows(alloc, reader, kept, found, rows)?;
     let transitions = mem::replace(&mut rows.transitions, Vec::new(alloc));
     Ok(assemble(alloc, found, rows.labels.as_slice(), transitions)?)
 }
@@ -186,14 +185,15 @@ fn read_text<B: BufRead>(alloc: Global, reader: &mut B) -> Result<Lts, AutError>
     ensures spelled { IfOk result (λ l. IfSome (B.remaining reader.old) (λ text. IsAut text l.system)) }
     ensures fault { IfErr result (Refuses (B.remaining reader.old) HasFault) }
 {
-    let mut line = Vec::new(alloc);
-    let found = read_first(reader, &mut line)?;
+    let mut kept = Kept::new(alloc);
+    let found = read_first(reader, &mut kept.digits)?;
     let mut rows = Rows::new(alloc);
-    read_rest(alloc, reader, &mut line, found, &mut rows)
+    read_rest(alloc, reader, &mut kept, found, &mut rows)
 }
 
 /// Reads a system in the Aldebaran format (mCRL2 manual, .aut): its profile with quoted labels, at most 1,000,000 states and 10,000,000 transitions.
-/// Of the text it keeps the line that it reads, beside the system that grows.
+/// It keeps no line: of the text there is a block of 8,192 bytes, the bytes of a label up to one more than a label may have, and some digits, beside the
+/// system that grows.
 ///
 /// # Errors
 /// The first faulty line decides. A text is also refused where a read fails, or for want of memory.

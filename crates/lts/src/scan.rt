@@ -1,11 +1,16 @@
-// The two shapes of lines.
+// The two shapes of lines, as they are read.
 
-ghost use Rattle.std.specs.Prelude.{◌≡◌};
-ghost use Rattle.text.specs.Tokens.{Finds};
-ghost use Rattle.lts.specs.Scan.{said};
+ghost use Rattle.std.specs.Prelude.{IfOk};
+ghost use Rattle.text.specs.Lines.{IfKnown};
+ghost use Rattle.text.specs.Stream.{PassesLine};
+ghost use Rattle.lts.specs.Scan.{PassesTransition};
 ghost use Rattle.lts.specs.Scan as at;
 
-use text::scan::{is_end, number_before, quoted, sign};
+use crate::limits::LONGEST_LABEL;
+use std::alloc::Global;
+use std::io::BufRead;
+use text::error::ReadFault;
+use text::stream::{ends, number_before, quoted, sign, word};
 
 /// What a header says. A number that is too great for its type is read as the greatest one.
 #[derive(Clone, Copy)]
@@ -23,58 +28,102 @@ pub(crate) struct Spelled<'a> {
     pub target: u32,
 }
 
-// The numbers of a header, of which this is the rest.
-#[tactic(auto, unfolding(crate::specs::Scan::counts_at, text::specs::Tokens::end_at))]
-fn counts(line: &[u8]) -> Option<Announced>
-    ensures { at.counts_at line.now ≡ result }
-{
-    let (initial, rest) = number_before(line, b",")?;
-    let (transitions, rest) = number_before(rest, b",")?;
-    let (states, rest) = number_before(rest, b")")?;
-    if !is_end(rest) {
-        return None;
+/// The states of a transition line, its label aside.
+#[derive(Clone, Copy)]
+pub(crate) struct Ends {
+    pub source: u32,
+    pub target: u32,
+}
+
+/// What is kept of a line: some digits of a number, and of a label as many bytes as tell whether it is too long.
+#[derive(Drop)]
+pub(crate) struct Kept {
+    pub digits: Vec<u8>,
+    pub label: Vec<u8>,
+}
+
+impl Kept {
+    pub(crate) fn new(alloc: Global) -> Kept {
+        Kept {
+            digits: Vec::new(alloc),
+            label: Vec::new(alloc),
+        }
     }
-    Some(Announced {
+}
+
+// Reads the numbers of a header, of whose line this is the rest.
+fn counts<B: BufRead>(reader: &mut B, digits: &mut Vec<u8>) -> Result<Option<Announced>, ReadFault>
+    ensures { IfOk result (λ found. IfKnown (B.remaining reader.old) (B.remaining reader.new) (PassesLine at.counts_at found)) }
+{
+    let Some(initial) = number_before(reader, b',', digits)? else {
+        return Ok(None);
+    };
+    let Some(transitions) = number_before(reader, b',', digits)? else {
+        return Ok(None);
+    };
+    let Some(states) = number_before(reader, b')', digits)? else {
+        return Ok(None);
+    };
+    if !ends(reader)? {
+        return Ok(None);
+    }
+    Ok(Some(Announced {
         initial,
         transitions,
         states,
-    })
+    }))
 }
 
-/// What the line says as a header, if it has the shape of one.
-#[tactic(auto, unfolding(crate::specs::Scan::header_at))]
-pub(crate) fn header(line: &[u8]) -> Option<Announced>
-    ensures { at.header_at line.now ≡ result }
+/// Reads the line that is next as a header, if it has the shape of one.
+pub(crate) fn header<B: BufRead>(
+    reader: &mut B,
+    digits: &mut Vec<u8>,
+) -> Result<Option<Announced>, ReadFault>
+    ensures { IfOk result (λ found. IfKnown (B.remaining reader.old) (B.remaining reader.new) (PassesLine at.header_at found)) }
 {
-    let rest = sign(line, b"des")?;
-    let rest = sign(rest, b"(")?;
-    counts(rest)
-}
-
-// The transition from this source of which this is the rest.
-#[tactic(auto, unfolding(crate::specs::Scan::labelled_at, text::specs::Tokens::end_at))]
-fn labelled(source: u32, line: &[u8]) -> Option<Spelled<'_>>
-    ensures { Finds said result (at.labelled_at source line.now) }
-{
-    let (label, rest) = quoted(line)?;
-    let rest = sign(rest, b",")?;
-    let (target, rest) = number_before(rest, b")")?;
-    if !is_end(rest) {
-        return None;
+    if !word(reader, b"des")? {
+        return Ok(None);
     }
-    Some(Spelled {
-        source,
-        label,
-        target,
-    })
+    if !sign(reader, b'(')? {
+        return Ok(None);
+    }
+    counts(reader, digits)
 }
 
-/// What the line says as a transition, if it has the shape of one.
-#[tactic(auto, unfolding(crate::specs::Scan::transition_at))]
-pub(crate) fn transition(line: &[u8]) -> Option<Spelled<'_>>
-    ensures { Finds said result (at.transition_at line.now) }
+// Reads the target of a transition, of whose line this is the rest.
+fn target<B: BufRead>(reader: &mut B, digits: &mut Vec<u8>) -> Result<Option<u32>, ReadFault>
+    ensures { IfOk result (λ found. IfKnown (B.remaining reader.old) (B.remaining reader.new) (PassesLine at.target_at found)) }
 {
-    let rest = sign(line, b"(")?;
-    let (source, rest) = number_before(rest, b",")?;
-    labelled(source, rest)
+    if !sign(reader, b',')? {
+        return Ok(None);
+    }
+    let Some(target) = number_before(reader, b')', digits)? else {
+        return Ok(None);
+    };
+    if !ends(reader)? {
+        return Ok(None);
+    }
+    Ok(Some(target))
+}
+
+/// Reads the line that is next as a transition, if it has the shape of one.
+pub(crate) fn transition<B: BufRead>(
+    reader: &mut B,
+    kept: &mut Kept,
+) -> Result<Option<Ends>, ReadFault>
+    ensures { IfOk result (λ found. IfKnown (B.remaining reader.old) (B.remaining reader.new) (PassesTransition kept.new.label.items found)) }
+{
+    if !sign(reader, b'(')? {
+        return Ok(None);
+    }
+    let Some(source) = number_before(reader, b',', &mut kept.digits)? else {
+        return Ok(None);
+    };
+    if !quoted(reader, LONGEST_LABEL + 1, &mut kept.label)? {
+        return Ok(None);
+    }
+    let Some(target) = target(reader, &mut kept.digits)? else {
+        return Ok(None);
+    };
+    Ok(Some(Ends { source, target }))
 }

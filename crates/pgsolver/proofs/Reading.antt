@@ -1,5 +1,5 @@
 -- What is known while the vertex lines are read.
-use Rattle.std.proofs.Common.{◌≡◌, ◌≢◌, ℕ, ◌+◌, ◌<◌, ◌≤◌, inl, inr, true, false, ◌==◌, List, [], ◌∷◌, ◌++◌, length, map, get_or, Option, Some, None, slice_index_or, slice_set, refl, sym, ap, ◌∙◌, subst, append-nil, arith}
+use Rattle.std.proofs.Common.{◌≡◌, ◌≢◌, ℕ, ◌+◌, ◌<◌, ◌≤◌, inl, inr, true, false, ◌==◌, List, [], ◌∷◌, ◌++◌, length, map, get_or, Option, Some, None, slice_index_or, slice_set, refl, sym, ap, ◌∙◌, subst, append_assoc, append-nil, arith}
 use Rattle.std.specs.Prelude.{IfSome, slice_get}
 use Rattle.std.specs.List.{AllZip, AllByRecursion}
 use Rattle.std.proofs.lemmas.Bool.{eqb-true, eqb-false, cases_lt}
@@ -8,8 +8,7 @@ use Rattle.std.proofs.lemmas.List.Quantifiers.{all_pairs_push}
 use Rattle.std.proofs.lemmas.Option.{slice_get_within, slice_get-get_or}
 use Rattle.text.specs.Text.{lines}
 use Rattle.text.specs.Lines.{IfKnown, TakesLine}
-use Rattle.lts.specs.Left.{IsCut, HasNoLine}
-use Rattle.lts.proofs.Reading.{cut_more}
+use Rattle.lts.specs.Left.{HasNoLine}
 use Rattle.lts.proofs.Gathering.{all_append}
 use Rattle.lts.proofs.Ordered.{Has, Has-from_Contains, Contains-from_Has, all_has}
 use Rattle.game.specs.declared.limits.TheConstants.{MOST_VERTICES}
@@ -23,11 +22,17 @@ use Rattle.pgsolver.specs.declared.scan.Head.{Head}
 use Rattle.pgsolver.specs.Spelling.{Line, IsLine, IsWithin, AreGood, vertex_of}
 use Rattle.pgsolver.specs.Fault.{LineFault}
 use Rattle.pgsolver.specs.Scan.{line_at}
-use Rattle.pgsolver.specs.Left.{HasRestFault, IsPlace, ArePlaces, SoFar, AreAll, AreFilled, Says, TellsFault, Refuses}
+use Rattle.pgsolver.specs.Left.{HasRestFault, IsCut, IsPlace, ArePlaces, SoFar, AreAll, AreFilled, Says, TellsFault, Refuses}
 use Rattle.pgsolver.proofs.Scanning.{line_gives}
 use Rattle.pgsolver.proofs.Judging.{bad_line}
 use Rattle.pgsolver.proofs.Placing.{has_at, has_end, at_left, at_end, each_there}
 use Rattle.pgsolver.proofs.Sets.{set_up, set_all, set_some, up_few, ascending_up}
+
+cut_more : (old mid new : Option (List ℕ)) (done : List (List ℕ)) (line : List ℕ) → IfKnown old mid (IsCut done) → TakesLine mid new true line → IfKnown old new (IsCut (done ++ line ∷ []))
+cut_more None mid new done line cut taken = tt
+cut_more (Some text) None new done line cut taken = absurd cut
+cut_more (Some text) (Some left) None done line cut taken = absurd taken
+cut_more (Some text) (Some left) (Some rest) done line cut taken = cut ∙ ap (λ l. done ++ l) taken ∙ sym (append_assoc done (line ∷ []) (lines rest))
 
 -- ---- no line yet
 

@@ -1,11 +1,10 @@
 -- Why a call refused what a reader had left, and what stands there.
-use Rattle.std.specs.Prelude.{◌≡◌, ◌≢◌, ℕ, ◌+◌, ◌<◌, ◌≤◌, ◌⊎◌, Bool, true, false, List, [], ◌∷◌, length, map, Option, Some, None, IfSome, slice_index_or, slice_get, nat_lt, is_some, Contains}
+use Rattle.std.specs.Prelude.{◌≡◌, ◌≢◌, ℕ, ◌+◌, ◌<◌, ◌≤◌, ◌⊎◌, Bool, true, false, List, [], ◌∷◌, ◌++◌, length, map, Option, Some, None, IfSome, slice_index_or, slice_get, nat_lt, is_some, Contains}
 use Rattle.std.specs.List.{list_any}
 use Rattle.text.specs.Text.{lines}
 use Rattle.text.specs.Lines.{IfKnown}
 use Rattle.text.specs.declared.error.ReadFault.{ReadFault}
 use Rattle.text.specs.declared.error.ReadFault.TheVariants as reads
-use Rattle.lts.specs.Left.{IsCut}
 use Rattle.normal.specs.declared.limits.TheConstants.{GREATEST_PRIORITY}
 use Rattle.game.specs.Game.{Vertex}
 use Rattle.pgsolver.specs.declared.error.PgFault.{PgFault}
@@ -51,6 +50,10 @@ IsPlace spelled v (Some k) = (x : Line) × (slice_get spelled k ≡ Some x) × (
 pub record ArePlaces (n : ℕ) (spelled : List Line) (places : List (Option ℕ)) : Type 0 where
   pub count : length places ≡ n + 1
   pub each : (v : ℕ) → v ≤ n → IsPlace spelled v (slice_index_or places v None)
+
+-- the first lines are these, and the others are left
+abbrev pub IsCut : List (List ℕ) → List ℕ → List ℕ → Type 0
+IsCut done text left = lines text ≡ done ++ lines left
 
 -- the vertex lines that were read so far, so many and all of them good, and what they spell
 pub record SoFar (n good : ℕ) (old now : Option (List ℕ)) (vertices : List Vertex) (places : List (Option ℕ)) : Type 0 where

@@ -5,7 +5,7 @@ use samples::writers::{AMPLE, Narrow};
 use std::alloc::{AllocError, Global};
 use std::io::BufReader;
 use text::scan::{is_end, number, number_before, quoted, sign};
-use text::{Piece, ReadFault, next_line, put_pieces};
+use text::{Piece, ReadFault, next_line, put_pieces, stream};
 
 // Texts, and their lines with a bar after each.
 const LINES: [(&str, &str); 10] = [
@@ -120,6 +120,17 @@ const QUOTES: [(&str, Option<(&str, &str)>); 6] = [
 
 const ENDS: [(&str, bool); 4] = [("", true), (" \t", true), (" a", false), ("\r", false)];
 
+// Texts, and what follows the line where nothing but blanks was left of it.
+const TEXT_ENDS: [(&str, Option<&str>); 7] = [
+    (" \t\nb", Some("b")),
+    ("\r\n", Some("")),
+    (" \r", Some("")),
+    ("", Some("")),
+    (" a", None),
+    ("\r\r\n", None),
+    ("\r ", None),
+];
+
 fn is_rest(found: Option<&[u8]>, wanted: &Option<&str>) -> bool {
     match (found, wanted) {
         (Some(rest), Some(text)) => rest == text.as_bytes(),
@@ -177,6 +188,74 @@ fn quotes_are_found(rt: HostRuntime) {
     for (line, wanted) in &QUOTES {
         assert!(rt; is_quote(quoted(line.as_bytes()), wanted), "{line}");
     }
+}
+
+// What a reader has left where something was found.
+fn left_by<'a>(found: Result<bool, ReadFault>, left: &'a [u8]) -> Option<&'a [u8]> {
+    match found {
+        Ok(true) => Some(left),
+        _ => None,
+    }
+}
+
+#[test]
+fn signs_and_ends_are_read(rt: HostRuntime) {
+    for (text, token, wanted) in &SIGNS {
+        let mut reader = text.as_bytes();
+        let found = match *token {
+            "des" => stream::word(&mut reader, b"des"),
+            _ => stream::sign(&mut reader, b'('),
+        };
+        assert!(rt; is_rest(left_by(found, reader), wanted), "{text}");
+    }
+    for (text, wanted) in &TEXT_ENDS {
+        let mut reader = text.as_bytes();
+        let found = stream::ends(&mut reader);
+        assert!(rt; is_rest(left_by(found, reader), wanted), "{text}");
+    }
+    let mut none = b"".as_slice();
+    assert!(rt; stream::has_line(&mut none) == Ok(false));
+    let mut one = b"\n".as_slice();
+    assert!(rt; stream::has_line(&mut one) == Ok(true));
+}
+
+#[test]
+fn numbers_are_read(rt: HostRuntime) {
+    let mut digits = Vec::new(rt.alloc());
+    for (text, wanted) in &NUMBERS {
+        let mut reader = text.as_bytes();
+        let found = stream::number(&mut reader, &mut digits).expect(&rt, "memory");
+        assert!(rt;
+            is_number(found.map(|value| (value, reader)), wanted),
+            "{text}"
+        );
+    }
+    for (text, wanted) in &BEFORE {
+        let mut reader = text.as_bytes();
+        let found = stream::number_before(&mut reader, b',', &mut digits).expect(&rt, "memory");
+        assert!(rt;
+            is_number(found.map(|value| (value, reader)), wanted),
+            "{text}"
+        );
+    }
+}
+
+#[test]
+fn quotes_are_read_and_their_first_bytes_kept(rt: HostRuntime) {
+    let mut kept = Vec::new(rt.alloc());
+    for (text, wanted) in &QUOTES {
+        let mut reader = text.as_bytes();
+        let found = stream::quoted(&mut reader, 9, &mut kept);
+        let rest = left_by(found, reader);
+        assert!(rt;
+            is_quote(rest.map(|rest| (kept.as_slice(), rest)), wanted),
+            "{text}"
+        );
+    }
+    let mut long = b"\"abcdef\",".as_slice();
+    assert!(rt; stream::quoted(&mut long, 4, &mut kept) == Ok(true));
+    assert!(rt; kept.as_slice() == b"abcd".as_slice());
+    assert!(rt; long == b",".as_slice());
 }
 
 const PIECES: [Piece<'static>; 5] = [

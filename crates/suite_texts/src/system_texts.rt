@@ -26,7 +26,7 @@ fn counts(alloc: Global, lts: &Lts) -> Result<String, AllocError> {
 }
 
 // Texts, and what is shown of each.
-const TEXTS: [(&str, &str); 12] = [
+const TEXTS: [(&str, &str); 21] = [
     (RING, "2 0 2 2"),
     ("", "A1 at line 1"),
     ("des (0,2,2)\n(0,\"a\",1)\n", "A5 at line 3"),
@@ -42,6 +42,15 @@ const TEXTS: [(&str, &str); 12] = [
     ("des (0,0,1000001)", "A3 at line 1"),
     ("des (0,0,1)\n\n", "A5 at line 2"),
     ("des (0,1,1)\n(0,\"\",0)\n", "A7 at line 2"),
+    ("des (0,1,1)\r\n(0,\"a\",0)\r", "1 0 1 1"),
+    ("des (0,1,1)\n(0,\"a\",0)\r\r\n", "A2 at line 2"),
+    ("des (0,1,1)\n(0,\"a\r\",0)\n", "A7 at line 2"),
+    ("des (0,1,1)\n(0,\"a\r\n", "A2 at line 2"),
+    ("des (0,1,1)\n(0,\"a\",4294967296)\n", "A4 at line 2"),
+    ("des (0,1,1)\n(0,\"a\",00)\n", "A2 at line 2"),
+    ("des (0,99999999999999999999999,1)", "A3 at line 1"),
+    ("des (0,0,1)\r", "1 0 0 0"),
+    ("dess (0,0,1)", "A1 at line 1"),
 ];
 
 fn shows(rt: &(impl Abort + AllocGlobal), text: &str, wanted: &str) {
@@ -74,6 +83,26 @@ fn labels_have_at_most_4096_bytes(rt: HostRuntime) {
             &rt, "memory",
         );
         shows(&rt, text.as_str(), wanted);
+    }
+}
+
+// Heads, a part that is repeated a hundred thousand times, tails, and what is shown.
+const LONG_LINES: [(&str, &str, &str, &str); 7] = [
+    ("des (0,1,2)\n", " ", "(0,\"a\",1)\n", "2 0 1 1"),
+    ("des (0,1,2)\n(0,\"a\"", "\t", ",1)\n", "2 0 1 1"),
+    ("des (0,1,2)\n(0,\"a\",1)", " ", "\r\n", "2 0 1 1"),
+    ("des (0,1,2)\n(0,\"", "a", "\",1)\n", "A7 at line 2"),
+    ("des (0,1,2)\n(0,\"", "a", "\",1\n", "A2 at line 2"),
+    ("des (0,1,2)\n(", "1", ",\"a\",1)\n", "A4 at line 2"),
+    ("des (0,1,", "9", ")\n", "A3 at line 1"),
+];
+
+#[test]
+fn long_lines_are_read(rt: HostRuntime) {
+    for (head, part, tail, wanted) in &LONG_LINES {
+        let text = repeated(rt.alloc(), head, part, 100_000, tail).expect(&rt, "memory");
+        let told = shown(rt.alloc(), text.as_bytes()).expect(&rt, "memory");
+        same(&rt, part, told.as_str(), wanted);
     }
 }
 

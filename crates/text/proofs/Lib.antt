@@ -1,5 +1,6 @@
 pub mod Spaced
 pub mod Scanning
+pub mod Streaming
 pub mod Plain
 pub mod Cutting
 pub mod Writing

@@ -32,11 +32,11 @@ run_none p [] e = refl
 run_none p (y ∷ ys) e = rw e refl
 
 -- it is what passes, where what follows does not
-run_is : (p : ℕ → Bool) (xs ys : List ℕ) → list_all p xs ≡ true → begins p ys ≡ false → prefix_len p (xs ++ ys) ≡ length xs
+pub run_is : (p : ℕ → Bool) (xs ys : List ℕ) → list_all p xs ≡ true → begins p ys ≡ false → prefix_len p (xs ++ ys) ≡ length xs
 run_is p [] ys all stop = run_none p ys stop
 run_is p (x ∷ xs) ys all stop = let h = and_parts (p x) (list_all p xs) all in let rest = run_is p xs ys h.1 stop in rw h.0 (omega (arith, rest))
 
-run_passes : (p : ℕ → Bool) (xs : List ℕ) → list_all p (take (prefix_len p xs) xs) ≡ true
+pub run_passes : (p : ℕ → Bool) (xs : List ℕ) → list_all p (take (prefix_len p xs) xs) ≡ true
 run_passes p [] = refl
 run_passes p (x ∷ xs) =
     elim (p x) as (λ b. p x ≡ b → list_all p (take (cond b (1 + prefix_len p xs) 0) (x ∷ xs)) ≡ true) [
@@ -81,7 +81,7 @@ sign_cuts token line rest e =
 pub sign_gives : (token line rest : List ℕ) (ts : List (List ℕ)) → sign_at token line ≡ Some rest → IsSpaced ts rest → IsSpaced (token ∷ ts) line
 sign_gives token line rest ts e more = let (gap, blank, cut) = sign_cuts token line rest e in (gap, rest, blank, cut, more)
 
-sign_here : (token line rest : List ℕ) → past_blanks line ≡ token ++ rest → sign_at token line ≡ Some rest
+pub sign_here : (token line rest : List ℕ) → past_blanks line ≡ token ++ rest → sign_at token line ≡ Some rest
 unfolding sign_at
 sign_here token line rest start =
     let front : take (length token) (token ++ rest) ≡ token = take-append_seam token rest in
@@ -154,7 +154,7 @@ number_before_finds x c cs line ts hx h hb spaced =
 -- ---- labels
 
 -- none of these is among bytes that are not one
-none_other : (byte : ℕ) (label : List ℕ) → list_all (is_other byte) label ≡ true → list_any (λ b. b == byte) label ≡ false
+pub none_other : (byte : ℕ) (label : List ℕ) → list_all (is_other byte) label ≡ true → list_any (λ b. b == byte) label ≡ false
 none_other byte [] h = refl
 none_other byte (b ∷ label) h =
     elim (b == byte) as (λ c. (not c && list_all (is_other byte) label) ≡ true → (c || list_any (λ b. b == byte) label) ≡ false) [ true ↦ λ e. cc | false ↦ λ e. none_other byte label e ] h

@@ -4,3 +4,4 @@ pub mod Lines
 pub mod Tokens
 pub mod Pieces
 pub mod Reads
+pub mod Stream

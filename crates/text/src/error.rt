@@ -14,6 +14,13 @@ pub enum ReadFault {
     Memory,
 }
 
+impl From<AllocError> for ReadFault {
+    fn from(error: AllocError) -> Self {
+        let _ = error;
+        ReadFault::Memory
+    }
+}
+
 /// Want of memory, by itself: each program above gives it a code of its own.
 #[derive(Clone, Copy, Debug, PartialEq, Eq, Error)]
 #[error("want of memory")]

@@ -6,6 +6,7 @@ pub mod bytes;
 pub mod error;
 pub mod lines;
 pub mod scan;
+pub mod stream;
 pub mod write_loop;
 
 pub use batch::{Lines, put_lines};
