@@ -41,7 +41,7 @@ pub enum MuError {
     /// A file could not be opened or made.
     #[error("U2")]
     File,
-    /// A read of the formula failed.
+    /// A read of the formula or of the schedule failed.
     #[error("U3")]
     Read,
     /// A growth was refused in the engine itself.
