@@ -8,7 +8,8 @@ use Rattle.std.specs.Io.KnownBytes.{Keeps}
 use Rattle.std.specs.Io.BufRead.{DropsConsumable}
 use Rattle.std.specs.Cmp.Lexicographic.{pointwise}
 use Rattle.std.proofs.lemmas.Bool.{ne_eqb, and_parts, leb-true, cases_lt, le-ltb, not-false, eq-eqb, eqb-true}
-use Rattle.std.proofs.lemmas.List.{take-append-drop, take-append-le, take_all, length-take-le}
+use Rattle.std.proofs.lemmas.List.{take-append-drop, take-append-le, take_all, length-take-le, take_min}
+use Rattle.std.proofs.lemmas.List.Folds.{list_all-append}
 use Rattle.std.proofs.Math.Seq.{take-append_seam}
 use Rattle.std.proofs.lemmas.List.Prefix.{front_rest}
 use Rattle.std.proofs.lemmas.Slice.Eq.{bytes_eq-Decides}
@@ -88,8 +89,7 @@ no_run class most None kept none = tt
 no_run class most (Some text) kept none = record { run = []; cut = refl; all = refl; front = none ∙ sym (take_all most [] (omega arith)) }
 
 front_all : (p : ℕ → Bool) (run rest : List ℕ) → list_all p run ≡ true → list_all p (run ++ rest) ≡ list_all p rest
-front_all p [] rest all = refl
-front_all p (b ∷ run) rest all = let h = and_parts (p b) (list_all p run) all in rw h.0 (front_all p run rest h.1)
+front_all p run rest all = list_all-append p run rest ∙ ap (λ b. b && list_all p rest) all
 
 -- it goes on
 pub run_more : (class : Class) (most : ℕ) (ended : Bool) (old mid new : Option (List ℕ)) (kept kept' : List ℕ) → IfKnown old mid (RunsSo class most kept) → IfKnown mid new (RunsOn class most kept kept' ended) → IfKnown old new (RunsSo class most kept')
@@ -125,13 +125,7 @@ take_both zero front run = refl
 take_both (suc m) [] run = let none : suc m - 0 ≡ suc m = omega arith in rw none refl
 take_both (suc m) (b ∷ front) run = let e : suc m - suc (length (take m front)) ≡ m - length (take m front) = omega arith in rw e (ap (λ l. b ∷ l) (take_both m front run))
 
-take_min : (room : ℕ) (run : List ℕ) → take (min (length run) room) run ≡ take room run
-take_min room run = elim (cases_lt (length run) room) [
-  | inl few ↦ let e : min (length run) room ≡ length run = omega (arith, few) in rw e (take_all (length run) run (omega arith) ∙ sym (take_all room run (omega (arith, few))))
-  | inr many ↦ let e : min (length run) room ≡ room = omega (arith, many) in rw e refl
-]
-
-pub keeps : (most : ℕ) (old new run front : List ℕ) → new ≡ old ++ take (min (length run) (most - length old)) run → old ≡ take most front → new ≡ take most (front ++ run)
+pub keeps : (most : ℕ) (old new run front : List ℕ) → new ≡ old ++ take (min (most - length old) (length run)) run → old ≡ take most front → new ≡ take most (front ++ run)
 keeps most old new run front grown is =
     grown ∙ ap (λ l. old ++ l) (take_min (most - length old) run) ∙ ap (λ l. l ++ take (most - length l) run) is ∙ sym (take_both most front run)
 
@@ -322,9 +316,7 @@ many : (d : ℕ) (digits : List ℕ) → 49 ≤ d → 10 ≤ length digits → c
 many d digits first long = let low : 10000000000 ≤ value_of (d ∷ digits) = high 10 digits 1 (digit_more 0 d) long (omega (arith, first)) in omega (arith, low)
 
 all_front : (p : ℕ → Bool) (n : ℕ) (run : List ℕ) → list_all p run ≡ true → list_all p (take n run) ≡ true
-all_front p zero run all = refl
-all_front p (suc n) [] all = refl
-all_front p (suc n) (b ∷ run) all = let h = and_parts (p b) (list_all p run) all in rw h.0 (all_front p n run h.1)
+all_front p n run all = (and_parts (list_all p (take n run)) (list_all p (drop n run)) (sym (list_all-append p (take n run) (drop n run)) ∙ ap (list_all p) (take-append-drop n run) ∙ all)).0
 
 -- whether digits are a numeral their first two tell
 numeral_front : (n : ℕ) (run : List ℕ) → list_all is_digit run ≡ true → is_numeral (take (suc (suc n)) run) ≡ is_numeral run
@@ -420,8 +412,7 @@ all_end p end (b ∷ []) all = elim (b == end) as (λ c. list_all p (cond c [] (
 all_end p end (b ∷ c ∷ run) all = let h = and_parts (p b) (list_all p (c ∷ run)) all in rw h.0 (all_end p end (c ∷ run) h.1)
 
 prefix_all : (p : ℕ → Bool) (line : List ℕ) → list_all p line ≡ true → prefix_len p line ≡ length line
-prefix_all p [] all = refl
-prefix_all p (b ∷ line) all = let h = and_parts (p b) (list_all p line) all in let more = prefix_all p line h.1 in rw h.0 (omega (arith, more))
+prefix_all p line all = ap (prefix_len p) (sym (append-nil line)) ∙ run_is p line [] all refl
 
 cut_none : (byte : ℕ) (line : List ℕ) → list_all (is_other byte) line ≡ true → cut_at byte line ≡ None
 unfolding cut_at

@@ -1,6 +1,7 @@
 -- The first line of what a reader has left, as it is read token by token.
 use Rattle.std.specs.Prelude.{◌≡◌, ◌≢◌, ℕ, Bool, not, ◌&&◌, ◌==◌, List, [], ◌∷◌, ◌++◌, take, Option, Some, None, if◌then◌else◌, IsTrue, IsFalse, IfSome, MatchBool}
 use Rattle.std.specs.List.{list_all}
+use Rattle.std.specs.Io.BufRead.{drop_through}
 use Rattle.text.specs.Text.{is_blank, is_digit, without_cr, lines}
 use Rattle.text.specs.Lines.{IfKnown}
 use Rattle.text.specs.declared.stream.Class.{Class}
@@ -17,8 +18,7 @@ line_of text = without_cr (first_piece text)
 
 -- what follows the first LF
 abbrev pub below : List ℕ → List ℕ
-below [] = []
-below (b ∷ text) = if b == 10 then text else below text
+below = drop_through 10
 
 abbrev pub next_of : List ℕ → Option ℕ
 next_of [] = None

@@ -91,7 +91,7 @@ fn keep(kept: &mut Vec<u8>, most: usize, run: &[u8]) -> Result<(), ReadFault>
     ensures { OnOk result ((front : List ℕ) → kept.old.items ≡ take most front → kept.new.items ≡ take most (front ++ run.now)) }
 {
     let room = most.saturating_sub(kept.len());
-    kept.extend_from_slice(&run[..run.len().min(room)])?;
+    kept.extend_from_slice(&run[..room.min(run.len())])?;
     Ok(())
 }
 
@@ -151,7 +151,7 @@ fn skip_blanks<B: BufRead>(reader: &mut B) -> Result<Option<u8>, ReadFault>
 /// Takes the sign past the blanks, and says whether it was there.
 ///
 /// # Errors
-/// A read failed.
+/// A read failed. What the reader has left then isn't said.
 pub fn sign<B: BufRead>(reader: &mut B, token: u8) -> Result<bool, ReadFault>
     requires inside { IsTrue (is_inside token) }
     ensures { IfOk result (λ found. IfKnown (B.remaining reader.old) (B.remaining reader.new) (PassesSign (at.sign_at (token ∷ [])) found)) }
@@ -178,7 +178,7 @@ fn accept_all<B: BufRead>(reader: &mut B, word: &[u8]) -> Result<bool, ReadFault
 /// Takes the word past the blanks, and says whether it was there.
 ///
 /// # Errors
-/// A read failed.
+/// A read failed. What the reader has left then isn't said.
 pub fn word<B: BufRead>(reader: &mut B, token: &[u8]) -> Result<bool, ReadFault>
     requires inside { IsTrue (list_all is_inside token.now) }
     ensures { IfOk result (λ found. IfKnown (B.remaining reader.old) (B.remaining reader.new) (PassesSign (at.sign_at token.now) found)) }
@@ -190,7 +190,7 @@ pub fn word<B: BufRead>(reader: &mut B, token: &[u8]) -> Result<bool, ReadFault>
 /// Takes the number past the blanks, by way of some of its digits. A number that is too great for its type is read as the greatest one.
 ///
 /// # Errors
-/// A read failed, or memory was refused.
+/// A read failed, or memory was refused. What the reader has left then isn't said.
 pub fn number<B: BufRead>(reader: &mut B, digits: &mut Vec<u8>) -> Result<Option<u32>, ReadFault>
     ensures { IfOk result (λ found. IfKnown (B.remaining reader.old) (B.remaining reader.new) (Passes at.number_at found)) }
 {
@@ -202,7 +202,7 @@ pub fn number<B: BufRead>(reader: &mut B, digits: &mut Vec<u8>) -> Result<Option
 /// Takes the number before the token, past the blanks, and the token.
 ///
 /// # Errors
-/// A read failed, or memory was refused.
+/// A read failed, or memory was refused. What the reader has left then isn't said.
 pub fn number_before<B: BufRead>(
     reader: &mut B,
     token: u8,
@@ -223,7 +223,7 @@ pub fn number_before<B: BufRead>(
 /// Takes the bytes between the quotes past the blanks, and keeps the first of them, so many at most. It says whether they were there.
 ///
 /// # Errors
-/// A read failed, or memory was refused.
+/// A read failed, or memory was refused. What the reader has left then isn't said.
 pub fn quoted<B: BufRead>(
     reader: &mut B,
     most: usize,
@@ -241,7 +241,7 @@ pub fn quoted<B: BufRead>(
 /// Takes the blanks and the end of the line where nothing else is left of it, and says whether nothing was.
 ///
 /// # Errors
-/// A read failed.
+/// A read failed. What the reader has left then isn't said.
 pub fn ends<B: BufRead>(reader: &mut B) -> Result<bool, ReadFault>
     ensures { IfOk result (λ found. IfKnown (B.remaining reader.old) (B.remaining reader.new) (Ends found)) }
 {
@@ -256,7 +256,7 @@ pub fn ends<B: BufRead>(reader: &mut B) -> Result<bool, ReadFault>
 /// Whether there is a line: the text has not ended.
 ///
 /// # Errors
-/// A read failed.
+/// A read failed. What the reader has left then isn't said.
 pub fn has_line<B: BufRead>(reader: &mut B) -> Result<bool, ReadFault>
     ensures { IfOk result (HasLine (B.remaining reader.old) (B.remaining reader.new)) }
 {
