@@ -14,6 +14,8 @@ use Rattle.normal.specs.declared.priorities.Priorities.{Priorities}
 use Rattle.normal.specs.declared.priorities.Priorities.TheVariants.{Dependent, Nested}
 use Rattle.workers.specs.declared.team.BoardKind.{BoardKind}
 use Rattle.workers.specs.declared.team.BoardKind.TheVariants as board
+use Rattle.engines.specs.declared.error.MuError.{MuError}
+use Rattle.engines.specs.declared.error.MuError.TheVariants as error
 use Rattle.engines.specs.declared.request.Check.{Check as CheckRequest}
 use Rattle.engines.specs.declared.request.Options.{Options}
 use Rattle.commands.specs.declared.request.Command.{Command}
@@ -217,6 +219,12 @@ pub record AreMatchesOf (words : List Text) (matches : ArgMatches) : Type 0 wher
   pub app : App
   pub table : IsTable app
   pub rows : subcommand_rows_of matches ≡ subcommand_of app words
+
+-- What a command line may be refused for: its words, with the text that says what is wrong with them, or want of memory.
+abbrev pub IsLineError : MuError → Type 0
+IsLineError (error.Arguments e) = Unit {0}
+IsLineError error.Memory = Unit {0}
+IsLineError e = ⊥
 
 -- The command is what the words ask for, read by the program's table: the first word is the program's own name.
 pub record IsAskedFor (words : List Text) (command : Command) : Type 0 where

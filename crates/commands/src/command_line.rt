@@ -1,6 +1,6 @@
 // The command line.
 
-ghost use Rattle.std.specs.Prelude.{◌≡◌, ◌≤◌, ◌≢◌, [], Bool, IfOk, IfSome, Some, codes, map};
+ghost use Rattle.std.specs.Prelude.{◌≡◌, ◌≤◌, ◌≢◌, [], Bool, IfErr, IfOk, IfSome, Some, codes, map};
 ghost use Rattle.std.specs.String.{string_bytes};
 ghost use Rattle.clap.specs.Words.{first_of, found_of, rows_of, subcommand_rows_of};
 ghost use Rattle.commands.specs.Command.{AreNamed, AreWithin, IsComplete};
@@ -13,6 +13,7 @@ ghost use Rattle.commands.specs.CommandLine.{
   IsCommand,
   IsFile,
   IsFileIfAny,
+  IsLineError,
   IsRead,
   board_in,
   has_value,
@@ -39,6 +40,7 @@ use std::alloc::Global;
 pub fn command<'a>(alloc: Global, words: &'a [String]) -> Result<Command<'a>, MuError>
     ensures asked { IfOk result (IsAskedFor (map (λ word. string_bytes word) words.now)) }
     ensures complete { IfOk result IsComplete }
+    ensures refused { IfErr result IsLineError }
 {
     let matches = matches_of(alloc, words)?;
     match request_of(&matches) {
@@ -48,7 +50,8 @@ pub fn command<'a>(alloc: Global, words: &'a [String]) -> Result<Command<'a>, Mu
 }
 
 fn matches_of<'a>(alloc: Global, words: &'a [String]) -> Result<ArgMatches<'a>, MuError>
-    ensures { IfOk result (AreMatchesOf (map (λ word. string_bytes word) words.now)) }
+    ensures found { IfOk result (AreMatchesOf (map (λ word. string_bytes word) words.now)) }
+    ensures refused { IfErr result IsLineError }
 {
     let Ok(parser) = parser(alloc) else {
         return Err(MuError::Memory);
@@ -60,7 +63,9 @@ fn matches_of<'a>(alloc: Global, words: &'a [String]) -> Result<ArgMatches<'a>, 
 }
 
 /// The refusal for what `clap` answers in place of matches; want of memory is the engine's.
-fn refusal(alloc: Global, error: &ClapError) -> MuError {
+fn refusal(alloc: Global, error: &ClapError) -> MuError
+    ensures { IsLineError result }
+{
     match error.kind() {
         ErrorKind::OutOfMemory => MuError::Memory,
         _ => match error.to_string(alloc) {

@@ -176,5 +176,7 @@ IsErrorOf BySets (error.Evidence e) = ⊥
 IsErrorOf BySets (error.Table e) = ⊥
 IsErrorOf BySets (error.Solve e) = ⊥
 IsErrorOf BySets (error.Schedule e) = ⊥
+IsErrorOf BySets (error.Arguments e) = ⊥
+IsErrorOf BySets error.File = ⊥
 IsErrorOf BySets e = Unit {0}
 IsErrorOf (ByGame rule board) e = Unit {0}

@@ -29,11 +29,6 @@ pub fn game_of<H: Threads + Sync>(
     ensures { let l = system.now.system in let f = closed_formula formula.now in
         MatchResult result (IsGameOf priorities l f) (IsBeyond (ByGame priorities None) l f) }
 {
-    match normal_with(alloc, formula, priorities) {
-        Ok(normal) => match build(rt, alloc, system, &normal) {
-            Ok(game) => Ok(game),
-            Err(error) => Err(MuError::Build(error)),
-        },
-        Err(error) => Err(MuError::Normal(error)),
-    }
+    let normal = normal_with(alloc, formula, priorities).map_err(MuError::Normal)?;
+    build(rt, alloc, system, &normal).map_err(MuError::Build)
 }

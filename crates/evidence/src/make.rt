@@ -84,6 +84,9 @@ fn solved_entries(alloc: Global, game: &Game) -> Result<Entries, Memory>
 
 /// Evidence of all that Even wins, by the least progress table: its measures are the ranks, and Even goes on to the least
 /// of the successors with the least `prog`.
+///
+/// # Errors
+/// Want of memory, E5, and nothing else.
 pub fn even_evidence(
     alloc: Global,
     game: &Game,
@@ -102,6 +105,9 @@ pub fn even_evidence(
 }
 
 /// Evidence of all that Odd wins: Even's of the dual game, read for Odd.
+///
+/// # Errors
+/// Want of memory, E5, and nothing else.
 pub fn odd_evidence(alloc: Global, game: &Game) -> Result<Evidence, EvidenceError>
     requires { greatest game.now ≤ GREATEST_PRIORITY }
     ensures game { IfOk result (λ e. e.game ≡ game.now) }

@@ -5,44 +5,35 @@ ghost use Rattle.formula.specs.declared.error.FormulaError.{FormulaError};
 
 use lts::Memory;
 use std::alloc::AllocFailed;
-use std::fmt;
 use thiserror::Error;
 
 /// What is wrong with a text that spells no admitted formula within the limits. It is shown as its code.
-#[derive(Clone, Copy, Debug)]
+#[derive(Clone, Copy, Debug, PartialEq, Eq, Error)]
 pub enum FormulaFault {
     /// A byte begins no token, or a quoted atom is bad.
+    #[error("F1")]
     NoToken,
     /// No formula begins with the tokens up to this one.
+    #[error("F2")]
     Unexpected,
     /// The tokens end before the formula does.
+    #[error("F3")]
     Unfinished,
     /// A word that the whole language reserves.
+    #[error("F4")]
     ReservedWord,
     /// A variable without a binder.
+    #[error("F5")]
     Unbound,
     /// A variable under an odd number of negations below its binder.
+    #[error("F6")]
     OddNegations,
     /// An operand of `!`, `&&`, `||` or `=>` inside a modality is no action formula.
+    #[error("F7")]
     NotAnAction,
     /// The text is too long, or formulas nest too deep or open too many parentheses.
+    #[error("F8")]
     TooLarge,
-}
-
-impl fmt::Display for FormulaFault {
-    fn fmt<W: fmt::Write>(&self, f: &mut fmt::Formatter<W>) -> fmt::Result {
-        let code = match self {
-            FormulaFault::NoToken => "F1",
-            FormulaFault::Unexpected => "F2",
-            FormulaFault::Unfinished => "F3",
-            FormulaFault::ReservedWord => "F4",
-            FormulaFault::Unbound => "F5",
-            FormulaFault::OddNegations => "F6",
-            FormulaFault::NotAnAction => "F7",
-            FormulaFault::TooLarge => "F8",
-        };
-        f.write_str(code)
-    }
 }
 
 /// Why a text gave no formula.

@@ -18,7 +18,7 @@ IsSetOf a labels set = (k : ℕ) → k < length labels → k < 4294967296 → sl
 
 abbrev pub IsSetFor : List (List ℕ) → Shape → List Bool → Type 0
 IsSetFor labels (ModalityNode flag a child) set = IsSetOf a labels set
-IsSetFor labels _ set = Unit {0}
+IsSetFor labels _ set = set ≡ []
 
 -- a set for each node
 abbrev pub AreSets : List (List ℕ) → List Node → List (List Bool) → Type 0

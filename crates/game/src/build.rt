@@ -58,6 +58,9 @@ fn set_for(alloc: Global, lts: &Lts, node: &Node) -> Result<Vec<bool>, AllocErro
 }
 
 /// For each node and each label whether the node's action formula holds of the label. A node without one has no labels.
+///
+/// # Errors
+/// Want of memory, and nothing else.
 pub fn label_sets(alloc: Global, lts: &Lts, form: &Normal) -> Result<Vec<Vec<bool>>, AllocError>
     ensures sets { IfOk result (λ sets. AreSets lts.now.labels (normal_nodes form.now) (map (λ set. set.items) sets.items)) }
     ensures count { IfOk result (λ sets. vec_len sets ≡ length (normal_nodes form.now)) }
@@ -326,6 +329,9 @@ fn split(
 /// The game of each state with each node, after two sinks: Even wins the vertex of a state with a node where the node's formula
 /// holds at the state (Emerson and Jutla 1991). Vertices follow each other by state and then by node. Threads make the vertices
 /// of a large game, each those of some states.
+///
+/// # Errors
+/// B1 where there would be too many vertices, told before any is made; else want of memory, B2.
 pub fn build(
     rt: &(impl Threads + Sync),
     alloc: Global,
@@ -348,6 +354,9 @@ pub fn build(
 }
 
 /// The same game, whose states are cut into so many ranges of one size. Threads share the ranges where there are several.
+///
+/// # Errors
+/// Those of `build`.
 pub fn build_split(
     rt: &(impl Threads + Sync),
     alloc: Global,

@@ -27,6 +27,9 @@ fn opponent(player: Player) -> Player
 
 /// The other player owns each vertex, and each priority is one more, so that the other player wins where one did. The
 /// vertices have no names.
+///
+/// # Errors
+/// Want of memory, B2, and nothing else.
 pub fn dual(alloc: Global, game: &Game) -> Result<Game, BuildError>
     requires { greatest game.now ≤ GREATEST_PRIORITY }
     ensures game { IfOk result (λ g. g ≡ dual_of game.now) }

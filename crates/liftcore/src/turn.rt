@@ -68,6 +68,9 @@ fn clear(marks: &mut [bool], places: usize)
 
 impl Turn {
     /// A turn that may begin. It takes the memory for all that follow.
+    ///
+    /// # Errors
+    /// Want of memory, and nothing else.
     pub fn new(alloc: Global, game: &Game) -> Result<Self, AllocError>
         ensures { IfOk result (λ t. t.game ≡ game.now) }
     {

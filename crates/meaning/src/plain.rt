@@ -126,6 +126,9 @@ pub(crate) fn marks_of<'x, 'a>(
 }
 
 /// A mark for each state, true where the formula holds, by sets of states alone (Kozen 1983).
+///
+/// # Errors
+/// Want of memory, and nothing else.
 pub fn plain_states(alloc: Global, lts: &Lts, formula: &Closed) -> Result<Vec<bool>, Memory>
     ensures meaning { IfOk result (λ marks. Marks lts.now.system.states marks.items (Satisfies lts.now.system (closed_formula formula.now))) }
     ensures least { IfOk result (λ marks. (name : List ℕ) (f : Formula) → closed_formula formula.now ≡ Mu name f → IsLeast lts.now.system name f marks.items) }

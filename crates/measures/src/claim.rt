@@ -41,6 +41,9 @@ impl Model for Claim {
 
 impl Claim {
     /// A claim of nothing, with all memory that it will need.
+    ///
+    /// # Errors
+    /// Want of memory, and nothing else.
     pub fn new(alloc: Global, game: &Game) -> Result<Self, Memory>
         ensures game { IfOk result (λ c. c.game ≡ game.now) }
         ensures none { IfOk result (λ c. (v : ℕ) → entry_at c.entries v ≡ None) }

@@ -130,6 +130,9 @@ pub fn first_table(alloc: Global, game: &Game) -> Result<PlainTable, Memory>
 }
 
 /// The least progress table of a game, on one thread.
+///
+/// # Errors
+/// Want of memory for the table itself.
 pub fn solve_one(alloc: Global, game: &Game) -> Result<Settled, Memory>
     ensures game { IfOk result (λ s. s.game ≡ game.now) }
     ensures least { IfOk result (λ s. IsLeastTable game.now s.values) }
@@ -138,6 +141,9 @@ pub fn solve_one(alloc: Global, game: &Game) -> Result<Settled, Memory>
 }
 
 /// The same, told to an observer: that the search begins, that lifting does, and then every 4,096th lift.
+///
+/// # Errors
+/// Want of memory for the table itself.
 pub fn solve_one_seen<O: Observer>(
     alloc: Global,
     game: &Game,

@@ -68,6 +68,9 @@ pub fn opening_value(game: &Game, v: u32) -> Measure
 }
 
 /// The table that lifting begins with: top at a vertex of odd priority whose only successor is itself, and else zeros.
+///
+/// # Errors
+/// Want of memory, and nothing else.
 pub fn opening(alloc: Global, game: &Game) -> Result<PlainTable, Memory>
     ensures game { IfOk result (λ t. t.game ≡ game.now) }
     ensures values { IfOk result (λ t. t.values ≡ opening_of game.now) }

@@ -1,7 +1,7 @@
 // The normal form of a formula.
 
 ghost use Rattle.std.specs.Prelude.{◌≡◌, ◌≤◌, max, IfOk, OnOk, IfErr};
-ghost use Rattle.formula.specs.View.{formula_of};
+ghost use Rattle.formula.specs.Closed.{closed_formula};
 ghost use Rattle.normal.specs.Tree.{count as count_of, depth, normal_form};
 ghost use Rattle.normal.specs.Nodes.{nodes, greatest_priority};
 ghost use Rattle.normal.specs.Rules.{nodes_with};
@@ -25,11 +25,11 @@ use std::alloc::Global;
 /// # Errors
 /// As those of `normal_with`.
 pub fn normal(alloc: Global, formula: &Closed) -> Result<Normal, NormalError>
-    ensures nodes { IfOk result (λ n. normal_nodes n ≡ nodes (formula_of formula.now.tree)) }
-    ensures depth { IfOk result (λ n. normal_depth n ≡ depth (normal_form (formula_of formula.now.tree))) }
-    ensures count { OnOk result (count_of (formula_of formula.now.tree) ≤ MOST_NODES) }
-    ensures low { OnOk result (greatest_priority (nodes (formula_of formula.now.tree)) ≤ GREATEST_PRIORITY) }
-    ensures refused { IfErr result (HasRefusal (formula_of formula.now.tree)) }
+    ensures nodes { IfOk result (λ n. normal_nodes n ≡ nodes (closed_formula formula.now)) }
+    ensures depth { IfOk result (λ n. normal_depth n ≡ depth (normal_form (closed_formula formula.now))) }
+    ensures count { OnOk result (count_of (closed_formula formula.now) ≤ MOST_NODES) }
+    ensures low { OnOk result (greatest_priority (nodes (closed_formula formula.now)) ≤ GREATEST_PRIORITY) }
+    ensures refused { IfErr result (HasRefusal (closed_formula formula.now)) }
 {
     normal_with(alloc, formula, Priorities::Nested)
 }
@@ -44,11 +44,11 @@ pub fn normal_with(
     formula: &Closed,
     priorities: Priorities,
 ) -> Result<Normal, NormalError>
-    ensures nodes { IfOk result (λ n. normal_nodes n ≡ nodes_with priorities (formula_of formula.now.tree)) }
-    ensures depth { IfOk result (λ n. normal_depth n ≡ depth (normal_form (formula_of formula.now.tree))) }
-    ensures count { OnOk result (count_of (formula_of formula.now.tree) ≤ MOST_NODES) }
-    ensures low { OnOk result (greatest_priority (nodes_with priorities (formula_of formula.now.tree)) ≤ GREATEST_PRIORITY) }
-    ensures refused { IfErr result (HasRefusalWith priorities (formula_of formula.now.tree)) }
+    ensures nodes { IfOk result (λ n. normal_nodes n ≡ nodes_with priorities (closed_formula formula.now)) }
+    ensures depth { IfOk result (λ n. normal_depth n ≡ depth (normal_form (closed_formula formula.now))) }
+    ensures count { OnOk result (count_of (closed_formula formula.now) ≤ MOST_NODES) }
+    ensures low { OnOk result (greatest_priority (nodes_with priorities (closed_formula formula.now)) ≤ GREATEST_PRIORITY) }
+    ensures refused { IfErr result (HasRefusalWith priorities (closed_formula formula.now)) }
 {
     let tree = formula.tree();
     if count(tree).is_none() {

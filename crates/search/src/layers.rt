@@ -21,6 +21,9 @@ pub struct Layers {
 
 impl Layers {
     /// Searches a game, with its predecessors, of which it is known what Odd wins. It may find less than there is.
+    ///
+    /// # Errors
+    /// Want of memory, and nothing else.
     pub fn of(
         alloc: Global,
         game: &Game,

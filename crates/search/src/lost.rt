@@ -18,6 +18,9 @@ pub struct Lost {
 impl Lost {
     /// Searches a game with its predecessors, within a number of steps that is about linear in its size. It may find less than
     /// there is.
+    ///
+    /// # Errors
+    /// Want of memory, and nothing else.
     pub fn of(alloc: Global, game: &Game, predecessors: &Predecessors) -> Result<Self, Memory> {
         let mut ways = Winners::new(alloc, game, predecessors)?.find(game);
         let mut ranks = Ranks::none(alloc, game)?;

@@ -1,6 +1,6 @@
 // A board of shards under locks.
 
-ghost use Rattle.std.specs.Prelude.{◌≡◌, ◌<◌, IfOk, IfErr, vec_len};
+ghost use Rattle.std.specs.Prelude.{◌≡◌, ◌<◌, IfOk, IfErr, IsOk, vec_len};
 ghost use Rattle.std.specs.Arc.{arc_value};
 ghost use Rattle.tables.specs.declared.error.TableError.TheVariants as errors;
 
@@ -72,7 +72,10 @@ impl<K: GameName, R: Wait + Drop> Board for LockedBoard<K, R> {
 
     ghost fits = { λ b s. Unit {0} };
 
-    fn seat(&self) -> Result<(), TableError> {
+    fn seat(&self) -> Result<(), TableError>
+        ensures seat { IfOk result (λ s. Unit {0}) }
+        ensures given { IsOk result }
+    {
         Ok(())
     }
 

@@ -1,5 +1,8 @@
 // Why a line could not be read, and want of memory.
 
+ghost use Rattle.std.specs.Prelude.{◌≡◌};
+ghost use Rattle.text.specs.declared.error.ReadFault.TheVariants as faults;
+
 use std::alloc::{AllocError, AllocFailed};
 use thiserror::Error;
 
@@ -15,6 +18,8 @@ pub enum ReadFault {
 }
 
 impl From<AllocError> for ReadFault {
+    ghost from_gives = { λ _ e. e ≡ faults.Memory };
+
     fn from(error: AllocError) -> Self {
         let _ = error;
         ReadFault::Memory

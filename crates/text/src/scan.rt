@@ -40,7 +40,7 @@ fn value_of(digits: &[u8]) -> u32
     for digit in digits {
         value = value
             .saturating_mul(10)
-            .saturating_add(u32::from(digit.saturating_sub(48)));
+            .saturating_add(u32::from(digit.saturating_sub(b'0')));
     }
     value
 }
@@ -66,7 +66,7 @@ fn is_numeral(digits: &[u8]) -> bool
     match digits {
         [] => false,
         [only] => is_digit(*only),
-        [first, ..] => *first >= 49 && are_digits(digits),
+        [first, ..] => *first >= b'1' && are_digits(digits),
     }
 }
 

@@ -151,7 +151,7 @@ fn skip_blanks<B: BufRead>(reader: &mut B) -> Result<Option<u8>, ReadFault>
 /// Takes the sign past the blanks, and says whether it was there.
 ///
 /// # Errors
-/// A read failed. What the reader has left then isn't said.
+/// A read failed, or memory was refused. What the reader has left then isn't said.
 pub fn sign<B: BufRead>(reader: &mut B, token: u8) -> Result<bool, ReadFault>
     requires inside { IsTrue (is_inside token) }
     ensures { IfOk result (λ found. IfKnown (B.remaining reader.old) (B.remaining reader.new) (PassesSign (at.sign_at (token ∷ [])) found)) }
@@ -178,7 +178,7 @@ fn accept_all<B: BufRead>(reader: &mut B, word: &[u8]) -> Result<bool, ReadFault
 /// Takes the word past the blanks, and says whether it was there.
 ///
 /// # Errors
-/// A read failed. What the reader has left then isn't said.
+/// A read failed, or memory was refused. What the reader has left then isn't said.
 pub fn word<B: BufRead>(reader: &mut B, token: &[u8]) -> Result<bool, ReadFault>
     requires inside { IsTrue (list_all is_inside token.now) }
     ensures { IfOk result (λ found. IfKnown (B.remaining reader.old) (B.remaining reader.new) (PassesSign (at.sign_at token.now) found)) }
@@ -241,7 +241,7 @@ pub fn quoted<B: BufRead>(
 /// Takes the blanks and the end of the line where nothing else is left of it, and says whether nothing was.
 ///
 /// # Errors
-/// A read failed. What the reader has left then isn't said.
+/// A read failed, or memory was refused. What the reader has left then isn't said.
 pub fn ends<B: BufRead>(reader: &mut B) -> Result<bool, ReadFault>
     ensures { IfOk result (λ found. IfKnown (B.remaining reader.old) (B.remaining reader.new) (Ends found)) }
 {
@@ -256,7 +256,7 @@ pub fn ends<B: BufRead>(reader: &mut B) -> Result<bool, ReadFault>
 /// Whether there is a line: the text has not ended.
 ///
 /// # Errors
-/// A read failed. What the reader has left then isn't said.
+/// A read failed, or memory was refused. What the reader has left then isn't said.
 pub fn has_line<B: BufRead>(reader: &mut B) -> Result<bool, ReadFault>
     ensures { IfOk result (HasLine (B.remaining reader.old) (B.remaining reader.new)) }
 {

@@ -200,6 +200,9 @@ fn note_formula<'a>(
 
 /// The words of the formula that no label of the system has, in their order, each once, and no more than ten: names of
 /// multi-actions and quoted atoms. `true`, `false` and `tau` are none.
+///
+/// # Errors
+/// Want of memory, and nothing else.
 pub fn strange_words<'a>(
     alloc: Global,
     system: &Lts,

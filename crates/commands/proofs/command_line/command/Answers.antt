@@ -4,7 +4,7 @@ use Rattle.commands.proofs.command_line.command.Goals as goal
 
 pub returns-in-Ok-clause-asked : goal.returns-in-Ok-clause-asked
 returns-in-Ok-clause-asked c =
-    let found = c.in_ok-matches.ensures in
+    let found = c.in_ok-matches.ensures.found in
     record {
       app = found.app;
       table = found.table;
