@@ -24,7 +24,7 @@ use Rattle.formula.specs.declared.closed.Closed.{Closed}
 use Rattle.formula.specs.declared.token.Placed.{Placed}
 use Rattle.formula.specs.declared.scope.Misplaced.{Misplaced}
 use Rattle.formula.specs.declared.state.ReadState.{ReadState}
-use Rattle.trees.specs.declared.tree.State.{State}
+use Rattle.calculus.specs.declared.tree.State.{State}
 use Rattle.formula.specs.declared.misread.Misread.{Misread}
 use Rattle.formula.specs.declared.misread.Misread.TheVariants as misread
 use Rattle.formula.specs.declared.error.FormulaFault.{FormulaFault}

@@ -1,7 +1,7 @@
-pub use Rattle.trees.specs.Tree
-pub use Rattle.trees.specs.View
-pub use Rattle.trees.specs.Holds
-pub use Rattle.trees.specs.Canon
+pub use Rattle.calculus.specs.Tree
+pub use Rattle.calculus.specs.View
+pub use Rattle.calculus.specs.Holds
+pub use Rattle.calculus.specs.Canon
 pub mod Meaning
 pub mod Admitted
 pub mod Token

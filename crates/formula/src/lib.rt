@@ -8,8 +8,8 @@ pub mod limits;
 pub mod meaning_law;
 pub mod printer;
 
+pub use calculus::{holds, label, tree};
 pub use printer::print;
-pub use trees::{holds, label, tree};
 
 mod lexer;
 mod meant;

@@ -8,9 +8,9 @@ ghost use Rattle.formula.specs.Spells.{Spells, SpellsWithin};
 ghost use Rattle.formula.specs.declared.limits.TheConstants.{LONGEST_TEXT};
 
 use crate::closed::Closed;
+use calculus::put_state;
 use lts::WriteFault;
 use std::io::Write;
-use trees::put_state;
 
 /// Writes the formula's canonical text, without an end of line and without memory. Each operator between two operands and
 /// each binder has parentheses, the outermost too: `(nu X. (mu Y. (<a>X || <b>Y)))`. So `parse` reads the same formula from it.

@@ -16,6 +16,8 @@ use crate::error::BuildError;
 use crate::graph::{Game, GameBuilder};
 use crate::limits::MOST_VERTICES;
 use crate::player::Player;
+use calculus::holds;
+use calculus::tree::Act;
 use lts::system::{Lts, Transition};
 use normal::form::Normal;
 use normal::limits::{GREATEST_PRIORITY, MOST_NODES};
@@ -24,8 +26,6 @@ use rayon::current_num_threads;
 use rayon::prelude::*;
 use std::alloc::{AllocError, Global};
 use std::thread::Threads;
-use trees::holds;
-use trees::tree::Act;
 
 // How many ranges the states of a large game are cut into. The game is the same for each number.
 const RANGES: u32 = 64;

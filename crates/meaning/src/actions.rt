@@ -9,10 +9,10 @@ ghost use Rattle.formula.specs.Meaning.{Marks};
 ghost use Rattle.meaning.specs.Into.{Into};
 
 use crate::sets::all;
+use calculus::holds;
+use calculus::tree::Act;
 use lts::system::{Lts, Transition};
 use std::alloc::{AllocError, Global};
-use trees::holds;
-use trees::tree::Act;
 
 /// Whether the action formula holds of each label, by the label's number.
 pub fn chosen_labels(alloc: Global, lts: &Lts, action: &Act) -> Result<Vec<bool>, AllocError>

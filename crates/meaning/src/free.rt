@@ -7,7 +7,7 @@ ghost use Rattle.formula.specs.View.{formula_of};
 ghost use Rattle.meaning.specs.Bound.{names_of};
 ghost use Rattle.meaning.specs.Free.{is_free_in, are_among};
 
-use trees::tree::State;
+use calculus::tree::State;
 
 /// The names of the binders around a place, the innermost first.
 #[derive(Clone, Copy)]

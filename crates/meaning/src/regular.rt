@@ -11,9 +11,9 @@ use crate::actions::before;
 use crate::search::reaching_by;
 use crate::sets::{is_within, union};
 use crate::signs::{has_star, without_signs_behind};
+use calculus::tree::Reg;
 use lts::system::Lts;
 use std::alloc::{AllocError, Global};
-use trees::tree::Reg;
 
 /// The states from which steps lead into a set: any number of them, and at least one.
 #[derive(Drop)]

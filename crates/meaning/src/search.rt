@@ -10,9 +10,9 @@ ghost use Rattle.meaning.specs.Arrivals.{IsSource, HasRoom, IsIndex, unmarked};
 
 use crate::actions::{chosen_labels, is_chosen};
 use crate::arrivals::{Arrival, Arrivals};
+use calculus::tree::Act;
 use lts::system::{Lts, Transition};
 use std::alloc::{AllocError, Global};
-use trees::tree::Act;
 
 /// The steps of the action, by the states into which they lead.
 fn index_of(alloc: Global, lts: &Lts, action: &Act) -> Result<Arrivals, AllocError>

@@ -4,7 +4,7 @@ ghost use Rattle.std.specs.Prelude.{◌≡◌};
 ghost use Rattle.formula.specs.View.{regular_of};
 ghost use Rattle.meaning.specs.Signs.{without_signs, has_star as has_star_of};
 
-use trees::tree::Reg;
+use calculus::tree::Reg;
 
 /// What stands before the signs behind a regular formula.
 pub fn without_signs_behind(regular: &Reg) -> &Reg

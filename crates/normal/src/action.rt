@@ -3,8 +3,8 @@
 ghost use Rattle.std.specs.Prelude.{◌≡◌, IfOk, map};
 ghost use Rattle.formula.specs.View.{action_of};
 
+use calculus::tree::Act;
 use std::alloc::{AllocError, Global};
-use trees::tree::Act;
 
 // A copy of a list of names.
 fn copied_names(alloc: Global, names: &[Vec<u8>]) -> Result<Vec<Vec<u8>>, AllocError>

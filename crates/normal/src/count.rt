@@ -5,7 +5,7 @@ ghost use Rattle.formula.specs.View.{regular_of, formula_of};
 ghost use Rattle.normal.specs.Tree.{count as count_of, modal_count as modal_count_of};
 
 use crate::limits::MOST_NODES;
-use trees::tree::{Reg, State};
+use calculus::tree::{Reg, State};
 
 // The number, where it is within the limit.
 fn within(number: u32) -> Option<u32>

@@ -1,6 +1,6 @@
 // The nodes of a normal form.
 
-use trees::tree::Act;
+use calculus::tree::Act;
 
 /// What a node is, with its children's numbers, or for a variable the number of its binder.
 #[derive(Drop)]

@@ -2,7 +2,7 @@
 
 ghost use Rattle.std.specs.Prelude.{◌≡◌};
 
-use trees::tree::{Reg, State};
+use calculus::tree::{Reg, State};
 
 /// The binders around a place, the innermost first, with the numbers of their nodes.
 #[derive(Clone, Copy)]

@@ -11,10 +11,10 @@ ghost use Rattle.normal.specs.Normal.{normal_nodes, normal_depth};
 
 use crate::form::Normal;
 use crate::node::{Kind, Node};
+use calculus::put_action;
+use calculus::tree::Act;
 use std::io::Write;
 use text::{Piece, WriteFault, put, put_pieces};
-use trees::put_action;
-use trees::tree::Act;
 
 /// Writes a line with the number of nodes, the greatest priority and the depth, and then a line for each node: its number,
 /// what it is, its priority, its children's numbers or its binder's, and a modality's action formula. It takes no memory.

@@ -11,7 +11,7 @@ ghost use Rattle.normal.specs.Surveys.{open_at, opened, seen, raised, chosen, Is
 use crate::limits::MOST_NODES;
 use crate::part::{Part, Scope, binder_of};
 use crate::priorities::Priorities;
-use trees::tree::{Reg, State};
+use calculus::tree::{Reg, State};
 
 /// A binder whose operand is being surveyed.
 #[derive(Clone, Copy)]

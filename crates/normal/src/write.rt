@@ -11,8 +11,8 @@ use crate::action::copied;
 use crate::limits::MOST_NODES;
 use crate::node::{Kind, Node};
 use crate::part::{Part, Scope, binder_of};
+use calculus::tree::{Act, Reg, State};
 use std::alloc::{AllocError, Global};
-use trees::tree::{Act, Reg, State};
 
 fn constant(flag: bool) -> Kind
     ensures { shape_of result ≡ ConstantNode flag }

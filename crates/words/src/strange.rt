@@ -9,13 +9,13 @@ ghost use Rattle.lts.specs.Label.{texts};
 ghost use Rattle.words.specs.Noted.{is_known, knows, with_term};
 ghost use Rattle.words.specs.Strange.{Atom, Name, action_terms, formula_terms, has_term, regular_terms, same_term, strange_terms, term_of};
 
+use calculus::tree::{Act, Reg, State};
 use formula::closed::Closed;
 use lts::Memory;
 use lts::label::LabelView;
 use lts::system::Lts;
 use std::alloc::{AllocError, Global};
 use std::collections::HashSet;
-use trees::tree::{Act, Reg, State};
 
 /// How many are told of at most.
 pub const MOST_NOTES: usize = 10;

@@ -1,6 +1,6 @@
 -- the formula above its parts, with a call that boxes each between
 use Rattle.std.proofs.Common.{◌+◌, ◌*◌}
-use Rattle.trees.specs.declared.tree.State.{size-State}
+use Rattle.calculus.specs.declared.tree.State.{size-State}
 use Rattle.meaning.proofs.term.+terms.Given as goal
 
 abbrev pub decreases-parts_of : goal.decreases-parts_of

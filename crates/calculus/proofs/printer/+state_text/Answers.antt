@@ -1,5 +1,5 @@
 use Rattle.text.proofs.Writing.{Wrote-err, WroteFront-more, WroteFront-after, Wrote-after}
-use Rattle.trees.proofs.printer.+state_text.Goals as goal
+use Rattle.calculus.proofs.printer.+state_text.Goals as goal
 
 pub put_signed-returns-in_err-put : goal.put_signed-returns-in_err-put
 put_signed-returns-in_err-put g t c = Wrote-err _ _ _ _ c.from_residual.ensures.0 (WroteFront-more _ _ _ _ c.in_err-put.ensures.wrote)

@@ -1,7 +1,7 @@
 -- a tree above its operands, with a call that writes a sign beside each between
 use Rattle.std.proofs.Common.{◌+◌, ◌*◌, max}
-use Rattle.trees.specs.declared.tree.Reg.{size-Reg}
-use Rattle.trees.proofs.printer.+regular_text.Given as goal
+use Rattle.calculus.specs.declared.tree.Reg.{size-Reg}
+use Rattle.calculus.proofs.printer.+regular_text.Given as goal
 
 abbrev pub decreases-put_regular : goal.decreases-put_regular
 decreases-put_regular g l = 3 * size-Reg l.regular.now

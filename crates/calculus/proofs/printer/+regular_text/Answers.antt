@@ -1,5 +1,5 @@
 use Rattle.text.proofs.Writing.{Wrote-err, WroteFront-more, WroteFront-after, Wrote-after}
-use Rattle.trees.proofs.printer.+regular_text.Goals as goal
+use Rattle.calculus.proofs.printer.+regular_text.Goals as goal
 
 pub put_repeated-returns-in_err-put_regular : goal.put_repeated-returns-in_err-put_regular
 put_repeated-returns-in_err-put_regular g t c = Wrote-err _ _ _ _ c.from_residual.ensures.0 (WroteFront-more _ _ _ _ c.in_err-put_regular.ensures)

@@ -1,7 +1,7 @@
 -- a tree above its operands, with a call that writes a sign before each between
 use Rattle.std.proofs.Common.{◌+◌, ◌*◌, max}
-use Rattle.trees.specs.declared.tree.Act.{size-Act}
-use Rattle.trees.proofs.printer.+action_text.Given as goal
+use Rattle.calculus.specs.declared.tree.Act.{size-Act}
+use Rattle.calculus.proofs.printer.+action_text.Given as goal
 
 abbrev pub decreases-put_action : goal.decreases-put_action
 decreases-put_action g l = 3 * size-Act l.action.now

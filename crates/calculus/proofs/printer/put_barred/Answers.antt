@@ -1,7 +1,7 @@
 use Rattle.std.proofs.Common.{subst}
 use Rattle.text.proofs.Writing.{HasWritten, HasWritten-more, HasWritten-stops, HasWritten-all, Wrote-err}
-use Rattle.trees.proofs.Printing.{next_barred, none_barred}
-use Rattle.trees.proofs.printer.put_barred.Goals as goal
+use Rattle.calculus.proofs.Printing.{next_barred, none_barred}
+use Rattle.calculus.proofs.printer.put_barred.Goals as goal
 
 pub returns-in_err-put_pieces : goal.returns-in_err-put_pieces
 returns-in_err-put_pieces g c =

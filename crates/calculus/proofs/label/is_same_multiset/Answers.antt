@@ -1,5 +1,5 @@
-use Rattle.trees.proofs.Multisets.{as_often, same_names}
-use Rattle.trees.proofs.label.is_same_multiset.Goals as goal
+use Rattle.calculus.proofs.Multisets.{as_often, same_names}
+use Rattle.calculus.proofs.label.is_same_multiset.Goals as goal
 
 pub returns-then-eq : goal.returns-then-eq
 returns-then-eq c = same_names c.args.read.now c.args.names.now c.eq.result c.eq.ensures c.if-eq.true

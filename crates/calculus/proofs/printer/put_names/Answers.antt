@@ -1,9 +1,9 @@
 use Rattle.std.proofs.Common.{◌++◌, ◌∙◌, ap}
 use Rattle.lts.specs.Label.{texts}
 use Rattle.text.proofs.Writing.{Wrote-err, Wrote-as, Wrote-after, WroteFront-more}
-use Rattle.trees.specs.Canon.{barred}
-use Rattle.trees.proofs.Printing.{names_text-cons}
-use Rattle.trees.proofs.printer.put_names.Goals as goal
+use Rattle.calculus.specs.Canon.{barred}
+use Rattle.calculus.proofs.Printing.{names_text-cons}
+use Rattle.calculus.proofs.printer.put_names.Goals as goal
 
 pub returns-in_err-put : goal.returns-in_err-put
 returns-in_err-put g c =

@@ -1,7 +1,7 @@
 -- a tree above its operands, with a call that writes a sign before each between
 use Rattle.std.proofs.Common.{◌+◌, ◌*◌, max}
-use Rattle.trees.specs.declared.tree.State.{size-State}
-use Rattle.trees.proofs.printer.+state_text.Given as goal
+use Rattle.calculus.specs.declared.tree.State.{size-State}
+use Rattle.calculus.proofs.printer.+state_text.Given as goal
 
 abbrev pub decreases-put_state : goal.decreases-put_state
 decreases-put_state g l = 3 * size-State l.formula.now

@@ -2,7 +2,7 @@
 use Rattle.std.proofs.Common.{◌≡◌, ℕ, ◌+◌, ◌<◌, ◌≤◌, List, [], ◌∷◌, ◌++◌, length, drop, get_or, drop-cons, add-one, codes, Vec, Global, refl, sym, ap, append-nil}
 use Rattle.std.proofs.Math.ListN.{drop_of_length-le}
 use Rattle.lts.specs.Label.{texts}
-use Rattle.trees.specs.Canon.{names_text, barred}
+use Rattle.calculus.specs.Canon.{names_text, barred}
 
 -- the first name, and the others after bars
 pub names_text-cons : (name : List ℕ) (names : List (List ℕ)) → name ++ barred names ≡ names_text (name ∷ names)
