@@ -1,2 +1,11 @@
 pub mod Multisets
 pub mod Printing
+pub mod Telling
+pub mod Counted
+pub mod Fixpoints
+pub mod Inside
+pub mod Entering
+pub mod Same
+pub mod Grown
+pub mod Decided
+pub mod Binders

@@ -1,7 +1,9 @@
-// Formulas as trees: which labels an action formula holds of, and the canonical text of a formula.
+// Formulas of the modal mu-calculus as trees: what they mean, which are admitted, and their canonical text.
 #![tactic(auto)]
 
+pub mod closed;
 pub mod label;
+pub mod meaning_law;
 pub mod printer;
 pub mod tree;
 

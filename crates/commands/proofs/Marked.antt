@@ -4,7 +4,7 @@ use Rattle.std.specs.Prelude.{IsTrue, ◌↔◌}
 use Rattle.std.proofs.Math.ListN.{get_or-append}
 use Rattle.std.proofs.Math.Seq.{get_or-append_seam}
 use Rattle.std.proofs.lemmas.Bool.{cases_order}
-use Rattle.formula.specs.Meaning.{marked, Marks}
+use Rattle.calculus.specs.Meaning.{marked, Marks}
 use Rattle.game.specs.Game.{Game, IsGame}
 use Rattle.game.specs.Wins.{OddWins, Wins}
 use Rattle.measures.specs.Laws.{NotBothWin, OneWins}

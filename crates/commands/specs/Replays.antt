@@ -3,7 +3,7 @@ use Rattle.std.specs.Prelude.{◌≡◌, ◌↔◌, ℕ, Bool, true, List, [], l
 use Rattle.std.specs.Io.KnownBytes.{Appends, Keeps}
 use Rattle.text.specs.Wrote.{WroteFront}
 use Rattle.lts.specs.System.{System}
-use Rattle.formula.specs.Tree.{Formula}
+use Rattle.calculus.specs.Tree.{Formula}
 use Rattle.normal.specs.declared.priorities.Priorities.TheVariants.{Nested}
 use Rattle.game.specs.Game.{Game}
 use Rattle.measures.specs.Tables.{IsSettled}

@@ -1,7 +1,7 @@
 -- Who wins each vertex of a game, and what is written of it.
 use Rattle.std.specs.Prelude.{◌≡◌, ◌↔◌, ℕ, ◌+◌, ◌<◌, Bool, List, [], ◌∷◌, ◌++◌, length, count_by, codes, decimal, if◌then◌else◌}
 use Rattle.lts.specs.Canon.{line_end}
-use Rattle.formula.specs.Meaning.{marked}
+use Rattle.calculus.specs.Meaning.{marked}
 use Rattle.game.specs.Game.{Game}
 use Rattle.game.specs.Wins.{OddWins, Wins}
 

@@ -1,13 +1,13 @@
 // The engine of the command `normal`.
 
 ghost use Rattle.std.specs.Prelude.{ℕ, List};
-ghost use Rattle.formula.specs.Closed.{closed_formula};
+ghost use Rattle.calculus.specs.Closed.{closed_formula};
 ghost use Rattle.engines.specs.Texts.{IsFormulaOf};
 ghost use Rattle.commands.specs.Prints.{Answers, Prints};
 
+use calculus::closed::Closed;
 use engines::error::MuError;
 use engines::texts::read_formula;
-use formula::closed::Closed;
 use normal::make::normal_with;
 use normal::printer::print_normal;
 use normal::priorities::Priorities;

@@ -2,8 +2,8 @@
 
 ghost use Rattle.std.specs.Prelude.{◌≡◌, ℕ, List, Some, IfErr, IfOk, IfSome, MatchResult, length};
 ghost use Rattle.lts.specs.System.{System};
-ghost use Rattle.formula.specs.Tree.{Formula};
-ghost use Rattle.formula.specs.Closed.{closed_formula};
+ghost use Rattle.calculus.specs.Tree.{Formula};
+ghost use Rattle.calculus.specs.Closed.{closed_formula};
 ghost use Rattle.normal.specs.declared.priorities.Priorities.TheVariants.{Nested};
 ghost use Rattle.liftcore.specs.Core.{start};
 ghost use Rattle.engines.specs.Check.{AreSpelled, HasGame};

@@ -2,7 +2,7 @@
 
 ghost use Rattle.std.specs.Prelude.{◌≡◌, ◌++◌, length, count_by, decimal, IfErr, IfOk};
 ghost use Rattle.text.specs.Wrote.{Wrote};
-ghost use Rattle.formula.specs.Meaning.{Marks};
+ghost use Rattle.calculus.specs.Meaning.{Marks};
 ghost use Rattle.game.specs.Wins.{Wins};
 ghost use Rattle.commands.specs.Winners.{AreWinners, even_or_odd, sizes_text, winner_lines, winners_text as text_of};
 

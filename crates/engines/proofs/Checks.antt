@@ -7,7 +7,7 @@ use Rattle.std.proofs.lemmas.Result.{IfOk-weaker}
 use Rattle.text.specs.declared.write_loop.WriteFault.{WriteFault}
 use Rattle.lts.specs.System.{System}
 use Rattle.lts.specs.Aut.{IsAut}
-use Rattle.formula.specs.Tree.{Formula}
+use Rattle.calculus.specs.Tree.{Formula}
 use Rattle.engines.specs.declared.error.MuError.{MuError}
 use Rattle.engines.specs.declared.error.MuError.TheVariants as error
 use Rattle.normal.specs.declared.priorities.Priorities.{Priorities}
@@ -23,7 +23,7 @@ use Rattle.game.specs.Game.{Game}
 use Rattle.workers.specs.declared.team.BoardKind.{BoardKind}
 use Rattle.engines.specs.declared.findings.Findings.{Findings}
 use Rattle.engines.specs.declared.texts.Texts.{Texts}
-use Rattle.formula.specs.Closed.{closed_formula}
+use Rattle.calculus.specs.Closed.{closed_formula}
 
 -- what is said of known bytes, at them
 pub at_known : (P : List ℕ → Type 0) (known : Option (List ℕ)) (text : List ℕ) → known ≡ Some text → IfSome known P → P text

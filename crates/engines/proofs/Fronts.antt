@@ -4,9 +4,9 @@ use Rattle.std.specs.Io.Take.{take_limit, take_inner, take_remaining}
 use Rattle.std.specs.declared.io.traits.Take.{Take}
 use Rattle.std.proofs.Common.{◌≡◌, ◌<◌, ℕ, List, [], ◌++◌, length, take, Some, None, inl, inr, sym, ap, ◌∙◌, subst, arith}
 use Rattle.std.proofs.lemmas.List.{take_all, length-take}
-use Rattle.formula.specs.Tree.{Formula}
+use Rattle.calculus.specs.Tree.{Formula}
 use Rattle.formula.specs.Spells.{Spells, SpellsWithin}
-use Rattle.formula.specs.Admitted.{IsAdmitted}
+use Rattle.calculus.specs.Admitted.{IsAdmitted}
 use Rattle.formula.specs.Fault.{HasFault}
 use Rattle.formula.specs.declared.error.FormulaFault.{FormulaFault}
 use Rattle.formula.specs.declared.error.FormulaError.{FormulaError}

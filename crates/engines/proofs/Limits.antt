@@ -1,6 +1,6 @@
 -- The nodes of a normal form.
 use Rattle.std.proofs.Common.{◌≤◌, ℕ, length, arith}
-use Rattle.formula.specs.Tree.{Formula}
+use Rattle.calculus.specs.Tree.{Formula}
 use Rattle.normal.specs.Tree.{Norm, Constant, Junction, Modality, Fixpoint, Variable, normal_form}
 use Rattle.normal.specs.Nodes.{Rule, nodes_by}
 use Rattle.normal.specs.Rules.{nodes_with, rule_of}

@@ -8,9 +8,9 @@ use Rattle.game.specs.Wins.{Wins}
 use Rattle.std.proofs.Math.ListN.{get_or-append}
 use Rattle.std.proofs.Math.Seq.{get_or-append_seam}
 use Rattle.std.proofs.lemmas.Bool.{cases_order}
-use Rattle.formula.specs.Meaning.{marked, Marks, Satisfies}
-use Rattle.formula.specs.Tree.{Formula}
-use Rattle.formula.specs.Admitted.{IsAdmitted}
+use Rattle.calculus.specs.Meaning.{marked, Marks, Satisfies}
+use Rattle.calculus.specs.Tree.{Formula}
+use Rattle.calculus.specs.Admitted.{IsAdmitted}
 use Rattle.lts.specs.System.{System, IsSystem}
 use Rattle.normal.specs.Tree.{normal_form}
 use Rattle.normal.specs.Nodes.{Node}

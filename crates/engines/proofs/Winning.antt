@@ -2,7 +2,7 @@
 use Rattle.std.proofs.Common.{◌≡◌, ◌<◌, ℕ, Bool, true, false, Some, inl, inr, refl, sym, ap, ◌∙◌, subst, true≢false}
 use Rattle.std.specs.Prelude.{IsTrue, ◌↔◌, IfOk, Result, Ok, Err, slice_index_or}
 use Rattle.std.specs.Arc.{arc_value}
-use Rattle.formula.specs.Meaning.{Marks}
+use Rattle.calculus.specs.Meaning.{Marks}
 use Rattle.normal.specs.Rules.{nodes_with}
 use Rattle.game.specs.Game.{Game, IsGame}
 use Rattle.game.specs.Arena.{arena, place, place_in}

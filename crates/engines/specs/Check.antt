@@ -5,8 +5,8 @@ use Rattle.lts.specs.System.{System}
 use Rattle.lts.specs.Aut.{IsAut, HasFault}
 use Rattle.lts.specs.Canon.{aut_text}
 use Rattle.lts.specs.Left.{Refuses}
-use Rattle.formula.specs.Tree.{Formula}
-use Rattle.formula.specs.Meaning.{Marks, Satisfies}
+use Rattle.calculus.specs.Tree.{Formula}
+use Rattle.calculus.specs.Meaning.{Marks, Satisfies}
 use Rattle.formula.specs.Checked.{IsTold}
 use Rattle.normal.specs.declared.limits.TheConstants.{MOST_NODES, GREATEST_PRIORITY}
 use Rattle.normal.specs.declared.priorities.Priorities.{Priorities}

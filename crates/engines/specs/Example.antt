@@ -2,7 +2,7 @@
 use Rattle.std.specs.Prelude.{◌≡◌, true, false, [], ◌∷◌, ◌++◌, codes, refl}
 use Rattle.std.specs.Fmt.{digits}
 use Rattle.lts.specs.System.{System}
-use Rattle.formula.specs.Tree.{Names, Dia, Step, True}
+use Rattle.calculus.specs.Tree.{Names, Dia, Step, True}
 use Rattle.engines.specs.Report.{report, line_end}
 
 -- 0 -a-> 1 -b-> 0

@@ -5,8 +5,8 @@ use Rattle.std.specs.Option.{is_some}
 use Rattle.lts.specs.System.{System}
 use Rattle.lts.specs.Numbered.{IsInside, system_with}
 use Rattle.lts.specs.declared.system.Transition.{Transition}
-use Rattle.formula.specs.Tree.{Formula}
-use Rattle.formula.specs.Closed.{closed_formula}
+use Rattle.calculus.specs.Tree.{Formula}
+use Rattle.calculus.specs.Closed.{closed_formula}
 use Rattle.normal.specs.declared.limits.TheConstants.{GREATEST_PRIORITY}
 use Rattle.normal.specs.declared.priorities.Priorities.{Priorities}
 use Rattle.normal.specs.Refused.{HasRefusalWith}

@@ -2,8 +2,8 @@
 use Rattle.std.specs.Prelude.{ℕ, ◌+◌, Bool, false, List, [], ◌∷◌, ◌++◌, length, count_by, codes, decimal, if◌then◌else◌}
 use Rattle.std.specs.List.{slice_index_or}
 use Rattle.lts.specs.System.{System}
-use Rattle.formula.specs.Tree.{Formula}
-use Rattle.formula.specs.Canon.{canon}
+use Rattle.calculus.specs.Tree.{Formula}
+use Rattle.calculus.specs.Canon.{canon}
 
 -- LF
 abbrev pub line_end : List ℕ

@@ -2,9 +2,9 @@
 use Rattle.std.specs.Prelude.{◌≡◌, ℕ, List}
 use Rattle.lts.specs.System.{System}
 use Rattle.lts.specs.Aut.{IsAut}
-use Rattle.formula.specs.Tree.{Formula}
+use Rattle.calculus.specs.Tree.{Formula}
 use Rattle.formula.specs.Spells.{Spells, SpellsWithin}
-use Rattle.formula.specs.Admitted.{IsAdmitted}
+use Rattle.calculus.specs.Admitted.{IsAdmitted}
 use Rattle.formula.specs.Checked.{IsTold}
 use Rattle.engines.specs.declared.error.MuError.{MuError}
 use Rattle.engines.specs.declared.error.MuError.TheVariants as error

@@ -1,12 +1,12 @@
 // The parity game of a system and a formula.
 
 ghost use Rattle.std.specs.Prelude.{◌≡◌, ◌≤◌, None, MatchResult};
-ghost use Rattle.formula.specs.Closed.{closed_formula};
+ghost use Rattle.calculus.specs.Closed.{closed_formula};
 ghost use Rattle.engines.specs.Check.{ByGame, IsBeyond};
 ghost use Rattle.engines.specs.Findings.{IsGameOf};
 
 use crate::error::MuError;
-use formula::closed::Closed;
+use calculus::closed::Closed;
 use game::build::build;
 use game::graph::Game;
 use lts::system::Lts;

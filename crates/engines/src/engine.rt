@@ -1,7 +1,7 @@
 // The engines: from both texts to the report.
 
 ghost use Rattle.std.specs.Prelude.{◌≡◌, ◌∷◌, ◌++◌, [], ℕ, List, None, Some, IfErr, MatchResult};
-ghost use Rattle.formula.specs.Closed.{closed_formula};
+ghost use Rattle.calculus.specs.Closed.{closed_formula};
 ghost use Rattle.engines.specs.Check.{BySets, ByGame, AreMarks, AreSpelled, Answers, Checks, IsBeyond, IsErrorOf};
 ghost use Rattle.engines.specs.Command.{wanted_in, way_of};
 ghost use Rattle.engines.specs.Findings.{AreFindings, formula_of, system_of, way_in};

@@ -2,7 +2,7 @@
 
 ghost use Rattle.std.specs.Prelude.{◌≡◌, IfOk, IfErr, ℕ, List, Some, None, Option};
 ghost use Rattle.std.specs.Arc.{arc_value};
-ghost use Rattle.formula.specs.Closed.{closed_formula};
+ghost use Rattle.calculus.specs.Closed.{closed_formula};
 ghost use Rattle.workers.specs.declared.team.BoardKind.{BoardKind};
 ghost use Rattle.engines.specs.Check.{ByGame, AreSpelled, HasRefused, IsBeyond};
 ghost use Rattle.engines.specs.Findings.{AreFindings, ArePosed, IsPairOf, formula_of, system_of, way_in};

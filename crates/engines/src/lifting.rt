@@ -1,14 +1,14 @@
 // The states that satisfy a formula, by lifting the progress measures of its parity game.
 
 ghost use Rattle.std.specs.Prelude.{◌≡◌, ◌≤◌, IfOk, IfErr};
-ghost use Rattle.formula.specs.Closed.{closed_formula};
-ghost use Rattle.formula.specs.Meaning.{Marks};
+ghost use Rattle.calculus.specs.Closed.{closed_formula};
+ghost use Rattle.calculus.specs.Meaning.{Marks};
 ghost use Rattle.engines.specs.Check.{ByGame, AreMarks};
 ghost use Rattle.engines.specs.Findings.{IsSolvedGame};
 ghost use Rattle.engines.specs.Roots.{HasRoots, WinsRoot};
 
 use crate::error::MuError;
-use formula::closed::Closed;
+use calculus::closed::Closed;
 use game::graph::Game;
 use laws::{chosen_is_admissible, even_wins_where_meant};
 use lts::system::Lts;

@@ -1,14 +1,14 @@
 // The texts of a check, read.
 
 ghost use Rattle.std.specs.Prelude.{◌≡◌, ℕ, List, take, IfOk, IfErr, IfSome, Some};
-ghost use Rattle.formula.specs.Closed.{closed_formula};
+ghost use Rattle.calculus.specs.Closed.{closed_formula};
 ghost use Rattle.engines.specs.Texts.{IsFormulaOf, IsReadRefusal, IsReadFault, IsReading};
 ghost use Rattle.engines.specs.Check.{Way, BySets, AreSpelled, HasRefused, IsErrorOf};
 ghost use Rattle.engines.specs.Writers.{AreKept, Lent};
 
 use crate::error::MuError;
 use crate::watch::Watcher;
-use formula::closed::Closed;
+use calculus::closed::Closed;
 use formula::limits::LONGEST_TEXT;
 use formula::parse;
 use lts::reader::read_aut;

@@ -1,6 +1,6 @@
 // What a check tells of itself while it runs.
 
-use formula::closed::Closed;
+use calculus::closed::Closed;
 use lts::system::Lts;
 use measures::observer::{Observer, Silent};
 

@@ -7,7 +7,7 @@ use Rattle.std.proofs.lemmas.List.Kept.{IsStrictlySortedBy-filter}
 use Rattle.std.proofs.lemmas.Bool.{eqb-true}
 use Rattle.lts.specs.System.{Arrow, IsArrow, System, arrow_cmp}
 use Rattle.lts.proofs.Storing.{set_is, strict_set}
-use Rattle.formula.specs.Holds.{holds}
+use Rattle.calculus.specs.Holds.{holds}
 use Rattle.normal.specs.Tree.{Shape, ConstantNode, JunctionNode, ModalityNode, FixpointNode, VariableNode}
 use Rattle.game.specs.Arena.{place}
 use Rattle.measures.proofs.Lists.{contains_cases, contains_first, contains_later, contains_none}

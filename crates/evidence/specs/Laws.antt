@@ -1,9 +1,9 @@
 -- What evidence proves.
 use Rattle.std.specs.Prelude.{◌≡◌, ℕ, ◌+◌, ◌<◌, ◌≤◌, ◌⊎◌, ◌↔◌, Bool, List, length, IsTrue}
 use Rattle.lts.specs.System.{Arrow, System, IsSystem}
-use Rattle.formula.specs.Tree.{Formula}
-use Rattle.formula.specs.Admitted.{IsAdmitted}
-use Rattle.formula.specs.Meaning.{Satisfies}
+use Rattle.calculus.specs.Tree.{Formula}
+use Rattle.calculus.specs.Admitted.{IsAdmitted}
+use Rattle.calculus.specs.Meaning.{Satisfies}
 use Rattle.normal.specs.Tree.{normal_form}
 use Rattle.normal.specs.Nodes.{Node}
 use Rattle.normal.specs.declared.limits.TheConstants.{GREATEST_PRIORITY}

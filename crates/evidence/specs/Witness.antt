@@ -3,7 +3,7 @@ use Rattle.std.specs.Prelude.{◌≡◌, ℕ, ◌+◌, ◌<◌, ◌↔◌, Bool,
 use Rattle.std.specs.List.{list_any, range_with_len}
 use Rattle.lts.specs.System.{Arrow, System}
 use Rattle.lts.specs.Path.{IsPath}
-use Rattle.formula.specs.Holds.{holds}
+use Rattle.calculus.specs.Holds.{holds}
 use Rattle.normal.specs.Tree.{Shape, ModalityNode}
 use Rattle.normal.specs.Nodes.{Node}
 use Rattle.game.specs.declared.player.Player.{Player}

@@ -2,8 +2,8 @@
 use Rattle.std.proofs.Common.{◌≡◌, ℕ, ◌≤◌, Bool, true, false, not, ◌&&◌, List, [], ◌∷◌, ◌++◌, Some, option_map, refl, sym, ap, ◌∙◌, arith, append_assoc, append-nil}
 use Rattle.std.specs.Prelude.{nat_le}
 use Rattle.std.proofs.lemmas.Bool.{le-leb, and_from}
-use Rattle.formula.specs.Tree.{Action, Names, NotAct, AndAct, OrAct, ImpliesAct, Regular, Step, Then, Either, Star, Plus, Formula, True, Not, And, Or, Implies, Dia, Box, Mu, Nu}
-use Rattle.formula.specs.Canon.{canon}
+use Rattle.calculus.specs.Tree.{Action, Names, NotAct, AndAct, OrAct, ImpliesAct, Regular, Step, Then, Either, Star, Plus, Formula, True, Not, And, Or, Implies, Dia, Box, Mu, Nu}
+use Rattle.calculus.specs.Canon.{canon}
 use Rattle.formula.specs.Token.{Token, ImpliesSign, OrSign, AndSign, Greater, CloseBox, Close, Dot, ChoiceSign, PlusSign, StarSign, is_after_postfix, is_decided}
 use Rattle.formula.specs.Syntax.{reg_form, reg_fits, reg_tokens, more_names, option_two, action_meant, regular_meant, form, ends_in_binder, left_fits, fits, tokens, meant}
 use Rattle.formula.specs.Spells.{IsWritten, Spells}

@@ -1,14 +1,14 @@
 -- A text is written in one way, spells one formula at most and has one deciding fault at most, none where the formula is admitted and within the limits.
 use Rattle.std.specs.Prelude.{◌⊎◌, [], ◌∷◌, ◌++◌, map, IsTrue, Some, slice_get, IsSome, refl}
 use Rattle.std.proofs.Common.{◌≡◌, ℕ, List, sym, ap, ◌∙◌, arith, inl, inr, subst}
-use Rattle.formula.specs.Tree.{Formula}
+use Rattle.calculus.specs.Tree.{Formula}
 use Rattle.formula.specs.Token.{Piece, offsets_from}
 use Rattle.formula.specs.Syntax.{Syntax, meant, is_within_limits}
 use Rattle.formula.specs.Spells.{IsWritten, Spells, SpellsWithin}
 use Rattle.formula.specs.Fault.{TokenFault, GrammarFault, operand_faults, variable_faults, TreeFault, HasFault}
 use Rattle.formula.specs.declared.error.FormulaFault.{FormulaFault}
 use Rattle.formula.specs.declared.error.FormulaFault.TheVariants as fault
-use Rattle.formula.specs.Admitted.{IsAdmitted}
+use Rattle.calculus.specs.Admitted.{IsAdmitted}
 use Rattle.formula.proofs.Pieces.{same_tokens}
 use Rattle.formula.proofs.RegularUnique.{some_once}
 use Rattle.formula.proofs.Unambiguous.{one_syntax}

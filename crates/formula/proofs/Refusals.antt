@@ -7,20 +7,20 @@ use Rattle.std.proofs.lemmas.Result.{IfOk-weaker}
 use Rattle.text.specs.Reads.{Reads}
 use Rattle.text.proofs.Promised.{AreLaws, keeps}
 use Rattle.formula.specs.Token.{Token, is_reserved}
-use Rattle.formula.specs.Tree.{Formula}
+use Rattle.calculus.specs.Tree.{Formula}
 use Rattle.formula.specs.Syntax.{Syntax, meant, tokens, nesting, parens, is_within_limits}
 use Rattle.formula.specs.Spells.{IsWritten, Spells, SpellsWithin}
-use Rattle.formula.specs.Admitted.{IsAdmitted}
+use Rattle.calculus.specs.Admitted.{IsAdmitted}
 use Rattle.formula.specs.Fault.{BeginsWithin, IsTokens, HasFaultAt, operand_faults, variable_faults}
-use Rattle.formula.specs.View.{formula_of}
+use Rattle.calculus.specs.View.{formula_of}
 use Rattle.formula.specs.Written.{words, state_syntax}
 use Rattle.formula.specs.Cutting.{IsLexed, IsTokenRefusal}
 use Rattle.formula.specs.Read.{IsWhole, IsRefusal, IsState, state_tokens, state_row}
 use Rattle.formula.specs.Misread.{BeginsState, StandsState, Within, SpellsTokens, IsStateMisread, IsWholeMisread, IsGrammarRefusal}
 use Rattle.formula.specs.Checked.{IsTreeRefusal, IsTold, named, is_variable_fault}
-use Rattle.formula.specs.Closed.{closed_formula}
+use Rattle.calculus.specs.Closed.{closed_formula}
 use Rattle.formula.specs.declared.limits.TheConstants.{LONGEST_TEXT, DEEPEST, MOST_PARENS}
-use Rattle.formula.specs.declared.closed.Closed.{Closed}
+use Rattle.calculus.specs.declared.closed.Closed.{Closed}
 use Rattle.formula.specs.declared.token.Placed.{Placed}
 use Rattle.formula.specs.declared.scope.Misplaced.{Misplaced}
 use Rattle.formula.specs.declared.state.ReadState.{ReadState}

@@ -3,7 +3,7 @@ use Rattle.std.specs.Prelude.{◌≡◌, ℕ, ◌+◌, ◌<◌, Bool, true, fals
 use Rattle.std.proofs.Common.{arith, sym, ◌∙◌, ap, subst}
 use Rattle.std.proofs.lemmas.List.{length-append}
 use Rattle.formula.specs.Syntax.{Syntax, tokens, Neg'}
-use Rattle.formula.specs.Admitted.{negated}
+use Rattle.calculus.specs.Admitted.{negated}
 use Rattle.formula.specs.Fault.{variable_faults}
 use Rattle.formula.specs.Written.{joined, connective_token}
 use Rattle.formula.specs.Checked.{AreChecked, scope_of, left_parity, same}

@@ -1,6 +1,6 @@
 -- What a walk over a written formula finds.
 use Rattle.std.specs.Prelude.{◌≡◌, ℕ, ◌+◌, ◌<◌, Bool, true, false, not, List, [], ◌∷◌, Option, Some, None, Result, MatchResult, IfSome, slice_get, IsTrue}
-use Rattle.formula.specs.Admitted.{Scope}
+use Rattle.calculus.specs.Admitted.{Scope}
 use Rattle.formula.specs.declared.error.FormulaFault.{FormulaFault}
 use Rattle.formula.specs.declared.error.FormulaFault.TheVariants as fault
 use Rattle.formula.specs.declared.error.FormulaError.{FormulaError}

@@ -4,7 +4,7 @@ use Rattle.std.specs.List.{list_any}
 use Rattle.std.specs.Str.{bytes_eq}
 use Rattle.formula.specs.declared.limits.TheConstants.{LONGEST_TEXT}
 use Rattle.formula.specs.Token.{Token, Reserved, Piece, Word, IsPiece, piece_text, piece_ends, Cuts, text_of, tokens_of, offsets_from, is_decided, is_reserved}
-use Rattle.formula.specs.Admitted.{Scope, negated}
+use Rattle.calculus.specs.Admitted.{Scope, negated}
 use Rattle.formula.specs.Syntax.{RegSyntax, Parens', Not', And', Or', Implies', Star', Plus', Then', Either', reg_tokens, counts_as_action, Syntax, Var', Group', Neg', Both', OneOf', If', Dia', Box', Mu', Nu', fits, tokens, is_within_limits}
 use Rattle.formula.specs.Spells.{IsWritten}
 use Rattle.formula.specs.declared.error.FormulaFault.{FormulaFault}

@@ -1,10 +1,10 @@
 -- What holds of all texts of formulas.
 use Rattle.std.specs.Prelude.{◌≡◌, ℕ, ◌≤◌, List, length}
 use Rattle.formula.specs.declared.limits.TheConstants.{LONGEST_TEXT}
-use Rattle.formula.specs.Tree.{Formula}
-use Rattle.formula.specs.Canon.{canon}
+use Rattle.calculus.specs.Tree.{Formula}
+use Rattle.calculus.specs.Canon.{canon}
 use Rattle.formula.specs.Spells.{Spells, SpellsWithin}
-use Rattle.formula.specs.Admitted.{IsAdmitted}
+use Rattle.calculus.specs.Admitted.{IsAdmitted}
 use Rattle.formula.specs.Fault.{HasFault}
 use Rattle.formula.specs.declared.error.FormulaFault.{FormulaFault}
 

@@ -1,14 +1,12 @@
-// Modal mu-calculus formulas and their text.
+// The text of formulas of the modal mu-calculus.
 #![tactic(auto)]
 
-pub mod closed;
 pub mod error;
 pub mod law;
 pub mod limits;
-pub mod meaning_law;
 pub mod printer;
 
-pub use calculus::{holds, label, tree};
+pub use calculus::{closed, holds, label, meaning_law, tree};
 pub use printer::print;
 
 mod lexer;

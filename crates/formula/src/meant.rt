@@ -3,7 +3,7 @@
 ghost use Rattle.std.specs.Prelude.{◌≡◌, ◌∷◌, map, Some, IsSome, MatchResult};
 ghost use Rattle.lts.specs.Label.{multiset as multiset_of};
 ghost use Rattle.formula.specs.Syntax.{action_meant, regular_meant, meant};
-ghost use Rattle.formula.specs.View.{action_of, regular_of, formula_of};
+ghost use Rattle.calculus.specs.View.{action_of, regular_of, formula_of};
 ghost use Rattle.formula.specs.Written.{reg_syntax, state_syntax, infixed, joined, modal, bound};
 
 use crate::error::FormulaError;

@@ -2,9 +2,9 @@
 
 ghost use Rattle.std.specs.Prelude.{◌≤◌, length};
 ghost use Rattle.lts.specs.Wrote.{Wrote};
-ghost use Rattle.formula.specs.Closed.{closed_formula};
-ghost use Rattle.formula.specs.Canon.{canon};
-ghost use Rattle.formula.specs.Spells.{Spells, SpellsWithin};
+ghost use Rattle.calculus.specs.Closed.{closed_formula};
+ghost use Rattle.calculus.specs.Canon.{canon};
+ghost use Rattle.formula.specs.Spells.{IsSpellable, Spells, SpellsWithin};
 ghost use Rattle.formula.specs.declared.limits.TheConstants.{LONGEST_TEXT};
 
 use crate::closed::Closed;
@@ -13,15 +13,16 @@ use lts::WriteFault;
 use std::io::Write;
 
 /// Writes the formula's canonical text, without an end of line and without memory. Each operator between two operands and
-/// each binder has parentheses, the outermost too: `(nu X. (mu Y. (<a>X || <b>Y)))`. So `parse` reads the same formula from it.
+/// each binder has parentheses, the outermost too: `(nu X. (mu Y. (<a>X || <b>Y)))`. So `parse` reads the same formula from it,
+/// where some text spells the formula, as each that `parse` answers.
 ///
 /// # Errors
 /// After a fault the writer holds a beginning of the text.
 pub fn print<W: Write>(formula: &Closed, writer: &mut W) -> Result<(), WriteFault>
     ensures wrote { Wrote (W.contents writer.old) (W.contents writer.new) result
         (canon (closed_formula formula.now)) }
-    ensures spells { let f = closed_formula formula.now in ∥ Spells (canon f) f ∥₁ }
-    ensures within { let f = closed_formula formula.now in length (canon f) ≤ LONGEST_TEXT → ∥ SpellsWithin (canon f) f ∥₁ }
+    ensures spells { let f = closed_formula formula.now in IsSpellable f → ∥ Spells (canon f) f ∥₁ }
+    ensures within { let f = closed_formula formula.now in IsSpellable f → length (canon f) ≤ LONGEST_TEXT → ∥ SpellsWithin (canon f) f ∥₁ }
 {
     put_state(formula.tree(), writer)
 }

@@ -8,11 +8,11 @@ ghost use Rattle.formula.specs.Written.{words, state_syntax};
 ghost use Rattle.formula.specs.Fault.{HasFaultAt, operand_faults, variable_faults};
 ghost use Rattle.formula.specs.Read.{IsWhole, IsRefusal};
 ghost use Rattle.formula.specs.Misread.{IsWholeMisread, IsGrammarRefusal};
-ghost use Rattle.formula.specs.Admitted.{IsAdmitted};
+ghost use Rattle.calculus.specs.Admitted.{IsAdmitted};
 ghost use Rattle.formula.specs.Checked.{IsTreeRefusal, IsTold, named};
 ghost use Rattle.formula.specs.Spells.{Spells, SpellsWithin};
-ghost use Rattle.formula.specs.Closed.{closed_formula};
-ghost use Rattle.formula.specs.View.{formula_of};
+ghost use Rattle.calculus.specs.Closed.{closed_formula};
+ghost use Rattle.calculus.specs.View.{formula_of};
 
 use crate::closed::Closed;
 use crate::error::{FormulaError, FormulaFault};

@@ -25,5 +25,5 @@ pub use Rattle.std.proofs.lemmas.List.Elements.{All-from_recursion, recursion_fr
 pub use Rattle.std.proofs.Math.Seq.{drop-append-add, drop-append_seam, get_or-append_seam}
 pub use Rattle.std.proofs.lemmas.List.Sorted.{All-permutation, IsNonDecreasingBy-from_sort_by_key, list_any-IsPermutation}
 pub use Rattle.normal.specs.Form.{IsForm, IsNode, IsShape}
-pub use Rattle.formula.specs.Holds.{holds}
+pub use Rattle.calculus.specs.Holds.{holds}
 pub use Rattle.normal.specs.Tree.{ConstantNode, FixpointNode, JunctionNode, ModalityNode, Shape, VariableNode}

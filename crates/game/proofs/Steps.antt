@@ -2,7 +2,7 @@
 use Rattle.game.proofs.Common.{◌≡◌, ◌==◌, ◌&&◌, ◌||◌, ◌+◌, ◌*◌, ◌-◌, ◌≤◌, ◌<◌, ℕ, zero, suc, Bool, true, false, List, [], ◌∷◌, ◌++◌, length, map, filter, get_or, cond, inl, inr, refl, sym, ap, ◌∙◌, subst, arith, eq-eqb, drop, append_assoc, nat_le, Some, slice_get, slice_index_or, list_any, AllByRecursion, range_with_len, list_any-IsPermutation, All-permutation, get_or-append_seam, ne_eqb, le-leb, lt-leb, leb-true, leb-false, and_parts, and_from, and_cases, and_left, and_right, drop_more, length-map, recursion_from_All, All-from_recursion, eqb_tells, mul-add-lt, get_or_from_slice_get, slice_get_within, Arrow, Numbered, arrow_of, arrows_from, IsInside, Transition, holds, Shape, ConstantNode, JunctionNode, ModalityNode, FixpointNode, VariableNode, Node, IsForm, IsNode, is_step, targets, place, or_else, owner_of, successors_of, vertex_of, IsSetOf, IsSetFor, IsRowOf, is_in, picks, successors_by, vertex_by}
 use Rattle.std.specs.List.Sorted.{IsNonDecreasingBy, IsPermutation}
 use Rattle.std.proofs.Math.ListN.{get_or-append}
-use Rattle.formula.specs.Tree.{Action}
+use Rattle.calculus.specs.Tree.{Action}
 
 -- One set more.
 pub sets_more : (labels : List (List ℕ)) (nodes : List Node) (xs : List (List Bool)) (y : List Bool) (i : ℕ) → length xs ≡ i

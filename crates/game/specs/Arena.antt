@@ -2,8 +2,8 @@
 use Rattle.std.specs.Prelude.{ℕ, ◌+◌, ◌*◌, ◌<◌, Option, MatchOption, option_map, Bool, false, ◌&&◌, List, [], ◌∷◌, ◌++◌, length, map, filter, Some, ◌==◌, if◌then◌else◌}
 use Rattle.std.specs.List.{list_any, range_with_len}
 use Rattle.lts.specs.System.{System}
-use Rattle.formula.specs.Tree.{Action}
-use Rattle.formula.specs.Holds.{holds}
+use Rattle.calculus.specs.Tree.{Action}
+use Rattle.calculus.specs.Holds.{holds}
 use Rattle.normal.specs.Tree.{Shape, ConstantNode, JunctionNode, ModalityNode, FixpointNode, VariableNode}
 use Rattle.normal.specs.Nodes.{Node}
 use Rattle.game.specs.declared.player.Player.{Player}

@@ -5,8 +5,8 @@ use Rattle.std.specs.List.Sorted.{IsNonDecreasingBy}
 use Rattle.lts.specs.System.{Arrow}
 use Rattle.lts.specs.Numbered.{Numbered, label_at, arrow_of, arrows_from, IsInside}
 use Rattle.lts.specs.declared.system.Transition.{Transition}
-use Rattle.formula.specs.Tree.{Action}
-use Rattle.formula.specs.Holds.{holds}
+use Rattle.calculus.specs.Tree.{Action}
+use Rattle.calculus.specs.Holds.{holds}
 use Rattle.normal.specs.Tree.{Shape, ConstantNode, JunctionNode, ModalityNode, FixpointNode, VariableNode}
 use Rattle.normal.specs.Nodes.{Node}
 use Rattle.game.specs.Game.{Vertex}

@@ -2,7 +2,7 @@
 
 ghost use Rattle.std.specs.Prelude.{◌≡◌, ◌+◌, ◌-◌, ◌*◌, ◌<◌, ◌≤◌, ◌++◌, ◌∷◌, [], Bool, false, length, map, slice_index_or, vec_len, IfOk, OnOk, OnErr, IfErr};
 ghost use Rattle.std.specs.List.{AllByRecursion, flat_map, range_with_len};
-ghost use Rattle.formula.specs.View.{action_of};
+ghost use Rattle.calculus.specs.View.{action_of};
 ghost use Rattle.normal.specs.Form.{IsForm, IsNode};
 ghost use Rattle.normal.specs.View.{node_of, shape_of};
 ghost use Rattle.normal.specs.Normal.{normal_nodes};

@@ -1,8 +1,8 @@
 -- The normal form of an admitted formula is closed.
 use Rattle.std.proofs.Common.{◌≡◌, ℕ, ◌+◌, ◌⊎◌, Bool, true, not, List, [], ◌∷◌, refl, sym, ◌∙◌, subst, inl, inr, true≢false}
 use Rattle.std.specs.Str.{bytes_eq}
-use Rattle.formula.specs.Tree.{Regular, Step, Then, Either, Star, Plus, Formula, True, False, Var, Not, And, Or, Implies, Dia, Box, Mu, Nu}
-use Rattle.formula.specs.Admitted.{Scope, negated, is_free_to_stand, is_admitted_in, IsAdmitted}
+use Rattle.calculus.specs.Tree.{Regular, Step, Then, Either, Star, Plus, Formula, True, False, Var, Not, And, Or, Implies, Dia, Box, Mu, Nu}
+use Rattle.calculus.specs.Admitted.{Scope, negated, is_free_to_stand, is_admitted_in, IsAdmitted}
 use Rattle.normal.specs.Tree.{Norm, Variable, size, two, loop_of, modal, with_binder, norm, normal_form}
 use Rattle.laws.specs.Admissible.{IsClosed}
 use Rattle.laws.proofs.Flags.{cases, both, if_true, if_false}

@@ -1,9 +1,9 @@
 -- Both halves joined: Even wins, and the least progress table isn't top, exactly where the state is in the meaning.
 use Rattle.std.proofs.Common.{◌≢◌, ℕ, ◌<◌, ◌↔◌, List, length, subst, arith}
 use Rattle.lts.specs.System.{System, IsSystem}
-use Rattle.formula.specs.Tree.{Formula}
-use Rattle.formula.specs.Admitted.{IsAdmitted}
-use Rattle.formula.specs.Meaning.{no_sets, Satisfies}
+use Rattle.calculus.specs.Tree.{Formula}
+use Rattle.calculus.specs.Admitted.{IsAdmitted}
+use Rattle.calculus.specs.Meaning.{no_sets, Satisfies}
 use Rattle.normal.specs.Tree.{Norm, normal_form}
 use Rattle.normal.specs.Nodes.{Node, nodes}
 use Rattle.game.specs.Game.{Game}

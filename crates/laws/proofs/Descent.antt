@@ -8,7 +8,7 @@ use Rattle.laws.specs.Admissible.{IsFree, IsEach, IsFitting}
 use Rattle.laws.proofs.Flags.{same_or_not, below_or_not}
 use Rattle.laws.proofs.Targets.{target_below}
 use Rattle.laws.proofs.Sat.{Sets, put, sat, iterates, sets, put_here, put_other, Joined, joined_map, junction_is, Reached, reached_map, modality_is}
-use Rattle.formula.proofs.Counted.{how_many, less, less_than}
+use Rattle.calculus.proofs.Counted.{how_many, less, less_than}
 use Rattle.laws.proofs.Trees.{IsWithin}
 use Rattle.laws.proofs.NodeSets.{at_set, true_root, left_sets, right_sets, one_sets}
 

@@ -2,13 +2,13 @@
 use Rattle.std.proofs.Common.{◌≡◌, ℕ, zero, suc, ◌+◌, ◌<◌, ◌≤◌, ◌⊎◌, ◌↔◌, Bool, List, [], ◌∷◌, refl, sym, ◌∙◌, ap, subst, inl, inr, arith}
 use Rattle.lts.specs.Path.{IsPath}
 use Rattle.lts.specs.System.{System, IsSystem}
-use Rattle.formula.specs.Tree.{Action, Regular, Step, Then, Either, Star, Plus}
-use Rattle.formula.specs.Meaning.{Leads, iterate}
+use Rattle.calculus.specs.Tree.{Action, Regular, Step, Then, Either, Star, Plus}
+use Rattle.calculus.specs.Meaning.{Leads, iterate}
 use Rattle.normal.specs.Tree.{Norm, Variable, size, two, loop_of, modal}
 use Rattle.game.specs.Arena.{targets}
 use Rattle.laws.proofs.Flags.{under, under_is, under_under, not_flag, same_test}
-use Rattle.formula.proofs.Fixpoints.{IsDecided, IsWithin, in_closed, low_closed}
-use Rattle.formula.proofs.Inside.{leads_inside}
+use Rattle.calculus.proofs.Fixpoints.{IsDecided, IsWithin, in_closed, low_closed}
+use Rattle.calculus.proofs.Inside.{leads_inside}
 use Rattle.laws.proofs.Targets.{target_leads, leads_target}
 use Rattle.laws.proofs.Sat.{put, turns, sat, from, put_here, put_other, junction_tells, modality_tells}
 

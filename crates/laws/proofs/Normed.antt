@@ -3,13 +3,13 @@ use Rattle.std.proofs.Common.{◌≡◌, ℕ, ◌+◌, ◌<◌, ◌≤◌, ◌�
 use Rattle.std.specs.Prelude.{IsTrue, MatchBool, if◌then◌else◌}
 use Rattle.std.specs.Str.{bytes_eq}
 use Rattle.lts.specs.System.{System, IsSystem}
-use Rattle.formula.specs.Tree.{Regular, Formula, True, False, Var, Not, And, Or, Implies, Dia, Box, Mu, Nu}
-use Rattle.formula.specs.Admitted.{Scope, negated, is_free_to_stand, is_admitted_in}
-use Rattle.formula.specs.Meaning.{Leads, Env, no_sets, with_set, mean}
+use Rattle.calculus.specs.Tree.{Regular, Formula, True, False, Var, Not, And, Or, Implies, Dia, Box, Mu, Nu}
+use Rattle.calculus.specs.Admitted.{Scope, negated, is_free_to_stand, is_admitted_in}
+use Rattle.calculus.specs.Meaning.{Leads, Env, no_sets, with_set, mean}
 use Rattle.normal.specs.Tree.{size, two, modal, with_binder, norm, normal_form}
 use Rattle.laws.specs.Laws.{NormalFormMeans}
 use Rattle.laws.proofs.Flags.{both, not_flag, not_not, either_flag, opposite, same_test, both_of, all_of}
-use Rattle.formula.proofs.Inside.{leads_inside}
+use Rattle.calculus.proofs.Inside.{leads_inside}
 use Rattle.laws.proofs.Sat.{put, sat, from, nothing, put_here, put_other}
 use Rattle.laws.proofs.Modal.{at_most_itself, Agree, Makes, two_tells, turns_are, modal_means}
 use Rattle.laws.proofs.Spelled.{nothing_like, meant}

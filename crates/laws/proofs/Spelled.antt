@@ -5,14 +5,14 @@ use Rattle.std.specs.Str.{bytes_eq}
 use Rattle.std.proofs.lemmas.Bool.Decides.{eqb_tells}
 use Rattle.std.proofs.lemmas.Slice.Eq.{bytes_eq-Decides}
 use Rattle.lts.specs.System.{System, IsSystem}
-use Rattle.formula.specs.Tree.{Action, Step, Formula}
-use Rattle.formula.specs.Meaning.{Leads, Env, no_sets, with_set, iterate, mean}
+use Rattle.calculus.specs.Tree.{Action, Step, Formula}
+use Rattle.calculus.specs.Meaning.{Leads, Env, no_sets, with_set, iterate, mean}
 use Rattle.normal.specs.Tree.{Norm, Constant, Junction, Modality, Fixpoint, Variable, size, binder_name, constant_formula, junction_formula, modality_formula, fixpoint_formula, formula_from}
 use Rattle.game.specs.Arena.{targets}
 use Rattle.normal.proofs.Numbers.{size_some}
 use Rattle.laws.specs.NodeMeaning.{tree_mean, node_mean}
 use Rattle.laws.proofs.Flags.{cases, same_or_not, below_or_not}
-use Rattle.formula.proofs.Inside.{leads_inside}
+use Rattle.calculus.proofs.Inside.{leads_inside}
 use Rattle.laws.proofs.Targets.{target_below, target_leads, leads_target}
 use Rattle.laws.proofs.Sat.{Sets, put, turns, sat, body, from, sets, nothing, Joined, joined_map, junction_is, Reached, modality_is}
 use Rattle.laws.proofs.Trees.{IsWithin}

@@ -4,10 +4,10 @@ use Rattle.std.specs.Prelude.{Contains, ◌==◌}
 use Rattle.std.specs.List.{range_with_len}
 use Rattle.std.proofs.lemmas.Bool.{eqb-true}
 use Rattle.lts.specs.System.{Arrow, System, IsSystem}
-use Rattle.formula.specs.Tree.{Action, Step}
-use Rattle.formula.specs.Holds.{holds}
-use Rattle.formula.specs.Meaning.{Leads}
-use Rattle.formula.proofs.Inside.{leads_inside}
+use Rattle.calculus.specs.Tree.{Action, Step}
+use Rattle.calculus.specs.Holds.{holds}
+use Rattle.calculus.specs.Meaning.{Leads}
+use Rattle.calculus.proofs.Inside.{leads_inside}
 use Rattle.game.specs.Arena.{is_step, targets}
 use Rattle.laws.proofs.Flags.{both, and_true, same_true}
 use Rattle.laws.proofs.Lists.{any_gives, gives_any, filter_gives, gives_filter, range_gives, gives_range}

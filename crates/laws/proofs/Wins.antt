@@ -7,7 +7,7 @@ use Rattle.std.proofs.lemmas.Bool.Decides.{eqb_tells}
 use Rattle.std.proofs.lemmas.Option.{slice_get_within}
 use Rattle.lts.specs.System.{System}
 use Rattle.lts.specs.Path.{IsPath}
-use Rattle.formula.specs.Meaning.{no_sets}
+use Rattle.calculus.specs.Meaning.{no_sets}
 use Rattle.normal.specs.Tree.{Norm, size, Shape}
 use Rattle.normal.specs.Nodes.{Node}
 use Rattle.game.specs.declared.player.Player.TheVariants.{Even}

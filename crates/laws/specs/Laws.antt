@@ -1,9 +1,9 @@
 -- The laws that join systems, formulas, games and measures.
 use Rattle.std.specs.Prelude.{◌≡◌, ◌≢◌, ℕ, ◌<◌, ◌⊎◌, ◌↔◌, Bool, List, length, IsTrue}
 use Rattle.lts.specs.System.{System, IsSystem}
-use Rattle.formula.specs.Tree.{Formula}
-use Rattle.formula.specs.Admitted.{IsAdmitted}
-use Rattle.formula.specs.Meaning.{no_sets, Satisfies}
+use Rattle.calculus.specs.Tree.{Formula}
+use Rattle.calculus.specs.Admitted.{IsAdmitted}
+use Rattle.calculus.specs.Meaning.{no_sets, Satisfies}
 use Rattle.normal.specs.Tree.{Norm, shape_at, preorder, formula_from, normal_form}
 use Rattle.normal.specs.Nodes.{Node, Rule, nodes_by, nodes}
 use Rattle.normal.specs.Rules.{nodes_with}

@@ -1,7 +1,7 @@
 -- What each node of a normal form means.
 use Rattle.std.specs.Prelude.{◌≡◌, ℕ, ◌+◌, ◌⊎◌}
 use Rattle.lts.specs.System.{System}
-use Rattle.formula.specs.Meaning.{Env, with_set, mean}
+use Rattle.calculus.specs.Meaning.{Env, with_set, mean}
 use Rattle.normal.specs.Tree.{Norm, Constant, Junction, Modality, Fixpoint, Variable, size, binder_name, formula_from}
 
 -- the states at which the tree holds, its first node having this number

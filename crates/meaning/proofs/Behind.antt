@@ -3,8 +3,8 @@ use Rattle.std.proofs.Common.{◌≡◌, ℕ, ◌+◌, ◌≤◌, ◌↔◌, Boo
 use Rattle.std.specs.Prelude.{MatchBool}
 use Rattle.lts.specs.Path.{IsPath}
 use Rattle.lts.specs.System.{System}
-use Rattle.formula.specs.Tree.{Regular, Step, Then, Either, Star, Plus}
-use Rattle.formula.specs.Meaning.{Leads}
+use Rattle.calculus.specs.Tree.{Regular, Step, Then, Either, Star, Plus}
+use Rattle.calculus.specs.Meaning.{Leads}
 use Rattle.meaning.specs.Into.{Into}
 use Rattle.meaning.specs.Signs.{without_signs, has_star}
 

@@ -5,10 +5,10 @@ use Rattle.std.specs.List.{list_any}
 use Rattle.std.specs.Str.{bytes_eq}
 use Rattle.std.proofs.lemmas.Bool.{and_parts}
 use Rattle.lts.specs.System.{System, IsSystem}
-use Rattle.formula.specs.Tree.{Formula, True, False, Var, Not, And, Or, Implies, Dia, Box, Mu, Nu}
-use Rattle.formula.specs.Meaning.{Env, no_sets, with_set, mean, Marks}
-use Rattle.formula.proofs.Inside.{leads_inside}
-use Rattle.formula.proofs.Same.{Same, iterate_same}
+use Rattle.calculus.specs.Tree.{Formula, True, False, Var, Not, And, Or, Implies, Dia, Box, Mu, Nu}
+use Rattle.calculus.specs.Meaning.{Env, no_sets, with_set, mean, Marks}
+use Rattle.calculus.proofs.Inside.{leads_inside}
+use Rattle.calculus.proofs.Same.{Same, iterate_same}
 use Rattle.meaning.specs.Free.{are_among}
 use Rattle.meaning.proofs.Marked.{marks_same}
 

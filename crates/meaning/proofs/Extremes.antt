@@ -2,13 +2,13 @@
 use Rattle.std.proofs.Common.{ℕ, ◌<◌, ◌↔◌, Bool, false, List, [], true≢false, sym}
 use Rattle.std.specs.Prelude.{IsTrue}
 use Rattle.lts.specs.System.{System, IsSystem}
-use Rattle.formula.specs.Tree.{Formula, Mu, Nu}
-use Rattle.formula.specs.Admitted.{IsAdmitted}
-use Rattle.formula.specs.Meaning.{Marks, marked, no_sets, Satisfies}
-use Rattle.formula.specs.FixpointLaws.{body}
-use Rattle.formula.proofs.Same.{with_same, mean_same}
-use Rattle.formula.proofs.Decided.{Told}
-use Rattle.formula.proofs.Binders.{mu_fixed, nu_fixed, mu_least, nu_greatest}
+use Rattle.calculus.specs.Tree.{Formula, Mu, Nu}
+use Rattle.calculus.specs.Admitted.{IsAdmitted}
+use Rattle.calculus.specs.Meaning.{Marks, marked, no_sets, Satisfies}
+use Rattle.calculus.specs.FixpointLaws.{body}
+use Rattle.calculus.proofs.Same.{with_same, mean_same}
+use Rattle.calculus.proofs.Decided.{Told}
+use Rattle.calculus.proofs.Binders.{mu_fixed, nu_fixed, mu_least, nu_greatest}
 use Rattle.meaning.specs.Extreme.{IsLeast, IsGreatest}
 
 module _ (l : System) (ok : IsSystem l) (name : List ℕ) (f : Formula) (marks : List Bool) where

@@ -4,9 +4,9 @@ use Rattle.std.specs.Prelude.{zip}
 use Rattle.std.specs.List.{list_all}
 use Rattle.lts.specs.Path.{IsPath}
 use Rattle.lts.specs.System.{System, IsSystem}
-use Rattle.formula.specs.Tree.{Regular, Star, Plus}
-use Rattle.formula.specs.Meaning.{Leads, marked, Marks}
-use Rattle.formula.proofs.Inside.{leads_inside}
+use Rattle.calculus.specs.Tree.{Regular, Star, Plus}
+use Rattle.calculus.specs.Meaning.{Leads, marked, Marks}
+use Rattle.calculus.proofs.Inside.{leads_inside}
 use Rattle.meaning.proofs.Marked.{at, at_zip}
 use Rattle.meaning.specs.Arrivals.{unmarked}
 use Rattle.meaning.specs.Into.{Into}

@@ -2,10 +2,10 @@
 use Rattle.std.proofs.Common.{◌≡◌, ℕ, zero, suc, ◌+◌, ◌-◌, ◌≤◌, Bool, true, false, List, add-zero, add-suc, add-one, subst, arith}
 use Rattle.std.specs.Prelude.{IsTrue}
 use Rattle.lts.specs.System.{System, IsSystem}
-use Rattle.formula.specs.Tree.{Formula}
-use Rattle.formula.specs.Meaning.{Env, with_set, iterate, mean, marked, Marks}
-use Rattle.formula.proofs.Same.{Same, with_same, mean_same}
-use Rattle.formula.proofs.Telling.{false_is_none}
+use Rattle.calculus.specs.Tree.{Formula}
+use Rattle.calculus.specs.Meaning.{Env, with_set, iterate, mean, marked, Marks}
+use Rattle.calculus.proofs.Same.{Same, with_same, mean_same}
+use Rattle.calculus.proofs.Telling.{false_is_none}
 use Rattle.meaning.proofs.Elements.{both}
 use Rattle.meaning.proofs.Marked.{marks_same}
 

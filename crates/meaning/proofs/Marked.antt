@@ -5,8 +5,8 @@ use Rattle.std.proofs.lemmas.Slice.Zip.{length-zip, get_or-zip}
 use Rattle.std.specs.Prelude.{zip, slice_index_or, IsTrue}
 use mathlib.Core.Bool.{beq}
 use lib.Pointwise.{pointwise}
-use Rattle.formula.specs.Meaning.{Marks}
-use Rattle.formula.proofs.Telling.{false_is_none, of_not, of_and, of_or}
+use Rattle.calculus.specs.Meaning.{Marks}
+use Rattle.calculus.proofs.Telling.{false_is_none, of_not, of_and, of_or}
 
 abbrev pub at : List Bool → ℕ → Bool
 at ms s = slice_index_or ms s false

@@ -2,11 +2,11 @@
 use Rattle.std.proofs.Common.{◌≡◌, ℕ, ◌<◌, ◌⊎◌, ◌↔◌, Bool, true, false, not, List, map, inl, inr, refl, sym, ap, ◌∙◌, arith}
 use Rattle.std.proofs.lemmas.List.{get_or-map}
 use Rattle.lts.specs.System.{System, IsSystem}
-use Rattle.formula.specs.Tree.{Regular, Then, Either, Star, Plus}
-use Rattle.formula.specs.Meaning.{Leads, Marks}
+use Rattle.calculus.specs.Tree.{Regular, Then, Either, Star, Plus}
+use Rattle.calculus.specs.Meaning.{Leads, Marks}
 use Rattle.meaning.specs.Into.{Into}
-use Rattle.formula.proofs.Inside.{leads_inside}
-use Rattle.formula.proofs.Telling.{false_is_none}
+use Rattle.calculus.proofs.Inside.{leads_inside}
+use Rattle.calculus.proofs.Telling.{false_is_none}
 use Rattle.meaning.proofs.Marked.{at, marks_same, marks_not}
 
 pub into_then : (l : System) → IsSystem l → (r q : Regular) (marks middle found : List Bool) → Marks l.states middle (Into l q marks) → Marks l.states found (Into l r middle) → Marks l.states found (Into l (Then r q) marks)

@@ -1,7 +1,7 @@
 -- One more mark is set.
 use Rattle.std.proofs.Common.{◌≡◌, ℕ, zero, suc, ◌<◌, ◌⊎◌, Bool, true, false, List, [], ◌∷◌, length, refl, ap, inl, inr, arith}
 use Rattle.std.specs.Prelude.{slice_set}
-use Rattle.formula.specs.Meaning.{marked}
+use Rattle.calculus.specs.Meaning.{marked}
 use Rattle.meaning.specs.Arrivals.{unmarked}
 use Rattle.meaning.proofs.Marked.{at}
 

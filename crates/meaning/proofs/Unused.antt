@@ -5,10 +5,10 @@ use Rattle.std.specs.Str.{bytes_eq}
 use Rattle.std.proofs.lemmas.Bool.{or_parts}
 use Rattle.std.proofs.lemmas.Slice.Eq.{bytes_eq-Decides}
 use Rattle.lts.specs.System.{System, IsSystem}
-use Rattle.formula.specs.Tree.{Formula, True, False, Var, Not, And, Or, Implies, Dia, Box, Mu, Nu}
-use Rattle.formula.specs.Meaning.{Env, with_set, iterate, mean, Marks}
-use Rattle.formula.proofs.Inside.{leads_inside}
-use Rattle.formula.proofs.Same.{Same, SameSets, mean_same, iterate_same}
+use Rattle.calculus.specs.Tree.{Formula, True, False, Var, Not, And, Or, Implies, Dia, Box, Mu, Nu}
+use Rattle.calculus.specs.Meaning.{Env, with_set, iterate, mean, Marks}
+use Rattle.calculus.proofs.Inside.{leads_inside}
+use Rattle.calculus.proofs.Same.{Same, SameSets, mean_same, iterate_same}
 use Rattle.meaning.specs.Free.{is_free_in}
 use Rattle.meaning.proofs.Marked.{marks_same}
 

@@ -1,8 +1,8 @@
 -- Steps by the states into which they lead.
 use Rattle.std.specs.Prelude.{◌≡◌, ℕ, zero, suc, ◌<◌, ◌≤◌, ◌↔◌, Bool, List, [], ◌∷◌, length, slice_index_or, cond}
 use Rattle.lts.specs.System.{System}
-use Rattle.formula.specs.Tree.{Action, Step}
-use Rattle.formula.specs.Meaning.{Leads}
+use Rattle.calculus.specs.Tree.{Action, Step}
+use Rattle.calculus.specs.Meaning.{Leads}
 use Rattle.meaning.specs.declared.arrivals.Arrival.{Arrival}
 use Rattle.meaning.specs.declared.arrivals.Arrivals.{Arrivals}
 

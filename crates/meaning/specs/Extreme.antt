@@ -1,9 +1,9 @@
 -- Marks that are the least or the greatest fixpoint of a binder's formula.
 use Rattle.std.specs.Prelude.{ℕ, ◌<◌, ◌↔◌, Bool, List, IsTrue}
 use Rattle.lts.specs.System.{System}
-use Rattle.formula.specs.Tree.{Formula}
-use Rattle.formula.specs.Meaning.{no_sets, marked}
-use Rattle.formula.specs.FixpointLaws.{body}
+use Rattle.calculus.specs.Tree.{Formula}
+use Rattle.calculus.specs.Meaning.{no_sets, marked}
+use Rattle.calculus.specs.FixpointLaws.{body}
 
 -- The map that takes a set to the formula's meaning leaves the marks, and they are in every set that it stays in.
 pub record IsLeast (l : System) (name : List ℕ) (f : Formula) (marks : List Bool) : Type 0 where

@@ -1,8 +1,8 @@
 -- Which states lead into a set of marks.
 use Rattle.std.specs.Prelude.{ℕ, Bool, List}
 use Rattle.lts.specs.System.{System}
-use Rattle.formula.specs.Tree.{Regular}
-use Rattle.formula.specs.Meaning.{Leads, marked}
+use Rattle.calculus.specs.Tree.{Regular}
+use Rattle.calculus.specs.Meaning.{Leads, marked}
 
 -- the regular formula leads from here to a marked state
 abbrev pub Into : System → Regular → List Bool → ℕ → Type 0

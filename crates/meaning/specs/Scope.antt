@@ -1,6 +1,6 @@
 -- What a scope says.
 use Rattle.std.specs.Prelude.{◌≡◌, ℕ, length}
-use Rattle.formula.specs.Meaning.{Env, no_sets, with_set, marked}
+use Rattle.calculus.specs.Meaning.{Env, no_sets, with_set, marked}
 use Rattle.meaning.specs.declared.scope.Scope.{Scope}
 use Rattle.meaning.specs.declared.scope.Scope.TheVariants.{Empty, More'}
 

@@ -1,6 +1,6 @@
 -- The signs `*` and `+` behind a regular formula.
 use Rattle.std.specs.Prelude.{Bool, true, false}
-use Rattle.formula.specs.Tree.{Regular, Step, Then, Either, Star, Plus}
+use Rattle.calculus.specs.Tree.{Regular, Step, Then, Either, Star, Plus}
 
 -- what stands before them
 abbrev pub without_signs : Regular → Regular

@@ -1,9 +1,9 @@
 -- What a formula that is evaluated stands for, and what is known of it.
 use Rattle.std.specs.Prelude.{◌≡◌, [], IsTrue}
 use Rattle.lts.specs.System.{System}
-use Rattle.formula.specs.Tree.{Formula, True, False, Var, Not, And, Or, Implies, Dia, Box, Mu, Nu}
-use Rattle.formula.specs.View.{formula_of, regular_of}
-use Rattle.formula.specs.Meaning.{Marks, Satisfies}
+use Rattle.calculus.specs.Tree.{Formula, True, False, Var, Not, And, Or, Implies, Dia, Box, Mu, Nu}
+use Rattle.calculus.specs.View.{formula_of, regular_of}
+use Rattle.calculus.specs.Meaning.{Marks, Satisfies}
 use Rattle.meaning.specs.Free.{is_free_in, are_among}
 use Rattle.meaning.specs.declared.term.Term.{Term}
 use Rattle.meaning.specs.declared.term.Term.TheVariants as term

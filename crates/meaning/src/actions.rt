@@ -2,10 +2,10 @@
 
 ghost use Rattle.std.specs.Prelude.{◌≡◌, ℕ, ◌<◌, ◌^◌, length, slice_index_or, false, IfOk};
 ghost use Rattle.lts.specs.Numbered.{label_at};
-ghost use Rattle.formula.specs.Tree.{Step};
-ghost use Rattle.formula.specs.View.{action_of};
-ghost use Rattle.formula.specs.Holds.{holds as holds_of};
-ghost use Rattle.formula.specs.Meaning.{Marks};
+ghost use Rattle.calculus.specs.Tree.{Step};
+ghost use Rattle.calculus.specs.View.{action_of};
+ghost use Rattle.calculus.specs.Holds.{holds as holds_of};
+ghost use Rattle.calculus.specs.Meaning.{Marks};
 ghost use Rattle.meaning.specs.Into.{Into};
 
 use crate::sets::all;

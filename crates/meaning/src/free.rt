@@ -3,7 +3,7 @@
 ghost use Rattle.std.specs.Prelude.{◌≡◌, []};
 ghost use Rattle.std.specs.List.{list_any};
 ghost use Rattle.std.specs.Str.{bytes_eq};
-ghost use Rattle.formula.specs.View.{formula_of};
+ghost use Rattle.calculus.specs.View.{formula_of};
 ghost use Rattle.meaning.specs.Bound.{names_of};
 ghost use Rattle.meaning.specs.Free.{is_free_in, are_among};
 

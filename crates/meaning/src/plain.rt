@@ -2,9 +2,9 @@
 
 ghost use Rattle.std.specs.Prelude.{◌≡◌, ℕ, List, IfOk, IsTrue};
 ghost use Rattle.lts.specs.System.{IsSystem};
-ghost use Rattle.formula.specs.Tree.{Formula, Mu, Nu};
-ghost use Rattle.formula.specs.Closed.{closed_formula};
-ghost use Rattle.formula.specs.Meaning.{Satisfies, mean, Marks, iterate, with_set};
+ghost use Rattle.calculus.specs.Tree.{Formula, Mu, Nu};
+ghost use Rattle.calculus.specs.Closed.{closed_formula};
+ghost use Rattle.calculus.specs.Meaning.{Satisfies, mean, Marks, iterate, with_set};
 ghost use Rattle.meaning.specs.Extreme.{IsLeast, IsGreatest};
 ghost use Rattle.meaning.specs.Free.{is_free_in};
 ghost use Rattle.meaning.specs.Scope.{sets_of, FitsScope};
@@ -14,7 +14,7 @@ use crate::regular::leading;
 use crate::scope::Scope;
 use crate::sets::{all, complement, copied, intersection, union};
 use crate::term::{Term, term_of};
-use formula::closed::Closed;
+use calculus::closed::Closed;
 use lts::error::Memory;
 use lts::system::Lts;
 use std::alloc::{AllocError, Global};

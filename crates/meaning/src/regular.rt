@@ -2,9 +2,9 @@
 
 ghost use Rattle.std.specs.Prelude.{◌≡◌, length, IfOk};
 ghost use Rattle.lts.specs.System.{IsSystem};
-ghost use Rattle.formula.specs.Tree.{Star, Plus};
-ghost use Rattle.formula.specs.View.{regular_of};
-ghost use Rattle.formula.specs.Meaning.{Marks};
+ghost use Rattle.calculus.specs.Tree.{Star, Plus};
+ghost use Rattle.calculus.specs.View.{regular_of};
+ghost use Rattle.calculus.specs.Meaning.{Marks};
 ghost use Rattle.meaning.specs.Into.{Into};
 
 use crate::actions::before;

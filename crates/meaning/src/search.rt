@@ -2,9 +2,9 @@
 
 ghost use Rattle.std.specs.Prelude.{◌≡◌, ℕ, ◌+◌, ◌*◌, ◌<◌, ◌≤◌, ◌⊎◌, length, All, Contains, IfOk, OnOk};
 ghost use Rattle.lts.specs.System.{IsSystem};
-ghost use Rattle.formula.specs.Tree.{Step, Star};
-ghost use Rattle.formula.specs.View.{action_of};
-ghost use Rattle.formula.specs.Meaning.{Marks, marked};
+ghost use Rattle.calculus.specs.Tree.{Step, Star};
+ghost use Rattle.calculus.specs.View.{action_of};
+ghost use Rattle.calculus.specs.Meaning.{Marks, marked};
 ghost use Rattle.meaning.specs.Into.{Into};
 ghost use Rattle.meaning.specs.Arrivals.{IsSource, HasRoom, IsIndex, unmarked};
 

@@ -1,7 +1,7 @@
 // The signs `*` and `+` behind a regular formula.
 
 ghost use Rattle.std.specs.Prelude.{◌≡◌};
-ghost use Rattle.formula.specs.View.{regular_of};
+ghost use Rattle.calculus.specs.View.{regular_of};
 ghost use Rattle.meaning.specs.Signs.{without_signs, has_star as has_star_of};
 
 use calculus::tree::Reg;

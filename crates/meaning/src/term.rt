@@ -1,7 +1,7 @@
 // Formulas as they are evaluated.
 
 ghost use Rattle.std.specs.Prelude.{IfOk, ◌≡◌};
-ghost use Rattle.formula.specs.View.{formula_of};
+ghost use Rattle.calculus.specs.View.{formula_of};
 ghost use Rattle.meaning.specs.Term.{formula_in, IsRight};
 
 use crate::free::{has_free, is_closed};

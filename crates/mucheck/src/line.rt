@@ -1,8 +1,8 @@
 // The line on standard error that says what a check is doing, and the notes on its formula. Both are for a person, so there is
 // neither where standard error is no terminal.
 
+use calculus::closed::Closed;
 use engines::watch::Watcher;
-use formula::closed::Closed;
 use lts::system::Lts;
 use measures::observer::{Observer, Stage};
 use std::alloc::{AllocError, Global};

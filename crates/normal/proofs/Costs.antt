@@ -1,7 +1,7 @@
 -- How much work is left to write a part.
 use Rattle.std.proofs.Common.{ℕ, ◌+◌}
-use Rattle.formula.specs.Tree.{Regular, Step, Then, Either, Star, Plus, Formula, True, False, Var, Not, And, Or, Implies, Dia, Box, Mu, Nu}
-use Rattle.formula.specs.View.{regular_of, formula_of}
+use Rattle.calculus.specs.Tree.{Regular, Step, Then, Either, Star, Plus, Formula, True, False, Var, Not, And, Or, Implies, Dia, Box, Mu, Nu}
+use Rattle.calculus.specs.View.{regular_of, formula_of}
 use Rattle.normal.specs.declared.part.Part.{Part}
 use Rattle.normal.specs.declared.part.Part.TheVariants as part
 

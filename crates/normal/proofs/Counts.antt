@@ -1,6 +1,6 @@
 -- How many nodes normal forms have.
 use Rattle.std.proofs.Common.{◌≡◌, ◌+◌, ◌<◌, ℕ, Bool, List, not, refl, ap, arith}
-use Rattle.formula.specs.Tree.{Regular, Step, Then, Either, Star, Plus, Formula, True, False, Var, Not, And, Or, Implies, Dia, Box, Mu, Nu}
+use Rattle.calculus.specs.Tree.{Regular, Step, Then, Either, Star, Plus, Formula, True, False, Var, Not, And, Or, Implies, Dia, Box, Mu, Nu}
 use Rattle.normal.specs.Tree.{Norm, Variable, size, two, loop_of, modal, norm, with_binder, modal_count, count}
 
 -- A modality has more nodes than its operand.

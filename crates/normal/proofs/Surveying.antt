@@ -4,7 +4,7 @@ use Rattle.std.specs.Prelude.{nat_lt, ◌==◌, if◌then◌else◌, slice_set, 
 use Rattle.std.proofs.lemmas.Bool.{lt-ltb, le-ltb}
 use Rattle.std.proofs.lemmas.Bool.Decides.{eqb_tells}
 use Rattle.std.proofs.lemmas.List.{get_or-set_same, get_or-set_other}
-use Rattle.formula.specs.Tree.{Action}
+use Rattle.calculus.specs.Tree.{Action}
 use Rattle.normal.specs.Tree.{Norm, Constant, Junction, Modality, Fixpoint, Variable, ConstantNode, JunctionNode, ModalityNode, FixpointNode, VariableNode, size, chain, two}
 use Rattle.normal.specs.Nodes.{Node, Rule, nodes_by, greatest, greatest_priority, parity_from}
 use Rattle.normal.specs.Rules.{names, above, rule_of}

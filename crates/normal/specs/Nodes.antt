@@ -1,6 +1,6 @@
 -- The nodes of a normal form with their priorities.
 use Rattle.std.specs.Prelude.{ℕ, ◌+◌, ◌-◌, ◌%◌, max, Bool, true, false, List, [], ◌∷◌}
-use Rattle.formula.specs.Tree.{Formula}
+use Rattle.calculus.specs.Tree.{Formula}
 use Rattle.normal.specs.Tree.{Norm, Constant, Junction, Modality, Fixpoint, Variable, Shape, shape_at, preorder, normal_form}
 
 pub record Node : Type 0 where

@@ -1,7 +1,7 @@
 -- The text of a normal form.
 use Rattle.std.specs.Prelude.{ℕ, ◌+◌, List, [], ◌∷◌, ◌++◌, length, codes, decimal, if◌then◌else◌}
 use Rattle.std.specs.List.{join_with_byte}
-use Rattle.formula.specs.Canon.{action_text}
+use Rattle.calculus.specs.Canon.{action_text}
 use Rattle.normal.specs.Tree.{Shape, ConstantNode, JunctionNode, ModalityNode, FixpointNode, VariableNode}
 use Rattle.normal.specs.Nodes.{Node, greatest_priority}
 

@@ -1,6 +1,6 @@
 -- What a part of a normal form stands for: a tree for each number that its first node may get.
 use Rattle.std.specs.Prelude.{ℕ, List}
-use Rattle.formula.specs.View.{regular_of, formula_of}
+use Rattle.calculus.specs.View.{regular_of, formula_of}
 use Rattle.normal.specs.Tree.{Norm, Variable, two, modal, loop_of, with_binder, norm}
 use Rattle.normal.specs.declared.part.Scope.{Scope}
 use Rattle.normal.specs.declared.part.Scope.TheVariants as scope

@@ -1,6 +1,6 @@
 -- When a formula has no normal form within the limits.
 use Rattle.std.specs.Prelude.{◌≤◌, ◌<◌}
-use Rattle.formula.specs.Tree.{Formula}
+use Rattle.calculus.specs.Tree.{Formula}
 use Rattle.normal.specs.Tree.{count}
 use Rattle.normal.specs.Nodes.{greatest_priority}
 use Rattle.normal.specs.Rules.{nodes_with}

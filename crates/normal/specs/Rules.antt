@@ -1,6 +1,6 @@
 -- The two rules of priorities.
 use Rattle.std.specs.Prelude.{ℕ, ◌+◌, max, Bool, false, ◌||◌, List, ◌==◌, if◌then◌else◌}
-use Rattle.formula.specs.Tree.{Formula}
+use Rattle.calculus.specs.Tree.{Formula}
 use Rattle.normal.specs.Tree.{Norm, Constant, Junction, Modality, Fixpoint, Variable, size, normal_form}
 use Rattle.normal.specs.Nodes.{Node, Rule, nodes_by, nested, parity_from}
 use Rattle.normal.specs.declared.priorities.Priorities.{Priorities}

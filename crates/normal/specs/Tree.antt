@@ -1,7 +1,7 @@
 -- The normal form of a formula: no negation but in action formulas, no regular formula but action formulas, and a number for each node.
 use Rattle.std.specs.Prelude.{ℕ, ◌+◌, max, Bool, true, false, not, List, [], ◌∷◌, ◌++◌, replicate, if◌then◌else◌}
 use Rattle.std.specs.Str.{bytes_eq}
-use Rattle.formula.specs.Tree.{Action, Regular, Step, Then, Either, Star, Plus, Formula, True, False, Var, Not, And, Or, Implies, Dia, Box, Mu, Nu}
+use Rattle.calculus.specs.Tree.{Action, Regular, Step, Then, Either, Star, Plus, Formula, True, False, Var, Not, And, Or, Implies, Dia, Box, Mu, Nu}
 
 -- The tree. Of each pair the flag `true` means the first: true or false, or or and, diamond or box, mu or nu; so negation turns all flags. A
 -- variable names its binder by number.

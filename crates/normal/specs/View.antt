@@ -1,6 +1,6 @@
 -- What the nodes of the program stand for.
 use Rattle.std.specs.Prelude.{true, false, List, map}
-use Rattle.formula.specs.View.{action_of}
+use Rattle.calculus.specs.View.{action_of}
 use Rattle.normal.specs.Tree.{Shape, ConstantNode, JunctionNode, ModalityNode, FixpointNode, VariableNode}
 use Rattle.normal.specs.Nodes as model
 use Rattle.normal.specs.declared.node.Kind.{Kind}

@@ -1,7 +1,7 @@
 // Copies of action formulas.
 
 ghost use Rattle.std.specs.Prelude.{◌≡◌, IfOk, map};
-ghost use Rattle.formula.specs.View.{action_of};
+ghost use Rattle.calculus.specs.View.{action_of};
 
 use calculus::tree::Act;
 use std::alloc::{AllocError, Global};

@@ -1,7 +1,7 @@
 // How many nodes a formula's normal form has, found without making any.
 
 ghost use Rattle.std.specs.Prelude.{◌≡◌, ◌<◌, ◌≤◌, MatchOption};
-ghost use Rattle.formula.specs.View.{regular_of, formula_of};
+ghost use Rattle.calculus.specs.View.{regular_of, formula_of};
 ghost use Rattle.normal.specs.Tree.{count as count_of, modal_count as modal_count_of};
 
 use crate::limits::MOST_NODES;

@@ -1,7 +1,7 @@
 // The normal form of a formula.
 
 ghost use Rattle.std.specs.Prelude.{◌≡◌, ◌≤◌, max, IfOk, OnOk, IfErr};
-ghost use Rattle.formula.specs.Closed.{closed_formula};
+ghost use Rattle.calculus.specs.Closed.{closed_formula};
 ghost use Rattle.normal.specs.Tree.{count as count_of, depth, normal_form};
 ghost use Rattle.normal.specs.Nodes.{nodes, greatest_priority};
 ghost use Rattle.normal.specs.Rules.{nodes_with};
@@ -16,7 +16,7 @@ use crate::part::{Part, Scope};
 use crate::priorities::Priorities;
 use crate::survey::{Place, Survey};
 use crate::write::Preorder;
-use formula::closed::Closed;
+use calculus::closed::Closed;
 use std::alloc::Global;
 
 /// The normal form of a formula with the nested priorities. Negations go down to the action formulas, and iterations become

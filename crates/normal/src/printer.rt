@@ -1,8 +1,8 @@
 // The text of a normal form.
 
 ghost use Rattle.std.specs.Prelude.{◌≡◌, ◌++◌, ◌∷◌, [], codes, decimal};
-ghost use Rattle.formula.specs.View.{action_of};
-ghost use Rattle.formula.specs.Canon.{action_text};
+ghost use Rattle.calculus.specs.View.{action_of};
+ghost use Rattle.calculus.specs.Canon.{action_text};
 ghost use Rattle.text.specs.Wrote.{Wrote};
 ghost use Rattle.normal.specs.Nodes.{greatest_priority as greatest_priority_of};
 ghost use Rattle.normal.specs.NormalText.{normal_text, summary_line, kind_text, rest_of, fields, after_spaces, line_end, node_line, node_lines};

@@ -1,8 +1,8 @@
 // The priorities of a normal form's nodes, found without memory and before any node is made.
 
 ghost use Rattle.std.specs.Prelude.{◌≡◌, ℕ, ◌+◌, ◌<◌, ◌≤◌, ◌^◌, max, ◌≢◌, Bool, true, length, slice_index, slice_set};
-ghost use Rattle.formula.specs.View.{regular_of, formula_of};
-ghost use Rattle.formula.specs.Tree.{Action};
+ghost use Rattle.calculus.specs.View.{regular_of, formula_of};
+ghost use Rattle.calculus.specs.Tree.{Action};
 ghost use Rattle.normal.specs.Tree.{Variable, Modality, Fixpoint, size, two, modal, loop_of, norm};
 ghost use Rattle.normal.specs.Nodes.{parity_from};
 ghost use Rattle.normal.specs.Part.{tree_of, binders_of};

@@ -1,7 +1,7 @@
 // The nodes of a part of a normal form, written in preorder, with priorities that were found before.
 
 ghost use Rattle.std.specs.Prelude.{◌≡◌, ◌+◌, ◌<◌, ◌≤◌, ◌++◌, ◌∷◌, [], slice_index, vec_len, OnOk};
-ghost use Rattle.formula.specs.View.{action_of, regular_of, formula_of};
+ghost use Rattle.calculus.specs.View.{action_of, regular_of, formula_of};
 ghost use Rattle.normal.specs.Tree.{size, two, modal, loop_of, norm, Modality, Fixpoint, ConstantNode, JunctionNode, ModalityNode, FixpointNode};
 ghost use Rattle.normal.specs.View.{shape_of, nodes_of};
 ghost use Rattle.normal.specs.Part.{tree_of, binders_of};

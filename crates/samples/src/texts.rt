@@ -1,6 +1,6 @@
 // Texts of systems and formulas, and what they are read as.
 
-use formula::closed::Closed;
+use calculus::closed::Closed;
 use formula::error::FormulaError;
 use formula::parse;
 use lts::{AutError, Lts, read_aut};

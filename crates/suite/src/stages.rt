@@ -1,9 +1,9 @@
 // What a watcher is told of a check: each stage that its way has, and both texts once they are read.
 
+use calculus::closed::Closed;
 use engines::engine::{check_all, check_plain_seen};
 use engines::request::{BoardKind, Options, Wanted};
 use engines::watch::Watcher;
-use formula::closed::Closed;
 use lts::Lts;
 use measures::observer::{Observer, Stage};
 use normal::priorities::Priorities;

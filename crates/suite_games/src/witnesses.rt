@@ -6,8 +6,8 @@ ghost use Rattle.normal.specs.Normal.{normal_nodes};
 ghost use Rattle.game.specs.Arena.{arena};
 ghost use Rattle.game.specs.Game.{greatest};
 
+use calculus::closed::Closed;
 use evidence::make::{even_evidence, odd_evidence};
-use formula::closed::Closed;
 use game::build::{build, label_sets};
 use game::graph::Game;
 use lts::{Lts, Transition, read_aut, write_part};

@@ -1,8 +1,8 @@
 // Labels, and which of them an action formula holds of: by the mCRL2 manual (multi-actions), worked out by hand.
 
-use formula::closed::Closed;
-use formula::holds;
-use formula::tree::{Reg, State};
+use calculus::closed::Closed;
+use calculus::holds;
+use calculus::tree::{Reg, State};
 use lts::Label;
 use samples::texts::formula_of;
 use std::alloc::{AllocError, Global};

@@ -2,7 +2,7 @@
 // mCRL2 manual, worked out by hand.
 
 use crate::common::same;
-use formula::closed::Closed;
+use calculus::closed::Closed;
 use lts::Lts;
 use meaning::plain::plain_states;
 use samples::texts::{RING, formula_of, repeated, ring, system_of};

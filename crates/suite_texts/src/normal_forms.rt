@@ -1,8 +1,8 @@
 // Normal forms, worked out by hand: negations moved inwards by the equations of Kozen 1983, and nodes in preorder.
 
 use crate::common::same;
-use formula::closed::Closed;
-use formula::tree::Act;
+use calculus::closed::Closed;
+use calculus::tree::Act;
 use normal::count::count;
 use normal::form::Normal;
 use normal::make::normal;

@@ -1,7 +1,7 @@
 // The texts of normal forms, and their first lines by either rule of priorities. Worked examples.
 
 use crate::common::same;
-use formula::closed::Closed;
+use calculus::closed::Closed;
 use normal::make::normal_with;
 use normal::printer::print_normal;
 use normal::priorities::Priorities;

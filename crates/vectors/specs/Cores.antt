@@ -5,8 +5,8 @@ use Rattle.std.proofs.lemmas.Bool.Decides.{eqb_tells}
 use Rattle.std.proofs.lemmas.Option.{slice_get_within}
 use Rattle.game.specs.declared.player.Player.{Player}
 use Rattle.game.specs.declared.player.Player.TheVariants.{Even}
-use Rattle.formula.specs.Tree.{Dia, True}
-use Rattle.formula.specs.Tree as tree
+use Rattle.calculus.specs.Tree.{Dia, True}
+use Rattle.calculus.specs.Tree as tree
 use Rattle.normal.specs.Nodes.{nodes}
 use Rattle.game.specs.Game.{Game, vertex}
 use Rattle.game.specs.Arena.{arena}

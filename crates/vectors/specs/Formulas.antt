@@ -1,10 +1,10 @@
 -- Worked examples of formulas, canonical texts and satisfaction of action formulas.
 use Rattle.std.specs.Prelude.{◌≡◌, true, false, [], ◌∷◌, None, codes, refl}
 use Rattle.std.proofs.Common.{arith}
-use Rattle.formula.specs.Tree.{Action, Anything, Names, Quoted, NotAct, AndAct, Step, Either, Plus, Formula, True, False, Var, Not, Or, Implies, Dia, Mu, Nu}
-use Rattle.formula.specs.Holds.{holds}
-use Rattle.formula.specs.Admitted.{IsAdmitted, is_admitted_in}
-use Rattle.formula.specs.Canon.{canon}
+use Rattle.calculus.specs.Tree.{Action, Anything, Names, Quoted, NotAct, AndAct, Step, Either, Plus, Formula, True, False, Var, Not, Or, Implies, Dia, Mu, Nu}
+use Rattle.calculus.specs.Holds.{holds}
+use Rattle.calculus.specs.Admitted.{IsAdmitted, is_admitted_in}
+use Rattle.calculus.specs.Canon.{canon}
 use Rattle.formula.specs.Token.{Name, Less, Greater, ChoiceSign, PlusSign, TrueWord, Blank, Word, is_decided}
 use Rattle.formula.specs.Syntax.{Names', Parens', And', Then', Plus', Either', OneOf', Group', Dia', Mu', Var', True', fits, meant}
 use Rattle.formula.specs.Spells.{Spells, SpellsWithin}

@@ -6,7 +6,7 @@ use Rattle.std.proofs.Common.{arith, inl, inr, sym, ap, ap₂, subst, ◌∙◌}
 use Rattle.lts.specs.Path.{IsPath}
 use Rattle.std.proofs.lemmas.Bool.Decides.{nat_tests}
 use Rattle.vectors.specs.Systems.{two_states}
-use Rattle.formula.specs.Tree.{Step, Dia, Box, True, False, Anything}
+use Rattle.calculus.specs.Tree.{Step, Dia, Box, True, False, Anything}
 use Rattle.vectors.specs.Formulas.{name_a, often_a}
 use Rattle.normal.specs.Nodes.{nodes}
 use Rattle.game.specs.declared.player.Player.{Player}

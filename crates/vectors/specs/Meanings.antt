@@ -3,10 +3,10 @@ use Rattle.std.specs.Prelude.{◌≡◌, ℕ, ◌⊎◌, List, [], codes, refl}
 use Rattle.std.proofs.Common.{zero, suc, arith, inl, inr, sym, ap, subst, ◌∙◌, true≢false}
 use Rattle.lts.specs.System.{Arrow}
 use Rattle.vectors.specs.Systems.{two_states}
-use Rattle.formula.specs.Tree.{Formula, Step, Then, Star, Plus, Mu, Nu, Or, Dia, Var}
-use Rattle.formula.specs.Holds.{holds}
+use Rattle.calculus.specs.Tree.{Formula, Step, Then, Star, Plus, Mu, Nu, Or, Dia, Var}
+use Rattle.calculus.specs.Holds.{holds}
 use Rattle.vectors.specs.Formulas.{often_a, name_a, name_b}
-use Rattle.formula.specs.Meaning.{Satisfies, HasArrow, Leads}
+use Rattle.calculus.specs.Meaning.{Satisfies, HasArrow, Leads}
 
 -- the arrow of the two-state system that stands first, and the other one
 abbrev first_arrow : HasArrow two_states 0 (codes "a") 1

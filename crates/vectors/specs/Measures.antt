@@ -1,6 +1,6 @@
 -- Worked examples of progress measures.
 use Rattle.std.specs.Prelude.{◌≡◌, ℕ, zero, suc, List, [], ◌∷◌, length, map, codes, refl, AllPairs, Contains}
-use Rattle.formula.specs.Tree.{Formula, Step, Or, Dia, Var, Mu, Nu}
+use Rattle.calculus.specs.Tree.{Formula, Step, Or, Dia, Var, Mu, Nu}
 use Rattle.vectors.specs.Formulas.{name_a, name_b}
 use Rattle.normal.specs.Nodes.{nodes}
 use Rattle.lts.specs.System.{System}

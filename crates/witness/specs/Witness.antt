@@ -1,8 +1,8 @@
 -- The part of a system on which the answer for its initial state rests.
 use Rattle.std.specs.Prelude.{◌≡◌, ℕ, ◌↔◌, Bool, List, length}
 use Rattle.lts.specs.System.{System, IsSystem}
-use Rattle.formula.specs.Tree.{Formula}
-use Rattle.formula.specs.Meaning.{Satisfies}
+use Rattle.calculus.specs.Tree.{Formula}
+use Rattle.calculus.specs.Meaning.{Satisfies}
 use Rattle.normal.specs.Nodes.{Node}
 use Rattle.game.specs.Arena.{arena, place}
 use Rattle.evidence.specs.Evidence.{Evidence}

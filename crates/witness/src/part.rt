@@ -2,8 +2,8 @@
 
 ghost use Rattle.std.specs.Prelude.{◌≡◌, ◌<◌, false, ℕ, List, Some, IfOk, IsTrue, length, map, slice_get, slice_index_or};
 ghost use Rattle.lts.specs.Numbered.{IsInside, arrow_of, system_with};
-ghost use Rattle.formula.specs.Tree.{Formula};
-ghost use Rattle.formula.specs.Admitted.{IsAdmitted};
+ghost use Rattle.calculus.specs.Tree.{Formula};
+ghost use Rattle.calculus.specs.Admitted.{IsAdmitted};
 ghost use Rattle.normal.specs.Tree.{normal_form};
 ghost use Rattle.normal.specs.Nodes.{Node};
 ghost use Rattle.normal.specs.Normal.{normal_nodes};

@@ -3,14 +3,14 @@
 ghost use Rattle.std.specs.Prelude.{◌≡◌, ◌&&◌, ◌||◌, not, nat_lt, length, IfOk, OnOk, fold, map};
 ghost use Rattle.std.specs.List.{list_any};
 ghost use Rattle.std.specs.Str.{bytes_eq};
-ghost use Rattle.formula.specs.Closed.{closed_formula};
-ghost use Rattle.formula.specs.View.{action_of, formula_of, regular_of};
+ghost use Rattle.calculus.specs.Closed.{closed_formula};
+ghost use Rattle.calculus.specs.View.{action_of, formula_of, regular_of};
 ghost use Rattle.lts.specs.Label.{texts};
 ghost use Rattle.words.specs.Noted.{is_known, knows, with_term};
 ghost use Rattle.words.specs.Strange.{Atom, Name, action_terms, formula_terms, has_term, regular_terms, same_term, strange_terms, term_of};
 
+use calculus::closed::Closed;
 use calculus::tree::{Act, Reg, State};
-use formula::closed::Closed;
 use lts::Memory;
 use lts::label::LabelView;
 use lts::system::Lts;

@@ -1,4 +1,4 @@
-use Rattle.formula.specs.Meaning.{Marks}
+use Rattle.calculus.specs.Meaning.{Marks}
 use Rattle.game.specs.Wins.{Wins}
 use Rattle.commands.proofs.winners.marks_of.Given as goal
 

@@ -1,7 +1,7 @@
 use Rattle.std.proofs.Common.{Some, subst}
 use Rattle.std.proofs.lemmas.Result.{IfErr-weaker}
 use Rattle.std.specs.Arc.{arc_value}
-use Rattle.formula.specs.Closed.{closed_formula}
+use Rattle.calculus.specs.Closed.{closed_formula}
 use Rattle.engines.specs.declared.findings.Findings.{Findings}
 use Rattle.engines.specs.Findings.{IsGameOf}
 use Rattle.engines.proofs.Checks.{beyond_board, beyond_of, spelled_by}

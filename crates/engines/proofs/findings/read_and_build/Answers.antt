@@ -1,6 +1,6 @@
 use Rattle.std.proofs.Common.{subst, sym}
 use Rattle.std.proofs.lemmas.Result.{IfErr-weaker}
-use Rattle.formula.specs.Closed.{closed_formula}
+use Rattle.calculus.specs.Closed.{closed_formula}
 use Rattle.engines.specs.declared.findings.Posed.{Posed}
 use Rattle.engines.specs.declared.texts.Texts.{Texts}
 use Rattle.engines.specs.Check.{ByGame, AreSpelled}

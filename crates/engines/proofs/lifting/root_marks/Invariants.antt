@@ -1,4 +1,4 @@
-use Rattle.formula.specs.Meaning.{Marks}
+use Rattle.calculus.specs.Meaning.{Marks}
 use Rattle.engines.specs.Roots.{WinsRoot}
 use Rattle.engines.proofs.lifting.root_marks.Given as goal
 

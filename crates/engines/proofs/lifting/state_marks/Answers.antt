@@ -1,6 +1,6 @@
 use Rattle.std.proofs.Common.{subst, ◌∙◌}
-use Rattle.formula.specs.Closed.{closed_formula}
-use Rattle.formula.specs.Meaning.{Marks}
+use Rattle.calculus.specs.Closed.{closed_formula}
+use Rattle.calculus.specs.Meaning.{Marks}
 use Rattle.normal.specs.Rules.{nodes_with}
 use Rattle.game.specs.Game.{Game}
 use Rattle.engines.specs.Roots.{WinsRoot}

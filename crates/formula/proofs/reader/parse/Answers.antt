@@ -1,16 +1,13 @@
 use Rattle.std.proofs.Common.{rules, sym, subst}
 use Rattle.text.proofs.PassedOn.{passed_on}
-use Rattle.formula.specs.Tree.{Formula}
+use Rattle.calculus.specs.Tree.{Formula}
 use Rattle.formula.specs.Spells.{SpellsWithin}
-use Rattle.formula.specs.Admitted.{IsAdmitted}
+use Rattle.calculus.specs.Admitted.{IsAdmitted}
 use Rattle.formula.proofs.Refusals.{promised}
 use Rattle.formula.proofs.reader.parse.Goals as goal
 
-pub new-requires-clause-admitted : goal.new-requires-clause-admitted
-new-requires-clause-admitted c = c.in_ok-tree.ensures.1
-
-pub new-requires-clause-spelled : goal.new-requires-clause-spelled
-new-requires-clause-spelled c = ∣ (c.args.text.now, c.in_ok-tree.ensures.0) ∣₁
+pub new-requires : goal.new-requires
+new-requires c = c.in_ok-tree.ensures.1
 
 pub returns : goal.returns
 returns c = promised c.args.text.now _ (subst (λ (f : Formula). SpellsWithin c.args.text.now f × IsAdmitted f) (sym c.new.ensures) c.in_ok-tree.ensures) tt

@@ -1,5 +1,5 @@
 use Rattle.game.proofs.Common.{◌≡◌, ◌<◌, ℕ, false, vec_len, slice_index_or, holds, label_at}
-use Rattle.formula.specs.View.{action_of}
+use Rattle.calculus.specs.View.{action_of}
 use Rattle.game.proofs.build.set_of.Given as goal
 
 abbrev pub invariant-loop-number : goal.invariant-loop-number

@@ -8,13 +8,13 @@ use Rattle.std.proofs.lemmas.List.{get_or_default}
 use Rattle.lts.specs.System.{Arrow}
 use Rattle.lts.specs.declared.system.Transition.{Transition}
 use Rattle.lts.specs.Numbered.{label_at, arrow_of}
-use Rattle.formula.specs.View.{action_of}
-use Rattle.formula.specs.Holds.{holds}
-use Rattle.formula.specs.Tree.{Step}
+use Rattle.calculus.specs.View.{action_of}
+use Rattle.calculus.specs.Holds.{holds}
+use Rattle.calculus.specs.Tree.{Step}
 use Rattle.meaning.specs.Into.{Into}
 use Rattle.meaning.proofs.Each.{none, inside, decided}
 use Rattle.meaning.proofs.Marked.{at}
-use Rattle.formula.proofs.Entering.{enters, enters_leads}
+use Rattle.calculus.proofs.Entering.{enters, enters_leads}
 use Rattle.meaning.proofs.Arrows.{one_more, any_of_map}
 use Rattle.meaning.proofs.actions.before.Goals as goal
 

@@ -1,7 +1,7 @@
 use Rattle.std.proofs.Common.{◌≡◌, ℕ, ◌<◌, length, take}
 use Rattle.std.specs.List.{list_any}
-use Rattle.formula.specs.View.{action_of}
-use Rattle.formula.proofs.Entering.{enters}
+use Rattle.calculus.specs.View.{action_of}
+use Rattle.calculus.proofs.Entering.{enters}
 use Rattle.meaning.proofs.Marked.{at}
 use Rattle.lts.specs.Numbered.{arrow_of}
 use Rattle.meaning.proofs.actions.before.Given as goal

@@ -1,8 +1,8 @@
 use Rattle.std.proofs.Common.{◌≡◌, ℕ, ◌<◌, ◌≤◌, ◌^◌, length, false}
 use Rattle.std.specs.Prelude.{slice_index_or}
 use Rattle.lts.specs.Numbered.{label_at}
-use Rattle.formula.specs.View.{action_of}
-use Rattle.formula.specs.Holds.{holds}
+use Rattle.calculus.specs.View.{action_of}
+use Rattle.calculus.specs.Holds.{holds}
 use Rattle.meaning.proofs.actions.chosen_labels.Given as goal
 
 -- the labels so far are decided

@@ -1,10 +1,10 @@
 use Rattle.std.proofs.Common.{◌≡◌, Bool, List, Result, Vec, Global, not, ◌&&◌, ◌||◌, map, zip, ap, ap₂, sym, ◌∙◌, subst, arith, IfOk, IsTrue, true, false}
 use Rattle.std.proofs.lemmas.Result.{IfOk-weaker}
 use Rattle.lts.specs.System.{System}
-use Rattle.formula.specs.View.{formula_of, regular_of}
+use Rattle.calculus.specs.View.{formula_of, regular_of}
 use Rattle.meaning.specs.Term.{formula_in, IsRight}
-use Rattle.formula.specs.Tree.{Formula, And, Or, Implies, Dia, Box, Mu, Nu}
-use Rattle.formula.specs.Meaning.{Env, Marks, mean, iterate, with_set}
+use Rattle.calculus.specs.Tree.{Formula, And, Or, Implies, Dia, Box, Mu, Nu}
+use Rattle.calculus.specs.Meaning.{Env, Marks, mean, iterate, with_set}
 use Rattle.meaning.specs.Into.{Into}
 use Rattle.meaning.specs.Scope.{sets_of}
 use Rattle.meaning.proofs.Marked.{marks_and, marks_or, marks_implies, equal_marks}

@@ -1,6 +1,6 @@
 use Rattle.std.proofs.Common.{IsTrue}
 use Rattle.meaning.specs.Term.{formula_in}
-use Rattle.formula.specs.Meaning.{mean, Marks, iterate, with_set}
+use Rattle.calculus.specs.Meaning.{mean, Marks, iterate, with_set}
 use Rattle.meaning.specs.Scope.{sets_of}
 use Rattle.meaning.proofs.plain.+plain.Given as goal
 

@@ -1,7 +1,7 @@
 use Rattle.std.proofs.Common.{◌∙◌, subst}
-use Rattle.formula.specs.Tree.{Formula}
-use Rattle.formula.specs.Admitted.{IsAdmitted}
-use Rattle.formula.specs.Meaning.{Marks, Satisfies}
+use Rattle.calculus.specs.Tree.{Formula}
+use Rattle.calculus.specs.Admitted.{IsAdmitted}
+use Rattle.calculus.specs.Meaning.{Marks, Satisfies}
 use Rattle.meaning.proofs.Extremes.{is_least, is_greatest}
 use Rattle.meaning.proofs.plain.plain_states.Goals as goal
 

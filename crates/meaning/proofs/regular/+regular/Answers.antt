@@ -1,9 +1,9 @@
 use Rattle.std.proofs.Common.{◌≡◌, ◌↔◌, ℕ, ◌<◌, ◌≤◌, Bool, List, Result, Vec, Global, arith, length, ◌||◌, ap, ap₂, sym, ◌∙◌, subst, IfOk}
 use Rattle.std.proofs.lemmas.Result.{IfOk-weaker}
 use Rattle.lts.specs.System.{System}
-use Rattle.formula.specs.View.{action_of, regular_of}
-use Rattle.formula.specs.Tree.{Regular, Step, Then, Either, Star, Plus}
-use Rattle.formula.specs.Meaning.{Marks, marked}
+use Rattle.calculus.specs.View.{action_of, regular_of}
+use Rattle.calculus.specs.Tree.{Regular, Step, Then, Either, Star, Plus}
+use Rattle.calculus.specs.Meaning.{Marks, marked}
 use Rattle.meaning.specs.Arrivals.{unmarked}
 use Rattle.meaning.specs.Into.{Into}
 use Rattle.meaning.specs.Signs.{without_signs, has_star}

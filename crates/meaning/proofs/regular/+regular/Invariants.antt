@@ -1,7 +1,7 @@
 use Rattle.std.proofs.Common.{◌≡◌, ℕ, ◌+◌, ◌*◌, ◌<◌, length}
-use Rattle.formula.specs.View.{regular_of}
-use Rattle.formula.specs.Tree.{Star}
-use Rattle.formula.specs.Meaning.{marked}
+use Rattle.calculus.specs.View.{regular_of}
+use Rattle.calculus.specs.Tree.{Star}
+use Rattle.calculus.specs.Meaning.{marked}
 use Rattle.meaning.specs.Into.{Into}
 use Rattle.meaning.proofs.Behind.{height}
 use Rattle.meaning.specs.Arrivals.{unmarked}

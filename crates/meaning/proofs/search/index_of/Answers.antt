@@ -8,11 +8,11 @@ use Rattle.std.proofs.lemmas.List.{get_or_default}
 use Rattle.lts.specs.System.{Arrow}
 use Rattle.lts.specs.declared.system.Transition.{Transition}
 use Rattle.lts.specs.Numbered.{label_at, arrow_of}
-use Rattle.formula.specs.View.{action_of}
-use Rattle.formula.specs.Holds.{holds}
-use Rattle.formula.specs.Tree.{Step}
-use Rattle.formula.specs.Meaning.{Leads}
-use Rattle.formula.proofs.Entering.{enters, enters_leads}
+use Rattle.calculus.specs.View.{action_of}
+use Rattle.calculus.specs.Holds.{holds}
+use Rattle.calculus.specs.Tree.{Step}
+use Rattle.calculus.specs.Meaning.{Leads}
+use Rattle.calculus.proofs.Entering.{enters, enters_leads}
 use Rattle.meaning.specs.declared.arrivals.Arrival.{Arrival}
 use Rattle.meaning.specs.Arrivals.{IsOneOf, HasRoom}
 use Rattle.meaning.proofs.Each.{none, inside, decided}

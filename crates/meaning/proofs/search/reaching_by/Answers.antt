@@ -4,10 +4,10 @@ use Rattle.std.specs.Option.{option_to_list}
 use Rattle.std.proofs.lemmas.List.Elements.{Contains-push, Contains-push_cases}
 use Rattle.lts.specs.Path.{IsPath}
 use Rattle.lts.specs.System.{System, IsSystem}
-use Rattle.formula.specs.View.{action_of}
-use Rattle.formula.specs.Tree.{Action, Step}
-use Rattle.formula.specs.Meaning.{Leads, marked}
-use Rattle.formula.proofs.Inside.{leads_inside}
+use Rattle.calculus.specs.View.{action_of}
+use Rattle.calculus.specs.Tree.{Action, Step}
+use Rattle.calculus.specs.Meaning.{Leads, marked}
+use Rattle.calculus.proofs.Inside.{leads_inside}
 use Rattle.meaning.proofs.search.reaching_by.Goals as goal
 
 no_more : (o : Option ℕ) (P : Type 0) (Q : ℕ → Type 0) → MatchOption o P Q → ((x : ℕ) → o ≡ Some x → ⊥) → P

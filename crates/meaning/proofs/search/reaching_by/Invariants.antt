@@ -1,8 +1,8 @@
 use Rattle.std.proofs.Common.{ℕ, ◌≡◌, ◌+◌, ◌*◌, ◌<◌, ◌⊎◌, length}
 use Rattle.std.specs.Prelude.{All, Contains}
-use Rattle.formula.specs.View.{action_of}
-use Rattle.formula.specs.Tree.{Step, Star}
-use Rattle.formula.specs.Meaning.{marked, Leads}
+use Rattle.calculus.specs.View.{action_of}
+use Rattle.calculus.specs.Tree.{Step, Star}
+use Rattle.calculus.specs.Meaning.{marked, Leads}
 use Rattle.meaning.specs.Into.{Into}
 use Rattle.meaning.specs.Arrivals.{unmarked}
 use Rattle.meaning.proofs.search.reaching_by.Given as goal

@@ -1,7 +1,7 @@
 use Rattle.std.proofs.Common.{◌≡◌, ◌<◌, [], ◌∷◌, ◌++◌, length, length-append, sym, ◌∙◌, ap, subst, inl, inr, arith, true≢false}
 use Rattle.std.specs.Prelude.{All, Contains}
 use Rattle.std.proofs.lemmas.List.Elements.{All-push, Contains-push, Contains-push_cases, Contains-append_left}
-use Rattle.formula.specs.Meaning.{marked}
+use Rattle.calculus.specs.Meaning.{marked}
 use Rattle.meaning.proofs.Elements.{last_or_less}
 use Rattle.meaning.proofs.search.states_in.Goals as goal
 use Rattle.meaning.proofs.search.states_in.Goals.{then-mark+in_ok-push, else-mark}

@@ -3,7 +3,7 @@ use Rattle.std.specs.Prelude.{slice_set, slice_index_or, All, Contains}
 use Rattle.std.proofs.Math.ListN.{length-set}
 use Rattle.std.proofs.lemmas.List.Elements.{All-push, Contains-push, Contains-push_cases, Contains-append_left}
 use Rattle.std.proofs.lemmas.List.{get_or_default}
-use Rattle.formula.specs.Meaning.{marked}
+use Rattle.calculus.specs.Meaning.{marked}
 use Rattle.meaning.specs.declared.arrivals.Arrival.{Arrival}
 use Rattle.meaning.specs.Arrivals.{nowhere, arrival_at, IsSource, IsOneOf}
 use Rattle.meaning.proofs.Marked.{at}

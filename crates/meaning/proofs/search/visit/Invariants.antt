@@ -1,6 +1,6 @@
 use Rattle.std.proofs.Common.{ℕ, ◌≡◌, ◌+◌, ◌*◌, ◌<◌, ◌≤◌, ◌⊎◌, length}
 use Rattle.std.specs.Prelude.{All, Contains}
-use Rattle.formula.specs.Meaning.{marked}
+use Rattle.calculus.specs.Meaning.{marked}
 use Rattle.meaning.specs.Arrivals.{IsSource, IsOneOf, unmarked}
 use Rattle.meaning.proofs.search.visit.Given as goal
 

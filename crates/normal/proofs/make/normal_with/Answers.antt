@@ -1,6 +1,6 @@
 use Rattle.std.proofs.Common.{◌≡◌, ◌≤◌, ◌<◌, ◌++◌, ℕ, true, List, [], Option, Some, None, MatchOption, is_some, length, vec_len, subst, sym, ap, ◌∙◌, arith}
-use Rattle.formula.specs.View.{formula_of}
-use Rattle.formula.specs.Tree.{Formula}
+use Rattle.calculus.specs.View.{formula_of}
+use Rattle.calculus.specs.Tree.{Formula}
 use Rattle.normal.specs.Tree.{count, norm, normal_form}
 use Rattle.normal.specs.Nodes.{nodes_by, greatest_priority}
 use Rattle.normal.specs.Rules.{rule_of, nodes_with}

@@ -1,6 +1,6 @@
 use Rattle.std.proofs.Common.{◌++◌, ◌∷◌, [], decimal, ap, ◌∙◌, append_assoc}
-use Rattle.formula.specs.View.{action_of}
-use Rattle.formula.specs.Canon.{action_text}
+use Rattle.calculus.specs.View.{action_of}
+use Rattle.calculus.specs.Canon.{action_text}
 use Rattle.text.proofs.Writing.{Wrote-as, Wrote-err, Wrote-after, WroteFront-more, WroteFront-after}
 use Rattle.normal.specs.NormalText.{line_end}
 use Rattle.normal.proofs.printer.put_modality.Goals as goal

@@ -1,5 +1,5 @@
 use Rattle.std.proofs.Common.{◌≡◌, List, [], map, fold, subst}
-use Rattle.formula.specs.View.{formula_of}
+use Rattle.calculus.specs.View.{formula_of}
 use Rattle.words.specs.declared.strange.Word.{Word}
 use Rattle.words.specs.Strange.{formula_terms, term_of}
 use Rattle.words.specs.Noted.{knows, with_term}

@@ -1,5 +1,5 @@
 use Rattle.std.proofs.Common.{◌≡◌, ℕ, ◌+◌, ◌≤◌, true, sym, ap, subst, arith, rules, not, false}
-use Rattle.formula.specs.View.{action_of, regular_of}
+use Rattle.calculus.specs.View.{action_of, regular_of}
 use Rattle.normal.specs.Tree.{Norm, size, two, modal, loop_of}
 use Rattle.normal.specs.Part.{tree_of}
 use Rattle.normal.specs.Surveys.{open_at, AreBefore, Surveys}

@@ -1,5 +1,5 @@
 use Rattle.std.proofs.Common.{◌+◌}
-use Rattle.formula.specs.View.{regular_of, formula_of}
+use Rattle.calculus.specs.View.{regular_of, formula_of}
 use Rattle.normal.proofs.Costs.{part_cost, formula_cost, modal_cost}
 use Rattle.normal.proofs.write.Preorder.+part.Given as goal
 

@@ -4,8 +4,8 @@ use Rattle.std.specs.Prelude.{Contains}
 use Rattle.std.specs.List.{AllByRecursion}
 use Rattle.lts.specs.Path.{IsPath}
 use Rattle.lts.specs.System.{Arrow, System, IsArrow, IsSystem}
-use Rattle.formula.specs.Tree.{Regular, Step, Then, Either, Star, Plus}
-use Rattle.formula.specs.Meaning.{Leads}
+use Rattle.calculus.specs.Tree.{Regular, Step, Then, Either, Star, Plus}
+use Rattle.calculus.specs.Meaning.{Leads}
 
 -- an arrow of the set has what each has
 each_arrow : (P : Arrow → Type 0) (arrows : List Arrow) → AllByRecursion P arrows → (a : Arrow) → Contains arrows a → P a

@@ -2,13 +2,13 @@
 use Rattle.std.proofs.Common.{ℕ, ◌<◌, ◌≤◌, ◌↔◌, Bool, true, List, ◌∷◌}
 use Rattle.std.specs.Prelude.{IsTrue}
 use Rattle.lts.specs.System.{System, IsSystem}
-use Rattle.formula.specs.Tree.{Formula, Mu, Nu}
-use Rattle.formula.specs.Admitted.{Scope}
-use Rattle.formula.specs.Meaning.{Env, with_set, iterate, mean}
-use Rattle.formula.specs.FixpointLaws.{told, body, IsBody, MeaningIsDecided, BodyIsMonotone, IteratesReach, MuIsLeast, NuIsGreatest}
-use Rattle.formula.proofs.Fixpoints.{IsDecided, IsWithin, upward, downward, in_closed, has_kept, low_closed, high_kept, low_reached, high_reached}
-use Rattle.formula.proofs.Grown.{inner_grows, grown}
-use Rattle.formula.proofs.Decided.{Told, with_told, mean_decided}
+use Rattle.calculus.specs.Tree.{Formula, Mu, Nu}
+use Rattle.calculus.specs.Admitted.{Scope}
+use Rattle.calculus.specs.Meaning.{Env, with_set, iterate, mean}
+use Rattle.calculus.specs.FixpointLaws.{told, body, IsBody, MeaningIsDecided, BodyIsMonotone, IteratesReach, MuIsLeast, NuIsGreatest}
+use Rattle.calculus.proofs.Fixpoints.{IsDecided, IsWithin, upward, downward, in_closed, has_kept, low_closed, high_kept, low_reached, high_reached}
+use Rattle.calculus.proofs.Grown.{inner_grows, grown}
+use Rattle.calculus.proofs.Decided.{Told, with_told, mean_decided}
 
 -- below a binder, over sets that tests tell
 module _ (l : System) (ok : IsSystem l) (scope : Scope) (name : List ℕ) (f : Formula) (is_body : IsBody scope name f) (e : Env) where

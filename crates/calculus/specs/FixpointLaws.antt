@@ -1,9 +1,9 @@
 -- Binders mean fixpoints, whatever sets their outer variables have.
 use Rattle.std.specs.Prelude.{ℕ, ◌<◌, ◌≤◌, ◌↔◌, Bool, true, List, ◌∷◌, IsTrue}
 use Rattle.lts.specs.System.{System, IsSystem}
-use Rattle.formula.specs.Tree.{Formula, Mu, Nu}
-use Rattle.formula.specs.Admitted.{Scope, is_admitted_in}
-use Rattle.formula.specs.Meaning.{Env, with_set, iterate, mean}
+use Rattle.calculus.specs.Tree.{Formula, Mu, Nu}
+use Rattle.calculus.specs.Admitted.{Scope, is_admitted_in}
+use Rattle.calculus.specs.Meaning.{Env, with_set, iterate, mean}
 
 -- each variable has the set that its test tells
 abbrev pub told : (List ℕ → ℕ → Bool) → Env

@@ -1,6 +1,6 @@
 // What holds of the meaning of all formulas.
 
-ghost use Rattle.formula.specs.FixpointLaws.{MeaningIsDecided, BodyIsMonotone, IteratesReach, MuIsLeast, NuIsGreatest};
+ghost use Rattle.calculus.specs.FixpointLaws.{MeaningIsDecided, BodyIsMonotone, IteratesReach, MuIsLeast, NuIsGreatest};
 
 /// At each state a formula holds or not, and a test tells which.
 pub fn meaning_is_decided()

@@ -3,12 +3,12 @@ use Rattle.std.proofs.Common.{◌≡◌, ℕ, zero, suc, ◌<◌, Bool, true, fa
 use Rattle.std.specs.Prelude.{IsTrue, MatchBool, if◌then◌else◌}
 use Rattle.std.specs.Str.{bytes_eq}
 use Rattle.lts.specs.System.{System, IsSystem}
-use Rattle.formula.specs.Tree.{Formula, True, False, Var, Not, And, Or, Implies, Dia, Box, Mu, Nu}
-use Rattle.formula.specs.Admitted.{Scope, negated, is_free_to_stand, is_admitted_in}
-use Rattle.formula.specs.Meaning.{Env, with_set, iterate, mean}
+use Rattle.calculus.specs.Tree.{Formula, True, False, Var, Not, And, Or, Implies, Dia, Box, Mu, Nu}
+use Rattle.calculus.specs.Admitted.{Scope, negated, is_free_to_stand, is_admitted_in}
+use Rattle.calculus.specs.Meaning.{Env, with_set, iterate, mean}
 use Rattle.std.proofs.lemmas.Bool.{and_parts}
-use Rattle.formula.proofs.Inside.{leads_inside}
-use Rattle.formula.proofs.Fixpoints.{IsWithin}
+use Rattle.calculus.proofs.Inside.{leads_inside}
+use Rattle.calculus.proofs.Fixpoints.{IsWithin}
 
 -- a name may stand below two negations where it may stand below none
 twice : (name : List ℕ) (scope : Scope) → is_free_to_stand name (negated (negated scope)) ≡ is_free_to_stand name scope

@@ -5,12 +5,12 @@ use Rattle.std.specs.List.{list_any}
 use Rattle.std.specs.Str.{bytes_eq}
 use Rattle.lts.specs.Path.{IsPath}
 use Rattle.lts.specs.System.{System, IsSystem}
-use Rattle.formula.specs.Tree.{Action, Regular, Step, Then, Either, Star, Plus, Formula, True, False, Var, Not, And, Or, Implies, Dia, Box, Mu, Nu}
-use Rattle.formula.specs.Meaning.{Leads, Env, with_set, iterate, mean}
-use Rattle.formula.proofs.Telling.{false_is_none, of_not, of_and, of_or, of_implies}
-use Rattle.formula.proofs.Inside.{leads_inside}
-use Rattle.formula.proofs.Entering.{enters, enters_leads}
-use Rattle.formula.proofs.Fixpoints.{IsDecided, IsWithin, in_closed, low, low_closed}
+use Rattle.calculus.specs.Tree.{Action, Regular, Step, Then, Either, Star, Plus, Formula, True, False, Var, Not, And, Or, Implies, Dia, Box, Mu, Nu}
+use Rattle.calculus.specs.Meaning.{Leads, Env, with_set, iterate, mean}
+use Rattle.calculus.proofs.Telling.{false_is_none, of_not, of_and, of_or, of_implies}
+use Rattle.calculus.proofs.Inside.{leads_inside}
+use Rattle.calculus.proofs.Entering.{enters, enters_leads}
+use Rattle.calculus.proofs.Fixpoints.{IsDecided, IsWithin, in_closed, low, low_closed}
 
 -- from all marked: none is unmarked
 of_all : (b : Bool) (P : Type 0) → IsTrue b ↔ P → (IsTrue (not b) → ⊥) → P

@@ -3,9 +3,9 @@ use Rattle.std.proofs.Common.{ℕ, zero, suc, ◌<◌, ◌↔◌, true, false, L
 use Rattle.std.specs.Prelude.{MatchBool}
 use Rattle.std.specs.Str.{bytes_eq}
 use Rattle.lts.specs.System.{System, IsSystem}
-use Rattle.formula.specs.Tree.{Formula, True, False, Var, Not, And, Or, Implies, Dia, Box, Mu, Nu}
-use Rattle.formula.specs.Meaning.{Env, with_set, iterate, mean}
-use Rattle.formula.proofs.Inside.{leads_inside}
+use Rattle.calculus.specs.Tree.{Formula, True, False, Var, Not, And, Or, Implies, Dia, Box, Mu, Nu}
+use Rattle.calculus.specs.Meaning.{Env, with_set, iterate, mean}
+use Rattle.calculus.proofs.Inside.{leads_inside}
 
 abbrev pub Same : ℕ → (ℕ → Type 0) → (ℕ → Type 0) → Type 0
 Same n P Q = (s : ℕ) → s < n → P s ↔ Q s

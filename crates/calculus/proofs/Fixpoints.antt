@@ -1,8 +1,8 @@
 -- Over n states the nth iterates are the least and the greatest fixpoint, where the map is monotone and keeps sets decided.
 use Rattle.std.proofs.Common.{◌≡◌, ℕ, zero, suc, ◌-◌, ◌<◌, ◌≤◌, ◌⊎◌, ◌↔◌, Bool, true, false, refl, sym, subst, inl, inr, arith, true≢false}
 use Rattle.std.specs.Prelude.{IsTrue}
-use Rattle.formula.specs.Meaning.{iterate}
-use Rattle.formula.proofs.Counted.{how_many, at_most_all, same_or_more}
+use Rattle.calculus.specs.Meaning.{iterate}
+use Rattle.calculus.proofs.Counted.{how_many, at_most_all, same_or_more}
 
 -- a test tells which states are in the set
 abbrev pub IsDecided : ℕ → (ℕ → Type 0) → Type 0

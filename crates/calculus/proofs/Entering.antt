@@ -5,9 +5,9 @@ use Rattle.std.specs.List.{list_any, Any}
 use Rattle.std.proofs.lemmas.Bool.{and_parts, eqb-true, eq-eqb}
 use Rattle.std.proofs.lemmas.List.Folds.{Any-from_list_any, list_any-from_Any}
 use Rattle.lts.specs.System.{Arrow, System}
-use Rattle.formula.specs.Tree.{Action, Step}
-use Rattle.formula.specs.Holds.{holds}
-use Rattle.formula.specs.Meaning.{Leads}
+use Rattle.calculus.specs.Tree.{Action, Step}
+use Rattle.calculus.specs.Holds.{holds}
+use Rattle.calculus.specs.Meaning.{Leads}
 
 -- the arrow leads from s by the action into the set
 abbrev pub enters : Action → (ℕ → Bool) → ℕ → Arrow → Bool
