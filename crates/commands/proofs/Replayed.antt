@@ -1,9 +1,9 @@
 -- What is told of a replay whose system, formula or game is refused.
 use Rattle.std.proofs.Common.{ℕ, List, [], Option, Some, None, refl}
 use Rattle.std.specs.Io.KnownBytes.{Keeps}
-use Rattle.engines.specs.Check as check
-use Rattle.engines.specs.declared.error.MuError.{MuError}
-use Rattle.engines.specs.declared.error.MuError.TheVariants as error
+use Rattle.requests.specs.Check as check
+use Rattle.requests.specs.declared.error.MuError.{MuError}
+use Rattle.requests.specs.declared.error.MuError.TheVariants as error
 use Rattle.commands.specs.Replays.{HasRefused, way}
 
 kept : (held : Option (List ℕ)) → Keeps held held

@@ -1,6 +1,6 @@
 -- What a command has.
 use Rattle.std.specs.Prelude.{◌≢◌, ◌≤◌, [], IfSome}
-use Rattle.engines.specs.declared.request.Options.{Options}
+use Rattle.requests.specs.declared.request.Options.{Options}
 use Rattle.commands.specs.declared.request.Outputs.{Outputs}
 use Rattle.commands.specs.declared.request.Command.{Command}
 use Rattle.commands.specs.declared.request.Command.TheVariants.{Check, Normal, Replay, Solve, Verify}

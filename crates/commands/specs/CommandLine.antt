@@ -14,10 +14,10 @@ use Rattle.normal.specs.declared.priorities.Priorities.{Priorities}
 use Rattle.normal.specs.declared.priorities.Priorities.TheVariants.{Dependent, Nested}
 use Rattle.workers.specs.declared.team.BoardKind.{BoardKind}
 use Rattle.workers.specs.declared.team.BoardKind.TheVariants as board
-use Rattle.engines.specs.declared.error.MuError.{MuError}
-use Rattle.engines.specs.declared.error.MuError.TheVariants as error
-use Rattle.engines.specs.declared.request.Check.{Check as CheckRequest}
-use Rattle.engines.specs.declared.request.Options.{Options}
+use Rattle.requests.specs.declared.error.MuError.{MuError}
+use Rattle.requests.specs.declared.error.MuError.TheVariants as error
+use Rattle.requests.specs.declared.request.Check.{Check as CheckRequest}
+use Rattle.requests.specs.declared.request.Options.{Options}
 use Rattle.commands.specs.declared.request.Command.{Command}
 use Rattle.commands.specs.declared.request.Command.TheVariants.{Check, Normal, Replay, Solve, Verify}
 use Rattle.commands.specs.declared.request.Normal.{Normal as NormalRequest}

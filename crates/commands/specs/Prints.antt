@@ -12,9 +12,9 @@ use Rattle.normal.specs.Nodes.{greatest_priority}
 use Rattle.normal.specs.Rules.{nodes_with}
 use Rattle.normal.specs.NormalText.{normal_text}
 use Rattle.normal.specs.Refused.{HasRefusalWith}
-use Rattle.engines.specs.Texts.{IsFormulaOf}
-use Rattle.engines.specs.declared.error.MuError.{MuError}
-use Rattle.engines.specs.declared.error.MuError.TheVariants as error
+use Rattle.requests.specs.Texts.{IsFormulaOf}
+use Rattle.requests.specs.declared.error.MuError.{MuError}
+use Rattle.requests.specs.declared.error.MuError.TheVariants as error
 
 -- The text spells the formula, whose normal form by the rule is within the limits.
 pub record HasForm (priorities : Priorities) (text : List ℕ) (f : Formula) : Type 0 where

@@ -12,11 +12,11 @@ use Rattle.liftcore.specs.Replay.{replay_text}
 use Rattle.liftcore.specs.Runs.{Comes}
 use Rattle.liftcore.specs.declared.event.Event.{Event}
 use Rattle.liftcore.specs.declared.error.ScheduleError.{ScheduleError}
-use Rattle.engines.specs.Check as check
-use Rattle.engines.specs.Check.{AreSpelled, ByGame, HasGame, Way, game_of}
-use Rattle.engines.specs.Texts.{IsReadFault}
-use Rattle.engines.specs.declared.error.MuError.{MuError}
-use Rattle.engines.specs.declared.error.MuError.TheVariants as error
+use Rattle.requests.specs.Check as check
+use Rattle.requests.specs.Check.{AreSpelled, ByGame, HasGame, Way, game_of}
+use Rattle.requests.specs.Texts.{IsReadFault}
+use Rattle.requests.specs.declared.error.MuError.{MuError}
+use Rattle.requests.specs.declared.error.MuError.TheVariants as error
 use Rattle.commands.specs.Spelled.{IsScheduleOf, IsScheduleTold}
 
 -- the game of the system and the formula, by the nested rule

@@ -4,9 +4,9 @@ use Rattle.std.specs.Io.KnownBytes.{Appends, Keeps}
 use Rattle.text.specs.Wrote.{WroteFront}
 use Rattle.game.specs.Game.{Game}
 use Rattle.workers.specs.declared.team.BoardKind.{BoardKind}
-use Rattle.engines.specs.declared.error.MuError.{MuError}
-use Rattle.engines.specs.declared.error.MuError.TheVariants as error
-use Rattle.engines.specs.Solver.{IsFitting, IsUnsolved}
+use Rattle.requests.specs.declared.error.MuError.{MuError}
+use Rattle.requests.specs.declared.error.MuError.TheVariants as error
+use Rattle.requests.specs.Solver.{IsFitting, IsUnsolved}
 use Rattle.commands.specs.Spelled.{IsGameOf, IsGameTold}
 use Rattle.commands.specs.Winners.{AreWinners, winners_text}
 

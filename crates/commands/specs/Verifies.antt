@@ -12,8 +12,8 @@ use Rattle.evidence.specs.declared.verdict.Verdict.{Verdict}
 use Rattle.evidence.specs.declared.verdict.Verdict.TheVariants as verdict
 use Rattle.evidence.specs.declared.verdict.Both.{Both}
 use Rattle.evidence.specs.declared.verdict.Both.TheVariants as both
-use Rattle.engines.specs.declared.error.MuError.{MuError}
-use Rattle.engines.specs.declared.error.MuError.TheVariants as error
+use Rattle.requests.specs.declared.error.MuError.{MuError}
+use Rattle.requests.specs.declared.error.MuError.TheVariants as error
 use Rattle.commands.specs.Spelled.{IsEvidenceOf, IsEvidenceTold, IsGameOf, IsGameTold}
 
 -- ------------------------------------------------------------------ of one piece of evidence

@@ -28,8 +28,8 @@ use crate::parser::{
 use crate::request::{Command, Normal, Outputs, Replay, Solve, Verify};
 use clap::error::ErrorKind;
 use clap::{ArgMatches, Error as ClapError};
-use engines::error::{ArgumentError, MuError};
-use engines::request::{BoardKind, Check, Options};
+use requests::error::{ArgumentError, MuError};
+use requests::request::{BoardKind, Check, Options};
 use normal::priorities::Priorities;
 use std::alloc::Global;
 

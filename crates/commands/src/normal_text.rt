@@ -2,12 +2,12 @@
 
 ghost use Rattle.std.specs.Prelude.{ℕ, List};
 ghost use Rattle.calculus.specs.Closed.{closed_formula};
-ghost use Rattle.engines.specs.Texts.{IsFormulaOf};
+ghost use Rattle.requests.specs.Texts.{IsFormulaOf};
 ghost use Rattle.commands.specs.Prints.{Answers, Prints};
 
+use requests::error::MuError;
+use requests::texts::read_formula;
 use calculus::closed::Closed;
-use engines::error::MuError;
-use engines::texts::read_formula;
 use normal::make::normal_with;
 use normal::printer::print_normal;
 use normal::priorities::Priorities;

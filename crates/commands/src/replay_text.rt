@@ -6,15 +6,15 @@ ghost use Rattle.calculus.specs.Tree.{Formula};
 ghost use Rattle.calculus.specs.Closed.{closed_formula};
 ghost use Rattle.normal.specs.declared.priorities.Priorities.TheVariants.{Nested};
 ghost use Rattle.liftcore.specs.Core.{start};
-ghost use Rattle.engines.specs.Check.{AreSpelled, HasGame};
-ghost use Rattle.engines.specs.Findings.{IsGameOf};
-ghost use Rattle.engines.specs.Texts.{IsReadFault};
+ghost use Rattle.requests.specs.Check.{AreSpelled, HasGame};
+ghost use Rattle.requests.specs.Check.{IsArenaOf};
+ghost use Rattle.requests.specs.Texts.{IsReadFault};
 ghost use Rattle.commands.specs.Replays.{Answers, IsUnread, Replays, nested_game};
 ghost use Rattle.commands.specs.Spelled.{IsScheduleOf};
 
-use engines::arena::game_of;
-use engines::error::MuError;
-use engines::texts::{Texts, read_both};
+use requests::arena::game_of;
+use requests::error::MuError;
+use requests::texts::{Texts, read_both};
 use game::graph::Game;
 use liftcore::error::{CoreError, ScheduleError};
 use liftcore::event::Event;
@@ -77,7 +77,7 @@ fn replay_in<T: Read + Drop, W: Write>(
     workers: u32,
     out: &mut W,
 ) -> Result<bool, MuError>
-    ensures { (first second third : List ℕ) (l : System) (f : Formula) → AreSpelled first second l f → IsGameOf Nested l f game.now → T.remaining schedule ≡ Some third
+    ensures { (first second third : List ℕ) (l : System) (f : Formula) → AreSpelled first second l f → IsArenaOf Nested l f game.now → T.remaining schedule ≡ Some third
         → Answers workers first second third (W.contents out.old) (W.contents out.new) result }
 {
     match read_events(alloc, schedule, workers, game.vertices()) {
@@ -127,7 +127,7 @@ fn replay_events<W: Write>(
     workers: u32,
     out: &mut W,
 ) -> Result<bool, MuError>
-    ensures { (first second third : List ℕ) (l : System) (f : Formula) → AreSpelled first second l f → IsGameOf Nested l f game.now
+    ensures { (first second third : List ℕ) (l : System) (f : Formula) → AreSpelled first second l f → IsArenaOf Nested l f game.now
         → IsScheduleOf workers (length game.now.vertices) third events.now → Answers workers first second third (W.contents out.old) (W.contents out.new) result }
 {
     match Core::new(alloc, game, workers as usize) {

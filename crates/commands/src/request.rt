@@ -1,6 +1,6 @@
 // What the program can be asked to do. The files are named as on the command line.
 
-use engines::request::{Check, Options};
+use requests::request::{Check, Options};
 use normal::priorities::Priorities;
 
 /// What the program is asked to do.

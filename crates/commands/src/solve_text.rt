@@ -2,14 +2,14 @@
 
 ghost use Rattle.std.specs.Prelude.{◌≡◌, ℕ, List, Some};
 ghost use Rattle.workers.specs.declared.team.BoardKind.{BoardKind};
-ghost use Rattle.engines.specs.Solver.{IsFitting};
+ghost use Rattle.requests.specs.Solver.{IsFitting};
 ghost use Rattle.commands.specs.Spelled.{IsGameOf};
 ghost use Rattle.commands.specs.Solves.{Answers, Solves};
 
 use crate::winners::{winners, winners_text};
-use engines::error::MuError;
-use engines::request::Options;
-use engines::solver::solve_with;
+use requests::error::MuError;
+use requests::request::Options;
+use requests::solver::solve_with;
 use game::graph::Game;
 use lts::put;
 use measures::table::Settled;

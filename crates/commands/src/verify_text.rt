@@ -4,7 +4,7 @@ ghost use Rattle.std.specs.Prelude.{◌≡◌, ℕ, List, Some};
 ghost use Rattle.commands.specs.Spelled.{IsEvidenceOf, IsGameOf};
 ghost use Rattle.commands.specs.Verifies.{Answers, AnswersBoth, Verifies, VerifiesBoth};
 
-use engines::error::MuError;
+use requests::error::MuError;
 use evidence::evidence::Evidence;
 use evidence::reader::read_evidence;
 use evidence::verdict::{Both, Verdict};

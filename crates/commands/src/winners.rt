@@ -6,7 +6,7 @@ ghost use Rattle.calculus.specs.Meaning.{Marks};
 ghost use Rattle.game.specs.Wins.{Wins};
 ghost use Rattle.commands.specs.Winners.{AreWinners, even_or_odd, sizes_text, winner_lines, winners_text as text_of};
 
-use engines::error::MuError;
+use requests::error::MuError;
 use game::graph::Game;
 use laws::games::{not_both_win, one_wins};
 use lts::{Piece, WriteFault, put_pieces};

@@ -2,9 +2,9 @@
 use Rattle.std.proofs.Common.{◌≡◌, ℕ, List, [], ◌∷◌, ◌++◌, Option, Some, None, inl, inr, refl, subst, sym}
 use Rattle.std.proofs.KnownBytes.{Keeps-refl}
 use Rattle.std.specs.Borrow.{MutBor}
-use Rattle.engines.specs.declared.writers.EvidenceWriters.{EvidenceWriters}
-use Rattle.engines.specs.declared.writers.EvidenceWriters.TheVariants.{Neither, Both}
-use Rattle.engines.specs.Writers.{AreKept, Left, LeftBoth, Lent, evidence_writers, game_writer, nobody, report_writer}
+use Rattle.requests.specs.declared.writers.EvidenceWriters.{EvidenceWriters}
+use Rattle.requests.specs.declared.writers.EvidenceWriters.TheVariants.{Neither, Both}
+use Rattle.requests.specs.Writers.{AreKept, Left, LeftBoth, Lent, evidence_writers, game_writer, no_writer, report_writer}
 
 -- What is left of a writer that was not written to keeps its bytes.
 pub kept_game : {G : Type 0} → (contents : G → Option (List ℕ)) (game : Option (MutBor G)) (left : Left G) → ((x : MutBor G) → game ≡ Some x → left ≡ inr (inl (x, tt)))
@@ -26,7 +26,7 @@ kept_both (w ∷ ws) vs h k = (h.0, kept_both ws vs h.1 k)
 pub kept_all : {G E O : Type 0} → (contents : G → Option (List ℕ)) (evens : E → Option (List ℕ)) (odds : O → Option (List ℕ)) (game : Option (MutBor G)) (left : Left G)
     → (evidence : EvidenceWriters E O) (left_both : LeftBoth E O) (out : Option (List ℕ)) → ((x : MutBor G) → game ≡ Some x → left ≡ inr (inl (x, tt)))
     → ((x : MutBor E) (y : MutBor O) → evidence ≡ Both x y → left_both ≡ inr (inl (x, (y, tt))))
-    → AreKept (game_writer contents game left ++ (evidence_writers evens odds evidence left_both ++ (nobody ∷ report_writer out out)))
+    → AreKept (game_writer contents game left ++ (evidence_writers evens odds evidence left_both ++ (no_writer ∷ report_writer out out)))
 kept_all contents evens odds game left evidence left_both out same same_both =
-    kept_both (game_writer contents game left) (evidence_writers evens odds evidence left_both ++ (nobody ∷ report_writer out out)) (kept_game contents game left same)
-    (kept_both (evidence_writers evens odds evidence left_both) (nobody ∷ report_writer out out) (kept_evidence evens odds evidence left_both same_both) (tt, (Keeps-refl out, tt)))
+    kept_both (game_writer contents game left) (evidence_writers evens odds evidence left_both ++ (no_writer ∷ report_writer out out)) (kept_game contents game left same)
+    (kept_both (evidence_writers evens odds evidence left_both) (no_writer ∷ report_writer out out) (kept_evidence evens odds evidence left_both same_both) (tt, (Keeps-refl out, tt)))

@@ -1,5 +1,4 @@
 mod Lines
-mod Fronts
 mod Checks
 mod Limits
 mod Roots

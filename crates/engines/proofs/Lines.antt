@@ -2,7 +2,7 @@
 use Rattle.std.proofs.Common.{◌≡◌, ◌+◌, ◌<◌, ◌≤◌, ℕ, Bool, false, List, [], ◌++◌, length, drop, get_or, decimal, refl, sym, ap, ◌∙◌, append_assoc, add-one}
 use Rattle.std.proofs.Math.Seq.{drop-cons}
 use Rattle.std.proofs.Math.ListN.{drop_of_length-le}
-use Rattle.engines.specs.Report.{yes_or_no, state_lines}
+use Rattle.requests.specs.Report.{yes_or_no, state_lines}
 
 -- the lines from a state on begin with that state's
 pub next_line : (marks : List Bool) (s : ℕ) → s < length marks

@@ -8,7 +8,7 @@ use Rattle.game.specs.Game.{Game}
 use Rattle.pgsolver.specs.Canon.{game_text}
 use Rattle.engines.specs.declared.findings.Findings.{Findings}
 use Rattle.engines.specs.Findings.{AreFindings, IsTextFound}
-use Rattle.engines.specs.Writers.{Kind, GameText, Unasked, Lent, IsWhole, AreWritten, AreWrittenUpTo, lent_for}
+use Rattle.requests.specs.Writers.{Kind, GameText, Unasked, Lent, IsWhole, AreWritten, AreWrittenUpTo, lent_for}
 
 -- a call that failed
 pub stopped_at : {T E : Type 0} → (IsText : Kind → List ℕ → Type 0) (ws : List Lent) (r : Result T E) → IsErr r → AreWrittenUpTo IsText ws → AreWritten IsText ws r

@@ -15,9 +15,9 @@ use Rattle.engines.specs.declared.findings.EvidencePair.{EvidencePair}
 use Rattle.engines.specs.declared.findings.Findings.{Findings}
 use Rattle.engines.specs.declared.prepared.Prepared.{Prepared}
 use Rattle.engines.specs.declared.prepared.Shown.{Shown}
-use Rattle.engines.specs.declared.request.Wanted.{Wanted}
+use Rattle.requests.specs.declared.request.Wanted.{Wanted}
 use Rattle.engines.specs.Findings.{AreFindings, IsPairOf, IsTextFound}
-use Rattle.engines.specs.Writers.{EvenText, GameText, OddText, Unasked, Lent, AreKept, AreWhole, AreWritten, AreWrittenUpTo, all_writers, kind_where, lent_for, report_writer, witness_kind}
+use Rattle.requests.specs.Writers.{EvenText, GameText, OddText, Unasked, Lent, AreKept, AreWhole, AreWritten, AreWrittenUpTo, all_writers, kind_where, lent_for, report_writer, witness_kind}
 use Rattle.engines.proofs.Orders.{stopped_at, then_more, unasked}
 
 -- ------------------------------------------------------------------ the witness

@@ -16,7 +16,7 @@ use Rattle.normal.specs.Tree.{normal_form}
 use Rattle.normal.specs.Nodes.{Node}
 use Rattle.laws.specs.Admissible.{IsNodes}
 use Rattle.laws.specs.Laws.{EvenWinsFormula}
-use Rattle.engines.specs.Roots.{HasRoots, WinsRoot}
+use Rattle.requests.specs.Roots.{HasRoots, WinsRoot}
 
 pub root_names : (states s : ℕ) (g : Game) → HasRoots states g → s < states → AreNames g s 0
 root_names states s g (nodes, some, named) h = subst (λ n. MatchOption n ⊥ (λ m. (s < m.0) × (0 < m.1))) (sym named) (h, omega (arith, some))

@@ -11,7 +11,7 @@ use Rattle.measures.specs.Laws.{OneWins}
 use Rattle.evidence.specs.Evidence.{IsGood, has}
 use Rattle.evidence.specs.View.{Piece}
 use Rattle.evidence.specs.declared.error.EvidenceError.{EvidenceError}
-use Rattle.engines.specs.Roots.{WinsRoot}
+use Rattle.requests.specs.Roots.{WinsRoot}
 use Rattle.engines.specs.Findings.{AreFindings, IsWinning, formula_of, system_of}
 use Rattle.engines.specs.declared.findings.Findings.{Findings}
 use Rattle.engines.proofs.Limits.{nodes_some}

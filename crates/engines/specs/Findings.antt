@@ -18,35 +18,29 @@ use Rattle.evidence.specs.Evidence.{IsGood, has}
 use Rattle.evidence.specs.View.{Piece}
 use Rattle.evidence.specs.declared.error.EvidenceError.TheVariants as evidence
 use Rattle.witness.specs.Witness.{IsWitness}
-use Rattle.engines.specs.declared.error.MuError.{MuError}
-use Rattle.engines.specs.declared.error.MuError.TheVariants as error
-use Rattle.engines.specs.declared.request.Wanted.{Wanted}
+use Rattle.requests.specs.declared.error.MuError.{MuError}
+use Rattle.requests.specs.declared.error.MuError.TheVariants as error
+use Rattle.requests.specs.declared.request.Wanted.{Wanted}
 use Rattle.engines.specs.declared.prepared.Prepared.{Prepared}
 use Rattle.engines.specs.declared.prepared.Shown.{Shown}
 use Rattle.engines.specs.declared.lifting.SolvedGame.{SolvedGame}
 use Rattle.engines.specs.declared.findings.Findings.{Findings}
 use Rattle.engines.specs.declared.findings.Posed.{Posed}
 use Rattle.engines.specs.declared.findings.EvidencePair.{EvidencePair}
-use Rattle.engines.specs.Check.{Way, ByGame, HasGame, AreMarks, IsTextOf, game_of}
-use Rattle.engines.specs.Report.{report}
-use Rattle.engines.specs.Solver.{IsFitting}
-use Rattle.engines.specs.Writers.{Kind}
+use Rattle.requests.specs.Check.{Way, ByGame, HasGame, AreMarks, IsArenaOf, IsTextOf, game_of}
+use Rattle.requests.specs.Report.{report}
+use Rattle.requests.specs.Solver.{IsFitting}
+use Rattle.requests.specs.Writers.{Kind}
 
--- The game is that of the system and the formula.
-pub record IsGameOf (rule : Priorities) (l : System) (f : Formula) (g : Game) : Type 0 where
-  pub within : HasGame rule l f
-  pub same : g ≡ game_of rule l f
-  pub low : greatest g ≤ GREATEST_PRIORITY
-
--- and is solved, over the board that was asked for, if one was
+-- The game is that of the system and the formula, and is solved, over the board that was asked for, if one was
 pub record IsSolvedGame (l : System) (f : Formula) (s : SolvedGame) : Type 0 where
-  pub game : IsGameOf s.priorities l f (arc_value s.game)
+  pub game : IsArenaOf s.priorities l f (arc_value s.game)
   pub board : IsFitting s.board (arc_value s.game)
   pub settled : s.settled.game ≡ arc_value s.game
 
 -- The game that is to be solved is that of the texts.
 abbrev pub ArePosed : Posed → Type 0
-ArePosed x = IsGameOf x.priorities x.texts.value.system.system (closed_formula x.texts.value.formula) (arc_value x.game)
+ArePosed x = IsArenaOf x.priorities x.texts.value.system.system (closed_formula x.texts.value.formula) (arc_value x.game)
 
 abbrev pub system_of : Findings → System
 system_of x = x.texts.value.system.system

@@ -1,10 +1,2 @@
-pub mod Report
-pub mod Example
-pub mod Texts
-pub mod Writers
-pub mod Check
 pub mod Findings
 pub mod Status
-pub mod Command
-pub mod Roots
-pub mod Solver

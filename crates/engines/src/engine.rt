@@ -2,20 +2,21 @@
 
 ghost use Rattle.std.specs.Prelude.{◌≡◌, ◌∷◌, ◌++◌, [], ℕ, List, None, Some, IfErr, MatchResult};
 ghost use Rattle.calculus.specs.Closed.{closed_formula};
-ghost use Rattle.engines.specs.Check.{BySets, ByGame, AreMarks, AreSpelled, Answers, Checks, IsBeyond, IsErrorOf};
-ghost use Rattle.engines.specs.Command.{wanted_in, way_of};
+ghost use Rattle.requests.specs.Check.{BySets, ByGame, AreMarks, AreSpelled, Answers, Checks, IsBeyond, IsErrorOf};
+ghost use Rattle.requests.specs.Command.{wanted_in, way_of};
 ghost use Rattle.engines.specs.Findings.{AreFindings, formula_of, system_of, way_in};
-ghost use Rattle.engines.specs.Writers.{all_writers, evidence_writers, game_writer, nobody, report_writer};
+ghost use Rattle.requests.specs.Writers.{all_writers, evidence_writers, game_writer, no_writer, report_writer};
 
-use crate::error::MuError;
+use requests::error::MuError;
 use crate::findings::{Findings, find_alone, find_seen, find_with};
 use crate::outputs::{answer, put_wanted};
 use crate::prepared::prepare;
 use crate::report::report_text;
-use crate::request::{Check, Options, Wanted};
-use crate::texts::{Texts, read_both_seen};
-use crate::watch::Watcher;
-use crate::writers::{EvidenceWriters, Nobody};
+use requests::request::{Check, Options, Wanted};
+use requests::texts::{Texts, read_both_seen};
+use requests::watch::Watcher;
+use crate::no_writer::NoWriter;
+use requests::writers::EvidenceWriters;
 use lts::{Memory, put};
 use meaning::plain::plain_states;
 use measures::observer::{Observer, Silent, Stage};
@@ -63,10 +64,10 @@ macro_rules! answer_lent {
                     $alloc,
                     $found,
                     REPORT,
-                    &mut Nobody,
-                    &mut Nobody,
-                    &mut Nobody,
-                    &mut Nobody,
+                    &mut NoWriter,
+                    &mut NoWriter,
+                    &mut NoWriter,
+                    &mut NoWriter,
                     $out,
                 ),
                 Some(game) => answer_wanted(
@@ -74,9 +75,9 @@ macro_rules! answer_lent {
                     $found,
                     GAME,
                     game,
-                    &mut Nobody,
-                    &mut Nobody,
-                    &mut Nobody,
+                    &mut NoWriter,
+                    &mut NoWriter,
+                    &mut NoWriter,
                     $out,
                 ),
             },
@@ -85,14 +86,14 @@ macro_rules! answer_lent {
                     $alloc,
                     $found,
                     EVIDENCE,
-                    &mut Nobody,
+                    &mut NoWriter,
                     even,
                     odd,
-                    &mut Nobody,
+                    &mut NoWriter,
                     $out,
                 ),
                 Some(game) => {
-                    answer_wanted($alloc, $found, BOTH, game, even, odd, &mut Nobody, $out)
+                    answer_wanted($alloc, $found, BOTH, game, even, odd, &mut NoWriter, $out)
                 }
             },
         }
@@ -246,7 +247,7 @@ pub fn check<
     evidence: EvidenceWriters<'_, E, O>,
 ) -> Result<bool, MuError>
     ensures { Checks (ByGame options.now.priorities (Some options.now.board)) (R.remaining aut) (S.remaining formula)
-        (game_writer G.contents game.entry game.exit ++ (evidence_writers E.contents O.contents evidence.entry evidence.exit ++ (nobody ∷ report_writer (W.contents out.old) (W.contents out.new)))) result }
+        (game_writer G.contents game.entry game.exit ++ (evidence_writers E.contents O.contents evidence.entry evidence.exit ++ (no_writer ∷ report_writer (W.contents out.old) (W.contents out.new)))) result }
 {
     let found = match find_with(rt, alloc, aut, formula, options, &NoGate) {
         Ok(found) => found,
@@ -280,7 +281,7 @@ pub fn check_gated<
     gate: &T,
 ) -> Result<bool, MuError>
     ensures { Checks (ByGame options.now.priorities (Some options.now.board)) (R.remaining aut) (S.remaining formula)
-        (game_writer G.contents game.entry game.exit ++ (evidence_writers E.contents O.contents evidence.entry evidence.exit ++ (nobody ∷ report_writer (W.contents out.old) (W.contents out.new)))) result }
+        (game_writer G.contents game.entry game.exit ++ (evidence_writers E.contents O.contents evidence.entry evidence.exit ++ (no_writer ∷ report_writer (W.contents out.old) (W.contents out.new)))) result }
 {
     let found = match find_with(rt, alloc, aut, formula, options, gate) {
         Ok(found) => found,
@@ -356,7 +357,7 @@ pub fn check_one<
     evidence: EvidenceWriters<'_, E, O>,
 ) -> Result<bool, MuError>
     ensures { Checks (ByGame options.now.priorities None) (R.remaining aut) (S.remaining formula)
-        (game_writer G.contents game.entry game.exit ++ (evidence_writers E.contents O.contents evidence.entry evidence.exit ++ (nobody ∷ report_writer (W.contents out.old) (W.contents out.new)))) result }
+        (game_writer G.contents game.entry game.exit ++ (evidence_writers E.contents O.contents evidence.entry evidence.exit ++ (no_writer ∷ report_writer (W.contents out.old) (W.contents out.new)))) result }
 {
     let found = match find_alone(rt, alloc, aut, formula, options.priorities) {
         Ok(found) => found,

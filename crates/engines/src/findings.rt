@@ -4,19 +4,19 @@ ghost use Rattle.std.specs.Prelude.{◌≡◌, IfOk, IfErr, ℕ, List, Some, Non
 ghost use Rattle.std.specs.Arc.{arc_value};
 ghost use Rattle.calculus.specs.Closed.{closed_formula};
 ghost use Rattle.workers.specs.declared.team.BoardKind.{BoardKind};
-ghost use Rattle.engines.specs.Check.{ByGame, AreSpelled, HasRefused, IsBeyond};
+ghost use Rattle.requests.specs.Check.{ByGame, AreSpelled, HasRefused, IsBeyond};
 ghost use Rattle.engines.specs.Findings.{AreFindings, ArePosed, IsPairOf, formula_of, system_of, way_in};
-ghost use Rattle.engines.specs.Solver.{IsFitting, IsUnsolved};
-ghost use Rattle.engines.specs.Writers.{AreKept, Lent};
+ghost use Rattle.requests.specs.Solver.{IsFitting, IsUnsolved};
+ghost use Rattle.requests.specs.Writers.{AreKept, Lent};
 
-use crate::arena::game_of;
-use crate::error::MuError;
+use requests::arena::game_of;
+use requests::error::MuError;
 use crate::lifting::{SolvedGame, state_marks};
 use crate::report::report_text;
-use crate::request::Options;
-use crate::solver::solve_seen;
-use crate::texts::{Texts, read_both_seen};
-use crate::watch::Watcher;
+use requests::request::Options;
+use requests::solver::solve_seen;
+use requests::texts::{Texts, read_both_seen};
+use requests::watch::Watcher;
 use evidence::error::EvidenceError;
 use evidence::evidence::Evidence;
 use evidence::make::{even_evidence, odd_evidence};

@@ -3,11 +3,11 @@
 ghost use Rattle.std.specs.Prelude.{◌≡◌, ◌≤◌, IfOk, IfErr};
 ghost use Rattle.calculus.specs.Closed.{closed_formula};
 ghost use Rattle.calculus.specs.Meaning.{Marks};
-ghost use Rattle.engines.specs.Check.{ByGame, AreMarks};
+ghost use Rattle.requests.specs.Check.{ByGame, AreMarks};
 ghost use Rattle.engines.specs.Findings.{IsSolvedGame};
-ghost use Rattle.engines.specs.Roots.{HasRoots, WinsRoot};
+ghost use Rattle.requests.specs.Roots.{HasRoots, WinsRoot};
 
-use crate::error::MuError;
+use requests::error::MuError;
 use calculus::closed::Closed;
 use game::graph::Game;
 use laws::{chosen_is_admissible, even_wins_where_meant};

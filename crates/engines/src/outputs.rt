@@ -2,12 +2,12 @@
 
 ghost use Rattle.std.specs.Prelude.{◌≡◌, ◌∷◌, [], Some, MatchResult, Ok, Err, slice_index_or, false};
 ghost use Rattle.engines.specs.Findings.{AreFindings, ArePrepared, AreShown, IsTextFound};
-ghost use Rattle.engines.specs.Writers.{AreWritten, EvenText, OddText, all_writers, kind_where, lent_for, report_writer, witness_kind};
+ghost use Rattle.requests.specs.Writers.{AreWritten, EvenText, OddText, all_writers, kind_where, lent_for, report_writer, witness_kind};
 
-use crate::error::MuError;
+use requests::error::MuError;
 use crate::findings::Findings;
 use crate::prepared::{Prepared, Shown, initial_mark};
-use crate::request::WitnessForm;
+use requests::request::WitnessForm;
 use evidence::writer::write_evidence;
 use lts::writer::write_part;
 use lts::{WriteFault, put};

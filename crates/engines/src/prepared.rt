@@ -6,9 +6,9 @@ ghost use Rattle.std.specs.Option.{is_some};
 ghost use Rattle.engines.specs.declared.prepared.Shown.{Shown};
 ghost use Rattle.engines.specs.Findings.{AreFindings, ArePrepared, AreShown, IsPairOf, IsUnprepared, IsUnshown, IsWinning};
 
-use crate::error::MuError;
+use requests::error::MuError;
 use crate::findings::{EvidencePair, Findings, evidence_pair};
-use crate::request::{Wanted, WitnessForm};
+use requests::request::{Wanted, WitnessForm};
 use evidence::error::EvidenceError;
 use evidence::evidence::Evidence;
 use evidence::make::{even_evidence, odd_evidence};

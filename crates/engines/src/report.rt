@@ -3,9 +3,9 @@
 ghost use Rattle.std.specs.Prelude.{◌≡◌, ◌++◌, length, count_by, decimal, slice_index_or, false, IfOk, IfErr};
 ghost use Rattle.lts.specs.Wrote.{Wrote};
 ghost use Rattle.calculus.specs.Closed.{closed_formula};
-ghost use Rattle.engines.specs.Report.{report, system_line, formula_line, yes_line, initial_line, state_lines, yes_or_no};
+ghost use Rattle.requests.specs.Report.{report, system_line, formula_line, yes_line, initial_line, state_lines, yes_or_no};
 
-use crate::error::MuError;
+use requests::error::MuError;
 use calculus::closed::Closed;
 use formula::print;
 use lts::system::Lts;

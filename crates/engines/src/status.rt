@@ -3,7 +3,7 @@
 ghost use Rattle.std.specs.Prelude.{◌≡◌};
 ghost use Rattle.engines.specs.Status.{error_status as status_of_error, status_of};
 
-use crate::error::MuError;
+use requests::error::MuError;
 use evidence::error::EvidenceError;
 use formula::error::FormulaError;
 use game::error::BuildError;

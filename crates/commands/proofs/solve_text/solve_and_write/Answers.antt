@@ -1,7 +1,7 @@
 use Rattle.std.proofs.Common.{subst, sym}
 use Rattle.std.specs.Prelude.{Some}
 use Rattle.commands.specs.Spelled.{IsGameOf}
-use Rattle.engines.specs.Solver.{IsFitting}
+use Rattle.requests.specs.Solver.{IsFitting}
 use Rattle.commands.proofs.solve_text.solve_and_write.Goals as goal
 
 pub returns-in-Ok-solve_with : goal.returns-in-Ok-solve_with

@@ -1,5 +1,5 @@
 use Rattle.engines.specs.Findings.{formula_of, system_of, way_in}
-use Rattle.engines.specs.Writers.{all_writers}
+use Rattle.requests.specs.Writers.{all_writers}
 use Rattle.engines.proofs.Checks.{answer_of, unprepared_all}
 use Rattle.engines.proofs.Putting.{as_asked}
 use Rattle.engines.proofs.engine.answer_wanted.Goals as goal

@@ -1,5 +1,5 @@
 use Rattle.engines.specs.Findings.{way_in}
-use Rattle.engines.specs.Writers.{all_writers}
+use Rattle.requests.specs.Writers.{all_writers}
 use Rattle.engines.proofs.Checks.{by_way, kept_writers}
 use Rattle.engines.proofs.engine.check_all.Goals as goal
 

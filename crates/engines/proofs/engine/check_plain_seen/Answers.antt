@@ -1,6 +1,6 @@
 use Rattle.std.proofs.KnownBytes.{Keeps-refl}
-use Rattle.engines.specs.Check.{BySets}
-use Rattle.engines.specs.Writers.{report_writer}
+use Rattle.requests.specs.Check.{BySets}
+use Rattle.requests.specs.Writers.{report_writer}
 use Rattle.engines.proofs.engine.check_plain_seen.Goals as goal
 
 pub returns-in-Ok-clause-checks : goal.returns-in-Ok-clause-checks

@@ -1,7 +1,7 @@
 use Rattle.std.proofs.Common.{None, subst, sym}
 use Rattle.std.proofs.lemmas.Result.{IfErr-weaker}
 use Rattle.engines.specs.declared.findings.Findings.{Findings}
-use Rattle.engines.specs.Check.{ByGame, HasRefused}
+use Rattle.requests.specs.Check.{ByGame, HasRefused}
 use Rattle.engines.proofs.Checks.{spelled_by}
 use Rattle.engines.proofs.findings.find_alone.Goals as goal
 

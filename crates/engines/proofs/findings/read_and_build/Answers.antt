@@ -2,8 +2,8 @@ use Rattle.std.proofs.Common.{subst, sym}
 use Rattle.std.proofs.lemmas.Result.{IfErr-weaker}
 use Rattle.calculus.specs.Closed.{closed_formula}
 use Rattle.engines.specs.declared.findings.Posed.{Posed}
-use Rattle.engines.specs.declared.texts.Texts.{Texts}
-use Rattle.engines.specs.Check.{ByGame, AreSpelled}
+use Rattle.requests.specs.declared.texts.Texts.{Texts}
+use Rattle.requests.specs.Check.{ByGame, AreSpelled}
 use Rattle.engines.proofs.Checks.{beyond_any, beyond_of, spelled_by}
 use Rattle.engines.proofs.findings.read_and_build.Goals as goal
 

@@ -3,7 +3,7 @@ use Rattle.std.specs.Prelude.{◌↔◌, IsTrue}
 use Rattle.game.specs.Game.{Game}
 use Rattle.game.specs.Wins.{Wins}
 use Rattle.calculus.specs.Meaning.{Marks}
-use Rattle.engines.specs.Roots.{WinsRoot}
+use Rattle.requests.specs.Roots.{WinsRoot}
 use Rattle.engines.proofs.Roots.{root_below, marks_more, wins_root}
 use Rattle.engines.proofs.lifting.root_marks.Goals as goal
 

@@ -1,5 +1,5 @@
 use Rattle.calculus.specs.Meaning.{Marks}
-use Rattle.engines.specs.Roots.{WinsRoot}
+use Rattle.requests.specs.Roots.{WinsRoot}
 use Rattle.engines.proofs.lifting.root_marks.Given as goal
 
 abbrev pub invariant-loop-state : goal.invariant-loop-state

@@ -3,8 +3,8 @@ use Rattle.calculus.specs.Closed.{closed_formula}
 use Rattle.calculus.specs.Meaning.{Marks}
 use Rattle.normal.specs.Rules.{nodes_with}
 use Rattle.game.specs.Game.{Game}
-use Rattle.engines.specs.Roots.{WinsRoot}
-use Rattle.engines.specs.Solver.{IsFitting}
+use Rattle.requests.specs.Roots.{WinsRoot}
+use Rattle.requests.specs.Solver.{IsFitting}
 use Rattle.engines.proofs.Limits.{nodes_some}
 use Rattle.engines.proofs.Roots.{arena_roots, roots_mean}
 use Rattle.engines.proofs.lifting.state_marks.Goals as goal

@@ -1,6 +1,6 @@
 use Rattle.std.proofs.Common.{◌∷◌}
 use Rattle.std.proofs.KnownBytes.{Keeps-refl}
-use Rattle.engines.specs.Writers.{lent_for, report_writer, witness_kind}
+use Rattle.requests.specs.Writers.{lent_for, report_writer, witness_kind}
 use Rattle.engines.proofs.Putting.{even_stopped, odd_stopped, pair_in, unpaired_written}
 use Rattle.engines.proofs.outputs.put_after_game.Goals as goal
 

@@ -1,7 +1,7 @@
 use Rattle.std.specs.Prelude.{length, count_by, slice_index_or, false}
 use Rattle.calculus.specs.Closed.{closed_formula}
 use Rattle.lts.proofs.Writing.{Wrote-err, Wrote-after, WroteFront-more, WroteFront-after}
-use Rattle.engines.specs.Report.{system_line, formula_line, yes_line, initial_line}
+use Rattle.requests.specs.Report.{system_line, formula_line, yes_line, initial_line}
 use Rattle.engines.proofs.report.write_report.Goals as goal
 
 pub returns-in_err-write_system_line : goal.returns-in_err-write_system_line

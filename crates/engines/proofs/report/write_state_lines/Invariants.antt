@@ -1,6 +1,6 @@
 use Rattle.std.proofs.Common.{drop}
 use Rattle.lts.proofs.Writing.{HasWritten}
-use Rattle.engines.specs.Report.{state_lines}
+use Rattle.requests.specs.Report.{state_lines}
 use Rattle.engines.proofs.report.write_state_lines.Given as goal
 
 abbrev pub invariant-loop-state : goal.invariant-loop-state

@@ -6,8 +6,8 @@ use Rattle.calculus.specs.Tree.{Formula}
 use Rattle.formula.specs.Spells.{Spells, SpellsWithin}
 use Rattle.calculus.specs.Admitted.{IsAdmitted}
 use Rattle.formula.specs.Checked.{IsTold}
-use Rattle.engines.specs.declared.error.MuError.{MuError}
-use Rattle.engines.specs.declared.error.MuError.TheVariants as error
+use Rattle.requests.specs.declared.error.MuError.{MuError}
+use Rattle.requests.specs.declared.error.MuError.TheVariants as error
 
 -- the text spells this system alone
 pub record IsSystemOf (text : List ℕ) (l : System) : Type 0 where

@@ -1,20 +1,13 @@
-// The writers that a check may be lent beside that of its report.
+// The writer where none is lent.
 
 use std::io;
 use std::io::Write;
 
-/// The writers for the texts of evidence: Even's and Odd's, or neither.
-#[derive(Drop)]
-pub enum EvidenceWriters<'a, E, O> {
-    Neither,
-    Both(&'a mut E, &'a mut O),
-}
-
 /// A writer that stands where none is lent. Nothing is asked from it, and nothing is known of its bytes.
 #[derive(Drop)]
-pub(crate) struct Nobody;
+pub(crate) struct NoWriter;
 
-impl Write for Nobody {
+impl Write for NoWriter {
     fn write(&mut self, _bytes: &[u8]) -> io::Result<usize> {
         Ok(0)
     }

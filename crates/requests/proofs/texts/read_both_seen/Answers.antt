@@ -1,8 +1,8 @@
 use Rattle.lts.proofs.PassedOn.{passed_on}
 use Rattle.lts.specs.Aut.{IsAut}
-use Rattle.engines.specs.Check.{HasRefused}
-use Rattle.engines.proofs.Checks.{at_known, spelled_of, unread_of, ok_before}
-use Rattle.engines.proofs.texts.read_both_seen.Goals as goal
+use Rattle.requests.specs.Check.{HasRefused}
+use Rattle.requests.proofs.Readings.{at_known, spelled_of, unread_of, ok_before}
+use Rattle.requests.proofs.texts.read_both_seen.Goals as goal
 
 pub returns-clause-spelled : goal.returns-clause-spelled
 returns-clause-spelled g c =

@@ -12,7 +12,7 @@ use Rattle.formula.specs.declared.error.FormulaFault.{FormulaFault}
 use Rattle.formula.specs.declared.error.FormulaError.{FormulaError}
 use Rattle.formula.specs.declared.error.FormulaError.TheVariants.{Fault, Memory}
 use Rattle.formula.specs.Checked.{IsTold}
-use Rattle.engines.specs.Texts.{IsFormulaOf}
+use Rattle.requests.specs.Texts.{IsFormulaOf}
 
 -- a front that is shorter than asked for is the whole
 pub whole_front : (n : ℕ) (xs : List ℕ) → length (take n xs) < n → take n xs ≡ xs

@@ -1,8 +1,8 @@
 -- What a command has.
 use Rattle.std.specs.Prelude.{if◌then◌else◌, Some, None, true, false}
-use Rattle.engines.specs.declared.request.Check.{Check as TheCheck}
-use Rattle.engines.specs.declared.request.Wanted.{Wanted}
-use Rattle.engines.specs.Check.{Way, BySets, ByGame}
+use Rattle.requests.specs.declared.request.Check.{Check as TheCheck}
+use Rattle.requests.specs.declared.request.Wanted.{Wanted}
+use Rattle.requests.specs.Check.{Way, BySets, ByGame}
 
 -- `--plain` asks for sets of states, and else a rule of priorities and a board are given.
 abbrev pub way_of : TheCheck → Way

@@ -4,11 +4,11 @@ use Rattle.std.specs.Prelude.{◌≡◌, ℕ, ◌⊎◌, Bool, List, [], ◌∷�
 use Rattle.std.specs.Borrow.{MutBor}
 use Rattle.std.specs.Io.KnownBytes.{Appends, Keeps}
 use Rattle.text.specs.Wrote.{WroteFront}
-use Rattle.engines.specs.declared.request.Wanted.{Wanted}
-use Rattle.engines.specs.declared.request.WitnessForm.{WitnessForm}
-use Rattle.engines.specs.declared.request.WitnessForm.TheVariants.{System, Drawing}
-use Rattle.engines.specs.declared.writers.EvidenceWriters.{EvidenceWriters}
-use Rattle.engines.specs.declared.writers.EvidenceWriters.TheVariants.{Neither, Both}
+use Rattle.requests.specs.declared.request.Wanted.{Wanted}
+use Rattle.requests.specs.declared.request.WitnessForm.{WitnessForm}
+use Rattle.requests.specs.declared.request.WitnessForm.TheVariants.{System, Drawing}
+use Rattle.requests.specs.declared.writers.EvidenceWriters.{EvidenceWriters}
+use Rattle.requests.specs.declared.writers.EvidenceWriters.TheVariants.{Neither, Both}
 
 -- the texts that a check writes; `Unasked` is that of a writer from which none is asked for
 pub data Kind : Type 0 where
@@ -73,19 +73,19 @@ abbrev pub LeftBoth : Type 0 → Type 0 → Type 0
 LeftBoth E O = Unit {0} ⊎ ((MutBor E × (MutBor O × Unit {0})) ⊎ ⊥)
 
 -- where no writer is lent: one from which nothing is asked, and of which nothing is known
-abbrev pub nobody : Lent
-nobody = lent_for Unasked None None
+abbrev pub no_writer : Lent
+no_writer = lent_for Unasked None None
 
 -- the writer for the game's text, if it is lent
 abbrev pub game_writer : {G : Type 0} → (G → Option (List ℕ)) → Option (MutBor G) → Left G → List Lent
-game_writer contents None left = nobody ∷ []
+game_writer contents None left = no_writer ∷ []
 game_writer contents (Some game) (inl x) = lent_for GameText (contents game.now) None ∷ []
 game_writer contents (Some game) (inr (inl left)) = lent_for GameText (contents game.now) (contents left.0.now) ∷ []
 game_writer contents (Some game) (inr (inr x)) = absurd x
 
 -- those for the texts of evidence, if they are lent
 abbrev pub evidence_writers : {E O : Type 0} → (E → Option (List ℕ)) → (O → Option (List ℕ)) → EvidenceWriters E O → LeftBoth E O → List Lent
-evidence_writers evens odds Neither left = nobody ∷ nobody ∷ []
+evidence_writers evens odds Neither left = no_writer ∷ no_writer ∷ []
 evidence_writers evens odds (Both even odd) (inl x) = lent_for EvenText (evens even.now) None ∷ lent_for OddText (odds odd.now) None ∷ []
 evidence_writers evens odds (Both even odd) (inr (inl left)) = lent_for EvenText (evens even.now) (evens left.0.now) ∷ lent_for OddText (odds odd.now) (odds left.1.0.now) ∷ []
 evidence_writers evens odds (Both even odd) (inr (inr x)) = absurd x

@@ -4,8 +4,8 @@ use Rattle.game.specs.Game.{Game}
 use Rattle.tables.specs.declared.error.TableError.TheVariants as table
 use Rattle.workers.specs.declared.team.BoardKind.{BoardKind}
 use Rattle.workers.specs.Team.{IsTooGreat}
-use Rattle.engines.specs.declared.error.MuError.{MuError}
-use Rattle.engines.specs.declared.error.MuError.TheVariants as error
+use Rattle.requests.specs.declared.error.MuError.{MuError}
+use Rattle.requests.specs.declared.error.MuError.TheVariants as error
 
 -- The board that is asked for, if one is, can be had for the game.
 abbrev pub IsFitting : Option BoardKind → Game → Type 0

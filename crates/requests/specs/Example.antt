@@ -3,7 +3,7 @@ use Rattle.std.specs.Prelude.{◌≡◌, true, false, [], ◌∷◌, ◌++◌, c
 use Rattle.std.specs.Fmt.{digits}
 use Rattle.lts.specs.System.{System}
 use Rattle.calculus.specs.Tree.{Names, Dia, Step, True}
-use Rattle.engines.specs.Report.{report, line_end}
+use Rattle.requests.specs.Report.{report, line_end}
 
 -- 0 -a-> 1 -b-> 0
 abbrev two_states : System

@@ -2,7 +2,7 @@
 
 ghost use Rattle.std.specs.Prelude.{◌≡◌, IfErr, IfOk, Some};
 ghost use Rattle.std.specs.Arc.{arc_value};
-ghost use Rattle.engines.specs.Solver.{IsFitting, IsUnsolved};
+ghost use Rattle.requests.specs.Solver.{IsFitting, IsUnsolved};
 
 use crate::error::MuError;
 use crate::request::Options;
@@ -38,7 +38,7 @@ pub fn solve_with<G: Gate + Sync, R: Threads + Wait + Clone + Copy + Drop + Send
 ///
 /// # Errors
 /// Those of `solve_with`.
-pub(crate) fn solve_seen<
+pub fn solve_seen<
     G: Gate + Sync,
     O: Observer + Sync,
     R: Threads + Wait + Clone + Copy + Drop + Send + Sync,

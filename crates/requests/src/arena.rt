@@ -2,8 +2,8 @@
 
 ghost use Rattle.std.specs.Prelude.{◌≡◌, ◌≤◌, None, MatchResult};
 ghost use Rattle.calculus.specs.Closed.{closed_formula};
-ghost use Rattle.engines.specs.Check.{ByGame, IsBeyond};
-ghost use Rattle.engines.specs.Findings.{IsGameOf};
+ghost use Rattle.requests.specs.Check.{ByGame, IsBeyond};
+ghost use Rattle.requests.specs.Check.{IsArenaOf};
 
 use crate::error::MuError;
 use calculus::closed::Closed;
@@ -27,7 +27,7 @@ pub fn game_of<H: Threads + Sync>(
     priorities: Priorities,
 ) -> Result<Game, MuError>
     ensures { let l = system.now.system in let f = closed_formula formula.now in
-        MatchResult result (IsGameOf priorities l f) (IsBeyond (ByGame priorities None) l f) }
+        MatchResult result (IsArenaOf priorities l f) (IsBeyond (ByGame priorities None) l f) }
 {
     let normal = normal_with(alloc, formula, priorities).map_err(MuError::Normal)?;
     build(rt, alloc, system, &normal).map_err(MuError::Build)

@@ -1,11 +1,11 @@
 use Rattle.std.proofs.Common.{◌≡◌, subst, take}
 use Rattle.std.specs.Prelude.{IfSome}
 use Rattle.std.proofs.lemmas.Result.{IfErr-weaker}
-use Rattle.engines.specs.Texts.{IsReadRefusal}
-use Rattle.engines.specs.declared.error.MuError.TheVariants as error
-use Rattle.engines.proofs.Checks.{ok_after_both, err_after}
-use Rattle.engines.proofs.Fronts.{formula_of_front, refused_of}
-use Rattle.engines.proofs.texts.read_formula.Goals as goal
+use Rattle.requests.specs.Texts.{IsReadRefusal}
+use Rattle.requests.specs.declared.error.MuError.TheVariants as error
+use Rattle.requests.proofs.Readings.{ok_after_both, err_after}
+use Rattle.requests.proofs.Fronts.{formula_of_front, refused_of}
+use Rattle.requests.proofs.texts.read_formula.Goals as goal
 
 pub returns-clause-spelled : goal.returns-clause-spelled
 returns-clause-spelled g c =

@@ -2,9 +2,9 @@
 
 ghost use Rattle.std.specs.Prelude.{◌≡◌, ℕ, List, take, IfOk, IfErr, IfSome, Some};
 ghost use Rattle.calculus.specs.Closed.{closed_formula};
-ghost use Rattle.engines.specs.Texts.{IsFormulaOf, IsReadRefusal, IsReadFault, IsReading};
-ghost use Rattle.engines.specs.Check.{Way, BySets, AreSpelled, HasRefused, IsErrorOf};
-ghost use Rattle.engines.specs.Writers.{AreKept, Lent};
+ghost use Rattle.requests.specs.Texts.{IsFormulaOf, IsReadRefusal, IsReadFault, IsReading};
+ghost use Rattle.requests.specs.Check.{Way, BySets, AreSpelled, HasRefused, IsErrorOf};
+ghost use Rattle.requests.specs.Writers.{AreKept, Lent};
 
 use crate::error::MuError;
 use crate::watch::Watcher;
@@ -49,7 +49,7 @@ pub fn read_both<R: Read + Drop, S: Read + Drop>(
 ///
 /// # Errors
 /// Those of `read_both`.
-pub(crate) fn read_both_seen<R: Read + Drop, S: Read + Drop, O: Watcher>(
+pub fn read_both_seen<R: Read + Drop, S: Read + Drop, O: Watcher>(
     alloc: Global,
     aut: R,
     formula: S,

@@ -1,5 +1,5 @@
-use Rattle.engines.proofs.Fronts.{read_all}
-use Rattle.engines.proofs.texts.read_front.Goals as goal
+use Rattle.requests.proofs.Fronts.{read_all}
+use Rattle.requests.proofs.texts.read_front.Goals as goal
 
 pub returns-in-Ok-clause-front : goal.returns-in-Ok-clause-front
 returns-in-Ok-clause-front g c =

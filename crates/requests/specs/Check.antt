@@ -26,14 +26,14 @@ use Rattle.evidence.specs.Best.{IsEvenOf, IsOddOf}
 use Rattle.evidence.specs.Canon.{evidence_text}
 use Rattle.witness.specs.Witness.{IsWitness}
 use Rattle.witness.specs.Drawing.{drawing}
-use Rattle.engines.specs.declared.error.MuError.{MuError}
-use Rattle.engines.specs.declared.error.MuError.TheVariants as error
-use Rattle.engines.specs.Texts.{IsSystemOf, IsFormulaOf}
+use Rattle.requests.specs.declared.error.MuError.{MuError}
+use Rattle.requests.specs.declared.error.MuError.TheVariants as error
+use Rattle.requests.specs.Texts.{IsSystemOf, IsFormulaOf}
 use Rattle.workers.specs.declared.team.BoardKind.{BoardKind}
-use Rattle.engines.specs.Report.{report}
-use Rattle.engines.specs.Roots.{WinsRoot}
-use Rattle.engines.specs.Solver.{IsFitting, IsUnsolved}
-use Rattle.engines.specs.Writers.{Kind, GameText, EvenText, OddText, WitnessText, DrawingText, ReportText, Unasked, Lent, NeedsEvidence, AreWhole, AreKept, AreWrittenUpTo}
+use Rattle.requests.specs.Report.{report}
+use Rattle.requests.specs.Roots.{WinsRoot}
+use Rattle.requests.specs.Solver.{IsFitting, IsUnsolved}
+use Rattle.requests.specs.Writers.{Kind, GameText, EvenText, OddText, WitnessText, DrawingText, ReportText, Unasked, Lent, NeedsEvidence, AreWhole, AreKept, AreWrittenUpTo}
 
 -- how the states are found: by sets of states, or by the game with the priorities of a rule, solved over the board that is asked for, if one is
 pub data Way : Type 0 where
@@ -58,6 +58,12 @@ pub record HasGame (rule : Priorities) (l : System) (f : Formula) : Type 0 where
 -- the game of the system and the formula's normal form by this rule
 abbrev pub game_of : Priorities → System → Formula → Game
 game_of rule l f = arena l (nodes_with rule f)
+
+-- The game is that of the system and the formula.
+pub record IsArenaOf (rule : Priorities) (l : System) (f : Formula) (g : Game) : Type 0 where
+  pub within : HasGame rule l f
+  pub same : g ≡ game_of rule l f
+  pub low : greatest g ≤ GREATEST_PRIORITY
 
 -- what is asked for can be found this way: sets of states have no limits
 abbrev pub IsWithin : Way → System → Formula → Type 0
