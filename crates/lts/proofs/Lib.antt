@@ -1,6 +1,7 @@
 pub mod Unique
 pub mod Rows
 pub mod Scanning
+pub mod AtHand
 pub mod Gathering
 pub mod Judging
 pub mod Reading

@@ -11,6 +11,7 @@ pub mod Aut
 pub mod Canon
 pub mod Laws
 pub mod Scan
+pub mod Plain
 pub mod Left
 pub mod Gathered
 pub mod Arranged

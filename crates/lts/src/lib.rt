@@ -7,6 +7,7 @@ mod intake;
 pub mod label;
 pub mod law;
 pub mod limits;
+mod plain;
 pub mod reader;
 mod scan;
 pub mod system;

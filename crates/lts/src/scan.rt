@@ -4,11 +4,13 @@ ghost use Rattle.std.specs.Prelude.{IfOk};
 ghost use Rattle.text.specs.Lines.{IfKnown};
 ghost use Rattle.text.specs.Stream.{PassesLine};
 ghost use Rattle.lts.specs.Scan.{PassesTransition};
+ghost use Rattle.lts.specs.Plain.{PassesAtHand};
 ghost use Rattle.lts.specs.Scan as at;
 
 use crate::limits::LONGEST_LABEL;
+use crate::plain::plain_line;
 use std::alloc::Global;
-use std::io::BufRead;
+use std::io::{BufRead, Error, ErrorKind};
 use text::error::ReadFault;
 use text::stream::{ends, number_before, quoted, sign, word};
 
@@ -106,11 +108,8 @@ fn target<B: BufRead>(reader: &mut B, digits: &mut Vec<u8>) -> Result<Option<u32
     Ok(Some(target))
 }
 
-/// Reads the line that is next as a transition, if it has the shape of one.
-pub(crate) fn transition<B: BufRead>(
-    reader: &mut B,
-    kept: &mut Kept,
-) -> Result<Option<Ends>, ReadFault>
+// Reads the line that is next as a transition token by token, if it has the shape of one.
+fn by_tokens<B: BufRead>(reader: &mut B, kept: &mut Kept) -> Result<Option<Ends>, ReadFault>
     ensures { IfOk result (λ found. IfKnown (B.remaining reader.old) (B.remaining reader.new) (PassesTransition kept.new.label.items found)) }
 {
     if !sign(reader, b'(')? {
@@ -126,4 +125,49 @@ pub(crate) fn transition<B: BufRead>(
         return Ok(None);
     };
     Ok(Some(Ends { source, target }))
+}
+
+fn fault_of(error: &Error) -> ReadFault {
+    if error.kind() == ErrorKind::OutOfMemory {
+        ReadFault::Memory
+    } else {
+        ReadFault::Read
+    }
+}
+
+// Reads the line that is next as a transition where it stands whole in the block at hand, as tools write it. Else it takes nothing.
+fn at_hand<B: BufRead>(reader: &mut B, kept: &mut Kept) -> Result<Option<Ends>, ReadFault>
+    ensures { IfOk result (λ found. IfKnown (B.remaining reader.old) (B.remaining reader.new) (PassesAtHand kept.new.label.items found)) }
+{
+    let block = match reader.fill_buf() {
+        Ok(block) => block,
+        Err(error) if error.kind() == ErrorKind::Interrupted => return Ok(None),
+        Err(error) => return Err(fault_of(&error)),
+    };
+    let Some(line) = plain_line(block) else {
+        return Ok(None);
+    };
+    let ends = Ends {
+        source: line.source,
+        target: line.target,
+    };
+    let len = line.len;
+    let most = line.label.len().min(LONGEST_LABEL + 1);
+    kept.label.clear();
+    kept.label.extend_from_slice(&line.label[..most])?;
+    reader.consume(len);
+    Ok(Some(ends))
+}
+
+/// Reads the line that is next as a transition, if it has the shape of one.
+pub(crate) fn transition<B: BufRead>(
+    reader: &mut B,
+    kept: &mut Kept,
+) -> Result<Option<Ends>, ReadFault>
+    ensures { IfOk result (λ found. IfKnown (B.remaining reader.old) (B.remaining reader.new) (PassesTransition kept.new.label.items found)) }
+{
+    match at_hand(reader, kept)? {
+        Some(ends) => Ok(Some(ends)),
+        None => by_tokens(reader, kept),
+    }
 }

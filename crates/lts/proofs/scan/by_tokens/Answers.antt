@@ -1,6 +1,6 @@
 use Rattle.std.proofs.Common.{Some, None, []}
 use Rattle.lts.proofs.Scanning.{no_open, no_source, no_label, no_target, a_target, from_source}
-use Rattle.lts.proofs.scan.transition.Goals as goal
+use Rattle.lts.proofs.scan.by_tokens.Goals as goal
 
 pub returns-then-not-branch : goal.returns-then-not-branch
 returns-then-not-branch g c = no_open [] _ _ (rw c.if-not-branch.true at c.in_ok-sign.ensures)
