@@ -7,7 +7,7 @@ use Rattle.std.proofs.lemmas.Bool.{cases_order}
 use Rattle.calculus.specs.Meaning.{marked, Marks}
 use Rattle.game.specs.Game.{Game, IsGame}
 use Rattle.game.specs.Wins.{OddWins, Wins}
-use Rattle.measures.specs.Laws.{NotBothWin, OneWins}
+use Rattle.progress.specs.Laws.{NotBothWin, OneWins}
 use Rattle.commands.specs.Winners.{AreWinners}
 
 -- the marks of one vertex more

@@ -6,7 +6,7 @@ use Rattle.lts.specs.System.{System}
 use Rattle.calculus.specs.Tree.{Formula}
 use Rattle.normal.specs.declared.priorities.Priorities.TheVariants.{Nested}
 use Rattle.game.specs.Game.{Game}
-use Rattle.measures.specs.Tables.{IsSettled}
+use Rattle.progress.specs.Tables.{IsSettled}
 use Rattle.liftcore.specs.Core.{Core, start}
 use Rattle.liftcore.specs.Replay.{replay_text}
 use Rattle.liftcore.specs.Runs.{Comes}

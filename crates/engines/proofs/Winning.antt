@@ -7,7 +7,7 @@ use Rattle.normal.specs.Rules.{nodes_with}
 use Rattle.game.specs.Game.{Game, IsGame}
 use Rattle.game.specs.Arena.{arena, place, place_in}
 use Rattle.game.specs.Wins.{OddWins, Wins}
-use Rattle.measures.specs.Laws.{OneWins}
+use Rattle.progress.specs.Laws.{OneWins}
 use Rattle.evidence.specs.Evidence.{IsGood, has}
 use Rattle.evidence.specs.View.{Piece}
 use Rattle.evidence.specs.declared.error.EvidenceError.{EvidenceError}

@@ -2,13 +2,13 @@
 use Rattle.std.proofs.Common.{◌≡◌, ℕ, zero, suc, ◌+◌, ◌<◌, ◌≤◌, List, [], ◌∷◌, length, refl, sym, ap, subst, ◌∙◌, inl, inr, arith, Contains, Some, slice_index}
 use Rattle.std.proofs.lemmas.Bool.Decides.{eqb_tells}
 use Rattle.game.specs.Game.{Game, IsAscending, Vertex, vertex}
-use Rattle.measures.specs.Laws.{IsLeastSuccessor}
-use Rattle.measures.specs.Measure.{IsAtMost, IsBelow, IsProg, Measure}
-use Rattle.measures.specs.Progress.{IsLeastTable, value_at}
-use Rattle.measures.specs.Progs.{IsProgAt}
-use Rattle.measures.proofs.Lifts.{value_measure}
-use Rattle.measures.proofs.Measures.{at_most_both, at_most_itself, at_most_or_below, at_most_trans, below_at_most, not_below, prog, prog_more}
-use Rattle.measures.proofs.Putting.{contained_from, place_contained}
+use Rattle.progress.specs.Laws.{IsLeastSuccessor}
+use Rattle.progress.specs.Measure.{IsAtMost, IsBelow, IsProg, Measure}
+use Rattle.progress.specs.Progress.{IsLeastTable, value_at}
+use Rattle.progress.specs.Progs.{IsProgAt}
+use Rattle.progress.proofs.Lifts.{value_measure}
+use Rattle.progress.proofs.Measures.{at_most_both, at_most_itself, at_most_or_below, at_most_trans, below_at_most, not_below, prog, prog_more}
+use Rattle.progress.proofs.Putting.{contained_from, place_contained}
 
 prog_one : (g : Game) (p : ℕ) (m r s : Measure) → IsProg g p m r → IsProg g p m s → r ≡ s
 prog_one g p m r s i j = at_most_both r s (prog_more g p m m r s (at_most_itself m) i j) (prog_more g p m m s r (at_most_itself m) j i)

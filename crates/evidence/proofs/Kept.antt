@@ -10,7 +10,7 @@ use Rattle.lts.proofs.Storing.{set_is, strict_set}
 use Rattle.calculus.specs.Holds.{holds}
 use Rattle.normal.specs.Tree.{Shape, ConstantNode, JunctionNode, ModalityNode, FixpointNode, VariableNode}
 use Rattle.game.specs.Arena.{place}
-use Rattle.measures.proofs.Lists.{contains_cases, contains_first, contains_later, contains_none}
+use Rattle.progress.proofs.Lists.{contains_cases, contains_first, contains_later, contains_none}
 use Rattle.laws.proofs.Flags.{both, cases}
 use Rattle.laws.proofs.Lists.{any_gives, gives_any}
 use Rattle.evidence.specs.Witness.{HasArrows, KeepsStep}

@@ -15,8 +15,8 @@ use Rattle.game.specs.Arena.{arena, is_step, or_else, place, rows, successors_of
 use Rattle.game.specs.Game.{Game, Vertex, greatest, greatest_of, vertex}
 use Rattle.game.specs.Wins.{WinsBy}
 use Rattle.game.proofs.Arenas.{rows_count}
-use Rattle.measures.proofs.Lists.{contains_none, contains_first}
-use Rattle.measures.proofs.NotBoth.{not_both_win}
+use Rattle.progress.proofs.Lists.{contains_none, contains_first}
+use Rattle.progress.proofs.NotBoth.{not_both_win}
 use Rattle.laws.proofs.Decided.{even_wins_formula}
 use Rattle.laws.proofs.Edges.{in_or_else, of_or_else}
 use Rattle.laws.proofs.Lists.{any_gives, filter_gives, gives_any, gives_filter, in_map, of_map, only_in}

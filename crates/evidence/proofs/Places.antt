@@ -1,7 +1,7 @@
 -- Entries that are stored in two lists.
 use Rattle.std.proofs.Common.{◌≡◌, ℕ, zero, suc, ◌+◌, ◌*◌, ◌<◌, ◌≤◌, List, [], ◌∷◌, ◌++◌, length, take, drop, refl, sym, ap, ap₂, ◌∙◌, arith, slice_index_or, slice_set, append_assoc, length-take-le, length-drop, replicate, Option, None}
 use Rattle.std.proofs.Math.Seq.{take-add, take-append_seam, drop-append_seam}
-use Rattle.measures.proofs.Stored.{row_fits}
+use Rattle.progress.proofs.Stored.{row_fits}
 use Rattle.evidence.specs.Evidence.{Entry}
 use Rattle.evidence.specs.View.{Entries, entries_of, entry_of}
 use Rattle.evidence.specs.declared.entries.Place.{Place}

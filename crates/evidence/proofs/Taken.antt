@@ -11,7 +11,7 @@ use Rattle.game.specs.declared.player.Player.{Player}
 use Rattle.game.specs.declared.player.Player.TheVariants.{Even, Odd}
 use Rattle.game.specs.Arena.{arena, owner_of, place, vertex_of}
 use Rattle.game.specs.Game.{Vertex}
-use Rattle.measures.proofs.Lists.{contains_cases, contains_first, contains_later, contains_none}
+use Rattle.progress.proofs.Lists.{contains_cases, contains_first, contains_later, contains_none}
 use Rattle.laws.proofs.Flags.{and_true, cases, or_left, or_right, same_true}
 use Rattle.laws.proofs.Lists.{gives_any, gives_range}
 use Rattle.laws.proofs.Vertices.{vertex_is}

@@ -1,7 +1,7 @@
 -- The lines of evidence, as they are written.
 use Rattle.std.proofs.Common.{◌≡◌, ℕ, suc, ◌+◌, ◌<◌, List, [], ◌∷◌, ◌++◌, Option, Some, None, length, decimal, refl, ap, ap₂, subst, ◌∙◌, append_assoc, slice_index_or, arith}
 use Rattle.lts.specs.Canon.{line_end}
-use Rattle.measures.specs.MeasureText.{counts_text}
+use Rattle.progress.specs.MeasureText.{counts_text}
 use Rattle.text.specs.Wrote.{lines_from}
 use Rattle.evidence.specs.Canon.{entry_line, entry_lines, line_at, line_of, move_text}
 use Rattle.evidence.specs.Evidence.{Entry}

@@ -11,7 +11,7 @@ use Rattle.game.specs.Arena.{arena, place}
 use Rattle.game.specs.declared.player.Player.TheVariants.{Even, Odd}
 use Rattle.game.specs.Game.{Game, IsGame, dual, greatest}
 use Rattle.game.specs.Wins.{OddWins, Wins, WinsBy}
-use Rattle.measures.specs.Measure.{Counts, Reaches}
+use Rattle.progress.specs.Measure.{Counts, Reaches}
 use Rattle.laws.specs.Admissible.{IsNodes}
 use Rattle.evidence.specs.Evidence.{Descends, Evidence, IsEvidence, IsGood, has}
 use Rattle.evidence.specs.Best.{IsEvenOf, IsOddOf}

@@ -6,7 +6,7 @@ use Rattle.lts.specs.System.{System}
 use Rattle.lts.specs.Path.{IsPath}
 use Rattle.normal.specs.Tree.{Norm, Constant, Junction, Modality, Fixpoint, Variable, size, Shape, ConstantNode, JunctionNode, ModalityNode, FixpointNode, VariableNode}
 use Rattle.game.specs.Arena.{targets}
-use Rattle.measures.specs.Measure.{is_odd}
+use Rattle.progress.specs.Measure.{is_odd}
 use Rattle.normal.proofs.Numbers.{size_some}
 use Rattle.laws.specs.Admissible.{IsEach, IsFitting}
 use Rattle.laws.proofs.Flags.{same_or_not, below_or_not}

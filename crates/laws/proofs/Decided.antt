@@ -9,10 +9,10 @@ use Rattle.normal.specs.Nodes.{Node, nodes}
 use Rattle.game.specs.Game.{Game}
 use Rattle.game.specs.Wins.{Wins}
 use Rattle.game.specs.Arena.{arena, place}
-use Rattle.measures.specs.Measure.{Measure, Top, IsAtMost}
-use Rattle.measures.specs.Progress.{IsProgress, IsLeastTable, value_at}
-use Rattle.measures.proofs.Measures.{top_last}
-use Rattle.measures.proofs.StrategyTable.{wins_table}
+use Rattle.progress.specs.Measure.{Measure, Top, IsAtMost}
+use Rattle.progress.specs.Progress.{IsProgress, IsLeastTable, value_at}
+use Rattle.progress.proofs.Measures.{top_last}
+use Rattle.progress.proofs.StrategyTable.{wins_table}
 use Rattle.normal.proofs.Numbers.{size_some}
 use Rattle.laws.specs.Admissible.{IsNodes}
 use Rattle.laws.specs.NodeMeaning.{node_mean}

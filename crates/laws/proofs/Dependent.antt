@@ -5,7 +5,7 @@ use Rattle.normal.specs.Tree.{Norm, Constant, Junction, Modality, Fixpoint, Vari
 use Rattle.normal.specs.Nodes.{nodes_by, parity_from}
 use Rattle.normal.specs.Rules.{names, above, dependent}
 use Rattle.normal.specs.declared.priorities.Priorities.TheVariants.{Nested, Dependent}
-use Rattle.measures.specs.Measure.{is_odd}
+use Rattle.progress.specs.Measure.{is_odd}
 use Rattle.laws.specs.Admissible.{IsFree, IsEach, IsAboveInner, priority_in}
 use Rattle.laws.specs.Laws.{ChosenIsAdmissible}
 use Rattle.laws.proofs.Flags.{or_left, or_right}

@@ -5,7 +5,7 @@ use Rattle.lts.specs.System.{System}
 use Rattle.normal.specs.Tree.{Shape, ConstantNode, JunctionNode, ModalityNode, FixpointNode, VariableNode}
 use Rattle.game.specs.declared.player.Player.TheVariants.{Even, Odd}
 use Rattle.game.specs.Arena.{targets, place, or_else, owner_of, successors_of}
-use Rattle.measures.proofs.Lists.{contains_none}
+use Rattle.progress.proofs.Lists.{contains_none}
 use Rattle.laws.proofs.Lists.{only_in, of_two, in_map, of_map}
 use Rattle.laws.proofs.Moves.{IsNext, Moves, IsChoice}
 

@@ -4,7 +4,7 @@ use Rattle.std.specs.Prelude.{Contains, if◌then◌else◌}
 use Rattle.lts.specs.System.{System}
 use Rattle.normal.specs.Tree.{Norm, Constant, Junction, Modality, Fixpoint, Variable, size, Shape, ConstantNode, JunctionNode, ModalityNode, FixpointNode, VariableNode, shape_at}
 use Rattle.game.specs.Arena.{targets}
-use Rattle.measures.proofs.Lists.{contains_first, contains_later}
+use Rattle.progress.proofs.Lists.{contains_first, contains_later}
 use Rattle.normal.proofs.Numbers.{size_some}
 use Rattle.laws.specs.Admissible.{IsEach}
 use Rattle.laws.proofs.Flags.{cases, both, same_or_not, below_or_not}

@@ -4,7 +4,7 @@ use Rattle.std.specs.Prelude.{◌%◌}
 use Rattle.normal.specs.Tree.{Norm, Constant, Junction, Modality, Fixpoint, Variable, size, normal_form}
 use Rattle.normal.specs.Nodes.{Node, node_at, nodes_by, nested, greatest, parity_from}
 use Rattle.normal.proofs.Numbers.{no_less}
-use Rattle.measures.specs.Measure.{is_odd}
+use Rattle.progress.specs.Measure.{is_odd}
 use Rattle.laws.specs.Admissible.{IsFree, IsEach, IsFitting, priority_or, priority_in}
 use Rattle.laws.specs.Laws.{NodesFollow, NestedIsAdmissible}
 use Rattle.laws.proofs.Flags.{same_or_not, same_true, other_false}

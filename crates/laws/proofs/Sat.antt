@@ -5,7 +5,7 @@ use Rattle.std.specs.List.{list_any, list_all}
 use Rattle.lts.specs.System.{System}
 use Rattle.normal.specs.Tree.{Norm, Constant, Junction, Modality, Fixpoint, Variable, size}
 use Rattle.game.specs.Arena.{targets}
-use Rattle.measures.proofs.Lists.{contains_cases, contains_first, contains_later, contains_none}
+use Rattle.progress.proofs.Lists.{contains_cases, contains_first, contains_later, contains_none}
 use Rattle.laws.proofs.Flags.{both, and_true, either, or_left, or_right, if_true, if_false, same_true, other_false, below_true, above_false}
 use Rattle.laws.proofs.Lists.{any_gives, gives_any, all_gives, gives_all}
 

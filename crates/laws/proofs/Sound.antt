@@ -7,9 +7,9 @@ use Rattle.normal.specs.Tree.{Norm, Constant, Junction, Modality, Fixpoint, Vari
 use Rattle.normal.specs.Nodes.{Node}
 use Rattle.game.specs.Game.{Game}
 use Rattle.game.specs.Arena.{targets, place, owner_of, vertex_of, successors_of, arena}
-use Rattle.measures.specs.Measure.{Measure, Top, Counts, Reaches}
-use Rattle.measures.specs.Progress.{IsProgress, value_at}
-use Rattle.measures.proofs.Lists.{contains_first, contains_later}
+use Rattle.progress.specs.Measure.{Measure, Top, Counts, Reaches}
+use Rattle.progress.specs.Progress.{IsProgress, value_at}
+use Rattle.progress.proofs.Lists.{contains_first, contains_later}
 use Rattle.laws.specs.Admissible.{IsEach, IsFitting, IsNodes, priority_in}
 use Rattle.laws.specs.Laws.{TablesAreSound}
 use Rattle.laws.proofs.Lists.{only_in, of_two, in_map, of_map}

@@ -2,7 +2,7 @@
 use Rattle.std.specs.Prelude.{◌≡◌, ◌≢◌, ℕ, ◌+◌, ◌≤◌, ◌⊎◌, List, map, Option, Some, None, slice_get}
 use Rattle.normal.specs.Tree.{Norm, Constant, Junction, Modality, Fixpoint, Variable, size, Shape, shape_at, preorder}
 use Rattle.normal.specs.Nodes.{Node}
-use Rattle.measures.specs.Measure.{is_odd}
+use Rattle.progress.specs.Measure.{is_odd}
 
 -- The variable of binder b stands in the tree, and the binder around the tree.
 abbrev pub IsFree : ℕ → ℕ → Norm → Type 0

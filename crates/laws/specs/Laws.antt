@@ -11,8 +11,8 @@ use Rattle.normal.specs.declared.priorities.Priorities.{Priorities}
 use Rattle.game.specs.declared.player.Player.TheVariants.{Even}
 use Rattle.game.specs.Arena.{place, arena}
 use Rattle.game.specs.Wins.{IsStrategy, Wins}
-use Rattle.measures.specs.Measure.{Measure, Top}
-use Rattle.measures.specs.Progress.{IsProgress, IsLeastTable, value_at}
+use Rattle.progress.specs.Measure.{Measure, Top}
+use Rattle.progress.specs.Progress.{IsProgress, IsLeastTable, value_at}
 use Rattle.laws.specs.Admissible.{IsAboveInner, IsAdmissible, IsClosed, IsEach, IsNodes, priority_in, shapes_of}
 use Rattle.laws.specs.NodeMeaning.{node_mean}
 

@@ -10,8 +10,8 @@ use Rattle.std.proofs.lemmas.Option.{none-some}
 use Rattle.std.proofs.lemmas.List.Sorted.{searched}
 use Rattle.game.specs.Game.{Game, IsAscending, IsGame, IsVertex, Vertex, vertex}
 use Rattle.game.specs.Predecessors.{successors_at}
-use Rattle.measures.specs.Measure.{Measure, Top}
-use Rattle.measures.proofs.Lists.{all_got, contains_cases, contains_first, contains_later, contains_none}
+use Rattle.progress.specs.Measure.{Measure, Top}
+use Rattle.progress.proofs.Lists.{all_got, contains_cases, contains_first, contains_later, contains_none}
 use Rattle.liftcore.specs.Core.{Holding, Note, Owing, noted, owing, with_note}
 use Rattle.liftcore.specs.Marks.{IsMarked, members}
 use Rattle.liftcore.specs.Reading.{AreRead, IsReadAt, successors_of, values_of}
@@ -20,7 +20,7 @@ use Rattle.liftcore.specs.Work.{CanRaise, CanRead, IsUnread, Owes}
 use Rattle.liftcore.specs.declared.seat.Seat.{Seat}
 use Rattle.liftcore.proofs.Notes.{holds_owes, holds_same, idle_owes, owes_same, owing_has}
 use Rattle.liftcore.proofs.Marked.{marked_member, member_marked}
-use Rattle.measures.proofs.Bests.{vertex_here}
+use Rattle.progress.proofs.Bests.{vertex_here}
 use Rattle.game.proofs.Placing.{successors_of as successors_are}
 use Rattle.liftcore.proofs.Sets.{same_eqb}
 

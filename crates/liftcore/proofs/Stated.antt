@@ -8,11 +8,11 @@ use Rattle.std.proofs.lemmas.List.{get_or_past, length-set}
 use Rattle.std.proofs.lemmas.Option.{get_or_from_slice_get, none-some, same_Some, slice_get-get_or, slice_get-map, slice_get_read, slice_get_within}
 use Rattle.game.specs.Game.{Game, vertex}
 use Rattle.game.specs.Predecessors.{predecessors, successors_at}
-use Rattle.measures.specs.Measure.{Measure, measure_cmp}
-use Rattle.measures.specs.Progress.{IsLift, greater_of, value_at}
-use Rattle.measures.specs.Progs.{IsDemandOf}
-use Rattle.measures.specs.Tables.{Table}
-use Rattle.measures.proofs.Measures.{at_most_itself, not_below}
+use Rattle.progress.specs.Measure.{Measure, measure_cmp}
+use Rattle.progress.specs.Progress.{IsLift, greater_of, value_at}
+use Rattle.progress.specs.Progs.{IsDemandOf}
+use Rattle.progress.specs.Tables.{Table}
+use Rattle.progress.proofs.Measures.{at_most_itself, not_below}
 use Rattle.liftcore.specs.Core.{Core, Holding, Idle, Note, Owing, Worker, is_empty, is_idle, noted, owing, with_note, without}
 use Rattle.liftcore.specs.Marks.{IsMarked, members}
 use Rattle.liftcore.specs.Reading.{AreRead, successors_of, values_of}

@@ -1,10 +1,10 @@
 -- What holds of all runs of the core.
 use Rattle.std.specs.Prelude.{◌≡◌, ℕ, Bool, List, IsTrue, ◌*◌, ◌≤◌, count_by, length}
 use Rattle.game.specs.Game.{Game, IsGame}
-use Rattle.measures.specs.Lifting.{height}
-use Rattle.measures.specs.Measure.{IsAtMost}
-use Rattle.measures.specs.Progress.{IsProgress}
-use Rattle.measures.specs.Tables.{IsPlain, IsSettled}
+use Rattle.progress.specs.Lifting.{height}
+use Rattle.progress.specs.Measure.{IsAtMost}
+use Rattle.progress.specs.Progress.{IsProgress}
+use Rattle.progress.specs.Tables.{IsPlain, IsSettled}
 use Rattle.liftcore.specs.Core.{Core, start, is_quiet}
 use Rattle.liftcore.specs.Step.{RaisingSteps, Step, Steps, value_in}
 use Rattle.liftcore.specs.declared.event.Event.{Event}

@@ -1,7 +1,7 @@
 -- How the state of several workers is stored.
 use Rattle.std.specs.Prelude.{◌≡◌, ◌<◌, ℕ, Bool, true, List, [], ◌∷◌, Some, length, map, replicate, slice_get, if◌then◌else◌}
 use Rattle.game.specs.Game.{Game}
-use Rattle.measures.specs.Measure.{Measure}
+use Rattle.progress.specs.Measure.{Measure}
 use Rattle.liftcore.specs.Core.{Core, Holding, Idle, Note, Worker, owing}
 use Rattle.liftcore.specs.Marks.{members}
 use Rattle.liftcore.specs.Reading.{IsReading, Reading, successors_of}

@@ -2,7 +2,7 @@
 use Rattle.std.specs.Prelude.{◌≡◌, ◌<◌, ◌==◌, ℕ, Bool, true, false, List, Contains, None, Some, length, slice_index, slice_index_or}
 use Rattle.std.specs.List.{AllZip, list_any}
 use Rattle.game.specs.Game.{Game, Vertex, vertex}
-use Rattle.measures.specs.Measure.{Measure}
+use Rattle.progress.specs.Measure.{Measure}
 use Rattle.liftcore.specs.Core.{Holding, Note, Owing, Worker, noted}
 use Rattle.liftcore.specs.Reading.{successors_of}
 use Rattle.liftcore.specs.declared.seat.Seat.{Seat}

@@ -5,16 +5,16 @@ ghost use Rattle.liftcore.specs.Core.{is_quiet as is_quiet_core, start};
 ghost use Rattle.liftcore.specs.Marks.{members};
 ghost use Rattle.liftcore.specs.Runs.{Comes, is_done};
 ghost use Rattle.liftcore.specs.Step.{Step};
-ghost use Rattle.measures.specs.Progress.{value_at};
-ghost use Rattle.measures.specs.Tables.{IsPlain, IsSettled, LiesBelow};
+ghost use Rattle.progress.specs.Progress.{value_at};
+ghost use Rattle.progress.specs.Tables.{IsPlain, IsSettled, LiesBelow};
 
 use crate::error::CoreError;
 use crate::event::{Event, Outcome, Tally};
 use crate::marks::Marks;
 use crate::state::State;
 use game::graph::Game;
-use measures::measure::Measure;
-use measures::settle::is_settled;
+use progress::measure::Measure;
+use progress::settle::is_settled;
 use std::alloc::Global;
 use std::marker::Model;
 

@@ -8,13 +8,13 @@ ghost use Rattle.liftcore.specs.Marks.{members};
 ghost use Rattle.liftcore.specs.Reading.{values_of};
 ghost use Rattle.liftcore.specs.Seats.{IsSeat, notes_of, worker_of};
 ghost use Rattle.liftcore.specs.Work.{AreOwed, CanRaise, CanRead, IsUnread, Owes};
-ghost use Rattle.measures.specs.Progs.{IsDemandOf};
-ghost use Rattle.measures.specs.Tables.{LiesBelow};
+ghost use Rattle.progress.specs.Progs.{IsDemandOf};
+ghost use Rattle.progress.specs.Tables.{LiesBelow};
 
 use crate::marks::Marks;
 use crate::turn::Turn;
 use game::graph::Game;
-use measures::measure::Measure;
+use progress::measure::Measure;
 use std::alloc::{AllocError, Global};
 
 /// A worker: it holds the vertex of its turn, or owes the marked vertices, and is idle where it owes none. Its memory is

@@ -13,7 +13,7 @@ use crate::marks::Marks;
 use crate::seat::Seat;
 use game::graph::Game;
 use game::predecessors::Predecessors;
-use measures::table::{PlainTable, opening};
+use progress::table::{PlainTable, opening};
 use std::alloc::{AllocError, Global};
 
 /// The parts of a core.

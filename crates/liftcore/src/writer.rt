@@ -4,14 +4,14 @@ ghost use Rattle.std.specs.Prelude.{◌≡◌, ◌<◌, ◌^◌, ◌+◌, ◌↔
 ghost use Rattle.liftcore.specs.Core.{is_quiet};
 ghost use Rattle.liftcore.specs.Marks.{members};
 ghost use Rattle.liftcore.specs.Replay.{end_lines, events_line, listed, replay_text, value_line, value_lines, yes_or_no};
-ghost use Rattle.measures.specs.Tables.{IsSettled};
+ghost use Rattle.progress.specs.Tables.{IsSettled};
 ghost use Rattle.text.specs.Wrote.{Wrote};
 
 use crate::event::Tally;
 use crate::machine::Core;
 use crate::marks::Marks;
-use measures::measure::Measure;
-use measures::writer::put_measure;
+use progress::measure::Measure;
+use progress::writer::put_measure;
 use std::io::Write;
 use text::{Piece, WriteFault, put, put_number, put_pieces};
 

@@ -2,14 +2,14 @@
 
 ghost use Rattle.std.specs.Prelude.{◌≡◌, ◌<◌, ◌≤◌, length};
 ghost use Rattle.game.specs.Game.{dual};
-ghost use Rattle.measures.specs.Measure.{components};
-ghost use Rattle.measures.specs.Progress.{LiesUnder};
+ghost use Rattle.progress.specs.Measure.{components};
+ghost use Rattle.progress.specs.Progress.{LiesUnder};
 
-use crate::bounds::bounds;
-use crate::claim::Claim;
-use crate::measure::Measure;
-use crate::progs::is_measure;
-use crate::table::PlainTable;
+use progress::bounds::bounds;
+use progress::claim::Claim;
+use progress::measure::Measure;
+use progress::progs::is_measure;
+use progress::table::PlainTable;
 use game::graph::Game;
 use lts::error::Memory;
 use search::layers::Layers;
@@ -124,7 +124,7 @@ fn are_left(game: &Game, table: &PlainTable, priority: u8) -> bool
 }
 
 // The same of each odd priority that counts can climb.
-#[tactic(auto, using(crate::proofs::Rising::under_itself, crate::proofs::Rising::under_trans))]
+#[tactic(auto, using(progress::proofs::Rising::under_itself, progress::proofs::Rising::under_trans))]
 fn jump_to_all_counts(
     alloc: Global,
     game: &Game,
@@ -150,7 +150,7 @@ fn jump_to_all_counts(
 }
 
 // Raises the table as far as a search finds.
-#[tactic(auto, using(crate::proofs::Rising::under_itself, crate::proofs::Rising::under_trans))]
+#[tactic(auto, using(progress::proofs::Rising::under_itself, progress::proofs::Rising::under_trans))]
 fn search(alloc: Global, game: &Game, table: &mut PlainTable) -> Result<(), Memory>
     requires { table.old.game ≡ game.now }
     ensures table { table.new.game ≡ game.now }
@@ -164,7 +164,7 @@ fn search(alloc: Global, game: &Game, table: &mut PlainTable) -> Result<(), Memo
 }
 
 /// Raises the table as far as a search finds, where counts can climb: lifting takes no time where none can.
-#[tactic(auto, using(crate::proofs::Rising::under_itself))]
+#[tactic(auto, using(progress::proofs::Rising::under_itself))]
 pub(crate) fn jump_ahead(alloc: Global, game: &Game, table: &mut PlainTable)
     requires { table.old.game ≡ game.now }
     ensures table { table.new.game ≡ game.now }

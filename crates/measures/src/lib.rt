@@ -1,15 +1,7 @@
-// Progress measures of parity games.
+// Progress measures of parity games: solving on one thread, by lifting and by what a search finds. It offers the measures and tables of `progress` under its own name.
 #![tactic(auto)]
 
-pub mod bounds;
-pub mod claim;
 mod jumps;
-pub mod measure;
-pub mod observer;
-mod pending;
-pub mod progs;
-pub mod rank;
-pub mod rows;
 pub mod settle;
-pub mod table;
-pub mod writer;
+
+pub use progress::{bounds, claim, measure, observer, progs, rank, rows, table, writer};

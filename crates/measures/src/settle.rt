@@ -1,116 +1,17 @@
-// Lifting to the least progress table.
+// The table that solving begins with, and solving on one thread.
 
-ghost use Rattle.std.specs.Prelude.{◌≡◌, ◌<◌, ◌≤◌, ◌*◌, ◌↔◌, IsTrue, IfOk, length};
-ghost use Rattle.game.specs.Wins.{Wins};
-ghost use Rattle.measures.specs.Lifting.{height, sum_of};
-ghost use Rattle.measures.specs.Progress.{IsLeastTable, IsProgress, LiesUnder, opening as opening_of};
-ghost use Rattle.measures.specs.Settling.{Sweeps};
+ghost use Rattle.std.specs.Prelude.{◌≡◌, IfOk};
+ghost use Rattle.progress.specs.Progress.{IsLeastTable, LiesUnder, opening as opening_of};
+
+pub use progress::settle::{even_wins, is_settled, settle};
 
 use crate::jumps::jump_ahead;
-use crate::observer::{Lifts, Observer, Silent, Stage};
-use crate::table::{PlainTable, Settled, opening};
 use game::graph::Game;
 use lts::error::Memory;
+use progress::observer::{Observer, Silent, Stage};
+use progress::settle::{lift_ahead, settle_seen};
+use progress::table::{PlainTable, Settled, opening};
 use std::alloc::Global;
-
-/// How often each vertex is lifted, taken together, before a search begins: most games are settled by then, in less time than it takes.
-const FIRST_LIFTS: u64 = 2;
-
-// Lifts each vertex once. The answer says whether one rose.
-fn sweep<O: Observer>(game: &Game, table: &mut PlainTable, lifts: &mut Lifts<'_, O>) -> bool
-    requires { table.old.game ≡ game.now }
-    ensures game { table.new.game ≡ game.now }
-    ensures sweeps { Sweeps game.now table.old.values table.new.values result }
-    ensures limit { sum_of game.now table.new.values ≤ length game.now.vertices * height game.now }
-{
-    let mut rose = false;
-    for v in (0..game.vertices()).rev() {
-        lifts.count();
-        if table.lift_at(game, v) {
-            rose = true;
-        }
-    }
-    table.known();
-    rose
-}
-
-// Lifts the vertices that may rise, as long as some are noted.
-fn drain<O: Observer>(game: &Game, table: &mut PlainTable, lifts: &mut Lifts<'_, O>)
-    requires { table.old.game ≡ game.now }
-    ensures game { table.new.game ≡ game.now }
-    ensures kept { sum_of game.now table.old.values ≤ sum_of game.now table.new.values }
-{
-    for _ in 0..u64::MAX {
-        match table.next_pending() {
-            Some(v) if v < game.vertices() => {
-                lifts.count();
-                table.lift_at(game, v);
-            }
-            _ => return,
-        }
-    }
-}
-
-/// Leaves the least progress table. It takes no memory.
-///
-/// It drains the list of what may rise, which is fast, and ends when a sweep over all vertices raises none.
-pub fn settle(game: &Game, table: &mut PlainTable)
-    requires { table.old.game ≡ game.now }
-    ensures game { table.new.game ≡ game.now }
-    ensures least { IsLeastTable game.now table.new.values }
-{
-    settle_seen(game, table, &Silent);
-}
-
-// The same, told to an observer as it goes on.
-#[tactic(auto, using(crate::proofs::Settling::swept_least))]
-fn settle_seen<O: Observer>(game: &Game, table: &mut PlainTable, observer: &O)
-    requires { table.old.game ≡ game.now }
-    ensures game { table.new.game ≡ game.now }
-    ensures least { IsLeastTable game.now table.new.values }
-{
-    let mut lifts = Lifts::new(observer, game.vertices());
-    loop {
-        drain(game, table, &mut lifts);
-        let rose = sweep(game, table, &mut lifts);
-        if !rose {
-            table.known();
-            return;
-        }
-    }
-}
-
-/// Whether no lift raises a vertex of the table.
-pub fn is_settled(game: &Game, table: &PlainTable) -> bool
-    requires { table.now.game ≡ game.now }
-    ensures { IsTrue result ↔ IsProgress game.now table.now.values }
-{
-    table.known();
-    for v in 0..game.vertices() {
-        if !table.is_still(game, v) {
-            return false;
-        }
-    }
-    true
-}
-
-// Lifts the vertices that may rise, a few times each at most. The answer says whether none is left.
-#[tactic(auto, using(crate::proofs::Rising::under_itself))]
-fn lift_ahead(game: &Game, table: &mut PlainTable) -> bool
-    requires { table.old.game ≡ game.now }
-    ensures game { table.new.game ≡ game.now }
-    ensures kept { LiesUnder table.old.values table.new.values }
-{
-    for _ in 0..FIRST_LIFTS * u64::from(game.vertices()) {
-        match table.next_pending() {
-            Some(v) if v < game.vertices() => {
-                table.lift_at(game, v);
-            }
-            _ => return true,
-        }
-    }
-    false
-}
 
 /// The table that solving begins with: the opening one, lifted a few times at each vertex. Where that doesn't settle it, it is raised
 /// as far as a search finds; what is not found, also for want of memory, is left to lifting.
@@ -158,12 +59,4 @@ pub fn solve_one_seen<O: Observer>(
     let mut table = first_table(alloc, game)?;
     settle_seen(game, &mut table, observer);
     Ok(table.into_settled())
-}
-
-/// Whether Even wins a vertex.
-pub fn even_wins(settled: &Settled, v: u32) -> bool
-    requires { v < length settled.now.game.vertices }
-    ensures { IsTrue result ↔ Wins settled.now.game v }
-{
-    !settled.is_top(v)
 }

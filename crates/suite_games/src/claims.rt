@@ -2,7 +2,7 @@
 
 ghost use Rattle.std.specs.Prelude.{◌≡◌, length};
 ghost use Rattle.game.specs.Game.{dual};
-ghost use Rattle.measures.specs.Measure.{components};
+ghost use Rattle.progress.specs.Measure.{components};
 
 use game::graph::Game;
 use game::player::Player;

@@ -2,12 +2,12 @@
 
 ghost use Rattle.std.specs.Prelude.{◌≡◌, ◌<◌, IfOk, length};
 ghost use Rattle.game.specs.Game.{Game};
-ghost use Rattle.measures.specs.Progress.{LiesUnder};
-ghost use Rattle.measures.specs.Tables.{LiesBelow};
+ghost use Rattle.progress.specs.Progress.{LiesUnder};
+ghost use Rattle.progress.specs.Tables.{LiesBelow};
 
 use crate::error::TableError;
-use measures::measure::Measure;
-use measures::table::PlainTable;
+use progress::measure::Measure;
+use progress::table::PlainTable;
 
 /// A measure for each vertex of one game, none above that of any progress table, read and raised by several workers at once.
 ///

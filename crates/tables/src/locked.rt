@@ -9,8 +9,8 @@ use crate::error::TableError;
 use crate::shard::Shard;
 use game::graph::Game;
 use game::name::GameName;
-use measures::measure::Measure;
-use measures::table::{PlainTable, opening_value};
+use progress::measure::Measure;
+use progress::table::{PlainTable, opening_value};
 use std::alloc::{AllocError, Global};
 use std::sync::{Arc, Mutex, Wait};
 
@@ -97,7 +97,7 @@ impl<K: GameName, R: Wait + Drop> Board for LockedBoard<K, R> {
 
     fn last(&self, _seat: &mut ()) {}
 
-    #[tactic(auto, using(measures::proofs::Rising::under_itself, measures::proofs::Rising::under_trans))]
+    #[tactic(auto, using(progress::proofs::Rising::under_itself, progress::proofs::Rising::under_trans))]
     fn finish(self, table: &mut PlainTable) {
         let LockedBoard { game, shards, .. } = self;
         for lock in shards {

@@ -1,15 +1,15 @@
 // The packed board as a board.
 
 ghost use Rattle.std.specs.Prelude.{◌≡◌, ◌<◌, ◌↔◌, Err, IfErr, IfOk, length};
-ghost use Rattle.measures.specs.Progress.{IsLeastTable};
+ghost use Rattle.progress.specs.Progress.{IsLeastTable};
 ghost use Rattle.tables.specs.Seats.{IsSeatOf, board_game, seen};
 ghost use Rattle.tables.specs.declared.error.TableError.TheVariants as errors;
 
 use crate::board::Board;
 use crate::error::TableError;
 use crate::packed::{PackedBoard, PackedSeat};
-use measures::measure::Measure;
-use measures::table::PlainTable;
+use progress::measure::Measure;
+use progress::table::PlainTable;
 
 impl Board for PackedBoard {
     type Seat = PackedSeat;

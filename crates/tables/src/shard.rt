@@ -1,19 +1,19 @@
 // Shards of a game's vertices.
 
 ghost use Rattle.std.specs.Prelude.{◌≡◌, ◌<◌, ◌↔◌, ◌/◌, ℕ, IfErr, IfOk, IsTrue, length, slice_set};
-ghost use Rattle.measures.specs.Measure.{IsBelow};
-ghost use Rattle.measures.specs.Progress.{LiesUnder, greater_of, opening as opening_of, value_at};
-ghost use Rattle.measures.specs.Tables.{LiesBelow};
+ghost use Rattle.progress.specs.Measure.{IsBelow};
+ghost use Rattle.progress.specs.Progress.{LiesUnder, greater_of, opening as opening_of, value_at};
+ghost use Rattle.progress.specs.Tables.{LiesBelow};
 ghost use Rattle.tables.specs.declared.error.TableError.TheVariants as errors;
 ghost use Rattle.tables.specs.Part.{Has, value_in};
 
 use crate::error::TableError;
 use game::graph::Game;
 use game::name::GameName;
-use measures::bounds::width;
-use measures::measure::Measure;
-use measures::rows::Rows;
-use measures::table::{PlainTable, turns_odd};
+use progress::bounds::width;
+use progress::measure::Measure;
+use progress::rows::Rows;
+use progress::table::{PlainTable, turns_odd};
 use std::alloc::Global;
 use std::marker::{Model, PhantomData};
 
@@ -88,7 +88,7 @@ impl<K: GameName> Shard<K> {
     }
 
     /// The measure of one of the shard's vertices, which stands at this place.
-    #[tactic(auto, using(measures::proofs::Plain::bounds_few))]
+    #[tactic(auto, using(progress::proofs::Plain::bounds_few))]
     pub(crate) fn read_at(&self, v: u32, place: u32) -> Measure
         requires vertex { v < length K.game.vertices }
         requires here { Has self.now v }
@@ -144,7 +144,7 @@ impl<K: GameName> Shard<K> {
     }
 
     /// Raises a table to what the shard has.
-    #[tactic(auto, using(measures::proofs::Rising::under_itself, measures::proofs::Rising::under_trans))]
+    #[tactic(auto, using(progress::proofs::Rising::under_itself, progress::proofs::Rising::under_trans))]
     pub(crate) fn raise_table(&self, game: &Game, table: &mut PlainTable)
         requires game { game.now ≡ K.game }
         requires same { table.old.game ≡ K.game }

@@ -1,8 +1,8 @@
 -- What can't be solved over the board that is asked for.
 use Rattle.std.specs.Prelude.{◌≤◌}
 use Rattle.game.specs.Game.{Game}
-use Rattle.measures.specs.Lifting.{height}
-use Rattle.measures.specs.declared.rank.TheConstants.{RANK_LIMIT}
+use Rattle.progress.specs.Lifting.{height}
+use Rattle.progress.specs.declared.rank.TheConstants.{RANK_LIMIT}
 use Rattle.tables.specs.declared.error.TableError.TheVariants as table
 use Rattle.workers.specs.declared.error.SolveError.TheVariants as solve
 use Rattle.workers.specs.declared.error.TeamError.{TeamError}

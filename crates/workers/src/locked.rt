@@ -2,7 +2,7 @@
 
 ghost use Rattle.std.specs.Prelude.{◌≡◌, ◌<◌, IfErr, IfOk};
 ghost use Rattle.std.specs.Arc.{arc_value};
-ghost use Rattle.measures.specs.Progress.{IsLeastTable};
+ghost use Rattle.progress.specs.Progress.{IsLeastTable};
 ghost use Rattle.workers.specs.Team.{IsMemory};
 
 use crate::error::TeamError;

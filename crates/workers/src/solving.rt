@@ -2,7 +2,7 @@
 
 ghost use Rattle.std.specs.Prelude.{◌≡◌, ◌<◌, IfOk};
 ghost use Rattle.std.specs.Arc.{arc_value};
-ghost use Rattle.measures.specs.Progress.{IsLeastTable};
+ghost use Rattle.progress.specs.Progress.{IsLeastTable};
 
 use crate::error::SolveError;
 use crate::gate::Gate;

@@ -2,9 +2,9 @@
 
 ghost use Rattle.std.specs.Prelude.{◌≡◌, ◌<◌, IfErr, IfOk, IsTrue, MatchResult};
 ghost use Rattle.std.specs.Arc.{arc_value};
-ghost use Rattle.measures.specs.Lifting.{height};
-ghost use Rattle.measures.specs.Progress.{IsLeastTable};
-ghost use Rattle.measures.specs.declared.rank.TheConstants.{RANK_LIMIT};
+ghost use Rattle.progress.specs.Lifting.{height};
+ghost use Rattle.progress.specs.Progress.{IsLeastTable};
+ghost use Rattle.progress.specs.declared.rank.TheConstants.{RANK_LIMIT};
 ghost use Rattle.workers.specs.Team.{IsMemory, IsRefusal, IsTooGreat};
 
 use crate::error::{SolveError, TeamError};

@@ -1,9 +1,9 @@
 use Rattle.std.proofs.Common.{◌<◌, ◌+◌, ap, arith, length, slice_index, slice_index_or, subst, sym, true≢false, ◌∙◌}
 use Rattle.std.proofs.lemmas.List.Elements.{All-from_recursion}
 use Rattle.game.specs.Game.{Game, Vertex}
-use Rattle.measures.specs.Measure.{Measure}
-use Rattle.measures.specs.Progress.{IsLeastTable}
-use Rattle.measures.proofs.Bests.{vertex_tells}
+use Rattle.progress.specs.Measure.{Measure}
+use Rattle.progress.specs.Progress.{IsLeastTable}
+use Rattle.progress.proofs.Bests.{vertex_tells}
 use Rattle.evidence.proofs.Checked.{ascending_of, some_successors, successors_inside}
 use Rattle.evidence.proofs.Firsts.{IsFirstOf, first_alone, first_left, first_of_all, first_one, first_taken}
 use Rattle.evidence.proofs.make.best_successor.Goals as goal

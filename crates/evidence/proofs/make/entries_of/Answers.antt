@@ -1,9 +1,9 @@
 use Rattle.std.proofs.Common.{◌≢◌, ◌+◌, ap, arith, refl, subst, sym, true≢false, ◌∙◌}
 use Rattle.game.specs.Game.{Game}
 use Rattle.game.proofs.Greatest.{greatest_limit}
-use Rattle.measures.specs.Measure.{Counts, Top}
-use Rattle.measures.specs.Progress.{IsLeastTable}
-use Rattle.measures.proofs.Bests.{counts_back}
+use Rattle.progress.specs.Measure.{Counts, Top}
+use Rattle.progress.specs.Progress.{IsLeastTable}
+use Rattle.progress.proofs.Bests.{counts_back}
 use Rattle.evidence.specs.View.{Entries}
 use Rattle.evidence.proofs.Making.{IsMade, made_even, made_left, made_more, made_none, rank_long}
 use Rattle.evidence.proofs.make.entries_of.Goals as goal

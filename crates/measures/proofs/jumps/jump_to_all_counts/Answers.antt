@@ -1,9 +1,9 @@
-use Rattle.measures.proofs.Rising.{under_trans}
+use Rattle.progress.proofs.Rising.{under_trans}
 use Rattle.measures.proofs.jumps.jump_to_all_counts.Goals as goal
 use Rattle.measures.proofs.jumps.jump_to_all_counts.Goals.{then-are_left+in_ok-layers, else-are_left}
 use Rattle.std.proofs.Common.{rules}
-use Rattle.measures.proofs.Common.{Table, subst, sym}
-use Rattle.measures.proofs.Monotone.{LiesUnder}
+use Rattle.progress.proofs.Common.{Table, subst, sym}
+use Rattle.progress.proofs.Monotone.{LiesUnder}
 
 pub loop-back-preserved : goal.loop-back-preserved
 loop-back-preserved c =

@@ -1,5 +1,5 @@
 use Rattle.std.proofs.Common.{◌≡◌}
-use Rattle.measures.specs.Progress.{LiesUnder}
+use Rattle.progress.specs.Progress.{LiesUnder}
 use Rattle.measures.proofs.jumps.jump_to_all_counts.Given as goal
 
 abbrev pub invariant-loop-back : goal.invariant-loop-back

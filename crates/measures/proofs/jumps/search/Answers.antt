@@ -1,4 +1,4 @@
-use Rattle.measures.proofs.Rising.{under_trans}
+use Rattle.progress.proofs.Rising.{under_trans}
 use Rattle.measures.proofs.jumps.search.Goals as goal
 
 pub returns-clause-kept : goal.returns-clause-kept

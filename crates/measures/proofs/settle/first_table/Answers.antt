@@ -1,7 +1,7 @@
 use Rattle.std.proofs.Common.{List, subst}
-use Rattle.measures.specs.Measure.{Measure}
-use Rattle.measures.specs.Progress.{LiesUnder}
-use Rattle.measures.proofs.Rising.{under_trans}
+use Rattle.progress.specs.Measure.{Measure}
+use Rattle.progress.specs.Progress.{LiesUnder}
+use Rattle.progress.proofs.Rising.{under_trans}
 use Rattle.measures.proofs.settle.first_table.Goals as goal
 
 pub returns-clause-raised : goal.returns-clause-raised

@@ -1,4 +1,4 @@
-use Rattle.measures.proofs.Common.{subst, sym, Game, IsProgress}
+use Rattle.progress.proofs.Common.{subst, sym, Game, IsProgress}
 use Rattle.workers.proofs.solving.solve.Goals as goal
 
 pub into_settled-requires : goal.into_settled-requires

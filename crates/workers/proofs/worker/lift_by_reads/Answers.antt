@@ -1,5 +1,5 @@
-use Rattle.measures.proofs.Common.{◌<◌, arith, length, slice_index_or, subst, sym, All-from_recursion, Game}
-use Rattle.measures.proofs.Bests.{its_successors}
+use Rattle.progress.proofs.Common.{◌<◌, arith, length, slice_index_or, subst, sym, All-from_recursion, Game}
+use Rattle.progress.proofs.Bests.{its_successors}
 use Rattle.workers.proofs.worker.lift_by_reads.Goals as goal
 
 pub read-requires-clause-vertex : goal.read-requires-clause-vertex

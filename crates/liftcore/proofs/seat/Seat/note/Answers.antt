@@ -5,7 +5,7 @@ use Rattle.liftcore.specs.Seats.{notes_from, notes_of}
 use Rattle.liftcore.specs.declared.seat.Seat.{Seat}
 use Rattle.game.specs.Game.{Game, vertex}
 use Rattle.game.specs.Predecessors.{successors_at}
-use Rattle.measures.specs.Measure.{Measure}
+use Rattle.progress.specs.Measure.{Measure}
 use Rattle.liftcore.proofs.Seated.{note_one, worker_holding}
 use Rattle.liftcore.proofs.seat.Seat.note.Goals as goal
 

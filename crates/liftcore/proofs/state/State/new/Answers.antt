@@ -2,8 +2,8 @@ use Rattle.std.proofs.Common.{◌∙◌, ℕ, List, ap, ap₂, map}
 use Rattle.std.specs.List.{range_with_len}
 use Rattle.liftcore.specs.Seats.{worker_of}
 use Rattle.game.specs.Game.{Game}
-use Rattle.measures.specs.Measure.{Measure}
-use Rattle.measures.specs.Tables.{Table}
+use Rattle.progress.specs.Measure.{Measure}
+use Rattle.progress.specs.Tables.{Table}
 use Rattle.liftcore.specs.Core.{start}
 use Rattle.liftcore.specs.Marks.{members}
 use Rattle.liftcore.proofs.Marked.{all_members}

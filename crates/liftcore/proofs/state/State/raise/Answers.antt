@@ -5,8 +5,8 @@ use Rattle.std.proofs.lemmas.Bool.{false_from_ne_true}
 use Rattle.std.proofs.lemmas.Option.{slice_get_within}
 use Rattle.game.specs.Game.{Game}
 use Rattle.game.specs.Predecessors.{predecessors}
-use Rattle.measures.specs.Measure.{Measure, measure_cmp}
-use Rattle.measures.specs.Progress.{greater_of, value_at}
+use Rattle.progress.specs.Measure.{Measure, measure_cmp}
+use Rattle.progress.specs.Progress.{greater_of, value_at}
 use Rattle.liftcore.specs.Seats.{HasSeat, worker_of}
 use Rattle.liftcore.specs.Work.{AreOwed, CanRaise}
 use Rattle.liftcore.specs.declared.seat.Seat.{Seat}

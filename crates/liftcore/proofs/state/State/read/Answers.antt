@@ -2,7 +2,7 @@ use Rattle.std.proofs.Common.{◌∙◌, ap, refl, slice_set}
 use Rattle.liftcore.specs.Core.{Holding, with_note}
 use Rattle.liftcore.specs.Seats.{notes_of}
 use Rattle.liftcore.specs.Work.{IsUnread}
-use Rattle.measures.specs.Measure.{Measure}
+use Rattle.progress.specs.Measure.{Measure}
 use Rattle.liftcore.proofs.Stated.{at_index, read_step, seats_kept, skip_read}
 use Rattle.liftcore.proofs.state.State.read.Goals as goal
 

@@ -1,6 +1,6 @@
 use Rattle.std.proofs.Common.{rules}
-use Rattle.measures.specs.Progress.{LiesUnder}
-use Rattle.measures.proofs.Rising.{under_trans}
+use Rattle.progress.specs.Progress.{LiesUnder}
+use Rattle.progress.proofs.Rising.{under_trans}
 use Rattle.tables.proofs.locked.LockedBoardBoard.finish.Goals as goal
 
 pub loop-lock-preserved : goal.loop-lock-preserved

@@ -1,5 +1,5 @@
 use Rattle.std.proofs.Common.{◌≡◌}
-use Rattle.measures.specs.Progress.{LiesUnder}
+use Rattle.progress.specs.Progress.{LiesUnder}
 use Rattle.tables.proofs.locked.LockedBoardBoard.finish.Given as goal
 
 abbrev pub invariant-loop-lock : goal.invariant-loop-lock

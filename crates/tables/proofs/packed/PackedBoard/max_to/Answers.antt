@@ -1,8 +1,8 @@
 use Rattle.std.proofs.Common.{◌<◌, ◌≤◌, length, max, subst, sym, ◌∙◌}
 use Rattle.std.specs.Arc.{arc_value}
 use Rattle.game.specs.Game.{Game}
-use Rattle.measures.specs.Lifting.{of_rank, height}
-use Rattle.measures.specs.Tables.{LiesBelow}
+use Rattle.progress.specs.Lifting.{of_rank, height}
+use Rattle.progress.specs.Tables.{LiesBelow}
 use Rattle.tables.specs.Packed.{IsWord}
 use Rattle.tables.proofs.Packing.{raised_seen, raises, seen_more, word_max}
 use Rattle.tables.proofs.packed.PackedBoard.max_to.Goals as goal

@@ -1,6 +1,6 @@
 use Rattle.std.proofs.Common.{◌≡◌, ap, arith, length, sym, ◌∙◌}
 use Rattle.game.specs.Game.{Game}
-use Rattle.measures.specs.Lifting.{height}
+use Rattle.progress.specs.Lifting.{height}
 use Rattle.tables.proofs.Packing.{closed_words}
 use Rattle.std.specs.Mem.Slots.{slots_items}
 use Rattle.tables.proofs.packed.PackedBoard.pour_into.Goals as goal

@@ -1,8 +1,8 @@
 use Rattle.std.proofs.Common.{◌<◌, arith, length}
-use Rattle.measures.specs.Lifting.{of_rank}
-use Rattle.measures.specs.Measure.{IsAtMost}
-use Rattle.measures.specs.Progress.{LiesUnder, value_at}
-use Rattle.measures.proofs.Rising.{under_trans}
+use Rattle.progress.specs.Lifting.{of_rank}
+use Rattle.progress.specs.Measure.{IsAtMost}
+use Rattle.progress.specs.Progress.{LiesUnder, value_at}
+use Rattle.progress.proofs.Rising.{under_trans}
 use Rattle.tables.specs.Seats.{board_game, seen}
 use Rattle.tables.proofs.Packing.{looked_high}
 use Rattle.tables.proofs.packed.PackedBoard.raise_to.Goals as goal

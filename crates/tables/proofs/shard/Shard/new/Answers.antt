@@ -1,4 +1,4 @@
-use Rattle.measures.proofs.Common.{◌≡◌, ℕ, ◌<◌, ◌/◌, ◌%◌, ◌+◌, ◌*◌, ◌∙◌, ap, arith, length, replicate, subst, sym, Counts, Game, IsOpening, false, opening, value_at}
+use Rattle.progress.proofs.Common.{◌≡◌, ℕ, ◌<◌, ◌/◌, ◌%◌, ◌+◌, ◌*◌, ◌∙◌, ap, arith, length, replicate, subst, sym, Counts, Game, IsOpening, false, opening, value_at}
 use Rattle.tables.specs.Part.{IsStoredPart}
 use Rattle.tables.proofs.Parts.{IsFilled, filled_first, filled_inside, filled_left, filled_part, filled_top, place_less}
 use Rattle.tables.proofs.shard.Shard.new.Goals as goal

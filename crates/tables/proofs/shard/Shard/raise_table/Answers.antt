@@ -1,6 +1,6 @@
-use Rattle.measures.proofs.Common.{Table, rules, subst, sym}
-use Rattle.measures.specs.Progress.{LiesUnder}
-use Rattle.measures.proofs.Rising.{under_trans}
+use Rattle.progress.proofs.Common.{Table, rules, subst, sym}
+use Rattle.progress.specs.Progress.{LiesUnder}
+use Rattle.progress.proofs.Rising.{under_trans}
 use Rattle.tables.proofs.shard.Shard.raise_table.Goals as goal
 use Rattle.tables.proofs.shard.Shard.raise_table.Goals.{then-v-from+then-has, else-v-from}
 

@@ -1,5 +1,5 @@
 use Rattle.std.proofs.Common.{◌≡◌}
-use Rattle.measures.specs.Progress.{LiesUnder}
+use Rattle.progress.specs.Progress.{LiesUnder}
 use Rattle.tables.proofs.shard.Shard.raise_table.Given as goal
 
 abbrev pub invariant-loop-place : goal.invariant-loop-place

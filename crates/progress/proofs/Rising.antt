@@ -1,0 +1,24 @@
+-- Tables that only rise.
+use Rattle.progress.proofs.Common.{◌<◌, ℕ, List, length, sym, subst, inl, inr, slice_set, eqb_tells, Measure, IsAtMost, value_at, Option, None, Some, AreRaised, Entry, entry_at, raised_by}
+use Rattle.progress.proofs.Measures.{at_most_itself, at_most_trans}
+use Rattle.progress.proofs.Monotone.{LiesUnder, greater_rises}
+use Rattle.progress.proofs.Plain.{value_set_other, value_set_same}
+
+pub under_itself : (table : List Measure) → LiesUnder table table
+under_itself table v = at_most_itself (value_at table v)
+
+pub under_trans : (first second third : List Measure) → LiesUnder first second → LiesUnder second third → LiesUnder first third
+under_trans first second third h k v = at_most_trans (value_at first v) (value_at second v) (value_at third v) (h v) (k v)
+
+pub set_under : (values : List Measure) (v : ℕ) (m : Measure) → v < length values → IsAtMost (value_at values v) m → LiesUnder values (slice_set values v m)
+set_under values v m inside low u = elim (eqb_tells u v) [
+  | inl w ↦ subst (λ k. IsAtMost (value_at values k) (value_at (slice_set values v m) k)) (sym w.1) (subst (IsAtMost (value_at values v)) (sym (value_set_same values v m inside)) low)
+  | inr w ↦ subst (IsAtMost (value_at values u)) (sym (value_set_other values v u m w.1)) (at_most_itself (value_at values u))
+]
+
+raised_rises : (m : Measure) (o : Option Entry) → IsAtMost m (raised_by m o)
+raised_rises m None = at_most_itself m
+raised_rises m (Some x) = greater_rises m x.value
+
+pub raised_under : (old new : List Measure) (entries : List (Option Entry)) → AreRaised old entries new → LiesUnder old new
+raised_under old new entries raised v = subst (IsAtMost (value_at old v)) (sym (raised v)) (raised_rises (value_at old v) (entry_at entries v))

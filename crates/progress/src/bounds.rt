@@ -1,0 +1,47 @@
+// The components of a game, and how far their counts go.
+
+ghost use Rattle.std.specs.Prelude.{◌≡◌, ◌≤◌, length};
+ghost use Rattle.game.specs.Game.{dual};
+ghost use Rattle.progress.specs.Measure.{components};
+ghost use Rattle.progress.specs.Progs.{bounds as bounds_of};
+
+use crate::measure::COMPONENTS;
+use arrayvec::ArrayVec;
+use game::dual::greatest_priority;
+use game::graph::Game;
+
+/// The greatest count of each component: how many vertices have its priority.
+pub fn bounds(game: &Game) -> ArrayVec<u32, 16>
+    ensures { result.items ≡ bounds_of game.now }
+{
+    game.known();
+    let mut bounds = ArrayVec::new();
+    for p in (0..greatest_priority(game)).rev() {
+        if p % 2 == 0 {
+            bounds.push(game.count(p + 1));
+        }
+    }
+    bounds
+}
+
+/// How many components a game has, and so how many counts each of its measures but top.
+#[tactic(auto, using(crate::proofs::Plain::bounds_long, crate::proofs::Plain::bounds_few))]
+pub fn width(game: &Game) -> usize
+    ensures value { result ≡ length (components game.now) }
+    ensures few { result ≤ COMPONENTS }
+{
+    game.known();
+    bounds(game).len()
+}
+
+/// How many components the dual game has.
+#[tactic(auto, using(crate::proofs::StoredClaims::dual_long, crate::proofs::StoredClaims::dual_none))]
+pub(crate) fn dual_width(game: &Game) -> usize
+    ensures { result ≡ length (components (dual game.now)) }
+{
+    if game.vertices() == 0 {
+        0
+    } else {
+        greatest_priority(game) as usize / 2 + 1
+    }
+}

@@ -1,0 +1,14 @@
+// Progress measures of parity games, tables of them, and lifting a table until no lift raises it.
+#![tactic(auto)]
+
+pub mod bounds;
+pub mod claim;
+pub mod measure;
+pub mod observer;
+mod pending;
+pub mod progs;
+pub mod rank;
+pub mod rows;
+pub mod settle;
+pub mod table;
+pub mod writer;

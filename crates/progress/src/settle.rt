@@ -1,0 +1,118 @@
+// Lifting to the least progress table.
+
+ghost use Rattle.std.specs.Prelude.{◌≡◌, ◌<◌, ◌≤◌, ◌*◌, ◌↔◌, IsTrue, length};
+ghost use Rattle.game.specs.Wins.{Wins};
+ghost use Rattle.progress.specs.Lifting.{height, sum_of};
+ghost use Rattle.progress.specs.Progress.{IsLeastTable, IsProgress, LiesUnder};
+ghost use Rattle.progress.specs.Settling.{Sweeps};
+
+use crate::observer::{Lifts, Observer, Silent};
+use crate::table::{PlainTable, Settled};
+use game::graph::Game;
+
+/// How often each vertex is lifted, taken together, before a search begins: most games are settled by then, in less time than it takes.
+const FIRST_LIFTS: u64 = 2;
+
+// Lifts each vertex once. The answer says whether one rose.
+fn sweep<O: Observer>(game: &Game, table: &mut PlainTable, lifts: &mut Lifts<'_, O>) -> bool
+    requires { table.old.game ≡ game.now }
+    ensures game { table.new.game ≡ game.now }
+    ensures sweeps { Sweeps game.now table.old.values table.new.values result }
+    ensures limit { sum_of game.now table.new.values ≤ length game.now.vertices * height game.now }
+{
+    let mut rose = false;
+    for v in (0..game.vertices()).rev() {
+        lifts.count();
+        if table.lift_at(game, v) {
+            rose = true;
+        }
+    }
+    table.known();
+    rose
+}
+
+// Lifts the vertices that may rise, as long as some are noted.
+fn drain<O: Observer>(game: &Game, table: &mut PlainTable, lifts: &mut Lifts<'_, O>)
+    requires { table.old.game ≡ game.now }
+    ensures game { table.new.game ≡ game.now }
+    ensures kept { sum_of game.now table.old.values ≤ sum_of game.now table.new.values }
+{
+    for _ in 0..u64::MAX {
+        match table.next_pending() {
+            Some(v) if v < game.vertices() => {
+                lifts.count();
+                table.lift_at(game, v);
+            }
+            _ => return,
+        }
+    }
+}
+
+/// Leaves the least progress table. It takes no memory.
+///
+/// It drains the list of what may rise, which is fast, and ends when a sweep over all vertices raises none.
+pub fn settle(game: &Game, table: &mut PlainTable)
+    requires { table.old.game ≡ game.now }
+    ensures game { table.new.game ≡ game.now }
+    ensures least { IsLeastTable game.now table.new.values }
+{
+    settle_seen(game, table, &Silent);
+}
+
+/// Leaves the least progress table, and tells an observer as it goes on. It takes no memory.
+#[tactic(auto, using(crate::proofs::Settling::swept_least))]
+pub fn settle_seen<O: Observer>(game: &Game, table: &mut PlainTable, observer: &O)
+    requires { table.old.game ≡ game.now }
+    ensures game { table.new.game ≡ game.now }
+    ensures least { IsLeastTable game.now table.new.values }
+{
+    let mut lifts = Lifts::new(observer, game.vertices());
+    loop {
+        drain(game, table, &mut lifts);
+        let rose = sweep(game, table, &mut lifts);
+        if !rose {
+            table.known();
+            return;
+        }
+    }
+}
+
+/// Whether no lift raises a vertex of the table.
+pub fn is_settled(game: &Game, table: &PlainTable) -> bool
+    requires { table.now.game ≡ game.now }
+    ensures { IsTrue result ↔ IsProgress game.now table.now.values }
+{
+    table.known();
+    for v in 0..game.vertices() {
+        if !table.is_still(game, v) {
+            return false;
+        }
+    }
+    true
+}
+
+/// Lifts the vertices that may rise, a few times each at most. The answer says whether none is left: then a search is of no use.
+#[tactic(auto, using(crate::proofs::Rising::under_itself))]
+pub fn lift_ahead(game: &Game, table: &mut PlainTable) -> bool
+    requires { table.old.game ≡ game.now }
+    ensures game { table.new.game ≡ game.now }
+    ensures kept { LiesUnder table.old.values table.new.values }
+{
+    for _ in 0..FIRST_LIFTS * u64::from(game.vertices()) {
+        match table.next_pending() {
+            Some(v) if v < game.vertices() => {
+                table.lift_at(game, v);
+            }
+            _ => return true,
+        }
+    }
+    false
+}
+
+/// Whether Even wins a vertex.
+pub fn even_wins(settled: &Settled, v: u32) -> bool
+    requires { v < length settled.now.game.vertices }
+    ensures { IsTrue result ↔ Wins settled.now.game v }
+{
+    !settled.is_top(v)
+}

@@ -1,0 +1,356 @@
+// Tables of measures.
+
+ghost use Rattle.std.specs.Prelude.{◌≡◌, ◌<◌, ◌↔◌, ℕ, Contains, IsSome, IsTrue, Some, length, slice_set, IfOk};
+ghost use Rattle.std.specs.List.{AllByRecursion};
+ghost use Rattle.game.specs.Game.{IsGame};
+ghost use Rattle.progress.specs.Claim.{AreRaised, Entry, IsGoodAt, IsGoodClaim, IsGoodFrom, Jumps, claimed_at, entry_at};
+ghost use Rattle.progress.specs.Measure.{IsProg, Top};
+ghost use Rattle.progress.specs.Progress.{IsProgress, LiesUnder, greater_of, opening as opening_of, value_at};
+ghost use Rattle.progress.specs.Settling.{IsStill, LiftsAt};
+ghost use Rattle.progress.specs.Tables.{IsOpening, IsPlain, IsSettled, LiesBelow};
+
+use crate::bounds::bounds;
+use crate::claim::Claim;
+use crate::measure::Measure;
+use crate::pending::Pending;
+use crate::progs::prog_of;
+use crate::rows::Rows;
+use arrayvec::ArrayVec;
+use game::graph::Game;
+use game::player::Player;
+use game::predecessors::Predecessors;
+use lts::error::Memory;
+use std::alloc::Global;
+use std::marker::Model;
+use std::snapshot::Snapshot;
+
+/// A measure for each vertex of a game, none of them above that of any progress table.
+#[derive(Drop)]
+pub struct PlainTable {
+    rows: Rows,
+    bounds: ArrayVec<u32, 16>,
+    pending: Pending,
+    of: Snapshot<Game>,
+}
+
+impl Model for PlainTable {
+    ghost use Rattle.progress.specs.Tables.{IsStored, Table};
+
+    ghost Value = { Table };
+
+    ghost view = { λ t. record { game = t.of.value; values = t.rows.values } };
+
+    ghost invariant = { λ t. IsStored record { game = t.of.value; values = t.rows.values } t.bounds.items t.rows.width t.pending };
+}
+
+/// Whether a vertex is Odd's for ever: its priority is odd, and its only successor is itself. Its opening value is then top,
+/// and else zeros.
+pub fn turns_odd(game: &Game, v: u32) -> bool
+    requires { v < length game.now.vertices }
+    ensures { IsOpening game.now v result }
+{
+    game.priority(v) % 2 == 1 && game.successors(v) == [v].as_slice()
+}
+
+/// The measure of a vertex that lifting begins with.
+#[tactic(auto, using(crate::proofs::Plain::bounds_few, crate::proofs::Plain::opening_is))]
+pub fn opening_value(game: &Game, v: u32) -> Measure
+    requires { v < length game.now.vertices }
+    ensures value { result ≡ value_at (opening_of game.now) v }
+    ensures below { LiesBelow game.now v result }
+{
+    game.known();
+    if turns_odd(game, v) {
+        Measure::top()
+    } else {
+        Measure::padded(ArrayVec::new(), bounds(game).len())
+    }
+}
+
+/// The table that lifting begins with: top at a vertex of odd priority whose only successor is itself, and else zeros.
+///
+/// # Errors
+/// Want of memory, and nothing else.
+pub fn opening(alloc: Global, game: &Game) -> Result<PlainTable, Memory>
+    ensures game { IfOk result (λ t. t.game ≡ game.now) }
+    ensures values { IfOk result (λ t. t.values ≡ opening_of game.now) }
+{
+    game.known();
+    let bounds = bounds(game);
+    let mut rows = Rows::zeros(alloc, game.vertices() as usize, bounds.len())?;
+    for v in 0..game.vertices() {
+        if turns_odd(game, v) {
+            rows.set(v as usize, &Measure::top());
+        }
+    }
+    let climbs = bounds.iter().any(|bound| *bound > 1);
+    Ok(PlainTable {
+        rows,
+        bounds,
+        pending: Pending::of(alloc, game, climbs)?,
+        of: Snapshot::of(game),
+    })
+}
+
+impl PlainTable {
+    /// What holds of every table.
+    pub fn known(&self)
+        ensures { IsPlain self.now }
+    {
+        let _ = &self.rows;
+    }
+
+    /// The predecessors of its game's vertices.
+    pub fn predecessors(&self) -> &Predecessors
+        ensures { result.now ≡ self.now.game }
+    {
+        self.pending.predecessors()
+    }
+
+    /// The measure of a vertex.
+    #[tactic(auto, using(crate::proofs::Plain::bounds_few))]
+    pub fn value(&self, v: u32) -> Measure
+        requires { v < length self.now.game.vertices }
+        ensures value { result ≡ value_at self.now.values v }
+        ensures below { LiesBelow self.now.game v result }
+    {
+        self.rows.value(v as usize)
+    }
+
+    /// Whether the measure of a vertex is top. It copies nothing.
+    pub fn is_top(&self, v: u32) -> bool
+        requires { v < length self.now.game.vertices }
+        ensures { IsTrue result ↔ (value_at self.now.values v ≡ Top) }
+    {
+        self.rows.is_top(v as usize)
+    }
+
+    /// Leaves the greater of the old measure and the new.
+    #[tactic(auto, using(crate::proofs::Rising::under_itself))]
+    pub fn raise(&mut self, v: u32, m: &Measure)
+        requires vertex { v < length self.old.game.vertices }
+        requires below { LiesBelow self.old.game v m.now }
+        ensures game { self.new.game ≡ self.old.game }
+        ensures values { self.new.values ≡ slice_set self.old.values v (greater_of (value_at self.old.values v) m.now) }
+        ensures kept { LiesUnder self.old.values self.new.values }
+    {
+        if self.rows.compare_with(v as usize, m).is_lt() {
+            self.rows.set(v as usize, m);
+            self.pending.note(v);
+        }
+    }
+
+    /// Whether no lift raises a vertex.
+    pub(crate) fn is_still(&self, game: &Game, v: u32) -> bool
+        requires same { self.now.game ≡ game.now }
+        requires vertex { v < length game.now.vertices }
+        ensures { IsTrue result ↔ IsStill game.now self.now.values v }
+    {
+        let best = self.rows.best(game.owner(v), game.successors(v));
+        self.rows
+            .reaches(v as usize, best as usize, game.priority(v))
+    }
+
+    // What a vertex of this priority asks for where its play goes on at another vertex.
+    fn prog_of(&self, priority: u8, next: usize) -> Measure
+        requires { next < length self.now.values }
+        ensures { IsProg self.now.game priority (value_at self.now.values next) result }
+    {
+        if self.rows.is_top(next) {
+            Measure::top()
+        } else {
+            prog_of(self.bounds.as_slice(), priority, self.rows.counts(next))
+        }
+    }
+
+    /// Raises a vertex to its lift. The answer says whether it rose.
+    #[tactic(auto, using(crate::proofs::Rising::under_itself))]
+    pub(crate) fn lift_at(&mut self, game: &Game, v: u32) -> bool
+        requires same { self.old.game ≡ game.now }
+        requires vertex { v < length game.now.vertices }
+        ensures game { self.new.game ≡ game.now }
+        ensures lifts { LiftsAt game.now v self.old.values self.new.values result }
+        ensures kept { LiesUnder self.old.values self.new.values }
+    {
+        let priority = game.priority(v);
+        let best = self.rows.best(game.owner(v), game.successors(v)) as usize;
+        if self.rows.reaches(v as usize, best, priority) {
+            return false;
+        }
+        let risen = self.prog_of(priority, best);
+        self.rows.set(v as usize, &risen);
+        self.pending.note(v);
+        true
+    }
+
+    // What a vertex of this priority asks for where its play goes on at another one, by what is claimed of that one, if it
+    // has an entry.
+    fn claimed_prog(&self, claim: &Claim, priority: u8, next: u32) -> Measure
+        requires same { self.now.game ≡ claim.now.game }
+        requires next { next < length self.now.game.vertices }
+        ensures { IsProg self.now.game priority (claimed_at self.now.values claim.now.entries next) result }
+    {
+        if claim.has(next) {
+            claim.prog_of(self.bounds.as_slice(), priority, next)
+        } else {
+            self.prog_of(priority, next as usize)
+        }
+    }
+
+    // Whether an edge of an entry is good, at a vertex of this priority.
+    fn is_good_edge(&self, claim: &Claim, priority: u8, v: u32, next: u32) -> bool
+        requires same { self.now.game ≡ claim.now.game }
+        requires vertex { v < length self.now.game.vertices }
+        requires entry { IsSome (entry_at claim.now.entries v) }
+        requires next { next < length self.now.game.vertices }
+        requires priority { priority < 255 }
+        ensures { IsTrue result ↔ IsGoodFrom self.now.game self.now.values claim.now.entries priority v next }
+    {
+        claim.is_at_most(v, &self.claimed_prog(claim, priority, next))
+            && claim.descends(priority, v, next)
+    }
+
+    // Whether each of these edges is.
+    fn are_good_edges(&self, claim: &Claim, priority: u8, v: u32, successors: &[u32]) -> bool
+        requires same { self.now.game ≡ claim.now.game }
+        requires vertex { v < length self.now.game.vertices }
+        requires entry { IsSome (entry_at claim.now.entries v) }
+        requires inside { AllByRecursion (λ t. t < length self.now.game.vertices) successors.now }
+        requires priority { priority < 255 }
+        ensures { IsTrue result ↔ ((t : ℕ) → Contains successors.now t → IsGoodFrom self.now.game self.now.values claim.now.entries priority v t) }
+    {
+        for t in successors {
+            if !self.is_good_edge(claim, priority, v, *t) {
+                return false;
+            }
+        }
+        true
+    }
+
+    // Whether the entry of a vertex is good.
+    fn is_good_entry(&self, game: &Game, claim: &Claim, v: u32) -> bool
+        requires same { self.now.game ≡ game.now }
+        requires claim { claim.now.game ≡ game.now }
+        requires vertex { v < length game.now.vertices }
+        requires entry { IsSome (entry_at claim.now.entries v) }
+        ensures { IsTrue result ↔ IsGoodAt game.now self.now.values claim.now.entries v }
+    {
+        game.known();
+        claim.known();
+        let priority = game.priority(v);
+        let successors = game.successors(v);
+        match game.owner(v) {
+            Player::Even => self.are_good_edges(claim, priority, v, successors),
+            Player::Odd => {
+                let next = claim.next(v);
+                successors.contains(&next) && self.is_good_edge(claim, priority, v, next)
+            }
+        }
+    }
+
+    // Whether a claim is good over the table. It looks at each edge of each entry once.
+    fn is_good_claim(&self, game: &Game, claim: &Claim) -> bool
+        requires same { self.now.game ≡ game.now }
+        requires claim { claim.now.game ≡ game.now }
+        ensures { IsTrue result ↔ IsGoodClaim game.now self.now.values claim.now.entries }
+    {
+        for v in claim.vertices() {
+            if !self.is_good_entry(game, claim, *v) {
+                return false;
+            }
+        }
+        true
+    }
+
+    // Raises each value to what is claimed of its vertex.
+    fn raise_by(&mut self, claim: &Claim)
+        requires same { self.old.game ≡ claim.now.game }
+        requires below { (v : ℕ) (x : Entry) → entry_at claim.now.entries v ≡ Some x → LiesBelow self.old.game v x.value }
+        ensures game { self.new.game ≡ self.old.game }
+        ensures raised { AreRaised self.old.values claim.now.entries self.new.values }
+    {
+        for v in claim.vertices() {
+            self.known();
+            self.raise(*v, &claim.value(*v));
+        }
+    }
+
+    /// Raises each value to what is claimed of its vertex, where the claim is good, and else leaves the table as it is. The
+    /// answer says whether it is good. It takes no memory, and looks at each edge of each entry once.
+    #[tactic(auto, using(crate::proofs::Claims::claims_lie_below, crate::proofs::Rising::raised_under, crate::proofs::Rising::under_itself))]
+    pub fn jump(&mut self, game: &Game, claim: &Claim) -> bool
+        requires same { self.old.game ≡ game.now }
+        requires claim { claim.now.game ≡ game.now }
+        ensures game { self.new.game ≡ game.now }
+        ensures good { IsTrue result ↔ IsGoodClaim game.now self.old.values claim.now.entries }
+        ensures jumps { Jumps self.old.values claim.now.entries self.new.values result }
+        ensures kept { LiesUnder self.old.values self.new.values }
+    {
+        self.known();
+        if !self.is_good_claim(game, claim) {
+            return false;
+        }
+        self.raise_by(claim);
+        true
+    }
+
+    /// A vertex that may rise, if one is noted.
+    pub(crate) fn next_pending(&mut self) -> Option<u32>
+        ensures { self.new ≡ self.old }
+    {
+        self.pending.next()
+    }
+
+    /// The table again, where it is a progress table: no other one is less.
+    #[tactic(auto, using(crate::proofs::Plain::plain_settled))]
+    pub fn into_settled(self) -> Settled
+        requires { IsProgress self.game self.values }
+        ensures { result ≡ self }
+    {
+        self.known();
+        Settled { table: self }
+    }
+}
+
+/// The least progress table of a game.
+#[derive(Drop)]
+pub struct Settled {
+    table: PlainTable,
+}
+
+impl Model for Settled {
+    ghost use Rattle.progress.specs.Tables.{IsSettled, Table};
+
+    ghost Value = { Table };
+
+    ghost view = { λ s. s.table };
+
+    ghost invariant = { λ s. IsSettled s.table };
+}
+
+impl Settled {
+    /// Whether the measure of a vertex is top.
+    pub fn is_top(&self, v: u32) -> bool
+        requires { v < length self.now.game.vertices }
+        ensures value { IsTrue result ↔ (value_at self.now.values v ≡ Top) }
+        ensures settled { IsSettled self.now }
+    {
+        self.table.is_top(v)
+    }
+
+    /// What holds of every settled table.
+    pub fn known(&self)
+        ensures { IsSettled self.now }
+    {
+        let _ = &self.table;
+    }
+
+    /// The measure of a vertex.
+    pub fn value(&self, v: u32) -> Measure
+        requires { v < length self.now.game.vertices }
+        ensures value { result ≡ value_at self.now.values v }
+        ensures least { IsSettled self.now }
+    {
+        self.table.value(v)
+    }
+}

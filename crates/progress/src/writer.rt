@@ -1,0 +1,51 @@
+// The writer of counts and measures.
+
+ghost use Rattle.std.specs.Prelude.{◌∷◌, decimal};
+ghost use Rattle.std.specs.List.{flat_map};
+ghost use Rattle.progress.specs.MeasureText.{counts_text, measure_text};
+ghost use Rattle.text.specs.Wrote.{Wrote};
+
+use crate::measure::Measure;
+use std::io::Write;
+use text::{WriteFault, put, put_number};
+
+// Writes these counts, each after a comma.
+fn put_more<W: Write>(writer: &mut W, counts: &[u32]) -> Result<(), WriteFault>
+    ensures { Wrote (W.contents writer.old) (W.contents writer.new) result (flat_map (λ k. 44 ∷ decimal k) counts.now) }
+{
+    for count in counts {
+        put_number(writer, b",", *count)?;
+    }
+    Ok(())
+}
+
+/// Writes counts in parentheses, with a comma between two. It takes no memory.
+///
+/// # Errors
+/// After a fault the writer holds a beginning of the text.
+pub fn put_counts<W: Write>(writer: &mut W, counts: &[u32]) -> Result<(), WriteFault>
+    ensures wrote { Wrote (W.contents writer.old) (W.contents writer.new) result (counts_text counts.now) }
+{
+    match counts.split_first() {
+        None => put(writer, b"()"),
+        Some((first, rest)) => {
+            put_number(writer, b"(", *first)?;
+            put_more(writer, rest)?;
+            put(writer, b")")
+        }
+    }
+}
+
+/// Writes `top`, or the counts in parentheses. It takes no memory.
+///
+/// # Errors
+/// After a fault the writer holds a beginning of the text.
+pub fn put_measure<W: Write>(writer: &mut W, m: &Measure) -> Result<(), WriteFault>
+    ensures wrote { Wrote (W.contents writer.old) (W.contents writer.new) result (measure_text m.now) }
+{
+    if m.is_top() {
+        put(writer, b"top")
+    } else {
+        put_counts(writer, m.counts())
+    }
+}
