@@ -1,7 +1,7 @@
 -- Binders mean fixpoints.
 use Rattle.std.proofs.Common.{ℕ, ◌<◌, ◌≤◌, ◌↔◌, Bool, true, List, ◌∷◌}
 use Rattle.std.specs.Prelude.{IsTrue}
-use Rattle.lts.specs.System.{System, IsSystem}
+use Rattle.systems.specs.System.{System, IsSystem}
 use Rattle.calculus.specs.Tree.{Formula, Mu, Nu}
 use Rattle.calculus.specs.Admitted.{Scope}
 use Rattle.calculus.specs.Meaning.{Env, with_set, iterate, mean}

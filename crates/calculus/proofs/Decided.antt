@@ -3,8 +3,8 @@ use Rattle.std.proofs.Common.{ℕ, zero, suc, ◌<◌, ◌⊎◌, ◌↔◌, Boo
 use Rattle.std.specs.Prelude.{IsTrue, MatchBool}
 use Rattle.std.specs.List.{list_any}
 use Rattle.std.specs.Str.{bytes_eq}
-use Rattle.lts.specs.Path.{IsPath}
-use Rattle.lts.specs.System.{System, IsSystem}
+use Rattle.systems.specs.Path.{IsPath}
+use Rattle.systems.specs.System.{System, IsSystem}
 use Rattle.calculus.specs.Tree.{Action, Regular, Step, Then, Either, Star, Plus, Formula, True, False, Var, Not, And, Or, Implies, Dia, Box, Mu, Nu}
 use Rattle.calculus.specs.Meaning.{Leads, Env, with_set, iterate, mean}
 use Rattle.calculus.proofs.Telling.{false_is_none, of_not, of_and, of_or, of_implies}

@@ -4,7 +4,7 @@ use Rattle.std.specs.Prelude.{IsTrue, Contains}
 use Rattle.std.specs.List.{list_any, Any}
 use Rattle.std.proofs.lemmas.Bool.{and_parts, eqb-true, eq-eqb}
 use Rattle.std.proofs.lemmas.List.Folds.{Any-from_list_any, list_any-from_Any}
-use Rattle.lts.specs.System.{Arrow, System}
+use Rattle.systems.specs.System.{Arrow, System}
 use Rattle.calculus.specs.Tree.{Action, Step}
 use Rattle.calculus.specs.Holds.{holds}
 use Rattle.calculus.specs.Meaning.{Leads}

@@ -2,8 +2,8 @@
 use Rattle.std.proofs.Common.{ℕ, zero, suc, ◌<◌, List, [], ◌∷◌, subst, inl, inr, arith}
 use Rattle.std.specs.Prelude.{Contains}
 use Rattle.std.specs.List.{AllByRecursion}
-use Rattle.lts.specs.Path.{IsPath}
-use Rattle.lts.specs.System.{Arrow, System, IsArrow, IsSystem}
+use Rattle.systems.specs.Path.{IsPath}
+use Rattle.systems.specs.System.{Arrow, System, IsArrow, IsSystem}
 use Rattle.calculus.specs.Tree.{Regular, Step, Then, Either, Star, Plus}
 use Rattle.calculus.specs.Meaning.{Leads}
 

@@ -9,7 +9,7 @@ use Rattle.std.proofs.lemmas.List.{length-map}
 use Rattle.std.proofs.lemmas.List.Folds.{list_all-map}
 use Rattle.std.proofs.lemmas.Slice.Eq.{bytes_eq-Decides, slice_eq-Decides}
 use lib.Pointwise.{pointwise}
-use Rattle.lts.specs.Label.{texts}
+use Rattle.systems.specs.Label.{texts}
 use Rattle.calculus.specs.Holds.{is_same_multiset, times}
 
 abbrev bytes_of : Vec ℕ → List ℕ

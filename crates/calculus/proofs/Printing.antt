@@ -1,7 +1,7 @@
 -- The names of an action between bars.
 use Rattle.std.proofs.Common.{◌≡◌, ℕ, ◌+◌, ◌<◌, ◌≤◌, List, [], ◌∷◌, ◌++◌, length, drop, get_or, drop-cons, add-one, codes, Vec, Global, refl, sym, ap, append-nil}
 use Rattle.std.proofs.Math.ListN.{drop_of_length-le}
-use Rattle.lts.specs.Label.{texts}
+use Rattle.systems.specs.Label.{texts}
 use Rattle.calculus.specs.Canon.{names_text, barred}
 
 -- the first name, and the others after bars

@@ -1,6 +1,6 @@
 -- Binders mean fixpoints, whatever sets their outer variables have.
 use Rattle.std.specs.Prelude.{ℕ, ◌<◌, ◌≤◌, ◌↔◌, Bool, true, List, ◌∷◌, IsTrue}
-use Rattle.lts.specs.System.{System, IsSystem}
+use Rattle.systems.specs.System.{System, IsSystem}
 use Rattle.calculus.specs.Tree.{Formula, Mu, Nu}
 use Rattle.calculus.specs.Admitted.{Scope, is_admitted_in}
 use Rattle.calculus.specs.Meaning.{Env, with_set, iterate, mean}

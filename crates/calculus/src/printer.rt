@@ -2,7 +2,7 @@
 
 ghost use Rattle.std.specs.Prelude.{◌++◌, codes};
 ghost use Rattle.text.specs.Wrote.{Wrote};
-ghost use Rattle.lts.specs.Label.{texts};
+ghost use Rattle.systems.specs.Label.{texts};
 ghost use Rattle.calculus.specs.View.{action_of, regular_of, formula_of};
 ghost use Rattle.calculus.specs.Canon.{action_text, regular_text, canon, names_text, barred};
 

@@ -2,7 +2,7 @@
 use Rattle.std.specs.Prelude.{◌≡◌, ◌↔◌, ℕ, Bool, true, List, [], length, IsTrue, None, Option, Some, Result, MatchResult}
 use Rattle.std.specs.Io.KnownBytes.{Appends, Keeps}
 use Rattle.text.specs.Wrote.{WroteFront}
-use Rattle.lts.specs.System.{System}
+use Rattle.systems.specs.System.{System}
 use Rattle.calculus.specs.Tree.{Formula}
 use Rattle.normal.specs.declared.priorities.Priorities.TheVariants.{Nested}
 use Rattle.game.specs.Game.{Game}

@@ -28,9 +28,9 @@ use crate::parser::{
 use crate::request::{Command, Normal, Outputs, Replay, Solve, Verify};
 use clap::error::ErrorKind;
 use clap::{ArgMatches, Error as ClapError};
+use normal::priorities::Priorities;
 use requests::error::{ArgumentError, MuError};
 use requests::request::{BoardKind, Check, Options};
-use normal::priorities::Priorities;
 use std::alloc::Global;
 
 /// The command that the words ask for; the first word is the program's own name.

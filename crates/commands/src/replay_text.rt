@@ -1,7 +1,7 @@
 // The engine of the command `replay`.
 
 ghost use Rattle.std.specs.Prelude.{◌≡◌, ℕ, List, Some, IfErr, IfOk, IfSome, MatchResult, length};
-ghost use Rattle.lts.specs.System.{System};
+ghost use Rattle.systems.specs.System.{System};
 ghost use Rattle.calculus.specs.Tree.{Formula};
 ghost use Rattle.calculus.specs.Closed.{closed_formula};
 ghost use Rattle.normal.specs.declared.priorities.Priorities.TheVariants.{Nested};
@@ -12,9 +12,6 @@ ghost use Rattle.requests.specs.Texts.{IsReadFault};
 ghost use Rattle.commands.specs.Replays.{Answers, IsUnread, Replays, nested_game};
 ghost use Rattle.commands.specs.Spelled.{IsScheduleOf};
 
-use requests::arena::game_of;
-use requests::error::MuError;
-use requests::texts::{Texts, read_both};
 use game::graph::Game;
 use liftcore::error::{CoreError, ScheduleError};
 use liftcore::event::Event;
@@ -22,6 +19,9 @@ use liftcore::machine::Core;
 use liftcore::schedule::read_schedule;
 use liftcore::writer::write_replay;
 use normal::priorities::Priorities;
+use requests::arena::game_of;
+use requests::error::MuError;
+use requests::texts::{Texts, read_both};
 use std::alloc::Global;
 use std::io::{ErrorKind, Read, Write};
 use std::thread::Threads;

@@ -1,7 +1,7 @@
 // What the program can be asked to do. The files are named as on the command line.
 
-use requests::request::{Check, Options};
 use normal::priorities::Priorities;
+use requests::request::{Check, Options};
 
 /// What the program is asked to do.
 #[derive(Clone, Copy)]

@@ -7,13 +7,13 @@ ghost use Rattle.commands.specs.Spelled.{IsGameOf};
 ghost use Rattle.commands.specs.Solves.{Answers, Solves};
 
 use crate::winners::{winners, winners_text};
-use requests::error::MuError;
-use requests::request::Options;
-use requests::solver::solve_with;
 use game::graph::Game;
 use lts::put;
 use measures::table::Settled;
 use pgsolver::read_game;
+use requests::error::MuError;
+use requests::request::Options;
+use requests::solver::solve_with;
 use std::alloc::Global;
 use std::io::{Read, Write};
 use std::sync::{Arc, Wait};

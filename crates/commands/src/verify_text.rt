@@ -4,7 +4,6 @@ ghost use Rattle.std.specs.Prelude.{◌≡◌, ℕ, List, Some};
 ghost use Rattle.commands.specs.Spelled.{IsEvidenceOf, IsGameOf};
 ghost use Rattle.commands.specs.Verifies.{Answers, AnswersBoth, Verifies, VerifiesBoth};
 
-use requests::error::MuError;
 use evidence::evidence::Evidence;
 use evidence::reader::read_evidence;
 use evidence::verdict::{Both, Verdict};
@@ -12,6 +11,7 @@ use evidence::verify::{check_both, verify};
 use evidence::writer::{write_both, write_verdict};
 use game::graph::Game;
 use pgsolver::read_game;
+use requests::error::MuError;
 use std::alloc::Global;
 use std::io::{Read, Write};
 

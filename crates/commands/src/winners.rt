@@ -6,12 +6,12 @@ ghost use Rattle.calculus.specs.Meaning.{Marks};
 ghost use Rattle.game.specs.Wins.{Wins};
 ghost use Rattle.commands.specs.Winners.{AreWinners, even_or_odd, sizes_text, winner_lines, winners_text as text_of};
 
-use requests::error::MuError;
 use game::graph::Game;
 use laws::games::{not_both_win, one_wins};
 use lts::{Piece, WriteFault, put_pieces};
 use measures::settle::even_wins;
 use measures::table::Settled;
+use requests::error::MuError;
 use std::alloc::{AllocError, Global};
 use std::io::Write;
 

@@ -5,7 +5,7 @@ use Rattle.std.specs.Prelude.{◌⊎◌, IsTrue, IfSome, IfOk, IfErr, IsErrAnd, 
 use Rattle.std.proofs.KnownBytes.{Appends-nil, Keeps-refl}
 use Rattle.std.proofs.lemmas.Result.{IfOk-weaker}
 use Rattle.text.specs.declared.write_loop.WriteFault.{WriteFault}
-use Rattle.lts.specs.System.{System}
+use Rattle.systems.specs.System.{System}
 use Rattle.lts.specs.Aut.{IsAut}
 use Rattle.calculus.specs.Tree.{Formula}
 use Rattle.requests.specs.declared.error.MuError.{MuError}

@@ -11,7 +11,7 @@ use Rattle.std.proofs.lemmas.Bool.{cases_order}
 use Rattle.calculus.specs.Meaning.{marked, Marks, Satisfies}
 use Rattle.calculus.specs.Tree.{Formula}
 use Rattle.calculus.specs.Admitted.{IsAdmitted}
-use Rattle.lts.specs.System.{System, IsSystem}
+use Rattle.systems.specs.System.{System, IsSystem}
 use Rattle.normal.specs.Tree.{normal_form}
 use Rattle.normal.specs.Nodes.{Node}
 use Rattle.laws.specs.Admissible.{IsNodes}

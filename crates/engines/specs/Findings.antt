@@ -2,9 +2,9 @@
 use Rattle.std.specs.Prelude.{◌≡◌, ℕ, ◌≤◌, ◌⊎◌, ◌↔◌, List, Some, IfSome, IsTrue, option_map}
 use Rattle.std.specs.Arc.{arc_value}
 use Rattle.std.specs.Option.{is_some}
-use Rattle.lts.specs.System.{System}
-use Rattle.lts.specs.Numbered.{IsInside, system_with}
-use Rattle.lts.specs.declared.system.Transition.{Transition}
+use Rattle.systems.specs.System.{System}
+use Rattle.systems.specs.Numbered.{IsInside, system_with}
+use Rattle.systems.specs.declared.system.Transition.{Transition}
 use Rattle.calculus.specs.Tree.{Formula}
 use Rattle.calculus.specs.Closed.{closed_formula}
 use Rattle.normal.specs.declared.limits.TheConstants.{GREATEST_PRIORITY}

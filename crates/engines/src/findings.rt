@@ -9,14 +9,8 @@ ghost use Rattle.engines.specs.Findings.{AreFindings, ArePosed, IsPairOf, formul
 ghost use Rattle.requests.specs.Solver.{IsFitting, IsUnsolved};
 ghost use Rattle.requests.specs.Writers.{AreKept, Lent};
 
-use requests::arena::game_of;
-use requests::error::MuError;
 use crate::lifting::{SolvedGame, state_marks};
 use crate::report::report_text;
-use requests::request::Options;
-use requests::solver::solve_seen;
-use requests::texts::{Texts, read_both_seen};
-use requests::watch::Watcher;
 use evidence::error::EvidenceError;
 use evidence::evidence::Evidence;
 use evidence::make::{even_evidence, odd_evidence};
@@ -26,6 +20,12 @@ use measures::observer::{Observer, Silent, Stage};
 use measures::settle::solve_one;
 use measures::table::Settled;
 use normal::priorities::Priorities;
+use requests::arena::game_of;
+use requests::error::MuError;
+use requests::request::Options;
+use requests::solver::solve_seen;
+use requests::texts::{Texts, read_both_seen};
+use requests::watch::Watcher;
 use std::alloc::Global;
 use std::io::Read;
 use std::sync::{Arc, Wait};

@@ -7,7 +7,6 @@ ghost use Rattle.requests.specs.Check.{ByGame, AreMarks};
 ghost use Rattle.engines.specs.Findings.{IsSolvedGame};
 ghost use Rattle.requests.specs.Roots.{HasRoots, WinsRoot};
 
-use requests::error::MuError;
 use calculus::closed::Closed;
 use game::graph::Game;
 use laws::{chosen_is_admissible, even_wins_where_meant};
@@ -15,6 +14,7 @@ use lts::system::Lts;
 use measures::settle::even_wins;
 use measures::table::Settled;
 use normal::priorities::Priorities;
+use requests::error::MuError;
 use std::alloc::{AllocError, Global};
 use std::sync::Arc;
 use workers::team::BoardKind;

@@ -4,14 +4,14 @@ ghost use Rattle.std.specs.Prelude.{◌≡◌, ◌∷◌, [], Some, MatchResult,
 ghost use Rattle.engines.specs.Findings.{AreFindings, ArePrepared, AreShown, IsTextFound};
 ghost use Rattle.requests.specs.Writers.{AreWritten, EvenText, OddText, all_writers, kind_where, lent_for, report_writer, witness_kind};
 
-use requests::error::MuError;
 use crate::findings::Findings;
 use crate::prepared::{Prepared, Shown, initial_mark};
-use requests::request::WitnessForm;
 use evidence::writer::write_evidence;
 use lts::writer::write_part;
 use lts::{WriteFault, put};
 use pgsolver::writer::write_game;
+use requests::error::MuError;
+use requests::request::WitnessForm;
 use std::io::Write;
 use witness::drawing::write_drawing;
 

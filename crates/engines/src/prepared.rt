@@ -6,9 +6,7 @@ ghost use Rattle.std.specs.Option.{is_some};
 ghost use Rattle.engines.specs.declared.prepared.Shown.{Shown};
 ghost use Rattle.engines.specs.Findings.{AreFindings, ArePrepared, AreShown, IsPairOf, IsUnprepared, IsUnshown, IsWinning};
 
-use requests::error::MuError;
 use crate::findings::{EvidencePair, Findings, evidence_pair};
-use requests::request::{Wanted, WitnessForm};
 use evidence::error::EvidenceError;
 use evidence::evidence::Evidence;
 use evidence::make::{even_evidence, odd_evidence};
@@ -16,6 +14,8 @@ use laws::chosen_is_admissible;
 use laws::games::one_wins;
 use lts::{Memory, Transition};
 use normal::make::normal_with;
+use requests::error::MuError;
+use requests::request::{Wanted, WitnessForm};
 use std::alloc::Global;
 use witness::part::witness;
 

@@ -1,15 +1,15 @@
 // The report of a check.
 
 ghost use Rattle.std.specs.Prelude.{◌≡◌, ◌++◌, length, count_by, decimal, slice_index_or, false, IfOk, IfErr};
-ghost use Rattle.lts.specs.Wrote.{Wrote};
+ghost use Rattle.text.specs.Wrote.{Wrote};
 ghost use Rattle.calculus.specs.Closed.{closed_formula};
 ghost use Rattle.requests.specs.Report.{report, system_line, formula_line, yes_line, initial_line, state_lines, yes_or_no};
 
-use requests::error::MuError;
 use calculus::closed::Closed;
 use formula::print;
 use lts::system::Lts;
 use lts::{Piece, WriteFault, put, put_pieces};
+use requests::error::MuError;
 use std::alloc::Global;
 use std::io::Write;
 

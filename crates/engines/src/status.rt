@@ -3,7 +3,6 @@
 ghost use Rattle.std.specs.Prelude.{◌≡◌};
 ghost use Rattle.engines.specs.Status.{error_status as status_of_error, status_of};
 
-use requests::error::MuError;
 use evidence::error::EvidenceError;
 use formula::error::FormulaError;
 use game::error::BuildError;
@@ -11,6 +10,7 @@ use liftcore::error::ScheduleError;
 use lts::error::AutError;
 use normal::error::NormalError;
 use pgsolver::error::PgError;
+use requests::error::MuError;
 use tables::error::TableError;
 
 /// 0 for yes, 1 for no, 2 where the input is at fault, 3 where memory, a file, a read or a write failed.

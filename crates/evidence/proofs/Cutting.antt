@@ -1,7 +1,7 @@
 -- Evidence that is cut to a closed set is good in each game that goes on as this one does there.
 use Rattle.std.proofs.Common.{◌≡◌, ◌≢◌, ℕ, zero, suc, ◌+◌, Bool, true, false, List, [], ◌∷◌, length, refl, sym, ap, subst, ◌∙◌, inl, inr, arith, IsTrue, Contains, Some, None, Option, if◌then◌else◌, slice_index_or, take, count_by, nat_le}
 use Rattle.std.specs.Option.{is_some}
-use Rattle.lts.specs.Path.{IsPath}
+use Rattle.systems.specs.Path.{IsPath}
 use Rattle.game.specs.declared.player.Player.{Player}
 use Rattle.game.specs.declared.player.Player.TheVariants.{Even, Odd}
 use Rattle.game.specs.Game.{Game, Vertex, greatest, opponent, vertex}

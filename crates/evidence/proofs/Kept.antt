@@ -5,7 +5,7 @@ use Rattle.std.specs.List.{AllByRecursion}
 use Rattle.std.specs.List.Sorted.{IsStrictlySortedBy}
 use Rattle.std.proofs.lemmas.List.Kept.{IsStrictlySortedBy-filter}
 use Rattle.std.proofs.lemmas.Bool.{eqb-true}
-use Rattle.lts.specs.System.{Arrow, IsArrow, System, arrow_cmp}
+use Rattle.systems.specs.System.{Arrow, IsArrow, System, arrow_cmp}
 use Rattle.lts.proofs.Storing.{set_is, strict_set}
 use Rattle.calculus.specs.Holds.{holds}
 use Rattle.normal.specs.Tree.{Shape, ConstantNode, JunctionNode, ModalityNode, FixpointNode, VariableNode}

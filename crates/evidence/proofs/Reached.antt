@@ -4,7 +4,7 @@ use Rattle.std.specs.Prelude.{◌==◌}
 use Rattle.std.specs.List.{list_any, range_with_len}
 use Rattle.std.proofs.lemmas.Bool.Decides.{eqb_tells}
 use Rattle.std.proofs.lemmas.Option.{slice_get_within}
-use Rattle.lts.specs.Path.{IsPath}
+use Rattle.systems.specs.Path.{IsPath}
 use Rattle.game.specs.Game.{Game, Vertex, vertex}
 use Rattle.progress.proofs.NotBoth.{path_on}
 use Rattle.progress.proofs.Rests.{rests}

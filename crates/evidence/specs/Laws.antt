@@ -1,6 +1,6 @@
 -- What evidence proves.
 use Rattle.std.specs.Prelude.{◌≡◌, ℕ, ◌+◌, ◌<◌, ◌≤◌, ◌⊎◌, ◌↔◌, Bool, List, length, IsTrue}
-use Rattle.lts.specs.System.{Arrow, System, IsSystem}
+use Rattle.systems.specs.System.{Arrow, System, IsSystem}
 use Rattle.calculus.specs.Tree.{Formula}
 use Rattle.calculus.specs.Admitted.{IsAdmitted}
 use Rattle.calculus.specs.Meaning.{Satisfies}

@@ -1,8 +1,8 @@
 -- A part of a system in which evidence is still good.
 use Rattle.std.specs.Prelude.{◌≡◌, ℕ, ◌+◌, ◌<◌, ◌↔◌, Bool, true, false, not, ◌&&◌, ◌||◌, ◌==◌, List, [], ◌∷◌, length, IsTrue, Contains, Option, Some, None, slice_get, filter, if◌then◌else◌}
 use Rattle.std.specs.List.{list_any, range_with_len}
-use Rattle.lts.specs.System.{Arrow, System}
-use Rattle.lts.specs.Path.{IsPath}
+use Rattle.systems.specs.System.{Arrow, System}
+use Rattle.systems.specs.Path.{IsPath}
 use Rattle.calculus.specs.Holds.{holds}
 use Rattle.normal.specs.Tree.{Shape, ModalityNode}
 use Rattle.normal.specs.Nodes.{Node}

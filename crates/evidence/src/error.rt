@@ -1,6 +1,6 @@
 // Why there is no evidence.
 
-use lts::error::Memory;
+use text::Memory;
 use text::error::ReadFault;
 use thiserror::Error;
 

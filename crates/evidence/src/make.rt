@@ -13,12 +13,12 @@ use crate::evidence::Evidence;
 use game::dual::{dual, greatest_priority};
 use game::graph::Game;
 use game::player::Player;
-use lts::error::Memory;
 use measures::progs::prog;
 use measures::settle::solve_one;
 use measures::table::Settled;
 use normal::limits::GREATEST_PRIORITY;
 use std::alloc::Global;
+use text::Memory;
 
 // The least successor among those with the least prog.
 fn best_successor(game: &Game, settled: &Settled, v: u32) -> u32

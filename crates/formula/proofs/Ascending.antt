@@ -6,7 +6,7 @@ use Rattle.std.specs.declared.cmp.Ordering.{Ordering}
 use Rattle.std.specs.declared.cmp.Ordering.TheVariants.{Less, Equal, Greater}
 use Rattle.std.specs.Ordering.{is_gt, ordering_reverse}
 use Rattle.std.proofs.lemmas.Cmp.{nat_list_cmp_total}
-use Rattle.lts.specs.Label.{bytes_cmp, with_name, multiset}
+use Rattle.systems.specs.Label.{bytes_cmp, with_name, multiset}
 
 abbrev is_after : List ℕ → List ℕ → Bool
 is_after x y = is_gt (bytes_cmp x y)

@@ -4,7 +4,7 @@ use Rattle.std.specs.List.{list_all, list_any, AllByRecursion, join_with_byte}
 use Rattle.std.specs.Str.{bytes_eq}
 use Rattle.std.proofs.lemmas.Bool.{ne_eqb, and_parts, true≢false}
 use Rattle.text.specs.Text.{is_name, is_name_byte, is_letter}
-use Rattle.lts.specs.Label.{is_label, multiset}
+use Rattle.systems.specs.Label.{is_label, multiset}
 use Rattle.calculus.specs.Tree.{Action, Anything, Nothing, Names, Quoted, NotAct, AndAct, OrAct, ImpliesAct, Regular, Step, Then, Either, Star, Plus, Formula, True, False, Var, Not, And, Or, Implies, Dia, Box, Mu, Nu}
 use Rattle.calculus.specs.Canon.{infix_text, binder_text, action_text, regular_text, canon}
 use Rattle.formula.specs.Token.{Token, Name, Atom, TrueWord, FalseWord, MuWord, NuWord, TauWord, ImpliesSign, OrSign, AndSign, Bar, NotSign, Less, Greater, OpenBox, CloseBox, Open, Close, Dot, ChoiceSign, PlusSign, StarSign, spelling, is_free_name, IsToken, Piece, Blank, Word, begins, token_ends, text_of, Cuts, tokens_of, words, reserved_words}

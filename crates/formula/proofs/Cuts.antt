@@ -8,8 +8,8 @@ use Rattle.std.proofs.lemmas.Bool.{and_parts}
 use Rattle.std.proofs.lemmas.List.{append-nil, length-drop, drop-drop, take-append-drop, length-take-le, take_more, length-append, drop_more}
 use Rattle.std.proofs.lemmas.List.Sums.{take_while-cons}
 use Rattle.text.specs.Text.{is_name_byte, is_letter}
-use Rattle.lts.specs.declared.limits.TheConstants.{LONGEST_LABEL}
-use Rattle.lts.specs.Label.{is_label_byte}
+use Rattle.systems.specs.declared.limits.TheConstants.{LONGEST_LABEL}
+use Rattle.systems.specs.Label.{is_label_byte}
 use Rattle.formula.specs.Token.{Token, Atom, spelling, reserved_words, IsToken, Piece, Blank, Comment, Word, piece_text, piece_ends, begins, token_ends, text_of, Cuts, tokens_of, offsets_from}
 use Rattle.formula.specs.Cutting.{IsFront, IsFirst, IsNamed, IsGap}
 use Rattle.formula.proofs.Regulars.{all_true, le_true}

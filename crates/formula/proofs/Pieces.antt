@@ -6,8 +6,8 @@ use Rattle.std.specs.Str.{bytes_eq}
 use Rattle.std.proofs.lemmas.Bool.{eqb-true, and_parts, or_cases, not-true, and_from}
 use Rattle.std.proofs.lemmas.Slice.Eq.{bytes_eq-Decides}
 use Rattle.text.specs.Text.{is_name, is_name_byte, is_letter, is_digit}
-use Rattle.lts.specs.declared.limits.TheConstants.{LONGEST_LABEL}
-use Rattle.lts.specs.Label.{is_label_byte}
+use Rattle.systems.specs.declared.limits.TheConstants.{LONGEST_LABEL}
+use Rattle.systems.specs.Label.{is_label_byte}
 use Rattle.formula.specs.Token.{Token, Name, Reserved, Atom, TrueWord, FalseWord, MuWord, NuWord, TauWord, ImpliesSign, OrSign, AndSign, Bar, NotSign, Less, Greater, OpenBox, CloseBox, Open, Close, Dot, ChoiceSign, PlusSign, StarSign, spelling, words, reserved_words, is_free_name, IsToken, Piece, Blank, Comment, Word, piece_text, IsPiece, begins, token_ends, piece_ends, text_of, Cuts, tokens_of, is_after_postfix, sign_is_decided, is_decided}
 
 -- the longest front whose bytes pass, and the rest

@@ -8,8 +8,8 @@ use Rattle.std.proofs.Math.Seq.{get_or-append_seam}
 use Rattle.std.proofs.lemmas.List.{length-append, length-drop, take-append-drop}
 use Rattle.std.proofs.lemmas.List.Sums.{take_while-cons}
 use Rattle.text.specs.Text.{is_name, is_name_byte, is_letter}
-use Rattle.lts.specs.declared.limits.TheConstants.{LONGEST_LABEL}
-use Rattle.lts.specs.Label.{is_label_byte}
+use Rattle.systems.specs.declared.limits.TheConstants.{LONGEST_LABEL}
+use Rattle.systems.specs.Label.{is_label_byte}
 use Rattle.formula.specs.Token.{Token, Name, Reserved, Atom, TrueWord, FalseWord, MuWord, NuWord, TauWord, ImpliesSign, OrSign, AndSign, spelling, reserved_words, IsToken, Blank, Comment, Word, begins, text_of, Cuts, tokens_of, is_reserved}
 use Rattle.formula.specs.Written.{words}
 use Rattle.formula.specs.Fault.{NothingBegins, TokenFault}

@@ -3,8 +3,8 @@
 ghost use Rattle.std.specs.Prelude.{◌≡◌};
 ghost use Rattle.formula.specs.declared.error.FormulaError.{FormulaError};
 
-use lts::Memory;
 use std::alloc::AllocFailed;
+use text::Memory;
 use thiserror::Error;
 
 /// What is wrong with a text that spells no admitted formula within the limits. It is shown as its code.

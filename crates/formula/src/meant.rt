@@ -1,7 +1,7 @@
 // Makes the formula that is written, without its parentheses.
 
 ghost use Rattle.std.specs.Prelude.{◌≡◌, ◌∷◌, map, Some, IsSome, MatchResult};
-ghost use Rattle.lts.specs.Label.{multiset as multiset_of};
+ghost use Rattle.systems.specs.Label.{multiset as multiset_of};
 ghost use Rattle.formula.specs.Syntax.{action_meant, regular_meant, meant};
 ghost use Rattle.calculus.specs.View.{action_of, regular_of, formula_of};
 ghost use Rattle.formula.specs.Written.{reg_syntax, state_syntax, infixed, joined, modal, bound};

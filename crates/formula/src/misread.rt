@@ -4,8 +4,8 @@ ghost use Rattle.std.specs.Prelude.{◌≡◌, length};
 ghost use Rattle.formula.specs.declared.misread.Misread.{Misread};
 
 use crate::token::Placed;
-use lts::Memory;
 use std::alloc::AllocFailed;
+use text::Memory;
 
 /// Why tokens gave no formula. A token is told by how many are left where it stands, itself among them.
 #[derive(Drop)]

@@ -1,7 +1,7 @@
 // The canonical text of a formula.
 
 ghost use Rattle.std.specs.Prelude.{◌≤◌, length};
-ghost use Rattle.lts.specs.Wrote.{Wrote};
+ghost use Rattle.text.specs.Wrote.{Wrote};
 ghost use Rattle.calculus.specs.Closed.{closed_formula};
 ghost use Rattle.calculus.specs.Canon.{canon};
 ghost use Rattle.formula.specs.Spells.{IsSpellable, Spells, SpellsWithin};
@@ -9,8 +9,8 @@ ghost use Rattle.formula.specs.declared.limits.TheConstants.{LONGEST_TEXT};
 
 use crate::closed::Closed;
 use calculus::put_state;
-use lts::WriteFault;
 use std::io::Write;
+use text::WriteFault;
 
 /// Writes the formula's canonical text, without an end of line and without memory. Each operator between two operands and
 /// each binder has parentheses, the outermost too: `(nu X. (mu Y. (<a>X || <b>Y)))`. So `parse` reads the same formula from it,

@@ -4,8 +4,8 @@ ghost use Rattle.std.specs.Prelude.{◌≡◌, ◌-◌, ◌<◌, ◌≤◌, leng
 
 use crate::misread::Misread;
 use crate::token::Placed;
-use lts::Memory;
 use std::alloc::Global;
+use text::Memory;
 
 /// The allocator, how deep formulas may still nest, and how many parentheses may still open.
 #[derive(Clone, Copy)]

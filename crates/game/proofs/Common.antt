@@ -10,14 +10,14 @@ pub use Rattle.normal.specs.Normal.{normal_nodes}
 pub use Rattle.normal.specs.Nodes.{Node}
 pub use Rattle.game.specs.View.{AreStored, game_of, moved, vertex_of_row, vertices_of}
 pub use Rattle.std.proofs.lemmas.Option.{get_or_from_slice_get, slice_get-map, slice_get_read, slice_get_within}
-pub use Rattle.lts.specs.declared.system.Transition.{Transition}
+pub use Rattle.systems.specs.declared.system.Transition.{Transition}
 pub use Rattle.std.proofs.lemmas.Nat.{mul-add-lt}
 pub use Rattle.game.specs.declared.graph.Row.{Row}
 pub use Rattle.std.proofs.lemmas.Grind.{common_steps}
 pub use Rattle.normal.specs.View.{node_of, nodes_of}
-pub use Rattle.lts.specs.Numbered.{IsInside, Numbered, arrow_of, arrows_from, label_at}
+pub use Rattle.systems.specs.Numbered.{IsInside, Numbered, arrow_of, arrows_from, label_at}
 pub use Rattle.std.proofs.lemmas.Bool.{and_cases, and_from, and_left, and_parts, and_right, eqb-false, le-leb, leb-false, leb-true, lt-leb, lt-ltb, ltb-true, ne_eqb}
-pub use Rattle.lts.specs.System.{Arrow, System}
+pub use Rattle.systems.specs.System.{Arrow, System}
 pub use Rattle.std.proofs.lemmas.Bool.Decides.{eqb_tells, leb_tells}
 pub use Rattle.game.specs.Rises.{rises}
 pub use Rattle.game.specs.declared.player.Player.TheVariants.{Even}

@@ -1,7 +1,7 @@
 -- The parity game of a system and a normal form.
 use Rattle.std.specs.Prelude.{ℕ, ◌+◌, ◌*◌, ◌<◌, Option, MatchOption, option_map, Bool, false, ◌&&◌, List, [], ◌∷◌, ◌++◌, length, map, filter, Some, ◌==◌, if◌then◌else◌}
 use Rattle.std.specs.List.{list_any, range_with_len}
-use Rattle.lts.specs.System.{System}
+use Rattle.systems.specs.System.{System}
 use Rattle.calculus.specs.Tree.{Action}
 use Rattle.calculus.specs.Holds.{holds}
 use Rattle.normal.specs.Tree.{Shape, ConstantNode, JunctionNode, ModalityNode, FixpointNode, VariableNode}

@@ -2,9 +2,9 @@
 use Rattle.std.specs.Prelude.{◌≡◌, ℕ, ◌+◌, ◌<◌, Bool, false, ◌&&◌, List, [], ◌∷◌, length, map, nat_le, Some, slice_get, slice_index_or, if◌then◌else◌}
 use Rattle.std.specs.List.{list_any, AllByRecursion}
 use Rattle.std.specs.List.Sorted.{IsNonDecreasingBy}
-use Rattle.lts.specs.System.{Arrow}
-use Rattle.lts.specs.Numbered.{Numbered, label_at, arrow_of, arrows_from, IsInside}
-use Rattle.lts.specs.declared.system.Transition.{Transition}
+use Rattle.systems.specs.System.{Arrow}
+use Rattle.systems.specs.Numbered.{Numbered, label_at, arrow_of, arrows_from, IsInside}
+use Rattle.systems.specs.declared.system.Transition.{Transition}
 use Rattle.calculus.specs.Tree.{Action}
 use Rattle.calculus.specs.Holds.{holds}
 use Rattle.normal.specs.Tree.{Shape, ConstantNode, JunctionNode, ModalityNode, FixpointNode, VariableNode}

@@ -18,7 +18,6 @@ use crate::limits::MOST_VERTICES;
 use crate::player::Player;
 use calculus::holds;
 use calculus::tree::Act;
-use lts::system::{Lts, Transition};
 use normal::form::Normal;
 use normal::limits::{GREATEST_PRIORITY, MOST_NODES};
 use normal::node::{Kind, Node};
@@ -26,6 +25,7 @@ use rayon::current_num_threads;
 use rayon::prelude::*;
 use std::alloc::{AllocError, Global};
 use std::thread::Threads;
+use systems::system::{Lts, Transition};
 
 // How many ranges the states of a large game are cut into. The game is the same for each number.
 const RANGES: u32 = 64;

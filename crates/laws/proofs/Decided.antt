@@ -1,6 +1,6 @@
 -- Both halves joined: Even wins, and the least progress table isn't top, exactly where the state is in the meaning.
 use Rattle.std.proofs.Common.{◌≢◌, ℕ, ◌<◌, ◌↔◌, List, length, subst, arith}
-use Rattle.lts.specs.System.{System, IsSystem}
+use Rattle.systems.specs.System.{System, IsSystem}
 use Rattle.calculus.specs.Tree.{Formula}
 use Rattle.calculus.specs.Admitted.{IsAdmitted}
 use Rattle.calculus.specs.Meaning.{no_sets, Satisfies}

@@ -1,7 +1,7 @@
 -- Where the edges of an arena lead, Even choosing.
 use Rattle.std.proofs.Common.{◌≡◌, ℕ, ◌⊎◌, true, false, List, [], ◌∷◌, map, refl, sym, ap, inl, inr, arith, true≢false}
 use Rattle.std.specs.Prelude.{Contains, ◌≢◌}
-use Rattle.lts.specs.System.{System}
+use Rattle.systems.specs.System.{System}
 use Rattle.normal.specs.Tree.{Shape, ConstantNode, JunctionNode, ModalityNode, FixpointNode, VariableNode}
 use Rattle.game.specs.declared.player.Player.TheVariants.{Even, Odd}
 use Rattle.game.specs.Arena.{targets, place, or_else, owner_of, successors_of}

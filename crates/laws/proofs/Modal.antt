@@ -1,7 +1,7 @@
 -- `modal flag r F` tells which states r leads from into what F makes.
 use Rattle.std.proofs.Common.{◌≡◌, ℕ, zero, suc, ◌+◌, ◌<◌, ◌≤◌, ◌⊎◌, ◌↔◌, Bool, List, [], ◌∷◌, refl, sym, ◌∙◌, ap, subst, inl, inr, arith}
-use Rattle.lts.specs.Path.{IsPath}
-use Rattle.lts.specs.System.{System, IsSystem}
+use Rattle.systems.specs.Path.{IsPath}
+use Rattle.systems.specs.System.{System, IsSystem}
 use Rattle.calculus.specs.Tree.{Action, Regular, Step, Then, Either, Star, Plus}
 use Rattle.calculus.specs.Meaning.{Leads, iterate}
 use Rattle.normal.specs.Tree.{Norm, Variable, size, two, loop_of, modal}

@@ -1,7 +1,7 @@
 -- Even's choices at each state with each node, and the moves that they leave.
 use Rattle.std.proofs.Common.{◌≡◌, ℕ, ◌+◌, ◌<◌, ◌≤◌, ◌⊎◌, Bool, true, false, List, [], ◌∷◌, refl, sym, ap, ◌∙◌, subst, inl, inr, arith}
 use Rattle.std.specs.Prelude.{Contains, if◌then◌else◌}
-use Rattle.lts.specs.System.{System}
+use Rattle.systems.specs.System.{System}
 use Rattle.normal.specs.Tree.{Norm, Constant, Junction, Modality, Fixpoint, Variable, size, Shape, ConstantNode, JunctionNode, ModalityNode, FixpointNode, VariableNode, shape_at}
 use Rattle.game.specs.Arena.{targets}
 use Rattle.progress.proofs.Lists.{contains_first, contains_later}

@@ -2,7 +2,7 @@
 use Rattle.std.specs.Prelude.{◌≡◌, ℕ, zero, suc, ◌+◌, ◌⊎◌, ◌↔◌, Bool, true, false, not, ◌&&◌, ◌||◌, List, [], ◌∷◌, Contains, if◌then◌else◌, nat_lt, ◌==◌}
 use Rattle.std.proofs.Common.{refl, ◌∙◌, ap, inl, inr, true≢false, ◌<◌, ◌≤◌}
 use Rattle.std.specs.List.{list_any, list_all}
-use Rattle.lts.specs.System.{System}
+use Rattle.systems.specs.System.{System}
 use Rattle.normal.specs.Tree.{Norm, Constant, Junction, Modality, Fixpoint, Variable, size}
 use Rattle.game.specs.Arena.{targets}
 use Rattle.progress.proofs.Lists.{contains_cases, contains_first, contains_later, contains_none}

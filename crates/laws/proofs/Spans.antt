@@ -1,7 +1,7 @@
 -- On the way to a binder no priority is above its own.
 use Rattle.std.proofs.Common.{◌≡◌, ℕ, ◌+◌, ◌<◌, ◌≤◌, ◌⊎◌, List, [], ◌∷◌, ap, ◌∙◌, inl, inr, arith}
 use Rattle.std.specs.List.{AllByRecursion}
-use Rattle.lts.specs.Path.{IsPath}
+use Rattle.systems.specs.Path.{IsPath}
 use Rattle.normal.specs.Tree.{Norm, Constant, Junction, Modality, Fixpoint, Variable, size, Shape, shape_at}
 use Rattle.normal.proofs.Numbers.{size_some}
 use Rattle.laws.specs.Admissible.{IsFree, IsEach, IsFitting}

@@ -4,7 +4,7 @@ use Rattle.std.specs.Prelude.{Contains, MatchBool, ◌==◌, if◌then◌else◌
 use Rattle.std.specs.Str.{bytes_eq}
 use Rattle.std.proofs.lemmas.Bool.Decides.{eqb_tells}
 use Rattle.std.proofs.lemmas.Slice.Eq.{bytes_eq-Decides}
-use Rattle.lts.specs.System.{System, IsSystem}
+use Rattle.systems.specs.System.{System, IsSystem}
 use Rattle.calculus.specs.Tree.{Action, Step, Formula}
 use Rattle.calculus.specs.Meaning.{Leads, Env, no_sets, with_set, iterate, mean}
 use Rattle.normal.specs.Tree.{Norm, Constant, Junction, Modality, Fixpoint, Variable, size, binder_name, constant_formula, junction_formula, modality_formula, fixpoint_formula, formula_from}

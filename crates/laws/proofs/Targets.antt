@@ -3,7 +3,7 @@ use Rattle.std.proofs.Common.{◌≡◌, ℕ, ◌<◌, Bool, ◌&&◌, refl, sub
 use Rattle.std.specs.Prelude.{Contains, ◌==◌}
 use Rattle.std.specs.List.{range_with_len}
 use Rattle.std.proofs.lemmas.Bool.{eqb-true}
-use Rattle.lts.specs.System.{Arrow, System, IsSystem}
+use Rattle.systems.specs.System.{Arrow, System, IsSystem}
 use Rattle.calculus.specs.Tree.{Action, Step}
 use Rattle.calculus.specs.Holds.{holds}
 use Rattle.calculus.specs.Meaning.{Leads}

@@ -5,8 +5,8 @@ use Rattle.std.proofs.lemmas.Nat.{div-add-mod', div-mul-add}
 use Rattle.std.proofs.lemmas.Bool.{lt-ltb, ltb-true, eqb-true}
 use Rattle.std.proofs.lemmas.Bool.Decides.{eqb_tells}
 use Rattle.std.proofs.lemmas.Option.{slice_get_within}
-use Rattle.lts.specs.System.{System}
-use Rattle.lts.specs.Path.{IsPath}
+use Rattle.systems.specs.System.{System}
+use Rattle.systems.specs.Path.{IsPath}
 use Rattle.calculus.specs.Meaning.{no_sets}
 use Rattle.normal.specs.Tree.{Norm, size, Shape}
 use Rattle.normal.specs.Nodes.{Node}

@@ -1,7 +1,7 @@
 // Why there is no core, and no schedule.
 
-use lts::error::Memory;
 use std::alloc::AllocError;
+use text::Memory;
 use thiserror::Error;
 
 /// Why there is no core. It is shown as its code.

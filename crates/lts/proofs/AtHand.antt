@@ -18,9 +18,9 @@ use Rattle.text.specs.Tokens.{whole_number, is_other}
 use Rattle.text.specs.Stream.{first_piece, line_of, below}
 use Rattle.text.proofs.Spaced.{numeral_digits}
 use Rattle.text.proofs.Scanning.{run_passes, whole_gives, none_other}
-use Rattle.lts.specs.System.{Arrow}
+use Rattle.systems.specs.System.{Arrow}
 use Rattle.lts.specs.Aut.{IsTransition}
-use Rattle.lts.specs.declared.limits.TheConstants.{LONGEST_LABEL}
+use Rattle.systems.specs.declared.limits.TheConstants.{LONGEST_LABEL}
 use Rattle.lts.specs.Scan.{transition_at, PassesTransition}
 use Rattle.lts.specs.Plain.{is_inner, plain_text, IsNumberThen, IsPlainThen, PassesAtHand}
 use Rattle.lts.proofs.Scanning.{transition_finds}

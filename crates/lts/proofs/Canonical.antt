@@ -7,13 +7,13 @@ use Rattle.std.proofs.lemmas.List.Concat.{flat_map-cons}
 use Rattle.std.proofs.lemmas.List.Folds.{list_all-append}
 use Rattle.text.specs.Text.{lines}
 use Rattle.text.specs.Wrote.{lines_from}
-use Rattle.lts.specs.declared.limits.TheConstants.{MOST_TRANSITIONS, MOST_STATES, LONGEST_LABEL}
-use Rattle.lts.specs.Label.{is_label, is_label_byte}
-use Rattle.lts.specs.System.{Arrow, System, IsArrow, IsSystem}
-use Rattle.lts.specs.Numbered.{Numbered, arrow_of, system_with}
+use Rattle.systems.specs.declared.limits.TheConstants.{MOST_TRANSITIONS, MOST_STATES, LONGEST_LABEL}
+use Rattle.systems.specs.Label.{is_label, is_label_byte}
+use Rattle.systems.specs.System.{Arrow, System, IsArrow, IsSystem}
+use Rattle.systems.specs.Numbered.{Numbered, arrow_of, system_with}
 use Rattle.lts.specs.Aut.{IsAut, IsHeader, IsTransition}
 use Rattle.lts.specs.Canon.{arrow_line, header_line, aut_text, line_at, line_of}
-use Rattle.lts.specs.declared.system.Transition.{Transition}
+use Rattle.systems.specs.declared.system.Transition.{Transition}
 use Rattle.std.proofs.lemmas.Bool.{and_parts}
 use Rattle.lts.proofs.Listed.{listed}
 use Rattle.text.proofs.Plain.{plain, first_line, numeral, over, over_rest, spaced, over_plain, number_plain}

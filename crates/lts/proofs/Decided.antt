@@ -4,12 +4,12 @@ use Rattle.std.specs.List.{AllByRecursion, AllZip}
 use Rattle.std.proofs.lemmas.Bool.Decides.{leb_tells}
 use Rattle.std.proofs.lemmas.List.{length-append}
 use Rattle.text.specs.Text.{lines}
-use Rattle.lts.specs.declared.limits.TheConstants.{MOST_TRANSITIONS, MOST_STATES}
+use Rattle.systems.specs.declared.limits.TheConstants.{MOST_TRANSITIONS, MOST_STATES}
 use Rattle.lts.specs.declared.error.AutFault.{AutFault}
 use Rattle.lts.specs.declared.error.AutFault.TheVariants.{BadHeader, BadLine, OverLimit, NoSuchState, WrongCount, BadStates, BadLabel}
 use Rattle.lts.specs.declared.scan.Announced.{Announced}
-use Rattle.lts.specs.Label.{is_label}
-use Rattle.lts.specs.System.{Arrow, System, IsArrow, set_of}
+use Rattle.systems.specs.Label.{is_label}
+use Rattle.systems.specs.System.{Arrow, System, IsArrow, set_of}
 use Rattle.lts.specs.Aut.{IsAut, IsHeader, IsTransition, IsGoodLine, LineFault, BodyFault, HasFault}
 use Rattle.lts.specs.Scan.{header_at, transition_at}
 use Rattle.lts.proofs.Gathering.{all_append}

@@ -3,12 +3,12 @@ use Rattle.std.proofs.Common.{◌≡◌, ℕ, ◌+◌, ◌<◌, ◌≤◌, ◌�
 use Rattle.std.specs.List.{AllByRecursion}
 use Rattle.std.proofs.lemmas.List.{length-append}
 use Rattle.std.proofs.lemmas.Bool.{cases_lt}
-use Rattle.lts.specs.declared.limits.TheConstants.{MOST_TRANSITIONS, MOST_STATES}
+use Rattle.systems.specs.declared.limits.TheConstants.{MOST_TRANSITIONS, MOST_STATES}
 use Rattle.lts.specs.declared.error.AutFault.{AutFault}
 use Rattle.lts.specs.declared.error.AutFault.TheVariants.{BadHeader, BadLine, OverLimit, NoSuchState, WrongCount, BadStates, BadLabel}
 use Rattle.text.specs.Text.{lines}
-use Rattle.lts.specs.Label.{is_label}
-use Rattle.lts.specs.System.{Arrow, System}
+use Rattle.systems.specs.Label.{is_label}
+use Rattle.systems.specs.System.{Arrow, System}
 use Rattle.lts.specs.Aut.{IsAut, IsHeader, IsGoodLine, LineFault, HeaderFault, BodyFault, HasFault}
 use Rattle.lts.proofs.Unique.{header_same, transition_same, lines_same}
 use Rattle.lts.proofs.Reading.{good_lines}

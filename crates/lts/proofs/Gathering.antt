@@ -9,10 +9,10 @@ use Rattle.std.proofs.lemmas.List.Elements.{Contains-append_left, Contains-appen
 use Rattle.std.proofs.lemmas.List.Quantifiers.{position-Some}
 use Rattle.std.proofs.lemmas.Option.{get_or_from_slice_get}
 use Rattle.std.proofs.lemmas.Slice.Eq.{bytes_eq-Decides}
-use Rattle.lts.specs.System.{Arrow}
-use Rattle.lts.specs.Numbered.{label_at, arrow_of, AreLabelsOf}
-use Rattle.lts.specs.declared.system.Transition.{Transition}
-use Rattle.lts.specs.Label.{texts}
+use Rattle.systems.specs.System.{Arrow}
+use Rattle.systems.specs.Numbered.{label_at, arrow_of, AreLabelsOf}
+use Rattle.systems.specs.declared.system.Transition.{Transition}
+use Rattle.systems.specs.Label.{texts}
 use Rattle.lts.specs.Gathered.{HasLabel, Extends, Gathers}
 
 -- the key that was found is the label

@@ -4,13 +4,13 @@ use Rattle.std.specs.List.{list_all}
 use Rattle.std.proofs.lemmas.Bool.{cases_lt, leb-true, and_parts}
 use Rattle.std.proofs.lemmas.List.{take_all, length-take-le}
 use Rattle.std.specs.Prelude.{IfSome}
-use Rattle.lts.specs.declared.limits.TheConstants.{MOST_TRANSITIONS, LONGEST_LABEL}
+use Rattle.systems.specs.declared.limits.TheConstants.{MOST_TRANSITIONS, LONGEST_LABEL}
 use Rattle.lts.specs.declared.error.AutFault.{AutFault}
 use Rattle.lts.specs.declared.error.AutFault.TheVariants.{BadHeader, BadLine, OverLimit, NoSuchState, BadStates, BadLabel}
 use Rattle.lts.specs.declared.scan.Announced.{Announced}
 use Rattle.text.specs.Text.{lines}
-use Rattle.lts.specs.Label.{is_label, is_label_byte}
-use Rattle.lts.specs.System.{Arrow, IsArrow}
+use Rattle.systems.specs.Label.{is_label, is_label_byte}
+use Rattle.systems.specs.System.{Arrow, IsArrow}
 use Rattle.lts.specs.Aut.{IsHeader, IsTransition, LineFault, HasFault}
 use Rattle.text.specs.Tokens.{capped, sign_at}
 use Rattle.lts.specs.Scan.{header_at, transition_at, PassesTransition}

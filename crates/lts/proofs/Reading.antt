@@ -6,11 +6,11 @@ use Rattle.std.proofs.lemmas.List.{length-append, length-map}
 use Rattle.lts.specs.declared.error.AutFault.{AutFault}
 use Rattle.lts.specs.declared.error.AutFault.TheVariants.{WrongCount}
 use Rattle.lts.specs.declared.scan.Announced.{Announced}
-use Rattle.lts.specs.declared.system.Transition.{Transition}
+use Rattle.systems.specs.declared.system.Transition.{Transition}
 use Rattle.text.specs.Text.{lines}
-use Rattle.lts.specs.System.{Arrow, IsArrow}
+use Rattle.systems.specs.System.{Arrow, IsArrow}
 use Rattle.lts.specs.Aut.{IsTransition, IsGoodLine}
-use Rattle.lts.specs.Numbered.{arrow_of}
+use Rattle.systems.specs.Numbered.{arrow_of}
 use Rattle.lts.specs.Gathered.{Gathers}
 use Rattle.text.specs.Lines.{IfKnown}
 use Rattle.text.proofs.Streaming.{known_then}

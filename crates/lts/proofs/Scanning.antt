@@ -5,12 +5,12 @@ use Rattle.text.specs.Text.{value_of}
 use Rattle.text.specs.Tokens.{capped, sign_at, quoted_at, end_at, number_before, ◌>>=◌}
 use Rattle.text.proofs.Scanning.{bind_some, sign_gives, sign_finds, number_before_gives, number_before_finds, quoted_gives, quoted_finds, end_gives, end_finds}
 use Rattle.lts.specs.declared.scan.Announced.{Announced}
-use Rattle.lts.specs.System.{Arrow}
+use Rattle.systems.specs.System.{Arrow}
 use Rattle.lts.specs.Aut.{IsHeader, IsTransition}
 use Rattle.text.specs.Lines.{IfKnown}
 use Rattle.text.specs.Stream.{line_of, below, Passes, PassesSign, PassesKept, PassesLine}
 use Rattle.text.proofs.Streaming.{Then, known_only, known_then, known_both, sign_stops, sign_goes_on, token_stops, token_goes_on}
-use Rattle.lts.specs.declared.limits.TheConstants.{LONGEST_LABEL}
+use Rattle.systems.specs.declared.limits.TheConstants.{LONGEST_LABEL}
 use Rattle.lts.specs.declared.scan.Ends.{Ends}
 use Rattle.lts.specs.Scan.{header_at, counts_at, target_at, transition_at, labelled_at, PassesTransition}
 

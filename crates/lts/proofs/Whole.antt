@@ -6,7 +6,7 @@ use Rattle.lts.specs.declared.error.AutError.{AutError}
 use Rattle.lts.specs.declared.error.AutError.TheVariants as errors
 use Rattle.lts.specs.declared.scan.Announced.{Announced}
 use Rattle.text.specs.Text.{lines}
-use Rattle.lts.specs.System.{Arrow, System, IsArrow, set_of}
+use Rattle.systems.specs.System.{Arrow, System, IsArrow, set_of}
 use Rattle.lts.specs.Aut.{IsAut, IsHeader, HasFault, HasFaultAt}
 use Rattle.text.specs.Lines.{IfKnown}
 use Rattle.lts.specs.Left.{IsAdmitted, BeginsWith, AreTransitions, HasRestFault, Refuses, named}
@@ -16,7 +16,7 @@ use Rattle.text.specs.Reads.{Reads}
 use Rattle.text.proofs.Promised.{AreLaws, keeps}
 use Rattle.lts.specs.declared.error.AutFault.{AutFault}
 use Rattle.lts.specs.Unread.{unread}
-use Rattle.lts.specs.Numbered.{Numbered}
+use Rattle.systems.specs.Numbered.{Numbered}
 use Rattle.lts.proofs.Faults.{no_fault, one_fault}
 use Rattle.lts.proofs.Unique as unique
 

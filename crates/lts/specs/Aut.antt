@@ -2,9 +2,9 @@
 use Rattle.std.specs.Prelude.{◌≡◌, ◌≢◌, ℕ, ◌+◌, ◌<◌, ◌≤◌, ◌⊎◌, List, [], ◌∷◌, ◌++◌, length, IsTrue, IsFalse, codes, ◌==◌}
 use Rattle.std.specs.List.{list_any, AllZip, AllByRecursion}
 use Rattle.text.specs.Text.{lines, IsNumeral, IsSpaced}
-use Rattle.lts.specs.declared.limits.TheConstants.{MOST_TRANSITIONS, MOST_STATES}
-use Rattle.lts.specs.Label.{is_label}
-use Rattle.lts.specs.System.{Arrow, System, IsArrow, set_of}
+use Rattle.systems.specs.declared.limits.TheConstants.{MOST_TRANSITIONS, MOST_STATES}
+use Rattle.systems.specs.Label.{is_label}
+use Rattle.systems.specs.System.{Arrow, System, IsArrow, set_of}
 use Rattle.lts.specs.declared.error.AutFault.{AutFault}
 use Rattle.lts.specs.declared.error.AutFault.TheVariants.{BadHeader, BadLine, OverLimit, NoSuchState, WrongCount, BadStates, BadLabel}
 

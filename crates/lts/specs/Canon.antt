@@ -1,9 +1,9 @@
 -- The canonical Aldebaran text of a system.
 use Rattle.std.specs.Prelude.{ℕ, List, [], ◌∷◌, ◌++◌, length, codes, decimal, Option, Some, None, slice_get}
 use Rattle.std.specs.List.{flat_map}
-use Rattle.lts.specs.System.{Arrow, System}
-use Rattle.lts.specs.Numbered.{arrow_of}
-use Rattle.lts.specs.declared.system.Transition.{Transition}
+use Rattle.systems.specs.System.{Arrow, System}
+use Rattle.systems.specs.Numbered.{arrow_of}
+use Rattle.systems.specs.declared.system.Transition.{Transition}
 
 -- LF
 abbrev pub line_end : List ℕ

@@ -1,9 +1,9 @@
 -- Transitions as they come, with labels numbered as they come.
 use Rattle.std.specs.Prelude.{◌≡◌, ℕ, ◌<◌, List, ◌++◌, length, map}
 use Rattle.std.specs.List.{AllByRecursion}
-use Rattle.lts.specs.System.{Arrow}
-use Rattle.lts.specs.Numbered.{label_at, arrow_of, AreLabelsOf}
-use Rattle.lts.specs.declared.system.Transition.{Transition}
+use Rattle.systems.specs.System.{Arrow}
+use Rattle.systems.specs.Numbered.{label_at, arrow_of, AreLabelsOf}
+use Rattle.systems.specs.declared.system.Transition.{Transition}
 
 -- the label of this number is there
 pub record HasLabel (labels : List (List ℕ)) (number : ℕ) (label : List ℕ) : Type 0 where

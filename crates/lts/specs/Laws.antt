@@ -1,7 +1,7 @@
 -- What holds of all texts of systems.
 use Rattle.std.specs.Prelude.{◌≡◌, ℕ, ◌≤◌, ◌⊎◌, List, length}
-use Rattle.lts.specs.declared.limits.TheConstants.{MOST_TRANSITIONS}
-use Rattle.lts.specs.System.{System, IsSystem}
+use Rattle.systems.specs.declared.limits.TheConstants.{MOST_TRANSITIONS}
+use Rattle.systems.specs.System.{System, IsSystem}
 use Rattle.lts.specs.declared.error.AutFault.{AutFault}
 use Rattle.lts.specs.Aut.{IsAut, HasFault}
 use Rattle.lts.specs.Canon.{aut_text}

@@ -3,15 +3,15 @@ use Rattle.std.specs.Prelude.{◌≡◌, ℕ, ◌+◌, ◌<◌, ◌≤◌, ◌�
 use Rattle.std.specs.List.{AllZip, AllByRecursion}
 use Rattle.text.specs.Text.{lines}
 use Rattle.text.specs.Lines.{IfKnown}
-use Rattle.lts.specs.declared.limits.TheConstants.{MOST_TRANSITIONS, MOST_STATES}
+use Rattle.systems.specs.declared.limits.TheConstants.{MOST_TRANSITIONS, MOST_STATES}
 use Rattle.lts.specs.declared.error.AutFault.{AutFault}
 use Rattle.lts.specs.declared.error.AutFault.TheVariants.{OverLimit, NoSuchState, BadStates, BadLabel}
 use Rattle.lts.specs.declared.error.AutError.{AutError}
 use Rattle.lts.specs.declared.error.AutError.TheVariants.{Fault, Read, Memory}
 use Rattle.lts.specs.declared.scan.Announced.{Announced}
-use Rattle.lts.specs.declared.system.Transition.{Transition}
-use Rattle.lts.specs.Label.{is_label}
-use Rattle.lts.specs.System.{Arrow, IsArrow}
+use Rattle.systems.specs.declared.system.Transition.{Transition}
+use Rattle.systems.specs.Label.{is_label}
+use Rattle.systems.specs.System.{Arrow, IsArrow}
 use Rattle.lts.specs.Gathered.{Gathers}
 use Rattle.lts.specs.Aut.{IsHeader, IsTransition, BodyFault}
 

@@ -1,12 +1,3 @@
-pub use Rattle.text.specs.Text
-pub use Rattle.text.specs.Wrote
-pub use Rattle.text.specs.Pieces
-pub use Rattle.text.specs.Reads
-pub mod Label
-pub mod Path
-pub mod System
-pub mod Numbered
-pub mod View
 pub mod Aut
 pub mod Canon
 pub mod Laws

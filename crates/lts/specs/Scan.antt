@@ -2,8 +2,8 @@
 use Rattle.std.specs.Prelude.{◌≡◌, ℕ, ◌+◌, List, codes, take, Option, Some, None}
 use Rattle.text.specs.Tokens.{sign_at, quoted_at, number_before, end_at, ◌>>=◌}
 use Rattle.text.specs.Stream.{line_of, below}
-use Rattle.lts.specs.declared.limits.TheConstants.{LONGEST_LABEL}
-use Rattle.lts.specs.System.{Arrow}
+use Rattle.systems.specs.declared.limits.TheConstants.{LONGEST_LABEL}
+use Rattle.systems.specs.System.{Arrow}
 use Rattle.lts.specs.declared.scan.Announced.{Announced}
 use Rattle.lts.specs.declared.scan.Spelled.{Spelled}
 use Rattle.lts.specs.declared.scan.Ends.{Ends}

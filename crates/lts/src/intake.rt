@@ -1,16 +1,16 @@
 // The transitions of a text as they come, with labels numbered in the order in which they come.
 
 ghost use Rattle.std.specs.Prelude.{◌≡◌, ℕ, ◌+◌, ◌-◌, ◌^◌, ◌<◌, ◌≤◌, [], ◌∷◌, ◌++◌, List, length, IfOk, OnOk};
-ghost use Rattle.lts.specs.System.{Arrow};
+ghost use Rattle.systems.specs.System.{Arrow};
 ghost use Rattle.lts.specs.Scan.{said};
-ghost use Rattle.lts.specs.Label.{texts};
+ghost use Rattle.systems.specs.Label.{texts};
 ghost use Rattle.lts.specs.Gathered.{HasLabel, Extends, Gathers};
 
 use crate::error::Memory;
 use crate::scan::Spelled;
-use crate::system::Transition;
 use indexmap::IndexSet;
 use std::alloc::Global;
+use systems::system::Transition;
 
 /// The transitions so far, and the label of each number.
 #[derive(Drop)]

@@ -1,21 +1,17 @@
-// Labelled transition systems and their Aldebaran text.
+// The Aldebaran text of labelled transition systems. It offers the systems themselves under its own name.
 #![tactic(auto)]
 
 mod assemble;
 pub mod error;
 mod intake;
-pub mod label;
 pub mod law;
-pub mod limits;
 mod plain;
 pub mod reader;
 mod scan;
-pub mod system;
 pub mod writer;
 
 pub use error::{AutError, AutFault};
-pub use label::{Label, LabelView};
 pub use reader::read_aut;
-pub use system::{Lts, Transition};
+pub use systems::{Label, LabelView, Lts, Transition, label, limits, system};
 pub use text::{Memory, Piece, WriteFault, put, put_number, put_pieces};
 pub use writer::{write_aut, write_part};

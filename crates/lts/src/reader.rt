@@ -4,23 +4,23 @@ ghost use Rattle.std.specs.Prelude.{◌≡◌, ℕ, ◌+◌, ◌≤◌, ◌<◌,
 ghost use Rattle.std.specs.List.{AllByRecursion, list_all};
 ghost use Rattle.text.specs.Lines.{IfKnown};
 ghost use Rattle.text.specs.Reads.{Reads};
-ghost use Rattle.lts.specs.Label as label;
-ghost use Rattle.lts.specs.System.{Arrow, IsArrow, set_of};
+ghost use Rattle.systems.specs.Label as label;
+ghost use Rattle.systems.specs.System.{Arrow, IsArrow, set_of};
 ghost use Rattle.lts.specs.Aut.{IsAut, HasFault, HasFaultAt};
 ghost use Rattle.lts.specs.Scan.{said};
-ghost use Rattle.lts.specs.Label.{texts};
+ghost use Rattle.systems.specs.Label.{texts};
 ghost use Rattle.lts.specs.Gathered.{Gathers};
 ghost use Rattle.lts.specs.Left.{Refuses, IsAdmitted, BeginsWith, SoFar, HasNoLine, AreTransitions, HasRestFault, IsFirstFault, IsRowFault, named};
 
 use crate::assemble::assemble;
 use crate::error::{AutError, AutFault};
 use crate::intake::Rows;
-use crate::limits::{LONGEST_LABEL, MOST_STATES, MOST_TRANSITIONS};
 use crate::scan::{Announced, Kept, Spelled, header, transition};
-use crate::system::{Lts, Transition};
 use std::alloc::Global;
 use std::io::{BufRead, BufReader, Read};
 use std::mem;
+use systems::limits::{LONGEST_LABEL, MOST_STATES, MOST_TRANSITIONS};
+use systems::system::{Lts, Transition};
 use text::stream::has_line;
 
 // What is wrong with what a header announces, if anything is.

@@ -7,10 +7,10 @@ ghost use Rattle.lts.specs.Scan.{PassesTransition};
 ghost use Rattle.lts.specs.Plain.{PassesAtHand};
 ghost use Rattle.lts.specs.Scan as at;
 
-use crate::limits::LONGEST_LABEL;
 use crate::plain::plain_line;
 use std::alloc::Global;
 use std::io::{BufRead, Error, ErrorKind};
+use systems::limits::LONGEST_LABEL;
 use text::error::ReadFault;
 use text::stream::{ends, number_before, quoted, sign, word};
 

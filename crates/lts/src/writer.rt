@@ -2,15 +2,15 @@
 
 ghost use Rattle.std.specs.Prelude.{◌≡◌, ◌<◌, ◌≤◌, ◌++◌, length, map, decimal};
 ghost use Rattle.std.specs.List.{flat_map};
-ghost use Rattle.lts.specs.System.{IsSystem};
-ghost use Rattle.lts.specs.Numbered.{IsInside, IsInside-prop, arrow_of, system_with};
+ghost use Rattle.systems.specs.System.{IsSystem};
+ghost use Rattle.systems.specs.Numbered.{IsInside, IsInside-prop, arrow_of, system_with};
 ghost use Rattle.lts.specs.Aut.{IsAut};
 ghost use Rattle.lts.specs.Canon.{aut_text, header_line, arrow_line};
 ghost use Rattle.text.specs.Wrote.{Wrote};
 
-use crate::limits::MOST_TRANSITIONS;
-use crate::system::{Lts, Transition};
 use std::io::Write;
+use systems::limits::MOST_TRANSITIONS;
+use systems::system::{Lts, Transition};
 use text::{Lines, Piece, WriteFault, put_lines, put_pieces};
 
 /// Writes the system as its canonical Aldebaran text: a header, and a line for each distinct transition, ascending by

@@ -1,8 +1,8 @@
 -- What the signs behind a regular formula come to.
 use Rattle.std.proofs.Common.{◌≡◌, ℕ, ◌+◌, ◌≤◌, ◌↔◌, Bool, true, false, List, [], ◌∷◌, ◌++◌, max, subst, sym, arith}
 use Rattle.std.specs.Prelude.{MatchBool}
-use Rattle.lts.specs.Path.{IsPath}
-use Rattle.lts.specs.System.{System}
+use Rattle.systems.specs.Path.{IsPath}
+use Rattle.systems.specs.System.{System}
 use Rattle.calculus.specs.Tree.{Regular, Step, Then, Either, Star, Plus}
 use Rattle.calculus.specs.Meaning.{Leads}
 use Rattle.meaning.specs.Into.{Into}

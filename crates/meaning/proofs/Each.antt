@@ -1,8 +1,8 @@
 -- What holds of each transition.
 use Rattle.std.proofs.Common.{◌≡◌, ℕ, ◌<◌, ◌^◌, Bool, List, length, get_or, ap, arith}
 use Rattle.std.proofs.lemmas.List.Elements.{All-from_recursion, All-get_or}
-use Rattle.lts.specs.declared.system.Transition.{Transition}
-use Rattle.lts.specs.Numbered.{Numbered, IsTransitionOf, IsInside}
+use Rattle.systems.specs.declared.system.Transition.{Transition}
+use Rattle.systems.specs.Numbered.{Numbered, IsTransitionOf, IsInside}
 
 abbrev pub none : Transition
 none = record { source = 0; label = 0; target = 0 }

@@ -1,7 +1,7 @@
 -- Marks of a binder's meaning are the least or the greatest fixpoint.
 use Rattle.std.proofs.Common.{ℕ, ◌<◌, ◌↔◌, Bool, false, List, [], true≢false, sym}
 use Rattle.std.specs.Prelude.{IsTrue}
-use Rattle.lts.specs.System.{System, IsSystem}
+use Rattle.systems.specs.System.{System, IsSystem}
 use Rattle.calculus.specs.Tree.{Formula, Mu, Nu}
 use Rattle.calculus.specs.Admitted.{IsAdmitted}
 use Rattle.calculus.specs.Meaning.{Marks, marked, no_sets, Satisfies}

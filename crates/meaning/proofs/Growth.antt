@@ -2,8 +2,8 @@
 use Rattle.std.proofs.Common.{◌≡◌, ℕ, zero, suc, ◌<◌, ◌≤◌, ◌⊎◌, Bool, true, false, not, ◌||◌, List, [], ◌∷◌, length, map, refl, sym, ap, ◌∙◌, subst, inl, inr, arith}
 use Rattle.std.specs.Prelude.{zip}
 use Rattle.std.specs.List.{list_all}
-use Rattle.lts.specs.Path.{IsPath}
-use Rattle.lts.specs.System.{System, IsSystem}
+use Rattle.systems.specs.Path.{IsPath}
+use Rattle.systems.specs.System.{System, IsSystem}
 use Rattle.calculus.specs.Tree.{Regular, Star, Plus}
 use Rattle.calculus.specs.Meaning.{Leads, marked, Marks}
 use Rattle.calculus.proofs.Inside.{leads_inside}

@@ -1,7 +1,7 @@
 -- Marks of the iterates of a binder's map.
 use Rattle.std.proofs.Common.{◌≡◌, ℕ, zero, suc, ◌+◌, ◌-◌, ◌≤◌, Bool, true, false, List, add-zero, add-suc, add-one, subst, arith}
 use Rattle.std.specs.Prelude.{IsTrue}
-use Rattle.lts.specs.System.{System, IsSystem}
+use Rattle.systems.specs.System.{System, IsSystem}
 use Rattle.calculus.specs.Tree.{Formula}
 use Rattle.calculus.specs.Meaning.{Env, with_set, iterate, mean, marked, Marks}
 use Rattle.calculus.proofs.Same.{Same, with_same, mean_same}

@@ -1,7 +1,7 @@
 -- Marks of where a composed regular formula leads.
 use Rattle.std.proofs.Common.{◌≡◌, ℕ, ◌<◌, ◌⊎◌, ◌↔◌, Bool, true, false, not, List, map, inl, inr, refl, sym, ap, ◌∙◌, arith}
 use Rattle.std.proofs.lemmas.List.{get_or-map}
-use Rattle.lts.specs.System.{System, IsSystem}
+use Rattle.systems.specs.System.{System, IsSystem}
 use Rattle.calculus.specs.Tree.{Regular, Then, Either, Star, Plus}
 use Rattle.calculus.specs.Meaning.{Leads, Marks}
 use Rattle.meaning.specs.Into.{Into}

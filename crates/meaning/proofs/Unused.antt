@@ -4,7 +4,7 @@ use Rattle.std.specs.Prelude.{MatchBool}
 use Rattle.std.specs.Str.{bytes_eq}
 use Rattle.std.proofs.lemmas.Bool.{or_parts}
 use Rattle.std.proofs.lemmas.Slice.Eq.{bytes_eq-Decides}
-use Rattle.lts.specs.System.{System, IsSystem}
+use Rattle.systems.specs.System.{System, IsSystem}
 use Rattle.calculus.specs.Tree.{Formula, True, False, Var, Not, And, Or, Implies, Dia, Box, Mu, Nu}
 use Rattle.calculus.specs.Meaning.{Env, with_set, iterate, mean, Marks}
 use Rattle.calculus.proofs.Inside.{leads_inside}

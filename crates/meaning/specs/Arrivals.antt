@@ -1,6 +1,6 @@
 -- Steps by the states into which they lead.
 use Rattle.std.specs.Prelude.{◌≡◌, ℕ, zero, suc, ◌<◌, ◌≤◌, ◌↔◌, Bool, List, [], ◌∷◌, length, slice_index_or, cond}
-use Rattle.lts.specs.System.{System}
+use Rattle.systems.specs.System.{System}
 use Rattle.calculus.specs.Tree.{Action, Step}
 use Rattle.calculus.specs.Meaning.{Leads}
 use Rattle.meaning.specs.declared.arrivals.Arrival.{Arrival}

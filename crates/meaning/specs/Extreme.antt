@@ -1,6 +1,6 @@
 -- Marks that are the least or the greatest fixpoint of a binder's formula.
 use Rattle.std.specs.Prelude.{ℕ, ◌<◌, ◌↔◌, Bool, List, IsTrue}
-use Rattle.lts.specs.System.{System}
+use Rattle.systems.specs.System.{System}
 use Rattle.calculus.specs.Tree.{Formula}
 use Rattle.calculus.specs.Meaning.{no_sets, marked}
 use Rattle.calculus.specs.FixpointLaws.{body}

@@ -1,6 +1,6 @@
 -- Which states lead into a set of marks.
 use Rattle.std.specs.Prelude.{ℕ, Bool, List}
-use Rattle.lts.specs.System.{System}
+use Rattle.systems.specs.System.{System}
 use Rattle.calculus.specs.Tree.{Regular}
 use Rattle.calculus.specs.Meaning.{Leads, marked}
 

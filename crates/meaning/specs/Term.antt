@@ -1,6 +1,6 @@
 -- What a formula that is evaluated stands for, and what is known of it.
 use Rattle.std.specs.Prelude.{◌≡◌, [], IsTrue}
-use Rattle.lts.specs.System.{System}
+use Rattle.systems.specs.System.{System}
 use Rattle.calculus.specs.Tree.{Formula, True, False, Var, Not, And, Or, Implies, Dia, Box, Mu, Nu}
 use Rattle.calculus.specs.View.{formula_of, regular_of}
 use Rattle.calculus.specs.Meaning.{Marks, Satisfies}

@@ -1,7 +1,7 @@
 // Steps by an action formula.
 
 ghost use Rattle.std.specs.Prelude.{◌≡◌, ℕ, ◌<◌, ◌^◌, length, slice_index_or, false, IfOk};
-ghost use Rattle.lts.specs.Numbered.{label_at};
+ghost use Rattle.systems.specs.Numbered.{label_at};
 ghost use Rattle.calculus.specs.Tree.{Step};
 ghost use Rattle.calculus.specs.View.{action_of};
 ghost use Rattle.calculus.specs.Holds.{holds as holds_of};
@@ -11,8 +11,8 @@ ghost use Rattle.meaning.specs.Into.{Into};
 use crate::sets::all;
 use calculus::holds;
 use calculus::tree::Act;
-use lts::system::{Lts, Transition};
 use std::alloc::{AllocError, Global};
+use systems::system::{Lts, Transition};
 
 /// Whether the action formula holds of each label, by the label's number.
 pub fn chosen_labels(alloc: Global, lts: &Lts, action: &Act) -> Result<Vec<bool>, AllocError>

@@ -1,7 +1,7 @@
 // A slow evaluator over sets of states.
 
 ghost use Rattle.std.specs.Prelude.{◌≡◌, ℕ, List, IfOk, IsTrue};
-ghost use Rattle.lts.specs.System.{IsSystem};
+ghost use Rattle.systems.specs.System.{IsSystem};
 ghost use Rattle.calculus.specs.Tree.{Formula, Mu, Nu};
 ghost use Rattle.calculus.specs.Closed.{closed_formula};
 ghost use Rattle.calculus.specs.Meaning.{Satisfies, mean, Marks, iterate, with_set};
@@ -15,9 +15,9 @@ use crate::scope::Scope;
 use crate::sets::{all, complement, copied, intersection, union};
 use crate::term::{Term, term_of};
 use calculus::closed::Closed;
-use lts::error::Memory;
-use lts::system::Lts;
 use std::alloc::{AllocError, Global};
+use systems::system::Lts;
+use text::Memory;
 
 /// The set of a variable, none if the scope has none.
 fn set_of(

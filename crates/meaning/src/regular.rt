@@ -1,7 +1,7 @@
 // Where a regular formula leads.
 
 ghost use Rattle.std.specs.Prelude.{◌≡◌, length, IfOk};
-ghost use Rattle.lts.specs.System.{IsSystem};
+ghost use Rattle.systems.specs.System.{IsSystem};
 ghost use Rattle.calculus.specs.Tree.{Star, Plus};
 ghost use Rattle.calculus.specs.View.{regular_of};
 ghost use Rattle.calculus.specs.Meaning.{Marks};
@@ -12,8 +12,8 @@ use crate::search::reaching_by;
 use crate::sets::{is_within, union};
 use crate::signs::{has_star, without_signs_behind};
 use calculus::tree::Reg;
-use lts::system::Lts;
 use std::alloc::{AllocError, Global};
+use systems::system::Lts;
 
 /// The states from which steps lead into a set: any number of them, and at least one.
 #[derive(Drop)]

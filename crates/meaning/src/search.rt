@@ -1,7 +1,7 @@
 // Where any number of steps of an action lead, by one search backwards.
 
 ghost use Rattle.std.specs.Prelude.{◌≡◌, ℕ, ◌+◌, ◌*◌, ◌<◌, ◌≤◌, ◌⊎◌, length, All, Contains, IfOk, OnOk};
-ghost use Rattle.lts.specs.System.{IsSystem};
+ghost use Rattle.systems.specs.System.{IsSystem};
 ghost use Rattle.calculus.specs.Tree.{Step, Star};
 ghost use Rattle.calculus.specs.View.{action_of};
 ghost use Rattle.calculus.specs.Meaning.{Marks, marked};
@@ -11,8 +11,8 @@ ghost use Rattle.meaning.specs.Arrivals.{IsSource, HasRoom, IsIndex, unmarked};
 use crate::actions::{chosen_labels, is_chosen};
 use crate::arrivals::{Arrival, Arrivals};
 use calculus::tree::Act;
-use lts::system::{Lts, Transition};
 use std::alloc::{AllocError, Global};
+use systems::system::{Lts, Transition};
 
 /// The steps of the action, by the states into which they lead.
 fn index_of(alloc: Global, lts: &Lts, action: &Act) -> Result<Arrivals, AllocError>

@@ -8,8 +8,8 @@ use crate::free::{has_free, is_closed};
 use crate::plain::marks_of;
 use crate::scope::Scope;
 use calculus::tree::{Reg, State};
-use lts::system::Lts;
 use std::alloc::{AllocError, Global};
+use systems::system::Lts;
 
 /// A formula of which closed parts are known. A binder tells whether its variable is free in its formula.
 #[derive(Drop)]

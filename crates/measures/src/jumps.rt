@@ -5,16 +5,16 @@ ghost use Rattle.game.specs.Game.{dual};
 ghost use Rattle.progress.specs.Measure.{components};
 ghost use Rattle.progress.specs.Progress.{LiesUnder};
 
+use game::graph::Game;
 use progress::bounds::bounds;
 use progress::claim::Claim;
 use progress::measure::Measure;
 use progress::progs::is_measure;
 use progress::table::PlainTable;
-use game::graph::Game;
-use lts::error::Memory;
 use search::layers::Layers;
 use search::lost::Lost;
 use std::alloc::Global;
+use text::Memory;
 
 // Claims top of a vertex that Odd was found to win.
 fn claim_top(claim: &mut Claim, lost: &Lost, v: u32, rank: &mut [u32])

@@ -3,15 +3,14 @@
 ghost use Rattle.std.specs.Prelude.{◌≡◌, IfOk};
 ghost use Rattle.progress.specs.Progress.{IsLeastTable, LiesUnder, opening as opening_of};
 
-pub use progress::settle::{even_wins, is_settled, settle};
-
 use crate::jumps::jump_ahead;
 use game::graph::Game;
-use lts::error::Memory;
 use progress::observer::{Observer, Silent, Stage};
+pub use progress::settle::{even_wins, is_settled, settle};
 use progress::settle::{lift_ahead, settle_seen};
 use progress::table::{PlainTable, Settled, opening};
 use std::alloc::Global;
+use text::Memory;
 
 /// The table that solving begins with: the opening one, lifted a few times at each vertex. Where that doesn't settle it, it is raised
 /// as far as a search finds; what is not found, also for want of memory, is left to lifting.

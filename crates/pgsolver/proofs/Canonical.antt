@@ -9,7 +9,7 @@ use Rattle.std.proofs.lemmas.List.Folds.{list_all-append}
 use Rattle.text.specs.Text.{lines, is_digit, IsNumeral, IsSpaced}
 use Rattle.text.proofs.Plain.{plain, first_line, numeral, over, over_rest, spaced, over_plain, number_plain}
 use Rattle.text.proofs.Spaced.{numeral_digits}
-use Rattle.lts.specs.Label.{is_label_byte}
+use Rattle.systems.specs.Label.{is_label_byte}
 use Rattle.lts.proofs.Canonical.{label_bytes}
 use Rattle.normal.specs.declared.limits.TheConstants.{GREATEST_PRIORITY}
 use Rattle.game.specs.declared.player.Player.{Player}

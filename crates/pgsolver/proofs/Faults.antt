@@ -7,7 +7,7 @@ use Rattle.std.proofs.lemmas.Bool.{cases_lt, lt-ltb}
 use Rattle.text.specs.Text.{lines}
 use Rattle.text.specs.Tokens.{capped}
 use Rattle.lts.proofs.Unique.{lines_same}
-use Rattle.lts.proofs.Ordered.{Has, Has-from_Contains, Contains-from_Has, all_has}
+use Rattle.systems.proofs.Ordered.{Has, Has-from_Contains, Contains-from_Has, all_has}
 use Rattle.game.specs.declared.limits.TheConstants.{MOST_VERTICES}
 use Rattle.game.specs.Game.{Game}
 use Rattle.pgsolver.specs.declared.error.PgFault.{PgFault}

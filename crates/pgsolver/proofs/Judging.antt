@@ -6,7 +6,7 @@ use Rattle.std.proofs.lemmas.Bool.{ltb-true, ltb-false}
 use Rattle.text.specs.Text.{lines}
 use Rattle.text.specs.Tokens.{capped}
 use Rattle.text.specs.Lines.{IfKnown, TakesLine}
-use Rattle.lts.proofs.Ordered.{Has, Has-from_Contains, Contains-from_Has, all_has}
+use Rattle.systems.proofs.Ordered.{Has, Has-from_Contains, Contains-from_Has, all_has}
 use Rattle.game.specs.declared.limits.TheConstants.{MOST_VERTICES}
 use Rattle.game.specs.NumberSet.{set_of}
 use Rattle.pgsolver.specs.declared.error.PgFault.{PgFault}

@@ -3,7 +3,7 @@ use Rattle.std.proofs.Common.{◌≡◌, ◌≢◌, ℕ, zero, suc, ◌+◌, ◌
 use Rattle.std.specs.Prelude.{slice_get, AllPairs}
 use Rattle.std.proofs.lemmas.Bool.{eqb-true, eqb-false}
 use Rattle.std.proofs.lemmas.List.{length-map}
-use Rattle.lts.proofs.Ordered.{Has, Contains-from_Has}
+use Rattle.systems.proofs.Ordered.{Has, Contains-from_Has}
 use Rattle.pgsolver.specs.Spelling.{Line}
 
 -- ---- numbers that are all different are no more than there are below a bound

@@ -10,7 +10,7 @@ use Rattle.text.specs.Text.{lines}
 use Rattle.text.specs.Lines.{IfKnown, TakesLine}
 use Rattle.lts.specs.Left.{HasNoLine}
 use Rattle.lts.proofs.Gathering.{all_append}
-use Rattle.lts.proofs.Ordered.{Has, Has-from_Contains, Contains-from_Has, all_has}
+use Rattle.systems.proofs.Ordered.{Has, Has-from_Contains, Contains-from_Has, all_has}
 use Rattle.game.specs.declared.limits.TheConstants.{MOST_VERTICES}
 use Rattle.game.specs.Game.{Vertex, IsVertex, IsGame}
 use Rattle.game.specs.NumberSet.{set_of}

@@ -9,7 +9,7 @@ use Rattle.text.specs.Text.{is_blank, is_digit, is_numeral, value_of, IsNumeral,
 use Rattle.text.specs.Tokens.{capped, past_blanks, sign_at, number_at, number_before, quoted_at, end_at, ◌>>=◌}
 use Rattle.text.proofs.Spaced.{blank_no_digit}
 use Rattle.text.proofs.Scanning.{bind_some, if_some, sign_gives, sign_finds, number_gives, number_finds, number_before_gives, number_before_finds, quoted_gives, quoted_finds, end_gives, end_finds, past_gap, run_none}
-use Rattle.lts.specs.Label.{is_label_byte}
+use Rattle.systems.specs.Label.{is_label_byte}
 use Rattle.lts.proofs.Canonical.{label_bytes}
 use Rattle.game.specs.declared.player.Player.{Player}
 use Rattle.game.specs.declared.player.Player.TheVariants.{Even, Odd}

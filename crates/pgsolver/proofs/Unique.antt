@@ -7,7 +7,7 @@ use Rattle.std.proofs.lemmas.Option.{get_or_from_slice_get}
 use Rattle.text.specs.Text.{lines}
 use Rattle.text.specs.Tokens.{capped}
 use Rattle.lts.proofs.Unique.{lines_same}
-use Rattle.lts.proofs.Ordered.{Has, Contains-from_Has, all_has}
+use Rattle.systems.proofs.Ordered.{Has, Contains-from_Has, all_has}
 use Rattle.game.specs.declared.player.Player.TheVariants.{Even}
 use Rattle.game.specs.declared.limits.TheConstants.{MOST_VERTICES}
 use Rattle.game.specs.Game.{Vertex, Game}

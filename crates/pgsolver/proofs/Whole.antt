@@ -6,7 +6,7 @@ use Rattle.text.specs.Text.{lines}
 use Rattle.text.specs.Lines.{IfKnown}
 use Rattle.text.specs.Reads.{Reads}
 use Rattle.text.proofs.Promised.{AreLaws, keeps}
-use Rattle.lts.proofs.Ordered.{Has-from_Contains, all_has}
+use Rattle.systems.proofs.Ordered.{Has-from_Contains, all_has}
 use Rattle.game.specs.declared.limits.TheConstants.{MOST_VERTICES}
 use Rattle.game.specs.Game.{Vertex, Game}
 use Rattle.pgsolver.specs.declared.error.PgError.{PgError}

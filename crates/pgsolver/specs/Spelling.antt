@@ -2,7 +2,7 @@
 use Rattle.std.specs.Prelude.{◌≡◌, ◌≢◌, ℕ, ◌+◌, ◌<◌, ◌≤◌, List, [], ◌∷◌, ◌++◌, length, IsTrue, Contains, AllPairs, Bool, Option, Some, None, MatchOption, nat_le, ◌&&◌, codes}
 use Rattle.std.specs.List.{AllZip, AllByRecursion, list_all}
 use Rattle.text.specs.Text.{lines, is_blank, IsNumeral, IsSpaced}
-use Rattle.lts.specs.Label.{is_label_byte}
+use Rattle.systems.specs.Label.{is_label_byte}
 use Rattle.normal.specs.declared.limits.TheConstants.{GREATEST_PRIORITY}
 use Rattle.game.specs.declared.limits.TheConstants.{MOST_VERTICES}
 use Rattle.game.specs.declared.player.Player.{Player}

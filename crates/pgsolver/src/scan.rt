@@ -3,7 +3,7 @@
 ghost use Rattle.std.specs.Prelude.{◌≡◌, ◌+◌, length, option_map, IfOk};
 ghost use Rattle.std.specs.List.{list_all};
 ghost use Rattle.text.specs.Tokens.{Finds};
-ghost use Rattle.lts.specs.Label.{is_label_byte};
+ghost use Rattle.systems.specs.Label.{is_label_byte};
 ghost use Rattle.pgsolver.specs.Scan.{FindsMore, FindsLine};
 ghost use Rattle.pgsolver.specs.Scan as at;
 ghost use Rattle.pgsolver.specs.Spelling as spec;

@@ -18,7 +18,7 @@ pub use Rattle.std.proofs.lemmas.Slice.Zip.{AllZip-long}
 pub use Rattle.progress.specs.Progs.{AreFull, IsBetter, IsDemandOf, IsLiftOf, IsProgAt, IsProgUnder, bounds}
 pub use Rattle.std.specs.Ordering.{is_gt, is_le, is_lt, nat_cmp}
 pub use Rattle.std.proofs.lemmas.List.Elements.{All-from_recursion, AllZip-get_or, Contains-append_left, Contains-append_right}
-pub use Rattle.lts.specs.Path.{IsPath}
+pub use Rattle.systems.specs.Path.{IsPath}
 pub use Rattle.std.proofs.lemmas.List.FromFn.{get_or-map-range_with_len, length-map-range_with_len, length-range_with_len}
 pub use Rattle.progress.specs.Settling.{IsStill, Sweeps}
 pub use Rattle.std.specs.declared.cmp.Ordering.{Ordering}

@@ -11,10 +11,10 @@ use crate::measure::Measure;
 use crate::progs::prog_of;
 use crate::rows::Rows;
 use game::graph::Game;
-use lts::error::Memory;
 use std::alloc::Global;
 use std::marker::Model;
 use std::snapshot::Snapshot;
+use text::Memory;
 
 /// For some vertices of a game a value that is claimed to be below, with a move and a rank.
 #[derive(Drop)]

@@ -19,10 +19,10 @@ use arrayvec::ArrayVec;
 use game::graph::Game;
 use game::player::Player;
 use game::predecessors::Predecessors;
-use lts::error::Memory;
 use std::alloc::Global;
 use std::marker::Model;
 use std::snapshot::Snapshot;
+use text::Memory;
 
 /// A measure for each vertex of a game, none of them above that of any progress table.
 #[derive(Drop)]

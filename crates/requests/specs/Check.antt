@@ -1,7 +1,7 @@
 -- What a check answers.
 use Rattle.std.specs.Prelude.{◌≡◌, ℕ, ◌+◌, ◌*◌, ◌≤◌, Bool, false, List, [], length, Option, Some, Result, MatchResult}
 use Rattle.std.specs.List.{slice_index_or}
-use Rattle.lts.specs.System.{System}
+use Rattle.systems.specs.System.{System}
 use Rattle.lts.specs.Aut.{IsAut, HasFault}
 use Rattle.lts.specs.Canon.{aut_text}
 use Rattle.lts.specs.Left.{Refuses}

@@ -1,7 +1,7 @@
 -- A worked example of a report.
 use Rattle.std.specs.Prelude.{◌≡◌, true, false, [], ◌∷◌, ◌++◌, codes, refl}
 use Rattle.std.specs.Fmt.{digits}
-use Rattle.lts.specs.System.{System}
+use Rattle.systems.specs.System.{System}
 use Rattle.calculus.specs.Tree.{Names, Dia, Step, True}
 use Rattle.requests.specs.Report.{report, line_end}
 

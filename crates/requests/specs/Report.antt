@@ -1,7 +1,7 @@
 -- The report of a check.
 use Rattle.std.specs.Prelude.{ℕ, ◌+◌, Bool, false, List, [], ◌∷◌, ◌++◌, length, count_by, codes, decimal, if◌then◌else◌}
 use Rattle.std.specs.List.{slice_index_or}
-use Rattle.lts.specs.System.{System}
+use Rattle.systems.specs.System.{System}
 use Rattle.calculus.specs.Tree.{Formula}
 use Rattle.calculus.specs.Canon.{canon}
 

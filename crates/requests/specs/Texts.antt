@@ -1,6 +1,6 @@
 -- What the texts of a command spell.
 use Rattle.std.specs.Prelude.{◌≡◌, ℕ, List}
-use Rattle.lts.specs.System.{System}
+use Rattle.systems.specs.System.{System}
 use Rattle.lts.specs.Aut.{IsAut}
 use Rattle.calculus.specs.Tree.{Formula}
 use Rattle.formula.specs.Spells.{Spells, SpellsWithin}

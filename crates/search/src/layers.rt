@@ -6,8 +6,8 @@ use crate::numbers::Numbers;
 use crate::ranks::Ranks;
 use game::graph::Game;
 use game::predecessors::Predecessors;
-use lts::error::Memory;
 use std::alloc::Global;
+use text::Memory;
 
 /// For vertices that Even wins how many vertices of an odd priority Odd was found to force, with its moves and
 /// ranks that fall along them. Nothing of it is sure before it is tested.

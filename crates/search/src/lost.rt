@@ -5,8 +5,8 @@ use crate::ranks::Ranks;
 use crate::winners::Winners;
 use game::graph::Game;
 use game::predecessors::Predecessors;
-use lts::error::Memory;
 use std::alloc::Global;
+use text::Memory;
 
 /// The vertices that Odd was found to win, with its moves and ranks that fall along them. Nothing of it is sure before it is tested.
 #[derive(Drop)]

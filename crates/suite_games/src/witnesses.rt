@@ -1,7 +1,7 @@
 // Parts of systems on which answers rest: each is written, read again and checked by sets of states, which know no game.
 
 ghost use Rattle.std.specs.Prelude.{◌≡◌, ◌<◌, ◌≤◌};
-ghost use Rattle.lts.specs.Numbered.{IsInside};
+ghost use Rattle.systems.specs.Numbered.{IsInside};
 ghost use Rattle.normal.specs.Normal.{normal_nodes};
 ghost use Rattle.game.specs.Arena.{arena};
 ghost use Rattle.game.specs.Game.{greatest};

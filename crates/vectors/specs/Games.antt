@@ -3,7 +3,7 @@ use Rattle.std.specs.Prelude.{◌≡◌, ◌≢◌, ℕ, zero, suc, ◌%◌, ◌
 use Rattle.std.specs.Prelude.{Contains, None, max, IsTrue, ◌==◌, ◌||◌, if◌then◌else◌}
 use Rattle.std.specs.List.{AllByRecursion}
 use Rattle.std.proofs.Common.{arith, inl, inr, sym, ap, ap₂, subst, ◌∙◌}
-use Rattle.lts.specs.Path.{IsPath}
+use Rattle.systems.specs.Path.{IsPath}
 use Rattle.std.proofs.lemmas.Bool.Decides.{nat_tests}
 use Rattle.vectors.specs.Systems.{two_states}
 use Rattle.calculus.specs.Tree.{Step, Dia, Box, True, False, Anything}

@@ -1,7 +1,7 @@
 -- Worked examples of meanings.
 use Rattle.std.specs.Prelude.{◌≡◌, ℕ, ◌⊎◌, List, [], codes, refl}
 use Rattle.std.proofs.Common.{zero, suc, arith, inl, inr, sym, ap, subst, ◌∙◌, true≢false}
-use Rattle.lts.specs.System.{Arrow}
+use Rattle.systems.specs.System.{Arrow}
 use Rattle.vectors.specs.Systems.{two_states}
 use Rattle.calculus.specs.Tree.{Formula, Step, Then, Star, Plus, Mu, Nu, Or, Dia, Var}
 use Rattle.calculus.specs.Holds.{holds}

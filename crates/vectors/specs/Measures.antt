@@ -3,7 +3,7 @@ use Rattle.std.specs.Prelude.{◌≡◌, ℕ, zero, suc, List, [], ◌∷◌, le
 use Rattle.calculus.specs.Tree.{Formula, Step, Or, Dia, Var, Mu, Nu}
 use Rattle.vectors.specs.Formulas.{name_a, name_b}
 use Rattle.normal.specs.Nodes.{nodes}
-use Rattle.lts.specs.System.{System}
+use Rattle.systems.specs.System.{System}
 use Rattle.vectors.specs.Systems.{arrow}
 use Rattle.game.specs.Game.{Game, count}
 use Rattle.game.specs.Arena.{arena}

@@ -2,9 +2,9 @@
 use Rattle.std.specs.Prelude.{ℕ, ◌+◌, ◌≤◌, List, [], ◌∷◌, ◌++◌, length, codes, refl}
 use Rattle.std.proofs.Common.{arith, inl, inr, ap}
 use Rattle.std.proofs.lemmas.List.{length-append}
-use Rattle.lts.specs.Text.{IsNumeral, IsSpaced}
+use Rattle.text.specs.Text.{IsNumeral, IsSpaced}
 use Rattle.lts.specs.Aut.{IsHeader, IsTransition, HasFault}
-use Rattle.lts.specs.System.{Arrow}
+use Rattle.systems.specs.System.{Arrow}
 use Rattle.lts.specs.declared.error.AutFault.TheVariants.{BadHeader, BadLine, OverLimit, NoSuchState, WrongCount, BadStates, BadLabel}
 use Rattle.vectors.specs.Systems.{arrow, two_states_header, line_a}
 

@@ -1,9 +1,9 @@
 -- Worked examples of systems and their texts.
 use Rattle.std.specs.Prelude.{◌≡◌, ℕ, true, false, List, [], ◌∷◌, ◌++◌, length, Some, None, codes, refl}
 use Rattle.std.proofs.Common.{arith}
-use Rattle.lts.specs.Text.{lines, is_blank, is_name, IsNumeral, is_numeral}
-use Rattle.lts.specs.Label.{is_label, reading}
-use Rattle.lts.specs.System.{Arrow, System, IsSystem, set_of}
+use Rattle.text.specs.Text.{lines, is_blank, is_name, IsNumeral, is_numeral}
+use Rattle.systems.specs.Label.{is_label, reading}
+use Rattle.systems.specs.System.{Arrow, System, IsSystem, set_of}
 use Rattle.std.specs.Fmt.{digits}
 use Rattle.lts.specs.Canon.{aut_text}
 use Rattle.lts.specs.Aut.{IsAut, IsHeader, IsTransition}

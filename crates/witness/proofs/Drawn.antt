@@ -4,9 +4,9 @@ use Rattle.std.specs.List.{flat_map}
 use Rattle.std.proofs.Math.Seq.{drop-cons}
 use Rattle.std.proofs.Math.ListN.{drop_of_length-le}
 use Rattle.std.proofs.lemmas.List.Concat.{flat_map-cons}
-use Rattle.lts.specs.System.{Arrow}
-use Rattle.lts.specs.Numbered.{Numbered, arrow_of, system_with}
-use Rattle.lts.specs.declared.system.Transition.{Transition}
+use Rattle.systems.specs.System.{Arrow}
+use Rattle.systems.specs.Numbered.{Numbered, arrow_of, system_with}
+use Rattle.systems.specs.declared.system.Transition.{Transition}
 use Rattle.lts.proofs.Listed.{listed}
 use Rattle.text.specs.Wrote.{lines_from}
 use Rattle.witness.specs.Drawing.{drawing, drawing_end, edge_end, edge_front, edge_line, escape, escaped, head_text, line_at, line_of}

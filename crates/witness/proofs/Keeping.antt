@@ -7,10 +7,10 @@ use Rattle.std.proofs.lemmas.List.{get_or-map}
 use Rattle.std.proofs.lemmas.List.Elements.{filter_more}
 use Rattle.std.proofs.lemmas.Nat.{mul-add-lt}
 use Rattle.std.specs.List.{AllByRecursion, list_any, range_with_len}
-use Rattle.lts.specs.System.{Arrow}
-use Rattle.lts.specs.Numbered.{Numbered, arrow_of, system_with}
-use Rattle.lts.specs.declared.system.Transition.{Transition}
-use Rattle.lts.proofs.Rows.{filter-map}
+use Rattle.systems.specs.System.{Arrow}
+use Rattle.systems.specs.Numbered.{Numbered, arrow_of, system_with}
+use Rattle.systems.specs.declared.system.Transition.{Transition}
+use Rattle.systems.proofs.Rows.{filter-map}
 use Rattle.normal.specs.Nodes.{Node}
 use Rattle.game.specs.Arena.{place, place_in}
 use Rattle.game.specs.Game.{Game, IsNamed}

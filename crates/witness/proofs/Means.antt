@@ -1,6 +1,6 @@
 -- What the play takes is a witness.
 use Rattle.std.proofs.Common.{◌≡◌, ℕ, ◌↔◌, Bool, List, length, refl, sym, subst, IsTrue}
-use Rattle.lts.specs.System.{System, IsSystem}
+use Rattle.systems.specs.System.{System, IsSystem}
 use Rattle.calculus.specs.Tree.{Formula}
 use Rattle.calculus.specs.Admitted.{IsAdmitted}
 use Rattle.calculus.specs.Meaning.{Satisfies}

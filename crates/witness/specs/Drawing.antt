@@ -1,10 +1,10 @@
 -- The text of a system for Graphviz.
 use Rattle.std.specs.Prelude.{ℕ, ◌||◌, ◌==◌, List, [], ◌∷◌, ◌++◌, Option, Some, None, codes, decimal, slice_get, if◌then◌else◌}
 use Rattle.std.specs.List.{flat_map}
-use Rattle.lts.specs.System.{Arrow, System}
+use Rattle.systems.specs.System.{Arrow, System}
 use Rattle.lts.specs.Canon.{line_end}
-use Rattle.lts.specs.Numbered.{arrow_of}
-use Rattle.lts.specs.declared.system.Transition.{Transition}
+use Rattle.systems.specs.Numbered.{arrow_of}
+use Rattle.systems.specs.declared.system.Transition.{Transition}
 
 -- A `\` stands before `"` and before `\`.
 abbrev pub escape : ℕ → List ℕ

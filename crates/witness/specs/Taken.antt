@@ -1,8 +1,8 @@
 -- Which transitions the play takes.
 use Rattle.std.specs.Prelude.{◌≡◌, ℕ, ◌<◌, Bool, List, length, Some, slice_get}
 use Rattle.std.specs.List.{list_any, range_with_len}
-use Rattle.lts.specs.System.{Arrow}
-use Rattle.lts.specs.declared.system.Transition.{Transition}
+use Rattle.systems.specs.System.{Arrow}
+use Rattle.systems.specs.declared.system.Transition.{Transition}
 use Rattle.normal.specs.Nodes.{Node}
 use Rattle.game.specs.Game.{Game}
 use Rattle.evidence.specs.Evidence.{Evidence}

@@ -1,6 +1,6 @@
 -- A walk over what the play reaches.
 use Rattle.std.specs.Prelude.{◌≡◌, ℕ, suc, ◌+◌, ◌⊎◌, ◌↔◌, Bool, false, List, [], ◌∷◌, length, Contains, IsTrue, slice_index_or, if◌then◌else◌}
-use Rattle.lts.specs.Path.{IsPath}
+use Rattle.systems.specs.Path.{IsPath}
 use Rattle.game.specs.Game.{Game}
 use Rattle.evidence.specs.Evidence.{Evidence}
 use Rattle.evidence.specs.Witness.{Goes}

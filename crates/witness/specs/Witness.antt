@@ -1,6 +1,6 @@
 -- The part of a system on which the answer for its initial state rests.
 use Rattle.std.specs.Prelude.{◌≡◌, ℕ, ◌↔◌, Bool, List, length}
-use Rattle.lts.specs.System.{System, IsSystem}
+use Rattle.systems.specs.System.{System, IsSystem}
 use Rattle.calculus.specs.Tree.{Formula}
 use Rattle.calculus.specs.Meaning.{Satisfies}
 use Rattle.normal.specs.Nodes.{Node}

@@ -2,7 +2,7 @@
 
 ghost use Rattle.std.specs.Prelude.{◌<◌, ◌++◌, ◌∷◌, codes, length, map};
 ghost use Rattle.std.specs.List.{flat_map};
-ghost use Rattle.lts.specs.Numbered.{IsInside, IsInside-prop, arrow_of, system_with};
+ghost use Rattle.systems.specs.Numbered.{IsInside, IsInside-prop, arrow_of, system_with};
 ghost use Rattle.text.specs.Wrote.{Wrote};
 ghost use Rattle.witness.specs.Drawing.{drawing, edge_line, escape, escaped, head_text};
 

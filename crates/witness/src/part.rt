@@ -1,7 +1,7 @@
 // The transitions that the play takes.
 
 ghost use Rattle.std.specs.Prelude.{◌≡◌, ◌<◌, false, ℕ, List, Some, IfOk, IsTrue, length, map, slice_get, slice_index_or};
-ghost use Rattle.lts.specs.Numbered.{IsInside, arrow_of, system_with};
+ghost use Rattle.systems.specs.Numbered.{IsInside, arrow_of, system_with};
 ghost use Rattle.calculus.specs.Tree.{Formula};
 ghost use Rattle.calculus.specs.Admitted.{IsAdmitted};
 ghost use Rattle.normal.specs.Tree.{normal_form};

@@ -6,7 +6,7 @@ use Rattle.std.proofs.lemmas.List.Elements.{filter_agree}
 use Rattle.std.proofs.lemmas.List.Folds.{list_any-append}
 use Rattle.std.proofs.lemmas.Slice.Eq.{bytes_eq-Decides}
 use Rattle.std.specs.List.{list_any}
-use Rattle.lts.specs.Numbered.{Numbered}
+use Rattle.systems.specs.Numbered.{Numbered}
 use Rattle.calculus.specs.Tree.{Formula}
 use Rattle.words.specs.declared.strange.TheConstants.{MOST_NOTES}
 use Rattle.words.specs.Strange.{Term, Name, Atom, distinct, formula_terms, same_term, strange_terms}

@@ -6,8 +6,8 @@ use Rattle.std.proofs.lemmas.List.Folds.{list_any-append}
 use Rattle.std.proofs.lemmas.List.Sums.{fold-append}
 use Rattle.std.specs.List.{list_any}
 use Rattle.std.specs.Str.{bytes_eq}
-use Rattle.lts.specs.Label.{reading, texts}
-use Rattle.lts.specs.Numbered.{label_at}
+use Rattle.systems.specs.Label.{reading, texts}
+use Rattle.systems.specs.Numbered.{label_at}
 use Rattle.words.specs.declared.strange.Word.{Word}
 use Rattle.words.specs.declared.strange.TheConstants.{MOST_NOTES}
 use Rattle.words.specs.Strange.{Term, Name, has_term, is_among, same_term, term_of}

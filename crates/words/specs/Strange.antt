@@ -2,8 +2,8 @@
 use Rattle.std.specs.Prelude.{ℕ, Bool, false, not, List, [], ◌∷◌, ◌++◌, filter, map, take, Option, Some, None}
 use Rattle.std.specs.List.{list_any}
 use Rattle.std.specs.Str.{bytes_eq}
-use Rattle.lts.specs.Label.{reading}
-use Rattle.lts.specs.Numbered.{Numbered}
+use Rattle.systems.specs.Label.{reading}
+use Rattle.systems.specs.Numbered.{Numbered}
 use Rattle.calculus.specs.Tree.{Action, Anything, Nothing, Names, Quoted, NotAct, AndAct, OrAct, ImpliesAct, Regular, Step, Then, Either, Star, Plus, Formula, True, False, Var, Not, And, Or, Implies, Dia, Box, Mu, Nu}
 use Rattle.words.specs.declared.strange.Word.{Word}
 use Rattle.words.specs.declared.strange.Word.TheVariants as word

@@ -5,17 +5,17 @@ ghost use Rattle.std.specs.List.{list_any};
 ghost use Rattle.std.specs.Str.{bytes_eq};
 ghost use Rattle.calculus.specs.Closed.{closed_formula};
 ghost use Rattle.calculus.specs.View.{action_of, formula_of, regular_of};
-ghost use Rattle.lts.specs.Label.{texts};
+ghost use Rattle.systems.specs.Label.{texts};
 ghost use Rattle.words.specs.Noted.{is_known, knows, with_term};
 ghost use Rattle.words.specs.Strange.{Atom, Name, action_terms, formula_terms, has_term, regular_terms, same_term, strange_terms, term_of};
 
 use calculus::closed::Closed;
 use calculus::tree::{Act, Reg, State};
-use lts::Memory;
-use lts::label::LabelView;
-use lts::system::Lts;
 use std::alloc::{AllocError, Global};
 use std::collections::HashSet;
+use systems::label::LabelView;
+use systems::system::Lts;
+use text::Memory;
 
 /// How many are told of at most.
 pub const MOST_NOTES: usize = 10;

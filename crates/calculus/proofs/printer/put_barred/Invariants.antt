@@ -1,6 +1,6 @@
 use Rattle.std.proofs.Common.{drop}
 use Rattle.text.proofs.Writing.{HasWritten}
-use Rattle.lts.specs.Label.{texts}
+use Rattle.systems.specs.Label.{texts}
 use Rattle.calculus.specs.Canon.{barred}
 use Rattle.calculus.proofs.printer.put_barred.Given as goal
 

@@ -1,5 +1,5 @@
 use Rattle.std.proofs.Common.{◌++◌, ◌∙◌, ap}
-use Rattle.lts.specs.Label.{texts}
+use Rattle.systems.specs.Label.{texts}
 use Rattle.text.proofs.Writing.{Wrote-err, Wrote-as, Wrote-after, WroteFront-more}
 use Rattle.calculus.specs.Canon.{barred}
 use Rattle.calculus.proofs.Printing.{names_text-cons}

@@ -1,5 +1,5 @@
 use Rattle.std.proofs.Common.{subst}
-use Rattle.lts.proofs.Writing.{HasWritten, HasWritten-none, HasWritten-more, HasWritten-stops, HasWritten-all, Wrote-err}
+use Rattle.text.proofs.Writing.{HasWritten, HasWritten-none, HasWritten-more, HasWritten-stops, HasWritten-all, Wrote-err}
 use Rattle.commands.proofs.Lines.{next_line, no_lines}
 use Rattle.commands.proofs.winners.write_lines.Goals as goal
 

@@ -1,5 +1,5 @@
 use Rattle.std.proofs.Common.{drop}
-use Rattle.lts.proofs.Writing.{HasWritten}
+use Rattle.text.proofs.Writing.{HasWritten}
 use Rattle.commands.specs.Winners.{winner_lines}
 use Rattle.commands.proofs.winners.write_lines.Given as goal
 

@@ -1,5 +1,5 @@
 use Rattle.std.specs.Prelude.{count_by, length}
-use Rattle.lts.proofs.Writing.{Wrote-err, Wrote-after, WroteFront-more}
+use Rattle.text.proofs.Writing.{Wrote-err, Wrote-after, WroteFront-more}
 use Rattle.commands.specs.Winners.{sizes_text}
 use Rattle.commands.proofs.winners.write_winners.Goals as goal
 

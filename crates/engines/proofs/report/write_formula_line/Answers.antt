@@ -1,5 +1,5 @@
 use Rattle.std.proofs.Common.{codes}
-use Rattle.lts.proofs.Writing.{Wrote-err, Wrote-after, WroteFront-more, WroteFront-after}
+use Rattle.text.proofs.Writing.{Wrote-err, Wrote-after, WroteFront-more, WroteFront-after}
 use Rattle.engines.proofs.report.write_formula_line.Goals as goal
 
 pub returns-in_err-put : goal.returns-in_err-put

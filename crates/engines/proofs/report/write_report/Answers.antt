@@ -1,6 +1,6 @@
 use Rattle.std.specs.Prelude.{length, count_by, slice_index_or, false}
 use Rattle.calculus.specs.Closed.{closed_formula}
-use Rattle.lts.proofs.Writing.{Wrote-err, Wrote-after, WroteFront-more, WroteFront-after}
+use Rattle.text.proofs.Writing.{Wrote-err, Wrote-after, WroteFront-more, WroteFront-after}
 use Rattle.requests.specs.Report.{system_line, formula_line, yes_line, initial_line}
 use Rattle.engines.proofs.report.write_report.Goals as goal
 

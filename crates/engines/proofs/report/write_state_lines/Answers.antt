@@ -1,5 +1,5 @@
 use Rattle.std.proofs.Common.{subst}
-use Rattle.lts.proofs.Writing.{HasWritten, HasWritten-none, HasWritten-more, HasWritten-stops, HasWritten-all, Wrote-err}
+use Rattle.text.proofs.Writing.{HasWritten, HasWritten-none, HasWritten-more, HasWritten-stops, HasWritten-all, Wrote-err}
 use Rattle.engines.proofs.Lines.{next_line, no_lines}
 use Rattle.engines.proofs.report.write_state_lines.Goals as goal
 

@@ -1,5 +1,5 @@
 use Rattle.std.proofs.Common.{drop}
-use Rattle.lts.proofs.Writing.{HasWritten}
+use Rattle.text.proofs.Writing.{HasWritten}
 use Rattle.requests.specs.Report.{state_lines}
 use Rattle.engines.proofs.report.write_state_lines.Given as goal
 

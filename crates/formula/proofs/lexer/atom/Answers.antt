@@ -2,8 +2,8 @@ use Rattle.std.proofs.Common.{rules, arith, ◌≡◌, ◌+◌, ◌-◌, ◌<◌
 use Rattle.std.specs.Prelude.{◌⊎◌, ◌≢◌}
 use Rattle.std.specs.List.{take_while}
 use Rattle.std.proofs.lemmas.List.{take_rest}
-use Rattle.lts.specs.declared.limits.TheConstants.{LONGEST_LABEL}
-use Rattle.lts.specs.Label.{is_label_byte}
+use Rattle.systems.specs.declared.limits.TheConstants.{LONGEST_LABEL}
+use Rattle.systems.specs.Label.{is_label_byte}
 use Rattle.formula.specs.Token.{Atom}
 use Rattle.formula.specs.Cutting.{IsFirst}
 use Rattle.formula.proofs.Cuts.{atom-front, run-of, Run}

@@ -3,8 +3,8 @@ use Rattle.std.specs.Global.{Vec}
 use Rattle.std.specs.List.Sorted.{IsSorted}
 use Rattle.std.proofs.lemmas.List.{take_all, get_or-map, length-map}
 use Rattle.std.proofs.lemmas.List.Sorted.{IsPermutation-map}
-use Rattle.lts.specs.Label.{bytes_cmp, multiset}
-use Rattle.lts.proofs.Names.{sorted_multiset}
+use Rattle.systems.specs.Label.{bytes_cmp, multiset}
+use Rattle.systems.proofs.Names.{sorted_multiset}
 use Rattle.formula.proofs.meant.multiset.Goals as goal
 
 sorted_bytes : (names : List (Vec ℕ)) → IsSorted (λ (x y : Vec ℕ). bytes_cmp x.items y.items) names → IsSorted bytes_cmp (map (λ (v : Vec ℕ). v.items) names)

@@ -1,6 +1,6 @@
 -- what was read so far
 use Rattle.std.proofs.Common.{◌≤◌, length}
-use Rattle.lts.specs.Label.{texts}
+use Rattle.systems.specs.Label.{texts}
 use Rattle.lts.specs.Left.{SoFar}
 use Rattle.lts.proofs.reader.read_rows.Given as goal
 

@@ -1,7 +1,7 @@
 use Rattle.std.proofs.Common.{ap, subst, sym}
 use Rattle.lts.specs.Aut.{IsAut}
 use Rattle.lts.specs.Canon.{aut_text}
-use Rattle.lts.specs.System.{IsSystem}
+use Rattle.systems.specs.System.{IsSystem}
 use Rattle.lts.proofs.Canonical.{system_is}
 use Rattle.text.proofs.Writing.{Wrote-as}
 use Rattle.lts.proofs.writer.write_aut.Goals as goal

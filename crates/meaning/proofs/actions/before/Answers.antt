@@ -5,9 +5,9 @@ use Rattle.std.proofs.Math.ListN.{length-set}
 use Rattle.std.proofs.Math.Seq.{take-length}
 use Rattle.std.proofs.lemmas.List.Folds.{list_any_more}
 use Rattle.std.proofs.lemmas.List.{get_or_default}
-use Rattle.lts.specs.System.{Arrow}
-use Rattle.lts.specs.declared.system.Transition.{Transition}
-use Rattle.lts.specs.Numbered.{label_at, arrow_of}
+use Rattle.systems.specs.System.{Arrow}
+use Rattle.systems.specs.declared.system.Transition.{Transition}
+use Rattle.systems.specs.Numbered.{label_at, arrow_of}
 use Rattle.calculus.specs.View.{action_of}
 use Rattle.calculus.specs.Holds.{holds}
 use Rattle.calculus.specs.Tree.{Step}

@@ -3,7 +3,7 @@ use Rattle.std.specs.List.{list_any}
 use Rattle.calculus.specs.View.{action_of}
 use Rattle.calculus.proofs.Entering.{enters}
 use Rattle.meaning.proofs.Marked.{at}
-use Rattle.lts.specs.Numbered.{arrow_of}
+use Rattle.systems.specs.Numbered.{arrow_of}
 use Rattle.meaning.proofs.actions.before.Given as goal
 
 -- marked so far: the sources of the transitions so far that enter

@@ -1,6 +1,6 @@
 use Rattle.std.proofs.Common.{◌≡◌, ℕ, ◌<◌, ◌≤◌, ◌^◌, length, false}
 use Rattle.std.specs.Prelude.{slice_index_or}
-use Rattle.lts.specs.Numbered.{label_at}
+use Rattle.systems.specs.Numbered.{label_at}
 use Rattle.calculus.specs.View.{action_of}
 use Rattle.calculus.specs.Holds.{holds}
 use Rattle.meaning.proofs.actions.chosen_labels.Given as goal

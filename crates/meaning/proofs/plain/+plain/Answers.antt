@@ -1,6 +1,6 @@
 use Rattle.std.proofs.Common.{◌≡◌, Bool, List, Result, Vec, Global, not, ◌&&◌, ◌||◌, map, zip, ap, ap₂, sym, ◌∙◌, subst, arith, IfOk, IsTrue, true, false}
 use Rattle.std.proofs.lemmas.Result.{IfOk-weaker}
-use Rattle.lts.specs.System.{System}
+use Rattle.systems.specs.System.{System}
 use Rattle.calculus.specs.View.{formula_of, regular_of}
 use Rattle.meaning.specs.Term.{formula_in, IsRight}
 use Rattle.calculus.specs.Tree.{Formula, And, Or, Implies, Dia, Box, Mu, Nu}

@@ -1,6 +1,6 @@
 use Rattle.std.proofs.Common.{◌≡◌, ◌↔◌, ℕ, ◌<◌, ◌≤◌, Bool, List, Result, Vec, Global, arith, length, ◌||◌, ap, ap₂, sym, ◌∙◌, subst, IfOk}
 use Rattle.std.proofs.lemmas.Result.{IfOk-weaker}
-use Rattle.lts.specs.System.{System}
+use Rattle.systems.specs.System.{System}
 use Rattle.calculus.specs.View.{action_of, regular_of}
 use Rattle.calculus.specs.Tree.{Regular, Step, Then, Either, Star, Plus}
 use Rattle.calculus.specs.Meaning.{Marks, marked}

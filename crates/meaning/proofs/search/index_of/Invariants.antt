@@ -1,7 +1,7 @@
 use Rattle.std.proofs.Common.{ℕ, ◌<◌, ◌↔◌, take, nat_eq}
 use Rattle.std.specs.Prelude.{IsTrue, slice_index_or}
 use Rattle.std.specs.List.{list_any}
-use Rattle.lts.specs.Numbered.{arrow_of}
+use Rattle.systems.specs.Numbered.{arrow_of}
 use Rattle.calculus.specs.View.{action_of}
 use Rattle.calculus.proofs.Entering.{enters}
 use Rattle.meaning.specs.Arrivals.{IsOneOf, HasRoom}

@@ -2,8 +2,8 @@ use Rattle.std.proofs.Common.{◌≡◌, ℕ, ◌<◌, ◌⊎◌, Bool, List, []
 use Rattle.std.specs.Prelude.{All, Contains, MatchOption}
 use Rattle.std.specs.Option.{option_to_list}
 use Rattle.std.proofs.lemmas.List.Elements.{Contains-push, Contains-push_cases}
-use Rattle.lts.specs.Path.{IsPath}
-use Rattle.lts.specs.System.{System, IsSystem}
+use Rattle.systems.specs.Path.{IsPath}
+use Rattle.systems.specs.System.{System, IsSystem}
 use Rattle.calculus.specs.View.{action_of}
 use Rattle.calculus.specs.Tree.{Action, Step}
 use Rattle.calculus.specs.Meaning.{Leads, marked}

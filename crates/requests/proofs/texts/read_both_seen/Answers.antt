@@ -1,4 +1,4 @@
-use Rattle.lts.proofs.PassedOn.{passed_on}
+use Rattle.text.proofs.PassedOn.{passed_on}
 use Rattle.lts.specs.Aut.{IsAut}
 use Rattle.requests.specs.Check.{HasRefused}
 use Rattle.requests.proofs.Readings.{at_known, spelled_of, unread_of, ok_before}

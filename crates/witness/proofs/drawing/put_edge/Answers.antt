@@ -1,5 +1,5 @@
 use Rattle.std.proofs.Common.{refl}
-use Rattle.lts.specs.Numbered.{arrow_of}
+use Rattle.systems.specs.Numbered.{arrow_of}
 use Rattle.text.proofs.Writing.{Wrote-after, Wrote-as, Wrote-err, WroteFront-after, WroteFront-more}
 use Rattle.witness.specs.Drawing.{edge_front, escaped}
 use Rattle.witness.proofs.Drawn.{edge_is}

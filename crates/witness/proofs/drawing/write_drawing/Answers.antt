@@ -1,6 +1,6 @@
 use Rattle.std.proofs.Common.{map}
 use Rattle.std.specs.List.{flat_map}
-use Rattle.lts.specs.Numbered.{arrow_of}
+use Rattle.systems.specs.Numbered.{arrow_of}
 use Rattle.text.proofs.Writing.{Wrote-after, Wrote-as, Wrote-err, WroteFront-after, WroteFront-more}
 use Rattle.witness.specs.Drawing.{edge_line, head_text}
 use Rattle.witness.proofs.Drawn.{drawing_is}

@@ -1,5 +1,5 @@
 use Rattle.std.proofs.Common.{◌<◌, length, ◌∙◌, sym, arith, below_more}
-use Rattle.lts.specs.Numbered.{arrow_of}
+use Rattle.systems.specs.Numbered.{arrow_of}
 use Rattle.normal.specs.Normal.{normal_nodes}
 use Rattle.witness.specs.Walk.{is_marked}
 use Rattle.witness.proofs.Keeping.{none_pass, one_passes, set_told, taken_told}

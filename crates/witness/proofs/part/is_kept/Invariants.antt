@@ -1,6 +1,6 @@
 use Rattle.std.proofs.Common.{◌≡◌, ℕ, ◌<◌, List, false, length, map}
 use Rattle.std.specs.Prelude.{slice_get}
-use Rattle.lts.specs.Numbered.{arrow_of}
+use Rattle.systems.specs.Numbered.{arrow_of}
 use Rattle.normal.specs.Normal.{normal_nodes}
 use Rattle.game.specs.Steps.{AreSets}
 use Rattle.evidence.specs.Witness.{is_taken_at}

@@ -1,5 +1,5 @@
 use Rattle.std.proofs.Common.{◌≡◌, filter, take}
-use Rattle.lts.specs.Numbered.{arrow_of}
+use Rattle.systems.specs.Numbered.{arrow_of}
 use Rattle.normal.specs.Normal.{normal_nodes}
 use Rattle.witness.specs.Taken.{is_taken_by_some}
 use Rattle.witness.specs.Walk.{is_marked}

@@ -1,6 +1,6 @@
 use Rattle.std.proofs.Common.{List, Bool, subst, sym, ◌∙◌}
 use Rattle.std.proofs.lemmas.Result.{IfOk-weaker}
-use Rattle.lts.specs.Numbered.{system_with}
+use Rattle.systems.specs.Numbered.{system_with}
 use Rattle.normal.specs.Normal.{normal_nodes}
 use Rattle.evidence.specs.Evidence.{IsEvidence, IsGood}
 use Rattle.evidence.specs.Witness.{IsReached}

@@ -1,5 +1,5 @@
 use Rattle.std.proofs.Common.{ap, ◌∙◌, arith}
-use Rattle.lts.specs.Numbered.{label_at}
+use Rattle.systems.specs.Numbered.{label_at}
 use Rattle.words.specs.Noted.{knows}
 use Rattle.words.proofs.Noting.{known_more}
 use Rattle.words.proofs.strange.known_in.Goals as goal

@@ -1,5 +1,5 @@
 use Rattle.std.proofs.Common.{◌≡◌, fold, map, take}
-use Rattle.lts.specs.Label.{texts}
+use Rattle.systems.specs.Label.{texts}
 use Rattle.words.specs.Strange.{Name, term_of}
 use Rattle.words.specs.Noted.{knows, with_term}
 use Rattle.words.proofs.strange.note_names.Given as goal

@@ -1,8 +1,8 @@
 use Rattle.std.proofs.Common.{◌≡◌, ◌-◌, ◌<◌, subst, sym, refl, take, drop, map, arith}
-use Rattle.lts.specs.Numbered.{Numbered, arrow_of, arrows_from}
-use Rattle.lts.specs.View.{numbered, labels_of}
-use Rattle.lts.proofs.Rows.{row_is, row_rises}
-use Rattle.lts.proofs.system.Lts.from.Goals as goal
+use Rattle.systems.specs.Numbered.{Numbered, arrow_of, arrows_from}
+use Rattle.systems.specs.View.{numbered, labels_of}
+use Rattle.systems.proofs.Rows.{row_is, row_rises}
+use Rattle.systems.proofs.system.Lts.from.Goals as goal
 
 pub returns-clause-arrows : goal.returns-clause-arrows
 returns-clause-arrows c =

@@ -1,8 +1,8 @@
 // Labelled transition systems.
 
 ghost use Rattle.std.specs.Prelude.{◌≡◌, ◌<◌, ◌≤◌, length, map};
-ghost use Rattle.lts.specs.System.{IsSystem};
-ghost use Rattle.lts.specs.Numbered.{label_at, arrow_of, arrows_from, IsInside, AreAscending, AreUsed};
+ghost use Rattle.systems.specs.System.{IsSystem};
+ghost use Rattle.systems.specs.Numbered.{label_at, arrow_of, arrows_from, IsInside, AreAscending, AreUsed};
 
 use crate::label::{Label, LabelView};
 use crate::limits::MOST_TRANSITIONS;
@@ -27,11 +27,11 @@ pub struct Lts {
 }
 
 impl Model for Lts {
-    ghost use Rattle.lts.specs.Numbered.{Numbered};
+    ghost use Rattle.systems.specs.Numbered.{Numbered};
 
     ghost Value = { Numbered };
 
-    ghost use Rattle.lts.specs.View.{numbered, IsStored};
+    ghost use Rattle.systems.specs.View.{numbered, IsStored};
 
     ghost view = { numbered };
 
@@ -39,10 +39,10 @@ impl Model for Lts {
 }
 
 impl Lts {
-    ghost use Rattle.lts.specs.View.{numbered, IsStored};
+    ghost use Rattle.systems.specs.View.{numbered, IsStored};
 
-    // The system of these parts.
-    pub(crate) fn new(
+    /// The system of these parts.
+    pub fn new(
         states: u32,
         initial: u32,
         labels: Vec<Label>,

@@ -3,9 +3,9 @@ use Rattle.std.specs.Prelude.{ℕ, ◌<◌, List, [], length, map, filter, IsTru
 use Rattle.std.specs.List.{slice_index_or, Contains, AllByRecursion, AllByRecursion-prop}
 use Rattle.std.specs.Coded.{le_prop}
 use Rattle.std.specs.Ordering.{is_lt}
-use Rattle.lts.specs.Label.{bytes_cmp}
-use Rattle.lts.specs.System.{System, Arrow}
-use Rattle.lts.specs.declared.system.Transition.{Transition}
+use Rattle.systems.specs.Label.{bytes_cmp}
+use Rattle.systems.specs.System.{System, Arrow}
+use Rattle.systems.specs.declared.system.Transition.{Transition}
 
 pub record Numbered : Type 0 where
   pub system : System

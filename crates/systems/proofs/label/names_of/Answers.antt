@@ -1,7 +1,7 @@
 use Rattle.std.proofs.Common.{arith}
-use Rattle.lts.proofs.Names.{read_no_names, read_only_tau, read_more_than_tau, read_all_names}
-use Rattle.lts.proofs.label.names_of.Goals as goal
-use Rattle.lts.proofs.label.names_of.Goals.{then-is_alone, else-is_alone}
+use Rattle.systems.proofs.Names.{read_no_names, read_only_tau, read_more_than_tau, read_all_names}
+use Rattle.systems.proofs.label.names_of.Goals as goal
+use Rattle.systems.proofs.label.names_of.Goals.{then-is_alone, else-is_alone}
 
 pub returns-then-not-are_names : goal.returns-then-not-are_names
 returns-then-not-are_names c =

@@ -1,9 +1,9 @@
 use Rattle.std.proofs.Common.{sym}
 use Rattle.std.proofs.lemmas.List.{map-append}
-use Rattle.lts.specs.Label.{texts}
-use Rattle.lts.proofs.Names.{glued_none, part_ends, part_grows, parts_end}
-use Rattle.lts.proofs.label.parts_of.Goals as goal
-use Rattle.lts.proofs.label.parts_of.Goals.{then-byte-eq124+in_ok-push, else-byte-eq124+in_ok-push-2}
+use Rattle.systems.specs.Label.{texts}
+use Rattle.systems.proofs.Names.{glued_none, part_ends, part_grows, parts_end}
+use Rattle.systems.proofs.label.parts_of.Goals as goal
+use Rattle.systems.proofs.label.parts_of.Goals.{then-byte-eq124+in_ok-push, else-byte-eq124+in_ok-push-2}
 
 pub loop-byte-init : goal.loop-byte-init
 loop-byte-init c = rw (c.new-parts.ensures.items, c.new-part.ensures.items) (sym (glued_none c.args.bytes.now))

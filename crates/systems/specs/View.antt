@@ -1,10 +1,10 @@
 -- What a system of the program stands for.
 use Rattle.std.specs.Prelude.{◌≡◌, ℕ, ◌+◌, ◌<◌, ◌≤◌, List, length, map, filter, slice_index, slice_range, ◌==◌}
-use Rattle.lts.specs.declared.limits.TheConstants.{MOST_TRANSITIONS}
-use Rattle.lts.specs.System.{Arrow, IsSystem}
-use Rattle.lts.specs.Numbered.{Numbered, arrow_of, AreAscending, AreUsed, IsInside}
-use Rattle.lts.specs.declared.system.Transition.{Transition}
-use Rattle.lts.specs.declared.system.Lts.TheInside.{Inside}
+use Rattle.systems.specs.declared.limits.TheConstants.{MOST_TRANSITIONS}
+use Rattle.systems.specs.System.{Arrow, IsSystem}
+use Rattle.systems.specs.Numbered.{Numbered, arrow_of, AreAscending, AreUsed, IsInside}
+use Rattle.systems.specs.declared.system.Transition.{Transition}
+use Rattle.systems.specs.declared.system.Lts.TheInside.{Inside}
 
 abbrev pub labels_of : Inside → List (List ℕ)
 labels_of a = map (λ l. l.bytes.items) a.labels.items

@@ -14,8 +14,8 @@ use Rattle.std.proofs.lemmas.Cmp.{nat_list_cmp_total, nat_list_eq_equiv, upto}
 use Rattle.std.proofs.lemmas.Map.Lookups.{exact_bytes}
 use Rattle.std.proofs.lemmas.List.Sorted.{sum_by-IsPermutation, IsPermutation-map}
 use Rattle.text.specs.Text.{with_first, is_name}
-use Rattle.lts.specs.Label.{parts_of, reading_of_parts, reading, multiset, with_name, bytes_cmp, tau, texts}
-use Rattle.lts.proofs.Ordered.{IsRising, times, rising_unique, rising_from_sorted, times_is_sum, turned_test}
+use Rattle.systems.specs.Label.{parts_of, reading_of_parts, reading, multiset, with_name, bytes_cmp, tau, texts}
+use Rattle.systems.proofs.Ordered.{IsRising, times, rising_unique, rising_from_sorted, times_is_sum, turned_test}
 
 -- a front before the first part
 abbrev pub glued : List ℕ → List (List ℕ) → List (List ℕ)

@@ -1,10 +1,10 @@
 -- The transitions from a state.
 use Rattle.std.proofs.Common.{◌≡◌, ◌==◌, ◌+◌, ◌-◌, ◌<◌, ◌≤◌, ℕ, Bool, true, false, List, [], ◌∷◌, length, map, filter, take, drop, get_or, ap, sym, ◌∙◌, refl, cond, arith}
 use Rattle.std.proofs.lemmas.List.{get_or_read_under}
-use Rattle.lts.specs.System.{System}
-use Rattle.lts.specs.Numbered.{arrow_of, arrows_from}
-use Rattle.lts.specs.View.{IsRow}
-use Rattle.lts.specs.declared.system.Transition.{Transition}
+use Rattle.systems.specs.System.{System}
+use Rattle.systems.specs.Numbered.{arrow_of, arrows_from}
+use Rattle.systems.specs.View.{IsRow}
+use Rattle.systems.specs.declared.system.Transition.{Transition}
 
 -- To pick from the images is to pick by them.
 pub filter-map : {A B : Type 0} (p : B → Bool) (f : A → B) (xs : List A) → filter p (map f xs) ≡ map f (filter (λ x. p (f x)) xs)
