@@ -18,7 +18,7 @@ use std::io::{Read, Write};
 ///
 /// # Errors
 /// Those of the formula's reader and of the normal form, unchanged; U3 where a read failed, U4 for the memory of the text, W1
-/// where a write failed. Nothing is written before all memory was taken.
+/// where a write failed. After a refusal that is not W1 nothing was written.
 pub fn normal_text<S: Read + Drop, W: Write>(
     alloc: Global,
     formula: S,

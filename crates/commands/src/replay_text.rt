@@ -33,7 +33,7 @@ use std::thread::Threads;
 /// # Errors
 /// Those of the readers, of the normal form and of the game, unchanged; S1 to S3 for the schedule's text, S4 for memory of its
 /// events or of their state; U3 where a read of the formula or of the schedule failed, U4 for the memory of their texts; W1
-/// where a write failed. Nothing is written before all memory was taken.
+/// where a write failed. After a refusal that is not W1 nothing was written.
 pub fn replay_text<R: Read + Drop, S: Read + Drop, T: Read + Drop, W: Write, H: Threads + Sync>(
     rt: &H,
     alloc: Global,
@@ -51,7 +51,7 @@ pub fn replay_text<R: Read + Drop, S: Read + Drop, T: Read + Drop, W: Write, H: 
     }
 }
 
-/// The same for a system and a formula that were read.
+/// Replays the schedule in the game of a system and a formula that were read, and writes what it comes to.
 fn replay_of<T: Read + Drop, W: Write, H: Threads + Sync>(
     rt: &H,
     alloc: Global,
@@ -69,7 +69,7 @@ fn replay_of<T: Read + Drop, W: Write, H: Threads + Sync>(
     }
 }
 
-/// The same for a game that was made.
+/// Replays the schedule in a game that was made, and writes what it comes to.
 fn replay_in<T: Read + Drop, W: Write>(
     alloc: Global,
     game: &Game,
@@ -136,7 +136,7 @@ fn replay_events<W: Write>(
     }
 }
 
-/// The same, where the start is made.
+/// Does the events from the start, and writes what they come to.
 fn follow_and_write<W: Write>(
     core: &mut Core<'_>,
     events: &[Event],

@@ -25,7 +25,7 @@ use workers::gate::NoGate;
 ///
 /// # Errors
 /// Those of the reader, unchanged; T1 where the packed board is asked for and can't be had, and only there; T2, V1 and U4 for
-/// memory; W1 where a write failed. Nothing is written before all memory was taken.
+/// memory; W1 where a write failed. After a refusal that is not W1 nothing was written.
 pub fn solve_text<R: Read + Drop, W: Write, H: Threads + Wait + Clone + Copy + Drop + Send + Sync>(
     rt: &H,
     alloc: Global,

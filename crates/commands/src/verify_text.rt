@@ -19,7 +19,7 @@ use std::io::{Read, Write};
 /// it is good; its player then wins each vertex of its set. The game is read first.
 ///
 /// # Errors
-/// Those of the readers, unchanged; W1 where a write failed. Nothing is written before all memory was taken.
+/// Those of the readers, unchanged; W1 where a write failed. After a refusal that is not W1 nothing was written.
 pub fn verify_text<R: Read + Drop, S: Read + Drop, W: Write>(
     alloc: Global,
     game: R,
@@ -34,7 +34,7 @@ pub fn verify_text<R: Read + Drop, S: Read + Drop, W: Write>(
     }
 }
 
-/// The same for a game that was read.
+/// Reads evidence for a game that was read, and writes the verdict.
 fn verify_for<S: Read + Drop, W: Write>(
     alloc: Global,
     game: &Game,
@@ -68,7 +68,7 @@ fn judge<W: Write>(game: &Game, evidence: &Evidence, out: &mut W) -> Result<bool
 /// first, then the first piece and then the second.
 ///
 /// # Errors
-/// Those of the readers, unchanged; W1 where a write failed. Nothing is written before all memory was taken.
+/// Those of the readers, unchanged; W1 where a write failed. After a refusal that is not W1 nothing was written.
 pub fn verify_both_text<R: Read + Drop, S: Read + Drop, T: Read + Drop, W: Write>(
     alloc: Global,
     game: R,
@@ -84,7 +84,7 @@ pub fn verify_both_text<R: Read + Drop, S: Read + Drop, T: Read + Drop, W: Write
     }
 }
 
-/// The same for a game that was read.
+/// Reads both pieces of evidence for a game that was read, and writes what is told of both.
 fn verify_both_for<S: Read + Drop, T: Read + Drop, W: Write>(
     alloc: Global,
     game: &Game,
@@ -101,7 +101,7 @@ fn verify_both_for<S: Read + Drop, T: Read + Drop, W: Write>(
     }
 }
 
-/// The same with the first piece of evidence.
+/// Reads the second piece of evidence where the first was read, and writes what is told of both.
 fn verify_with<T: Read + Drop, W: Write>(
     alloc: Global,
     game: &Game,

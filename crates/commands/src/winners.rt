@@ -33,7 +33,7 @@ pub(crate) fn winners(alloc: Global, game: &Game, settled: &Settled) -> Result<V
     }
 }
 
-/// The same marks, where nothing is said of Odd.
+/// A mark for each vertex, true where Even wins it.
 fn marks_of(alloc: Global, game: &Game, settled: &Settled) -> Result<Vec<bool>, AllocError>
     requires { settled.now.game ≡ game.now }
     ensures { IfOk result (λ marks. Marks (length game.now.vertices) marks.items (Wins game.now)) }

@@ -90,7 +90,7 @@ fn parts_of<'a>(
     }
 }
 
-/// The same in a box.
+/// The term of a formula, in a box.
 #[cycle(terms)]
 fn boxed<'a>(
     alloc: Global,

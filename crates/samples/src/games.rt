@@ -36,7 +36,7 @@ pub fn game_of(rt: &impl AllocGlobal, rows: &[Row]) -> Option<Game> {
     made(rt, rows).ok()?
 }
 
-/// The same game, to be shared.
+/// The game of these vertices, to be shared, where they make one and memory suffices.
 pub fn shared_game_of(rt: &impl AllocGlobal, rows: &[Row]) -> Option<Arc<Game>> {
     Arc::new(rt.alloc(), game_of(rt, rows)?).ok()
 }

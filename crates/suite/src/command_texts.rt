@@ -79,7 +79,7 @@ fn tells<H: Abort + Threads + Wait + AllocGlobal + Clone + Copy + Drop + Send + 
     tells_with(rt, asked, &OPTIONS, (text, answer))
 }
 
-/// The same by these workers over this board.
+/// The command writes this by these workers over this board, and answers so.
 fn tells_with<H: Abort + Threads + Wait + AllocGlobal + Clone + Copy + Drop + Send + Sync>(
     rt: &H,
     asked: &Asked<'_>,
