@@ -1,0 +1,133 @@
+"""Measures a family and tells it as a section of Markdown."""
+
+from __future__ import annotations
+
+import subprocess
+import sys
+from dataclasses import dataclass
+from pathlib import Path
+from typing import Iterator
+
+import games
+import systems
+import tables
+from families import Game, Games, Systems
+from measure import Run, Stopwatch
+from questions import READING, formula
+
+HERE = Path(__file__).resolve().parent
+WORKERS = "4"
+QUICK_SECONDS = 3
+
+
+@dataclass(frozen=True)
+class Bench:
+    """The program that is measured, the time that is left, the folder for what is made, and whether all sizes are small."""
+
+    program: Path
+    stopwatch: Stopwatch
+    folder: Path
+    is_quick: bool
+
+    def made(self, maker: str, generator: str, sizes: tuple[int, ...]) -> Path:
+        """The file with the text that this generator makes."""
+        file = self.folder / "text"
+        with file.open("wb") as out:
+            subprocess.run([sys.executable, "-B", HERE / maker, generator, *map(str, sizes)], stdout=out, check=True)
+        return file
+
+    def written(self, name: str, text: str) -> Path:
+        """The file with this text."""
+        file = self.folder / name
+        file.write_text(text + "\n")
+        return file
+
+    def evidence(self) -> Path:
+        """A path for evidence, of which nothing is kept, so that no disk is measured."""
+        for player in ("even", "odd"):
+            link = self.folder / f"evidence.{player}"
+            if not link.is_symlink():
+                link.symlink_to("/dev/null")
+        return self.folder / "evidence"
+
+
+def section(name: str, family: Systems | Games, bench: Bench) -> str:
+    """The title of a family, and its table. What time other families left is there for this one, too."""
+    bench.stopwatch.add(QUICK_SECONDS if bench.is_quick else family.seconds)
+    told = systems_told(family, bench) if isinstance(family, Systems) else games_told(family, bench)
+    return f"## {name}\n\n{told}"
+
+
+def first_line(file: Path) -> str:
+    """The header of a text."""
+    with file.open() as lines:
+        return lines.readline()
+
+
+def sentence(text: str) -> str:
+    """The first paragraph of what is said of a generator, on one line."""
+    return " ".join(text.split("\n\n")[0].split())
+
+
+QUESTION_HEAD = ["Question", "Initial state", "Game, s", "MB", "4 workers, s", "MB", "Sets, s", "MB", "Evidence, s", "MB"]
+QUESTION_RATIOS = ["Game / reading", "Sets / reading", "Game / sets", "4 workers / 1"]
+
+
+def systems_told(family: Systems, bench: Bench) -> str:
+    """A system: what it takes to read it, and a row for each question."""
+    stopwatch = bench.stopwatch
+    file = bench.made("systems.py", family.generator, family.quick if bench.is_quick else family.sizes)
+    _, transitions, states = first_line(file).strip("des ()\n").split(",")
+    cat = stopwatch.run("cat", file)
+    reading = stopwatch.run(bench.program, "check", file, bench.written("formula", READING), "--plain")
+    rows = list(question_rows(family, bench, file, reading))
+    return (
+        f"{sentence(systems.SYSTEMS[family.generator].__doc__)} {int(states):,} states, {int(transitions):,} transitions, "
+        f"{tables.size_of(file)} MB of text.\n`cat` took {tables.seconds(cat)} s, reading alone {tables.seconds(reading)} s "
+        f"and {tables.memory(reading)} MB, {tables.ratio(reading, cat)} times as long as `cat`.\n"
+        f"Here the event is `{family.actions.event}`, the request `{family.actions.request}`, the answer `{family.actions.answer}` "
+        f"and the excuse `{family.actions.excuse}`.\n\n{tables.table(QUESTION_HEAD + QUESTION_RATIOS, rows)}"
+    )
+
+
+def question_rows(family: Systems, bench: Bench, file: Path, reading: Run | None) -> Iterator[list[str]]:
+    """The row of each question."""
+    stopwatch = bench.stopwatch
+    for question in family.questions:
+        words = (bench.program, "check", file, bench.written("formula", formula(question, family.actions)))
+        game = stopwatch.run(*words)
+        is_done = game is not None and game.is_answer
+        by_four = stopwatch.run(*words, "--workers", WORKERS) if is_done else None
+        sets = stopwatch.run(*words, "--plain")
+        wanted = is_done and question in family.with_evidence
+        evidence = stopwatch.run(*words, "--evidence", bench.evidence()) if wanted else None
+        runs = (game, by_four, sets, evidence)
+        cells = [cell for run in runs for cell in (tables.seconds(run), tables.memory(run))]
+        ratios = [tables.ratio(*pair) for pair in ((game, reading), (sets, reading), (game, sets), (by_four, game))]
+        yield [question, tables.answer(runs), *cells, *ratios]
+
+
+GAME_HEAD = ["Game", "Vertices", "Text, MB", "`cat`, s", "Reading, s", "MB", "1 worker, s", "MB", "4 workers, s", "MB"]
+GAME_RATIOS = ["Reading / `cat`", "1 worker / reading", "4 workers / 1"]
+
+
+def games_told(family: Games, bench: Bench) -> str:
+    """Games: a row for each, and what they are."""
+    rows = [game_row(game, bench) for game in family.games]
+    generators = dict.fromkeys(game.generator for game in family.games)
+    kinds = "\n".join(f"- {generator}: {sentence(games.GAMES[generator].__doc__)}" for generator in generators)
+    return f"{kinds}\n\n{tables.table(GAME_HEAD + GAME_RATIOS, rows)}"
+
+
+def game_row(game: Game, bench: Bench) -> list[str]:
+    """The row of a game. Its reading alone is a look at evidence with no vertex."""
+    stopwatch = bench.stopwatch
+    file = bench.made("games.py", game.generator, game.quick if bench.is_quick else game.sizes)
+    vertices = int(first_line(file).strip("parity ;\n")) + 1
+    cat = stopwatch.run("cat", file)
+    reading = stopwatch.run(bench.program, "verify", file, bench.written("nothing", "evidence even"))
+    one = stopwatch.run(bench.program, "solve", file)
+    by_four = stopwatch.run(bench.program, "solve", file, "--workers", WORKERS) if one and one.is_answer else None
+    cells = [cell for run in (reading, one, by_four) for cell in (tables.seconds(run), tables.memory(run))]
+    ratios = [tables.ratio(*pair) for pair in ((reading, cat), (one, reading), (by_four, one))]
+    return [game.title, f"{vertices:,}", tables.size_of(file), tables.seconds(cat), *cells, *ratios]
