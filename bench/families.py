@@ -45,7 +45,7 @@ LETTERS = Actions(event="d", request="a", answer="b", excuse="c")
 DEEP = (ask.THREE, ask.FOUR, ask.SIX)
 ALL = tuple(question for question in ask.FORMULAS if question != ask.FOUR)
 LARGE = (ask.DEADLOCK, ask.EVENT, ask.NOTHING, ask.RESPONSE, ask.ENDLESS, ask.THREE)
-SIMPLE = (ask.DEADLOCK, ask.EVENT, ask.NOTHING, ask.ENDLESS)
+REACHING = (ask.DEADLOCK, ask.EVENT, ask.NOTHING)
 WITH_EVIDENCE = (ask.DEADLOCK, ask.RESPONSE)
 
 
@@ -74,9 +74,9 @@ FAMILIES: dict[str, Systems | Games] = {
     "window": protocol("window", (4, 3), (2, 2), Actions('"deliver(0)"', '"accept(0)"', '"deliver(0)"', "lose")),
     "random": large("random", LARGE, LETTERS, seconds=170),
     "live": large("live", LARGE, LETTERS, seconds=170),
-    "ring": large("ring", SIMPLE, Actions("home", "turn", "home", "home"), seconds=50),
-    "path": large("path", SIMPLE, Actions("arrive", "go", "arrive", "go"), seconds=50),
-    "chain": large("chain", SIMPLE, Actions("top", "up", "top", "down"), seconds=50),
+    "ring": large("ring", (*REACHING, ask.ENDLESS), Actions("home", "turn", "home", "home"), seconds=70),
+    "path": large("path", REACHING, Actions("arrive", "go", "arrive", "go"), seconds=50),
+    "chain": large("chain", REACHING, Actions("top", "up", "top", "down"), seconds=50),
     "alternation": Systems("live", (20_000,), (200,), LETTERS, DEEP, DEEP, seconds=40),
     "ladders": Games(
         (
