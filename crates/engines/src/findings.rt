@@ -9,15 +9,15 @@ ghost use Rattle.engines.specs.Findings.{AreFindings, ArePosed, IsPairOf, formul
 ghost use Rattle.requests.specs.Solver.{IsFitting, IsUnsolved};
 ghost use Rattle.requests.specs.Writers.{AreKept, Lent};
 
+use crate::guessing::guess_of;
 use crate::lifting::{SolvedGame, state_marks};
 use crate::report::report_text;
 use evidence::error::EvidenceError;
 use evidence::evidence::Evidence;
 use evidence::make::{even_evidence, odd_evidence};
 use game::graph::Game;
-use lts::Memory;
+use measures::guess::solve_one_by;
 use measures::observer::{Observer, Silent, Stage};
-use measures::settle::solve_one;
 use measures::table::Settled;
 use normal::priorities::Priorities;
 use requests::arena::game_of;
@@ -30,6 +30,7 @@ use std::alloc::Global;
 use std::io::Read;
 use std::sync::{Arc, Wait};
 use std::thread::Threads;
+use text::Memory;
 use workers::gate::Gate;
 use workers::team::BoardKind;
 
@@ -203,10 +204,45 @@ fn find_by_one(alloc: Global, posed: Posed) -> Result<Findings, MuError>
     ensures texts { IfOk result (λ found. found.texts.value ≡ posed.texts.value) }
     ensures refusal { IfErr result (λ e. e ≡ MuError.Memory) }
 {
-    match solve_one(alloc, &posed.game) {
+    match solve_posed(alloc, &posed) {
         Ok(settled) => find_solved(alloc, posed, None, settled),
         Err(Memory) => Err(MuError::Memory),
     }
+}
+
+/// The least progress table, on one thread.
+fn solve_posed(alloc: Global, posed: &Posed) -> Result<Settled, Memory>
+    ensures { IfOk result (λ s. s.game ≡ arc_value posed.now.game) }
+{
+    let Texts { system, formula } = &*posed.texts;
+    let guess = guess_of(alloc, system, formula, posed.priorities, &posed.game);
+    solve_one_by(alloc, &posed.game, &guess, &Silent)
+}
+
+/// The same by workers, of which one alone is helped by a guess.
+fn solve_by_workers<
+    T: Gate + Sync,
+    O: Observer + Sync,
+    H: Threads + Wait + Clone + Copy + Drop + Send + Sync,
+>(
+    rt: &H,
+    alloc: Global,
+    posed: &Posed,
+    options: &Options,
+    gate: &T,
+    observer: &O,
+) -> Result<Settled, MuError>
+    ensures game { IfOk result (λ s. s.game ≡ arc_value posed.now.game) }
+    ensures board { IfOk result (λ _. IsFitting (Some options.now.board) (arc_value posed.now.game)) }
+    ensures refusal { IfErr result (IsUnsolved (Some options.now.board) (arc_value posed.now.game)) }
+{
+    let Texts { system, formula } = &*posed.texts;
+    let guess = if options.workers == 1 {
+        guess_of(alloc, system, formula, posed.priorities, &posed.game)
+    } else {
+        None
+    };
+    solve_seen(rt, alloc, &posed.game, options, gate, observer, &guess)
 }
 
 /// What is found out of these texts by workers.
@@ -228,7 +264,7 @@ fn find_by_workers<
     ensures texts { IfOk result (λ found. found.texts.value ≡ posed.texts.value) }
     ensures refusal { IfErr result (IsUnsolved (Some options.now.board) (arc_value posed.game)) }
 {
-    match solve_seen(rt, alloc, &posed.game, options, gate, observer) {
+    match solve_by_workers(rt, alloc, &posed, options, gate, observer) {
         Ok(settled) => find_solved(alloc, posed, Some(options.board), settled),
         Err(error) => Err(error),
     }

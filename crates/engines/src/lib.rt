@@ -3,6 +3,7 @@
 
 pub mod engine;
 mod findings;
+mod guessing;
 mod lifting;
 mod no_writer;
 mod outputs;

@@ -1,6 +1,7 @@
 // Progress measures of parity games: solving on one thread, by lifting and by what a search finds. It offers the measures and tables of `progress` under its own name.
 #![tactic(auto)]
 
+pub mod guess;
 mod jumps;
 pub mod settle;
 

@@ -7,6 +7,7 @@ ghost use Rattle.requests.specs.Solver.{IsFitting, IsUnsolved};
 use crate::error::MuError;
 use crate::request::Options;
 use game::graph::Game;
+use measures::guess::{Guess, NoGuess};
 use measures::observer::{Observer, Silent};
 use measures::table::Settled;
 use std::alloc::Global;
@@ -31,10 +32,10 @@ pub fn solve_with<G: Gate + Sync, R: Threads + Wait + Clone + Copy + Drop + Send
     ensures board { IfOk result (λ _. IsFitting (Some options.now.board) (arc_value game.now)) }
     ensures refusal { IfErr result (IsUnsolved (Some options.now.board) (arc_value game.now)) }
 {
-    solve_seen(rt, alloc, game, options, gate, &Silent)
+    solve_seen(rt, alloc, game, options, gate, &Silent, &NoGuess)
 }
 
-/// The same, told to an observer: that the search begins, and lifts now and then.
+/// The same with the help of a guess, told to an observer: that the search begins, and lifts now and then.
 ///
 /// # Errors
 /// Those of `solve_with`.
@@ -42,6 +43,7 @@ pub fn solve_seen<
     G: Gate + Sync,
     O: Observer + Sync,
     R: Threads + Wait + Clone + Copy + Drop + Send + Sync,
+    U: Guess,
 >(
     rt: &R,
     alloc: Global,
@@ -49,6 +51,7 @@ pub fn solve_seen<
     options: &Options,
     gate: &G,
     observer: &O,
+    guess: &U,
 ) -> Result<Settled, MuError>
     ensures game { IfOk result (λ s. s.game ≡ arc_value game.now) }
     ensures board { IfOk result (λ _. IsFitting (Some options.now.board) (arc_value game.now)) }
@@ -59,7 +62,7 @@ pub fn solve_seen<
         shards: options.shards,
         board: options.board,
     };
-    match solve_by(rt, alloc, game, &team, gate, observer) {
+    match solve_by(rt, alloc, game, &team, gate, observer, guess) {
         Ok(settled) => Ok(settled),
         Err(TeamError::Board(error)) => Err(MuError::Table(error)),
         Err(TeamError::Solve(error)) => Err(MuError::Solve(error)),

@@ -3,6 +3,7 @@
 
 use game::build::build;
 use game::graph::Game;
+use measures::guess::NoGuess;
 use measures::observer::{Observer, Stage};
 use measures::settle::solve_one_seen;
 use samples::texts::{form_of, ring, system_of};
@@ -83,7 +84,7 @@ fn tells_of_workers<R: Abort + AllocGlobal + Threads + Wait + Clone + Copy + Dro
         shards: 16,
         board,
     };
-    let solved = solve_by(rt, rt.alloc(), &game, &team, &NoGate, &tally);
+    let solved = solve_by(rt, rt.alloc(), &game, &team, &NoGate, &tally, &NoGuess);
     assert!(rt; solved.is_ok());
     assert_eq!(rt; tally.searches.load(Ordering::SeqCst), 1);
     let lifts = tally.lifts.load(Ordering::SeqCst);

@@ -13,9 +13,9 @@ use crate::locked::solve_locked;
 use crate::solving::solve;
 use crate::watch::Watched;
 use game::graph::Game;
+use measures::guess::{Guess, solve_one_by};
 use measures::observer::{Observer, Stage};
 use measures::rank::top_rank;
-use measures::settle::solve_one_seen;
 use measures::table::Settled;
 use std::alloc::Global;
 use std::sync::{Arc, Wait};
@@ -45,7 +45,7 @@ pub struct Team {
     pub ghost some_shards: { 0 < shards },
 }
 
-/// The least progress table of a game, by a team, and an observer is told that the search begins, that lifting does, and then every 4,096th
+/// The least progress table of a game, by a team, with the help of a guess where there is one worker alone. An observer is told that the search begins, that lifting does, and then every 4,096th
 /// lift of a worker. One worker alone needs no board, no gate, and no thread beside the caller's.
 ///
 /// # Errors
@@ -55,6 +55,7 @@ pub fn solve_by<
     G: Gate + Sync,
     O: Observer + Sync,
     R: Threads + Wait + Clone + Copy + Drop + Send + Sync,
+    U: Guess,
 >(
     rt: &R,
     alloc: Global,
@@ -62,13 +63,14 @@ pub fn solve_by<
     team: &Team,
     gate: &G,
     observer: &O,
+    guess: &U,
 ) -> Result<Settled, TeamError>
     ensures game { IfOk result (λ s. s.game ≡ arc_value game.now) }
     ensures least { IfOk result (λ s. IsLeastTable (arc_value game.now) s.values) }
     ensures refused { MatchResult result (λ s. IsTooGreat team.now.board (arc_value game.now) → ⊥) (IsRefusal team.now.board (arc_value game.now)) }
 {
     if team.workers == 1 {
-        return solve_alone(alloc, game, team.board, observer);
+        return solve_alone(alloc, game, team.board, observer, guess);
     }
     let vertices = game.vertices();
     observer.sees(Stage::Searching { vertices });
@@ -90,18 +92,19 @@ fn fits_words(game: &Game, board: BoardKind) -> Result<bool, TeamError>
 }
 
 // By one worker, without a board.
-fn solve_alone<O: Observer>(
+fn solve_alone<O: Observer, U: Guess>(
     alloc: Global,
     game: &Game,
     board: BoardKind,
     observer: &O,
+    guess: &U,
 ) -> Result<Settled, TeamError>
     ensures game { IfOk result (λ s. s.game ≡ game.now) }
     ensures least { IfOk result (λ s. IsLeastTable game.now s.values) }
     ensures refused { MatchResult result (λ s. IsTooGreat board game.now → ⊥) (IsRefusal board game.now) }
 {
     match fits_words(game, board) {
-        Ok(_) => match solve_one_seen(alloc, game, observer) {
+        Ok(_) => match solve_one_by(alloc, game, guess, observer) {
             Ok(settled) => Ok(settled),
             Err(Memory) => Err(TeamError::Solve(SolveError::Memory)),
         },
