@@ -7,7 +7,7 @@ use Rattle.std.specs.Cmp.Lexicographic.{pointwise}
 use Rattle.std.proofs.lemmas.List.{get_or_append_left, get_or-map, length-map, length-append, map-append}
 use Rattle.std.proofs.lemmas.List.Elements.{Contains-append_left, Contains-append_right}
 use Rattle.std.proofs.lemmas.List.Quantifiers.{position-Some}
-use Rattle.std.proofs.lemmas.Option.{get_or_from_slice_get}
+use Rattle.std.proofs.lemmas.Option.{get_or_from_slice_get, slice_get_within}
 use Rattle.std.proofs.lemmas.Slice.Eq.{bytes_eq-Decides}
 use Rattle.systems.specs.System.{Arrow}
 use Rattle.systems.specs.Numbered.{label_at, arrow_of, AreLabelsOf}
@@ -29,6 +29,15 @@ stored_label keys label i k v below there alike is = record {
   within = omega (arith, length-map keys (λ (v : Vec ℕ). v.items), below);
   is = get_or-map (λ (v : Vec ℕ). v.items) keys i k [] below ∙ ap (λ (v : Vec ℕ). v.items) (get_or_from_slice_get keys i k k there) ∙ sym ((bytes_eq-Decides v.items k.items).0 alike) ∙ is;
 }
+
+-- the key of this number is the label
+pub label_here : (keys : List (Vec ℕ)) (label : List ℕ) (i : ℕ) (k : Vec ℕ) (bytes : List ℕ) → slice_get keys i ≡ Some k → bytes ≡ k.items → pointwise nat_eq bytes label ≡ true → HasLabel (texts keys) i label
+label_here keys label i k bytes there is alike =
+    let below = slice_get_within keys i k there in
+    record {
+      within = omega (arith, length-map keys (λ (v : Vec ℕ). v.items), below);
+      is = get_or-map (λ (v : Vec ℕ). v.items) keys i k [] below ∙ ap (λ (v : Vec ℕ). v.items) (get_or_from_slice_get keys i k k there) ∙ sym is ∙ (bytes_eq-Decides bytes label).0 alike;
+    }
 
 -- the keys are the same, or one came at the end
 pub keys_grown : (b : Bool) (old new : List (Vec ℕ)) (v : Vec ℕ) → new ≡ cond b old (old ++ v ∷ []) → Extends (texts old) (texts new) v.items

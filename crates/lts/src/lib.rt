@@ -7,6 +7,7 @@ mod intake;
 pub mod law;
 mod plain;
 pub mod reader;
+mod recent;
 mod scan;
 pub mod writer;
 

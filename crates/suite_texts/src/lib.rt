@@ -20,6 +20,8 @@ mod normal_forms;
 #[cfg(test)]
 mod normal_texts;
 #[cfg(test)]
+mod plain_lines;
+#[cfg(test)]
 mod strange_words;
 #[cfg(test)]
 mod system_texts;

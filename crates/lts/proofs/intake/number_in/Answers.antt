@@ -1,7 +1,7 @@
 use Rattle.std.proofs.Common.{sym, subst}
 use Rattle.lts.specs.Gathered.{Extends}
 use Rattle.lts.proofs.Gathering.{found_label, stored_label, keys_grown, keys_few}
-use Rattle.lts.proofs.intake.number_of.Goals as goal
+use Rattle.lts.proofs.intake.number_in.Goals as goal
 
 pub returns-in-Some-clause-number : goal.returns-in-Some-clause-number
 returns-in-Some-clause-number c = found_label c.args.labels.now.keys c.args.label.now c.in-Some.number (sym c.in-Some.ensures.index)
