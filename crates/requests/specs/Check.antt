@@ -16,7 +16,7 @@ use Rattle.normal.specs.Rules.{nodes_with}
 use Rattle.normal.specs.Refused as normal
 use Rattle.game.specs.declared.limits.TheConstants.{MOST_VERTICES}
 use Rattle.game.specs.Refused as game
-use Rattle.game.specs.Game.{Game}
+use Rattle.game.specs.Game.{Game, greatest}
 use Rattle.game.specs.Arena.{arena}
 use Rattle.pgsolver.specs.Canon.{game_text}
 use Rattle.evidence.specs.declared.error.EvidenceError.{EvidenceError}

@@ -8,9 +8,13 @@ use game::build::build;
 use game::graph::Game;
 use guess::whole::Whole;
 use lts::Lts;
-use measures::guess::{Guess, jump_to_guess};
+use measures::claim::Claim;
+use measures::guess::{Guess, jump_to_guess, solve_one_by};
+use measures::measure::Measure;
+use measures::observer::Silent;
+use measures::progs::is_measure;
 use measures::settle::{is_settled, settle};
-use measures::table::{PlainTable, opening};
+use measures::table::opening;
 use normal::form::Normal;
 use samples::dice::Dice;
 use samples::texts::{form_of, system_of};
@@ -23,6 +27,16 @@ const LABELS: [&str; 3] = ["a", "b", "c"];
 
 // Variables by the depth of their binders.
 const VARIABLES: [&str; 4] = ["W", "X", "Y", "Z"];
+
+// How many systems and formulas there are, and for how many of them at least nothing is left to lift.
+const QUESTIONS: u32 = 40;
+
+const LEAST_WHOLE: u32 = 32;
+
+// How many are guessed wrongly, and how many wrong guesses at least aren't accepted whole.
+const WRONG_QUESTIONS: u32 = 10;
+
+const LEAST_REFUSED: u32 = 37;
 
 // Closed operands, which are solved before what is around them.
 const CLOSED: [&str; 6] = [
@@ -173,8 +187,9 @@ fn ends_alike(rt: &(impl Abort + AllocGlobal), question: &Question) -> Option<En
     let accepted = jump_to_guess(rt.alloc(), game, &mut table, &guess).expect(rt, "memory");
     let whole = is_settled(game, &table);
     settle(game, &mut table);
+    let solved = solve_one_by(rt.alloc(), game, &guess, &Silent).expect(rt, "memory");
     let lifted = lifted_alone(rt.alloc(), game).expect(rt, "memory");
-    assert!(rt; is_same(game, &lifted, &table));
+    assert!(rt; is_same(game, &solved, &lifted) && is_same(game, &solved, &table));
     let guessed = guess.parts();
     Some(Ended {
         guessed,
@@ -187,17 +202,117 @@ fn ends_alike(rt: &(impl Abort + AllocGlobal), question: &Question) -> Option<En
 fn guesses_and_lifting_alone_end_alike(rt: HostRuntime) {
     let mut dice = Dice::new(7);
     let mut whole = 0_u32;
-    let mut refused = 0_u32;
-    for _ in 0..400 {
-        let states = 1 + dice.roll(30);
+    for _ in 0..QUESTIONS {
+        let states = 1 + dice.roll(20);
         let question = roll_question(&rt, &mut dice, states);
-        let ended = ends_alike(&rt, &question).expect(&rt, "words");
+        let Some(ended) = ends_alike(&rt, &question) else {
+            continue;
+        };
+        assert_eq!(rt; ended.accepted, ended.guessed);
         if ended.whole {
             whole = whole.saturating_add(1);
         }
-        if ended.accepted < ended.guessed {
+    }
+    assert!(rt; whole >= LEAST_WHOLE, "{whole}");
+}
+
+// What is wrong with a guess.
+#[derive(Clone, Copy)]
+enum Fault {
+    Value,
+    Rank,
+    Move,
+    Component,
+}
+
+const FAULTS: [Fault; 4] = [Fault::Value, Fault::Rank, Fault::Move, Fault::Component];
+
+/// A guess with a fault at a vertex, or at all vertices of each component.
+#[derive(Drop)]
+struct Wrong<'g> {
+    guess: &'g Whole<'g>,
+    fault: Fault,
+    vertex: u32,
+}
+
+impl Wrong<'_> {
+    fn spoil(&self, game: &Game, claim: &mut Claim, v: u32)
+        requires same { claim.old.game ≡ game.now }
+        ensures { claim.new.game ≡ game.now }
+    {
+        let rank = [0; 17];
+        let width = claim.width();
+        if v >= game.vertices() || width > rank.len() {
+            return;
+        }
+        let (value, next) = (claim.value(v), claim.next(v));
+        let value = match self.fault {
+            Fault::Rank | Fault::Move if claim.has(v) && is_measure(game, &value) => value,
+            _ => Measure::top(),
+        };
+        let next = match self.fault {
+            Fault::Move => next.wrapping_add(1),
+            _ => next,
+        };
+        claim.set(v, &value, next, &rank[..width]);
+    }
+}
+
+impl Guess for Wrong<'_> {
+    fn parts(&self) -> u32 {
+        self.guess.parts()
+    }
+
+    fn claim_part(&self, game: &Game, claim: &mut Claim, part: u32)
+        requires { claim.old.game ≡ game.now }
+        ensures { claim.new.game ≡ game.now }
+    {
+        self.guess.claim_part(game, claim, part);
+        self.spoil(game, claim, self.vertex);
+        if let Fault::Component = self.fault {
+            for v in 0..game.vertices() {
+                if claim.has(v) {
+                    self.spoil(game, claim, v);
+                }
+            }
+        }
+    }
+}
+
+// Each fault, at some vertex: the table is as lifting leaves it. The answer is how many faults were refused.
+fn changes_nothing(rt: &(impl Abort + AllocGlobal), question: &Question, vertex: u32) -> u32 {
+    let Question { lts, form, game } = question;
+    let Some(guess) = Whole::of(rt.alloc(), lts, form, game).expect(rt, "memory") else {
+        return 0;
+    };
+    let lifted = lifted_alone(rt.alloc(), game).expect(rt, "memory");
+    let mut refused = 0_u32;
+    for fault in FAULTS {
+        let wrong = Wrong {
+            guess: &guess,
+            fault,
+            vertex,
+        };
+        let solved = solve_one_by(rt.alloc(), game, &wrong, &Silent).expect(rt, "memory");
+        assert!(rt; is_same(game, &solved, &lifted));
+        let mut table = opening(rt.alloc(), game).expect(rt, "memory");
+        let accepted = jump_to_guess(rt.alloc(), game, &mut table, &wrong).expect(rt, "memory");
+        if accepted < wrong.parts() {
             refused = refused.saturating_add(1);
         }
     }
-    assert!(rt; whole >= 1_000 && refused == 0, "{whole} {refused}");
+    refused
+}
+
+#[test]
+fn wrong_guesses_change_no_answer(rt: HostRuntime) {
+    let mut dice = Dice::new(11);
+    let mut refused = 0_u32;
+    for _ in 0..WRONG_QUESTIONS {
+        let states = 1 + dice.roll(20);
+        let question = roll_question(&rt, &mut dice, states);
+        let vertex = dice.roll(question.game.vertices().max(1));
+        refused = refused.saturating_add(changes_nothing(&rt, &question, vertex));
+    }
+    assert!(rt; refused >= LEAST_REFUSED, "{refused}");
 }

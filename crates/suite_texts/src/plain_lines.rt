@@ -128,11 +128,14 @@ fn lines_go_on_in_the_next_block(rt: HostRuntime) {
 // Bytes that stand in lines, and some that never do.
 const BYTES: [u8; 16] = *b"(),\"019ab|\r\n\t x\x7f";
 
+// The good text has so many bytes.
+const PLACES: u32 = 51;
+
 // A text of good lines, in which some bytes are put in the place of others.
 fn roll_text(rt: &impl AllocGlobal, dice: &mut Dice) -> Result<Vec<u8>, AllocError> {
     let mut text = Vec::from_slice(rt.alloc(), GOOD.as_bytes())?;
     for _ in 0..dice.roll(3) {
-        let place = dice.roll(GOOD.len() as u32) as usize;
+        let place = dice.roll(PLACES) as usize;
         let byte = BYTES[dice.roll(16) as usize];
         if let Some(other) = text.get_mut(place) {
             *other = byte;
