@@ -77,7 +77,8 @@ module _ (n : ℕ) (F : (ℕ → Type 0) → ℕ → Type 0) (grows : (U V : ℕ
     high_kept = still n (λ k. IsWithin n (iterate k F (λ t. Unit {0})) (iterate (suc k) F (λ t. Unit {0}))) (λ k. n - how_many (high k).0 n)
         (λ k h. grows (iterate k F (λ t. Unit {0})) (iterate (suc k) F (λ t. Unit {0})) h) turn (λ k. omega arith)
       where
-        turn : (k : ℕ) → IsWithin n (iterate k F (λ t. Unit {0})) (iterate (suc k) F (λ t. Unit {0})) ⊎ (n - how_many (high k).0 n < n - how_many (high (suc k)).0 n)
+        turn : (k : ℕ) → IsWithin n (iterate k F (λ t. Unit {0})) (iterate (suc k) F (λ t. Unit {0}))
+            ⊎ (n - how_many (high k).0 n < n - how_many (high (suc k)).0 n)
         turn k = elim (same_or_more n (high (suc k)).0 (high k).0 (λ t lt h. ((high k).1 t lt).1 (downward k t lt (((high (suc k)).1 t lt).0 h)))) [
           | inl same ↦ inl (λ t lt h. ((high (suc k)).1 t lt).0 (same t lt (((high k).1 t lt).1 h)))
           | inr more ↦ inr (omega (arith, at_most_all n (high k).0))
@@ -86,12 +87,15 @@ module _ (n : ℕ) (F : (ℕ → Type 0) → ℕ → Type 0) (grows : (U V : ℕ
     -- later iterates are the nth
     pub low_reached : (k : ℕ) → n ≤ k → (s : ℕ) → s < n → iterate k F (λ t. ⊥) s ↔ iterate n F (λ t. ⊥) s
     low_reached k le s lt = (
-      lasting (λ i. IsWithin n (iterate i F (λ t. ⊥)) (iterate n F (λ t. ⊥))) (λ i h s lt w. low_closed s lt (grows (iterate i F (λ t. ⊥)) (iterate n F (λ t. ⊥)) h s lt w)) n k le (λ s lt w. w) s lt,
+      lasting (λ i. IsWithin n (iterate i F (λ t. ⊥)) (iterate n F (λ t. ⊥)))
+          (λ i h s lt w. low_closed s lt (grows (iterate i F (λ t. ⊥)) (iterate n F (λ t. ⊥)) h s lt w)) n k le (λ s lt w. w) s lt,
       lasting (λ i. IsWithin n (iterate n F (λ t. ⊥)) (iterate i F (λ t. ⊥))) (λ i h s lt w. upward i s lt (h s lt w)) n k le (λ s lt w. w) s lt,
     )
 
     pub high_reached : (k : ℕ) → n ≤ k → (s : ℕ) → s < n → iterate k F (λ t. Unit {0}) s ↔ iterate n F (λ t. Unit {0}) s
     high_reached k le s lt = (
-      lasting (λ i. IsWithin n (iterate i F (λ t. Unit {0})) (iterate n F (λ t. Unit {0}))) (λ i h s lt w. h s lt (downward i s lt w)) n k le (λ s lt w. w) s lt,
-      lasting (λ i. IsWithin n (iterate n F (λ t. Unit {0})) (iterate i F (λ t. Unit {0}))) (λ i h s lt w. grows (iterate n F (λ t. Unit {0})) (iterate i F (λ t. Unit {0})) h s lt (high_kept s lt w)) n k le (λ s lt w. w) s lt,
+      lasting (λ i. IsWithin n (iterate i F (λ t. Unit {0})) (iterate n F (λ t. Unit {0}))) (λ i h s lt w. h s lt (downward i s lt w)) n k le
+          (λ s lt w. w) s lt,
+      lasting (λ i. IsWithin n (iterate n F (λ t. Unit {0})) (iterate i F (λ t. Unit {0})))
+          (λ i h s lt w. grows (iterate n F (λ t. Unit {0})) (iterate i F (λ t. Unit {0})) h s lt (high_kept s lt w)) n k le (λ s lt w. w) s lt,
     )

@@ -19,9 +19,11 @@ path_inside R n step s (m ∷ states) t h p = path_inside R n step m states t (s
 
 -- from a state one comes to states alone
 pub leads_inside : (l : System) → IsSystem l → (r : Regular) (s t : ℕ) → s < l.states → Leads l r s t → t < l.states
-leads_inside l ok (Step a) s t h (label, arrow, it) = (each_arrow (IsArrow l.states) l.arrows ok.arrows (record { source = s; label = label; target = t }) arrow).target
+leads_inside l ok (Step a) s t h (label, arrow, it) = (each_arrow (IsArrow l.states) l.arrows ok.arrows
+    (record { source = s; label = label; target = t }) arrow).target
 leads_inside l ok (Then r q) s t h (m, first, second) = leads_inside l ok q m t (leads_inside l ok r s m h first) second
 leads_inside l ok (Either r q) s t h (inl one) = leads_inside l ok r s t h one
 leads_inside l ok (Either r q) s t h (inr one) = leads_inside l ok q s t h one
 leads_inside l ok (Star r) s t h (states, path) = path_inside (Leads l r) l.states (leads_inside l ok r) s states t h path
-leads_inside l ok (Plus r) s t h (m, states, first, path) = path_inside (Leads l r) l.states (leads_inside l ok r) m states t (leads_inside l ok r s m h first) path
+leads_inside l ok (Plus r) s t h (m, states, first, path) = path_inside (Leads l r) l.states (leads_inside l ok r) m states t
+    (leads_inside l ok r s m h first) path

@@ -20,12 +20,15 @@ all_true p h [] = refl
 all_true p h (x ∷ xs) = rw (h x) (all_true p h xs)
 
 itself : (names : List (List ℕ)) → is_same_multiset names names ≡ true
-itself names = rw (eq-eqb (length names) (length names) refl) (all_true (λ name. times name names == times name names) (λ name. eq-eqb (times name names) (times name names) refl) names)
+itself names = rw (eq-eqb (length names) (length names) refl)
+    (all_true (λ name. times name names == times name names) (λ name. eq-eqb (times name names) (times name names) refl) names)
 
 -- equal, name by name
-pub same_names : (read names : List (Vec ℕ)) (r : Bool) → r ≡ pointwise (λ x y. bytes_eq x.items y.items) read names → r ≡ true → r ≡ is_same_multiset (texts read) (texts names)
+pub same_names : (read names : List (Vec ℕ)) (r : Bool) → r ≡ pointwise (λ x y. bytes_eq x.items y.items) read names → r ≡ true
+    → r ≡ is_same_multiset (texts read) (texts names)
 same_names read names r is equal =
-    let same : texts read ≡ texts names = (slice_eq-Decides bytes_eq-Decides (texts read) (texts names) r (is ∙ sym (pointwise-map bytes_of bytes_eq read names))).0 equal in
+    let same : texts read ≡ texts names = (slice_eq-Decides bytes_eq-Decides (texts read) (texts names) r
+    (is ∙ sym (pointwise-map bytes_of bytes_eq read names))).0 equal in
     equal ∙ sym (itself (texts names)) ∙ ap (λ l. is_same_multiset l (texts names)) (sym same)
 
 -- as many, and each as often

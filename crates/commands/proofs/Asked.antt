@@ -13,7 +13,8 @@ use Rattle.clap.proofs.WalkLemmas.{first_value-rows, one_text-rows}
 use Rattle.commands.specs.CommandLine.{number_in, number_of}
 
 -- the text of an argument, by the rows
-pub value_read : (f : Found) (id : Text) (found : Option (Bor Text)) → option_map (λ s. s.now) found ≡ first_value f id → first_of id (rows_of f) ≡ option_map (λ s. s.now) found
+pub value_read : (f : Found) (id : Text) (found : Option (Bor Text)) → option_map (λ s. s.now) found ≡ first_value f id
+    → first_of id (rows_of f) ≡ option_map (λ s. s.now) found
 value_read f id found is = sym (first_value-rows f id) ∙ sym is
 
 -- the number that was tried to be read
@@ -40,7 +41,8 @@ fused : {A B C : Type 0} (f : A → B) (g : B → C) (o : Option A) → option_m
 fused f g None = refl
 fused f g (Some x) = refl
 
-paired : {A X Y : Type 0} (f : A → X) (g : A → Y) (o : Option A) (p : Option (X × Y)) → option_map f o ≡ option_map (λ q. q.0) p → option_map g o ≡ option_map (λ q. q.1) p
+paired : {A X Y : Type 0} (f : A → X) (g : A → Y) (o : Option A) (p : Option (X × Y)) → option_map f o ≡ option_map (λ q. q.0) p
+    → option_map g o ≡ option_map (λ q. q.1) p
     → p ≡ option_map (λ x. (f x, g x)) o
 paired f g None None first second = refl
 paired f g None (Some p) first second = cc

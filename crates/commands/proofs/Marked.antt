@@ -16,7 +16,8 @@ marks_more n marks mark P m here = record { count = omega (arith, m.count, lengt
   where
     at : (s : ℕ) → s < n + 1 → marked (marks ++ mark ∷ []) s ↔ P s
     at s h = elim (cases_order s n) [
-      | inl e ↦ let seam : get_or (marks ++ mark ∷ []) s false ≡ mark = subst (λ k. get_or (marks ++ mark ∷ []) k false ≡ mark) (m.count ∙ sym e) (get_or-append_seam marks mark [] false) in
+      | inl e ↦ let seam : get_or (marks ++ mark ∷ []) s false
+          ≡ mark = subst (λ k. get_or (marks ++ mark ∷ []) k false ≡ mark) (m.count ∙ sym e) (get_or-append_seam marks mark [] false) in
           subst (λ b. IsTrue b ↔ P s) (sym seam) (subst (λ k. IsTrue mark ↔ P k) (sym e) here)
       | inr w ↦ elim w [
         | inl lt ↦ subst (λ b. IsTrue b ↔ P s) (sym (get_or-append marks (mark ∷ []) false s (omega (arith, m.count, lt)))) (m.exact s lt)

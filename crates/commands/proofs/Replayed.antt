@@ -11,7 +11,8 @@ kept None = tt
 kept (Some bytes) = refl
 
 -- It is what a check tells that lends no writer.
-pub refused_before : (workers : ℕ) (first second third : List ℕ) (held : Option (List ℕ)) (e : MuError) → check.HasRefused way first second [] e → HasRefused workers first second third held held e
+pub refused_before : (workers : ℕ) (first second third : List ℕ) (held : Option (List ℕ)) (e : MuError) → check.HasRefused way first second [] e
+    → HasRefused workers first second third held held e
 refused_before workers first second third held (error.Schedule e) h = absurd h
 refused_before workers first second third held (error.Write e) h = absurd h.begun
 refused_before workers first second third held e h = (h, kept held)

@@ -22,7 +22,8 @@ helped old new text rule is has = record {
 }
 
 -- a parser of values changes the rule's parser alone
-pub parses : (old new : Arg) (parser : ValueParser) (rule : Rule) → new ≡ record old { value_parser = new.value_parser } → new.value_parser ≡ Some parser → HasRule rule old
+pub parses : (old new : Arg) (parser : ValueParser) (rule : Rule) → new ≡ record old { value_parser = new.value_parser } → new.value_parser ≡ Some parser
+    → HasRule rule old
     → HasRule (record rule { parser = Some parser }) new
 parses old new parser rule is given has = record {
   same = ap rule_of is ∙ ap₂ (λ (r : Rule) p. record r { parser = p }) has.same given;
@@ -40,7 +41,8 @@ not_free : (old new : Arg) (id : Bor Text) → AddsConflicts old new (id ∷ [])
 not_free old new id adds = rw (adds.1, not_empty) (and_false (not old.exclusive))
 
 -- what is in conflict is no longer free
-pub conflicts : (old new : Arg) (id : Bor Text) (rule : Rule) → AddsConflicts old new (id ∷ []) → HasRule rule old → HasRule (record rule { is_free = false }) new
+pub conflicts : (old new : Arg) (id : Bor Text) (rule : Rule) → AddsConflicts old new (id ∷ []) → HasRule rule old
+    → HasRule (record rule { is_free = false }) new
 conflicts old new id rule adds has = record {
   same = ap rule_of adds.0 ∙ ap₂ (λ (r : Rule) b. record r { is_free = b }) has.same (not_free old new id adds);
   local = ap (λ (a : Arg). a.global) adds.0 ∙ has.local;
@@ -49,7 +51,8 @@ conflicts old new id rule adds has = record {
 -- ------------------------------------------------------------------ commands
 
 -- one argument more
-pub adds_rule : (old : Parser) (arg : Arg) (new : Parser) (table : App) (rule : Rule) → AddsArg old arg new → HasRule rule arg → ReadsBy table old → ReadsBy (with_rule table rule) new
+pub adds_rule : (old : Parser) (arg : Arg) (new : Parser) (table : App) (rule : Rule) → AddsArg old arg new → HasRule rule arg → ReadsBy table old
+    → ReadsBy (with_rule table rule) new
 adds_rule old arg new table rule added has reads = added.shape has.local ∙ ap₂ with_rule reads has.same
 
 -- several more
@@ -63,7 +66,8 @@ third true true c d h = absurd (true≢false (sym h))
 third false b c d h = absurd (true≢false (sym h))
 
 -- one command more: a plain one hands no argument down
-pub adds_command : (old sub new : Parser) (table command : App) → command.top.is_plain ≡ true → AddsSubcommand old sub new → ReadsBy command sub → ReadsBy table old → ReadsBy (with_subcommand table command.top) new
+pub adds_command : (old sub new : Parser) (table command : App) → command.top.is_plain ≡ true → AddsSubcommand old sub new → ReadsBy command sub
+    → ReadsBy table old → ReadsBy (with_subcommand table command.top) new
 adds_command old sub new table command plain added below reads =
     added.shape (third _ _ _ _ (ap (λ (a : App). a.top.is_plain) below ∙ plain)) ∙ ap₂ with_subcommand reads (ap (λ (a : App). a.top) below)
 

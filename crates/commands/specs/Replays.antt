@@ -78,7 +78,8 @@ HasRefused workers first second third old new (error.Write e) = HasBegun workers
 HasRefused workers first second third old new e = check.HasRefused way first second [] e × Keeps old new
 
 abbrev pub Answers : (workers : ℕ) → (first second third : List ℕ) → (old new : Option (List ℕ)) → Result Bool MuError → Type 0
-Answers workers first second third old new result = MatchResult result (HasReplayed workers first second third old new) (HasRefused workers first second third old new)
+Answers workers first second third old new result = MatchResult result (HasReplayed workers first second third old new)
+    (HasRefused workers first second third old new)
 
 -- The theorem of the command: of what the readers had left, where they tell it, and of what the writer held before and after.
 abbrev pub Replays : (workers : ℕ) → (aut formula schedule old new : Option (List ℕ)) → Result Bool MuError → Type 0

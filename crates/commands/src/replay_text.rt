@@ -60,7 +60,8 @@ fn replay_of<T: Read + Drop, W: Write, H: Threads + Sync>(
     workers: u32,
     out: &mut W,
 ) -> Result<bool, MuError>
-    ensures { (first second third : List ℕ) → AreSpelled first second texts.now.system.system (closed_formula texts.now.formula) → T.remaining schedule ≡ Some third
+    ensures { (first second third : List ℕ) → AreSpelled first second texts.now.system.system (closed_formula texts.now.formula)
+        → T.remaining schedule ≡ Some third
         → Answers workers first second third (W.contents out.old) (W.contents out.new) result }
 {
     match game_of(rt, alloc, &texts.system, &texts.formula, Priorities::Nested) {
@@ -77,7 +78,8 @@ fn replay_in<T: Read + Drop, W: Write>(
     workers: u32,
     out: &mut W,
 ) -> Result<bool, MuError>
-    ensures { (first second third : List ℕ) (l : System) (f : Formula) → AreSpelled first second l f → IsArenaOf Nested l f game.now → T.remaining schedule ≡ Some third
+    ensures { (first second third : List ℕ) (l : System) (f : Formula) → AreSpelled first second l f → IsArenaOf Nested l f game.now
+        → T.remaining schedule ≡ Some third
         → Answers workers first second third (W.contents out.old) (W.contents out.new) result }
 {
     match read_events(alloc, schedule, workers, game.vertices()) {
@@ -93,7 +95,8 @@ fn read_events<T: Read + Drop>(
     workers: u32,
     vertices: u32,
 ) -> Result<Vec<Event>, MuError>
-    ensures { (text : List ℕ) → T.remaining schedule ≡ Some text → MatchResult result (λ events. IsScheduleOf workers vertices text events.items) (IsUnread workers vertices text) }
+    ensures { (text : List ℕ) → T.remaining schedule ≡ Some text
+        → MatchResult result (λ events. IsScheduleOf workers vertices text events.items) (IsUnread workers vertices text) }
 {
     match read_whole(alloc, schedule) {
         Ok(text) => match read_schedule(alloc, &text, workers, vertices) {
@@ -128,7 +131,8 @@ fn replay_events<W: Write>(
     out: &mut W,
 ) -> Result<bool, MuError>
     ensures { (first second third : List ℕ) (l : System) (f : Formula) → AreSpelled first second l f → IsArenaOf Nested l f game.now
-        → IsScheduleOf workers (length game.now.vertices) third events.now → Answers workers first second third (W.contents out.old) (W.contents out.new) result }
+        → IsScheduleOf workers (length game.now.vertices) third events.now
+        → Answers workers first second third (W.contents out.old) (W.contents out.new) result }
 {
     match Core::new(alloc, game, workers as usize) {
         Ok(mut core) => follow_and_write(&mut core, events, out),
@@ -142,8 +146,10 @@ fn follow_and_write<W: Write>(
     events: &[Event],
     out: &mut W,
 ) -> Result<bool, MuError>
-    ensures { (first second third : List ℕ) (l : System) (f : Formula) (workers : ℕ) → AreSpelled first second l f → HasGame Nested l f → core.old ≡ start (nested_game l f) workers
-        → IsScheduleOf workers (length (nested_game l f).vertices) third events.now → Answers workers first second third (W.contents out.old) (W.contents out.new) result }
+    ensures { (first second third : List ℕ) (l : System) (f : Formula) (workers : ℕ) → AreSpelled first second l f → HasGame Nested l f
+        → core.old ≡ start (nested_game l f) workers
+        → IsScheduleOf workers (length (nested_game l f).vertices) third events.now
+        → Answers workers first second third (W.contents out.old) (W.contents out.new) result }
 {
     let tally = core.follow(events);
     match write_replay(core, tally, out) {

@@ -68,7 +68,8 @@ fn write_winners<W: Write>(
     out: &mut W,
 ) -> Result<bool, MuError>
     requires { settled.now.game ≡ game.now }
-    ensures { (board : BoardKind) (text : List ℕ) → IsGameOf text game.now → IsFitting (Some board) game.now → Answers board text (W.contents out.old) (W.contents out.new) result }
+    ensures { (board : BoardKind) (text : List ℕ) → IsGameOf text game.now → IsFitting (Some board) game.now
+        → Answers board text (W.contents out.old) (W.contents out.new) result }
 {
     let marks = winners(alloc, game, settled)?;
     let text = winners_text(alloc, &marks)?;

@@ -128,7 +128,8 @@ fn judge_both<W: Write>(
 ) -> Result<bool, MuError>
     requires first { first.now.game ≡ game.now }
     requires second { second.now.game ≡ game.now }
-    ensures { (text one other : List ℕ) → IsGameOf text game.now → IsEvidenceOf game.now one first.now.evidence → IsEvidenceOf game.now other second.now.evidence
+    ensures { (text one other : List ℕ) → IsGameOf text game.now → IsEvidenceOf game.now one first.now.evidence
+        → IsEvidenceOf game.now other second.now.evidence
         → AnswersBoth text one other (W.contents out.old) (W.contents out.new) result }
 {
     let both = check_both(game, first, second);

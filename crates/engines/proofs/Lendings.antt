@@ -7,7 +7,8 @@ use Rattle.requests.specs.declared.writers.EvidenceWriters.TheVariants.{Neither,
 use Rattle.requests.specs.Writers.{AreKept, Left, LeftBoth, Lent, evidence_writers, game_writer, no_writer, report_writer}
 
 -- What is left of a writer that was not written to keeps its bytes.
-pub kept_game : {G : Type 0} → (contents : G → Option (List ℕ)) (game : Option (MutBor G)) (left : Left G) → ((x : MutBor G) → game ≡ Some x → left ≡ inr (inl (x, tt)))
+pub kept_game : {G : Type 0} → (contents : G → Option (List ℕ)) (game : Option (MutBor G)) (left : Left G)
+    → ((x : MutBor G) → game ≡ Some x → left ≡ inr (inl (x, tt)))
     → AreKept (game_writer contents game left)
 kept_game contents None left same = (tt, tt)
 kept_game contents (Some x) left same = subst (λ l. AreKept (game_writer contents (Some x) l)) (sym (same x refl)) (Keeps-refl (contents x.now), tt)
@@ -23,10 +24,13 @@ kept_both [] vs h k = k
 kept_both (w ∷ ws) vs h k = (h.0, kept_both ws vs h.1 k)
 
 -- None of all that may be lent was written to.
-pub kept_all : {G E O : Type 0} → (contents : G → Option (List ℕ)) (evens : E → Option (List ℕ)) (odds : O → Option (List ℕ)) (game : Option (MutBor G)) (left : Left G)
+pub kept_all : {G E O : Type 0} → (contents : G → Option (List ℕ)) (evens : E → Option (List ℕ)) (odds : O → Option (List ℕ)) (game : Option (MutBor G))
+    (left : Left G)
     → (evidence : EvidenceWriters E O) (left_both : LeftBoth E O) (out : Option (List ℕ)) → ((x : MutBor G) → game ≡ Some x → left ≡ inr (inl (x, tt)))
     → ((x : MutBor E) (y : MutBor O) → evidence ≡ Both x y → left_both ≡ inr (inl (x, (y, tt))))
     → AreKept (game_writer contents game left ++ (evidence_writers evens odds evidence left_both ++ (no_writer ∷ report_writer out out)))
 kept_all contents evens odds game left evidence left_both out same same_both =
-    kept_both (game_writer contents game left) (evidence_writers evens odds evidence left_both ++ (no_writer ∷ report_writer out out)) (kept_game contents game left same)
-    (kept_both (evidence_writers evens odds evidence left_both) (no_writer ∷ report_writer out out) (kept_evidence evens odds evidence left_both same_both) (tt, (Keeps-refl out, tt)))
+    kept_both (game_writer contents game left) (evidence_writers evens odds evidence left_both ++ (no_writer ∷ report_writer out out))
+    (kept_game contents game left same)
+    (kept_both (evidence_writers evens odds evidence left_both) (no_writer ∷ report_writer out out) (kept_evidence evens odds evidence left_both same_both)
+    (tt, (Keeps-refl out, tt)))

@@ -11,7 +11,8 @@ use Rattle.engines.specs.Findings.{AreFindings, IsTextFound}
 use Rattle.requests.specs.Writers.{Kind, GameText, Unasked, Lent, IsWhole, AreWritten, AreWrittenUpTo, lent_for}
 
 -- a call that failed
-pub stopped_at : {T E : Type 0} → (IsText : Kind → List ℕ → Type 0) (ws : List Lent) (r : Result T E) → IsErr r → AreWrittenUpTo IsText ws → AreWritten IsText ws r
+pub stopped_at : {T E : Type 0} → (IsText : Kind → List ℕ → Type 0) (ws : List Lent) (r : Result T E) → IsErr r → AreWrittenUpTo IsText ws
+    → AreWritten IsText ws r
 stopped_at IsText ws (Ok x) h w = absurd (true≢false (sym h))
 stopped_at IsText ws (Err e) h w = w
 
@@ -20,12 +21,14 @@ pub found_game : (x : Findings) (g : Game) → g ≡ arc_value x.solution.game �
 found_game x g e h = ap game_text (e ∙ h.solution.game.same)
 
 -- one text more, before others
-pub then_more : {T E : Type 0} → (IsText : Kind → List ℕ → Type 0) (w : Lent) (ws : List Lent) (r : Result T E) → IsWhole IsText w → AreWritten IsText ws r → AreWritten IsText (w ∷ ws) r
+pub then_more : {T E : Type 0} → (IsText : Kind → List ℕ → Type 0) (w : Lent) (ws : List Lent) (r : Result T E) → IsWhole IsText w → AreWritten IsText ws r
+    → AreWritten IsText (w ∷ ws) r
 then_more IsText w ws (Ok x) h k = (h, k)
 then_more IsText w ws (Err e) h k = inr (h, k)
 
 -- a text alone
-pub one_text : {T E : Type 0} → (IsText : Kind → List ℕ → Type 0) (w : Lent) (r : Result T E) (text : List ℕ) → IsText w.kind text → Wrote w.old w.new r text → AreWritten IsText (w ∷ []) r
+pub one_text : {T E : Type 0} → (IsText : Kind → List ℕ → Type 0) (w : Lent) (r : Result T E) (text : List ℕ) → IsText w.kind text → Wrote w.old w.new r text
+    → AreWritten IsText (w ∷ []) r
 one_text IsText w (Ok x) text is wrote = ((text, is, wrote), tt)
 one_text IsText w (Err e) text is wrote = inl ((text, is, wrote), tt)
 

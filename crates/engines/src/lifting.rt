@@ -39,7 +39,8 @@ pub fn state_marks(
     solution: &SolvedGame,
 ) -> Result<Vec<bool>, MuError>
     requires { IsSolvedGame system.now.system (closed_formula formula.now) solution.now }
-    ensures marks { IfOk result (λ marks. AreMarks (ByGame solution.now.priorities solution.now.board) system.now.system (closed_formula formula.now) marks.items) }
+    ensures marks { IfOk result (λ marks. AreMarks (ByGame solution.now.priorities solution.now.board) system.now.system
+        (closed_formula formula.now) marks.items) }
     ensures refusal { IfErr result (λ e. e ≡ MuError.Memory) }
 {
     chosen_is_admissible();

@@ -64,7 +64,8 @@ module _ (g : Game) (table : List Measure) (least : IsLeastTable g table) (v : V
   first_of_equals a b (inr h) i = h.1
 
   -- a prog is at most another where those that were found are
-  carried : (t u : ℕ) (m r : Measure) → IsAtMost (value t) (value u) → IsProg g v.priority (value_at table t) m → IsProg g v.priority (value_at table u) r → IsAtMost m r
+  carried : (t u : ℕ) (m r : Measure) → IsAtMost (value t) (value u) → IsProg g v.priority (value_at table t) m → IsProg g v.priority (value_at table u) r
+      → IsAtMost m r
   carried t u m r h i j =
       let low = prog_more g v.priority (value_at table t) (value_at table t) m (value t) (at_most_itself (value_at table t)) i (made t).1 in
       let high = prog_more g v.priority (value_at table u) (value_at table u) (value u) r (at_most_itself (value_at table u)) (made u).1 j in
@@ -75,7 +76,8 @@ module _ (g : Game) (table : List Measure) (least : IsLeastTable g table) (v : V
       let b = best_of Before itself trans either v.successors some in (
         b.0,
         record { successor = b.1; least = λ u c m r i j. carried b.0 u m r (weakly b.0 u (all_contained (λ x. Before b.0 x) v.successors u b.2 c)) i j },
-        λ u is. first_of_equals b.0 u (all_contained (λ x. Before b.0 x) v.successors u b.2 is.successor) (is.least b.0 b.1 (value u) (value b.0) (made u).1 (made b.0).1),
+        λ u is. first_of_equals b.0 u (all_contained (λ x. Before b.0 x) v.successors u b.2 is.successor)
+            (is.least b.0 b.1 (value u) (value b.0) (made u).1 (made b.0).1),
       )
 
   pub move_for : 1 ≤ length v.successors → (m : Option ℕ) × IsBestMove g table v m
@@ -125,7 +127,8 @@ module _ (g : Game) (game : IsGame g) (table : List Measure) (least : IsLeastTab
         let none : entry_at made_evidence v ≡ None = get_or_past entries v None (omega arith) in
         let top : value_at table v ≡ Top = get_or_past table v Top (omega arith) in
         subst (λ m. Made v m (entry_at made_evidence v)) (sym top) none)
-    | inr w ↦ subst (Made v (value_at table v)) (sym (get_or-map-range_with_len (λ u. (entry u).0) 0 (length g.vertices) v v None w.1 (omega arith))) ((entry v).1 w.1)
+    | inr w ↦ subst (Made v (value_at table v)) (sym (get_or-map-range_with_len (λ u. (entry u).0) 0 (length g.vertices) v v None w.1 (omega arith)))
+        ((entry v).1 w.1)
   ]
 
   even_made : IsEvenOf g made_evidence
@@ -144,7 +147,8 @@ even_exists g game = let t = least_exists g game in (made_evidence g game t.0 t.
 pub best_exists : BestExists
 best_exists g game = (
   even_exists g game,
-  λ few. let w = even_exists (dual g) (dual_game g game few) in (record { player = Odd; entries = w.0.entries }, (refl, subst (λ p. IsEvenOf (dual g) (record { player = p; entries = w.0.entries })) w.1.player w.1)),
+  λ few. let w = even_exists (dual g) (dual_game g game few)
+      in (record { player = Odd; entries = w.0.entries }, (refl, subst (λ p. IsEvenOf (dual g) (record { player = p; entries = w.0.entries })) w.1.player w.1)),
 )
 
 -- two entries of the same vertex
@@ -175,5 +179,6 @@ same_evidence e f p q = λ i. record { player = p i; entries = q i }
 pub best_is_one : BestIsOne
 best_is_one g e f = (
   (λ is other. same_evidence e f (is.player ∙ sym other.player) (entries_one g e f is other)),
-  (λ is other. same_evidence e f (is.0 ∙ sym other.0) (entries_one (dual g) (record { player = Even; entries = e.entries }) (record { player = Even; entries = f.entries }) is.1 other.1)),
+  (λ is other. same_evidence e f (is.0 ∙ sym other.0) (entries_one (dual g) (record { player = Even; entries = e.entries })
+      (record { player = Even; entries = f.entries }) is.1 other.1)),
 )

@@ -45,12 +45,14 @@ pub even_descends : (g : Game) (p : ℕ) (rank next : List ℕ) → Reaches g p 
 even_descends g p rank next r = from_over Even g p rank next (is_odd p) (of_odd p) (over_reaches g p next rank r)
 
 -- in a game with a vertex
-pub odd_reaches : (g : Game) (p : ℕ) (rank next : List ℕ) → 0 < length g.vertices → Descends Odd g p rank next → Reaches (dual g) (p + 1) (Counts next) (Counts rank)
+pub odd_reaches : (g : Game) (p : ℕ) (rank next : List ℕ) → 0 < length g.vertices → Descends Odd g p rank next
+    → Reaches (dual g) (p + 1) (Counts next) (Counts rank)
 odd_reaches g p rank next h d =
     reaches_over (dual g) (p + 1) next rank
     (subst (λ k. Over (is_odd (p + 1)) k next rank) (sym (kept_dual g p h)) (to_over Odd g p rank next (is_odd (p + 1)) (turned_odd p) d))
 
-pub odd_descends : (g : Game) (p : ℕ) (rank next : List ℕ) → 0 < length g.vertices → Reaches (dual g) (p + 1) (Counts next) (Counts rank) → Descends Odd g p rank next
+pub odd_descends : (g : Game) (p : ℕ) (rank next : List ℕ) → 0 < length g.vertices → Reaches (dual g) (p + 1) (Counts next) (Counts rank)
+    → Descends Odd g p rank next
 odd_descends g p rank next h r =
     from_over Odd g p rank next (is_odd (p + 1)) (odd_turned p)
     (subst (λ k. Over (is_odd (p + 1)) k next rank) (kept_dual g p h) (over_reaches (dual g) (p + 1) next rank r))

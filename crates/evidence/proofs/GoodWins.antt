@@ -41,7 +41,8 @@ has_within n e long v h = elim (leb_tells (length e.entries) v) [
   | inr w ↦ omega (arith, w.1, long)
 ]
 
-module _ (g : Game) (entries : List (Option Entry)) (long : length entries ≡ length g.vertices) (good : IsGood g (record { player = Even; entries = entries })) where
+module _ (g : Game) (entries : List (Option Entry)) (long : length entries ≡ length g.vertices)
+    (good : IsGood g (record { player = Even; entries = entries })) where
   abbrev e : Evidence
   e = record { player = Even; entries = entries }
 
@@ -65,8 +66,10 @@ module _ (g : Game) (entries : List (Option Entry)) (long : length entries ≡ l
   step : (u t : ℕ) → Edge Even g choice u t → Reaches g (priority g u) (value t) (value u)
   step u t edge = by (entry_at e u) refl
     where
-      next : (v : Vertex) (x : Entry) (o : Option Entry) → entry_at e t ≡ o → entry_at e u ≡ Some x → vertex g u ≡ Some v → Reaches g v.priority (measure_of o) (Counts x.rank)
-      next v x None there here at = (let h : IsTrue (has e t) = good u Leaves x v here at t (goes u t x v here at edge) in absurd (true≢false (sym h ∙ ap is_some there)))
+      next : (v : Vertex) (x : Entry) (o : Option Entry) → entry_at e t ≡ o → entry_at e u ≡ Some x → vertex g u ≡ Some v
+          → Reaches g v.priority (measure_of o) (Counts x.rank)
+      next v x None there here at = (let h : IsTrue (has e t) = good u Leaves x v here at t (goes u t x v here at edge)
+          in absurd (true≢false (sym h ∙ ap is_some there)))
       next v x (Some y) there here at = even_reaches g v.priority x.rank y.rank (good u Rank x v here at t y (goes u t x v here at edge) there)
 
       by : (o : Option Entry) → entry_at e u ≡ o → Reaches g (priority g u) (value t) (value u)

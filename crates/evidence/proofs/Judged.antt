@@ -45,7 +45,8 @@ far_move None k t e far = absurd cc
 far_move (Some u) k t e far = let is : capped u ≡ t = cc in (u, refl, omega arith)
 
 -- The numbers that were read decide as the numbers do that stand there.
-module _ (entries : List (Option Entry)) (few : length entries ≤ MOST_VERTICES) (v n : ℕ) (next m : Option ℕ) (number : v ≡ capped n) (is : next ≡ read_move m) where
+module _ (entries : List (Option Entry)) (few : length entries ≤ MOST_VERTICES) (v n : ℕ) (next m : Option ℕ) (number : v ≡ capped n)
+    (is : next ≡ read_move m) where
   pub no_place : IsNoPlace entries v next → IsNoPlace entries n m
   no_place (inl past) = inl (omega arith)
   no_place (inr (inl (t, e, far))) = inr (inl (far_move m (length entries) t (sym is ∙ e) far))
@@ -61,7 +62,8 @@ module _ (entries : List (Option Entry)) (few : length entries ≤ MOST_VERTICES
     same_move : m ≡ next
     same_move = move_same m (length entries) few (λ t e. place.move t (is ∙ e)) ∙ sym is
 
-    pub placed : (width : ℕ) (line ks : List ℕ) (new : Entries) → IsShaped width line (row n m ks) → new ≡ record { width = width; entries = slice_set entries v (Some (entry next ks)) }
+    pub placed : (width : ℕ) (line ks : List ℕ) (new : Entries) → IsShaped width line (row n m ks)
+        → new ≡ record { width = width; entries = slice_set entries v (Some (entry next ks)) }
         → IsAdded line (record { width = width; entries = entries }) new
     placed width line ks new h e = record {
       row = row n m ks;

@@ -37,7 +37,8 @@ parts_are_systems l p is = (
     limit = is.limit;
     initial = is.initial;
     arrows = filter_all (IsArrow l.states) p l.arrows is.arrows;
-    set = set_is (filter p l.arrows) (filter p l.arrows) (IsStrictlySortedBy-filter arrow_cmp p l.arrows (subst (IsStrictlySortedBy arrow_cmp) (sym is.set) (strict_set l.arrows))) (λ z h. h) (λ z h. h);
+    set = set_is (filter p l.arrows) (filter p l.arrows) (IsStrictlySortedBy-filter arrow_cmp p l.arrows
+        (subst (IsStrictlySortedBy arrow_cmp) (sym is.set) (strict_set l.arrows))) (λ z h. h) (λ z h. h);
   },
   record { states = refl; initial = refl; arrows = λ a c. filter_has p l.arrows a c },
 )

@@ -23,7 +23,8 @@ source g u y at = by (vertex g u) refl
   where
     by : (o : Option Vertex) → vertex g u ≡ o → (v : Vertex) × (vertex g u ≡ Some v) × (turned v ≡ y)
     by None e = let q : None ≡ Some y = ap (option_map turned) (sym e) ∙ (sym (slice_get-map turned g.vertices u) ∙ at) in absurd cc
-    by (Some v) e = let q : Some (turned v) ≡ Some y = ap (option_map turned) (sym e) ∙ (sym (slice_get-map turned g.vertices u) ∙ at) in (v, e, same (turned v) y q)
+    by (Some v) e = let q : Some (turned v) ≡ Some y = ap (option_map turned) (sym e)
+        ∙ (sym (slice_get-map turned g.vertices u) ∙ at) in (v, e, same (turned v) y q)
       where
         same : (a b : Vertex) → Some a ≡ Some b → a ≡ b
         same a b q = cc
@@ -47,15 +48,19 @@ module _ (g : Game) (e : Evidence) where
   goes_back v x t (inl w) = inl (even_is_odd v.owner w.0, w.1)
   goes_back v x t (inr w) = inr ((λ q. w.0 (odd_is_even v.owner q)), w.1)
 
-  free_on : (v : Vertex) (x : Entry) (fault : Fault) → 0 < length g.vertices → IsFree g (for_player Odd e) v x fault → IsFree (dual g) (for_player Even e) (turned v) x fault
+  free_on : (v : Vertex) (x : Entry) (fault : Fault) → 0 < length g.vertices → IsFree g (for_player Odd e) v x fault
+      → IsFree (dual g) (for_player Even e) (turned v) x fault
   free_on v x Move h f = ((λ q. f.0 (even_is_odd v.owner q)), (λ n. f.1 (λ q. n (odd_is_even v.owner q))))
   free_on v x Leaves h f = λ t to. f t (goes_back v x t to)
-  free_on v x Rank h f = λ t y to at. even_descends (dual g) (v.priority + 1) x.rank y.rank (odd_reaches g v.priority x.rank y.rank h (f t y (goes_back v x t to) at))
+  free_on v x Rank h f = λ t y to at. even_descends (dual g) (v.priority + 1) x.rank y.rank
+      (odd_reaches g v.priority x.rank y.rank h (f t y (goes_back v x t to) at))
 
-  free_back : (v : Vertex) (x : Entry) (fault : Fault) → 0 < length g.vertices → IsFree (dual g) (for_player Even e) (turned v) x fault → IsFree g (for_player Odd e) v x fault
+  free_back : (v : Vertex) (x : Entry) (fault : Fault) → 0 < length g.vertices → IsFree (dual g) (for_player Even e) (turned v) x fault
+      → IsFree g (for_player Odd e) v x fault
   free_back v x Move h f = ((λ q. f.0 (odd_is_even v.owner q)), (λ n. f.1 (λ q. n (even_is_odd v.owner q))))
   free_back v x Leaves h f = λ t to. f t (goes_on v x t to)
-  free_back v x Rank h f = λ t y to at. odd_descends g v.priority x.rank y.rank h (even_reaches (dual g) (v.priority + 1) x.rank y.rank (f t y (goes_on v x t to) at))
+  free_back v x Rank h f = λ t y to at. odd_descends g v.priority x.rank y.rank h
+      (even_reaches (dual g) (v.priority + 1) x.rank y.rank (f t y (goes_on v x t to) at))
 
   pub good_on : IsGood g (for_player Odd e) → IsGood (dual g) (for_player Even e)
   good_on good = λ u fault x y here at. (

@@ -32,7 +32,8 @@ GoodEvidenceWins = (g : Game) (e : Evidence) → IsEvidence g e → IsGood g e �
 abbrev pub DescentIsReaching : Type 0
 DescentIsReaching =
     (g : Game) (p : ℕ) (rank next : List ℕ)
-    → (Descends Even g p rank next ↔ Reaches g p (Counts next) (Counts rank)) × (0 < length g.vertices → Descends Odd g p rank next ↔ Reaches (dual g) (p + 1) (Counts next) (Counts rank))
+    → (Descends Even g p rank next ↔ Reaches g p (Counts next) (Counts rank))
+    × (0 < length g.vertices → Descends Odd g p rank next ↔ Reaches (dual g) (p + 1) (Counts next) (Counts rank))
 
 -- Evidence has one verdict, and two pieces have one answer.
 abbrev pub OneVerdict : Type 0
@@ -55,7 +56,8 @@ EvenEvidenceIsGood = (g : Game) → IsGame g → (e : Evidence) → IsEvenOf g e
 
 -- Odd's has none either, and holds exactly those that Odd wins.
 abbrev pub OddEvidenceIsGood : Type 0
-OddEvidenceIsGood = (g : Game) → IsGame g → greatest g ≤ GREATEST_PRIORITY → (e : Evidence) → IsOddOf g e → IsEvidence g e × IsGood g e × ((v : ℕ) → IsTrue (has e v) ↔ OddWins g v)
+OddEvidenceIsGood = (g : Game) → IsGame g → greatest g ≤ GREATEST_PRIORITY → (e : Evidence) → IsOddOf g e → IsEvidence g e × IsGood g e
+    × ((v : ℕ) → IsTrue (has e v) ↔ OddWins g v)
 
 -- Good evidence of Even and of Odd has no vertex in common.
 abbrev pub NoneInBoth : Type 0
@@ -66,7 +68,8 @@ NoneInBoth =
 -- Even's and Odd's of the least tables have every vertex.
 abbrev pub AllInOne : Type 0
 AllInOne =
-    (g : Game) → IsGame g → greatest g ≤ GREATEST_PRIORITY → (e f : Evidence) → IsEvenOf g e → IsOddOf g f → (v : ℕ) → v < length g.vertices → IsTrue (has e v) ⊎ IsTrue (has f v)
+    (g : Game) → IsGame g → greatest g ≤ GREATEST_PRIORITY → (e f : Evidence) → IsEvenOf g e → IsOddOf g f → (v : ℕ) → v < length g.vertices
+    → IsTrue (has e v) ⊎ IsTrue (has f v)
 
 -- Where the answer of two is yes, each holds exactly the vertices that its player wins, and none is in both.
 abbrev pub YesDecides : Type 0
@@ -80,7 +83,8 @@ BestIsYes = (g : Game) → IsGame g → greatest g ≤ GREATEST_PRIORITY → (e 
 
 -- What is reached from a vertex of good evidence is closed.
 abbrev pub ReachedIsClosed : Type 0
-ReachedIsClosed = (g : Game) (e : Evidence) (u : ℕ) (set : ℕ → Bool) → IsGood g e → IsTrue (has e u) → IsReached g e u set → IsTrue (set u) × IsClosedFor g e set
+ReachedIsClosed = (g : Game) (e : Evidence) (u : ℕ) (set : ℕ → Bool) → IsGood g e → IsTrue (has e u) → IsReached g e u set → IsTrue (set u)
+    × IsClosedFor g e set
 
 -- There is a test of what is reached from a vertex of good evidence.
 abbrev pub ReachedExists : Type 0
@@ -99,12 +103,14 @@ abbrev pub WitnessWins : Type 0
 WitnessWins =
     (l part : System) (nodes : List Node) (e : Evidence) (set : ℕ → Bool) → IsPart l part → IsEvidence (arena l nodes) e → IsGood (arena l nodes) e
     → IsClosedFor (arena l nodes) e set → Keeps l part nodes e set
-    → IsEvidence (arena part nodes) (cut_to set e) × IsGood (arena part nodes) (cut_to set e) × ((v : ℕ) → IsTrue (set v) → WinsBy e.player (arena part nodes) v)
+    → IsEvidence (arena part nodes) (cut_to set e) × IsGood (arena part nodes) (cut_to set e)
+    × ((v : ℕ) → IsTrue (set v) → WinsBy e.player (arena part nodes) v)
 
 -- Where the set has the initial state with the root, Even's evidence says that the part's initial state satisfies the formula, and Odd's that it doesn't.
 abbrev pub WitnessMeans : Type 0
 WitnessMeans =
-    (l part : System) (f : Formula) (nodes : List Node) (e : Evidence) (set : ℕ → Bool) → IsPart l part → IsEvidence (arena l nodes) e → IsGood (arena l nodes) e
+    (l part : System) (f : Formula) (nodes : List Node) (e : Evidence) (set : ℕ → Bool) → IsPart l part → IsEvidence (arena l nodes) e
+    → IsGood (arena l nodes) e
     → IsClosedFor (arena l nodes) e set → Keeps l part nodes e set → IsTrue (set (place (length nodes) l.initial 0))
     → IsSystem part → IsAdmitted f → IsNodes (normal_form f) nodes
     → (e.player ≡ Even → Satisfies part f l.initial) × (e.player ≡ Odd → Satisfies part f l.initial → ⊥)
@@ -116,7 +122,8 @@ WitnessShows =
     (l : System) (f : Formula) (nodes : List Node) (e : Evidence) (set : ℕ → Bool) → IsSystem l → IsAdmitted f → IsNodes (normal_form f) nodes
     → IsEvidence (arena l nodes) e → IsGood (arena l nodes) e → IsTrue (has e (place (length nodes) l.initial 0))
     → IsReached (arena l nodes) e (place (length nodes) l.initial 0) set
-    → IsSystem (witness l nodes e set) × (e.player ≡ Even → Satisfies (witness l nodes e set) f l.initial) × (e.player ≡ Odd → Satisfies (witness l nodes e set) f l.initial → ⊥)
+    → IsSystem (witness l nodes e set) × (e.player ≡ Even → Satisfies (witness l nodes e set) f l.initial)
+    × (e.player ≡ Odd → Satisfies (witness l nodes e set) f l.initial → ⊥)
 
 -- A text spells one evidence of a game at most.
 abbrev pub OneEvidence : Type 0

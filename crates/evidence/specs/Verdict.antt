@@ -65,7 +65,8 @@ refusal before fault v = codes "refused " ++ (before ++ (fault_text fault ++ (co
 
 -- `verified even C of N`, where the game has N vertices, or why not
 abbrev pub verdict_text : Game → Evidence → Verdict → List ℕ
-verdict_text g e Good = codes "verified " ++ (player_text e.player ++ (codes " " ++ (decimal (size e) ++ (codes " of " ++ (decimal (length g.vertices) ++ line_end)))))
+verdict_text g e Good = codes "verified " ++ (player_text e.player
+    ++ (codes " " ++ (decimal (size e) ++ (codes " of " ++ (decimal (length g.vertices) ++ line_end)))))
 verdict_text g e (Faulty v fault) = refusal [] fault v
 
 abbrev chosen : Player → Evidence → Evidence → Evidence
@@ -81,7 +82,8 @@ odd_of e f = chosen e.player f e
 
 -- `verified both even E odd O of N`
 abbrev pub sizes_line : (even odd vertices : ℕ) → List ℕ
-sizes_line even odd vertices = codes "verified both even " ++ (decimal even ++ (codes " odd " ++ (decimal odd ++ (codes " of " ++ (decimal vertices ++ line_end)))))
+sizes_line even odd vertices = codes "verified both even " ++
+    (decimal even ++ (codes " odd " ++ (decimal odd ++ (codes " of " ++ (decimal vertices ++ line_end)))))
 
 -- that line, or why not
 abbrev pub both_text : Game → Evidence → Evidence → Both → List ℕ

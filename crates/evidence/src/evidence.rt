@@ -80,7 +80,8 @@ impl Evidence {
     /// What a vertex has, if it is in the set.
     pub fn get(&self, v: u32) -> Option<EntryView<'_>>
         requires { v < length self.now.game.vertices }
-        ensures { MatchOption result (entry_at self.now.evidence v ≡ None) (λ x. entry_at self.now.evidence v ≡ Some record { move = x.next; rank = x.rank.now }) }
+        ensures { MatchOption result (entry_at self.now.evidence v ≡ None)
+            (λ x. entry_at self.now.evidence v ≡ Some record { move = x.next; rank = x.rank.now }) }
     {
         self.entries.get(v as usize)
     }

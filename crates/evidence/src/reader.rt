@@ -158,7 +158,8 @@ pub fn read_evidence<R: Read + Drop>(
     game: &Game,
 ) -> Result<Evidence, EvidenceError>
     ensures game { IfOk result (λ e. e.game ≡ game.now) }
-    ensures reads { Reads (IsEvidenceText game.now) (IsEvidenceText game.now) (IsEvidenceText game.now) (HasFaultAt game.now) (λ e. e.evidence) named (R.remaining reader) result }
+    ensures reads { Reads (IsEvidenceText game.now) (IsEvidenceText game.now) (IsEvidenceText game.now) (HasFaultAt game.now) (λ e. e.evidence) named
+        (R.remaining reader) result }
 {
     let mut reader = match BufReader::new(alloc, reader) {
         Ok(reader) => reader,

@@ -69,7 +69,8 @@ fn is_below(evidence: &Evidence, priority: u8, rank: &[u32], t: u32) -> bool
     requires priority { priority < 255 }
     requires rank { length rank.now ≡ length (counted evidence.now.evidence.player evidence.now.game) }
     requires target { t < length evidence.now.game.vertices }
-    ensures { IsTrue result ↔ ((y : Entry) → entry_at evidence.now.evidence t ≡ Some y → Descends evidence.now.evidence.player evidence.now.game priority rank.now y.rank) }
+    ensures { IsTrue result ↔ ((y : Entry) → entry_at evidence.now.evidence t ≡ Some y
+        → Descends evidence.now.evidence.player evidence.now.game priority rank.now y.rank) }
 {
     evidence.known();
     match evidence.get(t) {

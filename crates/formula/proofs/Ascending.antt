@@ -25,10 +25,12 @@ AreOrdered (x ∷ []) = Unit {0}
 AreOrdered (x ∷ y ∷ names) = (is_after x y ≡ false) × AreOrdered (y ∷ names)
 
 -- a name in its place among ordered ones, after one that it comes after
-placed_after : (y x : List ℕ) (names : List (List ℕ)) → is_after y x ≡ false → AreOrdered (y ∷ names) → AreOrdered (with_name x names) → AreOrdered (y ∷ with_name x names)
+placed_after : (y x : List ℕ) (names : List (List ℕ)) → is_after y x ≡ false → AreOrdered (y ∷ names) → AreOrdered (with_name x names)
+    → AreOrdered (y ∷ with_name x names)
 placed_after y x [] h o w = (h, tt)
 placed_after y x (z ∷ names) h o w =
-    elim (is_after x z) as (λ b. AreOrdered (if b then z ∷ with_name x names else x ∷ z ∷ names) → AreOrdered (y ∷ (if b then z ∷ with_name x names else x ∷ z ∷ names))) [
+    elim (is_after x z) as (λ b. AreOrdered (if b then z ∷ with_name x names else x ∷ z ∷ names)
+    → AreOrdered (y ∷ (if b then z ∷ with_name x names else x ∷ z ∷ names))) [
       | true ↦ λ w. (o.0, w)
       | false ↦ λ w. (h, w)
     ] w

@@ -44,7 +44,8 @@ left-first xs ys at n m place h le = (first-left xs ys place h.0, let w : place 
 pub joined-shorter : (mark : Infix) (r s : RegSyntax) → length (reg_tokens r) ≤ length (reg_tokens (infixed mark r s))
 joined-shorter mark r s = let e = ap length (infixed-tokens mark r s) in omega (arith, length-append (reg_tokens r) (infix_token mark ∷ reg_tokens s))
 
-pub actions-first : (mark : Infix) (r s : RegSyntax) (at place : ℕ) → joins_actions mark ≡ true → IsChecked (operand_fault r at (reg_faults at r)) at (length (reg_tokens r)) (Err place)
+pub actions-first : (mark : Infix) (r s : RegSyntax) (at place : ℕ) → joins_actions mark ≡ true
+    → IsChecked (operand_fault r at (reg_faults at r)) at (length (reg_tokens r)) (Err place)
     → IsChecked (reg_faults at (infixed mark r s)) at (length (reg_tokens (infixed mark r s))) (Err place)
 actions-first sign.And r s at place e h = left-first _ _ at _ _ place h (joined-shorter sign.And r s)
 actions-first sign.Or r s at place e h = left-first _ _ at _ _ place h (joined-shorter sign.Or r s)
@@ -52,7 +53,8 @@ actions-first sign.Implies r s at place e h = left-first _ _ at _ _ place h (joi
 actions-first sign.Then r s at place e h = absurd (true≢false (sym e))
 actions-first sign.Either r s at place e h = absurd (true≢false (sym e))
 
-pub regulars-first : (mark : Infix) (r s : RegSyntax) (at place : ℕ) → joins_actions mark ≡ false → IsChecked (reg_faults at r) at (length (reg_tokens r)) (Err place)
+pub regulars-first : (mark : Infix) (r s : RegSyntax) (at place : ℕ) → joins_actions mark ≡ false
+    → IsChecked (reg_faults at r) at (length (reg_tokens r)) (Err place)
     → IsChecked (reg_faults at (infixed mark r s)) at (length (reg_tokens (infixed mark r s))) (Err place)
 regulars-first sign.And r s at place e h = absurd (true≢false e)
 regulars-first sign.Or r s at place e h = absurd (true≢false e)

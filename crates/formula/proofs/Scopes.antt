@@ -24,13 +24,15 @@ same-not false false = refl
 pub negated-scope : (b : Binders) (parity : Bool) → negated (scope_of b parity) ≡ scope_of b (not parity)
 negated-scope binders.Empty parity = refl
 negated-scope (binders.Binder' name under p outer) parity =
-    ap (λ x. (name.now, x) ∷ negated (scope_of outer parity)) (same-not under parity) ∙ ap (λ xs. (name.now, same under (not parity)) ∷ xs) (negated-scope outer parity)
+    ap (λ x. (name.now, x) ∷ negated (scope_of outer parity)) (same-not under parity)
+    ∙ ap (λ xs. (name.now, same under (not parity)) ∷ xs) (negated-scope outer parity)
 
 pub joined-variables : (mark : Connective) (b : Binders) (parity : Bool) (at : ℕ) (f g : Syntax) → variable_faults (scope_of b parity) at (joined mark f g)
     ≡ variable_faults (scope_of b (left_parity mark parity)) at f ++ variable_faults (scope_of b parity) (at + (length (tokens f) + 1)) g
 joined-variables connective.And b parity at f g = refl
 joined-variables connective.Or b parity at f g = refl
-joined-variables connective.Implies b parity at f g = ap (λ scope. variable_faults scope at f ++ variable_faults (scope_of b parity) (at + (length (tokens f) + 1)) g) (negated-scope b parity)
+joined-variables connective.Implies b parity at f g = ap (λ scope. variable_faults scope at f
+    ++ variable_faults (scope_of b parity) (at + (length (tokens f) + 1)) g) (negated-scope b parity)
 
 pub joined-count : (mark : Connective) (f g : Syntax) → length (tokens (joined mark f g)) ≡ length (tokens f) + 1 + length (tokens g)
 joined-count mark f g = let e = ap length (joined-tokens mark f g) in omega (arith, length-append (tokens f) (connective_token mark ∷ tokens g))
@@ -54,13 +56,18 @@ pub variables-second : (mark : Connective) (b : Binders) (parity : Bool) (at nex
 variables-second mark b parity at next f g result none e h =
     let places : next + 1 ≡ at + (length (tokens f) + 1) = omega arith in
     let whole : variable_faults (scope_of b parity) at (joined mark f g) ≡ variable_faults (scope_of b parity) (next + 1) g
-    = joined-variables mark b parity at f g ∙ ap (λ xs. xs ++ variable_faults (scope_of b parity) (at + (length (tokens f) + 1)) g) none ∙ ap (λ k. variable_faults (scope_of b parity) k g) (sym places) in
+    = joined-variables mark b parity at f g ∙ ap (λ xs. xs ++ variable_faults (scope_of b parity) (at + (length (tokens f) + 1)) g) none
+    ∙ ap (λ k. variable_faults (scope_of b parity) k g) (sym places) in
     let n = joined-count mark f g in
     let ends : next + 1 + length (tokens g) ≡ at + length (tokens (joined mark f g)) = omega arith in
-    at-end _ (next + 1) (length (tokens g)) at (length (tokens (joined mark f g))) result (subst (λ (xs : List (ℕ × FormulaFault)). AreChecked xs (next + 1) (length (tokens g)) result) (sym whole) h) ends
+    at-end _ (next + 1) (length (tokens g)) at (length (tokens (joined mark f g))) result
+    (subst (λ (xs : List (ℕ × FormulaFault)). AreChecked xs (next + 1) (length (tokens g)) result) (sym whole) h) ends
 
-pub variables-under : (b : Binders) (parity : Bool) (at : ℕ) (f : Syntax) (result : Result ℕ Misplaced) → AreChecked (variable_faults (scope_of b (not parity)) (at + 1) f) (at + 1) (length (tokens f)) result
+pub variables-under : (b : Binders) (parity : Bool) (at : ℕ) (f : Syntax) (result : Result ℕ Misplaced)
+    → AreChecked (variable_faults (scope_of b (not parity)) (at + 1) f) (at + 1) (length (tokens f)) result
     → AreChecked (variable_faults (scope_of b parity) at (Neg' f)) at (length (tokens (Neg' f))) result
 variables-under b parity at f result h =
-    let whole : variable_faults (scope_of b (not parity)) (at + 1) f ≡ variable_faults (negated (scope_of b parity)) (at + 1) f = ap (λ scope. variable_faults scope (at + 1) f) (sym (negated-scope b parity)) in
-    at-end _ (at + 1) (length (tokens f)) at (length (tokens (Neg' f))) result (subst (λ (xs : List (ℕ × FormulaFault)). AreChecked xs (at + 1) (length (tokens f)) result) whole h) (omega arith)
+    let whole : variable_faults (scope_of b (not parity)) (at + 1) f
+    ≡ variable_faults (negated (scope_of b parity)) (at + 1) f = ap (λ scope. variable_faults scope (at + 1) f) (sym (negated-scope b parity)) in
+    at-end _ (at + 1) (length (tokens f)) at (length (tokens (Neg' f))) result
+    (subst (λ (xs : List (ℕ × FormulaFault)). AreChecked xs (at + 1) (length (tokens f)) result) whole h) (omega arith)

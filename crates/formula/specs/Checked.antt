@@ -26,7 +26,8 @@ is_variable_fault _ = false
 -- the same of variables
 abbrev pub AreChecked : List (ℕ × FormulaFault) → ℕ → ℕ → Result ℕ Misplaced → Type 0
 AreChecked faults at count result =
-    MatchResult result (λ next. (next ≡ at + count) × (faults ≡ [])) (λ found. (slice_get faults 0 ≡ Some (found.place, found.fault)) × (found.place < at + count) × IsTrue (is_variable_fault found.fault))
+    MatchResult result (λ next. (next ≡ at + count) × (faults ≡ []))
+    (λ found. (slice_get faults 0 ≡ Some (found.place, found.fault)) × (found.place < at + count) × IsTrue (is_variable_fault found.fault))
 
 -- the parity of the negations around the left side of a sign
 abbrev pub left_parity : Connective → Bool → Bool
@@ -50,7 +51,8 @@ abbrev pub IsTreeRefusal : Syntax → List ℕ → FormulaError → Type 0
 IsTreeRefusal s places (refused.Fault fault.NotAnAction offset) =
     (first : ℕ) × (others : List ℕ) × (operand_faults 0 s ≡ first ∷ others) × (slice_get places first ≡ Some offset)
 IsTreeRefusal s places (refused.Fault other offset) =
-    (first : ℕ) × (others : List (ℕ × FormulaFault)) × (operand_faults 0 s ≡ []) × (variable_faults [] 0 s ≡ (first, other) ∷ others) × (slice_get places first ≡ Some offset)
+    (first : ℕ) × (others : List (ℕ × FormulaFault)) × (operand_faults 0 s ≡ []) × (variable_faults [] 0 s ≡ (first, other) ∷ others)
+    × (slice_get places first ≡ Some offset)
 IsTreeRefusal s places refused.Memory = ⊥
 
 -- the fault that an error tells, with its place: none for want of memory

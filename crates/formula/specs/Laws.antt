@@ -30,4 +30,5 @@ OneFault = (text : List ℕ) (f g : FormulaFault) (p q : ℕ) → HasFault text 
 
 -- It can't be that a text has neither: an admitted formula that it spells within the limits, or a deciding fault.
 abbrev pub Decided : Type 0
-Decided = (text : List ℕ) → (((f : Formula) × SpellsWithin text f × IsAdmitted f) → ⊥) → (((fault : FormulaFault) × (place : ℕ) × HasFault text fault place) → ⊥) → ⊥
+Decided = (text : List ℕ) → (((f : Formula) × SpellsWithin text f × IsAdmitted f) → ⊥)
+    → (((fault : FormulaFault) × (place : ℕ) × HasFault text fault place) → ⊥) → ⊥

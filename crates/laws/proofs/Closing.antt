@@ -27,11 +27,13 @@ negated_in name [] h = h
 negated_in name (b ∷ scope) (inl e) = inl e
 negated_in name (b ∷ scope) (inr i) = inr (negated_in name scope i)
 
-binds_two : (P : ℕ → Type 0) (flag : Bool) (left right : ℕ → Norm) (at : ℕ) → ((k : ℕ) → Binds P k (left k)) → ((k : ℕ) → Binds P k (right k)) → Binds P at (two flag left right at)
+binds_two : (P : ℕ → Type 0) (flag : Bool) (left right : ℕ → Norm) (at : ℕ) → ((k : ℕ) → Binds P k (left k)) → ((k : ℕ) → Binds P k (right k))
+    → Binds P at (two flag left right at)
 binds_two P flag left right at x y = (x (at + 1), y (at + 1 + size (left (at + 1))))
 
 binds_loop : (P : ℕ → Type 0) (flag : Bool) (step : (ℕ → Norm) → ℕ → Norm) (f : ℕ → Norm) (at : ℕ)
-    → ((Q : ℕ → Type 0) (g : ℕ → Norm) → ((k : ℕ) → Binds Q k (g k)) → (k : ℕ) → Binds Q k (step g k)) → ((k : ℕ) → Binds P k (f k)) → Binds P at (loop_of flag step f at)
+    → ((Q : ℕ → Type 0) (g : ℕ → Norm) → ((k : ℕ) → Binds Q k (g k)) → (k : ℕ) → Binds Q k (step g k)) → ((k : ℕ) → Binds P k (f k))
+    → Binds P at (loop_of flag step f at)
 binds_loop P flag step f at each x =
     binds_two (λ b. (b ≡ at) ⊎ P b) flag f (step (λ _. Variable at)) (at + 1) (λ k. binds_map P (λ b. (b ≡ at) ⊎ P b) k (f k) (λ b p. inr p) (x k))
     (each (λ b. (b ≡ at) ⊎ P b) (λ _. Variable at) (λ k. inl refl))
@@ -41,7 +43,8 @@ binds_modal flag (Step a) P f x at = x (at + 1)
 binds_modal flag (Then r s) P f x at = binds_modal flag r P (modal flag s f) (binds_modal flag s P f x) at
 binds_modal flag (Either r s) P f x at = binds_two P flag (modal flag r f) (modal flag s f) at (binds_modal flag r P f x) (binds_modal flag s P f x)
 binds_modal flag (Star r) P f x at = binds_loop P flag (modal flag r) f at (λ Q g y k. binds_modal flag r Q g y k) x
-binds_modal flag (Plus r) P f x at = binds_modal flag r P (loop_of flag (modal flag r) f) (λ k. binds_loop P flag (modal flag r) f k (λ Q g y j. binds_modal flag r Q g y j) x) at
+binds_modal flag (Plus r) P f x at = binds_modal flag r P (loop_of flag (modal flag r) f)
+    (λ k. binds_loop P flag (modal flag r) f k (λ Q g y j. binds_modal flag r Q g y j) x) at
 
 -- the binders of the names of the scope
 abbrev Names : (ℕ → Type 0) → (List ℕ → ℕ) → Scope → Type 0
@@ -56,7 +59,8 @@ inner_names P binders scope name at x other (inr i) = elim (cases (bytes_eq othe
   | inr e ↦ inr (subst P (sym (if_false (bytes_eq other name) at (binders other) e)) (x other i))
 ]
 
-binds_norm : (f : Formula) (flag : Bool) (P : ℕ → Type 0) (binders : List ℕ → ℕ) (scope : Scope) → Names P binders scope → is_admitted_in scope f ≡ true → (at : ℕ)
+binds_norm : (f : Formula) (flag : Bool) (P : ℕ → Type 0) (binders : List ℕ → ℕ) (scope : Scope) → Names P binders scope → is_admitted_in scope f ≡ true
+    → (at : ℕ)
     → Binds P at (norm flag binders f at)
 binds_norm True flag P binders scope x h at = tt
 binds_norm False flag P binders scope x h at = tt

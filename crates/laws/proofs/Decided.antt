@@ -25,7 +25,8 @@ use Rattle.laws.proofs.Normed.{normal_form_means}
 use Rattle.laws.proofs.Nested.{nested_is_admissible}
 
 -- the least table isn't top where another progress table isn't
-under_least : (g : Game) (table : List Measure) (v : ℕ) → IsLeastTable g table → v < length g.vertices → (t : List Measure) × IsProgress g t × (value_at t v ≢ Top) → value_at table v ≢ Top
+under_least : (g : Game) (table : List Measure) (v : ℕ) → IsLeastTable g table → v < length g.vertices → (t : List Measure) × IsProgress g t
+    × (value_at t v ≢ Top) → value_at table v ≢ Top
 under_least g table v least lt w e = w.2 (top_last (value_at w.0 v) (subst (λ m. IsAtMost m (value_at w.0 v)) e (least.under v lt w.0 w.1)))
 
 wins_inside : (g : Game) (v : ℕ) → Wins g v → v < length g.vertices

@@ -69,5 +69,6 @@ chosen_is_admissible Dependent f admitted =
     record {
       shapes = (nodes_follow dependent (normal_form f)).0;
       closed = normal_closed f admitted;
-      admissible = (admissible_from_inside (normal_form f) (priority_in nodes) (normal_closed f admitted)).1 (is_above (priority_in nodes) 0 (normal_form f) (nodes_follow dependent (normal_form f)).1);
+      admissible = (admissible_from_inside (normal_form f) (priority_in nodes) (normal_closed f admitted)).1
+          (is_above (priority_in nodes) 0 (normal_form f) (nodes_follow dependent (normal_form f)).1);
     }

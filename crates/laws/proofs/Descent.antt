@@ -29,7 +29,8 @@ module _ (l : System) (prio : ℕ → ℕ) (A : Type 0) (c : Comparison A) (val 
   abbrev pub IsDown : ℕ → Norm → Type 0
   IsDown at (Constant flag) = (s : ℕ) → s < l.states → IsFinite s at → flag ≡ true
   IsDown at (Junction flag f g) =
-      (s : ℕ) → s < l.states → IsFinite s at → Joined flag (IsTrue (c.over false 0 (val s (at + 1)) (val s at))) (IsTrue (c.over false 0 (val s (at + 1 + size f)) (val s at)))
+      (s : ℕ) → s < l.states → IsFinite s at → Joined flag (IsTrue (c.over false 0 (val s (at + 1)) (val s at)))
+      (IsTrue (c.over false 0 (val s (at + 1 + size f)) (val s at)))
   IsDown at (Modality flag a f) =
       (s : ℕ) → s < l.states → IsFinite s at → Reached flag (λ t. Contains (targets l a s) t) (λ t. IsTrue (c.over false 0 (val t (at + 1)) (val s at)))
   IsDown at (Fixpoint flag f) = (s : ℕ) → s < l.states → IsFinite s at → IsTrue (c.over flag (prio at) (val s (at + 1)) (val s at))
@@ -48,7 +49,8 @@ module _ (l : System) (prio : ℕ → ℕ) (A : Type 0) (c : Comparison A) (val 
 
   -- what covers a value covers those that are at most it
   less_covered : (e : Sets) (at : ℕ) (f : Norm) (m r : A) → IsTrue (c.over false 0 r m) → Covers e at f m → Covers e at f r
-  less_covered e at f m r h cover b free t lt k = cover b free t lt (c.trans false false (prio b) (val t b) r m k (c.coarser false 0 (prio b) r m (below_zero (prio b)) h))
+  less_covered e at f m r h cover b free t lt k = cover b free t lt
+      (c.trans false false (prio b) (val t b) r m k (c.coarser false 0 (prio b) r m (below_zero (prio b)) h))
 
   -- the environment of a fixpoint's body
   inner_covered : (e : Sets) (at : ℕ) (f : Norm) (set : ℕ → Bool) (m r : A) →
@@ -73,7 +75,8 @@ module _ (l : System) (prio : ℕ → ℕ) (A : Type 0) (c : Comparison A) (val 
       omega arith
 
   -- At a mu the states of lower value are fewer with each turn; at a nu each number of turns will do.
-  fixpoint_sound : (flag : Bool) (f : Norm) (at : ℕ) → IsDown at (Fixpoint flag f) → IsFitting prio at (Fixpoint flag f) → IsSound (at + 1) f → IsSound at (Fixpoint flag f)
+  fixpoint_sound : (flag : Bool) (f : Norm) (at : ℕ) → IsDown at (Fixpoint flag f) → IsFitting prio at (Fixpoint flag f) → IsSound (at + 1) f
+      → IsSound at (Fixpoint flag f)
   fixpoint_sound flag f at down fits inside e s lt fin cover = go l.states s lt fin
       (λ is. less_than l.states (λ t. c.over true (prio at) (val t at) (val s at)) s lt (c.not_itself (prio at) (val s at))) cover
     where
@@ -81,13 +84,15 @@ module _ (l : System) (prio : ℕ → ℕ) (A : Type 0) (c : Comparison A) (val 
       start true n few = let h = few refl in absurd (omega arith)
       start false n few = refl
 
-      go : (j : ℕ) (s : ℕ) → s < l.states → IsFinite s at → (flag ≡ true → lower at s < j) → Covers e at (Fixpoint flag f) (val s at) → iterates flag l at f e j s ≡ true
+      go : (j : ℕ) (s : ℕ) → s < l.states → IsFinite s at → (flag ≡ true → lower at s < j) → Covers e at (Fixpoint flag f) (val s at)
+          → iterates flag l at f e j s ≡ true
       go zero s lt fin few cover = start flag (lower at s) few
       go (suc j) s lt fin few cover =
           let here = down s lt fin in
           let weak : IsTrue (c.over false (prio at) (val s (at + 1)) (val s at)) = c.coarser flag (prio at) (prio at) _ _ (omega arith) here in
           inside (put e at (iterates flag l at f e j)) s lt (c.finite flag (prio at) _ _ here)
-          (inner_covered e at f (iterates flag l at f e j) (val s at) (val s (at + 1)) (λ b out free. fits.1 b (out, free)) weak (λ b out free. cover b (out, free))
+          (inner_covered e at f (iterates flag l at f e j) (val s at) (val s (at + 1)) (λ b out free. fits.1 b (out, free)) weak
+          (λ b out free. cover b (out, free))
           (λ t tl k.
           go j t tl (c.finite false (prio at) _ _ k)
           (λ is. few_more at s t tl (subst (λ x. IsTrue (c.over x (prio at) (val t at) (val s at))) is (c.trans false flag (prio at) _ _ _ k here)) j (few is))
@@ -101,7 +106,8 @@ module _ (l : System) (prio : ℕ → ℕ) (A : Type 0) (c : Comparison A) (val 
       (junction_is flag (sat l (at + 1) f e s) (sat l (at + 1 + size f) g e s)).1
       (joined_map flag
       (λ go. sound f (at + 1) down.1 fits.1 e s lt (c.finite false 0 _ _ go) (less_covered e (at + 1) f _ _ go (λ b free. cover b (inl free))))
-      (λ go. sound g (at + 1 + size f) down.2 fits.2 e s lt (c.finite false 0 _ _ go) (less_covered e (at + 1 + size f) g _ _ go (λ b free. cover b (inr free))))
+      (λ go. sound g (at + 1 + size f) down.2 fits.2 e s lt (c.finite false 0 _ _ go)
+      (less_covered e (at + 1 + size f) g _ _ go (λ b free. cover b (inr free))))
       (down.0 s lt fin))
   sound (Modality flag a f) at down fits e s lt fin cover =
       (modality_is flag (sat l (at + 1) f e) (targets l a s)).1
@@ -115,10 +121,12 @@ module _ (l : System) (prio : ℕ → ℕ) (A : Type 0) (c : Comparison A) (val 
   abbrev pub Fills : Sets → ℕ → Norm → Type 0
   Fills e at f = (b : ℕ) → IsFree b at f → (t : ℕ) → t < l.states → IsFinite t b → e b t ≡ true
 
-  filled : (f : Norm) (at : ℕ) → IsEach IsDown at f → IsEach (IsFitting prio) at f → (e : Sets) → Fills e at f → (s : ℕ) → s < l.states → IsFinite s at → sat l at f e s ≡ true
+  filled : (f : Norm) (at : ℕ) → IsEach IsDown at f → IsEach (IsFitting prio) at f → (e : Sets) → Fills e at f → (s : ℕ) → s < l.states → IsFinite s at
+      → sat l at f e s ≡ true
   filled f at down fits e fills s lt fin = sound f at down fits e s lt fin (λ b free t tl k. fills b free t tl (c.finite false (prio b) _ _ k))
 
-  inner_filled : (f : Norm) (at : ℕ) (e : Sets) (set : ℕ → Bool) → ((b : ℕ) → (b ≡ at → ⊥) → IsFree b (at + 1) f → (t : ℕ) → t < l.states → IsFinite t b → e b t ≡ true) →
+  inner_filled : (f : Norm) (at : ℕ) (e : Sets) (set : ℕ → Bool)
+      → ((b : ℕ) → (b ≡ at → ⊥) → IsFree b (at + 1) f → (t : ℕ) → t < l.states → IsFinite t b → e b t ≡ true) →
       ((t : ℕ) → t < l.states → IsFinite t at → set t ≡ true) → Fills (put e at set) (at + 1) f
   inner_filled f at e set fills own b free t tl fin = elim (same_or_not b at) [
     | inl i ↦ ap (λ (u : ℕ → Bool). u t) (put_here e at set b i) ∙ own t tl (subst (λ x. IsFinite t x) i fin)
@@ -130,7 +138,8 @@ module _ (l : System) (prio : ℕ → ℕ) (A : Type 0) (c : Comparison A) (val 
   filled_root f at down fits e fills s k lt i fin = true_root l at f e k s i (filled f at down fits e fills s lt (subst (λ x. IsFinite s x) i fin))
 
   -- at every node
-  pub everywhere : (f : Norm) (at : ℕ) → IsEach IsDown at f → IsEach (IsFitting prio) at f → (e : Sets) → Fills e at f → (s k : ℕ) → s < l.states → IsWithin at f k
+  pub everywhere : (f : Norm) (at : ℕ) → IsEach IsDown at f → IsEach (IsFitting prio) at f → (e : Sets) → Fills e at f → (s k : ℕ) → s < l.states
+      → IsWithin at f k
       → IsFinite s k → sets l at f e k s ≡ true
   everywhere (Constant flag) at down fits e fills s k lt w fin = filled_root (Constant flag) at down fits e fills s k lt (omega (arith, w.from, w.to)) fin
   everywhere (Junction flag f g) at down fits e fills s k lt w fin =

@@ -48,7 +48,8 @@ own_of l n (ConstantNode false) c s x o = absurd (true≢false (sym x))
 own_of l n (JunctionNode false a b) c s x o = odd_even o
 own_of l n (JunctionNode true a b) c s (inl e) o = at_head (place n s a) (place n s c) (place n s b ∷ []) (ap (place n s) e)
 own_of l n (JunctionNode true a b) c s (inr e) o = at_second (place n s a) (place n s b) (place n s c) (ap (place n s) e)
-own_of l n (ModalityNode true act child) c s x o = in_or_else (map (λ t. place n t child) (targets l act s)) 1 (place n c child) (in_map (λ t. place n t child) (targets l act s) c x)
+own_of l n (ModalityNode true act child) c s x o = in_or_else (map (λ t. place n t child) (targets l act s)) 1 (place n c child)
+    (in_map (λ t. place n t child) (targets l act s) c x)
 own_of l n (ModalityNode false act child) c s x o = odd_even o
 own_of l n (FixpointNode flag child) c s x o = at_head (place n s child) (place n s child) [] refl
 own_of l n (VariableNode b) c s x o = at_head (place n s b) (place n s b) [] refl
@@ -62,7 +63,8 @@ pub record IsLed (l : System) (n : ℕ) (sh : Shape) (c s t : ℕ) : Type 0 wher
   pub moves : Moves l sh c s state node
 
 -- an edge at a vertex of this shape leads to the true sink, or as a move does
-pub led : (l : System) (n : ℕ) (sh : Shape) (c s t : ℕ) → IsChoice l sh c s → ((owner_of sh ≡ Even) × (t ≡ to_vertex n sh c s)) ⊎ ((owner_of sh ≢ Even) × Contains (successors_of l n s sh) t)
+pub led : (l : System) (n : ℕ) (sh : Shape) (c s t : ℕ) → IsChoice l sh c s → ((owner_of sh ≡ Even) × (t ≡ to_vertex n sh c s))
+    ⊎ ((owner_of sh ≢ Even) × Contains (successors_of l n s sh) t)
     → (t ≡ 0) ⊎ IsLed l n sh c s t
 led l n (ConstantNode flag) c s t x (inl o) = inl o.1
 led l n (ConstantNode flag) c s t x (inr o) = absurd (o.0 refl)
@@ -78,7 +80,8 @@ led l n (ModalityNode true act child) c s t x (inr o) = absurd (o.0 refl)
 led l n (ModalityNode false act child) c s t x (inl o) = odd_even o.0
 led l n (ModalityNode false act child) c s t x (inr o) = elim (of_or_else (map (λ t. place n t child) (targets l act s)) 0 t o.1) [
   | inl e ↦ inl e
-  | inr i ↦ (let m = of_map (λ t. place n t child) (targets l act s) t i in inr (record { state = m.0; node = child; is = sym m.2; next = refl; moves = (m.1, tt) }))
+  | inr i ↦ (let m = of_map (λ t. place n t child) (targets l act s) t i
+      in inr (record { state = m.0; node = child; is = sym m.2; next = refl; moves = (m.1, tt) }))
 ]
 led l n (FixpointNode flag child) c s t x (inl o) = inr (record { state = s; node = child; is = o.1; next = refl; moves = refl })
 led l n (FixpointNode flag child) c s t x (inr o) = absurd (o.0 refl)

@@ -22,7 +22,8 @@ put_mono n e d b p q ed pq k = elim (k == b) as (λ t. IsIn n (if t then p else 
 join_mono : (n m : ℕ) (e d x y : Sets) → AreIn n e d → AreIn n x y → AreIn n (join m e x) (join m d y)
 join_mono n m e d x y ed xy k = elim (nat_lt k m) as (λ t. IsIn n (if t then e k else x k) (if t then d k else y k)) [ true ↦ ed k | false ↦ xy k ]
 
-turns_mono : (n : ℕ) (i : ℕ) (F G : (ℕ → Bool) → ℕ → Bool) (p : ℕ → Bool) → ((u v : ℕ → Bool) → IsIn n u v → IsIn n (F u) (G v)) → IsIn n (turns i F p) (turns i G p)
+turns_mono : (n : ℕ) (i : ℕ) (F G : (ℕ → Bool) → ℕ → Bool) (p : ℕ → Bool) → ((u v : ℕ → Bool) → IsIn n u v → IsIn n (F u) (G v))
+    → IsIn n (turns i F p) (turns i G p)
 turns_mono n zero F G p FG s h x = x
 turns_mono n (suc i) F G p FG s h x = FG (turns i F p) (turns i G p) (turns_mono n i F G p FG) s h x
 
@@ -32,14 +33,16 @@ module _ (l : System) where
   mono at (Constant flag) e d ed s h x = x
   mono at (Junction flag f g) e d ed s h x =
       (junction_is flag (sat l (at + 1) f d s) (sat l (at + 1 + size f) g d s)).1
-      (joined_map flag (mono (at + 1) f e d ed s h) (mono (at + 1 + size f) g e d ed s h) ((junction_is flag (sat l (at + 1) f e s) (sat l (at + 1 + size f) g e s)).0 x))
+      (joined_map flag (mono (at + 1) f e d ed s h) (mono (at + 1 + size f) g e d ed s h)
+      ((junction_is flag (sat l (at + 1) f e s) (sat l (at + 1 + size f) g e s)).0 x))
   mono at (Modality flag a f) e d ed s h x =
       (modality_is flag (sat l (at + 1) f d) (targets l a s)).1
       (reached_map flag (λ t. Contains (targets l a s) t) (λ t. sat l (at + 1) f e t ≡ true) (λ t. sat l (at + 1) f d t ≡ true)
       (λ t k. mono (at + 1) f e d ed t (target_below l a s t k))
       ((modality_is flag (sat l (at + 1) f e) (targets l a s)).0 x))
   mono at (Fixpoint flag f) e d ed s h x =
-      turns_mono l.states l.states (body l at f e) (body l at f d) (from flag) (λ u v uv. mono (at + 1) f (put e at u) (put d at v) (put_mono l.states e d at u v ed uv)) s h x
+      turns_mono l.states l.states (body l at f e) (body l at f d) (from flag)
+      (λ u v uv. mono (at + 1) f (put e at u) (put d at v) (put_mono l.states e d at u v ed uv)) s h x
   mono at (Variable b) e d ed s h x = ed b s h x
 
   -- a fixpoint's body is monotone
@@ -50,13 +53,15 @@ module _ (l : System) where
   pub sets_mono : (at : ℕ) (f : Norm) (e d : Sets) → AreIn l.states e d → AreIn l.states (sets l at f e) (sets l at f d)
   sets_mono at (Constant flag) e d ed = put_mono l.states e d at (λ s. flag) (λ s. flag) ed (λ s h x. x)
   sets_mono at (Junction flag f g) e d ed =
-      put_mono l.states (join (at + 1 + size f) (sets l (at + 1) f e) (sets l (at + 1 + size f) g e)) (join (at + 1 + size f) (sets l (at + 1) f d) (sets l (at + 1 + size f) g d)) at
+      put_mono l.states (join (at + 1 + size f) (sets l (at + 1) f e) (sets l (at + 1 + size f) g e))
+      (join (at + 1 + size f) (sets l (at + 1) f d) (sets l (at + 1 + size f) g d)) at
       (sat l at (Junction flag f g) e) (sat l at (Junction flag f g) d)
       (join_mono l.states (at + 1 + size f) (sets l (at + 1) f e) (sets l (at + 1) f d) (sets l (at + 1 + size f) g e) (sets l (at + 1 + size f) g d)
       (sets_mono (at + 1) f e d ed) (sets_mono (at + 1 + size f) g e d ed))
       (mono at (Junction flag f g) e d ed)
   sets_mono at (Modality flag a f) e d ed =
-      put_mono l.states (sets l (at + 1) f e) (sets l (at + 1) f d) at (sat l at (Modality flag a f) e) (sat l at (Modality flag a f) d) (sets_mono (at + 1) f e d ed)
+      put_mono l.states (sets l (at + 1) f e) (sets l (at + 1) f d) at (sat l at (Modality flag a f) e) (sat l at (Modality flag a f) d)
+      (sets_mono (at + 1) f e d ed)
       (mono at (Modality flag a f) e d ed)
   sets_mono at (Fixpoint flag f) e d ed =
       sets_mono (at + 1) f (put e at (sat l at (Fixpoint flag f) e)) (put d at (sat l at (Fixpoint flag f) d))

@@ -26,14 +26,16 @@ module _ (prio : ℕ → ℕ) where
   above at f fits = each_map (λ k g. IsEach (IsFitting prio) k g) (IsAboveInner prio) at f part_above (each_each (IsFitting prio) at f fits)
 
   -- P the binders around the tree: what is above inside fits
-  fitting : (P : ℕ → Type 0) (at : ℕ) (f : Norm) → IsEach (IsAboveInner prio) at f → Binds P at f → ((b : ℕ) → P b → IsEach (IsUnder b) at f) → IsEach (IsFitting prio) at f
+  fitting : (P : ℕ → Type 0) (at : ℕ) (f : Norm) → IsEach (IsAboveInner prio) at f → Binds P at f → ((b : ℕ) → P b → IsEach (IsUnder b) at f)
+      → IsEach (IsFitting prio) at f
   fitting P at (Constant flag) h binds outer = h
   fitting P at (Junction flag f g) h binds outer =
       (h.0, fitting P (at + 1) f h.1 binds.0 (λ b p. (outer b p).1), fitting P (at + 1 + size f) g h.2 binds.1 (λ b p. (outer b p).2))
   fitting P at (Modality flag a f) h binds outer = (h.0, fitting P (at + 1) f h.1 binds (λ b p. (outer b p).1))
   fitting P at (Fixpoint flag f) h binds outer = (
     (h.0.0, λ b free. (outer b (to_free P at (Fixpoint flag f) binds b free)).0 free),
-    fitting (λ b. (b ≡ at) ⊎ P b) (at + 1) f h.1 binds (λ b p. elim p [ inl e ↦ subst (λ x. IsEach (IsUnder x) (at + 1) f) (sym e) h.0.1 | inr q ↦ (outer b q).1 ]),
+    fitting (λ b. (b ≡ at) ⊎ P b) (at + 1) f h.1 binds (λ b p. elim p
+        [ inl e ↦ subst (λ x. IsEach (IsUnder x) (at + 1) f) (sym e) h.0.1 | inr q ↦ (outer b q).1 ]),
   )
   fitting P at (Variable b) h binds outer = h
 

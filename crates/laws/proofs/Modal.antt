@@ -39,13 +39,15 @@ MeansBy l flag step P =
 made : (l : System) (flag : Bool) (step : (ℕ → Norm) → ℕ → Norm) (P : (ℕ → Bool) → ℕ → Type 0) → MeansBy l flag step P →
     (lo : ℕ) (u : ℕ → ℕ → Bool) (F : ℕ → Norm) (p : ℕ → Bool) → Makes l lo u F p → Makes l lo u (step F) (sat l lo (step F lo) u)
 made l flag step P by lo u F p makes at low v agree s lt =
-    same_test flag (sat l at (step F at) v s) (sat l lo (step F lo) u s) (P p s) (by lo u F p makes at low v agree s lt) (by lo u F p makes lo (at_most_itself lo) u (λ b h. refl) s lt)
+    same_test flag (sat l at (step F at) v s) (sat l lo (step F lo) u s) (P p s) (by lo u F p makes at low v agree s lt)
+    (by lo u F p makes lo (at_most_itself lo) u (λ b h. refl) s lt)
 
 -- ---- two operands, and binders
 
 -- two operands are the flag where one of them is
 pub two_tells : (l : System) (flag : Bool) (L R : ℕ → Norm) (at : ℕ) (v : ℕ → ℕ → Bool) (s : ℕ) →
-    (sat l at (two flag L R at) v s ≡ flag) ↔ ((sat l (at + 1) (L (at + 1)) v s ≡ flag) ⊎ (sat l (at + 1 + size (L (at + 1))) (R (at + 1 + size (L (at + 1)))) v s ≡ flag))
+    (sat l at (two flag L R at) v s ≡ flag) ↔ ((sat l (at + 1) (L (at + 1)) v s ≡ flag)
+    ⊎ (sat l (at + 1 + size (L (at + 1))) (R (at + 1 + size (L (at + 1)))) v s ≡ flag))
 two_tells l flag L R at v s = junction_tells flag (sat l (at + 1) (L (at + 1)) v s) (sat l (at + 1 + size (L (at + 1))) (R (at + 1 + size (L (at + 1)))) v s)
 
 -- tests and sets go through their turns together
@@ -61,14 +63,16 @@ module _ (l : System) (ok : IsSystem l) where
   step_means : (flag : Bool) (a : Action) → MeansBy l flag (modal flag (Step a)) (Reaches l flag (Step a))
   step_means flag a lo u F p makes at low v agree s lt =
       let i = modality_tells flag (sat l (at + 1) (F (at + 1)) v) (targets l a s) in
-      let same : (t : ℕ) → Leads l (Step a) s t → sat l (at + 1) (F (at + 1)) v t ≡ p t = λ t go. makes (at + 1) (omega arith) v agree t (leads_inside l ok (Step a) s t lt go) in (
+      let same : (t : ℕ) → Leads l (Step a) s t → sat l (at + 1) (F (at + 1)) v t
+      ≡ p t = λ t go. makes (at + 1) (omega arith) v agree t (leads_inside l ok (Step a) s t lt go) in (
         λ h. let w = i.0 h in let go = target_leads l a s w.0 w.1 in (w.0, go, sym (same w.0 go) ∙ w.2),
         λ h. i.1 (h.0, leads_target l ok a s h.0 lt h.1, same h.0 h.1 ∙ h.2),
       )
 
   -- ---- one regular formula after another step
 
-  after_means : (flag : Bool) (r : Regular) (step : (ℕ → Norm) → ℕ → Norm) (P : (ℕ → Bool) → ℕ → Type 0) → MeansBy l flag (modal flag r) (Reaches l flag r) → MeansBy l flag step P →
+  after_means : (flag : Bool) (r : Regular) (step : (ℕ → Norm) → ℕ → Norm) (P : (ℕ → Bool) → ℕ → Type 0) → MeansBy l flag (modal flag r) (Reaches l flag r)
+      → MeansBy l flag step P →
       MeansBy l flag (λ F. modal flag r (step F)) (λ p s. (m : ℕ) × Leads l r s m × P p m)
   after_means flag r step P first second lo u F p makes at low v agree s lt =
       let i = first lo u (step F) (sat l lo (step F lo) u) (made l flag step P second lo u F p makes) at low v agree s lt in (
@@ -88,7 +92,8 @@ module _ (l : System) (ok : IsSystem l) where
 
   -- ---- a loop
 
-  module _ (flag : Bool) (r : Regular) (ih : MeansBy l flag (modal flag r) (Reaches l flag r)) (lo : ℕ) (u : ℕ → ℕ → Bool) (F : ℕ → Norm) (p : ℕ → Bool) (makes : Makes l lo u F p) (at : ℕ) (low : lo ≤ at) (v : ℕ → ℕ → Bool) (agree : Agree lo u v) where
+  module _ (flag : Bool) (r : Regular) (ih : MeansBy l flag (modal flag r) (Reaches l flag r)) (lo : ℕ) (u : ℕ → ℕ → Bool) (F : ℕ → Norm) (p : ℕ → Bool)
+      (makes : Makes l lo u F p) (at : ℕ) (low : lo ≤ at) (v : ℕ → ℕ → Bool) (agree : Agree lo u v) where
     abbrev turn : (ℕ → Bool) → ℕ → Bool
     turn set = sat l (at + 1) (two flag F (modal flag r (λ _. Variable at)) (at + 1)) (put v at set)
 
@@ -106,7 +111,8 @@ module _ (l : System) (ok : IsSystem l) where
     turn_tells x s lt =
         let i = two_tells l flag F (modal flag r (λ _. Variable at)) (at + 1) (put v at x) s in
         let e = makes (at + 1 + 1) (omega arith) (put v at x) (still x) s lt in
-        let j = ih (at + 1) (put v at x) (λ _. Variable at) x (var_makes x) (at + 1 + 1 + size (F (at + 1 + 1))) (omega arith) (put v at x) (λ b h. refl) s lt in (
+        let j = ih (at + 1) (put v at x) (λ _. Variable at) x (var_makes x) (at + 1 + 1 + size (F (at + 1 + 1))) (omega arith) (put v at x)
+        (λ b h. refl) s lt in (
           λ h. elim (i.0 h) [ inl k ↦ inl (sym e ∙ k) | inr k ↦ inr (j.0 k) ],
           λ h. i.1 (elim h [ inl k ↦ inl (e ∙ k) | inr k ↦ inr (j.1 k) ]),
         )
@@ -127,7 +133,8 @@ module _ (l : System) (ok : IsSystem l) where
       λ s. under flag (turn (λ t. under flag (d.0 t)) s),
       λ s lt.
           let i = under_is flag (turn (λ t. under flag (d.0 t)) s) in
-          let j = turn_waves (λ t. under flag (d.0 t)) U (λ t tl. (λ h. (d.1 t tl).0 ((under_under flag (d.0 t)).0 h), λ h. (under_under flag (d.0 t)).1 ((d.1 t tl).1 h))) s lt in
+          let j = turn_waves (λ t. under flag (d.0 t)) U (λ t tl.
+          (λ h. (d.1 t tl).0 ((under_under flag (d.0 t)).0 h), λ h. (under_under flag (d.0 t)).1 ((d.1 t tl).1 h))) s lt in
           (λ h. j.0 (i.0 h), λ h. i.1 (j.1 h)),
     )
 
@@ -137,7 +144,8 @@ module _ (l : System) (ok : IsSystem l) where
 
     along : (s : ℕ) (states : List ℕ) (t : ℕ) → s < l.states → IsPath (Leads l r) s states t → p t ≡ flag → iterate l.states wave (λ t. ⊥) s
     along s [] t lt path k = low_closed l.states wave wave_grows wave_decides s lt (inl (subst (λ x. p x ≡ flag) (sym path) k))
-    along s (m ∷ states) t lt path k = low_closed l.states wave wave_grows wave_decides s lt (inr (m, path.0, along m states t (leads_inside l ok r s m lt path.0) path.1 k))
+    along s (m ∷ states) t lt path k = low_closed l.states wave wave_grows wave_decides s lt
+        (inr (m, path.0, along m states t (leads_inside l ok r s m lt path.0) path.1 k))
 
     loop_tells : (s : ℕ) → s < l.states → (sat l at (loop_of flag (modal flag r) F at) v s ≡ flag) ↔ Reaches l flag (Star r) p s
     loop_tells s lt =
@@ -146,7 +154,8 @@ module _ (l : System) (ok : IsSystem l) where
           λ h. i.1 (along s h.1.0 h.0 lt h.1.1 h.2),
         )
 
-  loop_means : (flag : Bool) (r : Regular) → MeansBy l flag (modal flag r) (Reaches l flag r) → MeansBy l flag (loop_of flag (modal flag r)) (Reaches l flag (Star r))
+  loop_means : (flag : Bool) (r : Regular) → MeansBy l flag (modal flag r) (Reaches l flag r)
+      → MeansBy l flag (loop_of flag (modal flag r)) (Reaches l flag (Star r))
   loop_means flag r ih lo u F p makes at low v agree s lt = loop_tells flag r ih lo u F p makes at low v agree s lt
 
   pub modal_means : (r : Regular) (flag : Bool) → MeansBy l flag (modal flag r) (Reaches l flag r)
@@ -154,7 +163,8 @@ module _ (l : System) (ok : IsSystem l) where
   modal_means (Then r q) flag lo u F p makes at low v agree s lt =
       let i = after_means flag r (modal flag q) (Reaches l flag q) (modal_means r flag) (modal_means q flag) lo u F p makes at low v agree s lt in
       (λ h. let w = i.0 h in (w.2.0, (w.0, w.1, w.2.1), w.2.2), λ h. i.1 (h.1.0, h.1.1, (h.0, h.1.2, h.2)))
-  modal_means (Either r q) flag lo u F p makes at low v agree s lt = either_means flag r q (modal_means r flag) (modal_means q flag) lo u F p makes at low v agree s lt
+  modal_means (Either r q) flag lo u F p makes at low v agree s lt = either_means flag r q (modal_means r flag)
+      (modal_means q flag) lo u F p makes at low v agree s lt
   modal_means (Star r) flag lo u F p makes at low v agree s lt = loop_means flag r (modal_means r flag) lo u F p makes at low v agree s lt
   modal_means (Plus r) flag lo u F p makes at low v agree s lt =
       let i = after_means flag r (loop_of flag (modal flag r)) (Reaches l flag (Star r)) (modal_means r flag)

@@ -23,16 +23,20 @@ module _ (l : System) where
   sets_low at (Junction flag f g) e k h =
       put_other (join (at + 1 + size f) (sets l (at + 1) f e) (sets l (at + 1 + size f) g e)) at (sat l at (Junction flag f g) e) k (omega arith)
       ∙ (join_left (at + 1 + size f) (sets l (at + 1) f e) (sets l (at + 1 + size f) g e) k (omega arith) ∙ sets_low (at + 1) f e k (omega arith))
-  sets_low at (Modality flag a f) e k h = put_other (sets l (at + 1) f e) at (sat l at (Modality flag a f) e) k (omega arith) ∙ sets_low (at + 1) f e k (omega arith)
-  sets_low at (Fixpoint flag f) e k h = sets_low (at + 1) f (put e at (sat l at (Fixpoint flag f) e)) k (omega arith) ∙ put_other e at (sat l at (Fixpoint flag f) e) k (omega arith)
+  sets_low at (Modality flag a f) e k h = put_other (sets l (at + 1) f e) at (sat l at (Modality flag a f) e) k (omega arith)
+      ∙ sets_low (at + 1) f e k (omega arith)
+  sets_low at (Fixpoint flag f) e k h = sets_low (at + 1) f (put e at (sat l at (Fixpoint flag f) e)) k (omega arith)
+      ∙ put_other e at (sat l at (Fixpoint flag f) e) k (omega arith)
   sets_low at (Variable b) e k h = put_other e at (e b) k (omega arith)
 
   -- the first node's set is the tree's
   pub sets_root : (at : ℕ) (f : Norm) (e : Sets) → sets l at f e at ≡ sat l at f e
   sets_root at (Constant flag) e = put_here e at (λ s. flag) at refl
-  sets_root at (Junction flag f g) e = put_here (join (at + 1 + size f) (sets l (at + 1) f e) (sets l (at + 1 + size f) g e)) at (sat l at (Junction flag f g) e) at refl
+  sets_root at (Junction flag f g) e = put_here (join (at + 1 + size f) (sets l (at + 1) f e) (sets l (at + 1 + size f) g e)) at
+      (sat l at (Junction flag f g) e) at refl
   sets_root at (Modality flag a f) e = put_here (sets l (at + 1) f e) at (sat l at (Modality flag a f) e) at refl
-  sets_root at (Fixpoint flag f) e = sets_low (at + 1) f (put e at (sat l at (Fixpoint flag f) e)) at (omega arith) ∙ put_here e at (sat l at (Fixpoint flag f) e) at refl
+  sets_root at (Fixpoint flag f) e = sets_low (at + 1) f (put e at (sat l at (Fixpoint flag f) e)) at (omega arith)
+      ∙ put_here e at (sat l at (Fixpoint flag f) e) at refl
   sets_root at (Variable b) e = put_here e at (e b) at refl
 
   -- at its own number a tree's set is its test
@@ -56,11 +60,13 @@ module _ (l : System) where
 
     -- in the right operand the operand's sets
     pub right_sets : (k : ℕ) → at + 1 + size f ≤ k → two_sets k ≡ sets l (at + 1 + size f) g e k
-    right_sets k b = put_other (join (at + 1 + size f) (sets l (at + 1) f e) (sets l (at + 1 + size f) g e)) at X k (λ q. omega arith) ∙ join_right (at + 1 + size f)
+    right_sets k b = put_other (join (at + 1 + size f) (sets l (at + 1) f e) (sets l (at + 1 + size f) g e)) at X k (λ q. omega arith)
+        ∙ join_right (at + 1 + size f)
         (sets l (at + 1) f e) (sets l (at + 1 + size f) g e) k b
 
     lower_sets : (k : ℕ) → k < at → two_sets k ≡ sets l (at + 1 + size f) g e k
-    lower_sets k h = left_sets k (λ q. omega arith) (omega arith) ∙ (sets_low (at + 1) f e k (omega arith) ∙ sym (sets_low (at + 1 + size f) g e k (omega arith)))
+    lower_sets k h = left_sets k (λ q. omega arith) (omega arith)
+        ∙ (sets_low (at + 1) f e k (omega arith) ∙ sym (sets_low (at + 1 + size f) g e k (omega arith)))
 
     -- where the left operand holds
     pub from_left : (s : ℕ) → sat l (at + 1) f e s ≡ true → two_sets (at + 1) s ≡ true
@@ -76,7 +82,8 @@ module _ (l : System) where
     lift_left P lower m t (inr p) x = let b = lower m p in ap (λ (u : ℕ → Bool). u t) (left_sets m (λ q. omega arith) (omega arith)) ∙ x
 
     -- what the right operand's sets have
-    pub lift_right : (P : ℕ → Type 0) → ((b : ℕ) → P b → b < at) → (m t : ℕ) → IsWithin (at + 1 + size f) g m ⊎ P m → sets l (at + 1 + size f) g e m t ≡ true → two_sets m t ≡ true
+    pub lift_right : (P : ℕ → Type 0) → ((b : ℕ) → P b → b < at) → (m t : ℕ) → IsWithin (at + 1 + size f) g m ⊎ P m → sets l (at + 1 + size f) g e m t ≡ true
+        → two_sets m t ≡ true
     lift_right P lower m t (inl w) x = ap (λ (u : ℕ → Bool). u t) (right_sets m w.from) ∙ x
     lift_right P lower m t (inr p) x = ap (λ (u : ℕ → Bool). u t) (lower_sets m (lower m p)) ∙ x
 
@@ -91,7 +98,8 @@ module _ (l : System) where
     from_one s x = ap (λ (u : ℕ → Bool). u s) (one_sets (at + 1) (λ q. omega arith) ∙ sets_root (at + 1) f e) ∙ x
 
     -- what the operand's sets have
-    pub lift_one : (P : ℕ → Type 0) → ((b : ℕ) → P b → b < at) → (m t : ℕ) → IsWithin (at + 1) f m ⊎ P m → sets l (at + 1) f e m t ≡ true → put (sets l (at + 1) f e) at X m t ≡ true
+    pub lift_one : (P : ℕ → Type 0) → ((b : ℕ) → P b → b < at) → (m t : ℕ) → IsWithin (at + 1) f m ⊎ P m → sets l (at + 1) f e m t ≡ true
+        → put (sets l (at + 1) f e) at X m t ≡ true
     lift_one P lower m t (inl w) x = ap (λ (u : ℕ → Bool). u t) (one_sets m (λ q. omega (arith, w.from))) ∙ x
     lift_one P lower m t (inr p) x = let b = lower m p in ap (λ (u : ℕ → Bool). u t) (one_sets m (λ q. omega arith)) ∙ x
 

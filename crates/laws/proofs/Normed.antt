@@ -18,7 +18,8 @@ use Rattle.laws.proofs.Spelled.{nothing_like, meant}
 
 -- Each name that may stand here has a binder below this number, whose test is the flag where the state is in the name's set.
 abbrev pub Half : ℕ → Scope → Bool → (List ℕ → ℕ) → ℕ → (ℕ → ℕ → Bool) → Env → Type 0
-Half n scope flag binders at u d = (name : List ℕ) → is_free_to_stand name scope ≡ true → (binders name < at) × ((s : ℕ) → s < n → (u (binders name) s ≡ flag) ↔ d name s)
+Half n scope flag binders at u d = (name : List ℕ) → is_free_to_stand name scope ≡ true → (binders name < at)
+    × ((s : ℕ) → s < n → (u (binders name) s ≡ flag) ↔ d name s)
 
 -- the same for those that may stand below one more negation, with the other flag
 abbrev pub Fits : ℕ → Scope → Bool → (List ℕ → ℕ) → ℕ → (ℕ → ℕ → Bool) → Env → Type 0
@@ -32,7 +33,8 @@ chosen false a b x y e d = d
 pub twice : (name : List ℕ) (scope : Scope) → is_free_to_stand name (negated (negated scope)) ≡ is_free_to_stand name scope
 twice name [] = refl
 twice name (binder ∷ scope) =
-    chosen (bytes_eq name binder.0) (not (not binder.1)) binder.1 (is_free_to_stand name (negated (negated scope))) (is_free_to_stand name scope) (not_not binder.1) (twice name scope)
+    chosen (bytes_eq name binder.0) (not (not binder.1)) binder.1 (is_free_to_stand name (negated (negated scope))) (is_free_to_stand name scope)
+    (not_not binder.1) (twice name scope)
 
 turned : (n : ℕ) (scope : Scope) (flag : Bool) (binders : List ℕ → ℕ) (at : ℕ) (u : ℕ → ℕ → Bool) (d : Env) → Fits n scope flag binders at u d
     → Fits n (negated scope) (not flag) binders at u d
@@ -58,7 +60,8 @@ wider n scope flag binders at u d place v low agree fits = (
 
 -- below a binder
 inner_at : (n : ℕ) (scope : Scope) (flag : Bool) (binders : List ℕ → ℕ) (at : ℕ) (u : ℕ → ℕ → Bool) (d : Env) (b : Bool) (x : ℕ → Bool) (U : ℕ → Type 0) →
-    (b ≡ true → (s : ℕ) → s < n → (x s ≡ flag) ↔ U s) → Half n scope flag binders at u d → (other : List ℕ) (c : Bool) → (if c then b else is_free_to_stand other scope) ≡ true →
+    (b ≡ true → (s : ℕ) → s < n → (x s ≡ flag) ↔ U s) → Half n scope flag binders at u d → (other : List ℕ) (c : Bool)
+    → (if c then b else is_free_to_stand other scope) ≡ true →
     ((if c then at else binders other) < at + 1) × ((s : ℕ) → s < n → (put u at x (if c then at else binders other) s ≡ flag) ↔ MatchBool c (U s) (d other s))
 inner_at n scope flag binders at u d b x U own half other true stands =
     (omega arith, λ s lt. subst (λ g. (g s ≡ flag) ↔ U s) (sym (put_here u at x at refl)) (own stands s lt))
@@ -68,7 +71,8 @@ inner_at n scope flag binders at u d b x U own half other false stands =
 
 -- the environment below a binder
 pub inner : (n : ℕ) (scope : Scope) (flag : Bool) (binders : List ℕ → ℕ) (at : ℕ) (u : ℕ → ℕ → Bool) (d : Env) (name : List ℕ) (x : ℕ → Bool) (U : ℕ → Type 0) →
-    ((s : ℕ) → s < n → (x s ≡ flag) ↔ U s) → Fits n scope flag binders at u d → Fits n ((name, true) ∷ scope) flag (with_binder binders name at) (at + 1) (put u at x)
+    ((s : ℕ) → s < n → (x s ≡ flag) ↔ U s) → Fits n scope flag binders at u d
+    → Fits n ((name, true) ∷ scope) flag (with_binder binders name at) (at + 1) (put u at x)
     (with_set d name U)
 inner n scope flag binders at u d name x U own fits = (
   λ other stands. inner_at n scope flag binders at u d true x U (λ yes. own) fits.0 other (bytes_eq other name) stands,
@@ -78,13 +82,15 @@ inner n scope flag binders at u d name x U own fits = (
 -- the test of the tree is the flag where the formula holds
 abbrev pub Normed : System → Formula → Type 1
 Normed l f =
-    (flag : Bool) (scope : Scope) (binders : List ℕ → ℕ) (at : ℕ) (u : ℕ → ℕ → Bool) (d : Env) → IsTrue (is_admitted_in scope f) → Fits l.states scope flag binders at u d
+    (flag : Bool) (scope : Scope) (binders : List ℕ → ℕ) (at : ℕ) (u : ℕ → ℕ → Bool) (d : Env) → IsTrue (is_admitted_in scope f)
+    → Fits l.states scope flag binders at u d
     → (s : ℕ) → s < l.states → (sat l at (norm flag binders f at) u s ≡ flag) ↔ mean l f d s
 
 module _ (l : System) (ok : IsSystem l) where
   -- both operands, with flags of their own
   operands : (f g : Formula) (own flag : Bool) (scope under : Scope) (binders : List ℕ → ℕ) (at : ℕ) (u : ℕ → ℕ → Bool) (d : Env) → Normed l f → Normed l g →
-      IsTrue (is_admitted_in under f) → IsTrue (is_admitted_in scope g) → Fits l.states under own binders at u d → Fits l.states scope flag binders at u d → (s : ℕ) → s < l.states →
+      IsTrue (is_admitted_in under f) → IsTrue (is_admitted_in scope g) → Fits l.states under own binders at u d → Fits l.states scope flag binders at u d
+      → (s : ℕ) → s < l.states →
       ((sat l (at + 1) (norm own binders f (at + 1)) u s ≡ own) ↔ mean l f d s)
       × ((sat l (at + 1 + size (norm own binders f (at + 1))) (norm flag binders g (at + 1 + size (norm own binders f (at + 1)))) u s ≡ flag) ↔ mean l g d s)
   operands f g own flag scope under binders at u d first second p q fits more s lt = (
@@ -110,7 +116,8 @@ module _ (l : System) (ok : IsSystem l) where
 
   box_normed : (r : Regular) (f : Formula) → Normed l f → Normed l (Box r f)
   box_normed r f ih flag scope binders at u d p fits s lt =
-      let i = modal_means l ok r (not flag) at u (norm flag binders f) (sat l at (norm flag binders f at) u) (makes_norm f ih flag scope binders at u d p fits) at
+      let i = modal_means l ok r (not flag) at u (norm flag binders f) (sat l at (norm flag binders f at) u)
+      (makes_norm f ih flag scope binders at u d p fits) at
       (at_most_itself at) u (λ b h. refl) s lt in
       let j = all_of flag (sat l at (modal (not flag) r (norm flag binders f) at) u s) (Leads l r s) (sat l at (norm flag binders f at) u) i in (
         λ h t go. (ih flag scope binders at u d p fits t (leads_inside l ok r s t lt go)).0 (j.0 h t go),
@@ -144,7 +151,8 @@ module _ (l : System) (ok : IsSystem l) where
       )
   normed (Implies f g) flag scope binders at u d p fits s lt =
       let w = both (is_admitted_in (negated scope) f) (is_admitted_in scope g) p in
-      let o = operands f g (not flag) flag scope (negated scope) binders at u d (normed f) (normed g) w.0 w.1 (turned l.states scope flag binders at u d fits) fits s lt in
+      let o = operands f g (not flag) flag scope (negated scope) binders at u d (normed f) (normed g) w.0 w.1
+      (turned l.states scope flag binders at u d fits) fits s lt in
       let i = two_tells l flag (norm (not flag) binders f) (norm flag binders g) at u s in (
         λ h m. elim (i.0 h) [ inl k ↦ absurd (opposite flag (sat l (at + 1) (norm (not flag) binders f (at + 1)) u s) (o.0.1 m) k) | inr k ↦ o.1.0 k ],
         λ h. i.1 (elim (either_flag flag (sat l (at + 1) (norm (not flag) binders f (at + 1)) u s)) [ inl k ↦ inl k | inr k ↦ inr (o.1.1 (h (o.0.0 k))) ]),

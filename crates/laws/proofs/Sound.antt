@@ -106,7 +106,8 @@ module _ (l : System) (nodes : List Node) (table : List Measure) (is : IsProgres
       (plain at left s fits fin (each left (first_of left right)), plain at right s fits fin (each right (second_of left right)))
   part_down at (Modality true a f) stands fits = λ s lt fin.
       let some = or_else_some (map (λ t. place n t (at + 1)) (targets l a s)) 1 in
-      let w = some_edge at (shape_at at (Modality true a f)) stands s lt (some_of (successors_of l n s (shape_at at (Modality true a f))) some.0 some.1 some.2) refl in
+      let w = some_edge at (shape_at at (Modality true a f)) stands s lt
+      (some_of (successors_of l n s (shape_at at (Modality true a f))) some.0 some.1 some.2) refl in
       let h = plain at w.0 s fits fin w.2 in
       elim (of_or_else (map (λ t. place n t (at + 1)) (targets l a s)) 1 w.0 w.1) [
         | inl e ↦ absurd (not_lost at w.0 s e h)
@@ -114,12 +115,16 @@ module _ (l : System) (nodes : List Node) (table : List Measure) (is : IsProgres
       ]
   part_down at (Modality false a f) stands fits = λ s lt fin.
       let some = or_else_some (map (λ t. place n t (at + 1)) (targets l a s)) 0 in
-      let each = each_edge at (shape_at at (Modality false a f)) stands s lt (some_of (successors_of l n s (shape_at at (Modality false a f))) some.0 some.1 some.2) refl in
+      let each = each_edge at (shape_at at (Modality false a f)) stands s lt
+      (some_of (successors_of l n s (shape_at at (Modality false a f))) some.0 some.1 some.2) refl in
       λ t into. plain at (place n t (at + 1)) s fits fin
-      (each (place n t (at + 1)) (in_or_else (map (λ t. place n t (at + 1)) (targets l a s)) 0 (place n t (at + 1)) (in_map (λ t. place n t (at + 1)) (targets l a s) t into)))
+      (each (place n t (at + 1)) (in_or_else (map (λ t. place n t (at + 1)) (targets l a s)) 0 (place n t (at + 1))
+      (in_map (λ t. place n t (at + 1)) (targets l a s) t into)))
   part_down at (Fixpoint flag f) stands fits = λ s lt fin.
-      reaches_over_at game flag (prio at) (val s (at + 1)) (val s at) fits.0 fin (one_edge at (shape_at at (Fixpoint flag f)) stands s lt (place n s (at + 1)) refl refl)
-  part_down at (Variable b) stands fits = λ s lt fin. plain at (place n s b) s fits fin (one_edge at (shape_at at (Variable b)) stands s lt (place n s b) refl refl)
+      reaches_over_at game flag (prio at) (val s (at + 1)) (val s at) fits.0 fin
+      (one_edge at (shape_at at (Fixpoint flag f)) stands s lt (place n s (at + 1)) refl refl)
+  part_down at (Variable b) stands fits = λ s lt fin. plain at (place n s b) s fits fin
+      (one_edge at (shape_at at (Variable b)) stands s lt (place n s b) refl refl)
 
   -- the values of a progress table descend at each part
   pub down : (f : Norm) → IsNodes f nodes → IsEach Down 0 f
@@ -131,7 +136,8 @@ tables_are_sound l f nodes table ok are is s k lt within not_top =
     let count = count_nodes f nodes are in
     (sets_mean l f ok s k lt (omega arith)).1
     (everywhere l (priority_in nodes) Measure (comparison (arena l nodes)) (val l nodes table is) f 0 (down l nodes table is f are) are.admissible nothing
-    (λ b free t tl fin. absurd (are.closed b free)) s k lt (record { from = omega arith; to = omega arith }) (counted (value_at table (place (length nodes) s k)) not_top))
+    (λ b free t tl fin. absurd (are.closed b free)) s k lt (record { from = omega arith; to = omega arith })
+    (counted (value_at table (place (length nodes) s k)) not_top))
   where
     counted : (m : Measure) → m ≢ Top → IsTrue (over_at (arena l nodes) false 0 m m)
     counted Top no_top = absurd (no_top refl)

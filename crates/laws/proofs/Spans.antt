@@ -52,7 +52,8 @@ module _ (look : ℕ → Shape) (prio : ℕ → ℕ) where
         ]
 
     -- On the way to b no priority is above b's.
-    pub bounded : (b : ℕ) → ((v w : ℕ) → R v w → (nd v ≡ b) ⊎ ((b < nd v) × IsHeld look prio (nd v))) → (v : ℕ) (vs : List ℕ) (t : ℕ) → nd t ≡ b → IsPath R v vs t
+    pub bounded : (b : ℕ) → ((v w : ℕ) → R v w → (nd v ≡ b) ⊎ ((b < nd v) × IsHeld look prio (nd v))) → (v : ℕ) (vs : List ℕ) (t : ℕ) → nd t ≡ b
+        → IsPath R v vs t
         → AllByRecursion (λ y. prio (nd y) ≤ prio b) vs × (prio (nd v) ≤ prio b)
     bounded b each v [] t e p = let q = ap nd p in let r = ap prio (q ∙ e) in (tt, omega arith)
     bounded b each v (m ∷ vs) t e p =

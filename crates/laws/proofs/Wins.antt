@@ -54,7 +54,8 @@ is_zero : (u : ℕ) → (u == 0) ≡ true → u ≡ 0
 is_zero u h = eqb-true u 0 h
 
 -- away from a part that no step leaves, on the way to a place outside of it
-outside : (Z : ℕ → Type 0) (R : ℕ → ℕ → Type 0) → ((v w : ℕ) → Z v → R v w → Z w) → (u : ℕ) (vs : List ℕ) (t : ℕ) → (Z t → ⊥) → IsPath R u vs t → IsPath (λ v w. R v w × (Z w → ⊥)) u vs t
+outside : (Z : ℕ → Type 0) (R : ℕ → ℕ → Type 0) → ((v w : ℕ) → Z v → R v w → Z w) → (u : ℕ) (vs : List ℕ) (t : ℕ) → (Z t → ⊥) → IsPath R u vs t
+    → IsPath (λ v w. R v w × (Z w → ⊥)) u vs t
 outside Z R stays u [] t h e = e
 outside Z R stays u (m ∷ vs) t h p = ((p.0, λ z. h (path_into Z R R (λ v w y x. (stays v w y x, x)) m vs t z p.1).1), outside Z R stays m vs t h p.1)
 
@@ -158,7 +159,8 @@ module _ (l : System) (f : Norm) (nodes : List Node) (ok : IsNodes f nodes) wher
       let e = some_same v (vertex_of l n (st n u) a.node) (vertex g u) is a.vertex_at in
       let h : ((owner_of a.node.shape ≡ Even) × (t ≡ choice u)) ⊎ ((owner_of a.node.shape ≢ Even) × Contains (successors_of l n (st n u) a.node.shape) t) =
       subst (λ (y : Vertex). ((y.owner ≡ Even) × (t ≡ choice u)) ⊎ ((y.owner ≢ Even) × Contains y.successors t)) e how in
-      let k : ((owner_of (look (nd n u)) ≡ Even) × (t ≡ choice u)) ⊎ ((owner_of (look (nd n u)) ≢ Even) × Contains (successors_of l n (st n u) (look (nd n u))) t) =
+      let k : ((owner_of (look (nd n u)) ≡ Even) × (t ≡ choice u))
+      ⊎ ((owner_of (look (nd n u)) ≢ Even) × Contains (successors_of l n (st n u) (look (nd n u))) t) =
       subst (λ y. ((owner_of y ≡ Even) × (t ≡ choice u)) ⊎ ((owner_of y ≢ Even) × Contains (successors_of l n (st n u) y) t)) (sym a.shape) h in
       led l n (look (nd n u)) (chosen u) (st n u) t (is_choice u x) (elim k [ inl o ↦ inl (o.0, o.1 ∙ choice_at u x) | inr o ↦ inr o ])
 
@@ -171,7 +173,8 @@ module _ (l : System) (f : Norm) (nodes : List Node) (ok : IsNodes f nodes) wher
       let to : IsWithin 0 f y.node = elim (stay look (λ b. ⊥) 0 f (laid f nodes ok) free (nd n u) y.node w y.next) [ inl a ↦ a | inr a ↦ absurd a ] in
       let below : y.node < n = let e = many in let h = to.to in omega arith in
       let state : y.state < l.states = moves_below l (look (nd n u)) (chosen u) (st n u) y.state y.node x.state y.moves in
-      let there : Holds y.state y.node = closed l look (λ b. ⊥) 0 f nothing (laid f nodes ok) free (λ b z. absurd z) (st n u) (nd n u) y.state y.node w x.state x.holds
+      let there : Holds y.state y.node = closed l look (λ b. ⊥) 0 f nothing (laid f nodes ok) free (λ b z. absurd z) (st n u)
+      (nd n u) y.state y.node w x.state x.holds
       (y.next, y.moves) in
       let s : st n t ≡ y.state = ap (st n) y.is ∙ st_place n y.state y.node below in
       let k : nd n t ≡ y.node = ap (nd n) y.is ∙ nd_place n y.state y.node below in
@@ -186,7 +189,8 @@ module _ (l : System) (f : Norm) (nodes : List Node) (ok : IsNodes f nodes) wher
           there = z.holds;
           step = (
             subst (λ b. IsNext (look (nd n u)) b) (sym k) y.next,
-            subst (λ a. Moves l (look (nd n u)) (chosen u) (st n u) a (nd n t)) (sym s) (subst (λ b. Moves l (look (nd n u)) (chosen u) (st n u) y.state b) (sym k) y.moves),
+            subst (λ a. Moves l (look (nd n u)) (chosen u) (st n u) a (nd n t)) (sym s)
+                (subst (λ b. Moves l (look (nd n u)) (chosen u) (st n u) y.state b) (sym k) y.moves),
           );
         },
       )
@@ -194,7 +198,8 @@ module _ (l : System) (f : Norm) (nodes : List Node) (ok : IsNodes f nodes) wher
   zero_edge : (u t : ℕ) → u ≡ 0 → Edge Even g choice u t → t ≡ 0
   zero_edge u t e (v, is, inl o) = o.1 ∙ ap choice e
   zero_edge u t e (v, is, inr o) =
-      let q : v ≡ record { owner = Even; priority = 0; successors = 0 ∷ [] } = some_same v (record { owner = Even; priority = 0; successors = 0 ∷ [] }) (vertex g u) is
+      let q : v ≡ record { owner = Even; priority = 0; successors = 0 ∷ [] } = some_same v (record { owner = Even; priority = 0; successors = 0 ∷ [] })
+      (vertex g u) is
       (ap (vertex g) e) in
       absurd (o.0 (ap (λ (y : Vertex). y.owner) q))
 
@@ -247,7 +252,8 @@ module _ (l : System) (f : Norm) (nodes : List Node) (ok : IsNodes f nodes) wher
           let w : owner_of (look (nd n u)) ≡ Even = ap owner_of a.shape ∙ (sym (ap (λ (y : Vertex). y.owner) q) ∙ o) in
           let c = own_of l n (look (nd n u)) (chosen u) (st n u) (is_choice u x) w in
           let d = subst (λ y. Contains (successors_of l n (st n u) y) (to_vertex n (look (nd n u)) (chosen u) (st n u))) a.shape c in
-          subst (λ (y : Vertex). Contains y.successors (choice u)) (sym q) (subst (λ y. Contains (successors_of l n (st n u) a.node.shape) y) (sym (choice_at u x)) d))
+          subst (λ (y : Vertex). Contains y.successors (choice u)) (sym q)
+          (subst (λ y. Contains (successors_of l n (st n u) a.node.shape) y) (sym (choice_at u x)) d))
     ];
     closed = λ u t h y. elim (in_set u h) [
       | inl e ↦ zero_in t (zero_edge u t e y)

@@ -18,7 +18,8 @@ use Rattle.laws.specs.NodeMeaning.{node_mean}
 
 -- The normal form of an admitted formula holds where the formula does.
 abbrev pub NormalFormMeans : Type 0
-NormalFormMeans = (l : System) (f : Formula) → IsSystem l → IsAdmitted f → (s : ℕ) → s < l.states → Satisfies l (formula_from 0 (normal_form f)) s ↔ Satisfies l f s
+NormalFormMeans = (l : System) (f : Formula) → IsSystem l → IsAdmitted f → (s : ℕ) → s < l.states → Satisfies l (formula_from 0 (normal_form f)) s
+    ↔ Satisfies l f s
 
 -- The nested rule's priorities are admissible, and the normal form of an admitted formula is closed.
 abbrev pub NestedIsAdmissible : Type 0
@@ -34,7 +35,8 @@ AdmissibleFromInside = (f : Norm) (prio : ℕ → ℕ) → IsClosed f → IsAdmi
 
 -- Each node by a rule has its part's shape, and the rule's priority.
 abbrev pub NodesFollow : Type 0
-NodesFollow = (rule : Rule) (f : Norm) → (shapes_of (nodes_by rule 0 f) ≡ preorder shape_at 0 f) × IsEach (λ k g. priority_in (nodes_by rule 0 f) k ≡ rule k g) 0 f
+NodesFollow = (rule : Rule) (f : Norm) → (shapes_of (nodes_by rule 0 f) ≡ preorder shape_at 0 f)
+    × IsEach (λ k g. priority_in (nodes_by rule 0 f) k ≡ rule k g) 0 f
 
 -- Where the value of a progress table isn't top, the state is in the meaning of the node.
 abbrev pub TablesAreSound : Type 0
@@ -74,12 +76,14 @@ EvenWinsFormula =
 -- There the least progress table isn't top exactly where the formula holds.
 abbrev pub LeastTableFormula : Type 0
 LeastTableFormula =
-    (l : System) (f : Formula) (nodes : List Node) (table : List Measure) → IsSystem l → IsAdmitted f → IsNodes (normal_form f) nodes → IsLeastTable (arena l nodes) table
+    (l : System) (f : Formula) (nodes : List Node) (table : List Measure) → IsSystem l → IsAdmitted f → IsNodes (normal_form f) nodes
+    → IsLeastTable (arena l nodes) table
     → (s : ℕ) → s < l.states → (value_at table (place (length nodes) s 0) ≢ Top) ↔ Satisfies l f s
 
 -- With the nested priorities Even wins at the root exactly where the formula holds.
 abbrev pub NestedWins : Type 0
-NestedWins = (l : System) (f : Formula) → IsSystem l → IsAdmitted f → (s : ℕ) → s < l.states → Wins (arena l (nodes f)) (place (length (nodes f)) s 0) ↔ Satisfies l f s
+NestedWins = (l : System) (f : Formula) → IsSystem l → IsAdmitted f → (s : ℕ) → s < l.states → Wins (arena l (nodes f)) (place (length (nodes f)) s 0)
+    ↔ Satisfies l f s
 
 -- With the nested priorities the least progress table isn't top at the root exactly where the formula holds.
 abbrev pub NestedTableDecides : Type 0

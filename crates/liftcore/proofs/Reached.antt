@@ -14,7 +14,8 @@ use Rattle.liftcore.proofs.Sets.{cases}
 use Rattle.liftcore.proofs.Sound.{game_stays, settled_is_least}
 
 -- one event more
-pub steps_last : (a b c : Core) (events : List Event) (dones : List Bool) (event : Event) (done : Bool) → Steps a events dones b → Step b event done c → Steps a (events ++ event ∷ []) (dones ++ done ∷ []) c
+pub steps_last : (a b c : Core) (events : List Event) (dones : List Bool) (event : Event) (done : Bool) → Steps a events dones b → Step b event done c
+    → Steps a (events ++ event ∷ []) (dones ++ done ∷ []) c
 steps_last a b c [] [] event done s t = (c, subst (λ (k : Core). Step k event done c) s t, refl)
 steps_last a b c [] (d ∷ ds) event done s t = absurd s
 steps_last a b c (e ∷ es) [] event done s t = absurd s
@@ -58,7 +59,8 @@ count_last p (y ∷ ys) x =
 pub none_come : (c : Core) → Comes c [] 0 0 c
 none_come c = record { dones = []; steps = refl; done_is = refl; skipped_is = refl }
 
-pub done_comes : (a b c : Core) (events all : List Event) (event : Event) (done more skipped left : ℕ) → Comes a events done skipped b → Step b event true c → all ≡ events ++ event ∷ [] → more ≡ done + 1
+pub done_comes : (a b c : Core) (events all : List Event) (event : Event) (done more skipped left : ℕ) → Comes a events done skipped b → Step b event true c
+    → all ≡ events ++ event ∷ [] → more ≡ done + 1
     → left ≡ skipped → Comes a all more left c
 done_comes a b c events all event done more skipped left h s e m l = record {
   dones = h.dones ++ true ∷ [];
@@ -67,7 +69,8 @@ done_comes a b c events all event done more skipped left h s e m l = record {
   skipped_is = (let d = h.skipped_is in omega (arith, d, l, count_last (λ b. not b) h.dones true, count_no (λ (b : Bool). not b) true [] refl));
 }
 
-pub skip_comes : (a b c : Core) (events all : List Event) (event : Event) (done left skipped more : ℕ) → Comes a events done skipped b → Step b event false c → all ≡ events ++ event ∷ [] → left ≡ done
+pub skip_comes : (a b c : Core) (events all : List Event) (event : Event) (done left skipped more : ℕ) → Comes a events done skipped b → Step b event false c
+    → all ≡ events ++ event ∷ [] → left ≡ done
     → more ≡ skipped + 1 → Comes a all left more c
 skip_comes a b c events all event done left skipped more h s e l m = record {
   dones = h.dones ++ false ∷ [];

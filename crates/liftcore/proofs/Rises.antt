@@ -26,11 +26,14 @@ is_table : (g : Game) (c : Core) → Sound c → c.table.game ≡ g → IsTable 
 is_table g c h e = subst (λ (k : Game). IsTable k c.table.values) e (plain_table c.table.game c.table.values h.plain)
 
 -- one event more
-climbs_once : (g : Game) (old new : Core) (event : Event) (done rose : Bool) (rises : List Bool) → Step old event done new → Sound old → Sound new → old.table.game ≡ g → new.table.game ≡ g
-    → (IsTrue rose ↔ (new.table.values ≢ old.table.values)) → sum_in g old + count_by (λ rose. rose) (rose ∷ rises) ≤ sum_in g new + count_by (λ rose. rose) rises
+climbs_once : (g : Game) (old new : Core) (event : Event) (done rose : Bool) (rises : List Bool) → Step old event done new → Sound old → Sound new
+    → old.table.game ≡ g → new.table.game ≡ g
+    → (IsTrue rose ↔ (new.table.values ≢ old.table.values)) → sum_in g old + count_by (λ rose. rose) (rose ∷ rises) ≤ sum_in g new
+    + count_by (λ rose. rose) rises
 unfolding sum_in
 climbs_once g old new event done true rises s h k e d tells =
-    let more = sum_above g old.table.values new.table.values (is_table g old h e) (is_table g new k d) (never_falls old new event done s) (λ q. tells.0 refl (sym q)) in
+    let more = sum_above g old.table.values new.table.values (is_table g old h e) (is_table g new k d) (never_falls old new event done s)
+    (λ q. tells.0 refl (sym q)) in
     omega (arith, more, count_yes (λ (rose : Bool). rose) true rises refl)
 climbs_once g old new event done false rises s h k e d tells =
     let least = sum_least g old.table.values new.table.values (is_table g old h e) (is_table g new k d) (never_falls old new event done s) in
@@ -52,6 +55,7 @@ climbs g old new (v ∷ vs) (d ∷ ds) (r ∷ rs) (c, s, tells, more) h e =
     let f = game_step g old c v d s e in
     omega (arith, climbs g c new vs ds rs more k f, climbs_once g old c v d r rs s h k e f tells)
 
-pub few_raise : (g : Game) (workers : ℕ) (events : List Event) (dones rises : List Bool) (c : Core) → IsGame g → RaisingSteps (start g workers) events dones rises c
+pub few_raise : (g : Game) (workers : ℕ) (events : List Event) (dones rises : List Bool) (c : Core) → IsGame g
+    → RaisingSteps (start g workers) events dones rises c
     → count_by (λ rose. rose) rises ≤ length g.vertices * height g
 few_raise g workers events dones rises c game s = omega (arith, climbs g (start g workers) c events dones rises s (sound_start g workers game) refl)

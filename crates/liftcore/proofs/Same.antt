@@ -13,7 +13,8 @@ use Rattle.liftcore.specs.declared.event.Event.TheVariants.{Take, Read, Raise, P
 use Rattle.liftcore.proofs.Notes.{holds_same, noted_or, owes_same, zip_noted}
 use Rattle.liftcore.proofs.Raising.{lift_same}
 
-one_read : (notes : List Note) (ts : List ℕ) (values others : List Measure) → AllZip (λ t m. noted notes t ≡ Some m) ts values → AllZip (λ t m. noted notes t ≡ Some m) ts others → values ≡ others
+one_read : (notes : List Note) (ts : List ℕ) (values others : List Measure) → AllZip (λ t m. noted notes t ≡ Some m) ts values
+    → AllZip (λ t m. noted notes t ≡ Some m) ts others → values ≡ others
 one_read notes [] [] [] h i = refl
 one_read notes [] [] (n ∷ ns) h i = absurd i
 one_read notes [] (m ∷ ms) others h i = absurd h
@@ -22,7 +23,8 @@ one_read notes (t ∷ ts) (m ∷ ms) [] h i = absurd i
 one_read notes (t ∷ ts) (m ∷ ms) (n ∷ ns) h i = ap₂ (λ y ys. y ∷ ys) (same_Some m n (sym h.0 ∙ i.0)) (one_read notes ts ms ns h.1 i.1)
 
 -- what a worker lifts from its notes is one measure
-one_lifted : (old : Core) (u : ℕ) (notes : List Note) (x y : Vertex) (values others : List Measure) (r s : Measure) → vertex old.table.game u ≡ Some x → vertex old.table.game u ≡ Some y
+one_lifted : (old : Core) (u : ℕ) (notes : List Note) (x y : Vertex) (values others : List Measure) (r s : Measure) → vertex old.table.game u ≡ Some x
+    → vertex old.table.game u ≡ Some y
     → AllZip (λ t m. noted notes t ≡ Some m) x.successors values → AllZip (λ t m. noted notes t ≡ Some m) y.successors others
     → IsLift old.table.game x (value_in old u) values r → IsLift old.table.game y (value_in old u) others s → r ≡ s
 one_lifted old u notes x y values others r s at is read more lift lifts =
@@ -31,7 +33,8 @@ one_lifted old u notes x y values others r s at is read more lift lifts =
     let q = one_read notes x.successors others values more' read in
     let lifts' = subst (λ (z : Vertex). IsLift old.table.game z (value_in old u) others s) e lifts in
     let lifts'' = subst (λ ms. IsLift old.table.game x (value_in old u) ms s) q lifts' in
-    lift_same old.table.game x (value_in old u) r s (noted_or notes (value_in old)) values (zip_noted notes (value_in old) x.successors values read) lift lifts''
+    lift_same old.table.game x (value_in old u) r s (noted_or notes (value_in old)) values
+    (zip_noted notes (value_in old) x.successors values read) lift lifts''
 
 raises_same : (old new other : Core) (w : ℕ) → Raises old w new → Raises old w other → new ≡ other
 raises_same old new other w d e =
@@ -46,7 +49,8 @@ does_same : (old new other : Core) (event : Event) → Does old event new → Do
 does_same old new other (Take w v) d e = d.effect ∙ sym e.effect
 does_same old new other (Read w v) d e =
     let same = holds_same d.u e.u d.notes e.notes (same_Some (Holding d.u d.notes) (Holding e.u e.notes) (sym d.holds ∙ e.holds)) in
-    d.effect ∙ (ap₂ (λ (k : ℕ) (ns : List Note). with_worker old w (Holding k (with_note (record { vertex = v; value = value_in old v }) ns))) same.0 same.1 ∙ sym e.effect)
+    d.effect ∙ (ap₂ (λ (k : ℕ) (ns : List Note). with_worker old w (Holding k (with_note (record { vertex = v; value = value_in old v }) ns))) same.0 same.1
+    ∙ sym e.effect)
 does_same old new other (Raise w) d e = raises_same old new other w d e
 does_same old new other (Push w v) d e =
     let same = owes_same d.owed e.owed (same_Some (Owing d.owed) (Owing e.owed) (sym d.owes ∙ e.owes)) in

@@ -19,7 +19,8 @@ use Rattle.liftcore.proofs.Notes.{holds_same, idle_holds, noted_more, noted_or, 
 use Rattle.liftcore.proofs.Raising.{noted_below, rises_set}
 
 -- what each event keeps holds to the end
-pub steps_keep : (P : Core → Type 0) → ((old new : Core) (event : Event) → Does old event new → P old → P new) → (old new : Core) (events : List Event) (dones : List Bool) → Steps old events dones new → P old → P new
+pub steps_keep : (P : Core → Type 0) → ((old new : Core) (event : Event) → Does old event new → P old → P new)
+    → (old new : Core) (events : List Event) (dones : List Bool) → Steps old events dones new → P old → P new
 steps_keep P keep old new [] [] h p = subst P (sym h) p
 steps_keep P keep old new [] (d ∷ ds) h p = absurd h
 steps_keep P keep old new (e ∷ es) [] h p = absurd h
@@ -27,7 +28,8 @@ steps_keep P keep old new (e ∷ es) (true ∷ ds) (c, s, r) p = steps_keep P ke
 steps_keep P keep old new (e ∷ es) (false ∷ ds) (c, s, r) p = steps_keep P keep c new es ds r (subst P (sym s.same) p)
 
 -- a raise in two cases
-pub raise_cases : (P : Core → Type 0) (c : Core) (w u : ℕ) (m : Measure) → (is_lt (measure_cmp (value_in c u) m) ≡ true → P (with_worker (with_value c u m) w (owing (predecessors c.table.game u))))
+pub raise_cases : (P : Core → Type 0) (c : Core) (w u : ℕ) (m : Measure)
+    → (is_lt (measure_cmp (value_in c u) m) ≡ true → P (with_worker (with_value c u m) w (owing (predecessors c.table.game u))))
     → (is_lt (measure_cmp (value_in c u) m) ≡ false → P (with_worker c w Idle)) → P (after_raise c w u m)
 raise_cases P c w u m rise stay = by (is_lt (measure_cmp (value_in c u) m)) rise stay
   where
@@ -66,10 +68,12 @@ game_stays g workers events dones c s = steps_keep (λ k. k.table.game ≡ g) (g
 
 pub record Sound (c : Core) : Type 0 where
   pub plain : IsPlain c.table
-  pub low : (k u : ℕ) (notes : List Note) → slice_get c.workers k ≡ Some (Holding u notes) → (t : ℕ) (m : Measure) → noted notes t ≡ Some m → IsAtMost m (value_in c t)
+  pub low : (k u : ℕ) (notes : List Note) → slice_get c.workers k ≡ Some (Holding u notes) → (t : ℕ) (m : Measure) → noted notes t ≡ Some m
+      → IsAtMost m (value_in c t)
 
 -- what was noted, or else the value, is at most the value
-noted_low : (c : Core) (notes : List Note) → ((t : ℕ) (m : Measure) → noted notes t ≡ Some m → IsAtMost m (value_in c t)) → (t : ℕ) → IsAtMost (noted_or notes (value_in c) t) (value_in c t)
+noted_low : (c : Core) (notes : List Note) → ((t : ℕ) (m : Measure) → noted notes t ≡ Some m → IsAtMost m (value_in c t)) → (t : ℕ)
+    → IsAtMost (noted_or notes (value_in c) t) (value_in c t)
 noted_low c notes low t = by (noted notes t) (low t)
   where
     by : (o : Option Measure) → ((m : Measure) → o ≡ Some m → IsAtMost m (value_in c t)) → IsAtMost (unwrap_or o (value_in c t)) (value_in c t)
@@ -79,7 +83,8 @@ noted_low c notes low t = by (noted notes t) (low t)
 -- the lifted measure lies below
 lifted_below : (old new : Core) (w : ℕ) → Sound old → (d : Raises old w new) → LiesBelow old.table.game d.u d.lifted
 lifted_below old new w s d =
-    noted_below old.table.game old.table.values s.plain d.u d.x (noted_or d.notes (value_in old)) d.values d.lifted d.held (noted_low old d.notes (s.low w d.u d.notes d.holds))
+    noted_below old.table.game old.table.values s.plain d.u d.x (noted_or d.notes (value_in old)) d.values d.lifted d.held
+    (noted_low old d.notes (s.low w d.u d.notes d.holds))
     (zip_noted d.notes (value_in old) d.x.successors d.values d.read) d.lift
 
 pub sound_does : (old new : Core) (event : Event) → Does old event new → Sound old → Sound new
@@ -92,14 +97,16 @@ sound_does old new (Take w v) d s = subst Sound (sym d.effect) (record {
 })
 sound_does old new (Read w v) d s = subst Sound (sym d.effect) (record {
   plain = s.plain;
-  low = λ k u notes e t m n. elim (get_back old.workers w k (Holding d.u (with_note (record { vertex = v; value = value_in old v }) d.notes)) (Holding d.u d.notes) (Holding u notes) d.holds e) [
-    | inl q ↦ elim (noted_more (record { vertex = v; value = value_in old v }) d.notes t m
-        (subst (λ ns. noted ns t ≡ Some m) (sym (holds_same d.u u (with_note (record { vertex = v; value = value_in old v }) d.notes) notes q).1) n)) [
-          | inl i ↦ s.low w d.u d.notes d.holds t m i
-          | inr i ↦ subst (λ z. IsAtMost z (value_in old t)) i.1 (subst (λ z. IsAtMost (value_in old v) (value_in old z)) i.0 (at_most_itself (value_in old v)))
-        ]
-    | inr q ↦ s.low k u notes q t m n
-  ];
+  low = λ k u notes e t m n. elim (get_back old.workers w k (Holding d.u (with_note (record { vertex = v; value = value_in old v }) d.notes))
+      (Holding d.u d.notes) (Holding u notes) d.holds e) [
+        | inl q ↦ elim (noted_more (record { vertex = v; value = value_in old v }) d.notes t m
+            (subst (λ ns. noted ns t ≡ Some m) (sym (holds_same d.u u (with_note (record { vertex = v; value = value_in old v }) d.notes) notes q).1) n)) [
+              | inl i ↦ s.low w d.u d.notes d.holds t m i
+              | inr i ↦ subst (λ z. IsAtMost z (value_in old t)) i.1
+                  (subst (λ z. IsAtMost (value_in old v) (value_in old z)) i.0 (at_most_itself (value_in old v)))
+            ]
+        | inr q ↦ s.low k u notes q t m n
+      ];
 })
 sound_does old new (Push w v) d s = subst Sound (sym d.effect) (record {
   plain = s.plain;
@@ -131,9 +138,12 @@ sound_start g workers game = record {
   low = λ k u notes e t m n. absurd (idle_holds u notes (start_idle workers k (Holding u notes) e));
 }
 
-pub stays_below : (g : Game) (workers : ℕ) (events : List Event) (dones : List Bool) (c : Core) → IsGame g → Steps (start g workers) events dones c → IsPlain c.table
+pub stays_below : (g : Game) (workers : ℕ) (events : List Event) (dones : List Bool) (c : Core) → IsGame g → Steps (start g workers) events dones c
+    → IsPlain c.table
 stays_below g workers events dones c game s = (steps_keep Sound sound_does (start g workers) c events dones s (sound_start g workers game)).plain
 
-pub settled_is_least : (g : Game) (workers : ℕ) (events : List Event) (dones : List Bool) (c : Core) → IsGame g → Steps (start g workers) events dones c → IsProgress g c.table.values → IsSettled c.table
+pub settled_is_least : (g : Game) (workers : ℕ) (events : List Event) (dones : List Bool) (c : Core) → IsGame g → Steps (start g workers) events dones c
+    → IsProgress g c.table.values → IsSettled c.table
 settled_is_least g workers events dones c game s is =
-    plain_settled c.table (stays_below g workers events dones c game s) (subst (λ h. IsProgress h c.table.values) (sym (game_stays g workers events dones c s)) is)
+    plain_settled c.table (stays_below g workers events dones c game s)
+    (subst (λ h. IsProgress h c.table.values) (sym (game_stays g workers events dones c s)) is)

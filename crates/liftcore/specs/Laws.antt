@@ -24,7 +24,8 @@ StaysBelow = (g : Game) (workers : ℕ) (events : List Event) (dones : List Bool
 -- Where the table is settled it is the least progress table.
 abbrev pub SettledIsLeast : Type 0
 SettledIsLeast =
-    (g : Game) (workers : ℕ) (events : List Event) (dones : List Bool) (c : Core) → IsGame g → Steps (start g workers) events dones c → IsProgress g c.table.values
+    (g : Game) (workers : ℕ) (events : List Event) (dones : List Bool) (c : Core) → IsGame g → Steps (start g workers) events dones c
+    → IsProgress g c.table.values
     → IsSettled c.table
 
 -- A quiet core is settled.

@@ -8,7 +8,8 @@ use Rattle.liftcore.specs.Core.{Core, is_quiet}
 
 -- `events E done D skipped S`
 abbrev pub events_line : (done skipped : ℕ) → List ℕ
-events_line done skipped = codes "events " ++ (decimal (done + skipped) ++ (codes " done " ++ (decimal done ++ (codes " skipped " ++ (decimal skipped ++ line_end)))))
+events_line done skipped = codes "events " ++ (decimal (done + skipped)
+    ++ (codes " done " ++ (decimal done ++ (codes " skipped " ++ (decimal skipped ++ line_end)))))
 
 -- `vertex measure`
 abbrev pub value_line : ℕ → Measure → List ℕ

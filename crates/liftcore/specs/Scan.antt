@@ -8,7 +8,8 @@ use Rattle.liftcore.specs.declared.event.Event.TheVariants.{Push, Raise, Read, T
 -- the event of a word with a worker and a vertex
 unfoldable pub event_with : List ℕ → ℕ → ℕ → Option Event
 event_with word w v =
-    if bytes_eq word (codes "take") then Some (Take w v) else (if bytes_eq word (codes "read") then Some (Read w v) else (if bytes_eq word (codes "push") then Some (Push w v) else None))
+    if bytes_eq word (codes "take") then Some (Take w v) else
+    (if bytes_eq word (codes "read") then Some (Read w v) else (if bytes_eq word (codes "push") then Some (Push w v) else None))
 
 -- two numbers, with a space between them
 unfoldable pub two_numbers : (List ℕ → Option ℕ) → List ℕ → Option (ℕ × ℕ)

@@ -116,7 +116,8 @@ pub fn read_schedule(
     workers: u32,
     vertices: u32,
 ) -> Result<Vec<Event>, ScheduleError>
-    ensures reads { Reads (IsSchedule workers vertices) (IsSchedule workers vertices) (IsSchedule workers vertices) (HasFaultAt workers vertices) (λ v. v.items) named (Some text.now) result }
+    ensures reads { Reads (IsSchedule workers vertices) (IsSchedule workers vertices) (IsSchedule workers vertices) (HasFaultAt workers vertices)
+        (λ v. v.items) named (Some text.now) result }
 {
     let mut events = Vec::new(alloc);
     let mut rest = text;

@@ -63,7 +63,8 @@ impl State {
     // The place of a vertex among the successors of the one that a worker holds, if it is one and isn't read.
     fn unread(&self, game: &Game, worker: usize, vertex: u32) -> Option<usize>
         requires { IsState game.now self.now }
-        ensures { MatchOption result (HasSeat self.now worker (λ x. CanRead game.now (worker_of x) vertex) → ⊥) (λ place. HasSeat self.now worker (λ x. IsUnread x vertex place)) }
+        ensures { MatchOption result (HasSeat self.now worker (λ x. CanRead game.now (worker_of x) vertex) → ⊥)
+            (λ place. HasSeat self.now worker (λ x. IsUnread x vertex place)) }
     {
         match self.seats.get(worker) {
             Some(seat) => seat.unread(game, vertex),

@@ -126,7 +126,8 @@ pub fn write_replay<W: Write>(
     writer: &mut W,
 ) -> Result<(), WriteFault>
     requires { tally.done + tally.skipped < 2 ^ 64 }
-    ensures { (settled : Bool) × (IsTrue settled ↔ IsSettled core.now.table) × Wrote (W.contents writer.old) (W.contents writer.new) result (replay_text tally.done tally.skipped core.now settled) }
+    ensures { (settled : Bool) × (IsTrue settled ↔ IsSettled core.now.table)
+        × Wrote (W.contents writer.old) (W.contents writer.new) result (replay_text tally.done tally.skipped core.now settled) }
 {
     let settled = core.is_settled();
     put_replay(core, tally, settled, core.is_quiet(), writer)

@@ -6,7 +6,8 @@ use Rattle.std.proofs.lemmas.List.Concat.{flat_map-cons}
 use Rattle.text.specs.Wrote.{lines_from}
 
 -- Where the line of each number is that of the element there, the lines are those of the list.
-pub listed : {A B : Type 0} → (f : B → List ℕ) (g : A → B) (line : ℕ → List ℕ) (v : ℕ) (xs : List A) → ((i : ℕ) (x : A) → slice_get xs i ≡ Some x → line (v + i) ≡ f (g x))
+pub listed : {A B : Type 0} → (f : B → List ℕ) (g : A → B) (line : ℕ → List ℕ) (v : ℕ) (xs : List A)
+    → ((i : ℕ) (x : A) → slice_get xs i ≡ Some x → line (v + i) ≡ f (g x))
     → lines_from line v (length xs) ≡ flat_map f (map g xs)
 listed f g line v [] each = refl
 listed f g line v (x ∷ xs) each =

@@ -15,7 +15,8 @@ arrow_line a = codes "(" ++ (decimal a.source ++ (codes "," ++ (34 ∷ a.label +
 
 -- `des (initial,transitions,states)`
 abbrev pub header_line : (initial transitions states : ℕ) → List ℕ
-header_line initial transitions states = codes "des (" ++ (decimal initial ++ (codes "," ++ (decimal transitions ++ (codes "," ++ (decimal states ++ (codes ")" ++ line_end))))))
+header_line initial transitions states = codes "des (" ++ (decimal initial
+    ++ (codes "," ++ (decimal transitions ++ (codes "," ++ (decimal states ++ (codes ")" ++ line_end))))))
 
 -- the header, and then a line for each transition, which stand in order
 abbrev pub aut_text : System → List ℕ

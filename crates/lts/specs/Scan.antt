@@ -49,5 +49,6 @@ transition_at line = do
 -- The line is a transition between these states, of whose label the first bytes are kept: one more than a label has at most.
 abbrev pub PassesTransition : List ℕ → Option Ends → List ℕ → List ℕ → Type 0
 PassesTransition kept (Some e) text left =
-    (label : List ℕ) × (transition_at (line_of text) ≡ Some (record { source = e.source; label = label; target = e.target })) × (left ≡ below text) × (kept ≡ take (LONGEST_LABEL + 1) label)
+    (label : List ℕ) × (transition_at (line_of text) ≡ Some (record { source = e.source; label = label; target = e.target })) × (left ≡ below text)
+    × (kept ≡ take (LONGEST_LABEL + 1) label)
 PassesTransition kept None text left = transition_at (line_of text) ≡ None

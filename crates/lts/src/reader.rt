@@ -93,10 +93,12 @@ fn read_row<B: BufRead>(
     requires due { good < found.transitions }
     requires admitted { IsAdmitted found }
     requires labels { length rows.old.labels.keys ≤ good }
-    ensures row { OnOk result ((old : Option (List ℕ)) → SoFar found.states good old (B.remaining reader.old) (texts rows.old.labels.keys) rows.old.transitions.items
+    ensures row { OnOk result ((old : Option (List ℕ)) → SoFar found.states good old (B.remaining reader.old)
+        (texts rows.old.labels.keys) rows.old.transitions.items
         → SoFar found.states (good + 1) old (B.remaining reader.new) (texts rows.new.labels.keys) rows.new.transitions.items) }
     ensures labels { OnOk result (length rows.new.labels.keys ≤ good + 1) }
-    ensures fault { IfErr result (λ e. (old : Option (List ℕ)) → SoFar found.states good old (B.remaining reader.old) (texts rows.old.labels.keys) rows.old.transitions.items
+    ensures fault { IfErr result (λ e. (old : Option (List ℕ))
+        → SoFar found.states good old (B.remaining reader.old) (texts rows.old.labels.keys) rows.old.transitions.items
         → Refuses old (HasRestFault found) e) }
 {
     let line = u64::from(good) + 2;

@@ -8,7 +8,8 @@ const PLACES: usize = 256;
 // So many bytes at the end of a label tell its place.
 const TELLING: usize = 4;
 
-/// Numbers of labels that came lately, each at a place that its label tells. More than one label may tell a place, so whoever takes a number compares its label.
+/// Numbers of labels that came lately, each at a place that its label tells. More than one label may tell a place, so whoever
+/// takes a number compares its label.
 #[derive(Drop)]
 pub(crate) struct Recent {
     numbers: [u32; PLACES],

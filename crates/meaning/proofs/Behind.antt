@@ -102,8 +102,10 @@ pub into_any : (l : System) (r : Regular) (marks : List Bool) (s : ℕ) → Into
 into_any l r marks s = (λ w. (w.0, (any_behind l r s w.0).1 w.1, w.2), λ w. (w.0, (any_behind l r s w.0).0 w.1, w.2))
 
 module _ (l : System) (r : Regular) (marks : List Bool) (s : ℕ) where
-  behind : (b : Bool) → has_star r ≡ b → (t : ℕ) → Leads l (Plus r) s t ↔ MatchBool b (Leads l (Star (without_signs r)) s t) (Leads l (Plus (without_signs r)) s t)
-  behind b e t = subst (λ c. Leads l (Plus r) s t ↔ MatchBool c (Leads l (Star (without_signs r)) s t) (Leads l (Plus (without_signs r)) s t)) e (some_behind l r s t)
+  behind : (b : Bool) → has_star r ≡ b → (t : ℕ) → Leads l (Plus r) s t
+      ↔ MatchBool b (Leads l (Star (without_signs r)) s t) (Leads l (Plus (without_signs r)) s t)
+  behind b e t = subst (λ c. Leads l (Plus r) s t ↔ MatchBool c (Leads l (Star (without_signs r)) s t) (Leads l (Plus (without_signs r)) s t)) e
+      (some_behind l r s t)
 
   pub into_starred : has_star r ≡ true → Into l (Star (without_signs r)) marks s ↔ Into l (Plus r) marks s
   into_starred e = (λ w. (w.0, (behind true e w.0).1 w.1, w.2), λ w. (w.0, (behind true e w.0).0 w.1, w.2))

@@ -14,4 +14,5 @@ inside l steps i all lt = All-get_or (IsTransitionOf l) steps i none lt (All-fro
 -- its label is among the decided ones
 pub decided : (l : Numbered) (steps : List Transition) (i : ℕ) (chosen seen : List Bool) → IsInside l steps → i < length steps → seen ≡ chosen
     → ((k : ℕ) → k < length l.labels → k < 2 ^ 32 → k < length chosen) → (get_or steps i none).label < 2 ^ 32 → (get_or steps i none).label < length seen
-decided l steps i chosen seen all lt e count fits = let step = inside l steps i all lt in omega (arith, ap length e, count (get_or steps i none).label step.label fits)
+decided l steps i chosen seen all lt e count fits = let step = inside l steps i all lt
+    in omega (arith, ap length e, count (get_or steps i none).label step.label fits)

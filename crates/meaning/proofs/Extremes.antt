@@ -16,7 +16,8 @@ module _ (l : System) (ok : IsSystem l) (name : List ℕ) (f : Formula) (marks :
   nothing other = (λ s. false, λ s lt. (λ e. true≢false (sym e), λ none. absurd none))
 
   -- a set that the map leaves, as marks
-  left : (P : ℕ → Type 0) → Marks l.states marks P → ((s : ℕ) → s < l.states → body l f no_sets name P s ↔ P s) → (s : ℕ) → s < l.states → body l f no_sets name (marked marks) s ↔ marked marks s
+  left : (P : ℕ → Type 0) → Marks l.states marks P → ((s : ℕ) → s < l.states → body l f no_sets name P s ↔ P s) → (s : ℕ) → s < l.states
+      → body l f no_sets name (marked marks) s ↔ marked marks s
   left P m fixed s lt =
       let turn = mean_same l ok f _ _ (with_same l.states no_sets no_sets name (marked marks) P (λ other t h. (λ x. x, λ x. x)) m.exact) s lt in
       (λ h. (m.exact s lt).1 ((fixed s lt).0 (turn.0 h)), λ h. turn.1 ((fixed s lt).1 ((m.exact s lt).0 h)))

@@ -17,14 +17,16 @@ module _ (f : Bool × Bool → Bool) where
   length-mixed (suc i) (x ∷ xs) [] = refl
   length-mixed (suc i) (x ∷ xs) (y ∷ ys) = ap suc (length-mixed i xs ys)
 
-  pub mixed_more : (i : ℕ) (xs ys : List Bool) (d e : Bool) → length xs ≡ length ys → i < length ys → slice_set (mixed i xs ys) i (f (get_or (mixed i xs ys) i d, get_or ys i e)) ≡ mixed (suc i) xs ys
+  pub mixed_more : (i : ℕ) (xs ys : List Bool) (d e : Bool) → length xs ≡ length ys → i < length ys
+      → slice_set (mixed i xs ys) i (f (get_or (mixed i xs ys) i d, get_or ys i e)) ≡ mixed (suc i) xs ys
   mixed_more i xs [] d e same lt = absurd (omega arith)
   mixed_more i [] (y ∷ ys) d e same lt = absurd (omega arith)
   mixed_more zero (x ∷ xs) (y ∷ ys) d e same lt = refl
   mixed_more (suc i) (x ∷ xs) (y ∷ ys) d e same lt = ap (λ zs. f (x, y) ∷ zs) (mixed_more i xs ys d e (omega arith) (omega arith))
 
   -- a turn that reads the mark before it writes it
-  pub mixed_turn : (i : ℕ) (xs ys now : List Bool) (read : Bool) → now ≡ mixed i xs ys → read ≡ slice_index_or now i read → length xs ≡ length ys → i < length ys
+  pub mixed_turn : (i : ℕ) (xs ys now : List Bool) (read : Bool) → now ≡ mixed i xs ys → read ≡ slice_index_or now i read → length xs ≡ length ys
+      → i < length ys
       → slice_set now i (f (read, slice_index_or ys i false)) ≡ mixed (i + 1) xs ys
   mixed_turn i xs ys now read same at sized lt =
       let within : i < length now = omega (arith, ap length same, length-mixed i xs ys) in

@@ -17,7 +17,8 @@ use systems::system::{Lts, Transition};
 /// Whether the action formula holds of each label, by the label's number.
 pub fn chosen_labels(alloc: Global, lts: &Lts, action: &Act) -> Result<Vec<bool>, AllocError>
     ensures count { IfOk result (λ chosen. (k : ℕ) → k < length lts.now.labels → k < 2 ^ 32 → k < length chosen.items) }
-    ensures each { IfOk result (λ chosen. (k : ℕ) → k < length chosen.items → slice_index_or chosen.items k false ≡ holds_of (action_of action.now) (label_at lts.now.labels k)) }
+    ensures each { IfOk result (λ chosen. (k : ℕ) → k < length chosen.items
+        → slice_index_or chosen.items k false ≡ holds_of (action_of action.now) (label_at lts.now.labels k)) }
 {
     let mut chosen = Vec::with_capacity(alloc, lts.labels())?;
     for number in 0..lts.labels() {

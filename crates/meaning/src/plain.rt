@@ -56,7 +56,9 @@ fn iterated<'x, 'a>(
     requires scope { FitsScope lts.now.system.states scope.now }
     requires right { IsRight lts.now.system body.now }
     requires used { used ≡ is_free_in name.now.items (formula_in body.now) }
-    ensures { IfOk result (λ marks. Marks lts.now.system.states marks.items (iterate lts.now.system.states (λ set. mean lts.now.system (formula_in body.now) (with_set (sets_of scope.now) name.now.items set)) (λ s. IsTrue from))) }
+    ensures { IfOk result (λ marks. Marks lts.now.system.states marks.items
+        (iterate lts.now.system.states (λ set. mean lts.now.system (formula_in body.now) (with_set (sets_of scope.now) name.now.items set))
+        (λ s. IsTrue from))) }
 {
     let count = lts.states();
     let mut set = all(alloc, count as usize, from)?;
@@ -132,7 +134,8 @@ pub(crate) fn marks_of<'x, 'a>(
 pub fn plain_states(alloc: Global, lts: &Lts, formula: &Closed) -> Result<Vec<bool>, Memory>
     ensures meaning { IfOk result (λ marks. Marks lts.now.system.states marks.items (Satisfies lts.now.system (closed_formula formula.now))) }
     ensures least { IfOk result (λ marks. (name : List ℕ) (f : Formula) → closed_formula formula.now ≡ Mu name f → IsLeast lts.now.system name f marks.items) }
-    ensures greatest { IfOk result (λ marks. (name : List ℕ) (f : Formula) → closed_formula formula.now ≡ Nu name f → IsGreatest lts.now.system name f marks.items) }
+    ensures greatest { IfOk result (λ marks. (name : List ℕ) (f : Formula) → closed_formula formula.now ≡ Nu name f
+        → IsGreatest lts.now.system name f marks.items) }
 {
     let term = term_of(alloc, lts, formula.tree(), false)?;
     Ok(marks_of(alloc, lts, &term, &Scope::Empty)?)

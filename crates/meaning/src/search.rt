@@ -70,7 +70,8 @@ fn visit(
     ensures kept { OnOk result ((s : ℕ) → marked found.old.items s → marked found.new.items s) }
     ensures waits { OnOk result ((s : ℕ) → Contains waiting.old.items s → Contains waiting.new.items s) }
     ensures sources { OnOk result ((s : ℕ) → IsSource arrivals.now state s → marked found.new.items s) }
-    ensures fresh { OnOk result ((s : ℕ) → marked found.new.items s → marked found.old.items s ⊎ (Contains waiting.new.items s × IsSource arrivals.now state s)) }
+    ensures fresh { OnOk result ((s : ℕ) → marked found.new.items s → marked found.old.items s
+        ⊎ (Contains waiting.new.items s × IsSource arrivals.now state s)) }
     ensures fewer { OnOk result (2 * unmarked found.new.items + length waiting.new.items ≤ 2 * unmarked found.old.items + length waiting.old.items) }
 {
     let mut next = arrivals.last[state];

@@ -35,12 +35,14 @@ pub no_less : (flag : Bool) (n : ℕ) → n ≤ parity_from flag n
 no_less true n = omega arith
 no_less false n = omega arith
 
-numbered : (rule : Rule) (n at : ℕ) (f : Norm) → VariablesBelow n f → at + size f ≤ n → greatest_priority (nodes_by rule at f) ≤ 31 → AllByRecursion (IsNode n) (nodes_by rule at f)
+numbered : (rule : Rule) (n at : ℕ) (f : Norm) → VariablesBelow n f → at + size f ≤ n → greatest_priority (nodes_by rule at f) ≤ 31
+    → AllByRecursion (IsNode n) (nodes_by rule at f)
 numbered rule n at (Constant flag) v fits low = ((omega arith, tt), tt)
 numbered rule n at (Junction flag f g) v fits low =
     let both = greatest_append (nodes_by rule (at + 1) f) (nodes_by rule (at + 1 + size f) g) in (
       (omega arith, (omega (arith, size_some f), omega (arith, size_some g))),
-      all_append (IsNode n) (nodes_by rule (at + 1) f) (nodes_by rule (at + 1 + size f) g) (numbered rule n (at + 1) f v.0 (omega arith) (omega arith)) (numbered rule n (at + 1 + size f) g v.1 (omega arith) (omega arith)),
+      all_append (IsNode n) (nodes_by rule (at + 1) f) (nodes_by rule (at + 1 + size f) g) (numbered rule n (at + 1) f v.0 (omega arith) (omega arith))
+          (numbered rule n (at + 1 + size f) g v.1 (omega arith) (omega arith)),
     )
 numbered rule n at (Modality flag a f) v fits low = ((omega arith, omega (arith, size_some f)), numbered rule n (at + 1) f v (omega arith) (omega arith))
 numbered rule n at (Fixpoint flag f) v fits low = ((omega arith, omega (arith, size_some f)), numbered rule n (at + 1) f v (omega arith) (omega arith))
@@ -57,13 +59,16 @@ modal_below : (n : ℕ) (flag : Bool) (r : Regular) (f : ℕ → Norm) → IsBel
 modal_below n flag (Step a) f h at fits = h (at + 1) (omega arith)
 modal_below n flag (Then r s) f h at fits = modal_below n flag r (modal flag s f) (modal_below n flag s f h) at fits
 modal_below n flag (Either r s) f h at fits = two_below n flag (modal flag r f) (modal flag s f) (modal_below n flag r f h) (modal_below n flag s f h) at fits
-modal_below n flag (Star r) f h at fits = two_below n flag f (modal flag r (λ _. Variable at)) h (modal_below n flag r (λ _. Variable at) (λ b room. omega (arith, fits))) (at + 1) (omega (arith, fits))
+modal_below n flag (Star r) f h at fits = two_below n flag f (modal flag r (λ _. Variable at)) h
+    (modal_below n flag r (λ _. Variable at) (λ b room. omega (arith, fits))) (at + 1) (omega (arith, fits))
 modal_below n flag (Plus r) f h at fits =
     modal_below n flag r (loop_of flag (modal flag r) f)
-    (λ b room. two_below n flag f (modal flag r (λ _. Variable b)) h (modal_below n flag r (λ _. Variable b) (λ d space. omega (arith, room))) (b + 1) (omega (arith, room)))
+    (λ b room. two_below n flag f (modal flag r (λ _. Variable b)) h (modal_below n flag r (λ _. Variable b) (λ d space. omega (arith, room))) (b + 1)
+    (omega (arith, room)))
     at fits
 
-binder_below : (n at : ℕ) (binders : List ℕ → ℕ) (name : List ℕ) → ((x : List ℕ) → binders x < n) → at < n → (other : List ℕ) → with_binder binders name at other < n
+binder_below : (n at : ℕ) (binders : List ℕ → ℕ) (name : List ℕ) → ((x : List ℕ) → binders x < n) → at < n → (other : List ℕ)
+    → with_binder binders name at other < n
 binder_below n at binders name h k other = elim (bytes_eq other name) as (λ b. cond b at (binders other) < n) [ true ↦ k | false ↦ h other ]
 
 norm_below : (n : ℕ) (flag : Bool) (binders : List ℕ → ℕ) (f : Formula) → ((x : List ℕ) → binders x < n) → IsBelow n (norm flag binders f)
@@ -71,13 +76,18 @@ norm_below n flag binders True b at fits = tt
 norm_below n flag binders False b at fits = tt
 norm_below n flag binders (Var name) b at fits = b name
 norm_below n flag binders (Not f) b at fits = norm_below n (not flag) binders f b at fits
-norm_below n flag binders (And f g) b at fits = two_below n (not flag) (norm flag binders f) (norm flag binders g) (norm_below n flag binders f b) (norm_below n flag binders g b) at fits
-norm_below n flag binders (Or f g) b at fits = two_below n flag (norm flag binders f) (norm flag binders g) (norm_below n flag binders f b) (norm_below n flag binders g b) at fits
-norm_below n flag binders (Implies f g) b at fits = two_below n flag (norm (not flag) binders f) (norm flag binders g) (norm_below n (not flag) binders f b) (norm_below n flag binders g b) at fits
+norm_below n flag binders (And f g) b at fits = two_below n (not flag) (norm flag binders f) (norm flag binders g) (norm_below n flag binders f b)
+    (norm_below n flag binders g b) at fits
+norm_below n flag binders (Or f g) b at fits = two_below n flag (norm flag binders f) (norm flag binders g) (norm_below n flag binders f b)
+    (norm_below n flag binders g b) at fits
+norm_below n flag binders (Implies f g) b at fits = two_below n flag (norm (not flag) binders f) (norm flag binders g) (norm_below n (not flag) binders f b)
+    (norm_below n flag binders g b) at fits
 norm_below n flag binders (Dia r f) b at fits = modal_below n flag r (norm flag binders f) (norm_below n flag binders f b) at fits
 norm_below n flag binders (Box r f) b at fits = modal_below n (not flag) r (norm flag binders f) (norm_below n flag binders f b) at fits
-norm_below n flag binders (Mu name f) b at fits = norm_below n flag (with_binder binders name at) f (binder_below n at binders name b (omega (arith, fits))) (at + 1) (omega (arith, fits))
-norm_below n flag binders (Nu name f) b at fits = norm_below n flag (with_binder binders name at) f (binder_below n at binders name b (omega (arith, fits))) (at + 1) (omega (arith, fits))
+norm_below n flag binders (Mu name f) b at fits = norm_below n flag (with_binder binders name at) f (binder_below n at binders name b (omega (arith, fits)))
+    (at + 1) (omega (arith, fits))
+norm_below n flag binders (Nu name f) b at fits = norm_below n flag (with_binder binders name at) f (binder_below n at binders name b (omega (arith, fits)))
+    (at + 1) (omega (arith, fits))
 
 -- The nodes of a normal form within the limits are those of a `Normal`.
 pub is_form : (priorities : Priorities) (f : Formula) → count f ≤ 4096 → greatest_priority (nodes_with priorities f) ≤ 31 → IsForm (nodes_with priorities f)

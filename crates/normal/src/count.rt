@@ -46,7 +46,8 @@ pub fn count(formula: &State) -> Option<u32>
 #[tactic(auto, using(crate::proofs::Counts::modal_count_grows))]
 fn modal_count(regular: &Reg, operand: u32) -> Option<u32>
     requires { operand ≤ MOST_NODES }
-    ensures { MatchOption result (MOST_NODES < modal_count_of (regular_of regular.now) operand) (λ n. (n ≡ modal_count_of (regular_of regular.now) operand) × (n ≤ MOST_NODES)) }
+    ensures { MatchOption result (MOST_NODES < modal_count_of (regular_of regular.now) operand)
+        (λ n. (n ≡ modal_count_of (regular_of regular.now) operand) × (n ≤ MOST_NODES)) }
 {
     match regular {
         Reg::Act(_) => within(1 + operand),

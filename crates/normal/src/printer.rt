@@ -92,7 +92,8 @@ fn word(kind: &Kind) -> &'static [u8]
 
 // Writes the fields that every node has.
 fn put_front<W: Write>(number: usize, node: &Node, writer: &mut W) -> Result<(), WriteFault>
-    ensures { Wrote (W.contents writer.old) (W.contents writer.new) result (fields (decimal number ∷ kind_text (shape_of node.now.kind) ∷ decimal node.now.priority ∷ [])) }
+    ensures { Wrote (W.contents writer.old) (W.contents writer.new) result
+        (fields (decimal number ∷ kind_text (shape_of node.now.kind) ∷ decimal node.now.priority ∷ [])) }
 {
     put_pieces(
         writer,

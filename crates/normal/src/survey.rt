@@ -389,7 +389,8 @@ impl Survey {
         requires from_greatest { inside.from_greatest < 2 ^ 31 }
         ensures own { slice_index self.new.priorities place.at ≡ chosen self.old.rule flag inside.nested (open_at self.old.opens place.level).above }
         ensures others { (k : ℕ) → k ≢ place.at → slice_index self.new.priorities k ≡ slice_index self.old.priorities k }
-        ensures opens { (i : ℕ) → i < place.level → open_at self.new.opens i ≡ raised place.at (parity_from flag (open_at self.old.opens place.level).above) (open_at self.old.opens i) }
+        ensures opens { (i : ℕ) → i < place.level → open_at self.new.opens i
+            ≡ raised place.at (parity_from flag (open_at self.old.opens place.level).above) (open_at self.old.opens i) }
         ensures rule { self.new.rule ≡ self.old.rule }
         ensures summary { IsFixpointOf flag inside (chosen self.old.rule flag inside.nested (open_at self.old.opens place.level).above) result }
     {

@@ -76,7 +76,8 @@ impl<'p> Preorder<'p> {
     // One more node, with the priority of its number.
     fn leaf(&mut self, kind: Kind) -> Result<(), AllocError>
         requires { vec_len self.old.nodes < MOST_NODES }
-        ensures nodes { OnOk result (nodes_of self.new.nodes.items ≡ nodes_of self.old.nodes.items ++ record { shape = shape_of kind; priority = slice_index self.old.priorities.now (vec_len self.old.nodes) } ∷ []) }
+        ensures nodes { OnOk result (nodes_of self.new.nodes.items ≡ nodes_of self.old.nodes.items
+            ++ record { shape = shape_of kind; priority = slice_index self.old.priorities.now (vec_len self.old.nodes) } ∷ []) }
         ensures count { OnOk result (vec_len self.new.nodes ≡ vec_len self.old.nodes + 1) }
         ensures priorities { self.new.priorities ≡ self.old.priorities }
     {
@@ -170,7 +171,8 @@ impl<'p> Preorder<'p> {
         regular: &'a Reg,
         operand: &'a Part<'a>,
     ) -> Result<(), AllocError>
-        requires { vec_len self.old.nodes + size (loop_of flag (modal flag (regular_of regular.now)) (tree_of operand.now) (vec_len self.old.nodes)) ≤ MOST_NODES }
+        requires { vec_len self.old.nodes + size (loop_of flag (modal flag (regular_of regular.now)) (tree_of operand.now)
+            (vec_len self.old.nodes)) ≤ MOST_NODES }
         ensures { OnOk result (Writes self.old self.new (loop_of flag (modal flag (regular_of regular.now)) (tree_of operand.now) (vec_len self.old.nodes))) }
     {
         let variable = Part::Variable(self.nodes.len() as u32);

@@ -51,7 +51,8 @@ line_same n line x y small within h k =
     let same_successors : y.successors ≡ x.successors = small_numbers n x.successors y.successors small within.successors (ap (λ (l : Line). l.successors) e) in
     λ i. record { id = same_id i; priority = same_priority i; owner = sym owner i; successors = same_successors i }
 
-pub lines_are : (n : ℕ) (rest : List (List ℕ)) (xs ys : List Line) → n < MOST_VERTICES → AllByRecursion (IsWithin n) xs → AllZip IsLine rest xs → AllZip IsLine rest ys → ys ≡ xs
+pub lines_are : (n : ℕ) (rest : List (List ℕ)) (xs ys : List Line) → n < MOST_VERTICES → AllByRecursion (IsWithin n) xs → AllZip IsLine rest xs
+    → AllZip IsLine rest ys → ys ≡ xs
 lines_are n [] [] [] small within h k = refl
 lines_are n [] [] (y ∷ ys) small within h k = absurd k
 lines_are n [] (x ∷ xs) ys small within h k = absurd h
@@ -63,7 +64,8 @@ lines_are n (line ∷ rest) (x ∷ xs) (y ∷ ys) small within h k =
     λ i. e i ∷ r i
 
 -- two readings of one text have one header and the same lines
-pub text_same : (text : List ℕ) (g : Game) (a : IsGameText text g) (first : List ℕ) (rest : List (List ℕ)) (n : ℕ) → lines text ≡ first ∷ rest → IsHeader first n → n < MOST_VERTICES → (n ≡ a.n) × (rest ≡ a.rest)
+pub text_same : (text : List ℕ) (g : Game) (a : IsGameText text g) (first : List ℕ) (rest : List (List ℕ)) (n : ℕ) → lines text ≡ first ∷ rest
+    → IsHeader first n → n < MOST_VERTICES → (n ≡ a.n) × (rest ≡ a.rest)
 text_same text g a first rest n cut header small =
     let same = lines_same first a.first rest a.rest (sym cut ∙ a.cut) in
     let h = header_same a.first n a.n (subst (λ l. IsHeader l n) same.0 header) a.header in
@@ -75,13 +77,16 @@ other_vertex = record { owner = Even; priority = 0; successors = [] }
 pub one_game : (text : List ℕ) (g h : Game) → IsGameText text g → IsGameText text h → g ≡ h
 one_game text g h a b =
     let (same_n, same_rest) = text_same text g a b.first b.rest b.n b.cut b.header b.limit in
-    let spelled : b.spelled ≡ a.spelled = lines_are a.n a.rest a.spelled b.spelled a.limit a.good.within a.good.each (subst (λ r. AllZip IsLine r b.spelled) same_rest b.good.each) in
+    let spelled : b.spelled ≡ a.spelled = lines_are a.n a.rest a.spelled b.spelled a.limit a.good.within a.good.each
+    (subst (λ r. AllZip IsLine r b.spelled) same_rest b.good.each) in
     let count : length a.spelled ≡ a.n + 1 = zip_length a.rest a.spelled a.good.each ∙ a.complete in
     let size : length g.vertices ≡ length h.vertices = omega (arith, a.size, b.size, same_n) in
     let vertices : g.vertices ≡ h.vertices =
     ext_get_or other_vertex g.vertices h.vertices size (λ v below.
-    let (x, there, is) = each_there a.n v a.spelled a.good.once (λ y k. (all_has (IsWithin a.n) a.spelled y a.good.within k).id) count (omega (arith, a.size)) in
+    let (x, there, is) = each_there a.n v a.spelled a.good.once (λ y k. (all_has (IsWithin a.n) a.spelled y a.good.within k).id) count
+    (omega (arith, a.size)) in
     let at_g : slice_get g.vertices v ≡ Some (vertex_of x) = ap (slice_get g.vertices) (sym is) ∙ a.placed x (Contains-from_Has a.spelled x there) in
-    let at_h : slice_get h.vertices v ≡ Some (vertex_of x) = ap (slice_get h.vertices) (sym is) ∙ b.placed x (Contains-from_Has b.spelled x (subst (λ l. Has l x) (sym spelled) there)) in
+    let at_h : slice_get h.vertices v ≡ Some (vertex_of x) = ap (slice_get h.vertices) (sym is)
+    ∙ b.placed x (Contains-from_Has b.spelled x (subst (λ l. Has l x) (sym spelled) there)) in
     get_or_from_slice_get g.vertices v (vertex_of x) other_vertex at_g ∙ sym (get_or_from_slice_get h.vertices v (vertex_of x) other_vertex at_h)) in
     λ i. record { vertices = vertices i; named = (a.unnamed ∙ sym b.unnamed) i }

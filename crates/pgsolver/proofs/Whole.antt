@@ -19,20 +19,24 @@ use Rattle.pgsolver.proofs.Unique as unique
 use Rattle.pgsolver.proofs.Faults.{no_fault, one_fault}
 
 -- the line's vertex was put at its identifier
-placed : (n : ℕ) (vertices put : List Vertex) (places : List (Option ℕ)) (text left : List ℕ) → (all : AreAll n vertices places text left) → ArePut places vertices put → (x : Line) → Contains all.spelled x → slice_get put x.id ≡ Some (vertex_of x)
+placed : (n : ℕ) (vertices put : List Vertex) (places : List (Option ℕ)) (text left : List ℕ) → (all : AreAll n vertices places text left)
+    → ArePut places vertices put → (x : Line) → Contains all.spelled x → slice_get put x.id ≡ Some (vertex_of x)
 placed n vertices put places text left all are x there =
     let here = Has-from_Contains all.spelled x there in
     let low = (all_has (IsWithin n) all.spelled x all.good_lines.within here).id in
-    elim (slice_index_or places x.id None) as (λ o. slice_index_or places x.id None ≡ o → IsPlace all.spelled x.id o → slice_get put x.id ≡ Some (vertex_of x)) [
+    elim (slice_index_or places x.id None) as (λ o. slice_index_or places x.id None ≡ o → IsPlace all.spelled x.id o
+    → slice_get put x.id ≡ Some (vertex_of x)) [
       | None ↦ λ _ none. absurd (none x there refl)
       | (Some k) ↦ λ is at.
           let (y, e, same) = at in
           let one : y ≡ x = one_line all.spelled y x all.good_lines.once (has_at all.spelled k y e) here same in
-          are x.id k (omega (arith, all.placed.count, low)) is ∙ ap (λ vs. slice_get vs k) all.kept ∙ slice_get-map vertex_of all.spelled k ∙ ap (option_map vertex_of) e ∙ ap (λ z. Some (vertex_of z)) one
+          are x.id k (omega (arith, all.placed.count, low)) is ∙ ap (λ vs. slice_get vs k) all.kept ∙ slice_get-map vertex_of all.spelled k
+          ∙ ap (option_map vertex_of) e ∙ ap (λ z. Some (vertex_of z)) one
     ] refl (all.placed.each x.id low)
 
 -- what was read is spelled
-pub read_whole : (old mid new : Option (List ℕ)) (n : ℕ) (vertices : List Vertex) (places : List (Option ℕ)) (g : Game) → n < MOST_VERTICES → IfKnown old mid (BeginsWith n) → IfKnown mid new (AreAll n vertices places) → length vertices ≡ length places
+pub read_whole : (old mid new : Option (List ℕ)) (n : ℕ) (vertices : List Vertex) (places : List (Option ℕ)) (g : Game) → n < MOST_VERTICES
+    → IfKnown old mid (BeginsWith n) → IfKnown mid new (AreAll n vertices places) → length vertices ≡ length places
     → length g.vertices ≡ length vertices → ArePut places vertices g.vertices → g.named ≡ None → IfSome old (λ text. IsGameText text g)
 read_whole None mid new n vertices places g small begins all many size put unnamed = tt
 read_whole (Some text) None new n vertices places g small begins all many size put unnamed = absurd begins
@@ -53,12 +57,14 @@ read_whole (Some text) (Some left) (Some rest) n vertices places g small begins 
 }
 
 -- a fault below the header decides
-pub read_fault : (old mid : Option (List ℕ)) (n : ℕ) (e : PgError) → n < MOST_VERTICES → IfKnown old mid (BeginsWith n) → Refuses mid (HasRestFault n) e → Refuses old HasFault e
+pub read_fault : (old mid : Option (List ℕ)) (n : ℕ) (e : PgError) → n < MOST_VERTICES → IfKnown old mid (BeginsWith n) → Refuses mid (HasRestFault n) e
+    → Refuses old HasFault e
 read_fault None mid n e small begins wrong = tt
 read_fault (Some text) None n e small begins wrong = absurd begins
 read_fault (Some text) (Some left) n errors.Read small begins wrong = tt
 read_fault (Some text) (Some left) n errors.Memory small begins wrong = tt
-read_fault (Some text) (Some left) n (errors.Fault fault line) small begins (good, body, place) = inr (begins.first, lines left, n, good, begins.cut, begins.header, small, body, place)
+read_fault (Some text) (Some left) n (errors.Fault fault line) small begins (good, body, place) = inr
+    (begins.first, lines left, n, good, begins.cut, begins.header, small, body, place)
 
 pub laws : AreLaws IsGameText IsGameText IsGameText HasFaultAt
 laws = record {
@@ -69,5 +75,6 @@ laws = record {
 }
 
 -- all that the reader promises
-pub promised : (old : Option (List ℕ)) (r : Result Game PgError) → IfOk r (λ g. IfSome old (λ text. IsGameText text g)) → IfErr r (Refuses old HasFault) → Reads IsGameText IsGameText IsGameText HasFaultAt (λ (g : Game). g) named old r
+pub promised : (old : Option (List ℕ)) (r : Result Game PgError) → IfOk r (λ g. IfSome old (λ text. IsGameText text g)) → IfErr r (Refuses old HasFault)
+    → Reads IsGameText IsGameText IsGameText HasFaultAt (λ (g : Game). g) named old r
 promised old r spelled fault = keeps IsGameText IsGameText IsGameText HasFaultAt (λ (g : Game). g) named laws old r spelled fault

@@ -21,4 +21,5 @@ OneFault = (text : List ℕ) (f g : PgFault) (i j : ℕ) → HasFault text f i �
 
 -- The canonical text of a game with some vertex and without a priority above 31 spells that game without its names.
 abbrev pub CanonSpells : Type 0
-CanonSpells = (g : Game) → IsGame g → 1 ≤ length g.vertices → greatest g ≤ GREATEST_PRIORITY → IsGameText (game_text g) (record { vertices = g.vertices; named = None })
+CanonSpells = (g : Game) → IsGame g → 1 ≤ length g.vertices → greatest g ≤ GREATEST_PRIORITY
+    → IsGameText (game_text g) (record { vertices = g.vertices; named = None })

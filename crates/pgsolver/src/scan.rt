@@ -94,7 +94,8 @@ fn first_target(line: &[u8]) -> Option<(u32, &[u8])>
 
 // Adds the numbers behind commas to the list, and answers what follows them.
 fn more_targets<'a>(line: &'a [u8], targets: &mut Vec<u32>) -> Result<Option<&'a [u8]>, AllocError>
-    ensures { IfOk result (λ found. FindsMore targets.old.items targets.new.items (option_map (λ rest. rest.now) found) (at.more_at (length line.now + 1) line.now)) }
+    ensures { IfOk result (λ found. FindsMore targets.old.items targets.new.items (option_map (λ rest. rest.now) found)
+        (at.more_at (length line.now + 1) line.now)) }
 {
     let mut rest = line;
     while let Some(after) = sign(rest, b",") {

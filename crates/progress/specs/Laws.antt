@@ -17,7 +17,8 @@ ProgExists = (g : Game) (p : ℕ) (m : Measure) → IsMeasure g m → (r : Measu
 -- t is one of the vertex's successors, and its prog is at most that of each other
 pub record IsLeastSuccessor (g : Game) (table : List Measure) (x : Vertex) (t : ℕ) : Type 0 where
   pub successor : Contains x.successors t
-  pub least : (u : ℕ) → Contains x.successors u → (m r : Measure) → IsProg g x.priority (value_at table t) m → IsProg g x.priority (value_at table u) r → IsAtMost m r
+  pub least : (u : ℕ) → Contains x.successors u → (m r : Measure) → IsProg g x.priority (value_at table t) m → IsProg g x.priority (value_at table u) r
+      → IsAtMost m r
 
 -- Even wins each vertex at which some progress table isn't top, by choosing a successor with the least prog.
 abbrev pub TableWins : Type 0
@@ -62,11 +63,13 @@ DualTop =
 -- Lifts from the opening table, at one vertex after another in any order, come to no progress table but the least.
 abbrev pub LiftingFindsLeast : Type 0
 LiftingFindsLeast =
-    (g : Game) → IsGame g → (tables : List (List Measure)) (table : List Measure) → AreLifts g (opening g) tables table → IsProgress g table → IsLeastTable g table
+    (g : Game) → IsGame g → (tables : List (List Measure)) (table : List Measure) → AreLifts g (opening g) tables table → IsProgress g table
+    → IsLeastTable g table
 
 -- Lifts that each change the table are at most the number of vertices times that of the lists of counts.
 abbrev pub LiftingEnds : Type 0
-LiftingEnds = (g : Game) (tables : List (List Measure)) (table : List Measure) → AreRises g (opening g) tables table → length tables ≤ length g.vertices * height g
+LiftingEnds = (g : Game) (tables : List (List Measure)) (table : List Measure) → AreRises g (opening g) tables table
+    → length tables ≤ length g.vertices * height g
 
 -- The number of the measures below one is its counts read in mixed radix.
 abbrev pub RankIsCode : Type 0
@@ -75,4 +78,5 @@ RankIsCode = (g : Game) (m : Measure) → IsMeasure g m → IsRank g m (rank g m
 -- What a good claim says over a table that lies below lies below too.
 abbrev pub ClaimsLieBelow : Type 0
 ClaimsLieBelow =
-    (t : Table) (entries : List (Option Entry)) → IsPlain t → IsGoodClaim t.game t.values entries → (v : ℕ) (x : Entry) → entry_at entries v ≡ Some x → LiesBelow t.game v x.value
+    (t : Table) (entries : List (Option Entry)) → IsPlain t → IsGoodClaim t.game t.values entries → (v : ℕ) (x : Entry) → entry_at entries v ≡ Some x
+    → LiesBelow t.game v x.value

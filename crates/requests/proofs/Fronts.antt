@@ -28,7 +28,8 @@ fault_front n text fault place m (inl (long, is, at)) = inl (omega (arith, long,
 fault_front n text fault place m (inr (short, rest)) = subst (λ t. HasFault t fault place) (whole_front n text (omega (arith, short))) (inr (short, rest))
 
 -- what is read to the end of a reader that was cut at a limit
-pub read_all : {S : Type 0} → (remaining : S → Option (List ℕ)) (t : Take S) (reader : S) (old new : List ℕ) → take_limit t ≡ 1048577 → take_inner t ≡ reader → old ≡ []
+pub read_all : {S : Type 0} → (remaining : S → Option (List ℕ)) (t : Take S) (reader : S) (old new : List ℕ) → take_limit t ≡ 1048577 → take_inner t ≡ reader
+    → old ≡ []
     → IfSome (take_remaining remaining t) (λ xs. new ≡ old ++ xs) → IfSome (remaining reader) (λ all. new ≡ take 1048577 all)
 read_all remaining t reader old new limit inner none h = go (remaining t.inner) (remaining reader) (ap remaining inner) h
   where
@@ -40,7 +41,8 @@ read_all remaining t reader old new limit inner none h = go (remaining t.inner) 
         at (Some all) k = k ∙ (ap (λ o. o ++ take t.limit all) none ∙ ap (λ n. take n all) limit)
 
 -- What the front alone spells is spelled by the whole text, alone.
-pub formula_of_front : (known : Option (List ℕ)) (front text : List ℕ) (f : Formula) → IfSome known (λ all. front ≡ take 1048577 all) → text ≡ front → SpellsWithin text f → IsAdmitted f
+pub formula_of_front : (known : Option (List ℕ)) (front text : List ℕ) (f : Formula) → IfSome known (λ all. front ≡ take 1048577 all) → text ≡ front
+    → SpellsWithin text f → IsAdmitted f
     → ((other : Formula) → Spells text other → other ≡ f) → IfSome known (λ all. IsFormulaOf all f)
 formula_of_front None front text f h e s admitted only = tt
 formula_of_front (Some all) front text f h e s admitted only =

@@ -16,8 +16,10 @@ pub at_known : (P : List ℕ → Type 0) (known : Option (List ℕ)) (text : Lis
 at_known P known text e h = subst (λ o. IfSome o P) e h
 
 -- what both readers say
-pub spelled_of : (first second : List ℕ) (known_first known_second : Option (List ℕ)) (l : System) (f : Formula) → known_first ≡ Some first → known_second ≡ Some second
-    → IfSome known_first (λ text. IsAut text l) → IfSome known_first (λ text. (other : System) → IsAut text other → other ≡ l) → IfSome known_second (λ text. IsFormulaOf text f)
+pub spelled_of : (first second : List ℕ) (known_first known_second : Option (List ℕ)) (l : System) (f : Formula) → known_first ≡ Some first
+    → known_second ≡ Some second
+    → IfSome known_first (λ text. IsAut text l) → IfSome known_first (λ text. (other : System) → IsAut text other → other ≡ l)
+    → IfSome known_second (λ text. IsFormulaOf text f)
     → AreSpelled first second l f
 spelled_of first second known_first known_second l f e d system only_system formula = record {
   system = record {
@@ -49,11 +51,13 @@ ok_same : {T : Type 0} → (x y : T) → ◌≡◌ {A = Result T MuError} (Ok x)
 ok_same x y h = cc
 
 -- What holds of an answer holds of it too where errors were turned into others.
-pub ok_before : {T E : Type 0} → (r : Result T E) (x : T) (P : T → Type 0) → MatchResult r (λ y. ◌≡◌ {A = Result T MuError} (Ok x) (Ok y)) (λ e. ⊥) → IfOk r P → P x
+pub ok_before : {T E : Type 0} → (r : Result T E) (x : T) (P : T → Type 0) → MatchResult r (λ y. ◌≡◌ {A = Result T MuError} (Ok x) (Ok y)) (λ e. ⊥)
+    → IfOk r P → P x
 ok_before (Ok y) x P h p = subst P (sym (ok_same x y h)) p
 ok_before (Err e) x P h p = absurd h
 
-pub ok_after : {T E : Type 0} → (Q : E → MuError → Type 0) (r : Result T E) (s : Result T MuError) (P : T → Type 0) → MatchResult r (λ x. s ≡ Ok x) (λ e. IsErrAnd s (Q e)) → IfOk r P → IfOk s P
+pub ok_after : {T E : Type 0} → (Q : E → MuError → Type 0) (r : Result T E) (s : Result T MuError) (P : T → Type 0)
+    → MatchResult r (λ x. s ≡ Ok x) (λ e. IsErrAnd s (Q e)) → IfOk r P → IfOk s P
 ok_after Q (Ok x) s P h p = subst (λ y. IfOk y P) (sym h) p
 ok_after Q (Err e) (Ok x) P h p = absurd h
 ok_after Q (Err e) (Err d) P h p = tt
@@ -63,12 +67,14 @@ ok_both (Ok x) P Q h k = (h, k)
 ok_both (Err e) P Q h k = tt
 
 -- both at once
-pub ok_after_both : {T E : Type 0} → (L : E → MuError → Type 0) (r : Result T E) (s : Result T MuError) (P Q R : T → Type 0) → MatchResult r (λ x. s ≡ Ok x) (λ e. IsErrAnd s (L e)) → IfOk r P → IfOk r Q
+pub ok_after_both : {T E : Type 0} → (L : E → MuError → Type 0) (r : Result T E) (s : Result T MuError) (P Q R : T → Type 0)
+    → MatchResult r (λ x. s ≡ Ok x) (λ e. IsErrAnd s (L e)) → IfOk r P → IfOk r Q
     → ((x : T) → P x → Q x → R x) → IfOk s R
 ok_after_both L r s P Q R h p q f = ok_after L r s R h (IfOk-weaker r (λ x. P x × Q x) R (λ x k. f x k.0 k.1) (ok_both r P Q p q))
 
 -- What holds of what an error was turned into holds of the refusal.
-pub err_after : {T E : Type 0} → (make : E → MuError) (r : Result T E) (s : Result T MuError) (P : MuError → Type 0) → MatchResult r (λ x. s ≡ Ok x) (λ e. IsErrAnd s (λ d. d ≡ make e)) → IfErr r (λ e. P (make e))
+pub err_after : {T E : Type 0} → (make : E → MuError) (r : Result T E) (s : Result T MuError) (P : MuError → Type 0)
+    → MatchResult r (λ x. s ≡ Ok x) (λ e. IsErrAnd s (λ d. d ≡ make e)) → IfErr r (λ e. P (make e))
     → IfErr s P
 err_after make (Ok x) s P h p = subst (λ y. IfErr y P) (sym h) tt
 err_after make (Err e) (Ok x) P h p = absurd h

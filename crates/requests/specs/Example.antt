@@ -15,7 +15,8 @@ two_states = record {
 
 -- on `<a>true`
 report_one_step : report two_states (Dia (Step (Names (codes "a" ∷ []))) True) (true ∷ false ∷ [])
-    ≡ codes "system 2 states 2 transitions initial 0" ++ line_end ++ codes "formula <a>true" ++ line_end ++ codes "yes 1 of 2" ++ line_end ++ codes "initial yes" ++ line_end
+    ≡ codes "system 2 states 2 transitions initial 0" ++ line_end ++ codes "formula <a>true" ++ line_end ++ codes "yes 1 of 2" ++ line_end
+    ++ codes "initial yes" ++ line_end
     ++ codes "0 yes" ++ line_end ++ codes "1 no" ++ line_end
 unfolding digits
 report_one_step = refl

@@ -36,4 +36,5 @@ state_lines s (mark ∷ marks) = decimal s ++ (yes_or_no mark ++ state_lines (s 
 -- the report where these states are marked yes
 abbrev pub report : System → Formula → List Bool → List ℕ
 report l f marks =
-    system_line l.states (length l.arrows) l.initial ++ (formula_line f ++ (yes_line (count_by (λ mark. mark) marks) l.states ++ (initial_line (slice_index_or marks l.initial false) ++ state_lines 0 marks)))
+    system_line l.states (length l.arrows) l.initial ++ (formula_line f
+    ++ (yes_line (count_by (λ mark. mark) marks) l.states ++ (initial_line (slice_index_or marks l.initial false) ++ state_lines 0 marks)))

@@ -87,7 +87,8 @@ game_writer contents (Some game) (inr (inr x)) = absurd x
 abbrev pub evidence_writers : {E O : Type 0} → (E → Option (List ℕ)) → (O → Option (List ℕ)) → EvidenceWriters E O → LeftBoth E O → List Lent
 evidence_writers evens odds Neither left = no_writer ∷ no_writer ∷ []
 evidence_writers evens odds (Both even odd) (inl x) = lent_for EvenText (evens even.now) None ∷ lent_for OddText (odds odd.now) None ∷ []
-evidence_writers evens odds (Both even odd) (inr (inl left)) = lent_for EvenText (evens even.now) (evens left.0.now) ∷ lent_for OddText (odds odd.now) (odds left.1.0.now) ∷ []
+evidence_writers evens odds (Both even odd) (inr (inl left)) = lent_for EvenText (evens even.now) (evens left.0.now) ∷ lent_for OddText (odds odd.now)
+    (odds left.1.0.now) ∷ []
 evidence_writers evens odds (Both even odd) (inr (inr x)) = absurd x
 
 abbrev pub report_writer : (old new : Option (List ℕ)) → List Lent
@@ -103,7 +104,8 @@ witness_kind (Some System) = WitnessText
 witness_kind (Some Drawing) = DrawingText
 
 -- the writers of all texts in their order, each for its text where that is wanted
-abbrev pub all_writers : Wanted → (old_game new_game old_even new_even old_odd new_odd old_witness new_witness old_report new_report : Option (List ℕ)) → List Lent
+abbrev pub all_writers : Wanted → (old_game new_game old_even new_even old_odd new_odd old_witness new_witness old_report new_report : Option (List ℕ))
+    → List Lent
 all_writers wanted old_game new_game old_even new_even old_odd new_odd old_witness new_witness old_report new_report =
     lent_for (kind_where wanted.game GameText) old_game new_game
     ∷ (lent_for (kind_where wanted.evidence EvenText) old_even new_even

@@ -45,7 +45,8 @@ abbrev pub IsInside : Numbered → List Transition → Type 0
 IsInside l transitions = AllByRecursion (IsTransitionOf l) transitions
 
 pub IsInside-prop : (l : Numbered) (transitions : List Transition) → IsProp (IsInside l transitions)
-IsInside-prop l transitions = AllByRecursion-prop (IsTransitionOf l) (λ t p q i. record { source = le_prop p.source q.source i; label = le_prop p.label q.label i; target = le_prop p.target q.target i }) transitions
+IsInside-prop l transitions = AllByRecursion-prop (IsTransitionOf l)
+    (λ t p q i. record { source = le_prop p.source q.source i; label = le_prop p.label q.label i; target = le_prop p.target q.target i }) transitions
 
 -- the system with these of its transitions, and all its states
 abbrev pub system_with : Numbered → List Transition → System

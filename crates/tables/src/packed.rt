@@ -212,7 +212,8 @@ impl PackedBoard {
         ensures seat { IsSeatOf self.now seat.new }
         ensures kept { LiesUnder (seen seat.old) (seen seat.new) }
         ensures low { result ≤ height (board_game self.now) }
-        ensures over { IsOverLift (board_game self.now) (seen seat.old) v (greater_of (value_at (seen seat.old) v) (measure_of_rank (board_game self.now) result)) }
+        ensures over { IsOverLift (board_game self.now) (seen seat.old) v
+            (greater_of (value_at (seen seat.old) v) (measure_of_rank (board_game self.now) result)) }
         ensures below { LiesBelow (board_game self.now) v (measure_of_rank (board_game self.now) result) }
     {
         let game: &Game = &self.game;
@@ -383,7 +384,8 @@ fn pour(closed: Closed<(), Global>, game: &Game, table: &mut PlainTable)
     requires words { (v : ℕ) → v < length game.now.vertices → IsWord game.now v (slice_index (slots_items closed.words) v) }
     ensures game { table.new.game ≡ game.now }
     ensures kept { LiesUnder table.old.values table.new.values }
-    ensures poured { (v : ℕ) → v < length game.now.vertices → IsAtMost (measure_of_rank game.now (slice_index (slots_items closed.words) v)) (value_at table.new.values v) }
+    ensures poured { (v : ℕ) → v < length game.now.vertices → IsAtMost (measure_of_rank game.now (slice_index (slots_items closed.words) v))
+        (value_at table.new.values v) }
 {
     for v in 0..game.vertices() {
         let measure = of_rank(game, closed.word(v as usize));

@@ -11,7 +11,8 @@ under_cond true c x y = refl
 under_cond false c x y = refl
 
 -- the byte at the end is cut off where it stands there
-pub cut_last : (end : ℕ) (bytes : List ℕ) (b : ℕ) → slice_get bytes (length bytes - 1) ≡ Some b → without_end end bytes ≡ cond (b == end) (take (length bytes - 1) bytes) bytes
+pub cut_last : (end : ℕ) (bytes : List ℕ) (b : ℕ) → slice_get bytes (length bytes - 1) ≡ Some b
+    → without_end end bytes ≡ cond (b == end) (take (length bytes - 1) bytes) bytes
 cut_last end [] b e = absurd cc
 cut_last end (c ∷ []) b e = let same : c ≡ b = cc in rw (← same) refl
 cut_last end (c ∷ d ∷ bytes) b e =
@@ -21,17 +22,20 @@ cut_last end (c ∷ d ∷ bytes) b e =
 
 through_cons : (b c : ℕ) (bytes : List ℕ) → without_end 10 (b ∷ take_through 10 (c ∷ bytes)) ≡ b ∷ without_end 10 (take_through 10 (c ∷ bytes))
 through_cons b c bytes =
-    elim (c == 10) as (λ t. without_end 10 (b ∷ cond t (c ∷ []) (c ∷ take_through 10 bytes)) ≡ b ∷ without_end 10 (cond t (c ∷ []) (c ∷ take_through 10 bytes))) [ true ↦ refl | false ↦ refl ]
+    elim (c == 10) as (λ t. without_end 10 (b ∷ cond t (c ∷ []) (c ∷ take_through 10 bytes))
+    ≡ b ∷ without_end 10 (cond t (c ∷ []) (c ∷ take_through 10 bytes))) [ true ↦ refl | false ↦ refl ]
 
 -- the first piece of a text that is not empty
 first_piece : (b : ℕ) (bytes : List ℕ) → pieces_of (b ∷ bytes) ≡ without_end 10 (take_through 10 (b ∷ bytes)) ∷ pieces_of (drop_through 10 (b ∷ bytes))
-first_piece b [] = elim (b == 10) as (λ c. (b == 10) ≡ c → cond c ([] ∷ []) ((b ∷ []) ∷ []) ≡ without_end 10 (cond c (b ∷ []) (b ∷ [])) ∷ pieces_of (cond c [] [])) [
-  | true ↦ λ e. rw e refl
-  | false ↦ λ e. rw e refl
-] refl
+first_piece b [] = elim (b == 10) as (λ c. (b == 10) ≡ c → cond c ([] ∷ []) ((b ∷ []) ∷ [])
+    ≡ without_end 10 (cond c (b ∷ []) (b ∷ [])) ∷ pieces_of (cond c [] [])) [
+      | true ↦ λ e. rw e refl
+      | false ↦ λ e. rw e refl
+    ] refl
 first_piece b (c ∷ bytes) =
     let all = c ∷ bytes in
-    elim (b == 10) as (λ t. (b == 10) ≡ t → cond t ([] ∷ pieces_of all) (with_first b (pieces_of all)) ≡ without_end 10 (cond t (b ∷ []) (b ∷ take_through 10 all)) ∷ pieces_of (cond t all (drop_through 10 all))) [
+    elim (b == 10) as (λ t. (b == 10) ≡ t → cond t ([] ∷ pieces_of all) (with_first b (pieces_of all))
+    ≡ without_end 10 (cond t (b ∷ []) (b ∷ take_through 10 all)) ∷ pieces_of (cond t all (drop_through 10 all))) [
       | true ↦ λ e. rw e refl
       | false ↦ λ e. ap (with_first b) (first_piece c bytes) ∙ ap (λ l. l ∷ pieces_of (drop_through 10 all)) (sym (through_cons b c bytes))
     ] refl
@@ -40,7 +44,8 @@ no_through : (b : ℕ) (bytes : List ℕ) → take_through 10 (b ∷ bytes) ≡ 
 no_through b bytes e = elim (b == 10) as (λ t. cond t (b ∷ []) (b ∷ take_through 10 bytes) ≡ [] → ⊥) [ true ↦ λ e. cc | false ↦ λ e. cc ] e
 
 -- a call that took all through the next LF took a piece
-pub takes_piece : (old new : Option (List ℕ)) (read piece : List ℕ) → IfSome old (λ xs. read ≡ take_through 10 xs) → DropsThrough old new 10 → (read ≡ [] → ⊥) → piece ≡ without_end 10 read → TakesPiece old new true piece
+pub takes_piece : (old new : Option (List ℕ)) (read piece : List ℕ) → IfSome old (λ xs. read ≡ take_through 10 xs) → DropsThrough old new 10
+    → (read ≡ [] → ⊥) → piece ≡ without_end 10 read → TakesPiece old new true piece
 takes_piece None new read piece all rest some e = tt
 takes_piece (Some []) new read piece all rest some e = absurd (some all)
 takes_piece (Some (b ∷ bytes)) None read piece all rest some e = absurd cc
@@ -49,14 +54,16 @@ takes_piece (Some (b ∷ bytes)) (Some left) read piece all rest some e =
     first_piece b bytes ∙ (λ i. without_end 10 (sym all i) ∷ pieces_of (sym left-is i)) ∙ ap (λ l. l ∷ pieces_of left) (sym e)
 
 -- a call that took nothing found no piece
-pub takes_none : (old new : Option (List ℕ)) (read piece : List ℕ) → IfSome old (λ xs. read ≡ take_through 10 xs) → DropsThrough old new 10 → read ≡ [] → TakesPiece old new false piece
+pub takes_none : (old new : Option (List ℕ)) (read piece : List ℕ) → IfSome old (λ xs. read ≡ take_through 10 xs) → DropsThrough old new 10 → read ≡ []
+    → TakesPiece old new false piece
 takes_none None new read piece all rest none = tt
 takes_none (Some []) None read piece all rest none = absurd cc
 takes_none (Some []) (Some left) read piece all rest none = refl
 takes_none (Some (b ∷ bytes)) new read piece all rest none = absurd (no_through b bytes (sym all ∙ none))
 
 -- the end is cut off, or there was none
-pub cut_found : (end : ℕ) (bytes front : List ℕ) (b : ℕ) → Some b ≡ slice_get bytes (length bytes - 1) → b ≡ end → front ≡ take (length bytes - 1) bytes → front ≡ without_end end bytes
+pub cut_found : (end : ℕ) (bytes front : List ℕ) (b : ℕ) → Some b ≡ slice_get bytes (length bytes - 1) → b ≡ end → front ≡ take (length bytes - 1) bytes
+    → front ≡ without_end end bytes
 cut_found end bytes front b last same cut = cut ∙ sym (cut_last end bytes b (sym last) ∙ rw (eq-eqb b end same) refl)
 
 pub cut_other : (end : ℕ) (bytes : List ℕ) (b : ℕ) → Some b ≡ slice_get bytes (length bytes - 1) → (b ≡ end → ⊥) → bytes ≡ without_end end bytes

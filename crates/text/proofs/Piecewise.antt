@@ -9,7 +9,8 @@ piece_first : (piece : Piece) (pieces : List Piece) → pieces_text (piece ∷ p
 piece_first piece [] = sym (append-nil (piece_text piece))
 piece_first piece (next ∷ pieces) = refl
 
-pub piece_next : (pieces : List Piece) (i : ℕ) (d : Piece) → i < length pieces → pieces_text (drop i pieces) ≡ piece_text (get_or pieces i d) ++ pieces_text (drop (i + 1) pieces)
+pub piece_next : (pieces : List Piece) (i : ℕ) (d : Piece) → i < length pieces
+    → pieces_text (drop i pieces) ≡ piece_text (get_or pieces i d) ++ pieces_text (drop (i + 1) pieces)
 piece_next pieces i d below =
     let next : i + 1 ≡ suc i = omega arith in
     rw next (ap pieces_text (drop-cons pieces i d below) ∙ piece_first (get_or pieces i d) (drop (suc i) pieces))

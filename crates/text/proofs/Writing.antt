@@ -31,7 +31,8 @@ WroteFront-after a b c piece next h k = record {
 }
 
 -- a whole piece, and then what a call wrote
-pub Wrote-after : {T E : Type 0} → (a b c : Option (List ℕ)) (piece next : List ℕ) (r : Result T E) → Appends a b piece → Wrote b c r next → Wrote a c r (piece ++ next)
+pub Wrote-after : {T E : Type 0} → (a b c : Option (List ℕ)) (piece next : List ℕ) (r : Result T E) → Appends a b piece → Wrote b c r next
+    → Wrote a c r (piece ++ next)
 Wrote-after a b c piece next (Ok x) h k = Appends-trans a b c piece next h k
 Wrote-after a b c piece next (Err e) h k = WroteFront-after a b c piece next h k
 
@@ -58,7 +59,8 @@ HasWritten-more a b c text piece rest h k = record {
 }
 
 pub HasWritten-stops : (a b c : Option (List ℕ)) (text piece rest : List ℕ) → HasWritten a b text (piece ++ rest) → WroteFront b c piece → WroteFront a c text
-HasWritten-stops a b c text piece rest h k = subst (WroteFront a c) (sym h.split) (WroteFront-after a b c h.done (piece ++ rest) h.appended (WroteFront-more b c piece rest k))
+HasWritten-stops a b c text piece rest h k = subst (WroteFront a c) (sym h.split)
+    (WroteFront-after a b c h.done (piece ++ rest) h.appended (WroteFront-more b c piece rest k))
 
 pub HasWritten-all : (a b : Option (List ℕ)) (text : List ℕ) → HasWritten a b text [] → Appends a b text
 HasWritten-all a b text h = subst (Appends a b) (sym (h.split ∙ append-nil h.done)) h.appended

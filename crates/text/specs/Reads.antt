@@ -4,7 +4,8 @@ use Rattle.std.specs.Prelude.{◌≡◌, ℕ, List, Option, None, Result, IfOk, 
 -- `spells`: what a text spells, limits apart. `answers`: what may be answered. `due`: what must be answered. `faulty`: the fault that decides, with
 -- its place. `view`: the value that an answer stands for. `named`: the fault that an error tells, with its place, or none. `text`: the bytes that
 -- the reader had left, where these are known.
-pub record Reads {A V E F : Type 0} (spells answers due : List ℕ → V → Type 0) (faulty : List ℕ → F → Type 0) (view : A → V) (named : E → Option F) (text : Option (List ℕ)) (result : Result A E) : Type 0 where
+pub record Reads {A V E F : Type 0} (spells answers due : List ℕ → V → Type 0) (faulty : List ℕ → F → Type 0) (view : A → V) (named : E → Option F)
+    (text : Option (List ℕ)) (result : Result A E) : Type 0 where
   -- what is answered may be
   pub spelled : IfOk result (λ a. IfSome text (λ bytes. answers bytes (view a)))
   -- the text spells nothing else

@@ -13,7 +13,8 @@ use Rattle.witness.specs.Drawing.{drawing, drawing_end, edge_end, edge_front, ed
 
 -- the lines by number are all of them
 pub all_lines : (labels : List (List ℕ)) (ts : List Transition) → lines_from (line_at labels ts) 0 (length ts) ≡ flat_map edge_line (map (arrow_of labels) ts)
-all_lines labels ts = listed edge_line (arrow_of labels) (line_at labels ts) 0 ts (λ i t h. (let same : 0 + i ≡ i = omega arith in ap (λ n. line_at labels ts n) same ∙ ap (line_of labels) h))
+all_lines labels ts = listed edge_line (arrow_of labels) (line_at labels ts) 0 ts
+    (λ i t h. (let same : 0 + i ≡ i = omega arith in ap (λ n. line_at labels ts n) same ∙ ap (line_of labels) h))
 
 -- ------------------------------------------------------------------ the bytes of a label
 
@@ -27,7 +28,8 @@ no_bytes bytes i past = ap escaped (drop_of_length-le bytes past)
 
 -- ------------------------------------------------------------------ by what the program has at hand
 
-pub edge_is : (s t : ℕ) (label : List ℕ) (a : Arrow) → s ≡ a.source → t ≡ a.target → label ≡ a.label → edge_front s t ++ (escaped label ++ edge_end) ≡ edge_line a
+pub edge_is : (s t : ℕ) (label : List ℕ) (a : Arrow) → s ≡ a.source → t ≡ a.target → label ≡ a.label
+    → edge_front s t ++ (escaped label ++ edge_end) ≡ edge_line a
 edge_is s t label a es et el = λ j. edge_front (es j) (et j) ++ (escaped (el j) ++ edge_end)
 
 pub drawing_is : (l : Numbered) (initial : ℕ) (ts : List Transition) → initial ≡ l.system.initial

@@ -67,7 +67,8 @@ fn is_taken(
     requires same { evidence.now.game ≡ game.now }
     requires node { k < length (normal_nodes normal.now) }
     requires within { IsWithin game.now (length (normal_nodes normal.now)) transition }
-    ensures { (labels : List (List ℕ)) (node : Node) → slice_get (normal_nodes normal.now) k ≡ Some node → IsSetFor labels node.shape set.now → transition.label < length labels
+    ensures { (labels : List (List ℕ)) (node : Node) → slice_get (normal_nodes normal.now) k ≡ Some node → IsSetFor labels node.shape set.now
+        → transition.label < length labels
         → result ≡ is_taken_from (length (normal_nodes normal.now)) evidence.now.evidence (is_marked marks.now) (arrow_of labels transition) k node.shape }
 {
     game.known();
@@ -123,7 +124,8 @@ fn taken(
     requires sets { AreSets system.now.labels (normal_nodes normal.now) (map (λ set. set.items) sets.now) }
     requires count { length sets.now ≡ length (normal_nodes normal.now) }
     ensures inside { IfOk result (λ part. IsInside system.now part.items) }
-    ensures taken { IfOk result (λ part. system_with system.now part.items ≡ whole_witness system.now.system (normal_nodes normal.now) evidence.now.evidence (is_marked marks.now)) }
+    ensures taken { IfOk result (λ part. system_with system.now part.items
+        ≡ whole_witness system.now.system (normal_nodes normal.now) evidence.now.evidence (is_marked marks.now)) }
 {
     let mut part = Vec::new(alloc);
     for transition in system.all() {

@@ -107,7 +107,8 @@ fn stands_in(word: Word<'_>, found: &[Word<'_>]) -> bool
 
 // Whether the word is to be noted: enough aren't noted yet, nor is it, and no label has it.
 fn is_next(known: &Known<'_>, word: Word<'_>, found: &[Word<'_>]) -> bool
-    ensures { result ≡ (nat_lt (length found.now) MOST_NOTES && not (list_any (λ other. same_term (term_of word.entry) (term_of other)) found.now) && not (knows known.now (term_of word.entry))) }
+    ensures { result ≡ (nat_lt (length found.now) MOST_NOTES && not (list_any (λ other. same_term (term_of word.entry) (term_of other)) found.now)
+        && not (knows known.now (term_of word.entry))) }
 {
     found.len() < MOST_NOTES && !stands_in(word, found) && !known.has(word)
 }
@@ -142,7 +143,8 @@ fn note_action<'a>(
     action: &'a Act,
     found: &mut Vec<Word<'a>>,
 ) -> Result<(), AllocError>
-    ensures { OnOk result (map term_of found.new.items ≡ fold (with_term (knows known.now)) (map term_of found.old.items) (action_terms (action_of action.entry.now))) }
+    ensures { OnOk result (map term_of found.new.items ≡ fold (with_term (knows known.now)) (map term_of found.old.items)
+        (action_terms (action_of action.entry.now))) }
 {
     match action {
         Act::True | Act::False => Ok(()),
@@ -162,7 +164,8 @@ fn note_regular<'a>(
     regular: &'a Reg,
     found: &mut Vec<Word<'a>>,
 ) -> Result<(), AllocError>
-    ensures { OnOk result (map term_of found.new.items ≡ fold (with_term (knows known.now)) (map term_of found.old.items) (regular_terms (regular_of regular.entry.now))) }
+    ensures { OnOk result (map term_of found.new.items ≡ fold (with_term (knows known.now)) (map term_of found.old.items)
+        (regular_terms (regular_of regular.entry.now))) }
 {
     match regular {
         Reg::Act(action) => note_action(known, action, found),
@@ -180,7 +183,8 @@ fn note_formula<'a>(
     formula: &'a State,
     found: &mut Vec<Word<'a>>,
 ) -> Result<(), AllocError>
-    ensures { OnOk result (map term_of found.new.items ≡ fold (with_term (knows known.now)) (map term_of found.old.items) (formula_terms (formula_of formula.entry.now))) }
+    ensures { OnOk result (map term_of found.new.items ≡ fold (with_term (knows known.now)) (map term_of found.old.items)
+        (formula_terms (formula_of formula.entry.now))) }
 {
     match formula {
         State::True | State::False | State::Var(_) => Ok(()),

@@ -45,7 +45,8 @@ pub struct Team {
     pub ghost some_shards: { 0 < shards },
 }
 
-/// The least progress table of a game, by a team, with the help of a guess where there is one worker alone. An observer is told that the search begins, that lifting does, and then every 4,096th
+/// The least progress table of a game, by a team, with the help of a guess where there is one worker alone. An observer is told
+/// that the search begins, that lifting does, and then every 4,096th
 /// lift of a worker. One worker alone needs no board, no gate, and no thread beside the caller's.
 ///
 /// # Errors

@@ -9,10 +9,12 @@ use Rattle.commands.proofs.command_line.has_value.Goals as goal
 
 pub returns-in-Some : goal.returns-in-Some
 returns-in-Some c =
-    let read = value_read (found_of c.args.matches.now) c.args.id.now c.get_str.result c.get_str.ensures ∙ ap (option_map (λ (s : Bor Text). s.now)) c.in-Some.is in
+    let read = value_read (found_of c.args.matches.now) c.args.id.now c.get_str.result c.get_str.ensures
+    ∙ ap (option_map (λ (s : Bor Text). s.now)) c.in-Some.is in
     c.eq.ensures ∙ ap (λ o. option_map_or (λ text. bytes_eq text c.args.value.now) o false) (sym read)
 
 pub returns-in-None : goal.returns-in-None
 returns-in-None c =
-    let read = value_read (found_of c.args.matches.now) c.args.id.now c.get_str.result c.get_str.ensures ∙ ap (option_map (λ (s : Bor Text). s.now)) c.in-None.is in
+    let read = value_read (found_of c.args.matches.now) c.args.id.now c.get_str.result c.get_str.ensures
+    ∙ ap (option_map (λ (s : Bor Text). s.now)) c.in-None.is in
     ap (λ o. option_map_or (λ text. bytes_eq text c.args.value.now) o false) (sym read)

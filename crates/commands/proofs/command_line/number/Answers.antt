@@ -8,10 +8,14 @@ use Rattle.commands.proofs.command_line.number.Goals as goal
 
 pub returns-in-Ok-None-clause-asked : goal.returns-in-Ok-None-clause-asked
 returns-in-Ok-None-clause-asked c =
-    subst (λ r. IfOk r (λ o. unwrap_or o c.args.default ≡ number_in (rows_of (found_of c.args.matches.now)) c.args.id.now c.args.default)) (c.in-Ok-None.is ∙ ap Ok c.in-Ok-None.field-0-is)
-    (number_read _ (λ bs r. ParsesUnsigned 32 10 bs r × ExplainsUnsignedError 10 bs r × HasUnsignedDigitsIfOk bs r) (found_of c.args.matches.now) c.args.id.now c.args.default c.try_get_one.result (λ t x h. h.0) c.try_get_one.ensures.none c.try_get_one.ensures.value)
+    subst (λ r. IfOk r (λ o. unwrap_or o c.args.default ≡ number_in (rows_of (found_of c.args.matches.now)) c.args.id.now c.args.default))
+    (c.in-Ok-None.is ∙ ap Ok c.in-Ok-None.field-0-is)
+    (number_read _ (λ bs r. ParsesUnsigned 32 10 bs r × ExplainsUnsignedError 10 bs r × HasUnsignedDigitsIfOk bs r)
+    (found_of c.args.matches.now) c.args.id.now c.args.default c.try_get_one.result (λ t x h. h.0) c.try_get_one.ensures.none c.try_get_one.ensures.value)
 
 pub returns-in-Ok-Some-clause-asked : goal.returns-in-Ok-Some-clause-asked
 returns-in-Ok-Some-clause-asked c =
-    subst (λ r. IfOk r (λ o. unwrap_or o c.args.default ≡ number_in (rows_of (found_of c.args.matches.now)) c.args.id.now c.args.default)) (c.in-Ok-Some.is ∙ ap Ok c.in-Ok-Some.field-0-is)
-    (number_read _ (λ bs r. ParsesUnsigned 32 10 bs r × ExplainsUnsignedError 10 bs r × HasUnsignedDigitsIfOk bs r) (found_of c.args.matches.now) c.args.id.now c.args.default c.try_get_one.result (λ t x h. h.0) c.try_get_one.ensures.none c.try_get_one.ensures.value)
+    subst (λ r. IfOk r (λ o. unwrap_or o c.args.default ≡ number_in (rows_of (found_of c.args.matches.now)) c.args.id.now c.args.default))
+    (c.in-Ok-Some.is ∙ ap Ok c.in-Ok-Some.field-0-is)
+    (number_read _ (λ bs r. ParsesUnsigned 32 10 bs r × ExplainsUnsignedError 10 bs r × HasUnsignedDigitsIfOk bs r)
+    (found_of c.args.matches.now) c.args.id.now c.args.default c.try_get_one.result (λ t x h. h.0) c.try_get_one.ensures.none c.try_get_one.ensures.value)

@@ -6,7 +6,9 @@ use Rattle.commands.proofs.Asked.{value_read}
 use Rattle.commands.proofs.command_line.optional_name.Goals as goal
 
 pub returns-in-None-clause-asked : goal.returns-in-None-clause-asked
-returns-in-None-clause-asked c = value_read (found_of c.args.matches.now) c.args.id.now c.get_str.result c.get_str.ensures ∙ ap (option_map (λ (s : Bor Text). s.now)) c.in-None.is
+returns-in-None-clause-asked c = value_read (found_of c.args.matches.now) c.args.id.now c.get_str.result c.get_str.ensures
+    ∙ ap (option_map (λ (s : Bor Text). s.now)) c.in-None.is
 
 pub returns-in-Some-clause-asked : goal.returns-in-Some-clause-asked
-returns-in-Some-clause-asked c = value_read (found_of c.args.matches.now) c.args.id.now c.get_str.result c.get_str.ensures ∙ ap (option_map (λ (s : Bor Text). s.now)) c.in-Some.is
+returns-in-Some-clause-asked c = value_read (found_of c.args.matches.now) c.args.id.now c.get_str.result c.get_str.ensures
+    ∙ ap (option_map (λ (s : Bor Text). s.now)) c.in-Some.is

@@ -8,4 +8,5 @@ pub returns-in-Ok : goal.returns-in-Ok
 returns-in-Ok g c = λ first second third l f spelled is schedule.
     let workers = c.args.workers in
     let events = c.args.events.now in
-    c.follow_and_write.ensures first second third l f workers spelled is.within (c.in-Ok.ensures ∙ ap (λ (x : Game). start x workers) is.same) (subst (λ (x : Game). IsScheduleOf workers (length x.vertices) third events) is.same schedule)
+    c.follow_and_write.ensures first second third l f workers spelled is.within (c.in-Ok.ensures ∙ ap (λ (x : Game). start x workers) is.same)
+    (subst (λ (x : Game). IsScheduleOf workers (length x.vertices) third events) is.same schedule)

@@ -5,7 +5,8 @@ use Rattle.engines.proofs.engine.check_all.Goals as goal
 
 pub returns-in-Ok : goal.returns-in-Ok
 returns-in-Ok g c = λ first second known also.
-    by_way (way_in c.in-Ok.found) _ first second _ c.answer_wanted.result c.in-Ok.ensures.way (c.answer_wanted.ensures first second (c.in-Ok.ensures.spelled first second known also))
+    by_way (way_in c.in-Ok.found) _ first second _ c.answer_wanted.result c.in-Ok.ensures.way
+    (c.answer_wanted.ensures first second (c.in-Ok.ensures.spelled first second known also))
 
 pub returns-in-Err : goal.returns-in-Err
 returns-in-Err g c = λ first second known also.

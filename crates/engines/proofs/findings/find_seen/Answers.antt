@@ -9,7 +9,8 @@ use Rattle.engines.proofs.findings.find_seen.Goals as goal
 
 pub returns-in-Ok-clause-spelled : goal.returns-in-Ok-clause-spelled
 returns-in-Ok-clause-spelled g c = λ first second known also.
-    spelled_by (λ (x : Findings). x.texts.value) first second c.in-Ok.posed.texts.value c.find_by_workers.result (c.in-Ok.ensures.spelled first second known also) c.find_by_workers.ensures.texts
+    spelled_by (λ (x : Findings). x.texts.value) first second c.in-Ok.posed.texts.value c.find_by_workers.result
+    (c.in-Ok.ensures.spelled first second known also) c.find_by_workers.ensures.texts
 
 pub returns-in-Ok-clause-refusal : goal.returns-in-Ok-clause-refusal
 returns-in-Ok-clause-refusal g c = λ first second known also writers kept.
@@ -23,4 +24,5 @@ returns-in-Ok-clause-refusal g c = λ first second known also writers kept.
     (beyond_board options.priorities options.board l f (arc_value posed.game) e is h) kept) c.find_by_workers.ensures.refusal
 
 pub returns-in-Err-clause-refusal : goal.returns-in-Err-clause-refusal
-returns-in-Err-clause-refusal g c = λ first second known also writers kept. c.in-Err.ensures.refusal first second known also (Some c.args.options.now.board) writers kept
+returns-in-Err-clause-refusal g c = λ first second known also writers kept. c.in-Err.ensures.refusal first second known also
+    (Some c.args.options.now.board) writers kept

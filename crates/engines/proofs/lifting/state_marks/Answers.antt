@@ -13,7 +13,8 @@ pub root_marks-requires-clause-named : goal.root_marks-requires-clause-named
 root_marks-requires-clause-named c =
     let f = closed_formula c.args.formula.now in
     let rule = c.args.solution.now.priorities in
-    arena_roots c.args.system.now.system (nodes_with rule f) c.deref.result.now c.states-states.result (c.deref.ensures ∙ c.requires.game.same) c.states-states.ensures.count (nodes_some rule f)
+    arena_roots c.args.system.now.system (nodes_with rule f) c.deref.result.now c.states-states.result
+    (c.deref.ensures ∙ c.requires.game.same) c.states-states.ensures.count (nodes_some rule f)
 
 pub returns-in-Ok-clause-marks : goal.returns-in-Ok-clause-marks
 returns-in-Ok-clause-marks c =

@@ -10,8 +10,10 @@ returns-in_err-write_evidence-in-Some g c =
     let p = c.args.prepared.now in
     let witness = g.V.Write.contents c.args.witness.now in
     let out = g.W.Write.contents c.args.out.now in
-    even_stopped x p c.in-Some.pair _ _ (g.O.Write.contents c.args.odd.now) (lent_for (witness_kind p.wanted.witness) witness witness ∷ report_writer out out) c.from_residual.result
-    c.requires.found (pair_in x p c.in-Some.pair c.in-Some.is c.requires.prepared.pair) c.in-Some.is c.requires.prepared.evidence (Keeps-refl witness, (Keeps-refl out, tt))
+    even_stopped x p c.in-Some.pair _ _ (g.O.Write.contents c.args.odd.now)
+    (lent_for (witness_kind p.wanted.witness) witness witness ∷ report_writer out out) c.from_residual.result
+    c.requires.found (pair_in x p c.in-Some.pair c.in-Some.is c.requires.prepared.pair) c.in-Some.is c.requires.prepared.evidence
+    (Keeps-refl witness, (Keeps-refl out, tt))
     c.from_residual.ensures.0 c.in_err-write_evidence-in-Some.ensures.wrote
 
 pub returns-in_err-write_evidence-in-Some-2 : goal.returns-in_err-write_evidence-in-Some-2

@@ -9,7 +9,8 @@ loop-state-init g c = HasWritten-none _ _
 pub returns-in_err-write_state_line : goal.returns-in_err-write_state_line
 returns-in_err-write_state_line g c =
     let next = next_line c.args.marks.now c.loop-state.state c.loop-state-test.true in
-    Wrote-err _ _ _ _ c.from_residual.ensures.0 (HasWritten-stops _ _ _ _ _ _ (subst (HasWritten _ _ _) next c.loop-state.invariant) c.in_err-write_state_line.ensures)
+    Wrote-err _ _ _ _ c.from_residual.ensures.0 (HasWritten-stops _ _ _ _ _ _
+    (subst (HasWritten _ _ _) next c.loop-state.invariant) c.in_err-write_state_line.ensures)
 
 pub loop-state-preserved : goal.loop-state-preserved
 loop-state-preserved g c =

@@ -17,14 +17,16 @@ none-requires-clause-width c = let l = greatest_limit c.args.game.now c.known.en
 
 pub loop-v-init : goal.loop-v-init
 loop-v-init c =
-    made_none c.args.game.now c.args.settled.now.values c.vertices.result c.greatest_priority.result _ c.in_ok-entries.entries c.vertices.ensures c.greatest_priority.ensures refl c.in_ok-entries.ensures
+    made_none c.args.game.now c.args.settled.now.values c.vertices.result c.greatest_priority.result _ c.in_ok-entries.entries c.vertices.ensures
+    c.greatest_priority.ensures refl c.in_ok-entries.ensures
 
 pub set-requires-clause-width : goal.set-requires-clause-width
 set-requires-clause-width c =
     let table = c.args.settled.now.values in
     let not_top : c.value-value.result ≢ Top = λ e. true≢false (sym (c.is_top.ensures.1 e) ∙ c.if-not-is_top.true) in
     let rank = ap Counts c.counts.ensures.value ∙ (counts_back c.value-value.result not_top ∙ c.value-value.ensures.value) in
-    rank_long c.args.game.now table c.loop-v.v c.counts.result.now (subst (λ (g : Game). IsLeastTable g table) c.requires c.known-2.ensures.least) rank ∙ sym c.loop-v.invariant.width
+    rank_long c.args.game.now table c.loop-v.v c.counts.result.now (subst (λ (g : Game). IsLeastTable g table) c.requires c.known-2.ensures.least) rank
+    ∙ sym c.loop-v.invariant.width
 
 pub loop-v-preserved : goal.loop-v-preserved
 loop-v-preserved c =
@@ -35,7 +37,8 @@ loop-v-preserved c =
       | then-not-is_top w ↦ (
           let not_top : c.value-value.result ≢ Top = λ e. true≢false (sym (c.is_top.ensures.1 e) ∙ w.if-not-is_top.true) in
           subst (λ (es : Entries). IsMade g table (v + 1) es) (sym w.entries-is)
-          (made_more g table v c.loop-v.entries c.loop-v.invariant c.value-value.result c.value-value.ensures.value w.counts.result.now w.best_move.result _ (ap Counts w.counts.ensures.value ∙ counts_back c.value-value.result not_top) (omega arith) w.best_move.ensures w.set.ensures))
+          (made_more g table v c.loop-v.entries c.loop-v.invariant c.value-value.result c.value-value.ensures.value w.counts.result.now w.best_move.result _
+          (ap Counts w.counts.ensures.value ∙ counts_back c.value-value.result not_top) (omega arith) w.best_move.ensures w.set.ensures))
       | else-not-is_top w ↦ subst (λ (es : Entries). IsMade g table (v + 1) es) (sym w.entries-is)
           (made_left g table v c.loop-v.entries c.loop-v.invariant c.value-value.result c.value-value.ensures.value (c.is_top.ensures.0 w.if-not-is_top.false))
     ]
@@ -43,4 +46,5 @@ loop-v-preserved c =
 pub returns : goal.returns
 returns c =
     let table = c.args.settled.now.values in
-    made_even c.args.game.now table c.loop-v.v c.loop-v.entries (subst (λ (g : Game). IsLeastTable g table) c.requires c.known-2.ensures.least) c.loop-v.invariant (omega arith)
+    made_even c.args.game.now table c.loop-v.v c.loop-v.entries
+    (subst (λ (g : Game). IsLeastTable g table) c.requires c.known-2.ensures.least) c.loop-v.invariant (omega arith)

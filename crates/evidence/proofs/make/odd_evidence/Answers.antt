@@ -24,10 +24,12 @@ pub returns-clause-good : goal.returns-clause-good
 returns-clause-good c =
     let es = c.in_ok-entries.entries.entries in
     let odd = subst (λ (g : Game). IsEvenOf g (record { player = Even; entries = es })) c.in-Ok.ensures.game c.in_ok-entries.ensures in
-    subst (λ (p : Piece). IsGood c.args.game.now p.evidence) (sym c.of.ensures) (odd_is_good c.args.game.now c.known.ensures c.requires (record { player = Odd; entries = es }) (refl, odd)).1
+    subst (λ (p : Piece). IsGood c.args.game.now p.evidence) (sym c.of.ensures)
+    (odd_is_good c.args.game.now c.known.ensures c.requires (record { player = Odd; entries = es }) (refl, odd)).1
 
 pub returns-clause-exact : goal.returns-clause-exact
 returns-clause-exact c =
     let es = c.in_ok-entries.entries.entries in
     let odd = subst (λ (g : Game). IsEvenOf g (record { player = Even; entries = es })) c.in-Ok.ensures.game c.in_ok-entries.ensures in
-    subst (λ (p : Piece). (v : ℕ) → IsTrue (has p.evidence v) ↔ OddWins c.args.game.now v) (sym c.of.ensures) (odd_is_good c.args.game.now c.known.ensures c.requires (record { player = Odd; entries = es }) (refl, odd)).2
+    subst (λ (p : Piece). (v : ℕ) → IsTrue (has p.evidence v) ↔ OddWins c.args.game.now v) (sym c.of.ensures)
+    (odd_is_good c.args.game.now c.known.ensures c.requires (record { player = Odd; entries = es }) (refl, odd)).2

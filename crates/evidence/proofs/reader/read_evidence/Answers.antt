@@ -11,6 +11,8 @@ pub returns-clause-reads : goal.returns-clause-reads
 returns-clause-reads g c =
     let old = g.R.Read.remaining c.args.reader in
     let game = c.args.game.now in
-    let known = (λ i. cond (nat_eq (c.in-Ok.ensures.capacity i) 0) None (prepend_known (c.in-Ok.ensures.empty i) (g.R.Read.remaining (c.in-Ok.ensures.inner i)))) ∙ prepend_known-nil old in
-    promised game old c.read_text.result (subst (λ old. IfOk c.read_text.result (λ e. IfSome old (λ text. IsEvidenceText game text e.evidence))) known c.read_text.ensures.spelled)
+    let known = (λ i. cond (nat_eq (c.in-Ok.ensures.capacity i) 0) None
+    (prepend_known (c.in-Ok.ensures.empty i) (g.R.Read.remaining (c.in-Ok.ensures.inner i)))) ∙ prepend_known-nil old in
+    promised game old c.read_text.result (subst (λ old. IfOk c.read_text.result
+    (λ e. IfSome old (λ text. IsEvidenceText game text e.evidence))) known c.read_text.ensures.spelled)
     (subst (λ old. IfErr c.read_text.result (Refuses old (HasFault game))) known c.read_text.ensures.fault)

@@ -9,7 +9,8 @@ pub returns-in_err-count-2 : goal.returns-in_err-count-2
 returns-in_err-count-2 c = rw c.from_residual-in_err-count-2.ensures (no_number c.args.end c.args.bytes.now _ _ c.in_ok-count.ensures c.in_err-count-2.ensures)
 
 pub returns-then-count-gt-GREATEST_COUNT : goal.returns-then-count-gt-GREATEST_COUNT
-returns-then-count-gt-GREATEST_COUNT c = too_great c.args.end c.args.bytes.now _ _ _ c.in_ok-count.ensures c.in_ok-count-2.ensures c.if-count-gt-GREATEST_COUNT.true
+returns-then-count-gt-GREATEST_COUNT c = too_great c.args.end c.args.bytes.now _ _ _ c.in_ok-count.ensures c.in_ok-count-2.ensures
+    c.if-count-gt-GREATEST_COUNT.true
 
 pub returns : goal.returns
 returns c = one_count c.args.end c.args.bytes.now _ _ _ c.in_ok-count.ensures c.in_ok-count-2.ensures c.if-count-gt-GREATEST_COUNT.false

@@ -13,7 +13,8 @@ returns-in_default c =
       | then-k-counts w ↦ w.end-is ∙ comma_end c.loop-k.k (length counts) (omega arith)
       | else-k-counts w ↦ w.end-is ∙ bracket_end c.loop-k.k (length counts) inside (omega arith)
     ] in
-    ap (λ n. counts_of n c.args.bytes.now) (sym c.loop-k.auto.counts) ∙ read_stops c.args.bytes.now counts c.loop-k.k _ c.loop-k.invariant inside c.if-k-counts.end end c.in_default.ensures
+    ap (λ n. counts_of n c.args.bytes.now) (sym c.loop-k.auto.counts)
+    ∙ read_stops c.args.bytes.now counts c.loop-k.k _ c.loop-k.invariant inside c.if-k-counts.end end c.in_default.ensures
 
 pub loop-k-preserved : goal.loop-k-preserved
 loop-k-preserved c =
@@ -23,4 +24,5 @@ loop-k-preserved c =
       | then-k-counts w ↦ w.end-is ∙ comma_end c.loop-k.k (length counts) (omega arith)
       | else-k-counts w ↦ w.end-is ∙ bracket_end c.loop-k.k (length counts) inside (omega arith)
     ] in
-    read_more c.args.bytes.now counts c.loop-k.k _ c.loop-k.invariant inside c.if-k-counts.end end c.in-Some.count c.in-Some.more.now _ c.in-Some.ensures refl (length-set counts c.loop-k.k c.in-Some.count)
+    read_more c.args.bytes.now counts c.loop-k.k _ c.loop-k.invariant inside c.if-k-counts.end end c.in-Some.count c.in-Some.more.now _ c.in-Some.ensures
+    refl (length-set counts c.loop-k.k c.in-Some.count)

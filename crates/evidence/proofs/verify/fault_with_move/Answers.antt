@@ -12,4 +12,5 @@ pub returns-then-contains : goal.returns-then-contains
 returns-then-contains c = λ x at.
     let own = c.is_same.ensures.0 c.if-is_same.true ∙ c.player.ensures in
     let successor : Contains c.successors.result.now c.args.next = search rules in
-    moved_is c.args.game.now c.args.evidence.now.game c.requires.same c.args.evidence.now.evidence c.args.v c.owner.result c.args.rank.now c.owner.ensures x at c.args.next c.priority.result c.successors.result.now _ own c.successors.ensures successor c.priority.ensures c.fault_along.ensures
+    moved_is c.args.game.now c.args.evidence.now.game c.requires.same c.args.evidence.now.evidence c.args.v c.owner.result c.args.rank.now c.owner.ensures x
+    at c.args.next c.priority.result c.successors.result.now _ own c.successors.ensures successor c.priority.ensures c.fault_along.ensures

@@ -7,4 +7,5 @@ descends-requires-clause-same c = (c.known.ensures.entries c.args.t _ c.in-Some.
 
 pub returns-in-Some : goal.returns-in-Some
 returns-in-Some c =
-    below_is c.args.evidence.now.game c.args.evidence.now.evidence c.args.priority c.args.rank.now c.args.t _ c.player.result c.descends.result c.in-Some.ensures c.player.ensures c.requires.rank c.descends.ensures
+    below_is c.args.evidence.now.game c.args.evidence.now.evidence c.args.priority c.args.rank.now c.args.t _ c.player.result c.descends.result
+    c.in-Some.ensures c.player.ensures c.requires.rank c.descends.ensures

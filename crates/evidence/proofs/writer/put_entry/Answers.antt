@@ -15,10 +15,13 @@ returns-in_err-put_counts g c =
     let first = front c.args.v (piece_text c.move_piece.result) in
     let whole = line_is c.args.v (piece_text c.move_piece.result) (record { move = c.args.view.next; rank = c.args.view.rank.now }) c.move_piece.ensures in
     Wrote-as _ _ _ _ _ whole
-    (Wrote-err _ _ _ _ c.from_residual-in_err-put_counts.ensures.0 (WroteFront-after _ _ _ first _ c.in_ok-put_pieces.ensures (WroteFront-more _ _ (counts_text c.args.view.rank.now) _ c.in_err-put_counts.ensures.wrote)))
+    (Wrote-err _ _ _ _ c.from_residual-in_err-put_counts.ensures.0
+    (WroteFront-after _ _ _ first _ c.in_ok-put_pieces.ensures
+    (WroteFront-more _ _ (counts_text c.args.view.rank.now) _ c.in_err-put_counts.ensures.wrote)))
 
 pub returns : goal.returns
 returns g c =
     let first = front c.args.v (piece_text c.move_piece.result) in
     let whole = line_is c.args.v (piece_text c.move_piece.result) (record { move = c.args.view.next; rank = c.args.view.rank.now }) c.move_piece.ensures in
-    Wrote-as _ _ _ _ _ whole (Wrote-after _ _ _ first _ _ c.in_ok-put_pieces.ensures (Wrote-after _ _ _ (counts_text c.args.view.rank.now) _ _ c.in_ok-put_counts.ensures.wrote c.put.ensures.wrote))
+    Wrote-as _ _ _ _ _ whole (Wrote-after _ _ _ first _ _ c.in_ok-put_pieces.ensures
+    (Wrote-after _ _ _ (counts_text c.args.view.rank.now) _ _ c.in_ok-put_counts.ensures.wrote c.put.ensures.wrote))

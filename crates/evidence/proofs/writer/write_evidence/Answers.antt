@@ -15,5 +15,6 @@ pub returns : goal.returns
 returns g c =
     let first = header c.player.result ++ line_end in
     let lines = entry_lines 0 c.entries.result.now.entries in
-    let whole = append_assoc (header c.player.result) line_end lines ∙ ap₂ (λ p es. header p ++ (line_end ++ entry_lines 0 es)) c.player.ensures c.entries.ensures in
+    let whole = append_assoc (header c.player.result) line_end lines
+    ∙ ap₂ (λ p es. header p ++ (line_end ++ entry_lines 0 es)) c.player.ensures c.entries.ensures in
     record { wrote = Wrote-as _ _ _ _ _ whole (Wrote-after _ _ _ first _ _ c.in_ok-put_header.ensures c.put_entries.ensures) }

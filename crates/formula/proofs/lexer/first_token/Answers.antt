@@ -15,7 +15,8 @@ either text R (Ok found) told h = h
 either text R (Err f) told h = told f h
 
 pub returns-then-text-eq34 : goal.returns-then-text-eq34
-returns-then-text-eq34 c = either c.args.text.now IsAtomless c.atom.result (λ f. quote-tokenless c.args.text.now f c.requires c.if-text-eq34.true) c.atom.ensures
+returns-then-text-eq34 c = either c.args.text.now IsAtomless c.atom.result
+    (λ f. quote-tokenless c.args.text.now f c.requires c.if-text-eq34.true) c.atom.ensures
 
 pub returns-then-is_letter : goal.returns-then-is_letter
 returns-then-is_letter c = either c.args.text.now BeginsReserved c.named.result (reserved-tokenless c.args.text.now) c.named.ensures

@@ -19,5 +19,6 @@ returns c =
     let old = c.loop-name.names.items in
     let new = c.sort_unstable.new.self.items in
     let all : take c.loop-name.name-index c.args.others.now ≡ c.args.others.now = take_all c.loop-name.name-index c.args.others.now (omega arith) in
-    sorted_multiset _ _ (IsPermutation-map (λ (v : Vec ℕ). v.items) old new c.sort_unstable.ensures.permutation) (sorted_bytes new c.sort_unstable.ensures.sorted)
+    sorted_multiset _ _ (IsPermutation-map (λ (v : Vec ℕ). v.items) old new c.sort_unstable.ensures.permutation)
+    (sorted_bytes new c.sort_unstable.ensures.sorted)
     ∙ ap multiset (c.loop-name.invariant ∙ ap (λ names. c.args.first.now ∷ map (λ name. name.now) names) all)

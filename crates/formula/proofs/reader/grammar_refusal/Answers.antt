@@ -14,10 +14,12 @@ pub returns-in-Unexpected : goal.returns-in-Unexpected
 returns-in-Unexpected c =
     let places = map (λ p. p.offset) c.args.tokens.now in
     let h = rw c.in-Unexpected.is at c.requires in
-    unexpected (words c.args.tokens.now) places c.args.end c.in-Unexpected.left c.refusal.result h (search rules) (rw (words-length c.args.tokens.now) c.refusal.ensures)
+    unexpected (words c.args.tokens.now) places c.args.end c.in-Unexpected.left c.refusal.result h (search rules)
+    (rw (words-length c.args.tokens.now) c.refusal.ensures)
 
 pub returns-in-TooLarge : goal.returns-in-TooLarge
 returns-in-TooLarge c =
     let places = map (λ p. p.offset) c.args.tokens.now in
     let h = rw c.in-TooLarge.is at c.requires in
-    too-large (words c.args.tokens.now) places c.args.end c.in-TooLarge.left c.refusal-in-TooLarge.result h (rw (words-length c.args.tokens.now) c.refusal-in-TooLarge.ensures)
+    too-large (words c.args.tokens.now) places c.args.end c.in-TooLarge.left c.refusal-in-TooLarge.result h
+    (rw (words-length c.args.tokens.now) c.refusal-in-TooLarge.ensures)

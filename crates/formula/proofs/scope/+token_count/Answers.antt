@@ -10,5 +10,6 @@ returns-in-Names t c =
     let e = names-count (map (λ name. name.now) c.in-Names.others.items) in
     let l = length-map c.in-Names.others.items (λ name. name.now) in
     let n : c.len.result ≡ length c.in-Names.others.items = c.len.ensures ∙ search rules in
-    let whole : length (reg_tokens (reg_syntax c.args.regular.now)) ≡ length (more_names (map (λ name. name.now) c.in-Names.others.items)) + 1 = ap (λ w. length (reg_tokens (reg_syntax w))) c.in-Names.is ∙ omega arith in
+    let whole : length (reg_tokens (reg_syntax c.args.regular.now)) ≡ length (more_names (map (λ name. name.now) c.in-Names.others.items))
+    + 1 = ap (λ w. length (reg_tokens (reg_syntax w))) c.in-Names.is ∙ omega arith in
     omega arith

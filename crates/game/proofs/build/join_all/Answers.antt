@@ -11,7 +11,9 @@ joined-requires c =
     let parts = c.args.parts.items in
     let gives = c.into_iter-part-iterator.ensures.into_iter_gives in
     let size : vec_len c.args.parts ≡ length parts = search rules in
-    let here = YieldsList-turn (YieldsList-from_vec parts gives.0 (gives.1 ∙ size)) c.loop-part.yielded c.loop-part.part-iterator c.loop-part.yielded_by c.next.result c.next.new.self c.in-Some.part c.in-Some.is c.next.ensures.steps in
+    let here = YieldsList-turn (YieldsList-from_vec parts gives.0
+    (gives.1 ∙ size)) c.loop-part.yielded c.loop-part.part-iterator c.loop-part.yielded_by c.next.result c.next.new.self c.in-Some.part c.in-Some.is
+    c.next.ensures.steps in
     joined_fit parts (length c.loop-part.yielded) 16777216 c.args.first c.loop-part.builder c.in-Some.part here c.loop-part.invariant.joined c.requires
 
 pub returns : goal.returns
@@ -19,5 +21,7 @@ returns c =
     let parts = c.args.parts.items in
     let gives = c.into_iter-part-iterator.ensures.into_iter_gives in
     let size : vec_len c.args.parts ≡ length parts = search rules in
-    let done = YieldsList-end (YieldsList-from_vec parts gives.0 (gives.1 ∙ size)) c.loop-part.yielded c.loop-part.part-iterator c.loop-part.yielded_by c.next.result c.next.new.self c.in-None.is c.next.ensures.steps in
-    c.loop-part.invariant.joined ∙ ap (λ xs. c.args.first ++ flat_map (λ (p : List Vertex). p) xs) (take_all (length c.loop-part.yielded) parts (omega (arith, done.1)))
+    let done = YieldsList-end (YieldsList-from_vec parts gives.0
+    (gives.1 ∙ size)) c.loop-part.yielded c.loop-part.part-iterator c.loop-part.yielded_by c.next.result c.next.new.self c.in-None.is c.next.ensures.steps in
+    c.loop-part.invariant.joined ∙ ap (λ xs. c.args.first ++ flat_map (λ (p : List Vertex). p) xs)
+    (take_all (length c.loop-part.yielded) parts (omega (arith, done.1)))

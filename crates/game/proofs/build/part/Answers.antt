@@ -15,4 +15,5 @@ returns c =
     let count : c.min.result ≡ min c.args.size (c.states-states.result - first) = search rules in
     let same : size ≡ c.min.result = omega arith in
     c.in_ok-push_states.ensures
-    ∙ (ap (λ vs. vs ++ rows l nodes (range_with_len first size)) c.in_ok-builder.ensures ∙ ap (rows l nodes) (range_cut k c.args.size l.states first size (start ∙ ap (min k) states) (same ∙ (count ∙ (λ i. min c.args.size (states i - first))))))
+    ∙ (ap (λ vs. vs ++ rows l nodes (range_with_len first size)) c.in_ok-builder.ensures
+    ∙ ap (rows l nodes) (range_cut k c.args.size l.states first size (start ∙ ap (min k) states) (same ∙ (count ∙ (λ i. min c.args.size (states i - first))))))

@@ -9,12 +9,16 @@ push-requires-clause-few c = successors_few c.args.game.now c.loop-v.v (omega ar
 pub loop-v-preserved : goal.loop-v-preserved
 loop-v-preserved c =
     let new = rw c.opponent-owner.ensures at c.in_ok-push.ensures.ok in
-    turned_more c.args.game.now c.loop-v.v (omega arith) c.owner.result c.priority.result c.successors.result.now c.loop-v.builder _ c.owner.ensures c.priority.ensures c.successors.ensures c.loop-v.invariant new
+    turned_more c.args.game.now c.loop-v.v
+    (omega arith) c.owner.result c.priority.result c.successors.result.now c.loop-v.builder _ c.owner.ensures c.priority.ensures c.successors.ensures
+    c.loop-v.invariant new
 
 pub into_game-requires : goal.into_game-requires
 into_game-requires c =
-    turned_game c.args.game.now c.loop-v.builder c.known.ensures c.requires (turned_whole c.args.game.now c.loop-v.v c.loop-v.builder (omega arith) c.loop-v.invariant)
+    turned_game c.args.game.now c.loop-v.builder c.known.ensures c.requires
+    (turned_whole c.args.game.now c.loop-v.v c.loop-v.builder (omega arith) c.loop-v.invariant)
 
 pub returns-clause-game : goal.returns-clause-game
 returns-clause-game c =
-    c.into_game.ensures ∙ ap (λ (vs : List Vertex). record { vertices = vs; named = None }) (turned_whole c.args.game.now c.loop-v.v c.loop-v.builder (omega arith) c.loop-v.invariant)
+    c.into_game.ensures ∙ ap (λ (vs : List Vertex). record { vertices = vs; named = None })
+    (turned_whole c.args.game.now c.loop-v.v c.loop-v.builder (omega arith) c.loop-v.invariant)

@@ -10,8 +10,10 @@ returns-then-worker_of-workers c = far_worker c.args.workers c.args.line.now c.i
 
 pub returns-then-is_far : goal.returns-then-is_far
 returns-then-is_far c =
-    far_vertex c.args.workers c.args.vertices c.args.line.now c.in-Some.event (omega arith) c.in-Some.ensures (omega arith) (rw c.if-is_far.true at c.is_far.ensures)
+    far_vertex c.args.workers c.args.vertices c.args.line.now c.in-Some.event (omega arith) c.in-Some.ensures (omega arith)
+    (rw c.if-is_far.true at c.is_far.ensures)
 
 pub returns : goal.returns
 returns c =
-    good_line c.args.workers c.args.vertices c.args.line.now c.in-Some.event (omega arith) (omega arith) c.in-Some.ensures (record { worker = omega arith; vertex = rw c.if-is_far.false at c.is_far.ensures })
+    good_line c.args.workers c.args.vertices c.args.line.now c.in-Some.event (omega arith) (omega arith) c.in-Some.ensures
+    (record { worker = omega arith; vertex = rw c.if-is_far.false at c.is_far.ensures })

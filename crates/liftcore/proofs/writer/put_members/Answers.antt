@@ -13,8 +13,10 @@ returns-in_err-put_number g c =
     let marks = c.args.marks.now in
     let inside : c.loop-v.v < length marks = subst (λ (n : ℕ). c.loop-v.v < n) c.requires c.loop-v-test.true in
     let next = next_marked marks c.loop-v.v c.loop-v.first inside (c.has.ensures.0 c.if-has.true) in
-    let stopped = subst (λ (p : List ℕ). WroteFront (g.W.Write.contents c.loop-v.writer) (g.W.Write.contents c.put_number.new.writer) (p ++ decimal c.loop-v.v)) c.separator.ensures c.in_err-put_number.ensures.wrote in
-    Wrote-as _ _ _ _ _ (ap listed (all_marked marks)) (Wrote-err _ _ _ _ c.from_residual.ensures.0 (HasWritten-stops _ _ _ _ _ _ (subst (HasWritten _ _ _) next c.loop-v.invariant) stopped))
+    let stopped = subst (λ (p : List ℕ). WroteFront (g.W.Write.contents c.loop-v.writer) (g.W.Write.contents c.put_number.new.writer)
+    (p ++ decimal c.loop-v.v)) c.separator.ensures c.in_err-put_number.ensures.wrote in
+    Wrote-as _ _ _ _ _ (ap listed (all_marked marks)) (Wrote-err _ _ _ _ c.from_residual.ensures.0
+    (HasWritten-stops _ _ _ _ _ _ (subst (HasWritten _ _ _) next c.loop-v.invariant) stopped))
 
 pub loop-v-preserved : goal.loop-v-preserved
 loop-v-preserved g c =
@@ -23,7 +25,8 @@ loop-v-preserved g c =
     elim c.if-has.branch [
       | then-has+in_ok-put_number w ↦ (
           let next = next_marked marks c.loop-v.v c.loop-v.first inside (c.has.ensures.0 w.if-has.true) in
-          let wrote = subst (λ (p : List ℕ). Appends (g.W.Write.contents c.loop-v.writer) (g.W.Write.contents w.put_number.new.writer) (p ++ decimal c.loop-v.v)) w.separator.ensures w.in_ok-put_number.ensures.wrote in
+          let wrote = subst (λ (p : List ℕ). Appends (g.W.Write.contents c.loop-v.writer) (g.W.Write.contents w.put_number.new.writer)
+          (p ++ decimal c.loop-v.v)) w.separator.ensures w.in_ok-put_number.ensures.wrote in
           rw (w.writer-is, w.first-is) (HasWritten-more _ _ _ _ _ _ (subst (HasWritten _ _ _) next c.loop-v.invariant) wrote))
       | else-has w ↦ (
           let next = next_unmarked marks c.loop-v.v c.loop-v.first inside (false_from_ne_true _ (λ e. true≢false (sym (c.has.ensures.1 e) ∙ w.if-has.false))) in

@@ -13,4 +13,5 @@ returns-then-not-is_ascii_digit-clause-digits c = c.loop-count.invariant.1
 
 pub loop-count-preserved : goal.loop-count-preserved
 loop-count-preserved c =
-    digit_more c.args.bytes.now c.loop-count.count c.loop-count.value c.from.result c.loop-count-test.true c.loop-count.invariant (sym c.is_ascii_digit.ensures.value ∙ c.if-not-is_ascii_digit.false) c.from.ensures c.if-value-gt-MOST_BEFORE_A_DIGIT.false
+    digit_more c.args.bytes.now c.loop-count.count c.loop-count.value c.from.result c.loop-count-test.true c.loop-count.invariant
+    (sym c.is_ascii_digit.ensures.value ∙ c.if-not-is_ascii_digit.false) c.from.ensures c.if-value-gt-MOST_BEFORE_A_DIGIT.false

@@ -8,4 +8,5 @@ pub returns-in-None-clause-first : goal.returns-in-None-clause-first
 returns-in-None-clause-first g c = right_first _ _ c.in-Some.found (rw c.in-Some.is at c.in_ok-found.ensures) c.in-None.ensures.none
 
 pub returns-in-Some-first_fault-clause-fault : goal.returns-in-Some-first_fault-clause-fault
-returns-in-Some-first_fault-clause-fault g c = over_first _ _ c.in-Some.found c.in-Some-first_fault.fault (rw c.in-Some.is at c.in_ok-found.ensures) c.in-Some-first_fault.ensures.some
+returns-in-Some-first_fault-clause-fault g c = over_first _ _ c.in-Some.found c.in-Some-first_fault.fault
+    (rw c.in-Some.is at c.in_ok-found.ensures) c.in-Some-first_fault.ensures.some

@@ -10,14 +10,19 @@ returns-in_default g c = no_source [] _ _ _ (rw c.if-not-branch.false at c.in_ok
 
 pub returns-then-not-branch-2 : goal.returns-then-not-branch-2
 returns-then-not-branch-2 g c =
-    from_source c.in-Some.source [] None _ _ _ _ (rw c.if-not-branch.false at c.in_ok-sign.ensures) (rw c.in-Some.is at c.in_ok-source.ensures) (no_label c.in-Some.source 4097 [] _ _ (rw c.if-not-branch-2.true at c.in_ok-quoted.ensures))
+    from_source c.in-Some.source [] None _ _ _ _ (rw c.if-not-branch.false at c.in_ok-sign.ensures) (rw c.in-Some.is at c.in_ok-source.ensures)
+    (no_label c.in-Some.source 4097 [] _ _ (rw c.if-not-branch-2.true at c.in_ok-quoted.ensures))
 
 pub returns-in_default-2 : goal.returns-in_default-2
 returns-in_default-2 g c =
-    from_source c.in-Some.source c.quoted.new.kept.items None _ _ _ _ (rw c.if-not-branch.false at c.in_ok-sign.ensures) (rw c.in-Some.is at c.in_ok-source.ensures)
-    (no_target c.in-Some.source 4097 c.quoted.new.kept.items _ _ _ (rw c.if-not-branch-2.false at c.in_ok-quoted.ensures) (rw c.in_default-2.is at c.in_ok-target.ensures))
+    from_source c.in-Some.source c.quoted.new.kept.items None _ _ _ _ (rw c.if-not-branch.false at c.in_ok-sign.ensures)
+    (rw c.in-Some.is at c.in_ok-source.ensures)
+    (no_target c.in-Some.source 4097 c.quoted.new.kept.items _ _ _ (rw c.if-not-branch-2.false at c.in_ok-quoted.ensures)
+    (rw c.in_default-2.is at c.in_ok-target.ensures))
 
 pub returns : goal.returns
 returns g c =
-    from_source c.in-Some.source c.quoted.new.kept.items (Some (record { source = c.in-Some.source; target = c.in-Some-2.target })) _ _ _ _ (rw c.if-not-branch.false at c.in_ok-sign.ensures) (rw c.in-Some.is at c.in_ok-source.ensures)
-    (a_target c.in-Some.source c.in-Some-2.target c.quoted.new.kept.items _ _ _ (rw c.if-not-branch-2.false at c.in_ok-quoted.ensures) (rw c.in-Some-2.is at c.in_ok-target.ensures))
+    from_source c.in-Some.source c.quoted.new.kept.items (Some (record { source = c.in-Some.source; target = c.in-Some-2.target })) _ _ _ _
+    (rw c.if-not-branch.false at c.in_ok-sign.ensures) (rw c.in-Some.is at c.in_ok-source.ensures)
+    (a_target c.in-Some.source c.in-Some-2.target c.quoted.new.kept.items _ _ _ (rw c.if-not-branch-2.false at c.in_ok-quoted.ensures)
+    (rw c.in-Some-2.is at c.in_ok-target.ensures))

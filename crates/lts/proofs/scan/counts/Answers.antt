@@ -7,12 +7,14 @@ pub returns-in_default : goal.returns-in_default
 returns-in_default g c = counts_stop_1 _ _ (rw c.in_default.is at c.in_ok-initial.ensures)
 
 pub returns-in_default-2 : goal.returns-in_default-2
-returns-in_default-2 g c = counts_go_1 c.in-Some.initial None _ _ _ (rw c.in-Some.is at c.in_ok-initial.ensures) (counts_stop_2 c.in-Some.initial _ _ (rw c.in_default-2.is at c.in_ok-transitions.ensures))
+returns-in_default-2 g c = counts_go_1 c.in-Some.initial None _ _ _ (rw c.in-Some.is at c.in_ok-initial.ensures)
+    (counts_stop_2 c.in-Some.initial _ _ (rw c.in_default-2.is at c.in_ok-transitions.ensures))
 
 pub returns-in_default-3 : goal.returns-in_default-3
 returns-in_default-3 g c =
     counts_go_1 c.in-Some.initial None _ _ _ (rw c.in-Some.is at c.in_ok-initial.ensures)
-    (counts_go_2 c.in-Some.initial c.in-Some-2.transitions None _ _ _ (rw c.in-Some-2.is at c.in_ok-transitions.ensures) (counts_stop_3 c.in-Some.initial c.in-Some-2.transitions _ _ (rw c.in_default-3.is at c.in_ok-states.ensures)))
+    (counts_go_2 c.in-Some.initial c.in-Some-2.transitions None _ _ _ (rw c.in-Some-2.is at c.in_ok-transitions.ensures)
+    (counts_stop_3 c.in-Some.initial c.in-Some-2.transitions _ _ (rw c.in_default-3.is at c.in_ok-states.ensures)))
 
 pub returns-then-not-branch : goal.returns-then-not-branch
 returns-then-not-branch g c =
@@ -23,7 +25,10 @@ returns-then-not-branch g c =
 
 pub returns : goal.returns
 returns g c =
-    counts_go_1 c.in-Some.initial (Some (header_of c.in-Some.initial c.in-Some-2.transitions c.in-Some-3.states)) _ _ _ (rw c.in-Some.is at c.in_ok-initial.ensures)
-    (counts_go_2 c.in-Some.initial c.in-Some-2.transitions (Some (header_of c.in-Some.initial c.in-Some-2.transitions c.in-Some-3.states)) _ _ _ (rw c.in-Some-2.is at c.in_ok-transitions.ensures)
-    (counts_go_3 c.in-Some.initial c.in-Some-2.transitions c.in-Some-3.states (Some (header_of c.in-Some.initial c.in-Some-2.transitions c.in-Some-3.states)) _ _ _ (rw c.in-Some-3.is at c.in_ok-states.ensures)
+    counts_go_1 c.in-Some.initial (Some (header_of c.in-Some.initial c.in-Some-2.transitions c.in-Some-3.states)) _ _ _
+    (rw c.in-Some.is at c.in_ok-initial.ensures)
+    (counts_go_2 c.in-Some.initial c.in-Some-2.transitions (Some (header_of c.in-Some.initial c.in-Some-2.transitions c.in-Some-3.states)) _ _ _
+    (rw c.in-Some-2.is at c.in_ok-transitions.ensures)
+    (counts_go_3 c.in-Some.initial c.in-Some-2.transitions c.in-Some-3.states
+    (Some (header_of c.in-Some.initial c.in-Some-2.transitions c.in-Some-3.states)) _ _ _ (rw c.in-Some-3.is at c.in_ok-states.ensures)
     (end_comes (header_of c.in-Some.initial c.in-Some-2.transitions c.in-Some-3.states) _ _ (rw c.if-not-branch.false at c.in_ok-ends.ensures))))

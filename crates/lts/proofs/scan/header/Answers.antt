@@ -9,4 +9,5 @@ pub returns-then-not-branch-2 : goal.returns-then-not-branch-2
 returns-then-not-branch-2 g c = header_stops_2 _ _ _ (rw c.if-not-branch.false at c.in_ok-word.ensures) (rw c.if-not-branch-2.true at c.in_ok-sign.ensures)
 
 pub returns : goal.returns
-returns g c = IfOk-weaker c.counts.result _ _ (λ r rest. header_goes_on r _ _ _ _ (rw c.if-not-branch.false at c.in_ok-word.ensures) (rw c.if-not-branch-2.false at c.in_ok-sign.ensures) rest) c.counts.ensures
+returns g c = IfOk-weaker c.counts.result _ _ (λ r rest. header_goes_on r _ _ _ _ (rw c.if-not-branch.false at c.in_ok-word.ensures)
+    (rw c.if-not-branch-2.false at c.in_ok-sign.ensures) rest) c.counts.ensures

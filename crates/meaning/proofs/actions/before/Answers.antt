@@ -20,7 +20,8 @@ use Rattle.meaning.proofs.actions.before.Goals as goal
 
 pub is_chosen-requires : goal.is_chosen-requires
 is_chosen-requires c =
-    decided c.args.lts.now c.all-source-items.result.now c.loop-source.source-index c.in_ok-chosen.chosen.items c.deref.result.now c.all-source-items.ensures.inside c.loop-source-test.true c.deref.ensures.value
+    decided c.args.lts.now c.all-source-items.result.now c.loop-source.source-index c.in_ok-chosen.chosen.items c.deref.result.now
+    c.all-source-items.ensures.inside c.loop-source-test.true c.deref.ensures.value
     c.in_ok-chosen.ensures.count
 
 pub loop-source-preserved : goal.loop-source-preserved
@@ -38,7 +39,8 @@ loop-source-preserved c =
     let same : (c.index-had.result.now || c.is_chosen.result && at c.args.marks.now step.target) ≡ (at found step.source || leads) =
     ap₂ (λ a b. a || b)
     (c.index-had.ensures ∙ get_or_default found step.source c.index-had.result.now false within)
-    (ap (λ a. a && at c.args.marks.now step.target) (c.is_chosen.ensures.value ∙ (ap (λ ms. at ms step.label) c.deref.ensures.value ∙ c.in_ok-chosen.ensures.each step.label chosen))) in
+    (ap (λ a. a && at c.args.marks.now step.target) (c.is_chosen.ensures.value
+    ∙ (ap (λ ms. at ms step.label) c.deref.ensures.value ∙ c.in_ok-chosen.ensures.each step.label chosen))) in
     record {
       count = simp length-set c.loop-source.invariant.count;
       each = λ s h.

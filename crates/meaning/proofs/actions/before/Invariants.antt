@@ -10,5 +10,6 @@ use Rattle.meaning.proofs.actions.before.Given as goal
 abbrev pub invariant-loop-source : goal.invariant-loop-source
 invariant-loop-source l = record {
   count : length l.found.items ≡ l.lts.system.states;
-  each : (s : ℕ) → s < l.lts.system.states → at l.found.items s ≡ list_any (λ step. enters (action_of l.action) (at l.marks) s (arrow_of l.lts.labels step)) (take l.source-index l.source-items);
+  each : (s : ℕ) → s < l.lts.system.states → at l.found.items s
+      ≡ list_any (λ step. enters (action_of l.action) (at l.marks) s (arrow_of l.lts.labels step)) (take l.source-index l.source-items);
 }

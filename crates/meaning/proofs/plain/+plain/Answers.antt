@@ -16,13 +16,17 @@ use Rattle.meaning.proofs.Iterated.{turn_marks, repeats_marks, least_marks, grea
 use Rattle.meaning.proofs.plain.+plain.Goals as goal
 
 -- what was made are the marks of the formula that these stand for
-made_of : (l : System) (e : Env) (x y : Formula) (made items : List Bool) → x ≡ y → made ≡ items → Marks l.states items (mean l y e) → Marks l.states made (mean l x e)
-made_of l e x y made items is same m = subst (λ (z : Formula). Marks l.states made (mean l z e)) (sym is) (subst (λ ms. Marks l.states ms (mean l y e)) (sym same) m)
+made_of : (l : System) (e : Env) (x y : Formula) (made items : List Bool) → x ≡ y → made ≡ items → Marks l.states items (mean l y e)
+    → Marks l.states made (mean l x e)
+made_of l e x y made items is same m = subst (λ (z : Formula). Marks l.states made (mean l z e)) (sym is)
+    (subst (λ ms. Marks l.states ms (mean l y e)) (sym same) m)
 
 -- the same of a call's result
-result_of : {E : Type 0} (l : System) (e : Env) (x y : Formula) (r : Result (Vec Bool Global) E) (P : List Bool → Type 0) → x ≡ y → ((ms : List Bool) → P ms → Marks l.states ms (mean l y e)) → IfOk r (λ marks. P marks.items)
+result_of : {E : Type 0} (l : System) (e : Env) (x y : Formula) (r : Result (Vec Bool Global) E) (P : List Bool → Type 0) → x ≡ y
+    → ((ms : List Bool) → P ms → Marks l.states ms (mean l y e)) → IfOk r (λ marks. P marks.items)
     → IfOk r (λ marks. Marks l.states marks.items (mean l x e))
-result_of l e x y r P is f h = subst (λ (z : Formula). IfOk r (λ marks. Marks l.states marks.items (mean l z e))) (sym is) (IfOk-weaker r (λ marks. P marks.items) _ (λ marks. f marks.items) h)
+result_of l e x y r P is f h = subst (λ (z : Formula). IfOk r (λ marks. Marks l.states marks.items (mean l z e))) (sym is)
+    (IfOk-weaker r (λ marks. P marks.items) _ (λ marks. f marks.items) h)
 
 pub marks_of-returns-in-Known-clause-marks : goal.marks_of-returns-in-Known-clause-marks
 marks_of-returns-in-Known-clause-marks t c =
@@ -30,7 +34,8 @@ marks_of-returns-in-Known-clause-marks t c =
     let f = formula_of c.in-Known.field-0.now in
     let right = subst (IsRight l) c.in-Known.is c.requires.right in
     result_of l (sets_of c.args.scope.now) _ f c.copied.result (λ ms. ms ≡ c.deref.result.now) (ap formula_in c.in-Known.is)
-    (λ ms same. subst (λ ns. Marks l.states ns (mean l f (sets_of c.args.scope.now))) (sym (same ∙ c.deref.ensures.value)) (marks_anywhere l c.states-count.ensures.known f (sets_of c.args.scope.now) c.in-Known.marks.items right.0 right.1))
+    (λ ms same. subst (λ ns. Marks l.states ns (mean l f (sets_of c.args.scope.now))) (sym (same ∙ c.deref.ensures.value))
+    (marks_anywhere l c.states-count.ensures.known f (sets_of c.args.scope.now) c.in-Known.marks.items right.0 right.1))
     c.copied.ensures
 
 pub marks_of-returns-in_ok-other-in-And-clause-marks : goal.marks_of-returns-in_ok-other-in-And-clause-marks
@@ -66,8 +71,10 @@ marks_of-returns-in_ok-other-in-Implies-clause-marks t c =
     let one = c.in_ok-one-in-Implies.one.items in
     made_of l e _ (Implies f g) _ _
     (ap formula_in c.in-Implies.is ∙ sym (ap₂ (λ a b. Implies (formula_in a) (formula_in b)) c.deref-in-Implies.ensures c.deref-in-Implies-2.ensures))
-    (c.union-in-Implies.ensures ∙ ap₂ (λ ns ms. map (λ (p : Bool × Bool). p.0 || p.1) (zip ns ms)) c.complement-in-Implies.ensures c.deref-in-Implies-3.ensures.value)
-    (marks_implies l.states one c.in_ok-other-in-Implies.other.items (mean l f e) (mean l g e) c.in_ok-one-in-Implies.ensures.marks c.in_ok-other-in-Implies.ensures.marks)
+    (c.union-in-Implies.ensures ∙ ap₂ (λ ns ms. map (λ (p : Bool × Bool). p.0 || p.1)
+    (zip ns ms)) c.complement-in-Implies.ensures c.deref-in-Implies-3.ensures.value)
+    (marks_implies l.states one c.in_ok-other-in-Implies.other.items (mean l f e)
+    (mean l g e) c.in_ok-one-in-Implies.ensures.marks c.in_ok-other-in-Implies.ensures.marks)
 
 pub marks_of-returns-in_ok-marks-in-Dia-clause-marks : goal.marks_of-returns-in_ok-marks-in-Dia-clause-marks
 marks_of-returns-in_ok-marks-in-Dia-clause-marks t c =
@@ -77,7 +84,8 @@ marks_of-returns-in_ok-marks-in-Dia-clause-marks t c =
     let f = formula_in c.deref-in-Dia.result.now in
     result_of l e _ (Dia r f) c.leading.result (λ ms. Marks l.states ms (Into l r c.deref-in-Dia-2.result.now))
     (ap formula_in c.in-Dia.is ∙ sym (ap (λ a. Dia r (formula_in a)) c.deref-in-Dia.ensures))
-    (λ ms q. into_dia l c.states-count.ensures.known r c.in_ok-marks-in-Dia.marks.items ms (mean l f e) c.in_ok-marks-in-Dia.ensures.marks (subst (λ xs. Marks l.states ms (Into l r xs)) c.deref-in-Dia-2.ensures.value q))
+    (λ ms q. into_dia l c.states-count.ensures.known r c.in_ok-marks-in-Dia.marks.items ms (mean l f e) c.in_ok-marks-in-Dia.ensures.marks
+    (subst (λ xs. Marks l.states ms (Into l r xs)) c.deref-in-Dia-2.ensures.value q))
     c.leading.ensures
 
 pub marks_of-returns-in_ok-found-in-Box-clause-marks : goal.marks_of-returns-in_ok-found-in-Box-clause-marks
@@ -91,7 +99,8 @@ marks_of-returns-in_ok-found-in-Box-clause-marks t c =
     made_of l e _ (Box r f) _ _
     (ap formula_in c.in-Box.is ∙ sym (ap (λ a. Box r (formula_in a)) c.deref-in-Box.ensures))
     c.complement-in-Box-2.ensures
-    (into_box l c.states-count.ensures.known r c.in_ok-marks-in-Box.marks.items found (mean l f e) c.in_ok-marks-in-Box.ensures.marks (subst (λ ms. Marks l.states found (Into l r ms)) turned c.in_ok-found-in-Box.ensures))
+    (into_box l c.states-count.ensures.known r c.in_ok-marks-in-Box.marks.items found (mean l f e) c.in_ok-marks-in-Box.ensures.marks
+    (subst (λ ms. Marks l.states found (Into l r ms)) turned c.in_ok-found-in-Box.ensures))
 
 pub marks_of-returns-in-Mu-clause-marks : goal.marks_of-returns-in-Mu-clause-marks
 marks_of-returns-in-Mu-clause-marks t c =
@@ -100,7 +109,8 @@ marks_of-returns-in-Mu-clause-marks t c =
     let f = formula_in c.deref-in-Mu.result.now in
     let name = c.in-Mu.name.now.items in
     result_of l e _ (Mu name f) c.iterated.result (λ ms. Marks l.states ms (iterate l.states (λ set. mean l f (with_set e name set)) (λ s. IsTrue false)))
-    (ap formula_in c.in-Mu.is ∙ sym (ap (λ a. Mu name (formula_in a)) c.deref-in-Mu.ensures)) (λ ms q. least_marks l c.states-count.ensures.known name f e ms q) c.iterated.ensures
+    (ap formula_in c.in-Mu.is ∙ sym (ap (λ a. Mu name (formula_in a)) c.deref-in-Mu.ensures))
+    (λ ms q. least_marks l c.states-count.ensures.known name f e ms q) c.iterated.ensures
 
 pub marks_of-returns-in-Nu-clause-marks : goal.marks_of-returns-in-Nu-clause-marks
 marks_of-returns-in-Nu-clause-marks t c =
@@ -109,7 +119,8 @@ marks_of-returns-in-Nu-clause-marks t c =
     let f = formula_in c.deref-in-Nu.result.now in
     let name = c.in-Nu.name.now.items in
     result_of l e _ (Nu name f) c.iterated-in-Nu.result (λ ms. Marks l.states ms (iterate l.states (λ set. mean l f (with_set e name set)) (λ s. IsTrue true)))
-    (ap formula_in c.in-Nu.is ∙ sym (ap (λ a. Nu name (formula_in a)) c.deref-in-Nu.ensures)) (λ ms q. greatest_marks l c.states-count.ensures.known name f e ms q) c.iterated-in-Nu.ensures
+    (ap formula_in c.in-Nu.is ∙ sym (ap (λ a. Nu name (formula_in a)) c.deref-in-Nu.ensures))
+    (λ ms q. greatest_marks l c.states-count.ensures.known name f e ms q) c.iterated-in-Nu.ensures
 
 pub iterated-returns-then-not-used : goal.iterated-returns-then-not-used
 iterated-returns-then-not-used t c =
@@ -124,17 +135,21 @@ iterated-returns-then-not-used t c =
 
 pub iterated-loop-turn-preserved : goal.iterated-loop-turn-preserved
 iterated-loop-turn-preserved t c =
-    turn_marks c.args.lts.now.system c.states-count.ensures.known c.args.name.now.items (formula_in c.args.body.now) (sets_of c.args.scope.now) c.loop-turn.turn (λ s. IsTrue c.args.from) c.loop-turn.set.items _ c.in_ok-next.next.items
+    turn_marks c.args.lts.now.system c.states-count.ensures.known c.args.name.now.items (formula_in c.args.body.now)
+    (sets_of c.args.scope.now) c.loop-turn.turn (λ s. IsTrue c.args.from) c.loop-turn.set.items _ c.in_ok-next.next.items
     c.deref-in-loop-turn.ensures.value c.loop-turn.invariant c.in_ok-next.ensures.marks
 
 pub iterated-returns-then-eq : goal.iterated-returns-then-eq
 iterated-returns-then-eq t c =
     let same : c.in_ok-next.next.items ≡ c.loop-turn.set.items = equal_marks c.in_ok-next.next.items c.loop-turn.set.items (sym c.eq.ensures ∙ c.if-eq.true) in
-    repeats_marks c.args.lts.now.system c.states-count.ensures.known c.args.name.now.items (formula_in c.args.body.now) (sets_of c.args.scope.now) c.loop-turn.turn c.args.lts.now.system.states (λ s. IsTrue c.args.from) c.loop-turn.set.items _ c.in_ok-next.next.items
+    repeats_marks c.args.lts.now.system c.states-count.ensures.known c.args.name.now.items (formula_in c.args.body.now)
+    (sets_of c.args.scope.now) c.loop-turn.turn c.args.lts.now.system.states (λ s. IsTrue c.args.from) c.loop-turn.set.items _ c.in_ok-next.next.items
     c.deref-in-loop-turn.ensures.value same (omega arith) c.loop-turn.invariant c.in_ok-next.ensures.marks
 
 pub iterated-returns : goal.iterated-returns
 iterated-returns t c =
     let l = c.args.lts.now.system in
     let done : c.loop-turn.turn ≡ l.states = omega (arith, c.loop-turn-test.false, c.loop-turn.auto.turn-end, c.states-count.ensures.count) in
-    subst (λ k. Marks l.states c.loop-turn.set.items (iterate k (λ set. mean l (formula_in c.args.body.now) (with_set (sets_of c.args.scope.now) c.args.name.now.items set)) (λ s. IsTrue c.args.from))) done c.loop-turn.invariant
+    subst (λ k. Marks l.states c.loop-turn.set.items (iterate k
+    (λ set. mean l (formula_in c.args.body.now) (with_set (sets_of c.args.scope.now) c.args.name.now.items set))
+    (λ s. IsTrue c.args.from))) done c.loop-turn.invariant

@@ -25,7 +25,8 @@ use Rattle.meaning.proofs.search.index_of.Goals.{then-is_chosen+in_ok-push, else
 
 pub is_chosen-requires : goal.is_chosen-requires
 is_chosen-requires c =
-    decided c.args.lts.now c.all-source-items.result.now c.loop-source.source-index c.in_ok-chosen.chosen.items c.deref.result.now c.all-source-items.ensures.inside c.loop-source-test.true c.deref.ensures.value
+    decided c.args.lts.now c.all-source-items.result.now c.loop-source.source-index c.in_ok-chosen.chosen.items c.deref.result.now
+    c.all-source-items.ensures.inside c.loop-source-test.true c.deref.ensures.value
     c.in_ok-chosen.ensures.count
 
 pub loop-source-preserved : goal.loop-source-preserved
@@ -45,31 +46,40 @@ loop-source-preserved c =
     elim c.if-is_chosen.branch [
       | then-is_chosen+in_ok-push w ↦
           let a : Arrival = record { source = step.source; earlier = w.index.result.now } in
-          let before : a.earlier ≡ slice_index_or last step.target 0 = w.index.ensures ∙ get_or_default last step.target w.index.result.now 0 (omega (arith, now.room.count, ok.target)) in
+          let before : a.earlier ≡ slice_index_or last step.target 0 = w.index.ensures
+          ∙ get_or_default last step.target w.index.result.now 0 (omega (arith, now.room.count, ok.target)) in
           let all_is : c.if-is_chosen.all.items ≡ all ++ a ∷ [] = ap (λ v. v.items) w.all-is ∙ w.in_ok-push.ensures.items in
           let long : w.len.result ≡ suc (length all) = omega (arith, w.len.ensures, ap length w.in_ok-push.ensures.items, length-append all (a ∷ [])) in
-          let last_is : c.if-is_chosen.last.items ≡ slice_set last step.target (suc (length all)) = ap (λ v. v.items) w.last-is ∙ ap (λ k. slice_set last step.target k) long in
+          let last_is : c.if-is_chosen.last.items ≡ slice_set last step.target (suc (length all)) = ap (λ v. v.items) w.last-is
+          ∙ ap (λ k. slice_set last step.target k) long in
           let room = room_more l.system.states last all now.room step.source step.target ok.source ok.target a refl before in
           record {
-            room = subst (λ xs. HasRoom l.system.states xs c.if-is_chosen.all.items) (sym last_is) (subst (λ ys. HasRoom l.system.states (slice_set last step.target (suc (length all))) ys) (sym all_is) room);
+            room = subst (λ xs. HasRoom l.system.states xs c.if-is_chosen.all.items) (sym last_is)
+                (subst (λ ys. HasRoom l.system.states (slice_set last step.target (suc (length all))) ys) (sym all_is) room);
             steps = λ t s lt.
                 let test : Transition → Bool = λ x. enters act (λ y. nat_eq y t) s (arrow_of l.labels x) in
-                subst (λ b. IsOneOf c.if-is_chosen.all.items (slice_index_or c.if-is_chosen.last.items t 0) s ↔ IsTrue b) (sym (list_any_more test steps i none c.loop-source-test.true))
+                subst (λ b. IsOneOf c.if-is_chosen.all.items (slice_index_or c.if-is_chosen.last.items t 0) s ↔ IsTrue b)
+                (sym (list_any_more test steps i none c.loop-source-test.true))
                 (subst (λ xs. IsOneOf c.if-is_chosen.all.items (slice_index_or xs t 0) s ↔ IsTrue (list_any test (take i steps) || test step)) (sym last_is)
-                (subst (λ ys. IsOneOf ys (slice_index_or (slice_set last step.target (suc (length all))) t 0) s ↔ IsTrue (list_any test (take i steps) || test step)) (sym all_is)
+                (subst (λ ys. IsOneOf ys (slice_index_or (slice_set last step.target (suc (length all))) t 0) s
+                ↔ IsTrue (list_any test (take i steps) || test step)) (sym all_is)
                 (both
                 (steps_more l.system.states last all now.room step.source step.target ok.source ok.target a refl before t s lt)
-                (told_chosen (list_any test (take i steps)) (holds act (label_at l.labels step.label)) step.source s step.target t (IsOneOf all (slice_index_or last t 0) s) (now.steps t s lt) (sym test_is ∙ w.if-is_chosen.true)))));
+                (told_chosen (list_any test (take i steps)) (holds act (label_at l.labels step.label)) step.source s step.target t
+                (IsOneOf all (slice_index_or last t 0) s) (now.steps t s lt) (sym test_is ∙ w.if-is_chosen.true)))));
           }
       | else-is_chosen w ↦
           let all_is : c.if-is_chosen.all.items ≡ all = ap (λ v. v.items) w.all-is in
           let last_is : c.if-is_chosen.last.items ≡ last = ap (λ v. v.items) w.last-is in
           record {
-            room = subst (λ xs. HasRoom l.system.states xs c.if-is_chosen.all.items) (sym last_is) (subst (λ ys. HasRoom l.system.states last ys) (sym all_is) now.room);
+            room = subst (λ xs. HasRoom l.system.states xs c.if-is_chosen.all.items) (sym last_is)
+                (subst (λ ys. HasRoom l.system.states last ys) (sym all_is) now.room);
             steps = λ t s lt.
                 let test : Transition → Bool = λ x. enters act (λ y. nat_eq y t) s (arrow_of l.labels x) in
                 subst (λ b. IsOneOf c.if-is_chosen.all.items (slice_index_or c.if-is_chosen.last.items t 0) s ↔ IsTrue b)
-                (sym (list_any_more test steps i none c.loop-source-test.true ∙ told_other (list_any test (take i steps)) (holds act (label_at l.labels step.label)) step.source s step.target t (sym test_is ∙ w.if-is_chosen.false)))
+                (sym (list_any_more test steps i none c.loop-source-test.true
+                ∙ told_other (list_any test (take i steps)) (holds act (label_at l.labels step.label)) step.source s step.target t
+                (sym test_is ∙ w.if-is_chosen.false)))
                 (subst (λ xs. IsOneOf c.if-is_chosen.all.items (slice_index_or xs t 0) s ↔ IsTrue (list_any test (take i steps))) (sym last_is)
                 (subst (λ ys. IsOneOf ys (slice_index_or last t 0) s ↔ IsTrue (list_any test (take i steps))) (sym all_is) (now.steps t s lt)));
           }

@@ -12,5 +12,6 @@ abbrev pub invariant-loop-source : goal.invariant-loop-source
 invariant-loop-source l = record {
   room : HasRoom l.lts.system.states l.last.items l.all.items;
   steps : (t s : ℕ) → t < l.lts.system.states
-      → IsOneOf l.all.items (slice_index_or l.last.items t 0) s ↔ IsTrue (list_any (λ step. enters (action_of l.action) (λ x. nat_eq x t) s (arrow_of l.lts.labels step)) (take l.source-index l.source-items));
+      → IsOneOf l.all.items (slice_index_or l.last.items t 0) s
+      ↔ IsTrue (list_any (λ step. enters (action_of l.action) (λ x. nat_eq x t) s (arrow_of l.lts.labels step)) (take l.source-index l.source-items));
 }

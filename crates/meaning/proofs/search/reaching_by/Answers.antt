@@ -15,7 +15,8 @@ no_more None P Q h none = h
 no_more (Some x) P Q h none = absurd (none x refl)
 
 -- the popped state, or one that still waits
-waited : (before after : List ℕ) (o : Option ℕ) (state : ℕ) → before ≡ after ++ option_to_list o → o ≡ Some state → (t : ℕ) → Contains before t → Contains after t ⊎ (state ≡ t)
+waited : (before after : List ℕ) (o : Option ℕ) (state : ℕ) → before ≡ after ++ option_to_list o → o ≡ Some state → (t : ℕ) → Contains before t
+    → Contains after t ⊎ (state ≡ t)
 waited before after o state e is t h =
     let all : before ≡ after ++ state ∷ [] = e ∙ ap (λ x. after ++ option_to_list x) is in
     Contains-push_cases after state t (subst (λ xs. Contains xs t) all h)

@@ -15,7 +15,8 @@ invariant-loop-state l = record {
   known : (s : ℕ) → Contains l.waiting.items s → marked l.found.items s;
   sound : (s : ℕ) → s < l.lts.system.states → marked l.found.items s → Into l.lts.system (Star (Step (action_of l.action))) l.marks s;
   base : (s : ℕ) → s < l.lts.system.states → marked l.marks s → marked l.found.items s;
-  closed : (s t : ℕ) → t < l.lts.system.states → Leads l.lts.system (Step (action_of l.action)) s t → marked l.found.items t → marked l.found.items s ⊎ Contains l.waiting.items t;
+  closed : (s t : ℕ) → t < l.lts.system.states → Leads l.lts.system (Step (action_of l.action)) s t → marked l.found.items t → marked l.found.items s
+      ⊎ Contains l.waiting.items t;
 }
 
 abbrev pub decreases-loop-state : goal.decreases-loop-state

@@ -6,4 +6,5 @@ use Rattle.measures.proofs.settle.first_table.Goals as goal
 
 pub returns-clause-raised : goal.returns-clause-raised
 returns-clause-raised c =
-    under_trans _ _ _ (subst (λ (l : List Measure). LiesUnder l c.lift_ahead.new.table.values) c.in_ok-table.ensures.values c.lift_ahead.ensures.kept) c.jump_ahead.ensures.kept
+    under_trans _ _ _ (subst
+    (λ (l : List Measure). LiesUnder l c.lift_ahead.new.table.values) c.in_ok-table.ensures.values c.lift_ahead.ensures.kept) c.jump_ahead.ensures.kept

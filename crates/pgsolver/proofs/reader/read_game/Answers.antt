@@ -11,5 +11,7 @@ use Rattle.pgsolver.proofs.reader.read_game.Goals as goal
 pub returns : goal.returns
 returns g c =
     let old = g.R.Read.remaining c.args.reader in
-    let known = (λ i. cond (nat_eq (c.in-Ok.ensures.capacity i) 0) None (prepend_known (c.in-Ok.ensures.empty i) (g.R.Read.remaining (c.in-Ok.ensures.inner i)))) ∙ prepend_known-nil old in
-    promised old c.read_text.result (subst (λ old. IfOk c.read_text.result (λ g. IfSome old (λ text. IsGameText text g))) known c.read_text.ensures.spelled) (subst (λ old. IfErr c.read_text.result (Refuses old HasFault)) known c.read_text.ensures.fault)
+    let known = (λ i. cond (nat_eq (c.in-Ok.ensures.capacity i) 0) None
+    (prepend_known (c.in-Ok.ensures.empty i) (g.R.Read.remaining (c.in-Ok.ensures.inner i)))) ∙ prepend_known-nil old in
+    promised old c.read_text.result (subst (λ old. IfOk c.read_text.result (λ g. IfSome old (λ text. IsGameText text g))) known c.read_text.ensures.spelled)
+    (subst (λ old. IfErr c.read_text.result (Refuses old HasFault)) known c.read_text.ensures.fault)

@@ -15,7 +15,8 @@ counts_of_number-requires-clause-within c =
 pub returns-clause-value : goal.returns-clause-value
 returns-clause-value c =
     let within : c.unwrap-within.result ≡ height c.args.game.now = search rules in
-    measure_of_number c.args.game.now c.as_slice.result.now (c.as_slice.ensures.value ∙ c.bounds-bounds.ensures) c.args.rank c.as_slice-2.result.now c.of_counts.result
+    measure_of_number c.args.game.now c.as_slice.result.now (c.as_slice.ensures.value
+    ∙ c.bounds-bounds.ensures) c.args.rank c.as_slice-2.result.now c.of_counts.result
     (let n = c.if-rank-within.false in let r = c.requires.rank in omega arith) (c.as_slice-2.ensures.value ∙ c.counts_of_number.ensures) c.of_counts.ensures
 
 pub returns-clause-measure : goal.returns-clause-measure

@@ -12,10 +12,12 @@ pub returns-then-is_top-clause-lesser : goal.returns-then-is_top-clause-lesser
 returns-then-is_top-clause-lesser c = rank_tells c.args.game.now c.args.m.now c.unwrap.result c.requires.measure (returns-then-is_top-clause-value c)
 
 pub returns-then-is_top-clause-order : goal.returns-then-is_top-clause-order
-returns-then-is_top-clause-order c = λ other is. rank_order c.args.game.now c.args.m.now other c.unwrap.result c.requires.measure (returns-then-is_top-clause-value c) is
+returns-then-is_top-clause-order c = λ other is. rank_order c.args.game.now c.args.m.now other c.unwrap.result c.requires.measure
+    (returns-then-is_top-clause-value c) is
 
 pub returns-then-is_top-clause-measure : goal.returns-then-is_top-clause-measure
-returns-then-is_top-clause-measure c = ap (of_rank c.args.game.now) (returns-then-is_top-clause-value c) ∙ of_rank_rank c.args.game.now c.args.m.now c.requires.measure
+returns-then-is_top-clause-measure c = ap (of_rank c.args.game.now) (returns-then-is_top-clause-value c)
+    ∙ of_rank_rank c.args.game.now c.args.m.now c.requires.measure
 
 pub number_of-requires-clause-within : goal.number_of-requires-clause-within
 number_of-requires-clause-within c =
@@ -23,7 +25,8 @@ number_of-requires-clause-within c =
     (λ e. true≢false (sym (c.is_top.ensures.1 e) ∙ c.if-is_top.false)) c.counts.ensures.value
 
 pub number_of-requires-clause-few : goal.number_of-requires-clause-few
-number_of-requires-clause-few c = let e = size_is c.args.game.now c.as_slice.result.now (c.as_slice.ensures.value ∙ c.bounds.ensures) in omega (arith, e, c.requires.few)
+number_of-requires-clause-few c = let e = size_is c.args.game.now c.as_slice.result.now (c.as_slice.ensures.value ∙ c.bounds.ensures)
+    in omega (arith, e, c.requires.few)
 
 pub returns-clause-value : goal.returns-clause-value
 returns-clause-value c =

@@ -7,4 +7,5 @@ pub returns : goal.returns
 returns c =
     let s = c.args.settled.now in
     let settled = c.is_top.ensures.settled in
-    not_top_is c.is_top.result (value_at s.values c.args.v ≡ Top) (Wins s.game c.args.v) c.is_top.ensures.value (least_decides s.game settled.game s.values settled.least c.args.v)
+    not_top_is c.is_top.result (value_at s.values c.args.v ≡ Top) (Wins s.game c.args.v) c.is_top.ensures.value
+    (least_decides s.game settled.game s.values settled.least c.args.v)

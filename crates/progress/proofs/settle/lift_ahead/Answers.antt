@@ -7,5 +7,6 @@ use Rattle.progress.proofs.settle.lift_ahead.Goals as goal
 pub loop-preserved : goal.loop-preserved
 loop-preserved c = record {
   game = c.lift_at.ensures.game;
-  kept = under_trans _ _ _ c.loop.invariant.kept (subst (λ (t : Table). LiesUnder t.values c.lift_at.new.self.values) c.next_pending.ensures c.lift_at.ensures.kept);
+  kept = under_trans _ _ _ c.loop.invariant.kept
+      (subst (λ (t : Table). LiesUnder t.values c.lift_at.new.self.values) c.next_pending.ensures c.lift_at.ensures.kept);
 }

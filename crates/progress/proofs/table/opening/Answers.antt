@@ -5,7 +5,8 @@ use Rattle.progress.proofs.table.opening.Goals.{then-turns_odd, else-turns_odd}
 
 pub loop-v-init : goal.loop-v-init
 loop-v-init c =
-    opened_first c.args.game.now c.vertices.result c.len.result c.in_ok-rows.rows c.vertices.ensures (c.len.ensures.value ∙ ap length c.bounds-bounds.ensures) c.in_ok-rows.ensures.width c.in_ok-rows.ensures.zeros
+    opened_first c.args.game.now c.vertices.result c.len.result c.in_ok-rows.rows c.vertices.ensures
+    (c.len.ensures.value ∙ ap length c.bounds-bounds.ensures) c.in_ok-rows.ensures.width c.in_ok-rows.ensures.zeros
 
 pub loop-v-preserved : goal.loop-v-preserved
 loop-v-preserved c =
@@ -27,7 +28,8 @@ invariant_of-result c =
     let whole = opened_whole g c.loop-v.v c.loop-v.rows c.loop-v.invariant (omega arith) in
     let same = sym c.of-2.ensures in
     record {
-      plain = subst (λ (h : Game). IsPlain (record { game = h; values = c.loop-v.rows.values })) same (opening_plain g c.loop-v.rows.values c.known.ensures whole);
+      plain = subst (λ (h : Game). IsPlain (record { game = h; values = c.loop-v.rows.values })) same
+          (opening_plain g c.loop-v.rows.values c.known.ensures whole);
       bounded = c.bounds-bounds.ensures ∙ ap bounds same;
       wide = c.loop-v.invariant.width ∙ ap length (sym c.bounds-bounds.ensures);
       edges_are = c.in_ok-of.ensures ∙ same;

@@ -6,7 +6,8 @@ use Rattle.progress.proofs.writer.put_more.Goals as goal
 pub returns-in_err-put_number : goal.returns-in_err-put_number
 returns-in_err-put_number g c =
     let next = next_in more c.args.counts.now c.loop-count.count-index 0 c.loop-count-test.true in
-    Wrote-err _ _ _ _ c.from_residual.ensures.0 (HasWritten-stops _ _ _ _ _ _ (subst (HasWritten _ _ _) next c.loop-count.invariant) c.in_err-put_number.ensures.wrote)
+    Wrote-err _ _ _ _ c.from_residual.ensures.0 (HasWritten-stops _ _ _ _ _ _
+    (subst (HasWritten _ _ _) next c.loop-count.invariant) c.in_err-put_number.ensures.wrote)
 
 pub loop-count-preserved : goal.loop-count-preserved
 loop-count-preserved g c =
@@ -14,4 +15,5 @@ loop-count-preserved g c =
     HasWritten-more _ _ _ _ _ _ (subst (HasWritten _ _ _) next c.loop-count.invariant) c.in_ok-put_number.ensures.wrote
 
 pub returns : goal.returns
-returns g c = HasWritten-all _ _ _ (subst (HasWritten _ _ _) (none_in more c.args.counts.now c.loop-count.count-index c.loop-count-test.false) c.loop-count.invariant)
+returns g c = HasWritten-all _ _ _ (subst (HasWritten _ _ _)
+    (none_in more c.args.counts.now c.loop-count.count-index c.loop-count-test.false) c.loop-count.invariant)

@@ -17,4 +17,5 @@ returns-in_err-formula-clause-refusal g c =
     let l = c.in_ok-system.system.system in
     let told = ok_before c.read_aut.result c.in_ok-system.system _ c.in_ok-system.ensures.cases c.read_aut.ensures.spelled in
     passed_on c.from_residual-in_err-formula.result c.in_err-formula.field-0.0 (HasRefused way first second writers) c.from_residual-in_err-formula.ensures.1
-    (unread_of way first second writers c.in_err-formula.field-0.0 (l, at_known (λ text. IsAut text l) _ first known told) (c.in_err-formula.ensures.refusal second also) kept)
+    (unread_of way first second writers c.in_err-formula.field-0.0 (l, at_known (λ text. IsAut text l) _ first known told)
+    (c.in_err-formula.ensures.refusal second also) kept)

@@ -17,4 +17,5 @@ returns-clause-refusal g c =
     λ text known.
     let front = subst (λ o. IfSome o (λ all. c.in_ok-text.text.items ≡ take 1048577 all)) known c.in_ok-text.ensures.front in
     err_after error.Formula c.parse.result c.map_err.result (IsReadRefusal text) c.map_err.ensures.cases
-    (IfErr-weaker c.parse.result _ _ (λ e told. refused_of text c.in_ok-text.text.items c.deref.result.now e front c.deref.ensures.value told) c.parse.ensures.fault)
+    (IfErr-weaker c.parse.result _ _
+    (λ e told. refused_of text c.in_ok-text.text.items c.deref.result.now e front c.deref.ensures.value told) c.parse.ensures.fault)

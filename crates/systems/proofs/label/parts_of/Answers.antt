@@ -16,8 +16,10 @@ loop-byte-preserved c =
           rw (w.parts-is, w.part-is, w.in_ok-push.ensures.items, w.new-part-then-byte-eq124.ensures.items, map-append)
           (part_ends c.args.bytes.now c.loop-byte.byte-index done c.loop-byte.part.items c.loop-byte-test.true w.if-byte-eq124.true c.loop-byte.invariant)
       | else-byte-eq124+in_ok-push-2 w ↦
-          rw (w.parts-is, w.part-is, w.in_ok-push-2.ensures.items) (part_grows c.args.bytes.now c.loop-byte.byte-index done c.loop-byte.part.items c.loop-byte-test.true w.if-byte-eq124.false c.loop-byte.invariant)
+          rw (w.parts-is, w.part-is, w.in_ok-push-2.ensures.items)
+          (part_grows c.args.bytes.now c.loop-byte.byte-index done c.loop-byte.part.items c.loop-byte-test.true w.if-byte-eq124.false c.loop-byte.invariant)
     ]
 
 pub returns : goal.returns
-returns c = parts_end c.args.bytes.now c.loop-byte.byte-index c.loop-byte.parts.items _ c.loop-byte.part c.loop-byte-test.false c.loop-byte.invariant c.in_ok-push-3.ensures.items
+returns c = parts_end c.args.bytes.now c.loop-byte.byte-index c.loop-byte.parts.items _ c.loop-byte.part c.loop-byte-test.false c.loop-byte.invariant
+    c.in_ok-push-3.ensures.items

@@ -29,8 +29,10 @@ raise-requires-clause-below c =
     let v = c.loop-v.v in
     let is : slice_index words v ≡ c.word.result = read_some words v c.word.result c.word.ensures in
     let lt : v < length c.args.game.now.vertices = let size = c.vertices-v-end.ensures in let end = c.loop-v-test.true in omega (arith, size, end) in
-    let here : LiesBelow c.args.game.now v (of_rank c.args.game.now c.word.result) = subst (λ (n : ℕ). LiesBelow c.args.game.now v (of_rank c.args.game.now n)) is (c.requires.words v lt).below in
-    subst (λ (g : Game). LiesBelow g v c.of_rank-measure.result) (sym c.loop-v.invariant.game) (subst (LiesBelow c.args.game.now v) (sym c.of_rank-measure.ensures.value) here)
+    let here : LiesBelow c.args.game.now v (of_rank c.args.game.now c.word.result) = subst
+    (λ (n : ℕ). LiesBelow c.args.game.now v (of_rank c.args.game.now n)) is (c.requires.words v lt).below in
+    subst (λ (g : Game). LiesBelow g v c.of_rank-measure.result) (sym c.loop-v.invariant.game)
+    (subst (LiesBelow c.args.game.now v) (sym c.of_rank-measure.ensures.value) here)
 
 pub loop-v-preserved : goal.loop-v-preserved
 loop-v-preserved c =
@@ -60,4 +62,5 @@ loop-v-preserved c =
     }
 
 pub returns-clause-poured : goal.returns-clause-poured
-returns-clause-poured c = λ w lt. let size = c.vertices-v-end.ensures in let end = c.loop-v-test.false in c.loop-v.invariant.poured w (omega (arith, size, end, lt))
+returns-clause-poured c = λ w lt. let size = c.vertices-v-end.ensures in let end = c.loop-v-test.false
+    in c.loop-v.invariant.poured w (omega (arith, size, end, lt))

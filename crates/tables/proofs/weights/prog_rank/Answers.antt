@@ -14,10 +14,12 @@ returns-then-number-top-clause-prog c =
     let g = c.args.game.now in
     let is = c.requires.top in
     let here = c.if-number-top.true in
-    prog_at_top g c.args.v (of_rank g c.args.number) (of_rank g c.args.top) c.requires.vertex (of_rank_top g c.args.number (omega (arith, is, here))) (of_rank_top g c.args.top (omega (arith, is)))
+    prog_at_top g c.args.v (of_rank g c.args.number) (of_rank g c.args.top) c.requires.vertex (of_rank_top g c.args.number (omega (arith, is, here)))
+    (of_rank_top g c.args.top (omega (arith, is)))
 
 pub bounds-weights-from : goal.bounds-weights-from
-bounds-weights-from c = (weight_here c.args.game.now c.args.weights.now c.args.v c.priority-priority.result c.from.result c.requires.weights c.requires.vertex c.priority-priority.ensures c.from.ensures).0
+bounds-weights-from c = (weight_here c.args.game.now c.args.weights.now c.args.v c.priority-priority.result c.from.result c.requires.weights
+    c.requires.vertex c.priority-priority.ensures c.from.ensures).0
 
 pub rest_of-requires : goal.rest_of-requires
 rest_of-requires c =
@@ -30,9 +32,11 @@ rest_of-requires c =
 pub returns-then-priority-eq0-clause-prog : goal.returns-then-priority-eq0-clause-prog
 returns-then-priority-eq0-clause-prog c =
     rw c.rest_of.ensures
-    (asked_even c.args.game.now c.args.weights.now c.args.v c.priority-priority.result c.from.result c.args.number c.requires.weights c.requires.vertex c.priority-priority.ensures c.from.ensures c.if-priority-eq0.true c.requires.number)
+    (asked_even c.args.game.now c.args.weights.now c.args.v c.priority-priority.result c.from.result c.args.number c.requires.weights c.requires.vertex
+    c.priority-priority.ensures c.from.ensures c.if-priority-eq0.true c.requires.number)
 
 pub returns-else-priority-eq0-clause-prog : goal.returns-else-priority-eq0-clause-prog
 returns-else-priority-eq0-clause-prog c =
-    asked_odd c.args.game.now c.args.weights.now c.args.v c.priority-priority.result c.from.result c.args.number c.min.result c.requires.weights c.requires.vertex c.priority-priority.ensures c.from.ensures c.if-priority-eq0.false
+    asked_odd c.args.game.now c.args.weights.now c.args.v c.priority-priority.result c.from.result c.args.number c.min.result c.requires.weights
+    c.requires.vertex c.priority-priority.ensures c.from.ensures c.if-priority-eq0.false
     c.requires.number (let rest = c.rest_of.ensures in omega (arith, c.min.ensures, c.requires.top, rest))

@@ -11,5 +11,7 @@ returns-then-branch g c =
 
 pub returns : goal.returns
 returns g c =
-    subst (λ r. IfKnown (g.B.Read.remaining c.args.reader.now) (g.B.Read.remaining c.look.new.reader) (Ends r)) (none_is c.in_ok-look.field-0 c.is_none.result c.is_none.ensures)
-    (ends_known _ _ _ _ _ c.in_ok-skip_blanks.field-0 c.in_ok-accept.field-0 c.in_ok-look.field-0 c.in_ok-skip_blanks.ensures.next c.in_ok-accept.ensures (rw c.if-branch.false at c.in_ok-accept-2.ensures) c.in_ok-look.ensures.next)
+    subst (λ r. IfKnown (g.B.Read.remaining c.args.reader.now) (g.B.Read.remaining c.look.new.reader) (Ends r))
+    (none_is c.in_ok-look.field-0 c.is_none.result c.is_none.ensures)
+    (ends_known _ _ _ _ _ c.in_ok-skip_blanks.field-0 c.in_ok-accept.field-0 c.in_ok-look.field-0 c.in_ok-skip_blanks.ensures.next c.in_ok-accept.ensures
+    (rw c.if-branch.false at c.in_ok-accept-2.ensures) c.in_ok-look.ensures.next)

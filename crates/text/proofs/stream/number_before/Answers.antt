@@ -7,8 +7,10 @@ returns-in_default g c = known_only _ _ (rw c.in_default.is at c.in_ok-found.ens
 
 pub returns-then-not-branch : goal.returns-then-not-branch
 returns-then-not-branch g c =
-    known_then _ _ _ (rw c.in-Some.is at c.in_ok-found.ensures) (rw c.if-not-branch.true at c.in_ok-sign.ensures) (λ text mid left some none. before_no_sign (c.args.token ∷ []) text mid left c.in-Some.found some none)
+    known_then _ _ _ (rw c.in-Some.is at c.in_ok-found.ensures) (rw c.if-not-branch.true at c.in_ok-sign.ensures)
+    (λ text mid left some none. before_no_sign (c.args.token ∷ []) text mid left c.in-Some.found some none)
 
 pub returns : goal.returns
 returns g c =
-    known_then _ _ _ (rw c.in-Some.is at c.in_ok-found.ensures) (rw c.if-not-branch.false at c.in_ok-sign.ensures) (λ text mid left some signed. before_passes (c.args.token ∷ []) text mid left c.in-Some.found some signed)
+    known_then _ _ _ (rw c.in-Some.is at c.in_ok-found.ensures) (rw c.if-not-branch.false at c.in_ok-sign.ensures)
+    (λ text mid left some signed. before_passes (c.args.token ∷ []) text mid left c.in-Some.found some signed)

@@ -3,7 +3,8 @@ use Rattle.text.proofs.Streaming.{known_only, known_then, known_both, quote_none
 use Rattle.text.proofs.stream.quoted.Goals as goal
 
 pub returns-then-not-branch : goal.returns-then-not-branch
-returns-then-not-branch g c = known_only _ _ (rw c.if-not-branch.true at c.in_ok-sign.ensures) (λ text left none. quote_none c.args.most c.args.kept.now.items text left none)
+returns-then-not-branch g c = known_only _ _ (rw c.if-not-branch.true at c.in_ok-sign.ensures)
+    (λ text left none. quote_none c.args.most c.args.kept.now.items text left none)
 
 pub returns : goal.returns
 returns g c =

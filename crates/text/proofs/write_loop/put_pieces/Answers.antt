@@ -14,4 +14,5 @@ loop-piece-preserved g c =
     HasWritten-more _ _ _ _ _ _ so_far c.in_ok-put_piece.ensures
 
 pub returns : goal.returns
-returns g c = HasWritten-all _ _ _ (subst (HasWritten _ _ _) (pieces_none c.args.pieces.now c.loop-piece.piece-index c.loop-piece-test.false) c.loop-piece.invariant)
+returns g c = HasWritten-all _ _ _ (subst (HasWritten _ _ _)
+    (pieces_none c.args.pieces.now c.loop-piece.piece-index c.loop-piece-test.false) c.loop-piece.invariant)

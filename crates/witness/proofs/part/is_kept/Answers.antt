@@ -11,7 +11,8 @@ returns-then-is_taken c = λ labels sets label.
     let k = c.loop-k.k in
     let few : k < length nodes = omega (arith, c.loop-k-test.true, c.count-k-end.ensures.count) in
     let told = taken_told nodes c.args.evidence.now.evidence (is_marked c.args.marks.now) (arrow_of labels c.args.transition) k c.is_taken.result few
-    (λ node at. c.is_taken.ensures labels node at (set_told labels nodes c.args.sets.now k _ _ sets (omega (arith, few, c.requires.count)) c.index-sets-k.is c.as_slice-set.ensures.value node at) label)
+    (λ node at. c.is_taken.ensures labels node at (set_told labels nodes c.args.sets.now k _ _ sets
+    (omega (arith, few, c.requires.count)) c.index-sets-k.is c.as_slice-set.ensures.value node at) label)
     in
     sym (one_passes _ (length nodes) k few (told ∙ c.if-is_taken.true))
 
@@ -21,7 +22,8 @@ loop-k-preserved c = λ labels sets label.
     let k = c.loop-k.k in
     let few : k < length nodes = omega (arith, c.loop-k-test.true, c.count-k-end.ensures.count) in
     let told = taken_told nodes c.args.evidence.now.evidence (is_marked c.args.marks.now) (arrow_of labels c.args.transition) k c.is_taken.result few
-    (λ node at. c.is_taken.ensures labels node at (set_told labels nodes c.args.sets.now k _ _ sets (omega (arith, few, c.requires.count)) c.index-sets-k.is c.as_slice-set.ensures.value node at) label)
+    (λ node at. c.is_taken.ensures labels node at (set_told labels nodes c.args.sets.now k _ _ sets
+    (omega (arith, few, c.requires.count)) c.index-sets-k.is c.as_slice-set.ensures.value node at) label)
     in
     below_more _ _ (c.loop-k.invariant labels sets label) (told ∙ c.if-is_taken.false)
 

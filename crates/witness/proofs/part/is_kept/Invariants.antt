@@ -11,4 +11,5 @@ use Rattle.witness.proofs.part.is_kept.Given as goal
 abbrev pub invariant-loop-k : goal.invariant-loop-k
 invariant-loop-k l =
     (labels : List (List ℕ)) → AreSets labels (normal_nodes l.normal) (map (λ set. set.items) l.sets) → l.transition.label < length labels
-    → (j : ℕ) → j < l.k → is_taken_at (length (normal_nodes l.normal)) l.evidence.evidence (is_marked l.marks) (arrow_of labels l.transition) j (slice_get (normal_nodes l.normal) j) ≡ false
+    → (j : ℕ) → j < l.k → is_taken_at (length (normal_nodes l.normal)) l.evidence.evidence (is_marked l.marks) (arrow_of labels l.transition) j
+    (slice_get (normal_nodes l.normal) j) ≡ false

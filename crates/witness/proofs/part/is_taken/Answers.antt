@@ -7,4 +7,5 @@ pub moves_to-requires : goal.moves_to-requires
 moves_to-requires c =
     let w = c.requires.within in
     subst (λ (g : Game). c.vertex_of-here.result < length g.vertices) (sym c.requires.same)
-    (place_within c.args.game.now w.states _ c.args.transition.source c.args.k c.vertex_of-here.result c.known.ensures.named w.named w.source c.requires.node c.vertex_of-here.ensures)
+    (place_within c.args.game.now w.states _ c.args.transition.source c.args.k c.vertex_of-here.result c.known.ensures.named w.named w.source c.requires.node
+    c.vertex_of-here.ensures)

@@ -8,4 +8,5 @@ use Rattle.witness.proofs.part.taken.Given as goal
 -- those so far that are taken
 abbrev pub invariant-loop-transition : goal.invariant-loop-transition
 invariant-loop-transition l =
-    l.part.items ≡ filter (λ t. is_taken_by_some (normal_nodes l.normal) l.evidence.evidence (is_marked l.marks) (arrow_of l.system.labels t)) (take l.transition-index l.transition-items)
+    l.part.items ≡ filter (λ t. is_taken_by_some (normal_nodes l.normal) l.evidence.evidence (is_marked l.marks) (arrow_of l.system.labels t))
+    (take l.transition-index l.transition-items)

@@ -16,12 +16,14 @@ pub visit_all-requires : goal.visit_all-requires
 visit_all-requires c =
     let v = read_vertex c.args.game.now c.args.u c.successors.result.now c.successors.ensures in
     let is = all_got (IsVertex (length c.args.game.now.vertices)) c.args.game.now.vertices c.args.u v.0 c.known.ensures.vertices v.1 in
-    subst (λ n. AllByRecursion (λ t. t < n) c.successors.result.now) (sym c.requires.long) (subst (AllByRecursion (λ t. t < length c.args.game.now.vertices)) v.2 is.within)
+    subst (λ n. AllByRecursion (λ t. t < n) c.successors.result.now) (sym c.requires.long)
+    (subst (AllByRecursion (λ t. t < length c.args.game.now.vertices)) v.2 is.within)
 
 pub returns-in-Some-next : goal.returns-in-Some-next
 returns-in-Some-next c =
     let v = some_vertex c.args.game.now c.args.u c.requires.vertex in
-    let goals = move_goals c.args.game.now c.args.evidence.now.evidence c.requires.good c.args.u _ v.0 c.in-Some.ensures v.1 c.in-Some-next.next c.in-Some-next.is in
+    let goals = move_goals c.args.game.now c.args.evidence.now.evidence c.requires.good c.args.u _ v.0 c.in-Some.ensures v.1 c.in-Some-next.next
+    c.in-Some-next.is in
     on_ok_weaker c.visit.result (λ visits. (_, goals, visits)) c.visit.ensures
 
 pub returns-in-None-next : goal.returns-in-None-next

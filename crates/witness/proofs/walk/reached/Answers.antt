@@ -9,7 +9,8 @@ loop-u-init c =
     let root = c.args.root ∷ [] in
     walk_begins c.args.game.now c.args.evidence.now.evidence c.args.root c.vertices.result _ _ c.vertices.ensures
     (subst (λ ms. Visits ms [] root c.visit.new.marks.items c.visit.new.waiting.items) (c.in_ok-marks.ensures.items_if_clones_equal (λ y e. e))
-    (subst (λ ws. Visits c.in_ok-marks.marks.items ws root c.visit.new.marks.items c.visit.new.waiting.items) c.new-waiting.ensures.items c.in_ok-visit.ensures))
+    (subst (λ ws. Visits c.in_ok-marks.marks.items ws root c.visit.new.marks.items c.visit.new.waiting.items) c.new-waiting.ensures.items
+    c.in_ok-visit.ensures))
 
 pub follow-requires-clause-vertex : goal.follow-requires-clause-vertex
 follow-requires-clause-vertex c =

@@ -6,4 +6,5 @@ use Rattle.words.proofs.strange.add_names.Given as goal
 
 abbrev pub invariant-loop-name : goal.invariant-loop-name
 invariant-loop-name l =
-    (bytes : List ℕ) → list_any (λ name. bytes_eq bytes name.now) l.set.keys ≡ (list_any (λ name. bytes_eq bytes name.now) l.fn.set.keys || list_any (λ name. bytes_eq name bytes) (texts (take l.name-index l.names)))
+    (bytes : List ℕ) → list_any (λ name. bytes_eq bytes name.now) l.set.keys
+    ≡ (list_any (λ name. bytes_eq bytes name.now) l.fn.set.keys || list_any (λ name. bytes_eq name bytes) (texts (take l.name-index l.names)))

@@ -7,4 +7,5 @@ use Rattle.words.proofs.strange.known_in.Goals as goal
 pub loop-number-preserved : goal.loop-number-preserved
 loop-number-preserved c t =
     let labels = c.args.system.now.labels in
-    known_more labels c.loop-number.number t (knows c.loop-number.known t) (knows c.add.new.self t) c.label.result.bytes.now (omega arith) (c.label.ensures ∙ ap (label_at labels) (omega arith)) (c.loop-number.invariant t) (c.in_ok-add.ensures t)
+    known_more labels c.loop-number.number t (knows c.loop-number.known t) (knows c.add.new.self t) c.label.result.bytes.now (omega arith)
+    (c.label.ensures ∙ ap (label_at labels) (omega arith)) (c.loop-number.invariant t) (c.in_ok-add.ensures t)

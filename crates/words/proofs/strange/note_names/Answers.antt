@@ -6,5 +6,6 @@ use Rattle.words.proofs.strange.note_names.Goals as goal
 
 pub loop-name-preserved : goal.loop-name-preserved
 loop-name-preserved c =
-    names_more (knows c.args.known.now) (map term_of c.args.found.now.items) (map term_of c.loop-name.found.items) (map term_of c.note.new.found.items) c.args.names.now c.loop-name.name-index c.name-item.result c.as_slice.result.now
+    names_more (knows c.args.known.now) (map term_of c.args.found.now.items) (map term_of c.loop-name.found.items)
+    (map term_of c.note.new.found.items) c.args.names.now c.loop-name.name-index c.name-item.result c.as_slice.result.now
     c.loop-name-test.true c.name-item.is c.as_slice.ensures.value c.loop-name.invariant c.in_ok-note.ensures

@@ -5,4 +5,5 @@ use Rattle.words.specs.Noted.{knows, with_term}
 use Rattle.words.proofs.strange.note_names.Given as goal
 
 abbrev pub invariant-loop-name : goal.invariant-loop-name
-invariant-loop-name l = map term_of l.found.items ≡ fold (with_term (knows l.known)) (map term_of l.fn.found.items) (map Name (texts (take l.name-index l.names)))
+invariant-loop-name l = map term_of l.found.items ≡ fold (with_term (knows l.known)) (map term_of l.fn.found.items)
+    (map Name (texts (take l.name-index l.names)))

@@ -10,5 +10,6 @@ pub returns : goal.returns
 returns c =
     let none : c.new-found.result.items ≡ [] = c.new-found.ensures.items in
     let f = formula_of c.args.formula.now in
-    let noted = subst (λ (l : List Word). map term_of c.note_formula.new.found.items ≡ fold (with_term (knows c.in_ok-known.known)) (map term_of l) (formula_terms f)) none c.in_ok-note_formula.ensures in
+    let noted = subst (λ (l : List Word). map term_of c.note_formula.new.found.items
+    ≡ fold (with_term (knows c.in_ok-known.known)) (map term_of l) (formula_terms f)) none c.in_ok-note_formula.ensures in
     noted_strange (knows c.in_ok-known.known) c.args.system.now f (map term_of c.note_formula.new.found.items) c.in_ok-known.ensures noted

@@ -7,7 +7,8 @@ fits c =
     let states = c.in-Some.field-0-0 in
     let nodes = c.in-Some.nodes in
     let named = sym (ap (λ (g : Game). g.named) c.self.view_is) ∙ c.in-Some.is in
-    let names : (c.args.state < states) × (c.args.node < nodes) = subst (λ n. MatchOption n ⊥ (λ x. (c.args.state < x.0) × (c.args.node < x.1))) named c.requires in
+    let names : (c.args.state < states) × (c.args.node < nodes) = subst
+    (λ n. MatchOption n ⊥ (λ x. (c.args.state < x.0) × (c.args.node < x.1))) named c.requires in
     let below = mul-add-lt c.args.state nodes c.args.node states names.0 names.1 in
     let count = c.self.invariant.game.named states nodes c.in-Some.is in
     omega (arith, below, count, c.self.invariant.game.limit)

@@ -9,7 +9,8 @@ invariant_of-result c =
     let inside = c.self.inside in
     let counted = c.self.invariant.stored.counted in
     let p = c.greatest_counted.result in
-    let known : IsGame record { vertices = vertices_in inside; named = c.args.named } = subst (λ (vs : List Vertex). IsGame record { vertices = vs; named = c.args.named }) (sym c.self.view_is) c.requires in
+    let known : IsGame record { vertices = vertices_in inside; named = c.args.named } = subst
+    (λ (vs : List Vertex). IsGame record { vertices = vs; named = c.args.named }) (sym c.self.view_is) c.requires in
     let some : (p ≡ 0) ⊎ (0 < count record { vertices = vertices_in inside; named = c.args.named } p) = elim c.greatest_counted.ensures.some [
       | inl z ↦ inl z
       | inr more ↦ inr (subst (λ (n : ℕ). 0 < n) (counted p c.greatest_counted.ensures.low) more)
@@ -17,5 +18,6 @@ invariant_of-result c =
     record {
       game = known;
       stored = c.self.invariant.stored;
-      greatest = greatest_is record { vertices = vertices_in inside; named = c.args.named } p known (λ q l m. sym (counted q m) ∙ c.greatest_counted.ensures.none q l m) some;
+      greatest = greatest_is record { vertices = vertices_in inside; named = c.args.named } p known
+          (λ q l m. sym (counted q m) ∙ c.greatest_counted.ensures.none q l m) some;
     }

@@ -15,12 +15,14 @@ loop-event-preserved c =
     let was = c.loop-event.invariant.all in
     elim c.match-step.branch [
       | in-Done w ↦ record {
-        comes = done_comes c.args.self.now c.loop-event.self c.step.new.self (take i events) (take (i + 1) events) event c.loop-event.done c.match-step.done c.loop-event.skipped c.match-step.skipped
+        comes = done_comes c.args.self.now c.loop-event.self c.step.new.self (take i events)
+            (take (i + 1) events) event c.loop-event.done c.match-step.done c.loop-event.skipped c.match-step.skipped
             c.loop-event.invariant.comes w.in-Done.ensures more w.done-is w.skipped-is;
         all = (let d = w.done-is in let s = w.skipped-is in omega (arith, was, d, s));
       }
       | in-Skipped w ↦ record {
-        comes = skip_comes c.args.self.now c.loop-event.self c.step.new.self (take i events) (take (i + 1) events) event c.loop-event.done c.match-step.done c.loop-event.skipped c.match-step.skipped
+        comes = skip_comes c.args.self.now c.loop-event.self c.step.new.self (take i events)
+            (take (i + 1) events) event c.loop-event.done c.match-step.done c.loop-event.skipped c.match-step.skipped
             c.loop-event.invariant.comes w.in-Skipped.ensures more w.done-is w.skipped-is;
         all = (let d = w.done-is in let s = w.skipped-is in omega (arith, was, d, s));
       }

@@ -12,6 +12,8 @@ returns c =
     let s = c.self.inside.state in
     let same = c.self.invariant.0.game in (
       λ t. subst (λ (k : Core). IsSettled k.table) c.self.view_is
-          (reached_least (core_of s) (subst IsGame (sym same) c.known.ensures) c.self.invariant.1 (subst (λ (g : Game). IsProgress g s.table.values) (sym same) (c.is_settled.ensures.0 t))),
-      λ h. c.is_settled.ensures.1 (subst (λ (g : Game). IsProgress g s.table.values) same (subst (λ (k : Core). IsSettled k.table) (sym c.self.view_is) h).least.progress),
+          (reached_least (core_of s) (subst IsGame (sym same) c.known.ensures) c.self.invariant.1
+          (subst (λ (g : Game). IsProgress g s.table.values) (sym same) (c.is_settled.ensures.0 t))),
+      λ h. c.is_settled.ensures.1 (subst (λ (g : Game). IsProgress g s.table.values) same
+          (subst (λ (k : Core). IsSettled k.table) (sym c.self.view_is) h).least.progress),
     )

@@ -5,6 +5,8 @@ use Rattle.liftcore.proofs.marks.Marks.is_empty.Goals as goal
 
 pub returns : goal.returns
 returns c = (
-  λ e. subst (λ (bs : List Bool). members bs ≡ []) c.self.view_is (no_members c.self.inside.marks.items (sym c.self.invariant ∙ eqb-true c.self.inside.count 0 e)),
-  λ e. eq-eqb c.self.inside.count 0 (c.self.invariant ∙ members_none c.self.inside.marks.items (subst (λ (bs : List Bool). members bs ≡ []) (sym c.self.view_is) e)),
+  λ e. subst (λ (bs : List Bool). members bs ≡ []) c.self.view_is
+      (no_members c.self.inside.marks.items (sym c.self.invariant ∙ eqb-true c.self.inside.count 0 e)),
+  λ e. eq-eqb c.self.inside.count 0 (c.self.invariant ∙ members_none c.self.inside.marks.items
+      (subst (λ (bs : List Bool). members bs ≡ []) (sym c.self.view_is) e)),
 )

@@ -9,7 +9,8 @@ returns-then-not-is_read c =
     let same : successors_of c.args.self.now.turn ≡ c.successors-place-end.result.now =
     coded c.args.game.now c.args.self.now c.requires.seat c.vertex.result c.successors-place-end.result.now c.vertex.ensures c.successors-place-end.ensures in (
       λ t. absurd (true≢false (sym t)),
-      λ r. absurd (unread_waits c.args.game.now c.args.self.now c.requires.seat c.loop-place.place c.if-not-self.false (subst (λ (ts : List ℕ). c.loop-place.place < length ts) (sym same) c.loop-place-test.true)
+      λ r. absurd (unread_waits c.args.game.now c.args.self.now c.requires.seat c.loop-place.place c.if-not-self.false
+          (subst (λ (ts : List ℕ). c.loop-place.place < length ts) (sym same) c.loop-place-test.true)
           (false_from_ne_true _ (λ e. true≢false (sym (c.if-not-is_read.ensures.1 e)))) r),
     )
 
@@ -18,6 +19,7 @@ returns c =
     let same : successors_of c.args.self.now.turn ≡ c.successors-place-end.result.now =
     coded c.args.game.now c.args.self.now c.requires.seat c.vertex.result c.successors-place-end.result.now c.vertex.ensures c.successors-place-end.ensures in (
       λ t. whole_raises c.args.game.now c.args.self.now c.requires.seat c.if-not-self.false
-          (subst (λ (ts : List ℕ). AreRead c.args.self.now.turn (length ts)) (sym same) (λ k l. c.loop-place.invariant k (let e = c.loop-place-test.false in omega (arith, e, l)))),
+          (subst (λ (ts : List ℕ). AreRead c.args.self.now.turn (length ts)) (sym same)
+          (λ k l. c.loop-place.invariant k (let e = c.loop-place-test.false in omega (arith, e, l)))),
       λ r. refl,
     )

@@ -16,6 +16,8 @@ returns-clause-notes c =
     let seat : Seat = record { holding = c.args.self.now.holding; turn = new; owed = c.args.self.now.owed } in
     let same : successors_of new ≡ successors_of old = ap₂ (λ (g : Game) (v : ℕ). successors_at (vertex g v)) c.note.ensures.game c.note.ensures.vertex in
     let notes : notes_of new ≡ notes_from (successors_of old) (slice_set old.marks c.args.place true) (slice_set old.values c.args.place c.args.value) =
-    ap₂ (λ (ts : List ℕ) (bs : List Bool). notes_from ts bs new.values) same c.note.ensures.marks ∙ ap (λ (ms : List Measure). notes_from (successors_of old) (slice_set old.marks c.args.place true) ms) c.note.ensures.values in
+    ap₂ (λ (ts : List ℕ) (bs : List Bool). notes_from ts bs new.values) same c.note.ensures.marks
+    ∙ ap (λ (ms : List Measure). notes_from (successors_of old) (slice_set old.marks c.args.place true) ms) c.note.ensures.values in
     worker_holding seat c.requires.unread.holding
-    ∙ ap₂ (λ (u : ℕ) (ns : List Note). Holding u ns) c.note.ensures.vertex (notes ∙ note_one c.args.game.now c.args.self.now c.requires.seat c.args.v c.args.place c.args.value c.requires.unread)
+    ∙ ap₂ (λ (u : ℕ) (ns : List Note). Holding u ns) c.note.ensures.vertex
+    (notes ∙ note_one c.args.game.now c.args.self.now c.requires.seat c.args.v c.args.place c.args.value c.requires.unread)

@@ -5,4 +5,5 @@ use Rattle.liftcore.proofs.Seated.{nothing_noted}
 use Rattle.liftcore.proofs.seat.Seat.take.Goals as goal
 
 pub returns-clause-holds : goal.returns-clause-holds
-returns-clause-holds c = ap₂ Holding c.begin.ensures.vertex (nothing_noted (successors_of c.begin.new.self) c.begin.new.self.marks c.begin.new.self.values c.begin.ensures.unread)
+returns-clause-holds c = ap₂ Holding c.begin.ensures.vertex (nothing_noted
+    (successors_of c.begin.new.self) c.begin.new.self.marks c.begin.new.self.values c.begin.ensures.unread)

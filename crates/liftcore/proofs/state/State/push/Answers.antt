@@ -19,14 +19,17 @@ index_mut-requires c =
 
 pub remove-requires : goal.remove-requires
 remove-requires c =
-    let there = at_index c.args.self.now c.args.worker (λ x. Owes (worker_of x) c.args.vertex) c.index_mut.result.now (c.owes.ensures.0 c.if-not-owes.false) c.index_mut.ensures.value in
+    let there = at_index c.args.self.now c.args.worker (λ x. Owes (worker_of x) c.args.vertex) c.index_mut.result.now
+    (c.owes.ensures.0 c.if-not-owes.false) c.index_mut.ensures.value in
     marked_inside c.index_mut.result.now.owed c.args.vertex (marked_owes c.index_mut.result.now c.args.vertex there.1).1
 
 pub insert-requires : goal.insert-requires
 insert-requires c =
-    let there = at_index c.args.self.now c.args.worker (λ x. Owes (worker_of x) c.args.vertex) c.index_mut.result.now (c.owes.ensures.0 c.if-not-owes.false) c.index_mut.ensures.value in
+    let there = at_index c.args.self.now c.args.worker (λ x. Owes (worker_of x) c.args.vertex) c.index_mut.result.now
+    (c.owes.ensures.0 c.if-not-owes.false) c.index_mut.ensures.value in
     let is = c.requires.seats c.args.worker c.index_mut.result.now there.0 in
-    subst (λ (n : ℕ). c.args.vertex < n) (is.long ∙ sym c.requires.pending) (marked_inside c.index_mut.result.now.owed c.args.vertex (marked_owes c.index_mut.result.now c.args.vertex there.1).1)
+    subst (λ (n : ℕ). c.args.vertex < n) (is.long ∙ sym c.requires.pending)
+    (marked_inside c.index_mut.result.now.owed c.args.vertex (marked_owes c.index_mut.result.now c.args.vertex there.1).1)
 
 pub returns-clause-state : goal.returns-clause-state
 returns-clause-state c =
@@ -52,4 +55,5 @@ returns-clause-step c =
     let is = c.requires.seats c.args.worker r there.0 in
     let owes = marked_owes r c.args.vertex there.1 in
     push_step s c.args.worker r new (slice_set s.seats.items c.args.worker new) there.0 refl c.args.vertex c.insert.new.self c.remove.new.self there.1
-    (subst (λ (n : ℕ). c.args.vertex < n) (is.long ∙ sym c.requires.pending) (marked_inside r.owed c.args.vertex owes.1)) c.insert.ensures c.remove.ensures (worker_free new owes.0)
+    (subst (λ (n : ℕ). c.args.vertex < n) (is.long ∙ sym c.requires.pending) (marked_inside r.owed c.args.vertex owes.1)) c.insert.ensures c.remove.ensures
+    (worker_free new owes.0)

@@ -6,4 +6,6 @@ pub returns : goal.returns
 returns c =
     let i = c.self.inside in
     its_move i.of.value i.values i.moves.items i.ranks i.vertices.items i.first c.self.invariant c.args.self.now c.self.view_is c.args.v c.index.result.now
-    (c.index.ensures ∙ get_or_default i.moves.items c.args.v _ 0 (moves_inside i.of.value i.values i.moves.items i.ranks i.vertices.items i.first c.self.invariant c.args.self.now c.self.view_is c.args.v c.requires.vertex))
+    (c.index.ensures ∙ get_or_default i.moves.items c.args.v _ 0
+    (moves_inside i.of.value i.values i.moves.items i.ranks i.vertices.items i.first c.self.invariant c.args.self.now c.self.view_is c.args.v
+    c.requires.vertex))

@@ -11,4 +11,5 @@ value-requires-clause-few c =
 pub returns : goal.returns
 returns c =
     let i = c.self.inside in
-    its_value i.of.value i.values i.moves.items i.ranks i.vertices.items i.first c.self.invariant c.args.self.now c.self.view_is c.args.v c.value.result c.value.ensures
+    its_value i.of.value i.values i.moves.items i.ranks i.vertices.items i.first c.self.invariant c.args.self.now c.self.view_is c.args.v c.value.result
+    c.value.ensures

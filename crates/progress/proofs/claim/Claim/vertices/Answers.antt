@@ -7,4 +7,5 @@ returns-clause-inside c =
     let i = c.self.inside in
     let xs = c.deref.result.now in
     let all = take_all (length xs - i.first) (drop i.first xs) (omega (arith, length-drop i.first xs)) in
-    entered_inside i.of.value i.values i.moves.items i.ranks i.vertices.items i.first c.self.invariant c.args.self.now c.self.view_is _ (all ∙ ap (λ ys. drop i.first ys) c.deref.ensures.value)
+    entered_inside i.of.value i.values i.moves.items i.ranks i.vertices.items i.first c.self.invariant c.args.self.now c.self.view_is _
+    (all ∙ ap (λ ys. drop i.first ys) c.deref.ensures.value)

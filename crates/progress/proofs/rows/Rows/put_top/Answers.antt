@@ -17,7 +17,8 @@ loop-v-preserved c =
     let n = c.loop-v.v-index in
     let h = All-from_recursion (λ v. v < length c.args.self.now.values) c.args.places.now c.requires n 0 (omega arith) in
     let l = c.loop-v.invariant.long in
-    putting_more c.args.self.now c.args.places.now n (slice_index c.args.places.now n) c.loop-v.self c.set.new.self c.top.result c.loop-v.invariant refl (omega arith) c.top.ensures c.set.ensures
+    putting_more c.args.self.now c.args.places.now n (slice_index c.args.places.now n) c.loop-v.self c.set.new.self c.top.result c.loop-v.invariant refl
+    (omega arith) c.top.ensures c.set.ensures
 
 pub returns : goal.returns
 returns c = putting_all c.args.self.now c.args.places.now c.loop-v.v-index c.loop-v.self c.loop-v.invariant (omega arith)

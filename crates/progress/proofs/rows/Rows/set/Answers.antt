@@ -16,7 +16,8 @@ returns-then-is_top c =
     set_top i.width i.tops.items i.counts.items c.args.self.now c.self.view_is c.args.v c.args.m.now (c.is_top.ensures.0 c.if-is_top.true)
 
 pub set_counts-requires-clause-width : goal.set_counts-requires-clause-width
-set_counts-requires-clause-width c = ap length c.counts.ensures.value ∙ counts_wide c.args.self.now.width c.args.m.now c.requires.width (λ e. true≢false (sym (c.is_top.ensures.1 e) ∙ c.if-is_top.false))
+set_counts-requires-clause-width c = ap length c.counts.ensures.value
+    ∙ counts_wide c.args.self.now.width c.args.m.now c.requires.width (λ e. true≢false (sym (c.is_top.ensures.1 e) ∙ c.if-is_top.false))
 
 pub returns-else-is_top : goal.returns-else-is_top
 returns-else-is_top c =

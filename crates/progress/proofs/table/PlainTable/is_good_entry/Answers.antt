@@ -4,7 +4,8 @@ use Rattle.progress.proofs.Lists.{all_contained}
 use Rattle.progress.proofs.table.PlainTable.is_good_entry.Goals as goal
 
 pub are_good_edges-requires-clause-priority : goal.are_good_edges-requires-clause-priority
-are_good_edges-requires-clause-priority c = its_priority c.args.game.now c.known.ensures c.args.v c.requires.vertex c.priority-priority.result c.priority-priority.ensures
+are_good_edges-requires-clause-priority c = its_priority c.args.game.now c.known.ensures c.args.v c.requires.vertex c.priority-priority.result
+    c.priority-priority.ensures
 
 pub are_good_edges-requires-clause-inside : goal.are_good_edges-requires-clause-inside
 are_good_edges-requires-clause-inside c =
@@ -12,7 +13,8 @@ are_good_edges-requires-clause-inside c =
     (its_successors c.args.game.now c.known.ensures c.args.v c.requires.vertex c.successors-successors.result.now c.successors-successors.ensures).0
 
 pub is_good_edge-requires-clause-priority : goal.is_good_edge-requires-clause-priority
-is_good_edge-requires-clause-priority c = its_priority c.args.game.now c.known.ensures c.args.v c.requires.vertex c.priority-priority.result c.priority-priority.ensures
+is_good_edge-requires-clause-priority c = its_priority c.args.game.now c.known.ensures c.args.v c.requires.vertex c.priority-priority.result
+    c.priority-priority.ensures
 
 pub is_good_edge-requires-clause-next : goal.is_good_edge-requires-clause-next
 is_good_edge-requires-clause-next c =

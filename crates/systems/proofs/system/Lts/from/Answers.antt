@@ -13,9 +13,11 @@ returns-clause-arrows c =
     subst
     (λ (v : Numbered). map (arrow_of v.labels) us ≡ arrows_from v.system s)
     c.self.view_is
-    (row_is (labels_of i) (numbered i).system i.starts.items i.transitions.items _ s _ _ refl (c.self.invariant.rows s fits) c.deref.ensures.value (omega (arith, c.self.invariant.starts)) c.index.ensures c.index-2.ensures)
+    (row_is (labels_of i) (numbered i).system i.starts.items i.transitions.items _ s _ _ refl (c.self.invariant.rows s fits) c.deref.ensures.value
+    (omega (arith, c.self.invariant.starts)) c.index.ensures c.index-2.ensures)
 
 pub slice_bounds-result-count : goal.slice_bounds-result-count
 slice_bounds-result-count c =
     let fits : c.args.state < c.self.inside.states = subst (λ (v : Numbered). c.args.state < v.system.states) (sym c.self.view_is) c.requires in
-    row_rises c.self.inside.starts.items c.self.inside.transitions.items c.args.state _ _ (c.self.invariant.rows c.args.state fits) (omega (arith, c.self.invariant.starts)) c.index.ensures c.index-2.ensures
+    row_rises c.self.inside.starts.items c.self.inside.transitions.items c.args.state _ _ (c.self.invariant.rows c.args.state fits)
+    (omega (arith, c.self.invariant.starts)) c.index.ensures c.index-2.ensures

@@ -44,7 +44,8 @@ pub look_at-number-requires-clause-vertex : goal.look_at-number-requires-clause-
 look_at-number-requires-clause-vertex c =
     let g = board_game c.args.self.now in
     let ts = c.successors-t-items.result.now in
-    let inside = (its_successors g c.requires.seat.plain.game c.args.v c.requires.vertex ts (successors_told c.deref-game.result.now g c.deref-game.ensures c.args.v ts c.successors-t-items.ensures)).0 in
+    let inside = (its_successors g c.requires.seat.plain.game c.args.v c.requires.vertex ts
+    (successors_told c.deref-game.result.now g c.deref-game.ensures c.args.v ts c.successors-t-items.ensures)).0 in
     All-from_recursion (λ t. t < length g.vertices) ts inside c.loop-t.t-index 0 c.loop-t-test.true
 
 pub prog_rank-asked-requires-clause-weights : goal.prog_rank-asked-requires-clause-weights
@@ -65,12 +66,15 @@ loop-t-preserved c =
     let look = c.look_at-number.ensures in
     let m = of_rank g c.look_at-number.result in
     let inv = c.loop-t.invariant in
-    let inside = (its_successors g c.requires.seat.plain.game v c.requires.vertex ts (successors_told h g c.deref-game.ensures v ts c.successors-t-items.ensures)).0 in
+    let inside = (its_successors g c.requires.seat.plain.game v c.requires.vertex ts
+    (successors_told h g c.deref-game.ensures v ts c.successors-t-items.ensures)).0 in
     let low : t < length g.vertices = All-from_recursion (λ u. u < length g.vertices) ts inside i 0 c.loop-t-test.true in
     let there : t < length was = let long = inv.seat.plain.long in omega (arith, low, long) in
-    let rose : LiesUnder was (seen c.look_at-number.new.seat) = subst (λ (table : List Measure). LiesUnder was table) (sym look.seen) (set_under was t m there look.later) in
+    let rose : LiesUnder was (seen c.look_at-number.new.seat) = subst (λ (table : List Measure). LiesUnder was table) (sym look.seen)
+    (set_under was t m there look.later) in
     let later : IsAtMost (value_at first t) m = at_most_trans (value_at first t) (value_at was t) m (inv.kept t) look.later in
-    let small : c.prog_rank-asked.result ≤ height g = subst (λ (k : Game). c.prog_rank-asked.result ≤ height k) c.deref-game.ensures c.prog_rank-asked.ensures.low in
+    let small : c.prog_rank-asked.result ≤ height g = subst (λ
+    (k : Game). c.prog_rank-asked.result ≤ height k) c.deref-game.ensures c.prog_rank-asked.ensures.low in
     let one : suc i ≡ i + 1 = omega arith in record {
       seat = look.seat;
       kept = under_trans first was (seen c.look_at-number.new.seat) inv.kept rose;
@@ -78,7 +82,8 @@ loop-t-preserved c =
           subst (λ (k : ℕ). IsGathered c.owner-owner.result g x.priority ts k first c.better_rank-best.result) one
           (subst (IsGathered c.owner-owner.result g x.priority ts (suc i) first) (sym c.better_rank-best.ensures)
           (gathered_next g x.priority ts i first c.loop-t.best c.prog_rank-asked.result m look.word.below.under later small
-          (prog_told h g c.deref-game.ensures v x at c.look_at-number.result c.prog_rank-asked.result c.prog_rank-asked.ensures.prog) c.owner-owner.result (inv.gathered x at)));
+          (prog_told h g c.deref-game.ensures v x at c.look_at-number.result c.prog_rank-asked.result c.prog_rank-asked.ensures.prog) c.owner-owner.result
+          (inv.gathered x at)));
     }
 
 pub returns-clause-low : goal.returns-clause-low
@@ -91,7 +96,8 @@ returns-clause-over c =
     let v = c.args.v in
     let ts = c.successors-t-items.result.now in
     let x = vertex_here g v c.requires.vertex in
-    gathered_over c.owner-owner.result g x.0.priority v ts c.loop-t.t-index (seen c.args.seat.now) c.loop-t.best (owner_told h g c.deref-game.ensures v c.owner-owner.result c.owner-owner.ensures)
+    gathered_over c.owner-owner.result g x.0.priority v ts c.loop-t.t-index (seen c.args.seat.now) c.loop-t.best
+    (owner_told h g c.deref-game.ensures v c.owner-owner.result c.owner-owner.ensures)
     (ap (option_map (λ (y : Vertex). y.priority)) x.1) (successors_told h g c.deref-game.ensures v ts c.successors-t-items.ensures)
     (let end = c.loop-t-test.false in let most = c.loop-t.auto.t-index-end in omega (arith, end, most)) (c.loop-t.invariant.gathered x.0 x.1)
 
@@ -102,6 +108,7 @@ returns-clause-below c =
     let v = c.args.v in
     let ts = c.successors-t-items.result.now in
     let x = vertex_here g v c.requires.vertex in
-    gathered_below c.owner-owner.result g x.0.priority v ts c.loop-t.t-index (seen c.args.seat.now) c.loop-t.best c.requires.seat.plain.game (owner_told h g c.deref-game.ensures v c.owner-owner.result c.owner-owner.ensures)
+    gathered_below c.owner-owner.result g x.0.priority v ts c.loop-t.t-index (seen c.args.seat.now) c.loop-t.best c.requires.seat.plain.game
+    (owner_told h g c.deref-game.ensures v c.owner-owner.result c.owner-owner.ensures)
     (ap (option_map (λ (y : Vertex). y.priority)) x.1) (successors_told h g c.deref-game.ensures v ts c.successors-t-items.ensures) c.requires.vertex
     (let end = c.loop-t-test.false in let most = c.loop-t.auto.t-index-end in omega (arith, end, most)) (c.loop-t.invariant.gathered x.0 x.1)

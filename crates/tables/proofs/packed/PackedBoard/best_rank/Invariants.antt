@@ -9,5 +9,6 @@ abbrev pub invariant-loop-t : goal.invariant-loop-t
 invariant-loop-t l = record {
   seat : IsSeatOf l.self l.seat;
   kept : LiesUnder (seen l.fn.seat) (seen l.seat);
-  gathered : (x : Vertex) → vertex (board_game l.self) l.v ≡ Some x → IsGathered l.owner (board_game l.self) x.priority l.t-items l.t-index (seen l.fn.seat) l.best;
+  gathered : (x : Vertex) → vertex (board_game l.self) l.v ≡ Some x
+      → IsGathered l.owner (board_game l.self) x.priority l.t-items l.t-index (seen l.fn.seat) l.best;
 }

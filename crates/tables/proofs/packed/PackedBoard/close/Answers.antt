@@ -27,4 +27,5 @@ returns-clause-kept c =
     let final = c.close_with.ensures.values.2 in
     let seat = c.args.seat.seat in
     let long = c.known.ensures.long ∙ ap (λ (h : Game). length h.vertices) c.pour.ensures.game in
-    closed_over board.table.shared.key g (slots_items c.close_with.result.words) final.0 seat.id seat.me.0 c.pour.new.table.values same final.1.0 final.1.1 final.2 long c.pour.ensures.poured
+    closed_over board.table.shared.key g
+    (slots_items c.close_with.result.words) final.0 seat.id seat.me.0 c.pour.new.table.values same final.1.0 final.1.1 final.2 long c.pour.ensures.poured

@@ -11,7 +11,8 @@ use Rattle.tables.proofs.packed.PackedBoard.lift_all.Goals as goal
 
 pub loop-v-init : goal.loop-v-init
 loop-v-init c =
-    let size : c.vertices-v.result ≡ length (board_game c.args.self.now).vertices = c.vertices-v.ensures ∙ ap (λ (h : Game). length h.vertices) c.deref.ensures in record {
+    let size : c.vertices-v.result ≡ length (board_game c.args.self.now).vertices = c.vertices-v.ensures
+    ∙ ap (λ (h : Game). length h.vertices) c.deref.ensures in record {
       seat = c.requires;
       kept = under_itself (seen c.args.seat.now);
       lifted = λ w l m. absurd (omega (arith, l, m, size));
@@ -25,12 +26,14 @@ loop-v-preserved c =
     let now = seen c.lift.new.seat in
     let inv = c.loop-v.invariant in
     let v = c.loop-v.v - 1 in
-    let here : IsOverLift g first v (value_at now v) = over_lesser g first was v (value_at now v) inv.seat.plain.game (plain_table g was inv.seat.plain) inv.kept c.lift.ensures.lifted in record {
+    let here : IsOverLift g first v (value_at now v) = over_lesser g first was v (value_at now v) inv.seat.plain.game
+    (plain_table g was inv.seat.plain) inv.kept c.lift.ensures.lifted in record {
       seat = c.lift.ensures.seat;
       kept = under_trans first was now inv.kept c.lift.ensures.kept;
       lifted = λ w l m. elim (eqb_tells w v) [
         | inl e ↦ subst (λ (u : ℕ). IsOverLift g first u (value_at now u)) (sym e.1) here
-        | inr n ↦ (let d = n.1 in let later : c.loop-v.v ≤ w = omega (arith, l, d) in λ r lift. at_most_trans r (value_at was w) (value_at now w) (inv.lifted w later m r lift) (c.lift.ensures.kept w))
+        | inr n ↦ (let d = n.1 in let later : c.loop-v.v ≤ w = omega (arith, l, d)
+            in λ r lift. at_most_trans r (value_at was w) (value_at now w) (inv.lifted w later m r lift) (c.lift.ensures.kept w))
       ];
     }
 

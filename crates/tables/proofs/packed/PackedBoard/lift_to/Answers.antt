@@ -17,12 +17,14 @@ back h g m n same is e =
     (ap (of_rank g) here ∙ of_rank_rank g m is, omega (arith, here, bound))
 
 pub raise_to-requires-clause-low : goal.raise_to-requires-clause-low
-raise_to-requires-clause-low c = (back c.deref.result.now (board_game c.args.self.now) c.args.m.now c.rank.result c.deref.ensures c.requires.below.measure c.rank.ensures.value).1
+raise_to-requires-clause-low c =
+    (back c.deref.result.now (board_game c.args.self.now) c.args.m.now c.rank.result c.deref.ensures c.requires.below.measure c.rank.ensures.value).1
 
 pub raise_to-requires-clause-below : goal.raise_to-requires-clause-below
 raise_to-requires-clause-below c =
     let g = board_game c.args.self.now in
-    subst (LiesBelow g c.args.v) (sym (back c.deref.result.now g c.args.m.now c.rank.result c.deref.ensures c.requires.below.measure c.rank.ensures.value).0) c.requires.below
+    subst (LiesBelow g c.args.v)
+    (sym (back c.deref.result.now g c.args.m.now c.rank.result c.deref.ensures c.requires.below.measure c.rank.ensures.value).0) c.requires.below
 
 pub returns-clause-raised : goal.returns-clause-raised
 returns-clause-raised c =

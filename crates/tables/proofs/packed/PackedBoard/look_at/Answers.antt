@@ -14,7 +14,8 @@ load-requires c =
     let me = c.args.seat.now.seat in (
       c.requires.seat.table,
       subst (λ n. c.args.v < n) (sym board.sized) c.requires.vertex,
-      looks shared.key shared.table_id.slots me.id c.args.v me.me (c.requires.seat.game ∙ sym board.keyed) (subst (λ (g : Game). c.args.v < length g.vertices) (sym board.keyed) c.requires.vertex),
+      looks shared.key shared.table_id.slots me.id c.args.v me.me (c.requires.seat.game ∙ sym board.keyed)
+          (subst (λ (g : Game). c.args.v < length g.vertices) (sym board.keyed) c.requires.vertex),
     )
 
 pub returns-clause-seat : goal.returns-clause-seat

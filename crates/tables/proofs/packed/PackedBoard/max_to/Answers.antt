@@ -14,7 +14,8 @@ fetch_max-found-requires c =
     let me = c.args.seat.now.seat in (
       c.requires.seat.table,
       subst (λ n. c.args.v < n) (sym board.sized) c.requires.vertex,
-      raises shared.key shared.table_id.slots me.id c.args.v c.args.number me.me (c.requires.seat.game ∙ sym board.keyed) (subst (λ (g : Game). c.args.v < length g.vertices) (sym board.keyed) c.requires.vertex)
+      raises shared.key shared.table_id.slots me.id c.args.v c.args.number me.me (c.requires.seat.game ∙ sym board.keyed)
+          (subst (λ (g : Game). c.args.v < length g.vertices) (sym board.keyed) c.requires.vertex)
           (subst (λ (g : Game). c.args.number ≤ height g) (sym board.keyed) c.requires.low)
           (subst (λ (g : Game). LiesBelow g c.args.v (of_rank g c.args.number)) (sym board.keyed) c.requires.below),
     )
@@ -27,7 +28,8 @@ returns-clause-seat c =
     let found = c.fetch_max-found.result in
     let word : IsWord g c.args.v found = subst (λ (h : Game). IsWord h c.args.v found) c.requires.seat.game told.word in
     let now : IsWord g c.args.v (max found c.args.number) = word_max g c.args.v found c.args.number word c.requires.low c.requires.below in
-    let more = seen_more g was c.fetch_max-found.new.seat.me.0 c.args.v (of_rank was.of (max found c.args.number)) c.requires.seat.game c.requires.seat.plain c.requires.vertex
+    let more = seen_more g was c.fetch_max-found.new.seat.me.0 c.args.v
+    (of_rank was.of (max found c.args.number)) c.requires.seat.game c.requires.seat.plain c.requires.vertex
     (subst (λ (h : Game). LiesBelow g c.args.v (of_rank h (max found c.args.number))) (sym c.requires.seat.game) now.below) told.view in record {
       table = c.fetch_max-found.ensures.0 ∙ c.requires.seat.table;
       game = more.0;
@@ -37,9 +39,11 @@ returns-clause-seat c =
 pub returns-clause-kept : goal.returns-clause-kept
 returns-clause-kept c =
     let told = c.fetch_max-found.ensures.2 in
-    (raised_seen (arc_value c.args.self.now.game) c.args.seat.now.seat.me.0 c.fetch_max-found.new.seat.me.0 c.args.v c.fetch_max-found.result c.args.number c.requires.seat.game c.requires.seat.plain c.requires.vertex told.view told.later).0
+    (raised_seen (arc_value c.args.self.now.game) c.args.seat.now.seat.me.0 c.fetch_max-found.new.seat.me.0 c.args.v c.fetch_max-found.result c.args.number
+    c.requires.seat.game c.requires.seat.plain c.requires.vertex told.view told.later).0
 
 pub returns-clause-raised : goal.returns-clause-raised
 returns-clause-raised c =
     let told = c.fetch_max-found.ensures.2 in
-    (raised_seen (arc_value c.args.self.now.game) c.args.seat.now.seat.me.0 c.fetch_max-found.new.seat.me.0 c.args.v c.fetch_max-found.result c.args.number c.requires.seat.game c.requires.seat.plain c.requires.vertex told.view told.later).1
+    (raised_seen (arc_value c.args.self.now.game) c.args.seat.now.seat.me.0 c.fetch_max-found.new.seat.me.0 c.args.v c.fetch_max-found.result c.args.number
+    c.requires.seat.game c.requires.seat.plain c.requires.vertex told.view told.later).1

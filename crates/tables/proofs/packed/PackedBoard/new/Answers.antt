@@ -15,7 +15,8 @@ of_words-requires c =
     let long : length ranks ≡ length g.vertices = subst (λ (h : Game). length ranks ≡ length h.vertices) made c.in-Ok.ensures.long in
     let are : (v : ℕ) → v < length g.vertices → IsOpeningRank g v (slice_index ranks v)
     = subst (λ (h : Game). (v : ℕ) → v < length h.vertices → IsOpeningRank h v (slice_index ranks v)) made c.in-Ok.ensures.ranks in
-    opens g c.deref-5.result.now (subst IsGame known c.known.ensures) (ap length words ∙ long) (λ v l. subst (λ (rs : List ℕ). IsOpeningRank g v (slice_index rs v)) (sym words) (are v l))
+    opens g c.deref-5.result.now (subst IsGame known c.known.ensures) (ap length words ∙ long)
+    (λ v l. subst (λ (rs : List ℕ). IsOpeningRank g v (slice_index rs v)) (sym words) (are v l))
 
 pub invariant_of-result : goal.invariant_of-result
 invariant_of-result c = record {

@@ -51,6 +51,7 @@ returns-then-next-sum-clause-least c =
     let new = seen c.look-next.new.seat in
     let inv = c.loop-sum.invariant in
     let up : LiesUnder old new = under_trans old mid new c.lift_all.ensures.kept c.look-next.ensures.kept in
-    let same : sum_of g new ≡ sum_of g old = let before = inv.sum in let after = c.look-next.ensures.sum in let equal = c.if-next-sum.true in omega (arith, before, after, equal) in
+    let same : sum_of g new ≡ sum_of g old = let before = inv.sum in let after = c.look-next.ensures.sum in let equal = c.if-next-sum.true
+    in omega (arith, before, after, equal) in
     rounds_least g old new inv.seat.plain c.look-next.ensures.seat.plain up same
     (λ v h r lift. at_most_trans r (value_at mid v) (value_at new v) (c.lift_all.ensures.lifted v h r lift) (c.look-next.ensures.kept v))

@@ -10,7 +10,8 @@ loop-place-preserved g c =
     elim c.if-v-from.branch [
       | then-v-from+then-has w ↦ (
         search rules,
-        subst (λ (t : Table). LiesUnder first t.values) (sym w.table-is) (under_trans first c.loop-place.table.values w.raise.new.self.values c.loop-place.invariant.1 w.raise.ensures.kept),
+        subst (λ (t : Table). LiesUnder first t.values) (sym w.table-is)
+            (under_trans first c.loop-place.table.values w.raise.new.self.values c.loop-place.invariant.1 w.raise.ensures.kept),
       )
       | else-v-from w ↦ (search rules, subst (λ (t : Table). LiesUnder first t.values) (sym w.table-is) c.loop-place.invariant.1)
     ]

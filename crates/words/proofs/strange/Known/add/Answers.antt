@@ -13,13 +13,18 @@ among bytes keys = list_any (λ (key : Bor (List ℕ)). bytes_eq bytes key.now) 
 pub returns-in-Some : goal.returns-in-Some
 returns-in-Some c =
     on_ok_weaker c.add_names.result
-    (λ so t. elim t as (λ t. knows (record { labels = c.insert.new.self; names = c.add_names.new.set }) t ≡ (knows c.args.self.now t || has_term t c.args.label.bytes.now)) [
-      | Name bytes ↦ names_read (among bytes c.args.self.now.names.keys) (among bytes c.add_names.new.set.keys) bytes c.args.label.bytes.now c.args.label.names c.in-Some.names c.args.label.read c.in-Some.is (so bytes)
-      | Atom bytes ↦ c.in_ok-insert.ensures.updates.0 (record c.args.label.bytes { now = bytes }) ∙ or_cond (among bytes c.args.self.now.labels.keys) (bytes_eq c.args.label.bytes.now bytes)
+    (λ so t. elim t as (λ t. knows (record { labels = c.insert.new.self; names = c.add_names.new.set }) t
+    ≡ (knows c.args.self.now t || has_term t c.args.label.bytes.now)) [
+      | Name bytes ↦ names_read (among bytes c.args.self.now.names.keys)
+          (among bytes c.add_names.new.set.keys) bytes c.args.label.bytes.now c.args.label.names c.in-Some.names c.args.label.read c.in-Some.is (so bytes)
+      | Atom bytes ↦ c.in_ok-insert.ensures.updates.0 (record c.args.label.bytes { now = bytes })
+          ∙ or_cond (among bytes c.args.self.now.labels.keys) (bytes_eq c.args.label.bytes.now bytes)
     ])
     c.add_names.ensures
 
 pub returns-in-None : goal.returns-in-None
-returns-in-None c (Name bytes) = no_names_read (among bytes c.args.self.now.names.keys) bytes c.args.label.bytes.now c.args.label.names c.args.label.read c.in-None.is
+returns-in-None c (Name bytes) = no_names_read
+    (among bytes c.args.self.now.names.keys) bytes c.args.label.bytes.now c.args.label.names c.args.label.read c.in-None.is
 returns-in-None c (Atom bytes) =
-    c.in_ok-insert.ensures.updates.0 (record c.args.label.bytes { now = bytes }) ∙ or_cond (among bytes c.args.self.now.labels.keys) (bytes_eq c.args.label.bytes.now bytes)
+    c.in_ok-insert.ensures.updates.0 (record c.args.label.bytes { now = bytes })
+    ∙ or_cond (among bytes c.args.self.now.labels.keys) (bytes_eq c.args.label.bytes.now bytes)
