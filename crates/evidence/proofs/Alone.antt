@@ -1,5 +1,6 @@
 -- A text spells one evidence at most, and has one fault at most, but not both.
-use Rattle.std.proofs.Common.{◌≡◌, ◌≢◌, ℕ, suc, ◌+◌, ◌<◌, inl, inr, List, [], ◌∷◌, ◌++◌, Option, Some, None, length, refl, sym, ap, ◌∙◌, subst, arith, slice_index_or}
+use Rattle.std.proofs.Common.{◌≡◌, ◌≢◌, ℕ, suc, ◌+◌, ◌<◌, inl, inr, List, [], ◌∷◌, ◌++◌, Option, Some, None, length, refl, sym, ap, ◌∙◌, subst, arith}
+use Rattle.std.proofs.Common.{slice_index_or}
 use Rattle.std.specs.Prelude.{AllPairs, Contains}
 use Rattle.std.specs.List.{AllByRecursion, AllZip}
 use Rattle.std.proofs.Math.ListN.{get_or-append}
@@ -56,13 +57,16 @@ entries_same : (n w : ℕ) (rest : List (List ℕ)) (es fs : List (Option Entry)
 entries_same n w rest es fs a b =
     let rows = rows_same w rest a.rows b.rows a.good.each b.good.each in
     let same : AreOf a.rows fs = subst (λ rows. AreOf rows fs) (sym rows) b.same in
-    list_same es fs (a.long ∙ sym b.long) (λ v. option_same (slice_index_or es v None) (slice_index_or fs v None) (λ x e. (same v x).1 ((a.same v x).0 e)) (λ x e. (a.same v x).1 ((same v x).0 e)))
+    list_same es fs (a.long ∙ sym b.long) (λ v. option_same (slice_index_or es v None) (slice_index_or fs v None) (λ x e. (same v x).1 ((a.same v x).0 e))
+    (λ x e. (a.same v x).1 ((same v x).0 e)))
 
 -- A text spells one evidence.
 pub one_evidence : (g : Game) (text : List ℕ) (e f : Evidence) → IsEvidenceText g text e → IsEvidenceText g text f → e ≡ f
 one_evidence g text e f a b =
     let same = cut_alone (pieces_of text) a.rest b.rest e.player f.player a.cut b.cut in
-    let lines : AreLines (length g.vertices) (length (counted e.player g)) a.rest f.entries = subst (λ p. AreLines (length g.vertices) (length (counted p g)) a.rest f.entries) (sym same.0) (subst (λ rest. AreLines (length g.vertices) (length (counted f.player g)) rest f.entries) (sym same.1) b.lines) in
+    let lines : AreLines (length g.vertices) (length (counted e.player g)) a.rest f.entries = subst
+    (λ p. AreLines (length g.vertices) (length (counted p g)) a.rest f.entries) (sym same.0)
+    (subst (λ rest. AreLines (length g.vertices) (length (counted f.player g)) rest f.entries) (sym same.1) b.lines) in
     let entries = entries_same (length g.vertices) (length (counted e.player g)) a.rest e.entries f.entries a.lines lines in
     λ i. record { player = same.0 i; entries = entries i }
 
@@ -76,7 +80,8 @@ record IsSplit (w : ℕ) (front : List (List ℕ)) (line : List ℕ) (rows : Lis
   each : AllZip (IsShaped w) front before
   shaped : IsShaped w line row
 
-split_of : (w : ℕ) (front : List (List ℕ)) (line : List ℕ) (back : List (List ℕ)) (rows : List Row) → AllZip (IsShaped w) (front ++ line ∷ back) rows → IsSplit w front line rows
+split_of : (w : ℕ) (front : List (List ℕ)) (line : List ℕ) (back : List (List ℕ)) (rows : List Row) → AllZip (IsShaped w) (front ++ line ∷ back) rows
+    → IsSplit w front line rows
 split_of w [] line back [] h = absurd h
 split_of w [] line back (x ∷ rows) h = record { before = []; row = x; after = rows; is = refl; each = tt; shaped = h.0 }
 split_of w (l ∷ front) line back [] h = absurd h
@@ -92,13 +97,15 @@ seam : (front : List Row) (x : Row) (back : List Row) (d : Row) → slice_index_
 seam [] x back d = refl
 seam (y ∷ front) x back d = seam front x back d
 
-apart : (front : List Row) (x y : Row) (back : List Row) → AllPairs (λ (a b : Row). a.vertex ≢ b.vertex) (front ++ x ∷ back) → Contains front y → y.vertex ≢ x.vertex
+apart : (front : List Row) (x y : Row) (back : List Row) → AllPairs (λ (a b : Row). a.vertex ≢ b.vertex) (front ++ x ∷ back) → Contains front y
+    → y.vertex ≢ x.vertex
 apart front x y back once (k, h, is) e =
     let long = length-append front (x ∷ back) in
     let at : slice_index_or (front ++ x ∷ back) k y ≡ y = get_or-append front (x ∷ back) y k h ∙ is in
     once k (length front) y h (omega arith) (ap (λ (r : Row). r.vertex) at ∙ (e ∙ sym (ap (λ (r : Row). r.vertex) (seam front x back y))))
 
-no_line : (n w : ℕ) (front : List (List ℕ)) (line : List ℕ) (back : List (List ℕ)) (rows before : List Row) (fault : EvidenceFault) → AreGood n w (front ++ line ∷ back) rows → AreGood n w front before → LineFault n w before line fault → ⊥
+no_line : (n w : ℕ) (front : List (List ℕ)) (line : List ℕ) (back : List (List ℕ)) (rows before : List Row) (fault : EvidenceFault)
+    → AreGood n w (front ++ line ∷ back) rows → AreGood n w front before → LineFault n w before line fault → ⊥
 no_line n w front line back rows before BadHeader all some wrong = wrong
 no_line n w front line back rows before BadLine all some wrong = let s = split_of w front line back rows all.each in wrong s.row s.shaped
 no_line n w front line back rows before BadVertex all some (y, shaped, place) = misplaced place
@@ -120,7 +127,8 @@ no_line n w front line back rows before BadVertex all some (y, shaped, place) = 
     misplaced (inr (inr (other, stands, e))) =
         let s = split_of w front line back rows all.each in
         let front_same = rows_same w front before s.before some.each s.each in
-        apart s.before s.row other s.after (subst (AllPairs (λ (a b : Row). a.vertex ≢ b.vertex)) s.is all.once) (subst (λ (l : List Row). Contains l other) front_same stands) (e ∙ ap (λ (r : Row). r.vertex) same)
+        apart s.before s.row other s.after (subst (AllPairs (λ (a b : Row). a.vertex ≢ b.vertex)) s.is all.once)
+        (subst (λ (l : List Row). Contains l other) front_same stands) (e ∙ ap (λ (r : Row). r.vertex) same)
 
 -- ---- one fault
 
@@ -163,7 +171,8 @@ one_rest n w rest f h i j p q =
     ] in
     let same = level p.front q.front p.back q.back p.line q.line (sym p.cut ∙ q.cut) (p.count ∙ at ∙ sym q.count) in
     let before = rows_same w p.front p.before q.before p.fine.each (subst (λ l. AllZip (IsShaped w) l q.before) (sym same.0) q.fine.each) in
-    let wrong : LineFault n w p.before p.line h = subst (λ rows. LineFault n w rows p.line h) (sym before) (subst (λ line. LineFault n w q.before line h) (sym same.1) q.wrong) in
+    let wrong : LineFault n w p.before p.line h = subst (λ rows. LineFault n w rows p.line h) (sym before)
+    (subst (λ line. LineFault n w q.before line h) (sym same.1) q.wrong) in
     (one_line n w p.before p.line f h p.wrong wrong, at)
 
 -- a fault below a header
@@ -175,7 +184,8 @@ IsBelow g text fault place =
 one_below : (g : Game) (text : List ℕ) (f h : EvidenceFault) (i j : ℕ) → IsBelow g text f i → IsBelow g text h j → (f ≡ h) × (i ≡ j)
 one_below g text f h i j (p, rest, good, cut, faulty, at) (q, rest', good', cut', faulty', at') =
     let same = cut_alone (pieces_of text) rest rest' p q cut cut' in
-    let other = subst (λ l. IsFaultyRest (length g.vertices) (length (counted p g)) l h good') (sym same.1) (subst (λ player. IsFaultyRest (length g.vertices) (length (counted player g)) rest' h good') (sym same.0) faulty') in
+    let other = subst (λ l. IsFaultyRest (length g.vertices) (length (counted p g)) l h good') (sym same.1)
+    (subst (λ player. IsFaultyRest (length g.vertices) (length (counted player g)) rest' h good') (sym same.0) faulty') in
     let (fault, goods) = one_rest (length g.vertices) (length (counted p g)) rest f h good good' faulty other in
     (fault, at ∙ (ap (λ k. k + 2) goods ∙ sym at'))
 
@@ -194,8 +204,10 @@ no_below : (g : Game) (text : List ℕ) (e : Evidence) (fault : EvidenceFault) (
 no_below g text e fault place a (p, rest, good, cut, faulty, at) =
     let same = cut_alone (pieces_of text) rest a.rest p e.player cut a.cut in
     let n = length g.vertices in
-    let lines : AreGood n (length (counted p g)) a.rest a.lines.rows = subst (λ player. AreGood n (length (counted player g)) a.rest a.lines.rows) (sym same.0) a.lines.good in
-    let all : AreGood n (length (counted p g)) (faulty.front ++ faulty.line ∷ faulty.back) a.lines.rows = subst (λ l. AreGood n (length (counted p g)) l a.lines.rows) (sym same.1 ∙ faulty.cut) lines in
+    let lines : AreGood n (length (counted p g)) a.rest a.lines.rows = subst (λ player. AreGood n (length (counted player g)) a.rest a.lines.rows)
+    (sym same.0) a.lines.good in
+    let all : AreGood n (length (counted p g)) (faulty.front ++ faulty.line ∷ faulty.back) a.lines.rows = subst
+    (λ l. AreGood n (length (counted p g)) l a.lines.rows) (sym same.1 ∙ faulty.cut) lines in
     no_line n (length (counted p g)) faulty.front faulty.line faulty.back a.lines.rows faulty.before fault all faulty.fine faulty.wrong
 
 pub no_fault : (g : Game) (text : List ℕ) (e : Evidence) (fault : EvidenceFault) (place : ℕ) → IsEvidenceText g text e → HasFault g text fault place → ⊥

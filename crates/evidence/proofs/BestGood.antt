@@ -54,13 +54,16 @@ least_reaches g table game least u v at own t is =
 
 module _ (g : Game) (game : IsGame g) (e : Evidence) (is : IsEvenOf g e) where
   -- what an entry is
-  told : (v : ℕ) (x : Entry) → entry_at e v ≡ Some x → (value_at is.table v ≡ Counts x.rank) × ((w : Vertex) → vertex g v ≡ Some w → IsBestMove g is.table w x.move)
+  told : (v : ℕ) (x : Entry) → entry_at e v ≡ Some x → (value_at is.table v ≡ Counts x.rank)
+      × ((w : Vertex) → vertex g v ≡ Some w → IsBestMove g is.table w x.move)
   told v x here = elim (counts_or (value_at is.table v)) [
     | inl w ↦ (let q : None ≡ Some x = sym (is.outside v w) ∙ here in absurd cc)
     | inr w ↦ (
         let r = is.inside v w.0 w.1 in
-        let same : r.0 ≡ x = some_same r.0 x (sym r.1 ∙ here) in
-        (w.1 ∙ ap Counts (sym r.2 ∙ ap (λ (y : Entry). y.rank) same), subst (λ (y : Entry). (z : Vertex) → vertex g v ≡ Some z → IsBestMove g is.table z y.move) same r.3))
+        let same : r.0 ≡ x = some_same r.0 x (sym r.1 ∙ here) in (
+          w.1 ∙ ap Counts (sym r.2 ∙ ap (λ (y : Entry). y.rank) same),
+          subst (λ (y : Entry). (z : Vertex) → vertex g v ≡ Some z → IsBestMove g is.table z y.move) same r.3,
+        ))
   ]
     where
       some_same : (a b : Entry) → Some a ≡ Some b → a ≡ b
@@ -90,7 +93,8 @@ module _ (g : Game) (game : IsGame g) (e : Evidence) (is : IsEvenOf g e) where
   }
 
   -- along an edge the least measures reach
-  reached : (u t : ℕ) (x : Entry) (v : Vertex) → entry_at e u ≡ Some x → vertex g u ≡ Some v → GoesTo e.player v x t → Reaches g v.priority (value_at is.table t) (value_at is.table u)
+  reached : (u t : ℕ) (x : Entry) (v : Vertex) → entry_at e u ≡ Some x → vertex g u ≡ Some v → GoesTo e.player v x t
+      → Reaches g v.priority (value_at is.table t) (value_at is.table u)
   reached u t x v here at (inl w) =
       let own : v.owner ≡ Even = w.0 ∙ is.player in
       least_reaches g is.table game is.least u v at own t (moves v x t ((told u x here).1 v at) w.1)

@@ -1,5 +1,6 @@
 -- What the checker's tests say.
-use Rattle.std.proofs.Common.{◌≡◌, ◌≢◌, ◌↔◌, ℕ, suc, ◌+◌, ◌-◌, ◌/◌, ◌<◌, ◌≤◌, Bool, List, [], ◌∷◌, length, take, refl, sym, ap, subst, ◌∙◌, inl, inr, arith, count_by, nat_le, Contains, IsTrue, Some, None, Option, option_map}
+use Rattle.std.proofs.Common.{◌≡◌, ◌≢◌, ◌↔◌, ℕ, suc, ◌+◌, ◌-◌, ◌/◌, ◌<◌, ◌≤◌, Bool, List, [], ◌∷◌, length, take, refl, sym, ap, subst, ◌∙◌, inl, inr, arith}
+use Rattle.std.proofs.Common.{count_by, nat_le, Contains, IsTrue, Some, None, Option, option_map}
 use Rattle.std.specs.List.{AllByRecursion}
 use Rattle.std.specs.declared.cmp.Ordering.{Ordering}
 use Rattle.std.specs.Ordering.{is_le, is_lt, nat_cmp}
@@ -38,11 +39,13 @@ kept_even_down p n =
     ∙ (subst (λ qs. count_by (λ q. nat_le (p + 1) q) qs ≡ length qs - (p + 1) / 2) (odd_down_is n) odd
     ∙ ap (λ k. k - (p + 1) / 2) (length-map (even_down n) (λ q. suc q)))
 
-pub kept_counted : (player : Player) (g : Game) (p w k : ℕ) → length (counted player g) ≡ w → k ≡ w - skipped player p → k ≡ count_by (λ q. nat_le p q) (counted player g)
+pub kept_counted : (player : Player) (g : Game) (p w k : ℕ) → length (counted player g) ≡ w → k ≡ w - skipped player p
+    → k ≡ count_by (λ q. nat_le p q) (counted player g)
 kept_counted Even g p w k wide e = let is = kept_is g p in e ∙ omega arith
 kept_counted Odd g p w k wide e = e ∙ (ap (λ n. n - (p + 1) / 2) (sym wide) ∙ sym (kept_even_down p (greatest g)))
 
-module _ (player : Player) (g : Game) (p k : ℕ) (rank next : List ℕ) (keeps : k ≡ count_by (λ q. nat_le p q) (counted player g)) (b : Bool) (o : Ordering) (order : o ≡ slice_cmp nat_cmp (take k next) (take k rank)) where
+module _ (player : Player) (g : Game) (p k : ℕ) (rank next : List ℕ) (keeps : k ≡ count_by (λ q. nat_le p q) (counted player g)) (b : Bool) (o : Ordering)
+    (order : o ≡ slice_cmp nat_cmp (take k next) (take k rank)) where
   here : o ≡ slice_cmp nat_cmp (cut player g p next) (cut player g p rank)
   here = order ∙ ap (λ n. slice_cmp nat_cmp (take n next) (take n rank)) keeps
 
@@ -65,14 +68,19 @@ module _ (player : Player) (g : Game) (p k : ℕ) (rank next : List ℕ) (keeps 
 
 module _ (g : Game) (e : Evidence) (x : Vertex) (y : Entry) where
   -- these are all to which the play may go
-  along_least : (ts : List ℕ) (r : Option Fault) → IsFree g e x y Move → ((t : ℕ) → GoesTo e.player x y t → Contains ts t) → ((t : ℕ) → Contains ts t → GoesTo e.player x y t)
+  along_least : (ts : List ℕ) (r : Option Fault) → IsFree g e x y Move → ((t : ℕ) → GoesTo e.player x y t → Contains ts t)
+      → ((t : ℕ) → Contains ts t → GoesTo e.player x y t)
       → IsAlong g e x.priority y.rank ts r → IsLeastFault g e x y r
   along_least ts None f to from a = each (λ k. IsFree g e x y k) f (λ t goes. a.0 t (to t goes)) (λ t z goes at. a.1 t (to t goes) z at)
   along_least ts (Some Move) f to from a = absurd a
   along_least ts (Some Leaves) f to from a = ((λ free. a (λ t c. free t (from t c))), below_leaves (λ k. IsFree g e x y k) f)
-  along_least ts (Some Rank) f to from a = ((λ free. a.1 (λ t c z at. free t z (from t c) at)), below_rank (λ k. IsFree g e x y k) f (λ t goes. a.0 t (to t goes)))
+  along_least ts (Some Rank) f to from a = (
+    (λ free. a.1 (λ t c z at. free t z (from t c) at)),
+    below_rank (λ k. IsFree g e x y k) f (λ t goes. a.0 t (to t goes)),
+  )
 
-  pub own_least : (t : ℕ) (r : Option Fault) → x.owner ≡ e.player → y.move ≡ Some t → Contains x.successors t → IsAlong g e x.priority y.rank (t ∷ []) r → IsLeastFault g e x y r
+  pub own_least : (t : ℕ) (r : Option Fault) → x.owner ≡ e.player → y.move ≡ Some t → Contains x.successors t → IsAlong g e x.priority y.rank (t ∷ []) r
+      → IsLeastFault g e x y r
   own_least t r own move c a = along_least (t ∷ []) r ((λ o. (t, move, c)), (λ n. absurd (n own))) to from a
     where
       some_same : (a b : ℕ) → Some a ≡ Some b → a ≡ b
@@ -87,10 +95,12 @@ module _ (g : Game) (e : Evidence) (x : Vertex) (y : Entry) where
 
   pub other_least : (r : Option Fault) → x.owner ≢ e.player → y.move ≡ None → IsAlong g e x.priority y.rank x.successors r → IsLeastFault g e x y r
   other_least r other none a =
-      along_least x.successors r ((λ o. absurd (other o)), (λ n. none)) (λ t goes. elim goes [ inl w ↦ absurd (other w.0) | inr w ↦ w.1 ]) (λ t c. inr (other, c)) a
+      along_least x.successors r ((λ o. absurd (other o)), (λ n. none)) (λ t goes. elim goes [ inl w ↦ absurd (other w.0) | inr w ↦ w.1 ])
+      (λ t c. inr (other, c)) a
 
 -- the fault at a vertex by that of its entry
-pub fault_here : (g : Game) (e : Evidence) (u : ℕ) (x : Entry) (v : Vertex) (r : Option Fault) → entry_at e u ≡ Some x → vertex g u ≡ Some v → IsLeastFault g e v x r → IsFaultAt g e u r
+pub fault_here : (g : Game) (e : Evidence) (u : ℕ) (x : Entry) (v : Vertex) (r : Option Fault) → entry_at e u ≡ Some x → vertex g u ≡ Some v
+    → IsLeastFault g e v x r → IsFaultAt g e u r
 fault_here g e u x v None here at free = λ fault. free_at g e u x v fault here at (free fault)
 fault_here g e u x v (Some fault) here at least = (x, v, here, at, least)
 
@@ -99,8 +109,10 @@ all_free g e n whole before u fault x v here at = let l = slice_get_within g.ver
 
 -- ------------------------------------------------------------------ by what the game and the evidence tell
 
-pub below_is : (g : Game) (e : Evidence) (p : ℕ) (rank : List ℕ) (t : ℕ) (z : Entry) (player : Player) (b : Bool) → entry_at e t ≡ Some z → player ≡ e.player → length rank ≡ length (counted e.player g)
-    → ((h : Game) → length (counted player h) ≡ length rank → IsTrue b ↔ Descends player h p rank z.rank) → IsTrue b ↔ ((y : Entry) → entry_at e t ≡ Some y → Descends e.player g p rank y.rank)
+pub below_is : (g : Game) (e : Evidence) (p : ℕ) (rank : List ℕ) (t : ℕ) (z : Entry) (player : Player) (b : Bool) → entry_at e t ≡ Some z → player ≡ e.player
+    → length rank ≡ length (counted e.player g)
+    → ((h : Game) → length (counted player h) ≡ length rank → IsTrue b ↔ Descends player h p rank z.rank) → IsTrue b
+    ↔ ((y : Entry) → entry_at e t ≡ Some y → Descends e.player g p rank y.rank)
 below_is g e p rank t z player b here same wide f =
     let d = subst (λ o. length (counted o g) ≡ length rank → IsTrue b ↔ Descends o g p rank z.rank) same (f g) (sym wide) in (
       λ yes y at. subst (λ (w : Entry). Descends e.player g p rank w.rank) (some_same z y (sym here ∙ at)) (d.0 yes),
@@ -115,27 +127,35 @@ module _ (g : Game) (v : ℕ) (inside : v < length g.vertices) (game : IsGame g)
   is_vertex x at = all_got (IsVertex (length g.vertices)) g.vertices v x game.vertices at
 
   pub successors_inside : (ts : List ℕ) → option_map (λ x. x.successors) (vertex g v) ≡ Some ts → AllByRecursion (λ t. t < length g.vertices) ts
-  successors_inside ts e = let x = vertex_here g v inside in subst (λ us. AllByRecursion (λ t. t < length g.vertices) us) (vertex_tells (λ y. y.successors) g v ts x.0 x.1 e) (is_vertex x.0 x.1).within
+  successors_inside ts e = let x = vertex_here g v inside in subst (λ us. AllByRecursion (λ t. t < length g.vertices) us)
+      (vertex_tells (λ y. y.successors) g v ts x.0 x.1 e) (is_vertex x.0 x.1).within
 
   pub some_successors : (ts : List ℕ) → option_map (λ x. x.successors) (vertex g v) ≡ Some ts → 0 < length ts
-  some_successors ts e = let x = vertex_here g v inside in let q = ap length (vertex_tells (λ y. y.successors) g v ts x.0 x.1 e) in let l = (is_vertex x.0 x.1).some in omega arith
+  some_successors ts e = let x = vertex_here g v inside in let q = ap length (vertex_tells (λ y. y.successors) g v ts x.0 x.1 e)
+      in let l = (is_vertex x.0 x.1).some in omega arith
 
   pub ascending_of : (x : Vertex) → vertex g v ≡ Some x → IsAscending x.successors
   ascending_of x at = (is_vertex x at).ascending
 
-module _ (g of : Game) (same : of ≡ g) (e : Evidence) (v : ℕ) (owner : Player) (rank : List ℕ) (own : option_map (λ x. x.owner) (vertex g v) ≡ Some owner) (x : Vertex) (at : vertex g v ≡ Some x) where
+module _ (g of : Game) (same : of ≡ g) (e : Evidence) (v : ℕ) (owner : Player) (rank : List ℕ) (own : option_map (λ x. x.owner) (vertex g v) ≡ Some owner)
+    (x : Vertex) (at : vertex g v ≡ Some x) where
   owner_is : x.owner ≡ owner
   owner_is = vertex_tells (λ y. y.owner) g v owner x at own
 
-  along_here : (p : ℕ) (ts : List ℕ) (r : Option Fault) → option_map (λ y. y.priority) (vertex g v) ≡ Some p → IsAlong of e p rank ts r → IsAlong g e x.priority rank ts r
-  along_here p ts r q a = subst (λ h. IsAlong h e x.priority rank ts r) same (subst (λ n. IsAlong of e n rank ts r) (sym (vertex_tells (λ y. y.priority) g v p x at q)) a)
+  along_here : (p : ℕ) (ts : List ℕ) (r : Option Fault) → option_map (λ y. y.priority) (vertex g v) ≡ Some p → IsAlong of e p rank ts r
+      → IsAlong g e x.priority rank ts r
+  along_here p ts r q a = subst (λ h. IsAlong h e x.priority rank ts r) same
+      (subst (λ n. IsAlong of e n rank ts r) (sym (vertex_tells (λ y. y.priority) g v p x at q)) a)
 
-  pub moved_is : (next p : ℕ) (ts : List ℕ) (r : Option Fault) → owner ≡ e.player → option_map (λ y. y.successors) (vertex g v) ≡ Some ts → Contains ts next → option_map (λ y. y.priority) (vertex g v) ≡ Some p
+  pub moved_is : (next p : ℕ) (ts : List ℕ) (r : Option Fault) → owner ≡ e.player → option_map (λ y. y.successors) (vertex g v) ≡ Some ts → Contains ts next
+      → option_map (λ y. y.priority) (vertex g v) ≡ Some p
       → IsAlong of e p rank (next ∷ []) r → IsLeastFault g e x (record { move = Some next; rank = rank }) r
   moved_is next p ts r o s c q a =
-      own_least g e x (record { move = Some next; rank = rank }) next r (owner_is ∙ o) refl (subst (λ us. Contains us next) (sym (vertex_tells (λ y. y.successors) g v ts x at s)) c) (along_here p (next ∷ []) r q a)
+      own_least g e x (record { move = Some next; rank = rank }) next r (owner_is ∙ o) refl
+      (subst (λ us. Contains us next) (sym (vertex_tells (λ y. y.successors) g v ts x at s)) c) (along_here p (next ∷ []) r q a)
 
-  pub stayed_is : (p : ℕ) (ts : List ℕ) (r : Option Fault) → owner ≢ e.player → option_map (λ y. y.successors) (vertex g v) ≡ Some ts → option_map (λ y. y.priority) (vertex g v) ≡ Some p
+  pub stayed_is : (p : ℕ) (ts : List ℕ) (r : Option Fault) → owner ≢ e.player → option_map (λ y. y.successors) (vertex g v) ≡ Some ts
+      → option_map (λ y. y.priority) (vertex g v) ≡ Some p
       → IsAlong of e p rank ts r → IsLeastFault g e x (record { move = None; rank = rank }) r
   stayed_is p ts r o s q a =
       other_least g e x (record { move = None; rank = rank }) r (λ i. o (sym owner_is ∙ i)) refl

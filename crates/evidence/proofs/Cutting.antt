@@ -1,5 +1,6 @@
 -- Evidence that is cut to a closed set is good in each game that goes on as this one does there.
-use Rattle.std.proofs.Common.{◌≡◌, ◌≢◌, ℕ, zero, suc, ◌+◌, Bool, true, false, List, [], ◌∷◌, length, refl, sym, ap, subst, ◌∙◌, inl, inr, arith, IsTrue, Contains, Some, None, Option, if◌then◌else◌, slice_index_or, take, count_by, nat_le}
+use Rattle.std.proofs.Common.{◌≡◌, ◌≢◌, ℕ, zero, suc, ◌+◌, Bool, true, false, List, [], ◌∷◌, length, refl, sym, ap, subst, ◌∙◌, inl, inr, arith, IsTrue}
+use Rattle.std.proofs.Common.{Contains, Some, None, Option, if◌then◌else◌, slice_index_or, take, count_by, nat_le}
 use Rattle.std.specs.Option.{is_some}
 use Rattle.systems.specs.Path.{IsPath}
 use Rattle.game.specs.declared.player.Player.{Player}
@@ -20,7 +21,8 @@ long_cut : (set : ℕ → Bool) (v : ℕ) (xs : List (Option Entry)) → length 
 long_cut set v [] = refl
 long_cut set v (x ∷ xs) = ap (λ n. suc n) (long_cut set (v + 1) xs)
 
-got_cut : (set : ℕ → Bool) (v : ℕ) (xs : List (Option Entry)) (i u : ℕ) → v + i ≡ u → slice_index_or (cut_from set v xs) i None ≡ (if set u then slice_index_or xs i None else None)
+got_cut : (set : ℕ → Bool) (v : ℕ) (xs : List (Option Entry)) (i u : ℕ) → v + i ≡ u
+    → slice_index_or (cut_from set v xs) i None ≡ (if set u then slice_index_or xs i None else None)
 got_cut set v [] i u e = none (set u)
   where
     none : (b : Bool) → ◌≡◌ {A = Option Entry} None (if b then None else None)
@@ -101,7 +103,8 @@ module _ (g other : Game) (e : Evidence) (set : ℕ → Bool) (is : IsEvidence g
 
   free : (u : ℕ) (fault : Fault) (x : Entry) (y : Vertex) → IsTrue (set u) → entry_at e u ≡ Some x → Follows g e u y → IsFree other f y x fault
   free u Move x y i here w = (
-    λ own. (let m = (good u Move x w.first here w.at).0 (sym w.owner ∙ own) in (m.0, m.1, w.own m.0 (x, w.first, here, w.at, inl (sym w.owner ∙ own, m.1)) m.2)),
+    λ own. (let m = (good u Move x w.first here w.at).0 (sym w.owner ∙ own)
+        in (m.0, m.1, w.own m.0 (x, w.first, here, w.at, inl (sym w.owner ∙ own, m.1)) m.2)),
     λ n. (good u Move x w.first here w.at).1 (λ q. n (w.owner ∙ q)),
   )
   free u Leaves x y i here w = λ t to. (

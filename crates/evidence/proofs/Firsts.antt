@@ -26,7 +26,8 @@ ascending_at (x ∷ y ∷ xs) (suc i) (suc j) up le h = ascending_at (y ∷ xs) 
 pub record IsFirstOf (g : Game) (table : List Measure) (x : Vertex) (n b : ℕ) (m : Measure) : Type 0 where
   pub here : (i : ℕ) × (i < n) × (slice_index x.successors i ≡ b)
   pub prog : IsProg g x.priority (value_at table b) m
-  pub first : (i : ℕ) → i < n → (r : Measure) → IsProg g x.priority (value_at table (slice_index x.successors i)) r → IsAtMost m r × (IsAtMost r m → b ≤ slice_index x.successors i)
+  pub first : (i : ℕ) → i < n → (r : Measure) → IsProg g x.priority (value_at table (slice_index x.successors i)) r → IsAtMost m r
+      × (IsAtMost r m → b ≤ slice_index x.successors i)
 
 module _ (g : Game) (table : List Measure) (x : Vertex) (v : ℕ) (at : vertex g v ≡ Some x) where
   prog_here : (m r : Measure) → IsProgAt g v m r → IsProg g x.priority m r
@@ -54,13 +55,16 @@ module _ (g : Game) (table : List Measure) (x : Vertex) (v : ℕ) (at : vertex g
             (subst (λ s. IsAtMost m s) equal (at_most_itself m), λ low. subst (λ t. b ≤ t) (sym at_b) (omega arith)));
       }
 
-  module _ (n b t : ℕ) (m value r : Measure) (was : IsFirstOf g table x n b m) (place : slice_index x.successors n ≡ t) (same : value ≡ value_at table t) (is : IsProgAt g v value r) where
+  module _ (n b t : ℕ) (m value r : Measure) (was : IsFirstOf g table x n b m) (place : slice_index x.successors n ≡ t) (same : value ≡ value_at table t)
+      (is : IsProgAt g v value r) where
     pub first_left : IsAscending x.successors → n < length x.successors → (IsBelow r m → ⊥) → IsFirstOf g table x (n + 1) b m
     first_left up inside never = record {
       here = (was.here.0, (let h = was.here.1 in omega arith), was.here.2);
       prog = was.prog;
-      first = more (λ i. (s : Measure) → IsProg g x.priority (value_at table (slice_index x.successors i)) s → IsAtMost m s × (IsAtMost s m → b ≤ slice_index x.successors i)) n was.first (λ s q. (
-          let equal : r ≡ s = prog_one g x.priority (value_at table t) r s (prog_of t value r same is) (subst (λ u. IsProg g x.priority (value_at table u) s) place q) in
+      first = more (λ i. (s : Measure) → IsProg g x.priority (value_at table (slice_index x.successors i)) s → IsAtMost m s
+          × (IsAtMost s m → b ≤ slice_index x.successors i)) n was.first (λ s q. (
+          let equal : r ≡ s = prog_one g x.priority (value_at table t) r s (prog_of t value r same is)
+          (subst (λ u. IsProg g x.priority (value_at table u) s) place q) in
           let low : IsAtMost m r = elim (at_most_or_below r m) [ inl w ↦ absurd (never w) | inr w ↦ w ] in (
             subst (λ k. IsAtMost m k) equal low,
             λ high. (let l = ascending_at x.successors was.here.0 n up (let h = was.here.1 in omega arith) inside in let e = was.here.2 in omega (arith, l, e)),
@@ -72,25 +76,33 @@ module _ (g : Game) (table : List Measure) (x : Vertex) (v : ℕ) (at : vertex g
         let p = prog_of t value r same is in record {
           here = (n, omega arith, place);
           prog = p;
-          first = more (λ i. (s : Measure) → IsProg g x.priority (value_at table (slice_index x.successors i)) s → IsAtMost r s × (IsAtMost s r → t ≤ slice_index x.successors i)) n (λ i h s q. (
+          first = more (λ i. (s : Measure) → IsProg g x.priority (value_at table (slice_index x.successors i)) s → IsAtMost r s
+              × (IsAtMost s r → t ≤ slice_index x.successors i)) n (λ i h s q. (
               let low = (was.first i h s q).0 in
               (at_most_trans r m s (below_at_most r m below) low, λ high. absurd (not_below r m below (at_most_trans m s r low high))))) (λ s q. (
               let equal : r ≡ s = prog_one g x.priority (value_at table t) r s p (subst (λ u. IsProg g x.priority (value_at table u) s) place q) in
               (subst (λ k. IsAtMost r k) equal (at_most_itself r), λ high. subst (λ u. t ≤ u) (sym place) (omega arith))));
         }
 
-  pub first_of_all : (n b : ℕ) (m : Measure) → IsLeastTable g table → IsFirstOf g table x n b m → length x.successors ≤ n → n ≤ length x.successors → IsLeastSuccessor g table x b × ((u : ℕ) → IsLeastSuccessor g table x u → b ≤ u)
+  pub first_of_all : (n b : ℕ) (m : Measure) → IsLeastTable g table → IsFirstOf g table x n b m → length x.successors ≤ n → n ≤ length x.successors
+      → IsLeastSuccessor g table x b × ((u : ℕ) → IsLeastSuccessor g table x u → b ≤ u)
   first_of_all n b m least is whole inside =
       let c : Contains x.successors b = place_contained x.successors is.here.0 b (let h = is.here.1 in omega arith) is.here.2 in
-      let all = contained_from (λ u. (r : Measure) → IsProg g x.priority (value_at table u) r → IsAtMost m r × (IsAtMost r m → b ≤ u)) x.successors n whole is.first in (
-        record { successor = c; least = λ u d k r i j. subst (λ (q : Measure). IsAtMost q r) (prog_one g x.priority (value_at table b) m k is.prog i) (all u d r j).0 },
+      let all = contained_from (λ u. (r : Measure) → IsProg g x.priority (value_at table u) r → IsAtMost m r
+      × (IsAtMost r m → b ≤ u)) x.successors n whole is.first in (
+        record {
+          successor = c;
+          least = λ u d k r i j. subst (λ (q : Measure). IsAtMost q r) (prog_one g x.priority (value_at table b) m k is.prog i)
+              (all u d r j).0;
+        },
         λ u other. (
             let r = prog g x.priority (value_at table u) (value_measure g table least.progress.0.1 u) in
             (all u other.successor r.0 r.1).1 (other.least b c r.0 m r.1 is.prog)),
       )
 
   -- the only successor
-  pub first_alone : (b : ℕ) → IsLeastTable g table → slice_index x.successors 0 ≡ b → length x.successors ≡ 1 → IsLeastSuccessor g table x b × ((u : ℕ) → IsLeastSuccessor g table x u → b ≤ u)
+  pub first_alone : (b : ℕ) → IsLeastTable g table → slice_index x.successors 0 ≡ b → length x.successors ≡ 1 → IsLeastSuccessor g table x b
+      × ((u : ℕ) → IsLeastSuccessor g table x u → b ≤ u)
   first_alone b least same one =
       let value = value_at table b in
       let r = prog g x.priority value (value_measure g table least.progress.0.1 b) in

@@ -1,5 +1,6 @@
 -- The entries of lines that were read so far.
-use Rattle.std.proofs.Common.{◌≡◌, ◌≢◌, ℕ, zero, suc, ◌+◌, ◌<◌, ◌≤◌, List, [], ◌∷◌, ◌++◌, Option, Some, None, length, refl, sym, ap, ◌∙◌, subst, inl, inr, true, false, arith, append-nil, append_assoc, get_or, replicate, slice_index_or, slice_set}
+use Rattle.std.proofs.Common.{◌≡◌, ◌≢◌, ℕ, zero, suc, ◌+◌, ◌<◌, ◌≤◌, List, [], ◌∷◌, ◌++◌, Option, Some, None, length, refl, sym, ap, ◌∙◌, subst, inl, inr}
+use Rattle.std.proofs.Common.{true, false, arith, append-nil, append_assoc, get_or, replicate, slice_index_or, slice_set}
 use Rattle.std.specs.Prelude.{count_by, Contains, IfSome}
 use Rattle.std.specs.List.{AllByRecursion, AllZip}
 use Rattle.std.specs.Option.{is_some}
@@ -24,13 +25,17 @@ none_filled zero = refl
 none_filled (suc n) = let rest = none_filled n in omega arith
 
 -- no line was read
-pub nothing_yet : (vertices : ℕ) (old : Option (List ℕ)) (entries : Entries) → vertices ≡ length entries.entries → entries.entries ≡ replicate vertices None → SoFar vertices entries.width 0 old old entries
+pub nothing_yet : (vertices : ℕ) (old : Option (List ℕ)) (entries : Entries) → vertices ≡ length entries.entries → entries.entries ≡ replicate vertices None
+    → SoFar vertices entries.width 0 old old entries
 nothing_yet vertices old entries all none = record {
   done = [];
   rows = [];
   fine = record { each = tt; inside = tt; once = λ i j d l k. absurd (omega (arith, k)) };
   count = refl;
-  same = λ v x. (λ e. absurd (let q = sym (none_at vertices v) ∙ (ap (λ es. slice_index_or es v None) (sym none) ∙ e) in let r : None ≡ Some x = q in cc), λ h. absurd (omega (arith, h.1)));
+  same = λ v x. (
+    λ e. absurd (let q = sym (none_at vertices v) ∙ (ap (λ es. slice_index_or es v None) (sym none) ∙ e) in let r : None ≡ Some x = q in cc),
+    λ h. absurd (omega (arith, h.1)),
+  );
   filled = ap (count_by is_some) none ∙ none_filled vertices;
   long = sym all;
   wide = refl;
@@ -41,13 +46,15 @@ nothing_yet vertices old entries all none = record {
     start None = tt
     start (Some text) = refl
 
-cut_more : (old mid new : Option (List ℕ)) (done : List (List ℕ)) (line : List ℕ) → IfKnown old mid (IsCut done) → TakesPiece mid new true line → IfKnown old new (IsCut (done ++ line ∷ []))
+cut_more : (old mid new : Option (List ℕ)) (done : List (List ℕ)) (line : List ℕ) → IfKnown old mid (IsCut done) → TakesPiece mid new true line
+    → IfKnown old new (IsCut (done ++ line ∷ []))
 cut_more None mid new done line cut taken = tt
 cut_more (Some text) None new done line cut taken = absurd cut
 cut_more (Some text) (Some left) None done line cut taken = absurd taken
 cut_more (Some text) (Some left) (Some rest) done line cut taken = cut ∙ ap (λ l. done ++ l) taken ∙ sym (append_assoc done (line ∷ []) (pieces_of rest))
 
-each_more : (w : ℕ) (done : List (List ℕ)) (rows : List Row) (line : List ℕ) (x : Row) → AllZip (IsShaped w) done rows → IsShaped w line x → AllZip (IsShaped w) (done ++ line ∷ []) (rows ++ x ∷ [])
+each_more : (w : ℕ) (done : List (List ℕ)) (rows : List Row) (line : List ℕ) (x : Row) → AllZip (IsShaped w) done rows → IsShaped w line x
+    → AllZip (IsShaped w) (done ++ line ∷ []) (rows ++ x ∷ [])
 each_more w [] [] line x each one = (one, tt)
 each_more w [] (b ∷ rows) line x each one = absurd each
 each_more w (l ∷ done) [] line x each one = absurd each
@@ -60,14 +67,25 @@ all_more n (y ∷ rows) x all one = (all.0, all_more n rows x all.1 one)
 abbrev nothing : Option Entry
 nothing = None
 
-filled_more : (entries : List (Option Entry)) (v : ℕ) (x : Entry) → v < length entries → slice_index_or entries v None ≡ None → count_by is_some (slice_set entries v (Some x)) ≡ count_by is_some entries + 1
+filled_more : (entries : List (Option Entry)) (v : ℕ) (x : Entry) → v < length entries → slice_index_or entries v None ≡ None
+    → count_by is_some (slice_set entries v (Some x)) ≡ count_by is_some entries + 1
 filled_more [] v x h e = absurd (omega (arith, h))
 filled_more (None ∷ entries) zero x h e = omega (arith, count_yes is_some (Some x) entries refl, count_no is_some nothing entries refl)
 filled_more (Some y ∷ entries) zero x h e = absurd cc
 filled_more (None ∷ entries) (suc v) x h e =
-    omega (arith, filled_more entries v x (omega (arith, h)) e, count_no is_some nothing (slice_set entries v (Some x)) refl, count_no is_some nothing entries refl)
+    omega (
+      arith,
+      filled_more entries v x (omega (arith, h)) e,
+      count_no is_some nothing (slice_set entries v (Some x)) refl,
+      count_no is_some nothing entries refl,
+    )
 filled_more (Some y ∷ entries) (suc v) x h e =
-    omega (arith, filled_more entries v x (omega (arith, h)) e, count_yes is_some (Some y) (slice_set entries v (Some x)) refl, count_yes is_some (Some y) entries refl)
+    omega (
+      arith,
+      filled_more entries v x (omega (arith, h)) e,
+      count_yes is_some (Some y) (slice_set entries v (Some x)) refl,
+      count_yes is_some (Some y) entries refl,
+    )
 
 filled_few : (entries : List (Option Entry)) → count_by is_some entries ≤ length entries
 filled_few [] = omega arith
@@ -77,18 +95,21 @@ filled_few (Some y ∷ entries) = omega (arith, filled_few entries, count_yes is
 pub few_good : (vertices width good : ℕ) (old now : Option (List ℕ)) (entries : Entries) → SoFar vertices width good old now entries → good ≤ vertices
 few_good vertices width good old now entries so = omega (arith, filled_few entries.entries, so.filled, so.long)
 
-same_more : (rows : List Row) (entries : List (Option Entry)) (x : Row) → AreOf rows entries → x.vertex < length entries → slice_index_or entries x.vertex None ≡ None → AreOf (rows ++ x ∷ []) (slice_set entries x.vertex (Some x.entry))
+same_more : (rows : List Row) (entries : List (Option Entry)) (x : Row) → AreOf rows entries → x.vertex < length entries
+    → slice_index_or entries x.vertex None ≡ None → AreOf (rows ++ x ∷ []) (slice_set entries x.vertex (Some x.entry))
 same_more rows entries x same inside free v y = (to, from)
   where
     to : slice_index_or (slice_set entries x.vertex (Some x.entry)) v None ≡ Some y → Contains (rows ++ x ∷ []) (record { vertex = v; entry = y })
     to e = elim (eqb_tells v x.vertex) [
       | inl w ↦ (
-          let put = ap (λ k. slice_index_or (slice_set entries x.vertex (Some x.entry)) k None) w.1 ∙ get_or-set_same entries x.vertex (Some x.entry) None inside in
+          let put = ap (λ k. slice_index_or (slice_set entries x.vertex (Some x.entry)) k None) w.1
+          ∙ get_or-set_same entries x.vertex (Some x.entry) None inside in
           let both : Some x.entry ≡ Some y = sym put ∙ e in
           let entry : x.entry ≡ y = cc in
           let is : x ≡ record { vertex = v; entry = y } = λ i. record { vertex = sym w.1 i; entry = entry i } in
           subst (Contains (rows ++ x ∷ [])) is (Contains-push rows x))
-      | inr w ↦ Contains-append_left rows (x ∷ []) (record { vertex = v; entry = y }) ((same v y).0 (sym (get_or-set_other entries x.vertex v (Some x.entry) None w.1) ∙ e))
+      | inr w ↦ Contains-append_left rows (x ∷ []) (record { vertex = v; entry = y })
+          ((same v y).0 (sym (get_or-set_other entries x.vertex v (Some x.entry) None w.1) ∙ e))
     ]
 
     from : Contains (rows ++ x ∷ []) (record { vertex = v; entry = y }) → slice_index_or (slice_set entries x.vertex (Some x.entry)) v None ≡ Some y
@@ -104,7 +125,8 @@ same_more rows entries x same inside free v y = (to, from)
     ]
 
 -- one more line
-pub line_more : (vertices width good : ℕ) (old mid new : Option (List ℕ)) (line : List ℕ) (entries after : Entries) → SoFar vertices width good old mid entries → TakesPiece mid new true line → IsAdded line entries after
+pub line_more : (vertices width good : ℕ) (old mid new : Option (List ℕ)) (line : List ℕ) (entries after : Entries)
+    → SoFar vertices width good old mid entries → TakesPiece mid new true line → IsAdded line entries after
     → SoFar vertices width (good + 1) old new after
 line_more vertices width good old mid new line entries after so taken one =
     record {
@@ -116,8 +138,10 @@ line_more vertices width good old mid new line entries after so taken one =
         once = all_pairs_push (λ (a b : Row). a.vertex ≢ b.vertex) so.rows x so.fine.once apart;
       };
       count = omega (arith, length-append so.done (line ∷ []), so.count);
-      same = subst (λ (r : Entries). AreOf (so.rows ++ x ∷ []) r.entries) (sym one.added) (same_more so.rows entries.entries x so.same one.inside.vertex one.free);
-      filled = ap (λ (r : Entries). count_by is_some r.entries) one.added ∙ (filled_more entries.entries x.vertex x.entry one.inside.vertex one.free ∙ ap (λ n. n + 1) so.filled);
+      same = subst (λ (r : Entries). AreOf (so.rows ++ x ∷ []) r.entries) (sym one.added)
+          (same_more so.rows entries.entries x so.same one.inside.vertex one.free);
+      filled = ap (λ (r : Entries). count_by is_some r.entries) one.added
+          ∙ (filled_more entries.entries x.vertex x.entry one.inside.vertex one.free ∙ ap (λ n. n + 1) so.filled);
       long = ap (λ (r : Entries). length r.entries) one.added ∙ (length-set entries.entries x.vertex (Some x.entry) ∙ so.long);
       wide = ap (λ (r : Entries). r.width) one.added ∙ so.wide;
       cut = cut_more old mid new so.done line so.cut taken;
@@ -133,8 +157,13 @@ line_more vertices width good old mid new line entries after so taken one =
         let q : None ≡ Some y.entry = sym (ap (λ v. slice_index_or entries.entries v None) e ∙ one.free) ∙ at in cc
 
 -- no line was left
-pub all_read : (vertices width good : ℕ) (old mid new : Option (List ℕ)) (line : List ℕ) (entries : Entries) → SoFar vertices width good old mid entries → TakesPiece mid new false line → AreRead vertices width old entries.entries
-all_read vertices width good old mid new line entries so taken = record { rest = so.done; lines = record { rows = so.rows; good = so.fine; long = so.long; same = so.same }; cut = whole old mid new so.cut taken }
+pub all_read : (vertices width good : ℕ) (old mid new : Option (List ℕ)) (line : List ℕ) (entries : Entries) → SoFar vertices width good old mid entries
+    → TakesPiece mid new false line → AreRead vertices width old entries.entries
+all_read vertices width good old mid new line entries so taken = record {
+  rest = so.done;
+  lines = record { rows = so.rows; good = so.fine; long = so.long; same = so.same };
+  cut = whole old mid new so.cut taken;
+}
   where
     whole : (old mid new : Option (List ℕ)) → IfKnown old mid (IsCut so.done) → TakesPiece mid new false line → IfSome old (λ text. pieces_of text ≡ so.done)
     whole None mid new cut taken = tt
@@ -142,7 +171,8 @@ all_read vertices width good old mid new line entries so taken = record { rest =
     whole (Some text) (Some left) None cut taken = absurd taken
     whole (Some text) (Some left) (Some rest) cut taken = cut ∙ (ap (λ l. so.done ++ l) taken ∙ append-nil so.done)
 
-wrong_line : (vertices width good : ℕ) (old now : Option (List ℕ)) (entries : Entries) (line : List ℕ) (fault : EvidenceFault) → (so : SoFar vertices width good old now entries) → IsWrongLine entries line fault
+wrong_line : (vertices width good : ℕ) (old now : Option (List ℕ)) (entries : Entries) (line : List ℕ) (fault : EvidenceFault)
+    → (so : SoFar vertices width good old now entries) → IsWrongLine entries line fault
     → LineFault vertices width so.rows line fault
 wrong_line vertices width good old now entries line BadHeader so wrong = wrong
 wrong_line vertices width good old now entries line BadLine so wrong = λ x h. wrong x (subst (λ w. IsShaped w line x) (sym so.wide) h)
@@ -154,7 +184,8 @@ wrong_line vertices width good old now entries line BadVertex so (x, shaped, pla
     misplaced (inr (inr (y, e))) = inr (inr (record { vertex = x.vertex; entry = y }, (so.same x.vertex y).0 e, refl))
 
 -- the line is faulty
-pub bad_line : (vertices width good p : ℕ) → p ≡ good → (old mid new : Option (List ℕ)) (line : List ℕ) (entries : Entries) (fault : EvidenceFault) → SoFar vertices width good old mid entries → TakesPiece mid new true line
+pub bad_line : (vertices width good p : ℕ) → p ≡ good → (old mid new : Option (List ℕ)) (line : List ℕ) (entries : Entries) (fault : EvidenceFault)
+    → SoFar vertices width good old mid entries → TakesPiece mid new true line
     → IsWrongLine entries line fault → IfSome old (λ text. HasRestFault vertices width text fault (p + 2))
 bad_line vertices width good p at None mid new line entries fault so taken wrong = tt
 bad_line vertices width good p at (Some text) None new line entries fault so taken wrong = absurd so.cut

@@ -1,5 +1,6 @@
 -- The entries of Even's evidence, as they are made.
-use Rattle.std.proofs.Common.{◌≡◌, ◌≢◌, ℕ, zero, suc, ◌+◌, ◌/◌, ◌<◌, ◌≤◌, List, [], length, refl, sym, ap, subst, ◌∙◌, inl, inr, arith, Some, None, Option, replicate, slice_index_or, slice_set}
+use Rattle.std.proofs.Common.{◌≡◌, ◌≢◌, ℕ, zero, suc, ◌+◌, ◌/◌, ◌<◌, ◌≤◌, List, [], length, refl, sym, ap, subst, ◌∙◌, inl, inr, arith, Some, None, Option}
+use Rattle.std.proofs.Common.{replicate, slice_index_or, slice_set}
 use Rattle.std.proofs.lemmas.Bool.Decides.{eqb_tells, leb_tells}
 use Rattle.std.proofs.lemmas.List.{get_or-set_other, get_or-set_same, get_or_past, length-replicate, length-set}
 use Rattle.std.proofs.lemmas.Slice.Zip.{AllZip-long}
@@ -22,14 +23,16 @@ pub record IsMade (g : Game) (table : List Measure) (n : ℕ) (now : Entries) : 
   pub width : now.width ≡ length (components g)
   pub long : length now.entries ≡ length g.vertices
   pub outside : (v : ℕ) → value_at table v ≡ Top → at now v ≡ None
-  pub inside : (v : ℕ) (counts : List ℕ) → v < n → value_at table v ≡ Counts counts → (x : Entry) × (at now v ≡ Some x) × (x.rank ≡ counts) × IsMoveAt g table v x.move
+  pub inside : (v : ℕ) (counts : List ℕ) → v < n → value_at table v ≡ Counts counts → (x : Entry) × (at now v ≡ Some x) × (x.rank ≡ counts)
+      × IsMoveAt g table v x.move
 
 pub none_at : (n v : ℕ) → slice_index_or (replicate {A = Option Entry} n None) v None ≡ None
 none_at zero v = get_or_past [] v None (omega arith)
 none_at (suc n) zero = refl
 none_at (suc n) (suc v) = none_at n v
 
-pub made_none : (g : Game) (table : List Measure) (n p width : ℕ) (now : Entries) → n ≡ length g.vertices → p ≡ greatest g → width ≡ (p + 1) / 2 → now ≡ record { width = width; entries = replicate n None } → IsMade g table 0 now
+pub made_none : (g : Game) (table : List Measure) (n p width : ℕ) (now : Entries) → n ≡ length g.vertices → p ≡ greatest g → width ≡ (p + 1) / 2
+    → now ≡ record { width = width; entries = replicate n None } → IsMade g table 0 now
 made_none g table n p width now vertices top wide e = record {
   width = ap (λ (r : Entries). r.width) e ∙ (wide ∙ (ap (λ k. (k + 1) / 2) top ∙ sym (odd_down_long (greatest g))));
   long = ap (λ (r : Entries). length r.entries) e ∙ (length-replicate n None ∙ vertices);
@@ -61,7 +64,12 @@ module _ (g : Game) (table : List Measure) (n : ℕ) (now : Entries) (was : IsMa
           | inr w ↦ left v w.1 ∙ was.outside v top
         ];
         inside = λ v cs below is. elim (eqb_tells v n) [
-          | inl w ↦ (x, ap (at new) w.1 ∙ put, same rank cs (counts ∙ (value ∙ (ap (value_at table) (sym w.1) ∙ is))), subst (λ u. IsMoveAt g table u move) (sym w.1) best)
+          | inl w ↦ (
+            x,
+            ap (at new) w.1 ∙ put,
+            same rank cs (counts ∙ (value ∙ (ap (value_at table) (sym w.1) ∙ is))),
+            subst (λ u. IsMoveAt g table u move) (sym w.1) best,
+          )
           | inr w ↦ (let d = w.1 in let old = was.inside v cs (omega arith) is in (old.0, left v w.1 ∙ old.1, old.2, old.3))
         ];
       }
@@ -79,10 +87,13 @@ module _ (g : Game) (table : List Measure) (n : ℕ) (now : Entries) (was : IsMa
       same a b q = cc
 
 -- a rank has as many counts as there are components
-pub rank_long : (g : Game) (table : List Measure) (v : ℕ) (rank : List ℕ) → IsLeastTable g table → Counts rank ≡ value_at table v → length rank ≡ length (components g)
-rank_long g table v rank least e = sym (AllZip-long (λ k p. k ≤ count g p) rank (components g) (subst (λ (m : Measure). IsMeasure g m) (sym e) (value_measure g table least.progress.0.1 v)))
+pub rank_long : (g : Game) (table : List Measure) (v : ℕ) (rank : List ℕ) → IsLeastTable g table → Counts rank ≡ value_at table v
+    → length rank ≡ length (components g)
+rank_long g table v rank least e = sym (AllZip-long (λ k p. k ≤ count g p) rank (components g)
+    (subst (λ (m : Measure). IsMeasure g m) (sym e) (value_measure g table least.progress.0.1 v)))
 
-pub made_even : (g : Game) (table : List Measure) (n : ℕ) (now : Entries) → IsLeastTable g table → IsMade g table n now → length g.vertices ≤ n → IsEvenOf g (record { player = Even; entries = now.entries })
+pub made_even : (g : Game) (table : List Measure) (n : ℕ) (now : Entries) → IsLeastTable g table → IsMade g table n now → length g.vertices ≤ n
+    → IsEvenOf g (record { player = Even; entries = now.entries })
 made_even g table n now least is whole = record {
   player = refl;
   long = is.long;

@@ -1,5 +1,6 @@
 -- The arena of a part of a system goes on as that of the system does, where the part keeps the steps.
-use Rattle.std.proofs.Common.{◌≡◌, ℕ, zero, suc, ◌+◌, ◌*◌, ◌<◌, ◌≤◌, ◌⊎◌, max, Bool, true, ◌&&◌, List, [], ◌∷◌, ◌++◌, length, map, refl, sym, ap, subst, ◌∙◌, inl, inr, arith, IsTrue, Contains, Some, if◌then◌else◌}
+use Rattle.std.proofs.Common.{◌≡◌, ℕ, zero, suc, ◌+◌, ◌*◌, ◌<◌, ◌≤◌, ◌⊎◌, max, Bool, true, ◌&&◌, List, [], ◌∷◌, ◌++◌, length, map, refl, sym, ap, subst, ◌∙◌}
+use Rattle.std.proofs.Common.{inl, inr, arith, IsTrue, Contains, Some, if◌then◌else◌}
 use Rattle.std.specs.Prelude.{◌/◌, ◌%◌, ◌-◌, slice_get, ◌==◌}
 use Rattle.std.specs.List.{range_with_len}
 use Rattle.std.proofs.lemmas.Nat.{div-add-mod'}
@@ -99,26 +100,30 @@ module _ (l part : System) (is : IsPart l part) where
     | inr none ↦ (
         let q : u ≡ (if flag then 1 else 0) = only u (subst (λ xs. Contains (or_else (map (λ t. place n t child) xs) (if flag then 1 else 0)) u) none c) in
         subst (λ z. Contains (or_else (map (λ t. place n t child) (targets part a s)) (if flag then 1 else 0)) z) (sym q)
-        (else_only (map (λ t. place n t child) (targets part a s)) (if flag then 1 else 0) (map_empty (λ t. place n t child) (targets part a s) (none_of a s none))))
+        (else_only (map (λ t. place n t child) (targets part a s)) (if flag then 1 else 0)
+        (map_empty (λ t. place n t child) (targets part a s) (none_of a s none))))
   ]
     where
       only : (u : ℕ) → Contains ((if flag then 1 else 0) ∷ []) u → u ≡ (if flag then 1 else 0)
       only u c = only_in (if flag then 1 else 0) u c
 
-      of_else : (xs : List ℕ) (x : ℕ) → Contains xs x → Contains (or_else (map (λ t. place n t child) xs) (if flag then 1 else 0)) u → Contains (map (λ t. place n t child) xs) u ⊎ ⊥
+      of_else : (xs : List ℕ) (x : ℕ) → Contains xs x → Contains (or_else (map (λ t. place n t child) xs) (if flag then 1 else 0)) u
+          → Contains (map (λ t. place n t child) xs) u ⊎ ⊥
       of_else [] x i c = absurd (contains_none x i)
       of_else (y ∷ xs) x i c = inl c
   still n s (FixpointNode flag a) u c k = c
   still n s (VariableNode b) u c k = c
 
   -- where all steps are kept, the part has no other successors
-  pub no_other : (n s : ℕ) (sh : Shape) → ((u : ℕ) → Contains (successors_of l n s sh) u → KeepsStep l part n s sh u) → (u : ℕ) → Contains (successors_of part n s sh) u → Contains (successors_of l n s sh) u
+  pub no_other : (n s : ℕ) (sh : Shape) → ((u : ℕ) → Contains (successors_of l n s sh) u → KeepsStep l part n s sh u) → (u : ℕ)
+      → Contains (successors_of part n s sh) u → Contains (successors_of l n s sh) u
   no_other n s (ConstantNode flag) k u c = c
   no_other n s (JunctionNode flag a b) k u c = c
   no_other n s (ModalityNode flag a child) k u c = elim (of_or_else (map (λ t. place n t child) (targets part a s)) (if flag then 1 else 0) u c) [
     | inl e ↦ elim (some_or (targets l a s)) [
       | inl w ↦ (
-          let keeps = k (place n w.0 child) (in_or_else (map (λ t. place n t child) (targets l a s)) (if flag then 1 else 0) (place n w.0 child) (in_map (λ t. place n t child) (targets l a s) w.0 w.1)) in
+          let keeps = k (place n w.0 child) (in_or_else (map (λ t. place n t child) (targets l a s)) (if flag then 1 else 0) (place n w.0 child)
+          (in_map (λ t. place n t child) (targets l a s) w.0 w.1)) in
           let p = of_target a s w.0 w.1 (λ h. keeps w.0 refl h) in
           let i = in_map (λ t. place n t child) (targets part a s) w.0 p in
           carried (kept_here (map (λ t. place n t child) (targets part a s)) (place n w.0 child) i c))
@@ -128,7 +133,8 @@ module _ (l part : System) (is : IsPart l part) where
     | inr m ↦ carried m
   ]
     where
-      carried : Contains (map (λ t. place n t child) (targets part a s)) u → Contains (or_else (map (λ t. place n t child) (targets l a s)) (if flag then 1 else 0)) u
+      carried : Contains (map (λ t. place n t child) (targets part a s)) u
+          → Contains (or_else (map (λ t. place n t child) (targets l a s)) (if flag then 1 else 0)) u
       carried m =
           let o = of_map (λ t. place n t child) (targets part a s) u m in
           in_or_else (map (λ t. place n t child) (targets l a s)) (if flag then 1 else 0) u
@@ -174,7 +180,8 @@ module _ (l part : System) (nodes : List Node) (e : Evidence) (set : ℕ → Boo
   abbrev n : ℕ
   n = length nodes
 
-  at_place : (s k : ℕ) (node : Node) (y : Vertex) → s < l.states → slice_get nodes k ≡ Some node → IsTrue (set (place n s k)) → vertex (arena part nodes) (place n s k) ≡ Some y
+  at_place : (s k : ℕ) (node : Node) (y : Vertex) → s < l.states → slice_get nodes k ≡ Some node → IsTrue (set (place n s k))
+      → vertex (arena part nodes) (place n s k) ≡ Some y
       → Follows (arena l nodes) e (place n s k) y
   at_place s k node y h at i there =
       let first = vertex_is l nodes s k node h at in
@@ -223,7 +230,8 @@ witness_wins l part nodes e set is evidence good closed keeps = (
 -- at the root of a formula's normal form the part says of the formula what the player wants
 pub witness_means : WitnessMeans
 witness_means l part f nodes e set is evidence good closed keeps root system admitted forms = (
-  (λ even. (even_wins_formula part f nodes system admitted forms l.initial below).0 (subst (λ p. WinsBy p (arena part nodes) (place (length nodes) l.initial 0)) even wins)),
+  (λ even. (even_wins_formula part f nodes system admitted forms l.initial below).0
+      (subst (λ p. WinsBy p (arena part nodes) (place (length nodes) l.initial 0)) even wins)),
   (λ odd holds. not_both_win (arena part nodes) (place (length nodes) l.initial 0)
       ((even_wins_formula part f nodes system admitted forms l.initial below).1 holds)
       (subst (λ p. WinsBy p (arena part nodes) (place (length nodes) l.initial 0)) odd wins)),

@@ -1,5 +1,6 @@
 -- Entries that are stored in two lists.
-use Rattle.std.proofs.Common.{◌≡◌, ℕ, zero, suc, ◌+◌, ◌*◌, ◌<◌, ◌≤◌, List, [], ◌∷◌, ◌++◌, length, take, drop, refl, sym, ap, ap₂, ◌∙◌, arith, slice_index_or, slice_set, append_assoc, length-take-le, length-drop, replicate, Option, None}
+use Rattle.std.proofs.Common.{◌≡◌, ℕ, zero, suc, ◌+◌, ◌*◌, ◌<◌, ◌≤◌, List, [], ◌∷◌, ◌++◌, length, take, drop, refl, sym, ap, ap₂, ◌∙◌, arith, slice_index_or}
+use Rattle.std.proofs.Common.{slice_set, append_assoc, length-take-le, length-drop, replicate, Option, None}
 use Rattle.std.proofs.Math.Seq.{take-add, take-append_seam, drop-append_seam}
 use Rattle.progress.proofs.Stored.{row_fits}
 use Rattle.evidence.specs.Evidence.{Entry}
@@ -20,7 +21,8 @@ drop_more (suc n) m [] = let e : suc n + m ≡ suc (n + m) = omega arith in ap (
     none (suc k) = refl
 drop_more (suc n) m (x ∷ xs) = let e : suc n + m ≡ suc (n + m) = omega arith in ap (λ k. drop k (x ∷ xs)) e ∙ drop_more n m xs
 
-places_at : (w : ℕ) (places : List Place) (cs : List ℕ) (v : ℕ) (p d : Place) → v < length places → p ≡ slice_index_or places v d → slice_index_or (entries_of w places cs) v None ≡ entry_of p (take w (drop (v * w) cs))
+places_at : (w : ℕ) (places : List Place) (cs : List ℕ) (v : ℕ) (p d : Place) → v < length places → p ≡ slice_index_or places v d
+    → slice_index_or (entries_of w places cs) v None ≡ entry_of p (take w (drop (v * w) cs))
 places_at w [] cs v p d h e = absurd (omega arith)
 places_at w (q ∷ places) cs zero p d h e = let z : 0 * w ≡ 0 = omega arith in ap₂ entry_of (sym e) (sym (ap (λ k. take w (drop k cs)) z))
 places_at w (q ∷ places) cs (suc v) p d h e =
@@ -35,7 +37,8 @@ places_set w (q ∷ places) cs zero p c h e l =
     let s : 0 * w + w ≡ w = omega arith in
     let list : take (0 * w) cs ++ (c ++ drop (0 * w + w) cs) ≡ c ++ drop w cs = ap₂ (λ a b. take a cs ++ (c ++ drop b cs)) z s in
     ap (λ xs. entries_of w (p ∷ places) xs) list
-    ∙ ap₂ (λ a b. entry_of p a ∷ entries_of w places b) (ap (λ k. take k (c ++ drop w cs)) (sym e) ∙ take-append_seam c (drop w cs)) (ap (λ k. drop k (c ++ drop w cs)) (sym e) ∙ drop-append_seam c (drop w cs))
+    ∙ ap₂ (λ a b. entry_of p a ∷ entries_of w places b) (ap (λ k. take k (c ++ drop w cs)) (sym e) ∙ take-append_seam c (drop w cs))
+    (ap (λ k. drop k (c ++ drop w cs)) (sym e) ∙ drop-append_seam c (drop w cs))
 places_set w (q ∷ places) cs (suc v) p c h e l =
     let front = take w cs in
     let rest = drop w cs in
@@ -47,7 +50,8 @@ places_set w (q ∷ places) cs (suc v) p c h e l =
     ap₂ (λ x y. x ++ (c ++ y)) (ap (λ k. take k cs) (sym a) ∙ take-add w (v * w) cs) (ap (λ k. drop k cs) (sym b) ∙ drop_more w (v * w + w) cs)
     ∙ append_assoc front (take (v * w) rest) (c ++ drop (v * w + w) rest) in
     ap (λ xs. entries_of w (q ∷ slice_set places v p) xs) list
-    ∙ (ap₂ (λ x y. entry_of q x ∷ entries_of w (slice_set places v p) y) (ap (λ k. take k (front ++ inner)) (sym long) ∙ take-append_seam front inner) (ap (λ k. drop k (front ++ inner)) (sym long) ∙ drop-append_seam front inner)
+    ∙ (ap₂ (λ x y. entry_of q x ∷ entries_of w (slice_set places v p) y) (ap (λ k. take k (front ++ inner)) (sym long) ∙ take-append_seam front inner)
+    (ap (λ k. drop k (front ++ inner)) (sym long) ∙ drop-append_seam front inner)
     ∙ ap (λ es. entry_of q front ∷ es) (places_set w places rest v p c (omega arith) e (length-drop w cs ∙ omega arith)))
 
 pub places_none : (w n : ℕ) (cs : List ℕ) → entries_of w (replicate n Outside) cs ≡ replicate n None
@@ -61,14 +65,18 @@ module _ (w : ℕ) (places : List Place) (cs : List ℕ) (now : Entries) (is : s
   pub long_is : length now.entries ≡ length places
   long_is = sym (ap (λ (r : Entries). length r.entries) is) ∙ places_long w places cs
 
-  pub entry_is : (v : ℕ) (p d : Place) (row : List ℕ) → v < length now.entries → p ≡ slice_index_or places v d → row ≡ take w (drop (v * w) cs) → slice_index_or now.entries v None ≡ entry_of p row
-  entry_is v p d row h e r = sym (ap (λ (r : Entries). slice_index_or r.entries v None) is) ∙ (places_at w places cs v p d (let l = long_is in omega arith) e ∙ ap (entry_of p) (sym r))
+  pub entry_is : (v : ℕ) (p d : Place) (row : List ℕ) → v < length now.entries → p ≡ slice_index_or places v d → row ≡ take w (drop (v * w) cs)
+      → slice_index_or now.entries v None ≡ entry_of p row
+  entry_is v p d row h e r = sym (ap (λ (r : Entries). slice_index_or r.entries v None) is)
+      ∙ (places_at w places cs v p d (let l = long_is in omega arith) e ∙ ap (entry_of p) (sym r))
 
   pub row_inside : (v l : ℕ) → v < length now.entries → l ≡ length places * w → v * w + w ≤ l
   row_inside v l h e = row_fits v w (length places) l (let n = long_is in omega arith) e
 
-  pub set_entry : (v : ℕ) (p : Place) (x : Option Entry) (c new : List ℕ) → v < length now.entries → entry_of p c ≡ x → length c ≡ now.width → length cs ≡ length places * w
-      → new ≡ take (v * w) cs ++ (c ++ drop (v * w + w) cs) → stored w (slice_set places v p) new ≡ record { width = now.width; entries = slice_set now.entries v x }
+  pub set_entry : (v : ℕ) (p : Place) (x : Option Entry) (c new : List ℕ) → v < length now.entries → entry_of p c ≡ x → length c ≡ now.width
+      → length cs ≡ length places * w
+      → new ≡ take (v * w) cs ++ (c ++ drop (v * w + w) cs) → stored w (slice_set places v p) new
+      ≡ record { width = now.width; entries = slice_set now.entries v x }
   set_entry v p x c new h e wide l written =
       let same : now.width ≡ w = sym (ap (λ (r : Entries). r.width) is) in
       ap (λ (xs : List ℕ). stored w (slice_set places v p) xs) written

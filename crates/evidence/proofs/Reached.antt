@@ -1,5 +1,6 @@
 -- What is reached from a vertex is a set that tests tell: the turns of a search come to rest.
-use Rattle.std.proofs.Common.{◌≡◌, ℕ, zero, suc, ◌<◌, ◌≤◌, Bool, true, false, ◌&&◌, ◌||◌, List, [], ◌∷◌, length, refl, sym, subst, ◌∙◌, inl, inr, arith, IsTrue, Contains, Some, None, Option, true≢false, if◌then◌else◌}
+use Rattle.std.proofs.Common.{◌≡◌, ℕ, zero, suc, ◌<◌, ◌≤◌, Bool, true, false, ◌&&◌, ◌||◌, List, [], ◌∷◌, length, refl, sym, subst, ◌∙◌, inl, inr, arith}
+use Rattle.std.proofs.Common.{IsTrue, Contains, Some, None, Option, true≢false, if◌then◌else◌}
 use Rattle.std.specs.Prelude.{◌==◌}
 use Rattle.std.specs.List.{list_any, range_with_len}
 use Rattle.std.proofs.lemmas.Bool.Decides.{eqb_tells}
@@ -45,7 +46,8 @@ module _ (g : Game) (e : Evidence) where
           ]
 
   is_goes : (s t : ℕ) → Goes g e s t → goes s t ≡ true
-  is_goes s t (x, v, p, q, to) = (λ i. goes_from (p i) (q i) t) ∙ gives_any (λ u. u == t) (goals e.player v x) t (goal_in e.player v x t to) (same_true t t refl)
+  is_goes s t (x, v, p, q, to) = (λ i. goes_from (p i) (q i) t)
+      ∙ gives_any (λ u. u == t) (goals e.player v x) t (goal_in e.player v x t to) (same_true t t refl)
 
   module _ (u : ℕ) where
     -- what is reached by at most k steps
@@ -68,7 +70,8 @@ module _ (g : Game) (e : Evidence) where
     turn_on k s t h go =
         or_right (turn k t) (list_any (λ z. turn k z && goes z t) (range_with_len 0 (length g.vertices)))
         (gives_any (λ z. turn k z && goes z t) (range_with_len 0 (length g.vertices)) s
-        (gives_range 0 (length g.vertices) s (omega arith) (let l = slice_get_within g.vertices s go.1 go.3 in omega arith)) (and_true (turn k s) (goes s t) h (is_goes s t go)))
+        (gives_range 0 (length g.vertices) s (omega arith) (let l = slice_get_within g.vertices s go.1 go.3 in omega arith))
+        (and_true (turn k s) (goes s t) h (is_goes s t go)))
 
     turn_first : (k : ℕ) → turn k u ≡ true
     turn_first zero = same_true u u refl

@@ -1,5 +1,6 @@
 -- What the tests on a line of evidence say of the line.
-use Rattle.std.proofs.Common.{◌≡◌, ℕ, zero, suc, ◌≤◌, Bool, true, false, cond, ◌==◌, ◌||◌, nat_le, List, [], ◌∷◌, ◌++◌, length, take, drop, Option, Some, None, codes, refl, sym, ap, ◌∙◌, subst, arith, append_assoc, true≢false}
+use Rattle.std.proofs.Common.{◌≡◌, ℕ, zero, suc, ◌≤◌, Bool, true, false, cond, ◌==◌, ◌||◌, nat_le, List, [], ◌∷◌, ◌++◌, length, take, drop, Option, Some}
+use Rattle.std.proofs.Common.{None, codes, refl, sym, ap, ◌∙◌, subst, arith, append_assoc, true≢false}
 use Rattle.std.specs.List.{AllByRecursion, AllZip, join_with_byte, list_all, list_any}
 use Rattle.std.specs.Str.{bytes_eq}
 use Rattle.std.proofs.lemmas.Bool.{and_parts, eqb-true, le-leb, leb-true}
@@ -38,7 +39,8 @@ whole_some bytes v e = let h = whole_gives bytes v e in (value_of bytes, number_
 pub whole_none : (bytes : List ℕ) → whole_number bytes ≡ None → number_of bytes ≡ None
 unfolding whole_number number_of
 whole_none bytes e =
-    elim (is_numeral bytes) as (λ b. cond b (Some (capped (value_of bytes))) None ≡ None → cond b (Some (value_of bytes)) None ≡ None) [ true ↦ λ k. absurd cc | false ↦ λ k. refl ] e
+    elim (is_numeral bytes) as (λ b. cond b (Some (capped (value_of bytes))) None ≡ None → cond b (Some (value_of bytes)) None ≡ None)
+    [ true ↦ λ k. absurd cc | false ↦ λ k. refl ] e
 
 digits_free : (c : ℕ) (ds : List ℕ) → is_digit c ≡ false → list_all is_digit ds ≡ true → list_any (λ b. b == c) ds ≡ false
 digits_free c [] h all = refl
@@ -56,9 +58,11 @@ numeral_free c bytes n h k = digits_free c bytes h (numeral_digits bytes k.0)
 move_gives : (bytes : List ℕ) (m : Option ℕ) → move_of bytes ≡ Some m → IsMoveText bytes m
 unfolding move_of
 move_gives bytes m e =
-    elim (bytes_eq bytes (codes "-")) as (λ b. bytes_eq bytes (codes "-") ≡ b → cond b (Some None) (number_of bytes >>= λ t. Some (Some t)) ≡ Some m → IsMoveText bytes m) [
+    elim (bytes_eq bytes (codes "-")) as (λ b. bytes_eq bytes (codes "-") ≡ b → cond b (Some None) (number_of bytes >>= λ t. Some (Some t)) ≡ Some m
+    → IsMoveText bytes m) [
       | true ↦ λ same k. subst (IsMoveText bytes) (some_is None m k) ((bytes_eq-Decides bytes (codes "-")).0 same)
-      | false ↦ λ other k. let (t, found, is) = bind_some (number_of bytes) (λ t. Some (Some t)) m k in subst (IsMoveText bytes) (some_is (Some t) m is) (number_gives bytes t found)
+      | false ↦ λ other k. let (t, found, is) = bind_some (number_of bytes) (λ t. Some (Some t)) m k
+          in subst (IsMoveText bytes) (some_is (Some t) m is) (number_gives bytes t found)
     ] refl e
 
 no_dash : (bytes : List ℕ) (t : ℕ) → IsNumeral bytes t → bytes_eq bytes (codes "-") ≡ false
@@ -101,28 +105,45 @@ fields_give line v m r e =
       second.0,
       subst (IsNumeral first.0) v-is (number_gives first.0 vertex number),
       subst (IsMoveText second.0) m-is (move_gives second.0 move found),
-      (cut_gives 32 line first.0 first.1 cut).1 ∙ ap (λ l. first.0 ++ 32 ∷ l) ((cut_gives 32 first.1 second.0 second.1 next).1 ∙ ap (λ l. second.0 ++ 32 ∷ l) r-is),
+      (cut_gives 32 line first.0 first.1 cut).1 ∙ ap (λ l. first.0 ++ 32 ∷ l)
+          ((cut_gives 32 first.1 second.0 second.1 next).1 ∙ ap (λ l. second.0 ++ 32 ∷ l) r-is),
     )
 
 fields_found : (x y r : List ℕ) (v : ℕ) (m : Option ℕ) → IsNumeral x v → IsMoveText y m → fields_of (x ++ 32 ∷ (y ++ 32 ∷ r)) ≡ Some (v, m, r)
 unfolding fields_of
-fields_found x y r v m h k = rw (cut_finds 32 x (y ++ 32 ∷ r) (numeral_free 32 x v refl h), cut_finds 32 y r (move_free y m k), number_finds x v h, move_finds y m k) refl
+fields_found x y r v m h k = rw (
+  cut_finds 32 x (y ++ 32 ∷ r) (numeral_free 32 x v refl h),
+  cut_finds 32 y r (move_free y m k),
+  number_finds x v h,
+  move_finds y m k,
+) refl
 
 -- ---- the counts
 
-before_gives : (end : ℕ) (bytes : List ℕ) (k : ℕ) (rest : List ℕ) → count_before end bytes ≡ Some (k, rest) → (x : List ℕ) × IsNumeral x k × (k ≤ GREATEST_COUNT) × (bytes ≡ x ++ end ∷ rest)
+before_gives : (end : ℕ) (bytes : List ℕ) (k : ℕ) (rest : List ℕ) → count_before end bytes ≡ Some (k, rest) → (x : List ℕ) × IsNumeral x k
+    × (k ≤ GREATEST_COUNT) × (bytes ≡ x ++ end ∷ rest)
 unfolding count_before
 before_gives end bytes k rest e =
-    let (found, cut, e1) = bind_some (cut_at end bytes) (λ found. number_of found.0 >>= λ count. cond (nat_le count GREATEST_COUNT) (Some (count, found.1)) None) (k, rest) e in
+    let (found, cut, e1) = bind_some (cut_at end bytes) (λ found. number_of found.0 >>= λ count. cond (nat_le count GREATEST_COUNT)
+    (Some (count, found.1)) None) (k, rest) e in
     let (count, number, e2) = bind_some (number_of found.0) (λ count. cond (nat_le count GREATEST_COUNT) (Some (count, found.1)) None) (k, rest) e1 in
     let h = if_some (nat_le count GREATEST_COUNT) (count, found.1) (k, rest) e2 in
     let k-is : count ≡ k = ap (λ (p : ℕ × List ℕ). p.0) h.1 in
-    let rest-is : found.1 ≡ rest = ap (λ (p : ℕ × List ℕ). p.1) h.1 in
-    (found.0, subst (IsNumeral found.0) k-is (number_gives found.0 count number), subst (λ n. n ≤ GREATEST_COUNT) k-is (leb-true count GREATEST_COUNT h.0), (cut_gives end bytes found.0 found.1 cut).1 ∙ ap (λ l. found.0 ++ end ∷ l) rest-is)
+    let rest-is : found.1 ≡ rest = ap (λ (p : ℕ × List ℕ). p.1) h.1 in (
+      found.0,
+      subst (IsNumeral found.0) k-is (number_gives found.0 count number),
+      subst (λ n. n ≤ GREATEST_COUNT) k-is (leb-true count GREATEST_COUNT h.0),
+      (cut_gives end bytes found.0 found.1 cut).1 ∙ ap (λ l. found.0 ++ end ∷ l) rest-is,
+    )
 
-before_found : (end : ℕ) (x : List ℕ) (k : ℕ) (rest : List ℕ) → is_digit end ≡ false → IsNumeral x k → k ≤ GREATEST_COUNT → count_before end (x ++ end ∷ rest) ≡ Some (k, rest)
+before_found : (end : ℕ) (x : List ℕ) (k : ℕ) (rest : List ℕ) → is_digit end ≡ false → IsNumeral x k → k ≤ GREATEST_COUNT
+    → count_before end (x ++ end ∷ rest) ≡ Some (k, rest)
 unfolding count_before
-before_found end x k rest h numeral small = rw (cut_finds end x rest (numeral_free end x k h numeral), number_finds x k numeral, le-leb k GREATEST_COUNT small) refl
+before_found end x k rest h numeral small = rw (
+  cut_finds end x rest (numeral_free end x k h numeral),
+  number_finds x k numeral,
+  le-leb k GREATEST_COUNT small,
+) refl
 
 -- counts that have their ends behind them
 abbrev ended : List (List ℕ) → List ℕ
@@ -141,7 +162,8 @@ record AreEnded (n : ℕ) (bytes : List ℕ) (ks : List ℕ) : Type 0 where
   long : length ks ≡ n
   small : AllByRecursion (λ k. k ≤ GREATEST_COUNT) ks
 
-with_end : (x : List ℕ) (n : ℕ) (numerals : List (List ℕ)) (ks rest : List ℕ) → AllZip IsNumeral numerals ks → length ks ≡ n → rest ≡ ended numerals → x ++ end_of n ∷ rest ≡ ended (x ∷ numerals)
+with_end : (x : List ℕ) (n : ℕ) (numerals : List (List ℕ)) (ks rest : List ℕ) → AllZip IsNumeral numerals ks → length ks ≡ n → rest ≡ ended numerals
+    → x ++ end_of n ∷ rest ≡ ended (x ∷ numerals)
 with_end x zero [] ks rest each long e = ap (λ l. x ++ 41 ∷ l) e
 with_end x zero (y ∷ ys) [] rest each long e = absurd each
 with_end x zero (y ∷ ys) (k ∷ ks) rest each long e = absurd (omega (arith, long))
@@ -158,16 +180,27 @@ counts_give (suc n) bytes ks e =
     let (x, numeral, small, cut) = before_gives (end_of n) bytes found.0 found.1 before in
     let others = counts_give n found.1 more rest in
     subst (AreEnded (suc n) bytes) (some_is (found.0 ∷ more) ks e2)
-    (record { numerals = x ∷ others.numerals; each = (numeral, others.each); is = cut ∙ with_end x n others.numerals more found.1 others.each others.long others.is; long = ap suc others.long; small = (small, others.small) })
+    (record {
+      numerals = x ∷ others.numerals;
+      each = (numeral, others.each);
+      is = cut
+          ∙ with_end x n others.numerals more found.1 others.each others.long others.is;
+      long = ap suc others.long;
+      small = (small, others.small);
+    })
 
-counts_found : (numerals : List (List ℕ)) (ks : List ℕ) → AllZip IsNumeral numerals ks → AllByRecursion (λ k. k ≤ GREATEST_COUNT) ks → counts_of (length ks) (ended numerals) ≡ Some ks
+counts_found : (numerals : List (List ℕ)) (ks : List ℕ) → AllZip IsNumeral numerals ks → AllByRecursion (λ k. k ≤ GREATEST_COUNT) ks
+    → counts_of (length ks) (ended numerals) ≡ Some ks
 counts_found [] [] each small = refl
 counts_found [] (k ∷ ks) each small = absurd each
 counts_found (x ∷ xs) [] each small = absurd each
 counts_found (x ∷ []) (k ∷ []) each small = rw (before_found 41 x k [] refl each.0 small.0) refl
 counts_found (x ∷ []) (k ∷ j ∷ ks) each small = absurd each.1
 counts_found (x ∷ y ∷ xs) (k ∷ []) each small = absurd each.1
-counts_found (x ∷ y ∷ xs) (k ∷ j ∷ ks) each small = rw (before_found 44 x k (ended (y ∷ xs)) refl each.0 small.0, counts_found (y ∷ xs) (j ∷ ks) each.1 small.1) refl
+counts_found (x ∷ y ∷ xs) (k ∷ j ∷ ks) each small = rw (
+  before_found 44 x k (ended (y ∷ xs)) refl each.0 small.0,
+  counts_found (y ∷ xs) (j ∷ ks) each.1 small.1,
+) refl
 
 record IsRank (n : ℕ) (bytes : List ℕ) (ks : List ℕ) : Type 0 where
   counts : AreCounts bytes ks
@@ -181,7 +214,8 @@ in_brackets n bytes ks opened rest = (
   sym (take-append-drop 1 bytes) ∙ (ap (λ l. l ++ drop 1 bytes) opened ∙ ap (λ l. 40 ∷ l) (rest.is ∙ join rest.numerals ks rest.each rest.long)),
 )
   where
-    join : (numerals : List (List ℕ)) (ks : List ℕ) → AllZip IsNumeral numerals ks → length ks ≡ suc n → ended numerals ≡ join_with_byte 44 numerals ++ codes ")"
+    join : (numerals : List (List ℕ)) (ks : List ℕ) → AllZip IsNumeral numerals ks → length ks ≡ suc n
+        → ended numerals ≡ join_with_byte 44 numerals ++ codes ")"
     join [] [] each long = absurd (omega (arith, long))
     join [] (k ∷ ks) each long = absurd each
     join (x ∷ xs) ks each long = ended_joined x xs
@@ -210,7 +244,8 @@ row_of width line = fields_of line >>= λ f. rank_of width f.2 >>= λ rank. Some
 
 pub row_gives : (width : ℕ) (line : List ℕ) (row : Row) → row_of width line ≡ Some row → IsShaped width line row
 row_gives width line row e =
-    let (f, found, after) = bind_some (fields_of line) (λ f. rank_of width f.2 >>= λ rank. Some (record { vertex = f.0; entry = record { move = f.1; rank = rank } })) row e in
+    let (f, found, after) = bind_some (fields_of line) (λ f. rank_of width f.2 >>= λ rank. Some
+    (record { vertex = f.0; entry = record { move = f.1; rank = rank } })) row e in
     let (rank, read, said) = bind_some (rank_of width f.2) (λ rank. Some (record { vertex = f.0; entry = record { move = f.1; rank = rank } })) row after in
     let (x, y, vertex, move, cut) = fields_give line f.0 f.1 f.2 found in
     let r = rank_gives width f.2 rank read in
@@ -220,7 +255,8 @@ row_gives width line row e =
 pub row_found : (width : ℕ) (line : List ℕ) (row : Row) → IsShaped width line row → row_of width line ≡ Some row
 row_found width line row h =
     let s = h.spelled in
-    let fields : fields_of line ≡ Some (row.vertex, row.entry.move, s.r) = ap fields_of s.joined ∙ fields_found s.v s.m s.r row.vertex row.entry.move s.vertex s.move in
+    let fields : fields_of line ≡ Some (row.vertex, row.entry.move, s.r) = ap fields_of s.joined
+    ∙ fields_found s.v s.m s.r row.vertex row.entry.move s.vertex s.move in
     let rank : rank_of width s.r ≡ Some row.entry.rank = ap (λ n. rank_of n s.r) (sym h.count) ∙ rank_found s.r row.entry.rank s.rank h.small in
     rw (fields, rank) refl
 

@@ -1,5 +1,6 @@
 -- What the program finds on a line, step by step.
-use Rattle.std.proofs.Common.{◌≡◌, ℕ, suc, ◌+◌, ◌-◌, ◌<◌, ◌≤◌, Bool, true, false, cond, MatchBool, List, [], ◌∷◌, ◌++◌, length, take, drop, set, Option, Some, None, codes, refl, sym, ap, ap₂, ◌∙◌, arith, append_assoc, append-nil, add-one, inl, inr}
+use Rattle.std.proofs.Common.{◌≡◌, ℕ, suc, ◌+◌, ◌-◌, ◌<◌, ◌≤◌, Bool, true, false, cond, MatchBool, List, [], ◌∷◌, ◌++◌, length, take, drop, set, Option, Some}
+use Rattle.std.proofs.Common.{None, codes, refl, sym, ap, ap₂, ◌∙◌, arith, append_assoc, append-nil, add-one, inl, inr}
 use Rattle.std.specs.Prelude.{nat_le}
 use Rattle.std.specs.Str.{bytes_eq}
 use Rattle.std.proofs.lemmas.Bool.{false≢true, le-leb}
@@ -21,7 +22,8 @@ pub dash_move : (bytes : List ℕ) → bytes_eq bytes (codes "-") ≡ true → m
 unfolding move_of
 dash_move bytes same = rw same refl
 
-pub some_move : (bytes : List ℕ) (v : ℕ) → bytes_eq bytes (codes "-") ≡ false → whole_number bytes ≡ Some v → (move : Option ℕ) × (move_of bytes ≡ Some move) × (Some v ≡ read_move move)
+pub some_move : (bytes : List ℕ) (v : ℕ) → bytes_eq bytes (codes "-") ≡ false → whole_number bytes ≡ Some v → (move : Option ℕ) × (move_of bytes ≡ Some move)
+    × (Some v ≡ read_move move)
 unfolding move_of
 some_move bytes v other found = let (n, number, e) = whole_some bytes v found in (Some n, rw (other, number) refl, ap (λ k. Some k) e)
 
@@ -40,11 +42,13 @@ module _ (line x rest : List ℕ) where
   unfolding fields_of
   no_vertex y r e f h = rw (e, f, h) refl
 
-  pub no_next : (y r : List ℕ) (n : ℕ) → cut_at 32 line ≡ Some (x, rest) → cut_at 32 rest ≡ Some (y, r) → number_of x ≡ Some n → move_of y ≡ None → fields_of line ≡ None
+  pub no_next : (y r : List ℕ) (n : ℕ) → cut_at 32 line ≡ Some (x, rest) → cut_at 32 rest ≡ Some (y, r) → number_of x ≡ Some n → move_of y ≡ None
+      → fields_of line ≡ None
   unfolding fields_of
   no_next y r n e f h k = rw (e, f, h, k) refl
 
-  pub all_fields : (y r : List ℕ) (n : ℕ) (m : Option ℕ) → cut_at 32 line ≡ Some (x, rest) → cut_at 32 rest ≡ Some (y, r) → number_of x ≡ Some n → move_of y ≡ Some m → fields_of line ≡ Some (n, m, r)
+  pub all_fields : (y r : List ℕ) (n : ℕ) (m : Option ℕ) → cut_at 32 line ≡ Some (x, rest) → cut_at 32 rest ≡ Some (y, r) → number_of x ≡ Some n
+      → move_of y ≡ Some m → fields_of line ≡ Some (n, m, r)
   unfolding fields_of
   all_fields y r n m e f h k = rw (e, f, h, k) refl
 
@@ -63,7 +67,8 @@ module _ (end : ℕ) (bytes x rest : List ℕ) where
   unfolding count_before
   too_great v e h past =
       let (n, number, is) = whole_some x v h in
-      let test : cond (nat_le n GREATEST_COUNT) (Some (n, rest)) None ≡ None = elim (leb_tells n GREATEST_COUNT) [ inl w ↦ absurd (let small = w.1 in omega arith) | inr w ↦ rw w.0 refl ] in
+      let test : cond (nat_le n GREATEST_COUNT) (Some (n, rest)) None
+      ≡ None = elim (leb_tells n GREATEST_COUNT) [ inl w ↦ absurd (let small = w.1 in omega arith) | inr w ↦ rw w.0 refl ] in
       rw (e, number) test
 
   pub one_count : (v : ℕ) → cut_at end bytes ≡ Some (x, rest) → whole_number x ≡ Some v → v ≤ GREATEST_COUNT → count_before end bytes ≡ Some (v, rest)
@@ -97,7 +102,8 @@ comma_end k n h = let e : n - (k + 1) ≡ suc (n - (k + 2)) = omega arith in ap 
 pub bracket_end : (k n : ℕ) → k < n → n ≤ k + 1 → 41 ≡ end_of (n - (k + 1))
 bracket_end k n h l = let e : n - (k + 1) ≡ 0 = omega arith in ap end_of (sym e)
 
-module _ (bytes counts : List ℕ) (k : ℕ) (rest : List ℕ) (so : IsReadTo bytes counts k rest) (inside : k < length counts) (end : ℕ) (is : end ≡ end_of (length counts - (k + 1))) where
+module _ (bytes counts : List ℕ) (k : ℕ) (rest : List ℕ) (so : IsReadTo bytes counts k rest) (inside : k < length counts) (end : ℕ)
+    (is : end ≡ end_of (length counts - (k + 1))) where
   next_of : length counts - k ≡ suc (length counts - (k + 1))
   next_of = omega arith
 
@@ -105,23 +111,28 @@ module _ (bytes counts : List ℕ) (k : ℕ) (rest : List ℕ) (so : IsReadTo by
   read_stops none =
       so
       ∙ (ap (λ n. with_front (take k counts) (counts_of n rest)) next_of
-      ∙ ap (λ o. with_front (take k counts) (o >>= λ found. counts_of (length counts - (k + 1)) found.1 >>= λ more. Some (found.0 ∷ more))) (ap (λ b. count_before b rest) (sym is) ∙ none))
+      ∙ ap (λ o. with_front (take k counts) (o >>= λ found. counts_of (length counts - (k + 1)) found.1 >>= λ more. Some (found.0 ∷ more)))
+      (ap (λ b. count_before b rest) (sym is) ∙ none))
 
-  pub read_more : (count : ℕ) (more new : List ℕ) → count_before end rest ≡ Some (count, more) → new ≡ set counts k count → length new ≡ length counts → IsReadTo bytes new (k + 1) more
+  pub read_more : (count : ℕ) (more new : List ℕ) → count_before end rest ≡ Some (count, more) → new ≡ set counts k count → length new ≡ length counts
+      → IsReadTo bytes new (k + 1) more
   read_more count more new found e long =
       let left = length counts - (k + 1) in
       let step : counts_of (length counts) bytes ≡ with_front (take k counts) (counts_of left more >>= λ others. Some (count ∷ others)) =
       so
       ∙ (ap (λ n. with_front (take k counts) (counts_of n rest)) next_of
-      ∙ ap (λ o. with_front (take k counts) (o >>= λ found. counts_of left found.1 >>= λ others. Some (found.0 ∷ others))) (ap (λ b. count_before b rest) (sym is) ∙ found)) in
+      ∙ ap (λ o. with_front (take k counts) (o >>= λ found. counts_of left found.1 >>= λ others. Some (found.0 ∷ others)))
+      (ap (λ b. count_before b rest) (sym is) ∙ found)) in
       let front : take (k + 1) new ≡ take k counts ++ count ∷ [] = ap₂ take (add-one k) e ∙ take-suc-set counts k count inside in
-      ap (λ n. counts_of n bytes) long ∙ (step ∙ (shift (take k counts) count (counts_of left more) ∙ (ap (λ l. with_front l (counts_of left more)) (sym front) ∙ ap (λ n. with_front (take (k + 1) new) (counts_of (n - (k + 1)) more)) (sym long))))
+      ap (λ n. counts_of n bytes) long ∙ (step ∙ (shift (take k counts) count (counts_of left more)
+      ∙ (ap (λ l. with_front l (counts_of left more)) (sym front) ∙ ap (λ n. with_front (take (k + 1) new) (counts_of (n - (k + 1)) more)) (sym long))))
     where
       shift : (front : List ℕ) (c : ℕ) (o : Option (List ℕ)) → with_front front (o >>= λ others. Some (c ∷ others)) ≡ with_front (front ++ c ∷ []) o
       shift front c None = refl
       shift front c (Some others) = ap (λ l. Some l) (sym (append_assoc front (c ∷ []) others))
 
-pub read_all : (bytes counts : List ℕ) (k : ℕ) (rest : List ℕ) (b : Bool) → IsReadTo bytes counts k rest → length counts ≤ k → (b ≡ true → length rest ≡ 0) → (length rest ≡ 0 → b ≡ true)
+pub read_all : (bytes counts : List ℕ) (k : ℕ) (rest : List ℕ) (b : Bool) → IsReadTo bytes counts k rest → length counts ≤ k → (b ≡ true → length rest ≡ 0)
+    → (length rest ≡ 0 → b ≡ true)
     → MatchBool b (counts_of (length counts) bytes ≡ Some counts) (counts_of (length counts) bytes ≡ None)
 read_all bytes counts k [] true so past to from =
     let none : length counts - k ≡ 0 = omega arith in
@@ -133,14 +144,17 @@ read_all bytes counts k (c ∷ rest) false so past to from =
 
 -- ---- the rank
 
-pub rank_without : (counts bytes : List ℕ) (b : Bool) → length counts ≡ 0 → b ≡ bytes_eq bytes (codes "()") → MatchBool b (rank_of (length counts) bytes ≡ Some counts) (rank_of (length counts) bytes ≡ None)
+pub rank_without : (counts bytes : List ℕ) (b : Bool) → length counts ≡ 0 → b ≡ bytes_eq bytes (codes "()")
+    → MatchBool b (rank_of (length counts) bytes ≡ Some counts) (rank_of (length counts) bytes ≡ None)
 rank_without [] bytes true none e = rw (← e) refl
 rank_without [] bytes false none e = rw (← e) refl
 rank_without (c ∷ counts) bytes b none e = absurd (omega (arith, none))
 
-pub rank_opened : (counts bytes rest : List ℕ) → 0 < length counts → bytes_eq (take 1 bytes) (codes "(") ≡ true → rest ≡ drop 1 bytes → counts_of (length counts) rest ≡ rank_of (length counts) bytes
+pub rank_opened : (counts bytes rest : List ℕ) → 0 < length counts → bytes_eq (take 1 bytes) (codes "(") ≡ true → rest ≡ drop 1 bytes
+    → counts_of (length counts) rest ≡ rank_of (length counts) bytes
 rank_opened [] bytes rest some opened e = absurd (omega (arith, some))
-rank_opened (c ∷ counts) bytes rest some opened e = ap (counts_of (suc (length counts))) e ∙ sym (ap (λ b. cond b (counts_of (suc (length counts)) (drop 1 bytes)) None) opened)
+rank_opened (c ∷ counts) bytes rest some opened e = ap (counts_of (suc (length counts))) e
+    ∙ sym (ap (λ b. cond b (counts_of (suc (length counts)) (drop 1 bytes)) None) opened)
 
 pub rank_closed : (counts bytes : List ℕ) → 0 < length counts → bytes_eq (take 1 bytes) (codes "(") ≡ false → rank_of (length counts) bytes ≡ None
 rank_closed [] bytes some closed = absurd (omega (arith, some))

@@ -1,5 +1,6 @@
 -- The arrows that the play takes are enough.
-use Rattle.std.proofs.Common.{◌≡◌, ◌≢◌, ℕ, ◌<◌, Bool, true, false, not, ◌&&◌, ◌||◌, List, [], ◌∷◌, length, filter, refl, sym, ap, subst, ◌∙◌, inl, inr, arith, IsTrue, Contains, Some, None, Option}
+use Rattle.std.proofs.Common.{◌≡◌, ◌≢◌, ℕ, ◌<◌, Bool, true, false, not, ◌&&◌, ◌||◌, List, [], ◌∷◌, length, filter, refl, sym, ap, subst, ◌∙◌, inl, inr, arith}
+use Rattle.std.proofs.Common.{IsTrue, Contains, Some, None, Option}
 use Rattle.std.specs.Prelude.{slice_get}
 use Rattle.std.specs.List.{list_any, range_with_len}
 use Rattle.std.proofs.lemmas.Option.{slice_get_within}
@@ -53,31 +54,38 @@ module _ (l : System) (nodes : List Node) (e : Evidence) (set : ℕ → Bool) wh
   abbrev taken : Arrow → Bool
   taken arrow = list_any (λ k. is_taken_at n e set arrow k (slice_get nodes k)) (range_with_len 0 n)
 
-  at_node : (s k : ℕ) (node : Node) (u : ℕ) → s < l.states → slice_get nodes k ≡ Some node → IsTrue (set (place n s k)) → Goes (arena l nodes) e (place n s k) u → (sh : Shape) → node.shape ≡ sh
+  at_node : (s k : ℕ) (node : Node) (u : ℕ) → s < l.states → slice_get nodes k ≡ Some node → IsTrue (set (place n s k))
+      → Goes (arena l nodes) e (place n s k) u → (sh : Shape) → node.shape ≡ sh
       → HasArrows l (witness l nodes e set) n s sh u
   at_node s k node u h at i go (ConstantNode flag) is = tt
   at_node s k node u h at i go (JunctionNode flag a b) is = tt
   at_node s k node u h at i go (ModalityNode flag a child) is = λ arrow c source leads label. has_filter taken l.arrows arrow c (
-      gives_any (λ j. is_taken_at n e set arrow j (slice_get nodes j)) (range_with_len 0 n) k (gives_range 0 n k (omega arith) (let b = slice_get_within nodes k node at in omega arith))
+      gives_any (λ j. is_taken_at n e set arrow j (slice_get nodes j)) (range_with_len 0 n) k
+      (gives_range 0 n k (omega arith) (let b = slice_get_within nodes k node at in omega arith))
       (ap (is_taken_at n e set arrow k) at ∙ (ap (is_taken n e set arrow k) is ∙ passes arrow source leads label)))
     where
       owner : go.1.owner ≡ owner_of (ModalityNode flag a child)
       owner = ap (λ (v : Vertex). v.owner) (some_vertex go.1 (vertex_of l n s node) (sym go.3 ∙ vertex_is l nodes s k node h at)) ∙ ap owner_of is
 
       goes : (arrow : Arrow) → arrow.source ≡ s → u ≡ place n arrow.target child → GoesTo e.player go.1 go.0 u
-          → (not (is_same (owner_of (ModalityNode flag a child)) e.player) || moves_to (entry_at e (place n arrow.source k)) (place n arrow.target child)) ≡ true
+          → (not (is_same (owner_of (ModalityNode flag a child)) e.player) || moves_to (entry_at e (place n arrow.source k)) (place n arrow.target child))
+          ≡ true
       goes arrow source leads (inl w) =
           or_right (not (is_same (owner_of (ModalityNode flag a child)) e.player)) (moves_to (entry_at e (place n arrow.source k)) (place n arrow.target child))
-          (moved_to (entry_at e (place n arrow.source k)) go.0 (place n arrow.target child) (ap (λ z. entry_at e (place n z k)) source ∙ go.2) (w.1 ∙ ap Some leads))
+          (moved_to (entry_at e (place n arrow.source k)) go.0 (place n arrow.target child) (ap (λ z. entry_at e (place n z k)) source ∙ go.2)
+          (w.1 ∙ ap Some leads))
       goes arrow source leads (inr w) =
           or_left (not (is_same (owner_of (ModalityNode flag a child)) e.player)) (moves_to (entry_at e (place n arrow.source k)) (place n arrow.target child))
           (ap not (other_player (owner_of (ModalityNode flag a child)) e.player (λ q. w.0 (owner ∙ q))))
 
-      passes : (arrow : Arrow) → arrow.source ≡ s → u ≡ place n arrow.target child → IsTrue (holds a arrow.label) → is_taken n e set arrow k (ModalityNode flag a child) ≡ true
+      passes : (arrow : Arrow) → arrow.source ≡ s → u ≡ place n arrow.target child → IsTrue (holds a arrow.label)
+          → is_taken n e set arrow k (ModalityNode flag a child) ≡ true
       passes arrow source leads label =
-          let mine = not (is_same (owner_of (ModalityNode flag a child)) e.player) || moves_to (entry_at e (place n arrow.source k)) (place n arrow.target child) in
+          let mine = not (is_same (owner_of (ModalityNode flag a child)) e.player)
+          || moves_to (entry_at e (place n arrow.source k)) (place n arrow.target child) in
           let here : set (place n arrow.source k) ≡ true = ap (λ z. set (place n z k)) source ∙ i in
-          and_true (set (place n arrow.source k) && holds a arrow.label) mine (and_true (set (place n arrow.source k)) (holds a arrow.label) here label) (goes arrow source leads go.4)
+          and_true (set (place n arrow.source k) && holds a arrow.label) mine (and_true (set (place n arrow.source k)) (holds a arrow.label) here label)
+          (goes arrow source leads go.4)
   at_node s k node u h at i go (FixpointNode flag a) is = tt
   at_node s k node u h at i go (VariableNode b) is = tt
 

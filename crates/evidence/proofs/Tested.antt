@@ -1,5 +1,6 @@
 -- Evidence is judged by tests: vertex by vertex, the first fault that stands.
-use Rattle.std.proofs.Common.{◌≡◌, ◌≢◌, ℕ, zero, suc, ◌+◌, ◌%◌, ◌<◌, ◌⊎◌, Bool, true, false, ◌&&◌, ◌||◌, not, List, [], ◌∷◌, length, refl, sym, ap, subst, ◌∙◌, inl, inr, arith, Contains, Some, None, Option, true≢false, if◌then◌else◌}
+use Rattle.std.proofs.Common.{◌≡◌, ◌≢◌, ℕ, zero, suc, ◌+◌, ◌%◌, ◌<◌, ◌⊎◌, Bool, true, false, ◌&&◌, ◌||◌, not, List, [], ◌∷◌, length, refl, sym, ap, subst}
+use Rattle.std.proofs.Common.{◌∙◌, inl, inr, arith, Contains, Some, None, Option, true≢false, if◌then◌else◌}
 use Rattle.std.specs.Prelude.{◌==◌}
 use Rattle.std.specs.List.{list_all, list_any}
 use Rattle.std.specs.Option.{is_some}
@@ -34,7 +35,8 @@ is_of Odd p = p % 2 == 1
 
 abbrev pub descends : Player → Game → ℕ → List ℕ → List ℕ → Bool
 descends player g p rank next =
-    is_le (slice_cmp nat_cmp (cut player g p next) (cut player g p rank)) && (not (is_of (opponent player) p) || is_lt (slice_cmp nat_cmp (cut player g p next) (cut player g p rank)))
+    is_le (slice_cmp nat_cmp (cut player g p next) (cut player g p rank))
+    && (not (is_of (opponent player) p) || is_lt (slice_cmp nat_cmp (cut player g p next) (cut player g p rank)))
 
 abbrev pub listed : Option ℕ → List ℕ
 listed None = []
@@ -137,7 +139,8 @@ of_goal player v x t c = elim (own_tells v.owner player) [
 
 one_of_is : (ts : List ℕ) (m : Option ℕ) → is_one_of ts m ≡ true → (t : ℕ) × (m ≡ Some t) × Contains ts t
 one_of_is ts None h = absurd (true≢false (sym h))
-one_of_is ts (Some t) h = let w = any_gives (λ u. u == t) ts h in (t, refl, elim (eqb_tells w.0 t) [ inl z ↦ subst (λ u. Contains ts u) z.1 w.1 | inr z ↦ absurd (true≢false (sym w.2 ∙ z.0)) ])
+one_of_is ts (Some t) h = let w = any_gives (λ u. u == t) ts h
+    in (t, refl, elim (eqb_tells w.0 t) [ inl z ↦ subst (λ u. Contains ts u) z.1 w.1 | inr z ↦ absurd (true≢false (sym w.2 ∙ z.0)) ])
 
 is_one : (ts : List ℕ) (m : Option ℕ) (t : ℕ) → m ≡ Some t → Contains ts t → is_one_of ts m ≡ true
 is_one ts None t e c = absurd cc
@@ -151,11 +154,13 @@ is_none : (m : Option ℕ) → m ≡ None → not (is_some m) ≡ true
 is_none None e = refl
 is_none (Some t) e = absurd cc
 
-to_is : (player : Player) (g : Game) (p : ℕ) (rank : List ℕ) (o : Option Entry) (y : Entry) → descends_to player g p rank o ≡ true → o ≡ Some y → Descends player g p rank y.rank
+to_is : (player : Player) (g : Game) (p : ℕ) (rank : List ℕ) (o : Option Entry) (y : Entry) → descends_to player g p rank o ≡ true → o ≡ Some y
+    → Descends player g p rank y.rank
 to_is player g p rank None y h e = absurd cc
 to_is player g p rank (Some z) y h e = subst (λ (w : Entry). Descends player g p rank w.rank) (some_entry z y e) (descends_is player g p rank z.rank h)
 
-is_to : (player : Player) (g : Game) (p : ℕ) (rank : List ℕ) (o : Option Entry) → ((y : Entry) → o ≡ Some y → Descends player g p rank y.rank) → descends_to player g p rank o ≡ true
+is_to : (player : Player) (g : Game) (p : ℕ) (rank : List ℕ) (o : Option Entry) → ((y : Entry) → o ≡ Some y → Descends player g p rank y.rank)
+    → descends_to player g p rank o ≡ true
 is_to player g p rank None h = refl
 is_to player g p rank (Some z) h = is_descends player g p rank z.rank (h z refl)
 
@@ -172,11 +177,13 @@ module _ (g : Game) (e : Evidence) where
     )
   ]
   passes_free v x Leaves h = λ t to. all_gives (λ u. has e u) (goals e.player v x) t h (goal_in e.player v x t to)
-  passes_free v x Rank h = λ t y to at. to_is e.player g v.priority x.rank (entry_at e t) y (all_gives (λ u. descends_to e.player g v.priority x.rank (entry_at e u)) (goals e.player v x) t h (goal_in e.player v x t to)) at
+  passes_free v x Rank h = λ t y to at. to_is e.player g v.priority x.rank (entry_at e t) y
+      (all_gives (λ u. descends_to e.player g v.priority x.rank (entry_at e u)) (goals e.player v x) t h (goal_in e.player v x t to)) at
 
   pub free_passes : (v : Vertex) (x : Entry) (fault : Fault) → IsFree g e v x fault → passes g e v x fault ≡ true
   free_passes v x Move f = elim (own_tells v.owner e.player) [
-    | inl w ↦ (let m = f.0 w.1 in subst (λ b. (if b then is_one_of v.successors x.move else not (is_some x.move)) ≡ true) (sym w.0) (is_one v.successors x.move m.0 m.1 m.2))
+    | inl w ↦ (let m = f.0 w.1 in subst (λ b. (if b then is_one_of v.successors x.move else not (is_some x.move)) ≡ true) (sym w.0)
+        (is_one v.successors x.move m.0 m.1 m.2))
     | inr w ↦ subst (λ b. (if b then is_one_of v.successors x.move else not (is_some x.move)) ≡ true) (sym w.0) (is_none x.move (f.1 w.1))
   ]
   free_passes v x Leaves f = gives_all (λ u. has e u) (goals e.player v x) (λ t c. f t (of_goal e.player v x t c))
@@ -198,14 +205,22 @@ module _ (g : Game) (e : Evidence) where
   Tells u None = AllFree g e u
   Tells u (Some fault) = IsFaulty u fault
 
-  tells_first : (u : ℕ) (v : Vertex) (x : Entry) → vertex g u ≡ Some v → entry_at e u ≡ Some x → (a b c : Bool) → passes g e v x Move ≡ a → passes g e v x Leaves ≡ b → passes g e v x Rank ≡ c
+  tells_first : (u : ℕ) (v : Vertex) (x : Entry) → vertex g u ≡ Some v → entry_at e u ≡ Some x → (a b c : Bool) → passes g e v x Move ≡ a
+      → passes g e v x Leaves ≡ b → passes g e v x Rank ≡ c
       → Tells u (first_of a b c)
   tells_first u v x p q false b c i j k = record { entry = x; at = v; here = (q, p); stands = fails v x Move i; least = below_move (λ f. IsFree g e v x f) }
   tells_first u v x p q true false c i j k =
       record { entry = x; at = v; here = (q, p); stands = fails v x Leaves j; least = below_leaves (λ f. IsFree g e v x f) (passes_free v x Move i) }
   tells_first u v x p q true true false i j k =
-      record { entry = x; at = v; here = (q, p); stands = fails v x Rank k; least = below_rank (λ f. IsFree g e v x f) (passes_free v x Move i) (passes_free v x Leaves j) }
-  tells_first u v x p q true true true i j k = λ fault. free_at g e u x v fault q p (each (λ f. IsFree g e v x f) (passes_free v x Move i) (passes_free v x Leaves j) (passes_free v x Rank k) fault)
+      record {
+        entry = x;
+        at = v;
+        here = (q, p);
+        stands = fails v x Rank k;
+        least = below_rank (λ f. IsFree g e v x f) (passes_free v x Move i) (passes_free v x Leaves j);
+      }
+  tells_first u v x p q true true true i j k = λ fault. free_at g e u x v fault q p
+      (each (λ f. IsFree g e v x f) (passes_free v x Move i) (passes_free v x Leaves j) (passes_free v x Rank k) fault)
 
   tells : (u : ℕ) → Tells u (fault_of g e (vertex g u) (entry_at e u))
   tells u = by (vertex g u) (entry_at e u) refl refl

@@ -1,5 +1,6 @@
 -- Evidence has just one verdict, and two pieces have just one answer.
-use Rattle.std.proofs.Common.{◌≡◌, ◌≢◌, ℕ, zero, suc, ◌%◌, ◌<◌, ◌⊎◌, Bool, true, false, List, length, refl, sym, ap, subst, ◌∙◌, inl, inr, arith, IsTrue, Contains, Some, None, Option, true≢false}
+use Rattle.std.proofs.Common.{◌≡◌, ◌≢◌, ℕ, zero, suc, ◌%◌, ◌<◌, ◌⊎◌, Bool, true, false, List, length, refl, sym, ap, subst, ◌∙◌, inl, inr, arith, IsTrue}
+use Rattle.std.proofs.Common.{Contains, Some, None, Option, true≢false}
 use Rattle.std.proofs.lemmas.Bool.Decides.{eqb_tells}
 use Rattle.std.proofs.lemmas.Option.{slice_get_within}
 use Rattle.game.specs.declared.player.Player.{Player}
@@ -131,11 +132,13 @@ module _ (g : Game) (e : Evidence) where
           some_same a b q = cc
       by (inr not) None q = inl ((λ o. absurd (not o)), (λ n. q))
       by (inr not) (Some t) q = inr (λ f. (let w : Some t ≡ None = sym q ∙ f.1 not in cc))
-  free_or v x Leaves = goes_or e.player v x (λ t. IsTrue (has e t)) (λ t. elim (either_way (has e t)) [ inl h ↦ inl h | inr n ↦ inr (λ h. true≢false (sym h ∙ n)) ])
-  free_or v x Rank = elim (goes_or e.player v x (λ t. (y : Entry) → entry_at e t ≡ Some y → Descends e.player g v.priority x.rank y.rank) (λ t. rank_or v x t)) [
-    | inl all ↦ inl (λ t y to at. all t to y at)
-    | inr n ↦ inr (λ f. n (λ t to y at. f t y to at))
-  ]
+  free_or v x Leaves = goes_or e.player v x (λ t. IsTrue (has e t))
+      (λ t. elim (either_way (has e t)) [ inl h ↦ inl h | inr n ↦ inr (λ h. true≢false (sym h ∙ n)) ])
+  free_or v x Rank = elim (goes_or e.player v x (λ t. (y : Entry) → entry_at e t ≡ Some y → Descends e.player g v.priority x.rank y.rank)
+      (λ t. rank_or v x t)) [
+        | inl all ↦ inl (λ t y to at. all t to y at)
+        | inr n ↦ inr (λ f. n (λ t to y at. f t y to at))
+      ]
 
   -- ------------------------------------------------------------------ the verdict
 
@@ -190,7 +193,17 @@ least_below P Q dec (suc n) = elim (least_below P Q dec n) [
 
 verdict_of : (g : Game) (e : Evidence) → (a : Verdict) × IsVerdict g e a
 verdict_of g e = elim (least_below (λ u. (fault : Fault) × IsFaulty g e u fault) (AllFree g e) (faulty_or g e) (length g.vertices)) [
-  | inl w ↦ (let f = w.2.1 in (Faulty w.0 w.2.0, record { entry = f.entry; at = f.at; here = f.here; stands = f.stands; least = f.least; before = λ t other h. w.3 t h other }))
+  | inl w ↦ (let f = w.2.1 in (
+    Faulty w.0 w.2.0,
+    record {
+      entry = f.entry;
+      at = f.at;
+      here = f.here;
+      stands = f.stands;
+      least = f.least;
+      before = λ t other h. w.3 t h other;
+    },
+  ))
   | inr all ↦ (Good, λ u fault x v here at. all u (slice_get_within g.vertices u v at) fault x v here at)
 ]
 
@@ -213,7 +226,8 @@ not_before g e u t a b is other h = is.stands (other.before u a h is.entry is.at
 
 not_less : (g : Game) (e : Evidence) (u t : ℕ) (a b : Fault) → u ≡ t → IsFirstFault g e u a → IsFirstFault g e t b → number_of a < number_of b → ⊥
 not_less g e u t a b same is other h =
-    is.stands (free_at g e t other.entry other.at a other.here.0 other.here.1 (other.least a h) is.entry is.at (ap (entry_at e) (sym same) ∙ is.here.0) (ap (vertex g) (sym same) ∙ is.here.1))
+    is.stands (free_at g e t other.entry other.at a other.here.0 other.here.1 (other.least a h) is.entry is.at (ap (entry_at e) (sym same) ∙ is.here.0)
+    (ap (vertex g) (sym same) ∙ is.here.1))
 
 verdict_one : (g : Game) (e : Evidence) (a b : Verdict) → IsVerdict g e a → IsVerdict g e b → a ≡ b
 verdict_one g e Good Good h i = refl
@@ -236,7 +250,8 @@ left_not : (e f : Evidence) (v : ℕ) → IsLeftOut e f v → IsTrue (has e v) �
 left_not e f v out (inl h) = out.0 h
 left_not e f v out (inr h) = out.1 h
 
-left_one : (e f : Evidence) (u v : ℕ) → IsLeftOut e f u → IsLeftOut e f v → ((t : ℕ) → t < u → IsTrue (has e t) ⊎ IsTrue (has f t)) → ((t : ℕ) → t < v → IsTrue (has e t) ⊎ IsTrue (has f t)) → u ≡ v
+left_one : (e f : Evidence) (u v : ℕ) → IsLeftOut e f u → IsLeftOut e f v → ((t : ℕ) → t < u → IsTrue (has e t) ⊎ IsTrue (has f t))
+    → ((t : ℕ) → t < v → IsTrue (has e t) ⊎ IsTrue (has f t)) → u ≡ v
 left_one e f u v out other before first = numbers (λ h. left_not e f u out (first u h)) (λ h. left_not e f v other (before v h))
   where
     numbers : (u < v → ⊥) → (v < u → ⊥) → u ≡ v

@@ -32,29 +32,43 @@ counts_long w (l ∷ lines) [] h = absurd h
 counts_long w (l ∷ lines) (x ∷ rows) h = (h.0.count, counts_long w lines rows h.1)
 
 -- what was read is evidence
-pub is_evidence : (g : Game) (player : Player) (old : Option (List ℕ)) (entries : List (Option Entry)) → AreRead (length g.vertices) (length (counted player g)) old entries → IsEvidence g (record { player = player; entries = entries })
+pub is_evidence : (g : Game) (player : Player) (old : Option (List ℕ)) (entries : List (Option Entry))
+    → AreRead (length g.vertices) (length (counted player g)) old entries → IsEvidence g (record { player = player; entries = entries })
 is_evidence g player old entries read = record {
   long = read.lines.long;
   entries = λ v x e.
       let here = (read.lines.same v x).0 e in
-      let inside : IsInside (length g.vertices) (record { vertex = v; entry = x }) = each_of (IsInside (length g.vertices)) read.lines.rows _ read.lines.good.inside here in
-      record { move = inside.move; rank = each_of (λ r. length r.entry.rank ≡ length (counted player g)) read.lines.rows _ (counts_long _ read.rest read.lines.rows read.lines.good.each) here };
+      let inside : IsInside (length g.vertices) (record { vertex = v; entry = x }) = each_of
+      (IsInside (length g.vertices)) read.lines.rows _ read.lines.good.inside here in
+      record {
+        move = inside.move;
+        rank = each_of (λ r. length r.entry.rank ≡ length (counted player g)) read.lines.rows _
+            (counts_long _ read.rest read.lines.rows read.lines.good.each) here;
+      };
 }
 
 -- what was read is spelled
-pub spelled : (g : Game) (player : Player) (entries : List (Option Entry)) (old mid : Option (List ℕ)) → IfKnown old mid (BeginsWith player) → AreRead (length g.vertices) (length (counted player g)) mid entries
+pub spelled : (g : Game) (player : Player) (entries : List (Option Entry)) (old mid : Option (List ℕ)) → IfKnown old mid (BeginsWith player)
+    → AreRead (length g.vertices) (length (counted player g)) mid entries
     → IfSome old (λ text. IsEvidenceText g text (record { player = player; entries = entries }))
 spelled g player entries None mid begins read = tt
 spelled g player entries (Some text) None begins read = absurd begins
-spelled g player entries (Some text) (Some left) begins read = record { rest = read.rest; cut = begins ∙ ap (λ l. header player ∷ l) read.cut; lines = read.lines }
+spelled g player entries (Some text) (Some left) begins read = record {
+  rest = read.rest;
+  cut = begins
+      ∙ ap (λ l. header player ∷ l) read.cut;
+  lines = read.lines;
+}
 
-rest_decides : (g : Game) (player : Player) (text left : List ℕ) (fault : EvidenceFault) (place : ℕ) → BeginsWith player text left → HasRestFault (length g.vertices) (length (counted player g)) left fault place → HasFault g text fault place
+rest_decides : (g : Game) (player : Player) (text left : List ℕ) (fault : EvidenceFault) (place : ℕ) → BeginsWith player text left
+    → HasRestFault (length g.vertices) (length (counted player g)) left fault place → HasFault g text fault place
 rest_decides g player text left BadHeader place begins (good, faulty, at) = absurd faulty.wrong
 rest_decides g player text left BadLine place begins (good, faulty, at) = (player, pieces_of left, good, begins, faulty, at)
 rest_decides g player text left BadVertex place begins (good, faulty, at) = (player, pieces_of left, good, begins, faulty, at)
 
 -- a fault below the header decides
-pub rest_fault : (g : Game) (player : Player) (old mid : Option (List ℕ)) (e : EvidenceError) → IfKnown old mid (BeginsWith player) → Refuses mid (HasRestFault (length g.vertices) (length (counted player g))) e → Refuses old (HasFault g) e
+pub rest_fault : (g : Game) (player : Player) (old mid : Option (List ℕ)) (e : EvidenceError) → IfKnown old mid (BeginsWith player)
+    → Refuses mid (HasRestFault (length g.vertices) (length (counted player g))) e → Refuses old (HasFault g) e
 rest_fault g player None mid e begins wrong = tt
 rest_fault g player (Some text) None e begins wrong = absurd begins
 rest_fault g player (Some text) (Some left) errors.Read begins wrong = tt
@@ -81,6 +95,8 @@ laws g = record {
 }
 
 -- all that the reader promises
-pub promised : (g : Game) (old : Option (List ℕ)) (r : Result Piece EvidenceError) → IfOk r (λ e. IfSome old (λ text. IsEvidenceText g text e.evidence)) → IfErr r (Refuses old (HasFault g))
+pub promised : (g : Game) (old : Option (List ℕ)) (r : Result Piece EvidenceError) → IfOk r (λ e. IfSome old (λ text. IsEvidenceText g text e.evidence))
+    → IfErr r (Refuses old (HasFault g))
     → Reads (IsEvidenceText g) (IsEvidenceText g) (IsEvidenceText g) (HasFaultAt g) (λ (e : Piece). e.evidence) named old r
-promised g old r spells fault = keeps (IsEvidenceText g) (IsEvidenceText g) (IsEvidenceText g) (HasFaultAt g) (λ (e : Piece). e.evidence) named (laws g) old r spells fault
+promised g old r spells fault = keeps (IsEvidenceText g) (IsEvidenceText g) (IsEvidenceText g) (HasFaultAt g) (λ (e : Piece). e.evidence) named
+    (laws g) old r spells fault

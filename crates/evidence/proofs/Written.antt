@@ -1,5 +1,6 @@
 -- The lines of evidence, as they are written.
-use Rattle.std.proofs.Common.{◌≡◌, ℕ, suc, ◌+◌, ◌<◌, List, [], ◌∷◌, ◌++◌, Option, Some, None, length, decimal, refl, ap, ap₂, subst, ◌∙◌, append_assoc, slice_index_or, arith}
+use Rattle.std.proofs.Common.{◌≡◌, ℕ, suc, ◌+◌, ◌<◌, List, [], ◌∷◌, ◌++◌, Option, Some, None, length, decimal, refl, ap, ap₂, subst, ◌∙◌, append_assoc}
+use Rattle.std.proofs.Common.{slice_index_or, arith}
 use Rattle.lts.specs.Canon.{line_end}
 use Rattle.progress.specs.MeasureText.{counts_text}
 use Rattle.text.specs.Wrote.{lines_from}
@@ -17,11 +18,14 @@ line_is v move x e =
 
 -- ---- lines by number
 
-first_line : (line : ℕ → List ℕ) (v : ℕ) (x : Option Entry) (xs : List (Option Entry)) → line v ≡ line_of v x → lines_from line (v + 1) (length xs) ≡ entry_lines (v + 1) xs → line v ++ lines_from line (v + 1) (length xs) ≡ entry_lines v (x ∷ xs)
+first_line : (line : ℕ → List ℕ) (v : ℕ) (x : Option Entry) (xs : List (Option Entry)) → line v ≡ line_of v x
+    → lines_from line (v + 1) (length xs) ≡ entry_lines (v + 1) xs → line v ++ lines_from line (v + 1) (length xs) ≡ entry_lines v (x ∷ xs)
 first_line line v None xs e rest = ap₂ (λ a b. a ++ b) e rest
 first_line line v (Some x) xs e rest = ap₂ (λ a b. a ++ b) e rest
 
-more_lines : (line : ℕ → List ℕ) (v : ℕ) (entries : List (Option Entry)) → ((i : ℕ) → i < length entries → line (v + i) ≡ line_of (v + i) (slice_index_or entries i None)) → lines_from line v (length entries) ≡ entry_lines v entries
+more_lines : (line : ℕ → List ℕ) (v : ℕ) (entries : List (Option Entry))
+    → ((i : ℕ) → i < length entries → line (v + i) ≡ line_of (v + i) (slice_index_or entries i None))
+    → lines_from line v (length entries) ≡ entry_lines v entries
 more_lines line v [] each = refl
 more_lines line v (x ∷ xs) each =
     let none_more : v + 0 ≡ v = omega arith in

@@ -1,5 +1,6 @@
 -- A part of a system in which evidence is still good.
-use Rattle.std.specs.Prelude.{◌≡◌, ℕ, ◌+◌, ◌<◌, ◌↔◌, Bool, true, false, not, ◌&&◌, ◌||◌, ◌==◌, List, [], ◌∷◌, length, IsTrue, Contains, Option, Some, None, slice_get, filter, if◌then◌else◌}
+use Rattle.std.specs.Prelude.{◌≡◌, ℕ, ◌+◌, ◌<◌, ◌↔◌, Bool, true, false, not, ◌&&◌, ◌||◌, ◌==◌, List, [], ◌∷◌, length, IsTrue, Contains, Option, Some, None}
+use Rattle.std.specs.Prelude.{slice_get, filter, if◌then◌else◌}
 use Rattle.std.specs.List.{list_any, range_with_len}
 use Rattle.systems.specs.System.{Arrow, System}
 use Rattle.systems.specs.Path.{IsPath}
@@ -39,7 +40,8 @@ KeepsStep l part nodes s _ u = Unit {0}
 -- It does so at each state with each node in the set: one step for each move of the player, and all those of the opponent.
 abbrev pub Keeps : System → System → List Node → Evidence → (ℕ → Bool) → Type 0
 Keeps l part nodes e set =
-    (s k : ℕ) (node : Node) (u : ℕ) → s < l.states → slice_get nodes k ≡ Some node → IsTrue (set (place (length nodes) s k)) → Goes (arena l nodes) e (place (length nodes) s k) u
+    (s k : ℕ) (node : Node) (u : ℕ) → s < l.states → slice_get nodes k ≡ Some node → IsTrue (set (place (length nodes) s k))
+    → Goes (arena l nodes) e (place (length nodes) s k) u
     → KeepsStep l part (length nodes) s node.shape u
 
 abbrev pub cut_from : (ℕ → Bool) → ℕ → List (Option Entry) → List (Option Entry)
@@ -57,13 +59,15 @@ part_of p l = record { states = l.states; initial = l.initial; arrows = filter p
 -- Where the play goes on from a modality to the vertex u, the part has each arrow of l that leads there.
 abbrev pub HasArrows : System → System → ℕ → ℕ → Shape → ℕ → Type 0
 HasArrows l part nodes s (ModalityNode flag a child) u =
-    (arrow : Arrow) → Contains l.arrows arrow → arrow.source ≡ s → u ≡ place nodes arrow.target child → IsTrue (holds a arrow.label) → Contains part.arrows arrow
+    (arrow : Arrow) → Contains l.arrows arrow → arrow.source ≡ s → u ≡ place nodes arrow.target child → IsTrue (holds a arrow.label)
+    → Contains part.arrows arrow
 HasArrows l part nodes s _ u = Unit {0}
 
 -- It does so at each state with each node in the set: the arrows to the player's moves, and all those that pass at the opponent's vertices.
 abbrev pub HasAllArrows : System → System → List Node → Evidence → (ℕ → Bool) → Type 0
 HasAllArrows l part nodes e set =
-    (s k : ℕ) (node : Node) (u : ℕ) → s < l.states → slice_get nodes k ≡ Some node → IsTrue (set (place (length nodes) s k)) → Goes (arena l nodes) e (place (length nodes) s k) u
+    (s k : ℕ) (node : Node) (u : ℕ) → s < l.states → slice_get nodes k ≡ Some node → IsTrue (set (place (length nodes) s k))
+    → Goes (arena l nodes) e (place (length nodes) s k) u
     → HasArrows l part (length nodes) s node.shape u
 
 -- ------------------------------------------------------------------ one such part

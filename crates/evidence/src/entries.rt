@@ -1,6 +1,7 @@
 // What the vertices of a set have, in two lists.
 
-ghost use Rattle.std.specs.Prelude.{◌≡◌, ◌<◌, ◌≤◌, ◌+◌, ◌*◌, ◌++◌, ℕ, List, None, Some, drop, length, replicate, slice_index_or, slice_set, take, IfOk, MatchOption};
+ghost use Rattle.std.specs.Prelude.{◌≡◌, ◌<◌, ◌≤◌, ◌+◌, ◌*◌, ◌++◌, ℕ, List, None, Some, drop, length, replicate, slice_index_or, slice_set, take, IfOk};
+ghost use Rattle.std.specs.Prelude.{MatchOption};
 ghost use Rattle.evidence.specs.View.{entry_of};
 
 use game::limits::MOST_VERTICES;
@@ -68,7 +69,8 @@ impl Entries {
     /// What a vertex has, if it is in the set.
     pub(crate) fn get(&self, v: usize) -> Option<EntryView<'_>>
         requires { v < length self.now.entries }
-        ensures { MatchOption result (slice_index_or self.now.entries v None ≡ None) (λ x. slice_index_or self.now.entries v None ≡ Some record { move = x.next; rank = x.rank.now }) }
+        ensures { MatchOption result (slice_index_or self.now.entries v None ≡ None)
+            (λ x. slice_index_or self.now.entries v None ≡ Some record { move = x.next; rank = x.rank.now }) }
     {
         let rank = row(self.counts.as_slice(), self.width, v);
         match self.places[v] {

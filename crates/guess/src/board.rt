@@ -1,68 +1,207 @@
 // What is known of each node at each state.
 
-use crate::back::Back;
+use crate::bits::{Sheet, WORD};
+use crate::edges::Edges;
 use crate::form::Form;
 use crate::numbers::{Numbers, Words};
-use crate::scale::Scale;
-use std::alloc::Global;
-use systems::system::{Lts, Transition};
-use text::Memory;
+use crate::scale::{Scale, TOP, ZERO};
+use std::alloc::{AllocError, Global};
 
-/// Values and times by node and state, with the system and the nodes that they are of.
-#[derive(Drop)]
-pub(crate) struct Board<'a> {
-    pub(crate) lts: &'a Lts,
-    pub(crate) sets: Vec<Vec<bool>>,
-    pub(crate) form: Form,
-    pub(crate) scale: Scale,
-    pub(crate) states: u32,
-    pub(crate) values: Words,
-    /// When a value was forced. Before that, how many successors a node still waits for at a state.
-    pub(crate) times: Numbers,
+/// The level of what was never reached.
+pub(crate) const NEVER: u32 = u32::MAX;
+
+/// How the values of a node are kept.
+#[derive(Clone, Copy, PartialEq, Eq)]
+pub(crate) enum Known {
+    /// They are zero and top alone: the set of tops.
+    Tops,
+    /// A word for each state.
+    Words,
+    /// Those of its levels, from one on, and for what was never reached a last one.
+    Levels { first: usize, last: u64 },
 }
 
-impl<'a> Board<'a> {
+/// Values, levels and rounds by node and state, with the edges and nodes that they are of. Variables are as their binders.
+#[derive(Drop)]
+pub(crate) struct Board {
+    pub(crate) states: u32,
+    pub(crate) forth: Edges,
+    pub(crate) back: Edges,
+    pub(crate) form: Form,
+    pub(crate) scale: Scale,
+    pub(crate) tops: Sheet,
+    known: Vec<Known>,
+    words: Vec<Words>,
+    levels: Vec<Numbers>,
+    rounds: Vec<Numbers>,
+    /// The value of each level, one part after another.
+    pub(crate) values: Vec<u64>,
+}
+
+// No numbers yet for each of so many nodes.
+fn no_numbers(alloc: Global, nodes: u32) -> Result<Vec<Numbers>, AllocError> {
+    let mut lists = Vec::new(alloc);
+    for _ in 0..nodes {
+        lists.push(Numbers::filled(alloc, 0, 0)?)?;
+    }
+    Ok(lists)
+}
+
+fn no_words(alloc: Global, nodes: u32) -> Result<Vec<Words>, AllocError> {
+    let mut lists = Vec::new(alloc);
+    for _ in 0..nodes {
+        lists.push(Words::filled(alloc, 0, 0)?)?;
+    }
+    Ok(lists)
+}
+
+/// The edges of a system, both ways.
+#[derive(Drop)]
+pub(crate) struct Graph {
+    pub(crate) states: u32,
+    pub(crate) forth: Edges,
+    pub(crate) back: Edges,
+}
+
+impl Board {
     pub(crate) fn new(
         alloc: Global,
-        lts: &'a Lts,
-        sets: Vec<Vec<bool>>,
+        graph: Graph,
         form: Form,
         scale: Scale,
-    ) -> Result<Self, Memory> {
-        let states = lts.states();
-        let places = (states as usize).saturating_mul(form.count() as usize);
-        Ok(Board {
-            lts,
-            sets,
-            form,
-            scale,
+    ) -> Result<Self, AllocError> {
+        let Graph {
             states,
-            values: Words::zeros(alloc, places)?,
-            times: Numbers::filled(alloc, 0, places)?,
+            forth,
+            back,
+        } = graph;
+        let count = form.count();
+        Ok(Board {
+            states,
+            forth,
+            back,
+            scale,
+            tops: Sheet::new(alloc, count, states)?,
+            known: vec![in alloc; Known::Tops; count as usize]?,
+            words: no_words(alloc, count)?,
+            levels: no_numbers(alloc, count)?,
+            rounds: no_numbers(alloc, count)?,
+            values: Vec::new(alloc),
+            form,
         })
     }
 
-    /// The place of a node at a state.
-    pub(crate) fn place(&self, node: u32, state: u32) -> u32 {
-        node.wrapping_mul(self.states).wrapping_add(state)
+    pub(crate) fn known(&self, node: u32) -> Known {
+        let known = self.known.get(node as usize).copied();
+        known.unwrap_or(Known::Tops)
     }
 
-    pub(crate) fn value(&self, node: u32, state: u32) -> u64 {
-        self.values.get(self.place(node, state))
-    }
-
-    /// The transitions from a state.
-    pub(crate) fn row(&self, state: u32) -> &[Transition] {
-        if state < self.lts.states() {
-            self.lts.from(state)
-        } else {
-            &[]
+    pub(crate) fn set_known(&mut self, node: u32, known: Known) {
+        if let Some(item) = self.known.get_mut(node as usize) {
+            *item = known;
         }
     }
 
-    /// Whether a label is in a node's set.
-    pub(crate) fn takes(&self, node: u32, label: u32) -> bool {
-        let set = self.sets.get(node as usize);
-        set.is_some_and(|set| set.get(label as usize).copied().unwrap_or(false))
+    /// The value of a node that is no variable.
+    pub(crate) fn value(&self, node: u32, state: u32) -> u64 {
+        match self.known(node) {
+            Known::Tops if self.tops.has(node, state) => TOP,
+            Known::Tops => ZERO,
+            Known::Words => match self.words.get(node as usize) {
+                Some(words) => words.get(state),
+                None => ZERO,
+            },
+            Known::Levels { first, last } => match self.level(node, state) {
+                NEVER => last,
+                level => {
+                    let place = first.saturating_add(level as usize);
+                    self.values.get(place).copied().unwrap_or(last)
+                }
+            },
+        }
+    }
+
+    /// The level at which a node's value was found at a state.
+    pub(crate) fn level(&self, node: u32, state: u32) -> u32 {
+        match self.levels.get(node as usize) {
+            Some(levels) => levels.get(state),
+            None => NEVER,
+        }
+    }
+
+    /// Gives a level to these states of a word.
+    pub(crate) fn set_levels(&mut self, node: u32, word: u32, mut bits: u64, level: u32) {
+        let Some(levels) = self.levels.get_mut(node as usize) else {
+            return;
+        };
+        for _ in 0..WORD {
+            if bits == 0 {
+                return;
+            }
+            let state = word.wrapping_mul(WORD).wrapping_add(bits.trailing_zeros());
+            levels.set(state, level);
+            bits &= bits.wrapping_sub(1);
+        }
+    }
+
+    /// Forgets a node's levels.
+    pub(crate) fn clear_levels(&mut self, alloc: Global, node: u32) -> Result<(), AllocError> {
+        match self.levels.get_mut(node as usize) {
+            Some(levels) => levels.refill(alloc, NEVER, self.states as usize),
+            None => Ok(()),
+        }
+    }
+
+    /// The round in which a node came to top at a state.
+    pub(crate) fn round(&self, node: u32, state: u32) -> u32 {
+        match self.rounds.get(node as usize) {
+            Some(rounds) => rounds.get(state),
+            None => NEVER,
+        }
+    }
+
+    pub(crate) fn set_round(&mut self, node: u32, state: u32, round: u32) {
+        if let Some(rounds) = self.rounds.get_mut(node as usize) {
+            rounds.set(state, round);
+        }
+    }
+
+    /// Forgets a node's rounds.
+    pub(crate) fn clear_rounds(&mut self, alloc: Global, node: u32) -> Result<(), AllocError> {
+        match self.rounds.get_mut(node as usize) {
+            Some(rounds) => rounds.refill(alloc, NEVER, self.states as usize),
+            None => Ok(()),
+        }
+    }
+
+    /// How many transitions there are.
+    pub(crate) fn transitions(&self) -> usize {
+        self.forth.count()
+    }
+
+    /// Gives a node a word for each state, at first this one.
+    pub(crate) fn fill_words(
+        &mut self,
+        alloc: Global,
+        node: u32,
+        word: u64,
+    ) -> Result<(), AllocError> {
+        if let Some(words) = self.words.get_mut(node as usize) {
+            *words = Words::filled(alloc, word, self.states as usize)?;
+        }
+        self.set_known(node, Known::Words);
+        Ok(())
+    }
+
+    pub(crate) fn set_word(&mut self, node: u32, state: u32, word: u64) {
+        if let Some(words) = self.words.get_mut(node as usize) {
+            words.set(state, word);
+        }
+    }
+
+    /// The states below this one's word's end.
+    pub(crate) fn states_of(&self, word: u32) -> std::ops::Range<u32> {
+        let start = word.saturating_mul(WORD);
+        start..start.saturating_add(WORD).min(self.states)
     }
 }

@@ -1,14 +1,13 @@
-// The nodes of a normal form, who uses each, and their strong components.
+// The nodes of a normal form, and their strong components.
 
-use crate::groups::Groups;
+use crate::edges::Kinds;
 use crate::numbers::Numbers;
 use normal::form::Normal;
 use normal::node::Kind;
 use std::alloc::{AllocError, Global};
-use std::ops::Range;
 
-// No node.
-const NONE: u32 = u32::MAX;
+/// No node.
+pub(crate) const NONE: u32 = u32::MAX;
 
 /// What a node is, without its children.
 #[derive(Clone, Copy, PartialEq, Eq)]
@@ -30,12 +29,12 @@ pub(crate) struct Node {
     pub(crate) left: u32,
     pub(crate) right: u32,
     pub(crate) priority: u8,
-    /// Whether all labels are in the node's set.
-    pub(crate) full: bool,
+    /// The kinds of labels in the node's set.
+    pub(crate) mask: u64,
 }
 
 impl Node {
-    fn of(kind: &Kind, priority: u32, full: bool) -> Self {
+    fn of(kind: &Kind, priority: u32, mask: u64) -> Self {
         let (shape, left, right) = match kind {
             Kind::True => (Shape::True, NONE, NONE),
             Kind::False => (Shape::False, NONE, NONE),
@@ -51,16 +50,7 @@ impl Node {
             left,
             right,
             priority: u8::try_from(priority).unwrap_or(0),
-            full,
-        }
-    }
-
-    /// The child beside this one.
-    pub(crate) fn other(&self, child: u32) -> u32 {
-        if child == self.left {
-            self.right
-        } else {
-            self.left
+            mask,
         }
     }
 }
@@ -69,37 +59,24 @@ impl Node {
 #[derive(Drop)]
 pub(crate) struct Form {
     nodes: Vec<Node>,
-    groups: Groups,
-    users: Numbers,
     roots: Numbers,
-}
-
-// The nodes, of which it is known what labels they have.
-fn nodes_of(alloc: Global, normal: &Normal, sets: &[Vec<bool>]) -> Result<Vec<Node>, AllocError> {
-    let mut nodes = Vec::new(alloc);
-    for (node, set) in normal.nodes().iter().zip(sets) {
-        let full = set.iter().all(|has| *has);
-        nodes.push(Node::of(&node.kind, node.priority, full))?;
-    }
-    Ok(nodes)
+    heights: Numbers,
 }
 
 impl Form {
-    pub(crate) fn of(
-        alloc: Global,
-        normal: &Normal,
-        sets: &[Vec<bool>],
-    ) -> Result<Self, AllocError> {
-        let nodes = nodes_of(alloc, normal, sets)?;
+    pub(crate) fn of(alloc: Global, normal: &Normal, kinds: &Kinds) -> Result<Self, AllocError> {
+        let mut nodes = Vec::new(alloc);
+        for (number, node) in (0..u32::MAX).zip(normal.nodes()) {
+            nodes.push(Node::of(&node.kind, node.priority, kinds.mask(number)))?;
+        }
         let count = nodes.len();
         let mut form = Form {
             nodes,
-            groups: Groups::new(alloc, normal.count())?,
-            users: Numbers::filled(alloc, NONE, count.saturating_mul(2))?,
             roots: Numbers::filled(alloc, NONE, count)?,
+            heights: Numbers::filled(alloc, 0, count)?,
         };
-        form.find_users();
         form.find_roots(alloc)?;
+        form.find_heights();
         Ok(form)
     }
 
@@ -113,7 +90,7 @@ impl Form {
             left: NONE,
             right: NONE,
             priority: 0,
-            full: false,
+            mask: 0,
         };
         self.nodes.get(number as usize).copied().unwrap_or(none)
     }
@@ -123,38 +100,46 @@ impl Form {
         self.roots.get(number)
     }
 
-    /// The places of those that have a node as a child.
-    pub(crate) fn users(&self, number: u32) -> Range<u32> {
-        self.groups.span(number)
-    }
-
-    /// The user at a place.
-    pub(crate) fn user(&self, place: u32) -> u32 {
-        self.users.get(place)
-    }
-
-    fn find_users(&mut self) {
-        for number in 0..self.count() {
-            let node = self.node(number);
-            self.groups.count(node.left);
-            if node.right != node.left {
-                self.groups.count(node.right);
-            }
-        }
-        self.groups.sum_up();
-        for number in 0..self.count() {
-            let node = self.node(number);
-            self.put_user(node.left, number);
-            if node.right != node.left {
-                self.put_user(node.right, number);
-            }
+    /// The node itself, or the binder of a variable.
+    pub(crate) fn real(&self, number: u32) -> u32 {
+        let node = self.node(number);
+        if node.shape == Shape::Variable {
+            node.left
+        } else {
+            number
         }
     }
 
-    fn put_user(&mut self, child: u32, user: u32) {
-        if child != NONE {
-            let place = self.groups.place(child);
-            self.users.set(place, user);
+    /// A node's children, binders in place of variables: one child twice, and none for a constant.
+    pub(crate) fn operands(&self, number: u32) -> [u32; 2] {
+        let node = self.node(number);
+        [self.real(node.left), self.real(node.right)]
+    }
+
+    /// How far a node is from the binders and the nodes outside below it in its component.
+    pub(crate) fn height(&self, number: u32) -> u32 {
+        self.heights.get(number)
+    }
+
+    fn find_heights(&mut self) {
+        for number in (0..self.count()).rev() {
+            let node = self.node(number);
+            let height = match node.shape {
+                Shape::Binder | Shape::True | Shape::False => 0,
+                Shape::Variable => 1,
+                _ => self
+                    .height_over(number, node.left)
+                    .max(self.height_over(number, node.right)),
+            };
+            self.heights.set(number, height);
+        }
+    }
+
+    fn height_over(&self, number: u32, child: u32) -> u32 {
+        if self.root(child) == self.root(number) {
+            self.height(child).saturating_add(1)
+        } else {
+            1
         }
     }
 

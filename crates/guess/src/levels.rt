@@ -1,10 +1,13 @@
-// Components of nodes whose binders have one parity, value by value (Knuth 1977).
+// Components of nodes whose binders have one parity, value by value (Knuth 1977), over sets of states.
 
-use crate::back::Back;
-use crate::board::Board;
-use crate::form::{Node, Shape};
-use crate::numbers::{Numbers, Queue};
+use crate::bits::WORD;
+use crate::board::{Board, Known};
+use crate::edges::takes;
+use crate::form::{Form, NONE, Node, Shape};
+use crate::later::Later;
+use crate::numbers::Numbers;
 use crate::order::{Order, Wait};
+use crate::sets::{Sets, Step};
 use std::alloc::{AllocError, Global};
 use text::Memory;
 
@@ -12,307 +15,400 @@ use text::Memory;
 #[derive(Clone, Copy)]
 struct Event {
     key: u64,
-    place: u32,
+    node: u32,
+    state: u32,
+}
+
+/// A node of a part, and how far it is from the binders below it.
+#[derive(Clone, Copy)]
+pub(crate) struct Member {
+    pub(crate) node: u32,
+    height: u32,
 }
 
 /// Values by levels, with the memory to find them.
 #[derive(Drop)]
-pub(crate) struct Levels<'a> {
-    pub(crate) board: Board<'a>,
-    back: Back,
-    /// For each node the number of its part.
+pub(crate) struct Levels {
+    pub(crate) board: Board,
+    /// For each node that is no variable the number of its part.
     pub(crate) parts: Numbers,
-    // The places whose values are final, but not yet carried on.
-    queue: Queue,
+    pub(crate) sets: Sets,
     // For each binder the states at which its operand's value is final.
-    later: Vec<Queue>,
-    binders: Vec<u32>,
+    pub(crate) later: Vec<Later>,
+    // The nodes of the part, children before parents.
+    pub(crate) members: Vec<Member>,
+    // The nodes outside that are children of those.
+    sources: Vec<u32>,
+    // The last run in which each node was a source.
+    used: Numbers,
+    runs: u32,
     events: Vec<Event>,
     seen: usize,
     part: u32,
-    order: Order,
-    value: u64,
-    time: u32,
+    pub(crate) order: Order,
+    pub(crate) value: u64,
+    first: usize,
 }
 
-// Room for the states of each binder.
-fn queues(alloc: Global, board: &Board) -> Result<Vec<Queue>, AllocError> {
+/// The number that the held binders of a part have as their part.
+pub(crate) fn held_part(part: u32, form: &Form) -> u32 {
+    part.saturating_add(form.count())
+}
+
+fn no_later(alloc: Global, nodes: u32) -> Result<Vec<Later>, AllocError> {
     let mut later = Vec::new(alloc);
-    for number in 0..board.form.count() {
-        let is_binder = board.form.node(number).shape == Shape::Binder;
-        let room = if is_binder { board.states as usize } else { 0 };
-        later.push(Queue::new(alloc, room)?)?;
+    for _ in 0..nodes {
+        later.push(Later::new(alloc)?)?;
     }
     Ok(later)
 }
 
-impl<'a> Levels<'a> {
-    pub(crate) fn new(alloc: Global, board: Board<'a>) -> Result<Self, Memory> {
+impl Levels {
+    pub(crate) fn new(alloc: Global, board: Board) -> Result<Self, Memory> {
         let count = board.form.count();
-        let places = (board.states as usize).saturating_mul(count as usize);
         let mut parts = Numbers::filled(alloc, 0, count as usize)?;
         for number in 0..count {
             parts.set(number, board.form.root(number));
         }
         Ok(Levels {
-            back: Back::of(alloc, board.lts)?,
             parts,
-            queue: Queue::new(alloc, places)?,
-            later: queues(alloc, &board)?,
-            binders: Vec::new(alloc),
+            sets: Sets::new(alloc, count, board.states)?,
+            later: no_later(alloc, count)?,
+            members: Vec::new(alloc),
+            sources: Vec::new(alloc),
+            used: Numbers::filled(alloc, 0, count as usize)?,
+            runs: 0,
             events: Vec::new(alloc),
             seen: 0,
             part: 0,
             order: Order::Rising,
             value: 0,
-            time: 0,
+            first: 0,
             board,
         })
     }
 
     /// Finds the values of a part, whose binders have the parity of this order, from those of the nodes outside.
-    pub(crate) fn run(&mut self, part: u32, order: Order) -> Result<(), Memory> {
+    pub(crate) fn run(&mut self, alloc: Global, part: u32, order: Order) -> Result<(), Memory> {
         self.part = part;
         self.order = order;
         self.value = order.first();
-        self.time = 1;
-        self.begin()?;
-        self.spread();
-        for _ in 0..u64::MAX {
-            match self.next_value() {
-                Some(value) => self.value = value,
-                None => break,
-            }
-            self.release();
-            self.spread();
-        }
+        self.first = self.board.values.len();
+        self.begin(alloc)?;
+        self.climb()?;
+        self.finish();
         Ok(())
     }
 
-    fn begin(&mut self) -> Result<(), Memory> {
-        self.queue.clear();
-        self.binders.clear();
+    /// Whether values came from outside that are neither zero nor top.
+    pub(crate) fn has_events(&self) -> bool {
+        !self.events.is_empty()
+    }
+
+    fn begin(&mut self, alloc: Global) -> Result<(), AllocError> {
+        self.members.clear();
+        self.sources.clear();
         self.events.clear();
         self.seen = 0;
+        self.runs = self.runs.saturating_add(1);
         for number in 0..self.board.form.count() {
-            if self.parts.get(number) == self.part {
-                self.open(number)?;
+            if self.is_inside(number) {
+                self.open(alloc, number)?;
+            } else if self.parts.get(number) == held_part(self.part, &self.board.form) {
+                self.see(number)?;
             }
         }
-        for number in 0..self.board.form.count() {
-            if self.is_exit(number) {
-                self.enter(number)?;
+        self.members.sort_unstable_by_key(|member| member.height);
+        for at in 0..self.sources.len() {
+            if let Some(source) = self.sources.get(at).copied() {
+                self.enter(source)?;
             }
         }
         self.events.sort_unstable_by_key(|event| event.key);
         Ok(())
     }
 
-    // Whether a node is outside of the part, and a child of one inside.
-    fn is_exit(&self, number: u32) -> bool {
-        if self.parts.get(number) == self.part {
-            return false;
-        }
-        let mut users = self.board.form.users(number);
-        users.any(|place| self.parts.get(self.board.form.user(place)) == self.part)
+    pub(crate) fn is_inside(&self, number: u32) -> bool {
+        self.parts.get(number) == self.part && self.board.form.real(number) == number
     }
 
-    // Forgets a node's values.
-    fn open(&mut self, number: u32) -> Result<(), AllocError> {
-        let node = self.board.form.node(number);
-        if node.shape == Shape::Binder {
-            self.binders.push(number)?;
-            if let Some(queue) = self.later.get_mut(number as usize) {
-                queue.clear();
-            }
+    // Takes a node into the part, and forgets what was known of it.
+    fn open(&mut self, alloc: Global, node: u32) -> Result<(), AllocError> {
+        let height = self.board.form.height(node);
+        self.members.push(Member { node, height })?;
+        self.sets.clear(node);
+        self.board.clear_levels(alloc, node)?;
+        for operand in self.board.form.operands(node) {
+            self.see(operand)?;
         }
-        let last = self.order.last();
-        for state in 0..self.board.states {
-            let place = self.board.place(number, state);
-            self.board.values.set(place, last);
+        let states = self.board.states;
+        let shape = self.board.form.node(node).shape;
+        if self.order.wait(shape) == Wait::All {
+            self.sets.clear_cursors(alloc, node, states)?;
+            self.open_steps(node);
         }
-        if self.order.wait(node.shape) == Wait::All {
-            self.count_steps(number, node);
+        match self.later.get_mut(node as usize) {
+            Some(later) if shape == Shape::Binder => later.clear(alloc, states),
+            _ => Ok(()),
+        }
+    }
+
+    // A child is a source, where it isn't inside.
+    fn see(&mut self, operand: u32) -> Result<(), AllocError> {
+        let is_new = self.used.get(operand) != self.runs && operand != NONE;
+        if is_new && !self.is_inside(operand) {
+            self.used.set(operand, self.runs);
+            self.sources.push(operand)?;
         }
         Ok(())
     }
 
-    // Counts for each state how many successors a node waits for.
-    fn count_steps(&mut self, number: u32, node: Node) {
+    // Where there is no successor there is none to wait for.
+    fn open_steps(&mut self, node: u32) {
+        let mask = self.board.form.node(node).mask;
         for state in 0..self.board.states {
-            let row = self.board.row(state);
-            let steps = if node.full {
-                row.len()
-            } else {
-                let taken = |label: u32| self.board.takes(number, label);
-                row.iter().filter(|step| taken(step.label)).count()
-            };
-            let place = self.board.place(number, state);
-            let waits = u32::try_from(steps).unwrap_or(u32::MAX);
-            self.board.times.set(place, waits);
-            if steps == 0 {
-                self.settle(number, state);
+            let mut row = self.board.forth.row(state).iter();
+            if !row.any(|edge| takes(mask, *edge)) {
+                self.sets.add_state(node, state);
             }
         }
     }
 
-    // A value from outside is carried on when its turn comes.
-    fn enter(&mut self, number: u32) -> Result<(), AllocError> {
+    // Values from outside: the first are there at once, others when their turn comes.
+    fn enter(&mut self, source: u32) -> Result<(), AllocError> {
+        self.sets.clear(source);
+        if self.board.known(source) == Known::Tops {
+            self.enter_tops(source);
+            return Ok(());
+        }
         for state in 0..self.board.states {
-            let place = self.board.place(number, state);
-            let value = self.board.values.get(place);
+            let value = self.board.value(source, state);
             if value == self.order.first() {
-                self.queue.push(place);
+                self.sets.add_state(source, state);
             } else if value != self.order.last() {
-                let key = self.order.key(value);
-                self.events.push(Event { key, place })?;
+                self.events.push(Event {
+                    key: self.order.key(value),
+                    node: source,
+                    state,
+                })?;
             }
         }
         Ok(())
     }
 
-    // A node's value is final at a state.
-    fn settle(&mut self, number: u32, state: u32) {
-        let place = self.board.place(number, state);
-        if self.board.values.get(place) != self.order.last() {
-            return;
+    fn enter_tops(&mut self, source: u32) {
+        for word in 0..self.sets.done.width() {
+            let tops = self.board.tops.word(source, word);
+            let bits = match self.order {
+                Order::Rising => self.sets.done.full(word) & !tops,
+                Order::Falling => tops,
+            };
+            self.sets.add(source, word, bits);
         }
-        self.board.values.set(place, self.value);
-        if self.order == Order::Falling {
-            self.board.times.set(place, self.time);
-            self.time = self.time.saturating_add(1);
-        }
-        self.queue.push(place);
     }
 
-    fn spread(&mut self) {
+    pub(crate) fn climb(&mut self) -> Result<(), AllocError> {
         for _ in 0..u64::MAX {
-            match self.queue.pop() {
-                Some(place) => self.carry(place),
-                None => return,
+            self.spread();
+            self.put_off()?;
+            self.record()?;
+            match self.next_value() {
+                Some(value) => self.value = value,
+                None => break,
             }
+            self.release();
         }
+        Ok(())
     }
 
-    // Carries a final value on to those that have the node as a child.
-    fn carry(&mut self, place: u32) {
-        let states = self.board.states.max(1);
-        let (child, state) = (place / states, place % states);
-        for at in self.board.form.users(child) {
-            let user = self.board.form.user(at);
-            if self.parts.get(user) == self.part {
-                self.carry_to(user, child, state);
-            }
-        }
-    }
-
-    fn carry_to(&mut self, user: u32, child: u32, state: u32) {
-        let node = self.board.form.node(user);
-        match node.shape {
-            Shape::Binder => self.put_off(user, node, state),
-            Shape::Dia | Shape::Box => self.step_back(user, node, state),
-            _ => {
-                let is_one = self.order.wait(node.shape) == Wait::One;
-                if is_one || self.is_ready(node.other(child), state) {
-                    self.settle(user, state);
+    // Carries what is final from children to parents, up to the binders.
+    fn spread(&mut self) {
+        for Member { node, .. } in self.members.as_slice() {
+            let number = *node;
+            let node = self.board.form.node(number);
+            let wait = self.order.wait(node.shape);
+            let [left, right] = self.board.form.operands(number);
+            match node.shape {
+                Shape::Dia | Shape::Box => self.sets.step(
+                    &self.board,
+                    Step {
+                        node: number,
+                        operand: left,
+                        mask: node.mask,
+                        wait,
+                    },
+                ),
+                Shape::And | Shape::Or => {
+                    self.sets.join(number, left, right, wait);
+                    self.sets.join(number, right, left, wait);
                 }
+                _ => {}
             }
         }
     }
 
     // A binder's value comes later.
-    fn put_off(&mut self, user: u32, node: Node, state: u32) {
-        if self.board.scale.prog(node.priority, self.value) == self.order.last() {
-            return;
-        }
-        if let Some(queue) = self.later.get_mut(user as usize) {
-            queue.push(state);
-        }
-    }
-
-    fn is_ready(&self, child: u32, state: u32) -> bool {
-        !self
-            .order
-            .is_before(self.value, self.board.value(child, state))
-    }
-
-    fn step_back(&mut self, user: u32, node: Node, state: u32) {
-        let is_one = self.order.wait(node.shape) == Wait::One;
-        for at in self.back.to(state) {
-            let Some(step) = self.back.step(at) else {
+    fn put_off(&mut self) -> Result<(), AllocError> {
+        for Member { node, .. } in self.members.as_slice() {
+            let Node {
+                shape,
+                priority,
+                ..
+            } = self.board.form.node(*node);
+            let value = self.board.scale.prog(priority, self.value);
+            let [operand, _] = self.board.form.operands(*node);
+            if shape != Shape::Binder || value == self.order.last() {
                 continue;
+            }
+            if let Some(later) = self.later.get_mut(*node as usize) {
+                wait_in(later, &self.sets, operand, value)?;
+            }
+        }
+        Ok(())
+    }
+
+    // Keeps the level of what has become final.
+    fn record(&mut self) -> Result<(), AllocError> {
+        let level = self.board.values.len().saturating_sub(self.first);
+        let level = u32::try_from(level).unwrap_or(u32::MAX);
+        self.board.values.push(self.value)?;
+        for at in 0..self.members.len() {
+            if let Some(member) = self.members.get(at).copied() {
+                self.record_node(member.node, level);
+                self.sets.fronts.clear(member.node);
+            }
+        }
+        for source in self.sources.as_slice() {
+            self.sets.fronts.clear(*source);
+        }
+        Ok(())
+    }
+
+    fn record_node(&mut self, node: u32, level: u32) {
+        let mut from = 0;
+        for _ in 0..=self.sets.done.width() {
+            let Some(word) = self.sets.fronts.next(node, from) else {
+                return;
             };
-            if !node.full && !self.board.takes(user, step.label) {
-                continue;
-            }
-            if is_one || self.is_last(user, step.source) {
-                self.settle(user, step.source);
-            }
+            let bits = self.sets.fronts.word(node, word);
+            self.sets.count(node, bits.count_ones());
+            self.board.set_levels(node, word, bits, level);
+            from = word.saturating_add(1);
         }
-    }
-
-    // Whether a node waits for no more successors at a state, after one more is final.
-    fn is_last(&mut self, user: u32, state: u32) -> bool {
-        let place = self.board.place(user, state);
-        self.board.times.count_down(place) == 0
-    }
-
-    // The value of a binder that waits, at the first of its states.
-    fn waiting(&self, binder: u32) -> Option<(u32, u64)> {
-        let state = self.later.get(binder as usize)?.first()?;
-        let node = self.board.form.node(binder);
-        let operand = self.board.value(node.left, state);
-        Some((state, self.board.scale.prog(node.priority, operand)))
-    }
-
-    // The value from outside that comes next.
-    fn event(&self) -> Option<(u32, u64)> {
-        let place = self.events.get(self.seen)?.place;
-        Some((place, self.board.values.get(place)))
     }
 
     fn next_value(&self) -> Option<u64> {
         let mut next = self.event();
-        for binder in &self.binders {
-            let other = self.waiting(*binder);
-            next = match (next, other) {
-                (Some((_, word)), Some((_, value))) if !self.order.is_before(value, word) => next,
-                (_, Some(_)) => other,
-                (_, None) => next,
-            };
+        for member in &self.members {
+            let later = self.later.get(member.node as usize);
+            if let Some(value) = later.and_then(|later| later.value()) {
+                next = Some(self.sooner(next, value));
+            }
         }
-        next.map(|(_, value)| value)
+        next
+    }
+
+    // The one of two values that comes first.
+    fn sooner(&self, next: Option<u64>, value: u64) -> u64 {
+        match next {
+            Some(word) if self.order.is_before(word, value) => word,
+            _ => value,
+        }
+    }
+
+    // The value from outside that comes next.
+    fn event(&self) -> Option<u64> {
+        let Event { node, state, .. } = self.events.get(self.seen).copied()?;
+        Some(self.board.value(node, state))
     }
 
     // All that have this value become final.
     fn release(&mut self) {
-        for _ in 0..u64::MAX {
-            match self.event() {
-                Some((place, value)) if value == self.value => {
-                    self.queue.push(place);
+        let key = self.order.key(self.value);
+        for _ in self.seen..self.events.len() {
+            match self.events.get(self.seen).copied() {
+                Some(event) if event.key == key => {
+                    self.sets.add_state(event.node, event.state);
                     self.seen = self.seen.saturating_add(1);
                 }
                 _ => break,
             }
         }
-        for at in 0..self.binders.len() {
-            if let Some(binder) = self.binders.get(at).copied() {
-                self.release_at(binder);
+        for member in &self.members {
+            if let Some(later) = self.later.get_mut(member.node as usize)
+                && later.value() == Some(self.value)
+            {
+                release_in(later, &mut self.sets, member.node);
             }
         }
     }
 
-    fn release_at(&mut self, binder: u32) {
-        for _ in 0..u64::MAX {
-            match self.waiting(binder) {
-                Some((state, value)) if value == self.value => {
-                    if let Some(queue) = self.later.get_mut(binder as usize) {
-                        queue.pop();
-                    }
-                    self.settle(binder, state);
-                }
-                _ => return,
+    // Keeps what was found.
+    fn finish(&mut self) {
+        let levels = self.board.values.len().saturating_sub(self.first);
+        let has_tops = match self.order {
+            Order::Rising => levels <= 1,
+            Order::Falling => self.events.is_empty(),
+        };
+        let known = if has_tops {
+            Known::Tops
+        } else {
+            Known::Levels {
+                first: self.first,
+                last: self.order.last(),
             }
+        };
+        for at in 0..self.members.len() {
+            if let Some(member) = self.members.get(at).copied() {
+                self.board.set_known(member.node, known);
+                self.keep_tops(member.node);
+            }
+        }
+    }
+
+    fn keep_tops(&mut self, node: u32) {
+        for word in 0..self.sets.done.width() {
+            let done = self.sets.done.word(node, word);
+            let tops = match self.order {
+                Order::Rising => self.sets.done.full(word) & !done,
+                Order::Falling => done,
+            };
+            self.board.tops.set_word(node, word, tops);
+        }
+    }
+}
+
+// Puts off the states of a binder's operand that have become final.
+fn wait_in(later: &mut Later, sets: &Sets, operand: u32, value: u64) -> Result<(), AllocError> {
+    let mut from = 0;
+    let mut some = false;
+    for _ in 0..=sets.done.width() {
+        let Some(word) = sets.fronts.next(operand, from) else {
+            break;
+        };
+        push_word(later, word, sets.fronts.word(operand, word));
+        some = true;
+        from = word.saturating_add(1);
+    }
+    if some { later.close(value) } else { Ok(()) }
+}
+
+fn push_word(later: &mut Later, word: u32, mut bits: u64) {
+    for _ in 0..WORD {
+        if bits == 0 {
+            return;
+        }
+        later.push(word.wrapping_mul(WORD).wrapping_add(bits.trailing_zeros()));
+        bits &= bits.wrapping_sub(1);
+    }
+}
+
+// The states of a binder that come next are final.
+fn release_in(later: &mut Later, sets: &mut Sets, binder: u32) {
+    for place in later.take() {
+        let state = later.state(place);
+        if !sets.done.has(binder, state) {
+            sets.add_state(binder, state);
         }
     }
 }

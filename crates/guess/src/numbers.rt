@@ -25,18 +25,40 @@ impl Numbers {
         }
     }
 
+    pub(crate) fn copy(&self, alloc: Global) -> Result<Self, AllocError> {
+        let mut items = Vec::with_capacity(alloc, self.items.len())?;
+        items.extend_from_slice(&self.items)?;
+        Ok(Numbers { items })
+    }
+
+    /// Makes all numbers this one, of which there are so many from now on.
+    pub(crate) fn refill(
+        &mut self,
+        alloc: Global,
+        number: u32,
+        length: usize,
+    ) -> Result<(), AllocError> {
+        if self.items.len() == length {
+            self.items.fill(number);
+        } else {
+            self.items = vec![in alloc; number; length]?;
+        }
+        Ok(())
+    }
+
+    /// Makes room for so many numbers, whatever they are.
+    pub(crate) fn make_room(&mut self, alloc: Global, length: usize) -> Result<(), AllocError> {
+        if self.items.len() < length {
+            self.items = vec![in alloc; 0; length]?;
+        }
+        Ok(())
+    }
+
     /// Adds one, and answers what was there.
     pub(crate) fn count_up(&mut self, place: u32) -> u32 {
         let number = self.get(place);
         self.set(place, number.saturating_add(1));
         number
-    }
-
-    /// Takes one away, and answers what is left.
-    pub(crate) fn count_down(&mut self, place: u32) -> u32 {
-        let left = self.get(place).saturating_sub(1);
-        self.set(place, left);
-        left
     }
 }
 
@@ -47,10 +69,14 @@ pub(crate) struct Words {
 }
 
 impl Words {
-    pub(crate) fn zeros(alloc: Global, length: usize) -> Result<Self, AllocError> {
+    pub(crate) fn filled(alloc: Global, word: u64, length: usize) -> Result<Self, AllocError> {
         Ok(Words {
-            items: vec![in alloc; 0; length]?,
+            items: vec![in alloc; word; length]?,
         })
+    }
+
+    pub(crate) fn as_slice(&self) -> &[u64] {
+        &self.items
     }
 
     pub(crate) fn get(&self, place: u32) -> u64 {
@@ -61,48 +87,5 @@ impl Words {
         if let Some(item) = self.items.get_mut(place as usize) {
             *item = word;
         }
-    }
-}
-
-/// Numbers that wait, the first that came being the next.
-#[derive(Drop)]
-pub(crate) struct Queue {
-    list: Numbers,
-    head: u32,
-    length: u32,
-}
-
-impl Queue {
-    /// Nothing yet, with the memory for so many.
-    pub(crate) fn new(alloc: Global, most: usize) -> Result<Self, AllocError> {
-        Ok(Queue {
-            list: Numbers::filled(alloc, 0, most)?,
-            head: 0,
-            length: 0,
-        })
-    }
-
-    pub(crate) fn push(&mut self, number: u32) {
-        self.list.set(self.length, number);
-        self.length = self.length.saturating_add(1);
-    }
-
-    pub(crate) fn first(&self) -> Option<u32> {
-        if self.head < self.length {
-            Some(self.list.get(self.head))
-        } else {
-            None
-        }
-    }
-
-    pub(crate) fn pop(&mut self) -> Option<u32> {
-        let first = self.first()?;
-        self.head = self.head.saturating_add(1);
-        Some(first)
-    }
-
-    pub(crate) fn clear(&mut self) {
-        self.head = 0;
-        self.length = 0;
     }
 }

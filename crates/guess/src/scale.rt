@@ -68,6 +68,12 @@ impl Scale {
         (word & self.kept[place]).saturating_add(self.fields[place].unit)
     }
 
+    /// A count of this priority alone.
+    pub(crate) fn count(&self, priority: u8, count: u32) -> u64 {
+        let field = self.fields.get(usize::from(priority));
+        field.map_or(ZERO, |field| field.unit.saturating_mul(u64::from(count)))
+    }
+
     /// Writes the counts, that of the greatest odd priority first.
     pub(crate) fn counts_into(&self, word: u64, counts: &mut [u32]) {
         let width = counts.len();

@@ -1,53 +1,105 @@
 // The values of a node that is on no cycle: one pass over its children's.
 
-use crate::board::Board;
+use crate::bits::bit;
+use crate::board::{Board, Known};
+use crate::edges::{state_of, takes};
 use crate::form::{Node, Shape};
 use crate::scale::{TOP, ZERO};
+use std::alloc::{AllocError, Global};
 
-impl Board<'_> {
+impl Board {
     /// Lifts a node at each state.
-    pub(crate) fn lift(&mut self, number: u32) {
+    pub(crate) fn lift(&mut self, alloc: Global, number: u32) -> Result<(), AllocError> {
         let node = self.form.node(number);
-        for state in 0..self.states {
-            let word = self.lifted(number, node, state);
-            let place = self.place(number, state);
-            self.values.set(place, word);
+        if self.has_tops(number, node) {
+            self.lift_sets(number, node);
+            return Ok(());
         }
+        self.fill_words(alloc, number, ZERO)?;
+        let [left, right] = self.form.operands(number);
+        for state in 0..self.states {
+            let word = self.lifted(node, left, right, state);
+            self.set_word(number, state, word);
+        }
+        Ok(())
     }
 
-    fn lifted(&self, number: u32, node: Node, state: u32) -> u64 {
+    // Whether a node's values are zero and top alone.
+    fn has_tops(&self, number: u32, node: Node) -> bool {
         match node.shape {
-            Shape::True => ZERO,
-            Shape::False => TOP,
-            Shape::And => self
-                .value(node.left, state)
-                .max(self.value(node.right, state)),
-            Shape::Or => self
-                .value(node.left, state)
-                .min(self.value(node.right, state)),
-            Shape::Dia => self.least(number, node, state),
-            Shape::Box => self.greatest(number, node, state),
-            Shape::Binder | Shape::Variable => {
-                self.scale.prog(node.priority, self.value(node.left, state))
+            Shape::True | Shape::False => true,
+            Shape::Binder if node.priority % 2 == 1 => false,
+            _ => {
+                let mut operands = self.form.operands(number).into_iter();
+                operands.all(|operand| self.known(operand) == Known::Tops)
             }
         }
     }
 
-    fn least(&self, number: u32, node: Node, state: u32) -> u64 {
+    fn lift_sets(&mut self, number: u32, node: Node) {
+        let [left, right] = self.form.operands(number);
+        for word in 0..self.tops.width() {
+            let (these, those) = (self.tops.word(left, word), self.tops.word(right, word));
+            let bits = match node.shape {
+                Shape::True => 0,
+                Shape::False => self.tops.full(word),
+                Shape::And => these | those,
+                Shape::Or => these & those,
+                Shape::Dia | Shape::Box => self.stepped(node, left, word),
+                Shape::Binder | Shape::Variable => these,
+            };
+            self.tops.set_word(number, word, bits);
+        }
+        self.set_known(number, Known::Tops);
+    }
+
+    // At which states of a word a modality has top.
+    fn stepped(&self, node: Node, operand: u32, word: u32) -> u64 {
+        let is_top = |edge: u32| self.tops.has(operand, state_of(edge));
+        let mut bits = 0;
+        for state in self.states_of(word) {
+            let mut row = self.forth.row(state).iter();
+            let has_top = if node.shape == Shape::Dia {
+                row.all(|edge| !takes(node.mask, *edge) || is_top(*edge))
+            } else {
+                row.any(|edge| takes(node.mask, *edge) && is_top(*edge))
+            };
+            if has_top {
+                bits |= bit(state);
+            }
+        }
+        bits
+    }
+
+    fn lifted(&self, node: Node, left: u32, right: u32, state: u32) -> u64 {
+        match node.shape {
+            Shape::True => ZERO,
+            Shape::False => TOP,
+            Shape::And => self.value(left, state).max(self.value(right, state)),
+            Shape::Or => self.value(left, state).min(self.value(right, state)),
+            Shape::Dia => self.least(node, left, state),
+            Shape::Box => self.greatest(node, left, state),
+            Shape::Binder | Shape::Variable => {
+                self.scale.prog(node.priority, self.value(left, state))
+            }
+        }
+    }
+
+    fn least(&self, node: Node, operand: u32, state: u32) -> u64 {
         let mut least = TOP;
-        for transition in self.row(state) {
-            if node.full || self.takes(number, transition.label) {
-                least = least.min(self.value(node.left, transition.target));
+        for edge in self.forth.row(state) {
+            if takes(node.mask, *edge) {
+                least = least.min(self.value(operand, state_of(*edge)));
             }
         }
         least
     }
 
-    fn greatest(&self, number: u32, node: Node, state: u32) -> u64 {
+    fn greatest(&self, node: Node, operand: u32, state: u32) -> u64 {
         let mut greatest = ZERO;
-        for transition in self.row(state) {
-            if node.full || self.takes(number, transition.label) {
-                greatest = greatest.max(self.value(node.left, transition.target));
+        for edge in self.forth.row(state) {
+            if takes(node.mask, *edge) {
+                greatest = greatest.max(self.value(operand, state_of(*edge)));
             }
         }
         greatest

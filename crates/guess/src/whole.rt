@@ -1,29 +1,17 @@
 // The guess of a whole table, component by component of the nodes' graph.
 
-ghost use Rattle.std.specs.Prelude.{◌≡◌, ◌≤◌, length};
-ghost use Rattle.game.specs.Game.{dual};
-ghost use Rattle.progress.specs.Measure.{components};
-
-use crate::board::Board;
+use crate::board::{Board, Graph};
+use crate::edges::{Edges, Kinds, fits, state_of, takes};
 use crate::form::{Form, Node, Shape};
 use crate::levels::Levels;
-use crate::numbers::Numbers;
 use crate::order::Order;
-use crate::scale::{Scale, TOP, ZERO};
+use crate::scale::Scale;
 use game::build::label_sets;
 use game::graph::Game;
-use measures::guess::Guess;
 use normal::form::Normal;
-use progress::bounds::width;
-use progress::claim::Claim;
-use progress::measure::{COMPONENTS, Measure};
-use progress::progs::is_measure;
 use std::alloc::Global;
 use systems::system::Lts;
 use text::Memory;
-
-// How many counts a rank has at most.
-const MOST_RANKS: usize = 17;
 
 /// What falls along the edges of a component, and for times in the count of which even priority.
 #[derive(Clone, Copy)]
@@ -36,9 +24,13 @@ enum Falls {
 
 /// A component whose values are known.
 #[derive(Clone, Copy)]
-struct Part {
-    root: u32,
+pub(crate) struct Part {
+    pub(crate) root: u32,
+    /// One past its last node.
+    pub(crate) end: u32,
     falls: Falls,
+    /// How far nodes are at most from the binders below them, and one more.
+    turns: u32,
 }
 
 /// What the binders of a component are.
@@ -48,14 +40,16 @@ struct Binders {
     odd: bool,
     even: bool,
     greatest: u8,
+    end: u32,
+    turns: u32,
 }
 
 /// Guesses of values, with moves and ranks, for each node and state of some components, bottom up.
 #[derive(Drop)]
 pub struct Whole<'a> {
-    board: Board<'a>,
-    heights: Numbers,
-    parts: Vec<Part>,
+    pub(crate) lts: &'a Lts,
+    pub(crate) board: Board,
+    pub(crate) parts: Vec<Part>,
 }
 
 // Whether some count can go above one.
@@ -70,10 +64,14 @@ fn survey(form: &Form, root: u32) -> Binders {
         odd: false,
         even: false,
         greatest: 0,
+        end: root,
+        turns: 0,
     };
     for number in root..form.count() {
         if form.root(number) == root {
             found.nodes = found.nodes.saturating_add(1);
+            found.end = number.saturating_add(1);
+            found.turns = found.turns.max(form.height(number).saturating_add(1));
             see(&mut found, form.node(number));
         }
     }
@@ -98,47 +96,21 @@ fn is_nested(form: &Form, root: u32, binders: Binders) -> bool {
     })
 }
 
-// For each node how far it is from the binders below it in its component.
-fn heights(alloc: Global, form: &Form) -> Result<Numbers, Memory> {
-    let mut heights = Numbers::filled(alloc, 0, form.count() as usize)?;
-    for number in (0..form.count()).rev() {
-        let node = form.node(number);
-        let height = match node.shape {
-            Shape::Binder | Shape::True | Shape::False => 0,
-            Shape::Variable => 1,
-            _ => {
-                let left = height_in(form, &heights, number, node.left);
-                left.max(height_in(form, &heights, number, node.right))
-            }
-        };
-        heights.set(number, height);
-    }
-    Ok(heights)
-}
-
-fn height_in(form: &Form, heights: &Numbers, number: u32, child: u32) -> u32 {
-    if form.root(child) == form.root(number) {
-        heights.get(child).saturating_add(1)
-    } else {
-        1
-    }
-}
-
 // Finds the values of a component. The answer is nothing where they are not found.
 fn solve(alloc: Global, levels: &mut Levels, root: u32) -> Result<Option<Part>, Memory> {
     let binders = survey(&levels.board.form, root);
     let greatest = binders.greatest;
     let falls = match (binders.nodes, binders.odd, binders.even) {
         (1, _, _) => {
-            levels.board.lift(root);
+            levels.board.lift(alloc, root)?;
             Falls::Heights
         }
         (_, true, false) => {
-            levels.run(root, Order::Rising)?;
+            levels.run(alloc, root, Order::Rising)?;
             Falls::Heights
         }
         (_, false, true) => {
-            levels.run(root, Order::Falling)?;
+            levels.run(alloc, root, Order::Falling)?;
             Falls::Times(greatest)
         }
         _ => {
@@ -153,7 +125,12 @@ fn solve(alloc: Global, levels: &mut Levels, root: u32) -> Result<Option<Part>, 
             }
         }
     };
-    Ok(Some(Part { root, falls }))
+    Ok(Some(Part {
+        root,
+        end: binders.end,
+        falls,
+        turns: binders.turns,
+    }))
 }
 
 impl<'a> Whole<'a> {
@@ -172,14 +149,20 @@ impl<'a> Whole<'a> {
         let Some(scale) = Scale::of(game) else {
             return Ok(None);
         };
-        if !can_climb(game) {
+        if !can_climb(game) || !fits(lts) {
             return Ok(None);
         }
         let sets = label_sets(alloc, lts, normal)?;
-        let form = Form::of(alloc, normal, &sets)?;
-        let heights = heights(alloc, &form)?;
-        let board = Board::new(alloc, lts, sets, form, scale)?;
-        let mut levels = Levels::new(alloc, board)?;
+        let Some(kinds) = Kinds::of(alloc, lts.labels(), &sets)? else {
+            return Ok(None);
+        };
+        let graph = Graph {
+            states: lts.states(),
+            forth: Edges::forth(alloc, lts, &kinds)?,
+            back: Edges::back(alloc, lts, &kinds)?,
+        };
+        let form = Form::of(alloc, normal, &kinds)?;
+        let mut levels = Levels::new(alloc, Board::new(alloc, graph, form, scale)?)?;
         let mut parts = Vec::new(alloc);
         for root in (0..levels.board.form.count()).rev() {
             if levels.board.form.root(root) != root {
@@ -191,33 +174,43 @@ impl<'a> Whole<'a> {
             }
         }
         Ok(Some(Whole {
+            lts,
             board: levels.board,
-            heights,
             parts,
         }))
     }
 
+    /// The value of a node at a state.
+    pub(crate) fn value(&self, number: u32, state: u32) -> u64 {
+        self.board.value(self.board.form.real(number), state)
+    }
+
     // The rank of a node at a state, as two numbers.
     fn rank(&self, part: Part, number: u32, state: u32) -> (u32, u32) {
-        let time = self.board.times.get(self.board.place(number, state));
-        let height = self.heights.get(number);
+        let real = self.board.form.real(number);
+        let height = self.board.form.height(number);
         match part.falls {
             Falls::Heights => (0, height),
-            Falls::Times(_) => (time, 0),
-            Falls::Both(_) => (time, height),
+            Falls::Times(priority) if self.board.form.node(real).priority > priority => (height, 0),
+            Falls::Times(_) => {
+                let level = self.board.level(real, state);
+                (level.saturating_mul(part.turns).saturating_add(height), 0)
+            }
+            Falls::Both(_) => (self.board.round(real, state), height),
         }
     }
 
     // Whether Odd may go on to this child: its value is as great, and the rank falls.
     fn leads(&self, part: Part, number: u32, state: u32, child: u32, target: u32) -> bool {
         let is_inside = self.board.form.root(child) == part.root;
-        let value = self.board.value(number, state);
+        let value = self.value(number, state);
         let falls = || self.rank(part, child, target) < self.rank(part, number, state);
-        self.board.value(child, target) >= value && (!is_inside || falls())
+        self.value(child, target) >= value && (!is_inside || falls())
     }
 
-    // Where Odd goes on, as a vertex.
-    fn next(&self, part: Part, number: u32, node: Node, state: u32) -> u32 {
+    /// Where Odd goes on, as a vertex.
+    pub(crate) fn next(&self, part: Part, number: u32, state: u32) -> u32 {
+        let node = self.board.form.node(number);
         match node.shape {
             Shape::And if self.leads(part, number, state, node.left, state) => {
                 self.vertex(node.left, state)
@@ -229,22 +222,23 @@ impl<'a> Whole<'a> {
     }
 
     fn next_step(&self, part: Part, number: u32, node: Node, state: u32) -> u32 {
-        for step in self.board.row(state) {
-            if (node.full || self.board.takes(number, step.label))
-                && self.leads(part, number, state, node.left, step.target)
-            {
-                return self.vertex(node.left, step.target);
+        for edge in self.board.forth.row(state) {
+            let target = state_of(*edge);
+            if takes(node.mask, *edge) && self.leads(part, number, state, node.left, target) {
+                return self.vertex(node.left, target);
             }
         }
         0
     }
 
-    fn vertex(&self, number: u32, state: u32) -> u32 {
+    /// The vertex of a node at a state.
+    pub(crate) fn vertex(&self, number: u32, state: u32) -> u32 {
         let first = state.wrapping_mul(self.board.form.count());
         first.wrapping_add(number).wrapping_add(2)
     }
 
-    fn rank_into(&self, part: Part, number: u32, state: u32, rank: &mut [u32]) {
+    /// Writes the rank of a node at a state.
+    pub(crate) fn rank_into(&self, part: Part, number: u32, state: u32, rank: &mut [u32]) {
         let (time, height) = self.rank(part, number, state);
         let half = match part.falls {
             Falls::Heights => 0,
@@ -257,84 +251,6 @@ impl<'a> Whole<'a> {
         let place = rank.len().saturating_sub(1).saturating_sub(half);
         if let Some(count) = rank.get_mut(place) {
             *count = count.saturating_add(time);
-        }
-    }
-}
-
-// The measure of a word.
-fn measure(scale: &Scale, word: u64, counts: &mut [u32]) -> Measure
-    requires { length counts.old ≤ COMPONENTS }
-{
-    if word == TOP {
-        Measure::top()
-    } else {
-        scale.counts_into(word, counts);
-        Measure::of_counts(counts)
-    }
-}
-
-impl Whole<'_> {
-    // Claims the value of a node at a state.
-    fn claim_at(
-        &self,
-        game: &Game,
-        claim: &mut Claim,
-        part: Part,
-        number: u32,
-        state: u32,
-        rank: &mut [u32],
-    )
-        requires same { claim.old.game ≡ game.now }
-        requires rank { length rank.old ≡ length (components (dual claim.old.game)) }
-        ensures { claim.new.game ≡ game.now }
-    {
-        let word = self.board.value(number, state);
-        let v = self.vertex(number, state);
-        if word == ZERO || v >= game.vertices() {
-            return;
-        }
-        let mut counts = [0; COMPONENTS];
-        let value = measure(&self.board.scale, word, &mut counts[..width(game)]);
-        if is_measure(game, &value) {
-            let next = self.next(part, number, self.board.form.node(number), state);
-            self.rank_into(part, number, state, rank);
-            claim.set(v, &value, next, rank);
-        }
-    }
-
-    // Claims the values of a node.
-    fn claim_node(&self, game: &Game, claim: &mut Claim, part: Part, number: u32, rank: &mut [u32])
-        requires same { claim.old.game ≡ game.now }
-        requires rank { length rank.old ≡ length (components (dual claim.old.game)) }
-        ensures { claim.new.game ≡ game.now }
-    {
-        for state in 0..self.board.states {
-            self.claim_at(game, claim, part, number, state, rank);
-        }
-    }
-}
-
-impl Guess for Whole<'_> {
-    fn parts(&self) -> u32 {
-        u32::try_from(self.parts.len()).unwrap_or(0)
-    }
-
-    fn claim_part(&self, game: &Game, claim: &mut Claim, part: u32)
-        requires { claim.old.game ≡ game.now }
-        ensures { claim.new.game ≡ game.now }
-    {
-        let width = claim.width();
-        let mut rank = [0; MOST_RANKS];
-        let Some(part) = self.parts.get(part as usize).copied() else {
-            return;
-        };
-        if width > MOST_RANKS {
-            return;
-        }
-        for number in part.root..self.board.form.count() {
-            if self.board.form.root(number) == part.root {
-                self.claim_node(game, claim, part, number, &mut rank[..width]);
-            }
         }
     }
 }

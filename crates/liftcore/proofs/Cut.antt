@@ -1,5 +1,6 @@
 -- The first line of a text, and what follows it.
-use Rattle.std.proofs.Common.{◌≡◌, ℕ, ◌+◌, ◌<◌, ◌≤◌, true, false, cond, not, ◌||◌, nat_lt, ◌==◌, List, [], ◌∷◌, ◌++◌, length, take, drop, Option, Some, None, refl, ap, ◌∙◌, arith}
+use Rattle.std.proofs.Common.{◌≡◌, ℕ, ◌+◌, ◌<◌, ◌≤◌, true, false, cond, not, ◌||◌, nat_lt, ◌==◌, List, [], ◌∷◌, ◌++◌, length, take, drop, Option, Some, None}
+use Rattle.std.proofs.Common.{refl, ap, ◌∙◌, arith}
 use Rattle.std.specs.List.{list_any, prefix_len}
 use Rattle.std.proofs.lemmas.Bool.{ltb-false}
 use Rattle.std.proofs.lemmas.List.{length-append}
@@ -11,7 +12,8 @@ use Rattle.text.proofs.Scanning.{cut_gives}
 up_to_end : (front rest : List ℕ) → list_any (λ b. b == 10) front ≡ false → pieces_of (front ++ 10 ∷ rest) ≡ front ∷ pieces_of rest
 up_to_end [] rest h = refl
 up_to_end (b ∷ front) rest h =
-    elim (b == 10) as (λ c. (c || list_any (λ b. b == 10) front) ≡ false → cond c ([] ∷ pieces_of (front ++ 10 ∷ rest)) (with_first b (pieces_of (front ++ 10 ∷ rest))) ≡ (b ∷ front) ∷ pieces_of rest) [
+    elim (b == 10) as (λ c. (c || list_any (λ b. b == 10) front) ≡ false
+    → cond c ([] ∷ pieces_of (front ++ 10 ∷ rest)) (with_first b (pieces_of (front ++ 10 ∷ rest))) ≡ (b ∷ front) ∷ pieces_of rest) [
       | true ↦ λ k. absurd cc
       | false ↦ λ k. ap (with_first b) (up_to_end front rest k)
     ] h
@@ -34,7 +36,8 @@ alone_more b (c ∷ bytes) = refl
 without_end : (text : List ℕ) → length text ≤ prefix_len (is_other 10) text → pieces_of text ≡ alone text
 without_end [] h = refl
 without_end (b ∷ text) h =
-    elim (b == 10) as (λ c. length (b ∷ text) ≤ cond (not c) (1 + prefix_len (is_other 10) text) 0 → cond c ([] ∷ pieces_of text) (with_first b (pieces_of text)) ≡ (b ∷ text) ∷ []) [
+    elim (b == 10) as (λ c. length (b ∷ text) ≤ cond (not c) (1 + prefix_len (is_other 10) text) 0
+    → cond c ([] ∷ pieces_of text) (with_first b (pieces_of text)) ≡ (b ∷ text) ∷ []) [
       | true ↦ λ k. absurd (omega (arith, k))
       | false ↦ λ k. ap (with_first b) (without_end text (omega (arith, k))) ∙ alone_more b text
     ] h

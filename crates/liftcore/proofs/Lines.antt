@@ -1,5 +1,6 @@
 -- What the test on a line of a schedule says of the line.
-use Rattle.std.proofs.Common.{◌≡◌, ℕ, ◌<◌, ◌≤◌, ◌^◌, ◌⊎◌, inl, inr, true, false, cond, ◌==◌, ◌||◌, List, [], ◌∷◌, ◌++◌, Option, Some, None, codes, refl, sym, ap, ap₂, ◌∙◌, subst, arith, true≢false}
+use Rattle.std.proofs.Common.{◌≡◌, ℕ, ◌<◌, ◌≤◌, ◌^◌, ◌⊎◌, inl, inr, true, false, cond, ◌==◌, ◌||◌, List, [], ◌∷◌, ◌++◌, Option, Some, None, codes, refl, sym}
+use Rattle.std.proofs.Common.{ap, ap₂, ◌∙◌, subst, arith, true≢false}
 use Rattle.std.specs.List.{list_all, list_any}
 use Rattle.std.specs.Prelude.{IsSomeAnd}
 use Rattle.std.specs.Str.{bytes_eq}
@@ -41,7 +42,8 @@ numeral_free bytes n h = digits_free bytes (numeral_digits bytes h.0)
 
 -- ---- an event's line is found
 
-two_words : (line word : List ℕ) (w v : ℕ) → IsWords line word (w ∷ v ∷ []) → (x y : List ℕ) × IsNumeral x w × IsNumeral y v × (line ≡ word ++ 32 ∷ (x ++ 32 ∷ y))
+two_words : (line word : List ℕ) (w v : ℕ) → IsWords line word (w ∷ v ∷ []) → (x y : List ℕ) × IsNumeral x w × IsNumeral y v
+    × (line ≡ word ++ 32 ∷ (x ++ 32 ∷ y))
 two_words line word w v ([], each, is) = absurd each
 two_words line word w v (x ∷ [], each, is) = absurd each.1
 two_words line word w v (x ∷ y ∷ [], each, is) = (x, y, each.0, each.1.0, is)
@@ -52,23 +54,27 @@ one_word line word w ([], each, is) = absurd each
 one_word line word w (x ∷ [], each, is) = (x, each.0, is)
 one_word line word w (x ∷ y ∷ more, each, is) = absurd each.1
 
-two_found : (number : List ℕ → Option ℕ) (f : ℕ → ℕ) (x y : List ℕ) (w v : ℕ) → Gives number f → IsNumeral x w → IsNumeral y v → two_numbers number (x ++ 32 ∷ y) ≡ Some (f w, f v)
+two_found : (number : List ℕ → Option ℕ) (f : ℕ → ℕ) (x y : List ℕ) (w v : ℕ) → Gives number f → IsNumeral x w → IsNumeral y v
+    → two_numbers number (x ++ 32 ∷ y) ≡ Some (f w, f v)
 unfolding two_numbers
 two_found number f x y w v gives h k = rw (cut_finds 32 x y (numeral_free x w h), gives x w h, gives y v k) refl
 
 -- the line of a word with two numbers
-pair_found : (number : List ℕ → Option ℕ) (f : ℕ → ℕ) (line word : List ℕ) (w v : ℕ) → Gives number f → list_any (λ b. b == 32) word ≡ false → bytes_eq word (codes "raise") ≡ false → IsWords line word (w ∷ v ∷ [])
+pair_found : (number : List ℕ → Option ℕ) (f : ℕ → ℕ) (line word : List ℕ) (w v : ℕ) → Gives number f → list_any (λ b. b == 32) word ≡ false
+    → bytes_eq word (codes "raise") ≡ false → IsWords line word (w ∷ v ∷ [])
     → event_at number line ≡ event_with word (f w) (f v)
 unfolding event_at
 pair_found number f line word w v gives free other words =
     let (x, y, h, k, is) = two_words line word w v words in
     rw (is, cut_finds 32 word (x ++ 32 ∷ y) free, other, two_found number f x y w v gives h k) refl
 
-pub event_found : (number : List ℕ → Option ℕ) (f : ℕ → ℕ) (line : List ℕ) (event : Event) → Gives number f → IsEventLine line event → event_at number line ≡ Some (mapped f event)
+pub event_found : (number : List ℕ → Option ℕ) (f : ℕ → ℕ) (line : List ℕ) (event : Event) → Gives number f → IsEventLine line event
+    → event_at number line ≡ Some (mapped f event)
 unfolding event_at event_with
 event_found number f line (Take w v) gives words = pair_found number f line (codes "take") w v gives refl refl words
 event_found number f line (Read w v) gives words = pair_found number f line (codes "read") w v gives refl refl words
-event_found number f line (Raise w) gives words = let (x, h, is) = one_word line (codes "raise") w words in rw (is, cut_finds 32 (codes "raise") x refl, gives x w h) refl
+event_found number f line (Raise w) gives words = let (x, h, is) = one_word line (codes "raise") w words
+    in rw (is, cut_finds 32 (codes "raise") x refl, gives x w h) refl
 event_found number f line (Push w v) gives words = pair_found number f line (codes "push") w v gives refl refl words
 
 gives_capped : Gives whole_number capped
@@ -130,15 +136,20 @@ IsOf word w v event =
 with_given : (word : List ℕ) (w v : ℕ) (event : Event) → event_with word w v ≡ Some event → IsOf word w v event
 unfolding event_with
 with_given word w v event e =
-    elim (bytes_eq word (codes "take")) as (λ b. bytes_eq word (codes "take") ≡ b → cond b (Some (Take w v)) (cond (bytes_eq word (codes "read")) (Some (Read w v)) (cond (bytes_eq word (codes "push")) (Some (Push w v)) None)) ≡ Some event → IsOf word w v event) [
+    elim (bytes_eq word (codes "take")) as (λ b. bytes_eq word (codes "take") ≡ b
+    → cond b (Some (Take w v)) (cond (bytes_eq word (codes "read")) (Some (Read w v)) (cond (bytes_eq word (codes "push")) (Some (Push w v)) None))
+    ≡ Some event → IsOf word w v event) [
       | true ↦ λ h k. inl ((bytes_eq-Decides word (codes "take")).0 h, sym (some_is (Take w v) event k))
-      | false ↦ λ no k. elim (bytes_eq word (codes "read")) as (λ b. bytes_eq word (codes "read") ≡ b → cond b (Some (Read w v)) (cond (bytes_eq word (codes "push")) (Some (Push w v)) None) ≡ Some event → IsOf word w v event) [
-        | true ↦ λ h k. inr (inl ((bytes_eq-Decides word (codes "read")).0 h, sym (some_is (Read w v) event k)))
-        | false ↦ λ no k. elim (bytes_eq word (codes "push")) as (λ b. bytes_eq word (codes "push") ≡ b → cond b (Some (Push w v)) None ≡ Some event → IsOf word w v event) [
-          | true ↦ λ h k. inr (inr ((bytes_eq-Decides word (codes "push")).0 h, sym (some_is (Push w v) event k)))
-          | false ↦ λ no k. absurd cc
-        ] refl k
-      ] refl k
+      | false ↦ λ no k. elim (bytes_eq word (codes "read")) as
+          (λ b. bytes_eq word (codes "read") ≡ b → cond b (Some (Read w v)) (cond (bytes_eq word (codes "push")) (Some (Push w v)) None) ≡ Some event
+          → IsOf word w v event) [
+            | true ↦ λ h k. inr (inl ((bytes_eq-Decides word (codes "read")).0 h, sym (some_is (Read w v) event k)))
+            | false ↦ λ no k. elim (bytes_eq word (codes "push")) as
+                (λ b. bytes_eq word (codes "push") ≡ b → cond b (Some (Push w v)) None ≡ Some event → IsOf word w v event) [
+                  | true ↦ λ h k. inr (inr ((bytes_eq-Decides word (codes "push")).0 h, sym (some_is (Push w v) event k)))
+                  | false ↦ λ no k. absurd cc
+                ] refl k
+          ] refl k
     ] refl e
 
 pair_spelled : (line word rest : List ℕ) (w v : ℕ) (event : Event) → line ≡ word ++ 32 ∷ rest → AreTwo rest w v → IsOf word w v event → IsSpelled line event
@@ -149,7 +160,8 @@ pair_spelled line word rest w v event cut (x, y, m, n, h, k, is, at, by) (inr (i
 pair_spelled line word rest w v event cut (x, y, m, n, h, k, is, at, by) (inr (inr (push, e))) =
     (Push m n, (x ∷ y ∷ [], (h, (k, tt)), cut ∙ ap₂ (λ a b. a ++ 32 ∷ b) push is), e ∙ ap₂ (λ a b. Push a b) at by)
 
-raise_spelled : (line word rest : List ℕ) (event : Event) → line ≡ word ++ 32 ∷ rest → word ≡ codes "raise" → (whole_number rest >>= λ w. Some (Raise w)) ≡ Some event → IsSpelled line event
+raise_spelled : (line word rest : List ℕ) (event : Event) → line ≡ word ++ 32 ∷ rest → word ≡ codes "raise"
+    → (whole_number rest >>= λ w. Some (Raise w)) ≡ Some event → IsSpelled line event
 raise_spelled line word rest event cut same e =
     let (w, read, is) = bind_some (whole_number rest) (λ w. Some (Raise w)) event e in
     let (n, h, at) = numeral_of rest w read in
@@ -162,7 +174,8 @@ event_given line event e =
     let other = λ (word rest : List ℕ). two_numbers whole_number rest >>= λ both. event_with word both.0 both.1 in
     let (cut, is, e1) = bind_some (cut_at 32 line) (λ cut. cond (bytes_eq cut.0 (codes "raise")) (raise cut.1) (other cut.0 cut.1)) event e in
     let split = (cut_gives 32 line cut.0 cut.1 is).1 in
-    elim (bytes_eq cut.0 (codes "raise")) as (λ b. bytes_eq cut.0 (codes "raise") ≡ b → cond b (raise cut.1) (other cut.0 cut.1) ≡ Some event → IsSpelled line event) [
+    elim (bytes_eq cut.0 (codes "raise")) as (λ b. bytes_eq cut.0 (codes "raise") ≡ b → cond b (raise cut.1) (other cut.0 cut.1) ≡ Some event
+    → IsSpelled line event) [
       | true ↦ λ same k. raise_spelled line cut.0 cut.1 event split ((bytes_eq-Decides cut.0 (codes "raise")).0 same) k
       | false ↦ λ no k. (
           let (both, two, e2) = bind_some (two_numbers whole_number cut.1) (λ both. event_with cut.0 both.0 both.1) event k in
@@ -178,13 +191,18 @@ worker_capped (Raise w) = refl
 worker_capped (Push w v) = refl
 
 -- what is among so few was read as it stands
-pub read_whole : (workers vertices : ℕ) (event : Event) → workers < 2 ^ 32 → vertices < 2 ^ 32 → IsWithin workers vertices (mapped capped event) → mapped capped event ≡ event
-read_whole workers vertices (Take w v) few small h = let one : capped w ≡ w = omega (arith, h.worker) in let two : capped v ≡ v = omega (arith, h.vertex) in ap₂ (λ a b. Take a b) one two
-read_whole workers vertices (Read w v) few small h = let one : capped w ≡ w = omega (arith, h.worker) in let two : capped v ≡ v = omega (arith, h.vertex) in ap₂ (λ a b. Read a b) one two
+pub read_whole : (workers vertices : ℕ) (event : Event) → workers < 2 ^ 32 → vertices < 2 ^ 32 → IsWithin workers vertices (mapped capped event)
+    → mapped capped event ≡ event
+read_whole workers vertices (Take w v) few small h = let one : capped w ≡ w = omega (arith, h.worker) in let two : capped v ≡ v = omega (arith, h.vertex)
+    in ap₂ (λ a b. Take a b) one two
+read_whole workers vertices (Read w v) few small h = let one : capped w ≡ w = omega (arith, h.worker) in let two : capped v ≡ v = omega (arith, h.vertex)
+    in ap₂ (λ a b. Read a b) one two
 read_whole workers vertices (Raise w) few small h = let one : capped w ≡ w = omega (arith, h.worker) in ap (λ a. Raise a) one
-read_whole workers vertices (Push w v) few small h = let one : capped w ≡ w = omega (arith, h.worker) in let two : capped v ≡ v = omega (arith, h.vertex) in ap₂ (λ a b. Push a b) one two
+read_whole workers vertices (Push w v) few small h = let one : capped w ≡ w = omega (arith, h.worker) in let two : capped v ≡ v = omega (arith, h.vertex)
+    in ap₂ (λ a b. Push a b) one two
 
-pub good_line : (workers vertices : ℕ) (line : List ℕ) (event : Event) → workers < 2 ^ 32 → vertices < 2 ^ 32 → event_at whole_number line ≡ Some event → IsWithin workers vertices event
+pub good_line : (workers vertices : ℕ) (line : List ℕ) (event : Event) → workers < 2 ^ 32 → vertices < 2 ^ 32 → event_at whole_number line ≡ Some event
+    → IsWithin workers vertices event
     → IsEventLine line event × IsWithin workers vertices event
 good_line workers vertices line event few small found within =
     let (x, is, e) = event_given line event found in
@@ -194,22 +212,26 @@ good_line workers vertices line event few small found within =
 abbrev pub HasNoWorker : ℕ → List ℕ → Type 0
 HasNoWorker workers line = (event : Event) × IsEventLine line event × (workers ≤ worker_of_event event)
 
-pub far_worker : (workers : ℕ) (line : List ℕ) (event : Event) → event_at whole_number line ≡ Some event → workers ≤ worker_of_event event → HasNoWorker workers line
+pub far_worker : (workers : ℕ) (line : List ℕ) (event : Event) → event_at whole_number line ≡ Some event → workers ≤ worker_of_event event
+    → HasNoWorker workers line
 far_worker workers line event found far =
     let (x, is, e) = event_given line event found in
     let read : worker_of_event event ≡ capped (worker_of_event x) = ap worker_of_event e ∙ worker_capped x in
     (x, is, omega arith)
 
 abbrev pub HasNoVertex : (workers vertices : ℕ) → List ℕ → Type 0
-HasNoVertex workers vertices line = (event : Event) × IsEventLine line event × (worker_of_event event < workers) × IsSomeAnd (vertex_of_event event) (λ v. vertices ≤ v)
+HasNoVertex workers vertices line = (event : Event) × IsEventLine line event × (worker_of_event event < workers)
+    × IsSomeAnd (vertex_of_event event) (λ v. vertices ≤ v)
 
-vertex_far : (vertices : ℕ) (event : Event) → IsSomeAnd (vertex_of_event (mapped capped event)) (λ v. vertices ≤ v) → IsSomeAnd (vertex_of_event event) (λ v. vertices ≤ v)
+vertex_far : (vertices : ℕ) (event : Event) → IsSomeAnd (vertex_of_event (mapped capped event)) (λ v. vertices ≤ v)
+    → IsSomeAnd (vertex_of_event event) (λ v. vertices ≤ v)
 vertex_far vertices (Take w v) far = omega arith
 vertex_far vertices (Read w v) far = omega arith
 vertex_far vertices (Raise w) far = far
 vertex_far vertices (Push w v) far = omega arith
 
-pub far_vertex : (workers vertices : ℕ) (line : List ℕ) (event : Event) → workers < 2 ^ 32 → event_at whole_number line ≡ Some event → worker_of_event event < workers
+pub far_vertex : (workers vertices : ℕ) (line : List ℕ) (event : Event) → workers < 2 ^ 32 → event_at whole_number line ≡ Some event
+    → worker_of_event event < workers
     → IsSomeAnd (vertex_of_event event) (λ v. vertices ≤ v) → HasNoVertex workers vertices line
 far_vertex workers vertices line event few found near far =
     let (x, is, e) = event_given line event found in

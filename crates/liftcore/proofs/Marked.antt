@@ -1,5 +1,7 @@
 -- Marks, and the numbers that are marked.
-use Rattle.std.proofs.Common.{◌≡◌, ◌≢◌, ℕ, zero, suc, ◌+◌, ◌<◌, ◌≤◌, ◌==◌, ◌&&◌, ◌||◌, ◌⊎◌, Bool, true, false, cond, not, List, [], ◌∷◌, ◌++◌, length, take, filter, count_by, replicate, refl, sym, ◌∙◌, ap, subst, inl, inr, arith, true≢false, Contains, slice_index, slice_index_or, slice_set}
+use Rattle.std.proofs.Common.{◌≡◌, ◌≢◌, ℕ, zero, suc, ◌+◌, ◌<◌, ◌≤◌, ◌==◌, ◌&&◌, ◌||◌, ◌⊎◌, Bool, true, false, cond, not, List, [], ◌∷◌, ◌++◌, length, take}
+use Rattle.std.proofs.Common.{filter, count_by, replicate, refl, sym, ◌∙◌, ap, subst, inl, inr, arith, true≢false, Contains, slice_index, slice_index_or}
+use Rattle.std.proofs.Common.{slice_set}
 use Rattle.std.specs.Prelude.{nat_lt}
 use Rattle.std.proofs.lemmas.Bool.{cases_eq, ne_eqb, ltb-true, lt-ltb, cases_lt}
 use Rattle.std.proofs.lemmas.List.{get_or-set_other, get_or-set_same, get_or_past, get_or-replicate, length-set, length-replicate, take_more}
@@ -85,7 +87,8 @@ filter_twice p q (x ∷ xs) = elim (cases (p x)) [
 pub insert_members : (marks : List Bool) (v : ℕ) → v < length marks → members (slice_set marks v true) ≡ with_number v (members marks)
 insert_members marks v h =
     ap (λ n. filter (λ x. slice_index_or (slice_set marks v true) x false) (range_with_len 0 n)) (length-set marks v true)
-    ∙ with_passing (λ x. slice_index_or marks x false) (λ x. slice_index_or (slice_set marks v true) x false) v 0 (length marks) (omega arith) (omega arith) (get_or-set_same marks v true false h)
+    ∙ with_passing (λ x. slice_index_or marks x false) (λ x. slice_index_or (slice_set marks v true) x false) v 0 (length marks) (omega arith) (omega arith)
+    (get_or-set_same marks v true false h)
     (λ x n. get_or-set_other marks v x true false n)
 
 and_no : (b : Bool) → (b && not true) ≡ false
@@ -106,7 +109,8 @@ remove_members marks v h =
     at x = elim (cases_eq x v) [
       | inl e ↦ (
           let same = same_eqb x v e in
-          let now : slice_index_or (slice_set marks v false) x false ≡ false = ap (λ k. slice_index_or (slice_set marks v false) k false) e ∙ get_or-set_same marks v false false h in
+          let now : slice_index_or (slice_set marks v false) x false ≡ false = ap (λ k. slice_index_or (slice_set marks v false) k false) e
+          ∙ get_or-set_same marks v false false h in
           rw (now, same) (sym (and_no (slice_index_or marks x false)))
           )
       | inr e ↦ (let apart = ne_eqb x v e in rw apart (get_or-set_other marks v x false false e ∙ sym (and_yes (slice_index_or marks x false))))
@@ -129,7 +133,8 @@ marked_member marks v h =
     inside : v < 0 + length marks
     inside = elim (cases (nat_lt v (length marks))) [
       | inl e ↦ (let l = ltb-true v (length marks) e in omega arith)
-      | inr e ↦ absurd (true≢false (sym h ∙ get_or_past marks v false (elim (cases_lt v (length marks)) [ inl l ↦ absurd (true≢false (sym (lt-ltb v (length marks) l) ∙ e)) | inr l ↦ l ])))
+      | inr e ↦ absurd (true≢false (sym h ∙ get_or_past marks v false
+          (elim (cases_lt v (length marks)) [ inl l ↦ absurd (true≢false (sym (lt-ltb v (length marks) l) ∙ e)) | inr l ↦ l ])))
     ]
 
 -- ---- how many there are
@@ -151,7 +156,8 @@ filter_none (x ∷ xs) = filter_none xs
 
 pub no_members : (marks : List Bool) → count_by (λ b. b) marks ≡ 0 → members marks ≡ []
 no_members marks e =
-    filter_same (λ x. slice_index_or marks x false) (λ x. false) 0 (length marks) (λ x l. none_counted marks x e) ∙ filter_none (range_with_len 0 (length marks))
+    filter_same (λ x. slice_index_or marks x false) (λ x. false) 0 (length marks) (λ x l. none_counted marks x e)
+    ∙ filter_none (range_with_len 0 (length marks))
 
 pub members_none : (marks : List Bool) → members marks ≡ [] → count_by (λ b. b) marks ≡ 0
 members_none marks e = elim (some_counted marks) [
@@ -184,7 +190,8 @@ any_last p (y ∷ ys) x = or_more (p y) (any_last p ys x)
     or_more false e = e
 
 -- one more vertex that is owed
-pub owed_more : (ts : List ℕ) (i : ℕ) (owed : List Bool) → i < length ts → slice_index ts i < length owed → AreOwed (take i ts) owed → AreOwed (take (i + 1) ts) (slice_set owed (slice_index ts i) true)
+pub owed_more : (ts : List ℕ) (i : ℕ) (owed : List Bool) → i < length ts → slice_index ts i < length owed → AreOwed (take i ts) owed
+    → AreOwed (take (i + 1) ts) (slice_set owed (slice_index ts i) true)
 owed_more ts i owed h l are v = sym (ap (list_any (λ t. t == v)) (take_more ts i 0 h) ∙ any_last (λ t. t == v) (take i ts) (slice_index ts i) ∙ at)
   where
     at : (list_any (λ t. t == v) (take i ts) || slice_index ts i == v) ≡ slice_index_or (slice_set owed (slice_index ts i) true) v false
@@ -196,7 +203,8 @@ owed_more ts i owed h l are v = sym (ap (list_any (λ t. t == v)) (take_more ts 
           )
       | inr e ↦ (
           let apart = ne_eqb (slice_index ts i) v (λ q. e (sym q)) in
-          ap (λ b. list_any (λ t. t == v) (take i ts) || b) apart ∙ or_nothing (list_any (λ t. t == v) (take i ts)) ∙ sym (are v) ∙ sym (get_or-set_other owed (slice_index ts i) v true false e)
+          ap (λ b. list_any (λ t. t == v) (take i ts) || b) apart ∙ or_nothing (list_any (λ t. t == v) (take i ts)) ∙ sym (are v)
+          ∙ sym (get_or-set_other owed (slice_index ts i) v true false e)
           )
     ]
       where
@@ -205,14 +213,16 @@ owed_more ts i owed h l are v = sym (ap (list_any (λ t. t == v)) (take_more ts 
         or_nothing false = refl
 
 -- the marks of the predecessors are those of no other
-pub owed_members : (p : ℕ → Bool) (n : ℕ) (owed : List Bool) → length owed ≡ n → AreOwed (filter p (range_with_len 0 n)) owed → members owed ≡ filter p (range_with_len 0 n)
+pub owed_members : (p : ℕ → Bool) (n : ℕ) (owed : List Bool) → length owed ≡ n → AreOwed (filter p (range_with_len 0 n)) owed
+    → members owed ≡ filter p (range_with_len 0 n)
 owed_members p n owed long are =
     ap (λ n. filter (λ v. slice_index_or owed v false) (range_with_len 0 n)) long
     ∙ filter_within (λ v. slice_index_or owed v false) p 0 n (λ v l h. are v ∙ at v h)
   where
     at : (v : ℕ) → v < 0 + n → list_any (λ t. t == v) (filter p (range_with_len 0 n)) ≡ p v
     at v h = elim (cases (p v)) [
-      | inl e ↦ gives_any (λ t. t == v) (filter p (range_with_len 0 n)) v (gives_filter p (range_with_len 0 n) v (gives_range 0 n v (omega arith) h) e) (same_eqb v v refl) ∙ sym e
+      | inl e ↦ gives_any (λ t. t == v) (filter p (range_with_len 0 n)) v (gives_filter p (range_with_len 0 n) v (gives_range 0 n v (omega arith) h) e)
+          (same_eqb v v refl) ∙ sym e
       | inr e ↦ elim (cases (list_any (λ t. t == v) (filter p (range_with_len 0 n)))) [
         | inl i ↦ absurd (true≢false (sym (passes p (range_with_len 0 n) v (any_has v (filter p (range_with_len 0 n)) i)) ∙ e))
         | inr i ↦ i ∙ sym e
@@ -227,4 +237,5 @@ filter_all (x ∷ xs) = ap (λ ys. x ∷ ys) (filter_all xs)
 pub all_members : (n : ℕ) → members (replicate n true) ≡ range_with_len 0 n
 all_members n =
     ap (λ k. filter (λ v. slice_index_or (replicate n true) v false) (range_with_len 0 k)) (length-replicate n true)
-    ∙ (filter_within (λ v. slice_index_or (replicate n true) v false) (λ x. true) 0 n (λ v l h. get_or-replicate n v true false (omega (arith, h))) ∙ filter_all (range_with_len 0 n))
+    ∙ (filter_within (λ v. slice_index_or (replicate n true) v false) (λ x. true) 0 n (λ v l h. get_or-replicate n v true false (omega (arith, h)))
+    ∙ filter_all (range_with_len 0 n))

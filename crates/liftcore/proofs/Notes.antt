@@ -1,5 +1,6 @@
 -- What workers noted, and what they owe.
-use Rattle.std.proofs.Common.{◌≡◌, ℕ, zero, suc, ◌⊎◌, Bool, true, false, cond, List, [], ◌∷◌, length, map, replicate, refl, sym, ◌∙◌, ap, ap₂, subst, inl, inr, true≢false, Contains, Option, Some, None, option_map}
+use Rattle.std.proofs.Common.{◌≡◌, ℕ, zero, suc, ◌⊎◌, Bool, true, false, cond, List, [], ◌∷◌, length, map, replicate, refl, sym, ◌∙◌, ap, ap₂, subst, inl}
+use Rattle.std.proofs.Common.{inr, true≢false, Contains, Option, Some, None, option_map}
 use Rattle.std.specs.Prelude.{slice_get, unwrap_or, find, nat_lt, if◌then◌else◌, ◌==◌}
 use Rattle.std.specs.List.{AllZip, list_all, list_any, range_with_len}
 use Rattle.std.proofs.Common.{arith}
@@ -15,24 +16,29 @@ use Rattle.liftcore.proofs.Sets.{and_both, eqb_same, gives_filter, gives_range}
 abbrev pub noted_or : List Note → (ℕ → Measure) → ℕ → Measure
 noted_or notes f t = unwrap_or (noted notes t) (f t)
 
-pub zip_noted : (notes : List Note) (f : ℕ → Measure) (ts : List ℕ) (values : List Measure) → AllZip (λ t m. noted notes t ≡ Some m) ts values → values ≡ map (noted_or notes f) ts
+pub zip_noted : (notes : List Note) (f : ℕ → Measure) (ts : List ℕ) (values : List Measure) → AllZip (λ t m. noted notes t ≡ Some m) ts values
+    → values ≡ map (noted_or notes f) ts
 zip_noted notes f [] [] h = refl
 zip_noted notes f [] (m ∷ ms) h = absurd h
 zip_noted notes f (t ∷ ts) [] h = absurd h
 zip_noted notes f (t ∷ ts) (m ∷ ms) h = ap₂ (λ y ys. y ∷ ys) (ap (λ o. unwrap_or o (f t)) (sym h.0)) (zip_noted notes f ts ms h.1)
 
-pub zip_fresh : (notes : List Note) (f : ℕ → Measure) (ts : List ℕ) (values : List Measure) → ((t : ℕ) (m : Measure) → Contains ts t → noted notes t ≡ Some m → m ≡ f t)
+pub zip_fresh : (notes : List Note) (f : ℕ → Measure) (ts : List ℕ) (values : List Measure)
+    → ((t : ℕ) (m : Measure) → Contains ts t → noted notes t ≡ Some m → m ≡ f t)
     → AllZip (λ t m. noted notes t ≡ Some m) ts values → values ≡ map f ts
 zip_fresh notes f [] [] same h = refl
 zip_fresh notes f [] (m ∷ ms) same h = absurd h
 zip_fresh notes f (t ∷ ts) [] same h = absurd h
-zip_fresh notes f (t ∷ ts) (m ∷ ms) same h = ap₂ (λ y ys. y ∷ ys) (same t m (contains_first t ts) h.0) (zip_fresh notes f ts ms (λ s n c e. same s n (contains_later t s ts c) e) h.1)
+zip_fresh notes f (t ∷ ts) (m ∷ ms) same h = ap₂ (λ y ys. y ∷ ys) (same t m (contains_first t ts) h.0)
+    (zip_fresh notes f ts ms (λ s n c e. same s n (contains_later t s ts c) e) h.1)
 
 -- one note more
-pub noted_more : (x : Note) (notes : List Note) (t : ℕ) (m : Measure) → noted (with_note x notes) t ≡ Some m → (noted notes t ≡ Some m) ⊎ ((x.vertex ≡ t) × (x.value ≡ m))
+pub noted_more : (x : Note) (notes : List Note) (t : ℕ) (m : Measure) → noted (with_note x notes) t ≡ Some m → (noted notes t ≡ Some m)
+    ⊎ ((x.vertex ≡ t) × (x.value ≡ m))
 noted_more x [] t m e = by (x.vertex == t) (eqb_same x.vertex t) e
   where
-    by : (b : Bool) → (b ≡ true → x.vertex ≡ t) → option_map (λ (z : Note). z.value) (cond {A = Option Note} b (Some x) None) ≡ Some m → (None ≡ Some m) ⊎ ((x.vertex ≡ t) × (x.value ≡ m))
+    by : (b : Bool) → (b ≡ true → x.vertex ≡ t) → option_map (λ (z : Note). z.value) (cond {A = Option Note} b (Some x) None) ≡ Some m → (None ≡ Some m)
+        ⊎ ((x.vertex ≡ t) × (x.value ≡ m))
     by true f h = inr (f refl, same_Some x.value m h)
     by false f h = inl h
 noted_more x (y ∷ ys) t m e = by (nat_lt x.vertex y.vertex) (noted_more x ys t m) e
@@ -110,5 +116,6 @@ pub in_predecessors : (g : Game) (y u : ℕ) (x : Vertex) → vertex g y ≡ Som
 unfolding predecessors
 in_predecessors g y u x at h =
     let l = slice_get_within g.vertices y x at in
-    gives_filter (λ v. list_any (λ t. t == u) (successors_at (vertex g v))) (range_with_len 0 (length g.vertices)) y (gives_range 0 (length g.vertices) y (omega arith) (omega (arith, l)))
+    gives_filter (λ v. list_any (λ t. t == u) (successors_at (vertex g v))) (range_with_len 0 (length g.vertices)) y
+    (gives_range 0 (length g.vertices) y (omega arith) (omega (arith, l)))
     (subst (λ o. list_any (λ t. t == u) (successors_at o) ≡ true) (sym at) h)

@@ -1,5 +1,6 @@
 -- A text spells one schedule at most, and has one fault at most, but not both; and the lines that were read so far.
-use Rattle.std.proofs.Common.{◌≡◌, ℕ, ◌+◌, ◌<◌, ◌≤◌, List, [], ◌∷◌, ◌++◌, Option, Some, None, Result, Ok, Err, length, refl, sym, ap, ◌∙◌, subst, arith, append-nil, append_assoc}
+use Rattle.std.proofs.Common.{◌≡◌, ℕ, ◌+◌, ◌<◌, ◌≤◌, List, [], ◌∷◌, ◌++◌, Option, Some, None, Result, Ok, Err, length, refl, sym, ap, ◌∙◌, subst, arith}
+use Rattle.std.proofs.Common.{append-nil, append_assoc}
 use Rattle.std.specs.Prelude.{IfSome, IsSomeAnd}
 use Rattle.std.specs.List.{AllZip}
 use Rattle.std.specs.Global.{Vec}
@@ -19,7 +20,8 @@ tails : {X : Type 0} (x y : X) (xs ys : List X) → x ∷ xs ≡ y ∷ ys → (x
 tails x y xs ys e = (cc, cc)
 
 module _ (workers vertices : ℕ) where
-  one_schedule : (lines : List (List ℕ)) (xs ys : List Event) → AllZip (IsGoodLine workers vertices) lines xs → AllZip (IsGoodLine workers vertices) lines ys → xs ≡ ys
+  one_schedule : (lines : List (List ℕ)) (xs ys : List Event) → AllZip (IsGoodLine workers vertices) lines xs → AllZip (IsGoodLine workers vertices) lines ys
+      → xs ≡ ys
   one_schedule [] [] [] h k = refl
   one_schedule [] [] (y ∷ ys) h k = absurd k
   one_schedule [] (x ∷ xs) ys h k = absurd h
@@ -48,14 +50,16 @@ module _ (workers vertices : ℕ) where
       not_both (vertex_of_event x) within.vertex far
 
   -- the event of a line among good ones
-  event_at_line : (front : List (List ℕ)) (line : List ℕ) (back : List (List ℕ)) (events : List Event) → AllZip (IsGoodLine workers vertices) (front ++ line ∷ back) events
+  event_at_line : (front : List (List ℕ)) (line : List ℕ) (back : List (List ℕ)) (events : List Event)
+      → AllZip (IsGoodLine workers vertices) (front ++ line ∷ back) events
       → (event : Event) × IsGoodLine workers vertices line event
   event_at_line [] line back [] h = absurd h
   event_at_line [] line back (x ∷ events) h = (x, h.0)
   event_at_line (l ∷ front) line back [] h = absurd h
   event_at_line (l ∷ front) line back (x ∷ events) h = event_at_line front line back events h.1
 
-  no_fault : (text : List ℕ) (events : List Event) (fault : ScheduleFault) (place : ℕ) → IsSchedule workers vertices text events → HasFault workers vertices text fault place → ⊥
+  no_fault : (text : List ℕ) (events : List Event) (fault : ScheduleFault) (place : ℕ) → IsSchedule workers vertices text events
+      → HasFault workers vertices text fault place → ⊥
   no_fault text events fault place all faulty =
       let at = event_at_line faulty.front faulty.line faulty.back events (subst (λ l. AllZip (IsGoodLine workers vertices) l events) faulty.cut all) in
       no_fault_in faulty.line at.0 fault at.1 faulty.wrong
@@ -80,7 +84,8 @@ module _ (workers vertices : ℕ) where
 
   -- two faulty lines with good ones before them are one
   one_place : (fs gs : List (List ℕ)) (l m : List ℕ) (bs cs : List (List ℕ)) (xs ys : List Event) (f h : ScheduleFault) → fs ++ l ∷ bs ≡ gs ++ m ∷ cs
-      → AllZip (IsGoodLine workers vertices) fs xs → AllZip (IsGoodLine workers vertices) gs ys → LineFault workers vertices l f → LineFault workers vertices m h → (length fs ≡ length gs) × (l ≡ m)
+      → AllZip (IsGoodLine workers vertices) fs xs → AllZip (IsGoodLine workers vertices) gs ys → LineFault workers vertices l f
+      → LineFault workers vertices m h → (length fs ≡ length gs) × (l ≡ m)
   one_place [] [] l m bs cs xs ys f h e good fine p q = (refl, (tails l m bs cs e).0)
   one_place [] (g ∷ gs) l m bs cs xs [] f h e good fine p q = absurd fine
   one_place [] (g ∷ gs) l m bs cs xs (y ∷ ys) f h e good fine p q =
@@ -98,8 +103,11 @@ module _ (workers vertices : ℕ) where
 
   one_fault : (text : List ℕ) (f h : ScheduleFault) (i j : ℕ) → HasFault workers vertices text f i → HasFault workers vertices text h j → (f ≡ h) × (i ≡ j)
   one_fault text f h i j p q =
-      let place = one_place p.front q.front p.line q.line p.back q.back p.before q.before f h (sym p.cut ∙ q.cut) p.fine q.fine p.wrong q.wrong in
-      (one_fault_in p.line f h p.wrong (subst (λ line. LineFault workers vertices line h) (sym place.1) q.wrong), p.here ∙ (ap (λ n. n + 1) place.0 ∙ sym q.here))
+      let place = one_place p.front q.front p.line q.line p.back q.back p.before q.before f h (sym p.cut ∙ q.cut) p.fine q.fine p.wrong q.wrong in (
+        one_fault_in p.line f h p.wrong (subst (λ line. LineFault workers vertices line h) (sym place.1) q.wrong),
+        p.here
+            ∙ (ap (λ n. n + 1) place.0 ∙ sym q.here),
+      )
 
   laws : AreLaws (IsSchedule workers vertices) (IsSchedule workers vertices) (IsSchedule workers vertices) (HasFaultAt workers vertices)
   laws = record {
@@ -118,14 +126,16 @@ module _ (workers vertices : ℕ) where
   pub nothing_yet : (text : List ℕ) → SoFar text text []
   nothing_yet text = record { done = []; each = tt; cut = refl }
 
-  each_more : (done : List (List ℕ)) (events : List Event) (line : List ℕ) (event : Event) → AllZip (IsGoodLine workers vertices) done events → IsGoodLine workers vertices line event
+  each_more : (done : List (List ℕ)) (events : List Event) (line : List ℕ) (event : Event) → AllZip (IsGoodLine workers vertices) done events
+      → IsGoodLine workers vertices line event
       → AllZip (IsGoodLine workers vertices) (done ++ line ∷ []) (events ++ event ∷ [])
   each_more [] [] line event each one = (one, tt)
   each_more [] (x ∷ events) line event each one = absurd each
   each_more (l ∷ done) [] line event each one = absurd each
   each_more (l ∷ done) (x ∷ events) line event each one = (each.0, each_more done events line event each.1 one)
 
-  pub one_more : (text left line rest : List ℕ) (events : List Event) (event : Event) → SoFar text left events → pieces_of left ≡ line ∷ pieces_of rest → IsEventLine line event → IsWithin workers vertices event
+  pub one_more : (text left line rest : List ℕ) (events : List Event) (event : Event) → SoFar text left events → pieces_of left ≡ line ∷ pieces_of rest
+      → IsEventLine line event → IsWithin workers vertices event
       → SoFar text rest (events ++ event ∷ [])
   one_more text left line rest events event so next is within = record {
     done = so.done ++ line ∷ [];
@@ -134,9 +144,11 @@ module _ (workers vertices : ℕ) where
   }
 
   pub whole : (text left : List ℕ) (events : List Event) → SoFar text left events → pieces_of left ≡ [] → IsSchedule workers vertices text events
-  whole text left events so none = subst (λ l. AllZip (IsGoodLine workers vertices) l events) (sym (so.cut ∙ (ap (λ l. so.done ++ l) none ∙ append-nil so.done))) so.each
+  whole text left events so none = subst (λ l. AllZip (IsGoodLine workers vertices) l events)
+      (sym (so.cut ∙ (ap (λ l. so.done ++ l) none ∙ append-nil so.done))) so.each
 
-  pub faulty : (text left line rest : List ℕ) (events : List Event) (fault : ScheduleFault) (place : ℕ) → SoFar text left events → pieces_of left ≡ line ∷ pieces_of rest → LineFault workers vertices line fault
+  pub faulty : (text left line rest : List ℕ) (events : List Event) (fault : ScheduleFault) (place : ℕ) → SoFar text left events
+      → pieces_of left ≡ line ∷ pieces_of rest → LineFault workers vertices line fault
       → place ≡ length events + 1 → HasFault workers vertices text fault place
   faulty text left line rest events fault place so next wrong at = record {
     front = so.done;
@@ -150,13 +162,17 @@ module _ (workers vertices : ℕ) where
   }
 
   abbrev Promise : List ℕ → Result (Vec Event) ScheduleError → Type 0
-  Promise text r = Reads (IsSchedule workers vertices) (IsSchedule workers vertices) (IsSchedule workers vertices) (HasFaultAt workers vertices) (λ (v : Vec Event). v.items) named (Some text) r
+  Promise text r = Reads (IsSchedule workers vertices) (IsSchedule workers vertices) (IsSchedule workers vertices) (HasFaultAt workers vertices)
+      (λ (v : Vec Event). v.items) named (Some text) r
 
   pub answered : (text : List ℕ) (v : Vec Event) → IsSchedule workers vertices text v.items → Promise text (Ok v)
-  answered text v is = keeps (IsSchedule workers vertices) (IsSchedule workers vertices) (IsSchedule workers vertices) (HasFaultAt workers vertices) (λ (v : Vec Event). v.items) named laws (Some text) (Ok v) is tt
+  answered text v is = keeps (IsSchedule workers vertices) (IsSchedule workers vertices) (IsSchedule workers vertices) (HasFaultAt workers vertices)
+      (λ (v : Vec Event). v.items) named laws (Some text) (Ok v) is tt
 
   pub refused : (text : List ℕ) (fault : ScheduleFault) (line : ℕ) → HasFault workers vertices text fault line → Promise text (Err (errors.Fault fault line))
-  refused text fault line is = keeps (IsSchedule workers vertices) (IsSchedule workers vertices) (IsSchedule workers vertices) (HasFaultAt workers vertices) (λ (v : Vec Event). v.items) named laws (Some text) (Err (errors.Fault fault line)) tt is
+  refused text fault line is = keeps (IsSchedule workers vertices) (IsSchedule workers vertices) (IsSchedule workers vertices) (HasFaultAt workers vertices)
+      (λ (v : Vec Event). v.items) named laws (Some text) (Err (errors.Fault fault line)) tt is
 
   pub unread : (text : List ℕ) → Promise text (Err errors.Memory)
-  unread text = keeps (IsSchedule workers vertices) (IsSchedule workers vertices) (IsSchedule workers vertices) (HasFaultAt workers vertices) (λ (v : Vec Event). v.items) named laws (Some text) (Err errors.Memory) tt tt
+  unread text = keeps (IsSchedule workers vertices) (IsSchedule workers vertices) (IsSchedule workers vertices) (HasFaultAt workers vertices)
+      (λ (v : Vec Event). v.items) named laws (Some text) (Err errors.Memory) tt tt

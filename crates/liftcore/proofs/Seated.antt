@@ -1,5 +1,6 @@
 -- What a worker noted, as its turn has it.
-use Rattle.std.proofs.Common.{◌≡◌, ℕ, zero, suc, ◌<◌, ◌≤◌, Bool, true, false, List, [], ◌∷◌, length, take, refl, sym, ◌∙◌, ap, subst, inl, inr, arith, true≢false, Contains, Option, Some, None, option_map, slice_index, slice_index_or, slice_set}
+use Rattle.std.proofs.Common.{◌≡◌, ℕ, zero, suc, ◌<◌, ◌≤◌, Bool, true, false, List, [], ◌∷◌, length, take, refl, sym, ◌∙◌, ap, subst, inl, inr, arith}
+use Rattle.std.proofs.Common.{true≢false, Contains, Option, Some, None, option_map, slice_index, slice_index_or, slice_set}
 use Rattle.std.specs.Prelude.{if◌then◌else◌, MatchOption, MatchResult, Result, Ok, Err}
 use Rattle.std.specs.List.{AllZip}
 use Rattle.std.specs.List.Sorted.{IsBinarySearchResult}
@@ -65,9 +66,11 @@ successors_ascend g v is = by (vertex g v) refl
 pub found_at : (xs : List ℕ) (v : ℕ) (r : Result ℕ ℕ) (o : Option ℕ) → IsAscending xs → IsBinarySearchResult (λ y. nat_cmp y v) xs r → o ≡ result_ok r
     → MatchOption o (Contains xs v → ⊥) (λ k. (k < length xs) × (slice_index xs k ≡ v))
 found_at xs v r o up is same =
-    subst (λ (o : Option ℕ). MatchOption o (Contains xs v → ⊥) (λ k. (k < length xs) × (slice_index xs k ≡ v))) (sym same) (by r (searched xs v r is (λ i j le h. ascending_at xs i j up le h)))
+    subst (λ (o : Option ℕ). MatchOption o (Contains xs v → ⊥) (λ k. (k < length xs) × (slice_index xs k ≡ v))) (sym same)
+    (by r (searched xs v r is (λ i j le h. ascending_at xs i j up le h)))
   where
-    by : (r : Result ℕ ℕ) → MatchResult r (λ i. (i < length xs) × (slice_index xs i ≡ v)) (λ i. (i ≤ length xs) × ((k : ℕ) → k < i → slice_index xs k < v) × ((k : ℕ) → i ≤ k → k < length xs → v < slice_index xs k))
+    by : (r : Result ℕ ℕ) → MatchResult r (λ i. (i < length xs) × (slice_index xs i ≡ v))
+        (λ i. (i ≤ length xs) × ((k : ℕ) → k < i → slice_index xs k < v) × ((k : ℕ) → i ≤ k → k < length xs → v < slice_index xs k))
         → MatchOption (result_ok r) (Contains xs v → ⊥) (λ k. (k < length xs) × (slice_index xs k ≡ v))
     by (Ok i) h = h
     by (Err i) h = λ c.
@@ -106,7 +109,8 @@ noted_unread (t ∷ ts) (b ∷ bs) (m ∷ ms) (suc k) up h e = by b (noted_unrea
     by false rest = rest
     by true rest = let apart = ne_eqb t (slice_index ts k) (later_apart t ts k up (omega arith)) in rw apart rest
 
-pub noted_read : (ts : List ℕ) (marks : List Bool) (values : List Measure) (k : ℕ) → IsAscending ts → k < length ts → k < length values → slice_index_or marks k false ≡ true
+pub noted_read : (ts : List ℕ) (marks : List Bool) (values : List Measure) (k : ℕ) → IsAscending ts → k < length ts → k < length values
+    → slice_index_or marks k false ≡ true
     → noted (notes_from ts marks values) (slice_index ts k) ≡ Some (slice_index_or values k Top)
 noted_read [] marks values k up h i e = absurd (omega arith)
 noted_read (t ∷ ts) [] values k up h i e = absurd (true≢false (sym e))
@@ -114,12 +118,14 @@ noted_read (t ∷ ts) (b ∷ bs) [] k up h i e = absurd (omega arith)
 noted_read (t ∷ ts) (b ∷ bs) (m ∷ ms) zero up h i e = let same = same_eqb t t refl in rw (e, same) refl
 noted_read (t ∷ ts) (b ∷ bs) (m ∷ ms) (suc k) up h i e = by b (noted_read ts bs ms k (ascending_rest t ts up) (omega arith) (omega arith) e)
   where
-    by : (b : Bool) → noted (notes_from ts bs ms) (slice_index ts k) ≡ Some (slice_index_or ms k Top) → noted (notes_from (t ∷ ts) (b ∷ bs) (m ∷ ms)) (slice_index ts k) ≡ Some (slice_index_or ms k Top)
+    by : (b : Bool) → noted (notes_from ts bs ms) (slice_index ts k) ≡ Some (slice_index_or ms k Top)
+        → noted (notes_from (t ∷ ts) (b ∷ bs) (m ∷ ms)) (slice_index ts k) ≡ Some (slice_index_or ms k Top)
     by false rest = rest
     by true rest = let apart = ne_eqb t (slice_index ts k) (later_apart t ts k up (omega arith)) in rw apart rest
 
 -- nothing is noted where nothing is read
-pub nothing_noted : (ts : List ℕ) (marks : List Bool) (values : List Measure) → ((k : ℕ) → k < length ts → slice_index_or marks k false ≡ false) → notes_from ts marks values ≡ []
+pub nothing_noted : (ts : List ℕ) (marks : List Bool) (values : List Measure) → ((k : ℕ) → k < length ts → slice_index_or marks k false ≡ false)
+    → notes_from ts marks values ≡ []
 nothing_noted [] marks values lack = refl
 nothing_noted (t ∷ ts) [] values lack = refl
 nothing_noted (t ∷ ts) (b ∷ bs) [] lack = refl
@@ -127,23 +133,29 @@ nothing_noted (t ∷ ts) (b ∷ bs) (m ∷ ms) lack = let e : b ≡ false = lack
 
 -- ---- one more note
 
-note_first : (x : Note) (ts : List ℕ) (marks : List Bool) (values : List Measure) → ((t : ℕ) → Contains ts t → x.vertex < t) → with_note x (notes_from ts marks values) ≡ x ∷ notes_from ts marks values
+note_first : (x : Note) (ts : List ℕ) (marks : List Bool) (values : List Measure) → ((t : ℕ) → Contains ts t → x.vertex < t)
+    → with_note x (notes_from ts marks values) ≡ x ∷ notes_from ts marks values
 note_first x [] marks values low = refl
 note_first x (t ∷ ts) [] values low = refl
 note_first x (t ∷ ts) (b ∷ bs) [] low = refl
 note_first x (t ∷ ts) (false ∷ bs) (m ∷ ms) low = note_first x ts bs ms (λ s h. low s (contains_later t s ts h))
 note_first x (t ∷ ts) (true ∷ bs) (m ∷ ms) low = let l = lt-ltb x.vertex t (low t (contains_first t ts)) in rw l refl
 
-pub one_more_note : (ts : List ℕ) (marks : List Bool) (values : List Measure) (k : ℕ) (m : Measure) → IsAscending ts → k < length ts → k < length marks → k < length values
-    → slice_index_or marks k false ≡ false → notes_from ts (slice_set marks k true) (slice_set values k m) ≡ with_note (record { vertex = slice_index ts k; value = m }) (notes_from ts marks values)
+pub one_more_note : (ts : List ℕ) (marks : List Bool) (values : List Measure) (k : ℕ) (m : Measure) → IsAscending ts → k < length ts → k < length marks
+    → k < length values
+    → slice_index_or marks k false ≡ false → notes_from ts (slice_set marks k true) (slice_set values k m)
+    ≡ with_note (record { vertex = slice_index ts k; value = m }) (notes_from ts marks values)
 one_more_note [] marks values k m up h i j e = absurd (omega arith)
 one_more_note (t ∷ ts) [] values k m up h i j e = absurd (omega arith)
 one_more_note (t ∷ ts) (b ∷ bs) [] k m up h i j e = absurd (omega arith)
-one_more_note (t ∷ ts) (b ∷ bs) (n ∷ ns) zero m up h i j e = rw e (sym (note_first (record { vertex = t; value = m }) ts bs ns (λ s c. ascending_above t ts s up c)))
-one_more_note (t ∷ ts) (b ∷ bs) (n ∷ ns) (suc k) m up h i j e = by b (one_more_note ts bs ns k m (ascending_rest t ts up) (omega arith) (omega arith) (omega arith) e)
+one_more_note (t ∷ ts) (b ∷ bs) (n ∷ ns) zero m up h i j e = rw e
+    (sym (note_first (record { vertex = t; value = m }) ts bs ns (λ s c. ascending_above t ts s up c)))
+one_more_note (t ∷ ts) (b ∷ bs) (n ∷ ns) (suc k) m up h i j e = by b
+    (one_more_note ts bs ns k m (ascending_rest t ts up) (omega arith) (omega arith) (omega arith) e)
   where
     by : (b : Bool) → notes_from ts (slice_set bs k true) (slice_set ns k m) ≡ with_note (record { vertex = slice_index ts k; value = m }) (notes_from ts bs ns)
-        → notes_from (t ∷ ts) (b ∷ slice_set bs k true) (n ∷ slice_set ns k m) ≡ with_note (record { vertex = slice_index ts k; value = m }) (notes_from (t ∷ ts) (b ∷ bs) (n ∷ ns))
+        → notes_from (t ∷ ts) (b ∷ slice_set bs k true) (n ∷ slice_set ns k m)
+        ≡ with_note (record { vertex = slice_index ts k; value = m }) (notes_from (t ∷ ts) (b ∷ bs) (n ∷ ns))
     by false rest = rest
     by true rest =
         let above = ascending_above t ts (slice_index ts k) up (contains_at ts k (omega arith)) in
@@ -152,13 +164,15 @@ one_more_note (t ∷ ts) (b ∷ bs) (n ∷ ns) (suc k) m up h i j e = by b (one_
 
 -- ---- all is read
 
-pub zip_noted_from : (notes : List Note) (ts : List ℕ) (values : List Measure) → length ts ≤ length values → ((k : ℕ) → k < length ts → noted notes (slice_index ts k) ≡ Some (slice_index_or values k Top))
+pub zip_noted_from : (notes : List Note) (ts : List ℕ) (values : List Measure) → length ts ≤ length values
+    → ((k : ℕ) → k < length ts → noted notes (slice_index ts k) ≡ Some (slice_index_or values k Top))
     → AllZip (λ t m. noted notes t ≡ Some m) ts (take (length ts) values)
 zip_noted_from notes [] values h f = tt
 zip_noted_from notes (t ∷ ts) [] h f = absurd (omega arith)
 zip_noted_from notes (t ∷ ts) (m ∷ ms) h f = (f 0 (omega arith), zip_noted_from notes ts ms (omega arith) (λ k l. f (suc k) (omega arith)))
 
-pub zip_noted_at : (notes : List Note) (ts : List ℕ) (values : List Measure) (k : ℕ) → AllZip (λ t m. noted notes t ≡ Some m) ts values → k < length ts → noted notes (slice_index ts k) ≡ None → ⊥
+pub zip_noted_at : (notes : List Note) (ts : List ℕ) (values : List Measure) (k : ℕ) → AllZip (λ t m. noted notes t ≡ Some m) ts values → k < length ts
+    → noted notes (slice_index ts k) ≡ None → ⊥
 zip_noted_at notes [] values k h l e = absurd (omega arith)
 zip_noted_at notes (t ∷ ts) [] k h l e = absurd h
 zip_noted_at notes (t ∷ ts) (m ∷ ms) zero h l e = none-some m (sym e ∙ h.0)
@@ -180,7 +194,8 @@ module _ (g : Game) (s : Seat) (is : IsSeat g s) where
   here x e = ap (λ (h : Game). successors_at (vertex h s.turn.vertex)) is.game ∙ ap successors_at e
 
   pub coded : (u : ℕ) (ts : List ℕ) → u ≡ s.turn.vertex → option_map (λ (x : Vertex). x.successors) (vertex g u) ≡ Some ts → successors_of s.turn ≡ ts
-  coded u ts e at = ap (λ (h : Game). successors_at (vertex h s.turn.vertex)) is.game ∙ (ap (λ (u : ℕ). successors_at (vertex g u)) (sym e) ∙ successors_are (vertex g u) ts at)
+  coded u ts e at = ap (λ (h : Game). successors_at (vertex h s.turn.vertex)) is.game
+      ∙ (ap (λ (u : ℕ). successors_at (vertex g u)) (sym e) ∙ successors_are (vertex g u) ts at)
 
   pub long : s.holding ≡ true → length (successors_of s.turn) ≤ length s.turn.marks
   long h = is.turn.room s.turn.vertex (subst (λ (g : Game). s.turn.vertex < length g.vertices) (sym is.game) (is.vertex h))
@@ -188,15 +203,19 @@ module _ (g : Game) (s : Seat) (is : IsSeat g s) where
   -- it has read what it noted
   noted_then : (place : ℕ) → s.holding ≡ true → place < length (successors_of s.turn) → IsReadAt s.turn place
       → noted (notes_of s.turn) (slice_index (successors_of s.turn) place) ≡ Some (slice_index_or s.turn.values place Top)
-  noted_then place h l read = let k = long h in let q = is.turn.even in noted_read (successors_of s.turn) s.turn.marks s.turn.values place ascend l (omega arith) read
+  noted_then place h l read = let k = long h in let q = is.turn.even
+      in noted_read (successors_of s.turn) s.turn.marks s.turn.values place ascend l (omega arith) read
 
   -- a worker that has read v can't read it
-  pub read_no_more : (v place : ℕ) → s.holding ≡ true → place < length (successors_of s.turn) → slice_index (successors_of s.turn) place ≡ v → IsReadAt s.turn place → CanRead g (worker_of s) v → ⊥
+  pub read_no_more : (v place : ℕ) → s.holding ≡ true → place < length (successors_of s.turn) → slice_index (successors_of s.turn) place ≡ v
+      → IsReadAt s.turn place → CanRead g (worker_of s) v → ⊥
   read_no_more v place h l e read c =
       let same = holds_same s.turn.vertex c.u (notes_of s.turn) c.notes (sym (worker_holding s h) ∙ c.holds) in
-      none-some (slice_index_or s.turn.values place Top) (sym c.unread ∙ (ap (λ (ns : List Note). noted ns v) (sym same.1) ∙ (ap (noted (notes_of s.turn)) (sym e) ∙ noted_then place h l read)))
+      none-some (slice_index_or s.turn.values place Top) (sym c.unread
+      ∙ (ap (λ (ns : List Note). noted ns v) (sym same.1) ∙ (ap (noted (notes_of s.turn)) (sym e) ∙ noted_then place h l read)))
 
-  pub zip_read : s.holding ≡ true → AreRead s.turn (length (successors_of s.turn)) → AllZip (λ t m. noted (notes_of s.turn) t ≡ Some m) (successors_of s.turn) (values_of s.turn)
+  pub zip_read : s.holding ≡ true → AreRead s.turn (length (successors_of s.turn))
+      → AllZip (λ t m. noted (notes_of s.turn) t ≡ Some m) (successors_of s.turn) (values_of s.turn)
   zip_read h all =
       let k = long h in let q = is.turn.even in
       zip_noted_from (notes_of s.turn) (successors_of s.turn) s.turn.values (omega arith) (λ k l. noted_then k h l (all k l))
@@ -214,13 +233,15 @@ module _ (g : Game) (s : Seat) (is : IsSeat g s) where
         read = subst (λ (ts : List ℕ). AllZip (λ t m. noted (notes_of s.turn) t ≡ Some m) ts (values_of s.turn)) (here x.0 x.1) (zip_read h all);
       }
 
-  pub unread_waits : (place : ℕ) → s.holding ≡ true → place < length (successors_of s.turn) → slice_index_or s.turn.marks place false ≡ false → CanRaise g (worker_of s) → ⊥
+  pub unread_waits : (place : ℕ) → s.holding ≡ true → place < length (successors_of s.turn) → slice_index_or s.turn.marks place false ≡ false
+      → CanRaise g (worker_of s) → ⊥
   unread_waits place h l e c =
       let same = holds_same s.turn.vertex c.u (notes_of s.turn) c.notes (sym (worker_holding s h) ∙ c.holds) in
       let at = here c.x (ap (vertex g) same.0 ∙ c.held) in
       let read = subst (λ (ts : List ℕ). AllZip (λ t m. noted c.notes t ≡ Some m) ts c.values) (sym at) c.read in
       let read' = subst (λ (ns : List Note). AllZip (λ t m. noted ns t ≡ Some m) (successors_of s.turn) c.values) (sym same.1) read in
-      zip_noted_at (notes_of s.turn) (successors_of s.turn) c.values place read' l (noted_unread (successors_of s.turn) s.turn.marks s.turn.values place ascend l e)
+      zip_noted_at (notes_of s.turn) (successors_of s.turn) c.values place read' l
+      (noted_unread (successors_of s.turn) s.turn.marks s.turn.values place ascend l e)
 
   -- what is unread can be read
   pub unread_reads : (v place : ℕ) → IsUnread s v place → CanRead g (worker_of s) v
@@ -232,12 +253,14 @@ module _ (g : Game) (s : Seat) (is : IsSeat g s) where
         x = x.0;
         holds = worker_holding s r.holding;
         held = x.1;
-        successor = subst (λ (ts : List ℕ). Contains ts v) (here x.0 x.1) (subst (Contains (successors_of s.turn)) r.here (contains_at (successors_of s.turn) place r.inside));
+        successor = subst (λ (ts : List ℕ). Contains ts v) (here x.0 x.1)
+            (subst (Contains (successors_of s.turn)) r.here (contains_at (successors_of s.turn) place r.inside));
         unread = ap (noted (notes_of s.turn)) (sym r.here) ∙ noted_unread (successors_of s.turn) s.turn.marks s.turn.values place ascend r.inside r.unread;
       }
 
   pub note_one : (v place : ℕ) (m : Measure) → IsUnread s v place
-      → notes_from (successors_of s.turn) (slice_set s.turn.marks place true) (slice_set s.turn.values place m) ≡ with_note (record { vertex = v; value = m }) (notes_of s.turn)
+      → notes_from (successors_of s.turn) (slice_set s.turn.marks place true) (slice_set s.turn.values place m)
+      ≡ with_note (record { vertex = v; value = m }) (notes_of s.turn)
   note_one v place m r =
       let l = r.inside in let k = long r.holding in let q = is.turn.even in
       one_more_note (successors_of s.turn) s.turn.marks s.turn.values place m ascend l (omega arith) (omega arith) r.unread

@@ -1,5 +1,6 @@
 -- What sets of numbers have, and lists after a write.
-use Rattle.std.proofs.Common.{◌≡◌, ◌≢◌, ℕ, zero, suc, ◌+◌, ◌<◌, ◌≤◌, ◌⊎◌, Bool, true, false, not, ◌&&◌, ◌||◌, if◌then◌else◌, List, [], ◌∷◌, map, eqb, refl, sym, ◌∙◌, ap, ap₂, subst, inl, inr, arith, true≢false, Contains, Some, slice_set}
+use Rattle.std.proofs.Common.{◌≡◌, ◌≢◌, ℕ, zero, suc, ◌+◌, ◌<◌, ◌≤◌, ◌⊎◌, Bool, true, false, not, ◌&&◌, ◌||◌, if◌then◌else◌, List, [], ◌∷◌, map, eqb, refl}
+use Rattle.std.proofs.Common.{sym, ◌∙◌, ap, ap₂, subst, inl, inr, arith, true≢false, Contains, Some, slice_set}
 use Rattle.std.specs.Prelude.{filter, slice_get, nat_lt, ◌==◌}
 use Rattle.std.specs.List.{list_any, range_with_len}
 use Rattle.std.proofs.lemmas.Bool.Decides.{eqb_tells}
@@ -101,11 +102,13 @@ set_get_other (z ∷ zs) (suc i) zero x n = refl
 set_get_other (z ∷ zs) (suc i) (suc j) x n = set_get_other zs i j x (λ e. n (ap suc e))
 
 -- what holds something else stands elsewhere, and stays
-pub get_kept : {X : Type 0} (xs : List X) (i j : ℕ) (x a b : X) → slice_get xs i ≡ Some a → slice_get xs j ≡ Some b → (a ≡ b → ⊥) → slice_get (slice_set xs i x) j ≡ Some b
+pub get_kept : {X : Type 0} (xs : List X) (i j : ℕ) (x a b : X) → slice_get xs i ≡ Some a → slice_get xs j ≡ Some b → (a ≡ b → ⊥)
+    → slice_get (slice_set xs i x) j ≡ Some b
 get_kept xs i j x a b e d n = set_get_other xs i j x (λ q. n (same_Some a b (sym e ∙ (ap (slice_get xs) (sym q) ∙ d)))) ∙ d
 
 -- what stands there after the write was written, or stood there
-pub get_back : {X : Type 0} (xs : List X) (i j : ℕ) (x a b : X) → slice_get xs i ≡ Some a → slice_get (slice_set xs i x) j ≡ Some b → (x ≡ b) ⊎ (slice_get xs j ≡ Some b)
+pub get_back : {X : Type 0} (xs : List X) (i j : ℕ) (x a b : X) → slice_get xs i ≡ Some a → slice_get (slice_set xs i x) j ≡ Some b → (x ≡ b)
+    ⊎ (slice_get xs j ≡ Some b)
 get_back xs i j x a b e d = elim (eqb_tells j i) [
   | inl w ↦ inl (same_Some x b (sym (set_get_same xs i x a e) ∙ (ap (slice_get (slice_set xs i x)) (sym w.1) ∙ d)))
   | inr w ↦ inr (sym (set_get_other xs i j x w.1) ∙ d)

@@ -1,5 +1,6 @@
 -- The state after an event.
-use Rattle.std.proofs.Common.{◌≡◌, ℕ, zero, suc, ◌+◌, ◌<◌, Bool, true, false, ◌⊎◌, ◌&&◌, List, [], ◌∷◌, ◌++◌, length, map, replicate, take, refl, sym, ◌∙◌, ap, ap₂, subst, inl, inr, arith, true≢false, Some, option_map, slice_index_or, slice_set, get_or, if◌then◌else◌}
+use Rattle.std.proofs.Common.{◌≡◌, ℕ, zero, suc, ◌+◌, ◌<◌, Bool, true, false, ◌⊎◌, ◌&&◌, List, [], ◌∷◌, ◌++◌, length, map, replicate, take, refl, sym, ◌∙◌}
+use Rattle.std.proofs.Common.{ap, ap₂, subst, inl, inr, arith, true≢false, Some, option_map, slice_index_or, slice_set, get_or, if◌then◌else◌}
 use Rattle.std.specs.Prelude.{◌==◌, slice_get, nat_lt}
 use Rattle.std.specs.List.{AllZip, list_all, list_any}
 use Rattle.std.specs.Ordering.{is_lt}
@@ -32,7 +33,8 @@ use Rattle.liftcore.proofs.Sets.{and_both, get_back}
 pub worker_there : (seats : List Seat) (w : ℕ) (x : Seat) → slice_get seats w ≡ Some x → slice_get (map worker_of seats) w ≡ Some (worker_of x)
 worker_there seats w x e = slice_get-map worker_of seats w ∙ ap (option_map worker_of) e
 
-pub seat_there : (seats : List Seat) (w : ℕ) (y : Worker) → slice_get (map worker_of seats) w ≡ Some y → (x : Seat) × (slice_get seats w ≡ Some x) × (worker_of x ≡ y)
+pub seat_there : (seats : List Seat) (w : ℕ) (y : Worker) → slice_get (map worker_of seats) w ≡ Some y → (x : Seat) × (slice_get seats w ≡ Some x)
+    × (worker_of x ≡ y)
 seat_there [] w y e = absurd (none-some y e)
 seat_there (x ∷ xs) zero y e = (x, refl, same_Some (worker_of x) y e)
 seat_there (x ∷ xs) (suc w) y e = seat_there xs w y e
@@ -42,7 +44,8 @@ set_seat [] w x = refl
 set_seat (y ∷ ys) zero x = refl
 set_seat (y ∷ ys) (suc w) x = ap (λ zs. worker_of y ∷ zs) (set_seat ys w x)
 
-pub seats_kept : (g : Game) (seats items : List Seat) (w : ℕ) (old x : Seat) → ((k : ℕ) (y : Seat) → slice_get seats k ≡ Some y → IsSeat g y) → slice_get seats w ≡ Some old → IsSeat g x
+pub seats_kept : (g : Game) (seats items : List Seat) (w : ℕ) (old x : Seat) → ((k : ℕ) (y : Seat) → slice_get seats k ≡ Some y → IsSeat g y)
+    → slice_get seats w ≡ Some old → IsSeat g x
     → items ≡ slice_set seats w x → (k : ℕ) (y : Seat) → slice_get items k ≡ Some y → IsSeat g y
 seats_kept g seats items w old x all there is e k y at = elim (get_back seats w k x old y there (ap (λ (zs : List Seat). slice_get zs k) (sym e) ∙ at)) [
   | inl q ↦ subst (IsSeat g) q is
@@ -63,12 +66,14 @@ raises_whole g s is c = elim (cases_Bool s.holding) [
 
 greater_same : (own d : Measure) (b : Bool) → is_lt (measure_cmp own d) ≡ b → is_lt (measure_cmp own (greater_of own d)) ≡ b
 greater_same own d true e = ap (λ b. is_lt (measure_cmp own (if b then d else own))) e ∙ e
-greater_same own d false e = ap (λ b. is_lt (measure_cmp own (if b then d else own))) e ∙ false_from_ne_true (is_lt (measure_cmp own own)) (λ b. not_below own own b (at_most_itself own))
+greater_same own d false e = ap (λ b. is_lt (measure_cmp own (if b then d else own))) e
+    ∙ false_from_ne_true (is_lt (measure_cmp own own)) (λ b. not_below own own b (at_most_itself own))
 
 stay_is : (c : Core) (w u : ℕ) (m : Measure) → is_lt (measure_cmp (value_in c u) m) ≡ false → after_raise c w u m ≡ with_worker c w Idle
 stay_is c w u m e = ap (λ b. if b then with_worker (with_value c u m) w (owing (predecessors c.table.game u)) else with_worker c w Idle) e
 
-rise_is : (c : Core) (w u : ℕ) (m : Measure) → is_lt (measure_cmp (value_in c u) m) ≡ true → after_raise c w u m ≡ with_worker (with_value c u m) w (owing (predecessors c.table.game u))
+rise_is : (c : Core) (w u : ℕ) (m : Measure) → is_lt (measure_cmp (value_in c u) m) ≡ true
+    → after_raise c w u m ≡ with_worker (with_value c u m) w (owing (predecessors c.table.game u))
 rise_is c w u m e = ap (λ b. if b then with_worker (with_value c u m) w (owing (predecessors c.table.game u)) else with_worker c w Idle) e
 
 abbrev pub table : Game → List Measure → Table
@@ -81,7 +86,8 @@ module _ (s : State) (w : ℕ) (x new : Seat) (items : List Seat) (there : slice
   workers_are : (y : Worker) → worker_of new ≡ y → map worker_of items ≡ slice_set (map worker_of s.seats.items) w y
   workers_are y e = ap (map worker_of) are ∙ (set_seat s.seats.items w new ∙ ap (slice_set (map worker_of s.seats.items) w) e)
 
-  pub take_step : (v : ℕ) (pending : List Bool) → worker_of x ≡ Idle → IsMarked s.pending v → pending ≡ slice_set s.pending v false → worker_of new ≡ Holding v []
+  pub take_step : (v : ℕ) (pending : List Bool) → worker_of x ≡ Idle → IsMarked s.pending v → pending ≡ slice_set s.pending v false
+      → worker_of new ≡ Holding v []
       → Takes (core_of s) w v (core s.table (members pending) (map worker_of items))
   take_step v pending idle marked e holds = record {
     idle = worker_there s.seats.items w x there ∙ ap (λ (y : Worker). Some y) idle;
@@ -89,7 +95,8 @@ module _ (s : State) (w : ℕ) (x new : Seat) (items : List Seat) (there : slice
     effect = ap₂ (core s.table) (ap members e ∙ remove_members s.pending v (marked_inside s.pending v marked)) (workers_are (Holding v []) holds);
   }
 
-  pub push_step : (v : ℕ) (pending owed : List Bool) → Owes (worker_of x) v → v < length s.pending → pending ≡ slice_set s.pending v true → owed ≡ slice_set x.owed v false
+  pub push_step : (v : ℕ) (pending owed : List Bool) → Owes (worker_of x) v → v < length s.pending → pending ≡ slice_set s.pending v true
+      → owed ≡ slice_set x.owed v false
       → worker_of new ≡ owing (members owed) → Pushes (core_of s) w v (core s.table (members pending) (map worker_of items))
   push_step v pending owed o inside e i now =
       let free = marked_owes x v o in
@@ -103,7 +110,8 @@ module _ (s : State) (w : ℕ) (x new : Seat) (items : List Seat) (there : slice
       }
 
   pub read_step : (g : Game) (v place : ℕ) → IsSeat g x → s.table.game ≡ g → IsUnread x v place
-      → worker_of new ≡ Holding x.turn.vertex (with_note (record { vertex = v; value = value_at s.table.values v }) (notes_of x.turn)) → Reads (core_of s) w v (core s.table (members s.pending) (map worker_of items))
+      → worker_of new ≡ Holding x.turn.vertex (with_note (record { vertex = v; value = value_at s.table.values v }) (notes_of x.turn))
+      → Reads (core_of s) w v (core s.table (members s.pending) (map worker_of items))
   read_step g v place is same r now =
       let c = unread_reads g x is v place r in
       let q = holds_same x.turn.vertex c.u (notes_of x.turn) c.notes (sym (worker_holding x r.holding) ∙ c.holds) in
@@ -119,7 +127,8 @@ module _ (s : State) (w : ℕ) (x new : Seat) (items : List Seat) (there : slice
             (now ∙ ap₂ (λ (u : ℕ) (ns : List Note). Holding u (with_note (record { vertex = v; value = value_at s.table.values v }) ns)) q.0 q.1));
       }
 
-  module _ (g : Game) (is : IsSeat g x) (same : s.table.game ≡ g) (d : Measure) (can : CanRaise g (worker_of x)) (demand : IsDemandOf g x.turn.vertex (values_of x.turn) d) where
+  module _ (g : Game) (is : IsSeat g x) (same : s.table.game ≡ g) (d : Measure) (can : CanRaise g (worker_of x))
+      (demand : IsDemandOf g x.turn.vertex (values_of x.turn) d) where
     raises_by : (c : Core) → c ≡ after_raise (core_of s) w x.turn.vertex (greater_of (value_at s.table.values x.turn.vertex) d) → Raises (core_of s) w c
     raises_by c e =
         let whole = raises_whole g x is can in
@@ -131,24 +140,30 @@ module _ (s : State) (w : ℕ) (x new : Seat) (items : List Seat) (there : slice
           lifted = greater_of (value_at s.table.values x.turn.vertex) d;
           holds = worker_there s.seats.items w x there ∙ ap (λ (y : Worker). Some y) (worker_holding x whole.0);
           held = ap (λ (g : Game). vertex g x.turn.vertex) same ∙ demand.1;
-          read = subst (λ (ts : List ℕ). AllZip (λ t m. noted (notes_of x.turn) t ≡ Some m) ts (values_of x.turn)) (here g x is demand.0 demand.1) (zip_read g x is whole.0 whole.1);
-          lift = subst (λ (g : Game). IsLift g demand.0 (value_at s.table.values x.turn.vertex) (values_of x.turn) (greater_of (value_at s.table.values x.turn.vertex) d)) (sym same)
+          read = subst (λ (ts : List ℕ). AllZip (λ t m. noted (notes_of x.turn) t ≡ Some m) ts (values_of x.turn)) (here g x is demand.0 demand.1)
+              (zip_read g x is whole.0 whole.1);
+          lift = subst (λ (g : Game). IsLift g demand.0 (value_at s.table.values x.turn.vertex) (values_of x.turn)
+              (greater_of (value_at s.table.values x.turn.vertex) d)) (sym same)
               (demand.2.0, d, demand.2.1, demand.2.2, refl);
           effect = e;
         }
 
-    pub stay_step : is_lt (measure_cmp (value_at s.table.values x.turn.vertex) d) ≡ false → worker_of new ≡ Idle → Raises (core_of s) w (core s.table (members s.pending) (map worker_of items))
+    pub stay_step : is_lt (measure_cmp (value_at s.table.values x.turn.vertex) d) ≡ false → worker_of new ≡ Idle
+        → Raises (core_of s) w (core s.table (members s.pending) (map worker_of items))
     stay_step low now = raises_by (core s.table (members s.pending) (map worker_of items))
         (ap (core s.table (members s.pending)) (workers_are Idle now)
-        ∙ sym (stay_is (core_of s) w x.turn.vertex (greater_of (value_at s.table.values x.turn.vertex) d) (greater_same (value_at s.table.values x.turn.vertex) d false low)))
+        ∙ sym (stay_is (core_of s) w x.turn.vertex (greater_of (value_at s.table.values x.turn.vertex) d)
+        (greater_same (value_at s.table.values x.turn.vertex) d false low)))
 
     pub rise_step : (t : Table) → is_lt (measure_cmp (value_at s.table.values x.turn.vertex) d) ≡ true → t.game ≡ s.table.game
-        → t.values ≡ slice_set s.table.values x.turn.vertex (greater_of (value_at s.table.values x.turn.vertex) d) → worker_of new ≡ owing (predecessors g x.turn.vertex)
+        → t.values ≡ slice_set s.table.values x.turn.vertex (greater_of (value_at s.table.values x.turn.vertex) d)
+        → worker_of new ≡ owing (predecessors g x.turn.vertex)
         → Raises (core_of s) w (core t (members s.pending) (map worker_of items))
     rise_step t high kept raised now = raises_by (core t (members s.pending) (map worker_of items))
         (ap₂ (λ (t : Table) (ws : List Worker). core t (members s.pending) ws) (ap₂ (λ (g : Game) (vs : List Measure). table g vs) kept raised)
         (workers_are (owing (predecessors s.table.game x.turn.vertex)) (now ∙ ap (λ (g : Game). owing (predecessors g x.turn.vertex)) (sym same)))
-        ∙ sym (rise_is (core_of s) w x.turn.vertex (greater_of (value_at s.table.values x.turn.vertex) d) (greater_same (value_at s.table.values x.turn.vertex) d true high)))
+        ∙ sym (rise_is (core_of s) w x.turn.vertex (greater_of (value_at s.table.values x.turn.vertex) d)
+        (greater_same (value_at s.table.values x.turn.vertex) d true high)))
 
 -- ---- what was looked up
 
@@ -170,7 +185,8 @@ at_index s w P r h e =
 module _ (s : State) (w : ℕ) where
   pub skip_take : (v : ℕ) → (IsMarked s.pending v → HasSeat s w (λ x. worker_of x ≡ Idle) → ⊥) → Skips (core_of s) (Take w v) (core_of s)
   skip_take v never = record {
-    nothing = λ c d. (let x = seat_there s.seats.items w Idle d.idle in never (member_marked s.pending v d.pending) (record { seat = x.0; here = x.1; is = x.2 }));
+    nothing = λ c d. (let x = seat_there s.seats.items w Idle d.idle
+        in never (member_marked s.pending v d.pending) (record { seat = x.0; here = x.1; is = x.2 }));
     same = refl;
   }
 
@@ -212,13 +228,15 @@ module _ (s : State) (w : ℕ) where
 
   pub skip_push : (v : ℕ) → (HasSeat s w (λ x. Owes (worker_of x) v) → ⊥) → Skips (core_of s) (Push w v) (core_of s)
   skip_push v never = record {
-    nothing = λ c d. (let x = seat_there s.seats.items w (Owing d.owed) d.owes in never (record { seat = x.0; here = x.1; is = record { owed = d.owed; owes = x.2; among = d.among } }));
+    nothing = λ c d. (let x = seat_there s.seats.items w (Owing d.owed) d.owes
+        in never (record { seat = x.0; here = x.1; is = record { owed = d.owed; owes = x.2; among = d.among } }));
     same = refl;
   }
 
 -- ---- the seat after a push
 
-pub pay_keeps : (g : Game) (s : Seat) (owed : List Bool) (v : ℕ) → IsSeat g s → s.holding ≡ false → owed ≡ slice_set s.owed v false → IsSeat g (record { holding = s.holding; turn = s.turn; owed = owed })
+pub pay_keeps : (g : Game) (s : Seat) (owed : List Bool) (v : ℕ) → IsSeat g s → s.holding ≡ false → owed ≡ slice_set s.owed v false
+    → IsSeat g (record { holding = s.holding; turn = s.turn; owed = owed })
 pay_keeps g s owed v is h e = record {
   turn = is.turn;
   game = is.game;
@@ -238,16 +256,19 @@ release_keeps g s is = record {
   free = λ t. absurd (true≢false (sym t));
 }
 
-pub owing_predecessors : (g : Game) (v : ℕ) (s : Seat) → IsSeat g s → s.holding ≡ false → AreOwed (predecessors g v) s.owed → worker_of s ≡ owing (predecessors g v)
+pub owing_predecessors : (g : Game) (v : ℕ) (s : Seat) → IsSeat g s → s.holding ≡ false → AreOwed (predecessors g v) s.owed
+    → worker_of s ≡ owing (predecessors g v)
 unfolding predecessors
-owing_predecessors g v s is h are = worker_free s h ∙ ap owing (owed_members (λ u. list_any (λ t. t == v) (successors_at (vertex g u))) (length g.vertices) s.owed is.long are)
+owing_predecessors g v s is h are = worker_free s h ∙ ap owing
+    (owed_members (λ u. list_any (λ t. t == v) (successors_at (vertex g u))) (length g.vertices) s.owed is.long are)
 
 pub read_idle : (s : Seat) → s.holding ≡ false → members s.owed ≡ [] → worker_of s ≡ Idle
 read_idle s h e = worker_free s h ∙ ap owing e
 
 -- ---- at the start
 
-last_idle : (seats : List Seat) (n : ℕ) (x : Seat) → map worker_of seats ≡ replicate n Idle → worker_of x ≡ Idle → map worker_of (seats ++ x ∷ []) ≡ replicate (suc n) Idle
+last_idle : (seats : List Seat) (n : ℕ) (x : Seat) → map worker_of seats ≡ replicate n Idle → worker_of x ≡ Idle
+    → map worker_of (seats ++ x ∷ []) ≡ replicate (suc n) Idle
 last_idle seats n x e i = more seats ∙ (ap₂ (λ ys y. ys ++ y ∷ []) e i ∙ twice n)
   where
     more : (seats : List Seat) → map worker_of (seats ++ x ∷ []) ≡ map worker_of seats ++ worker_of x ∷ []
@@ -264,15 +285,18 @@ last_there [] x (suc w) y e = absurd (none-some y e)
 last_there (z ∷ zs) x zero y e = inl e
 last_there (z ∷ zs) x (suc w) y e = last_there zs x w y e
 
-pub one_more_idle : (g : Game) (n m : ℕ) (seats items : List Seat) (x : Seat) → AreIdle g n seats → IsSeat g x → worker_of x ≡ Idle → items ≡ seats ++ x ∷ [] → m ≡ suc n → AreIdle g m items
+pub one_more_idle : (g : Game) (n m : ℕ) (seats items : List Seat) (x : Seat) → AreIdle g n seats → IsSeat g x → worker_of x ≡ Idle → items ≡ seats ++ x ∷ []
+    → m ≡ suc n → AreIdle g m items
 one_more_idle g n m seats items x are is idle e k = record {
-  each = λ w y at. elim (last_there seats x w y (ap (λ (zs : List Seat). slice_get zs w) (sym e) ∙ at)) [ inl h ↦ are.each w y h | inr q ↦ subst (IsSeat g) q is ];
+  each = λ w y at. elim (last_there seats x w y (ap (λ (zs : List Seat). slice_get zs w) (sym e) ∙ at))
+      [ inl h ↦ are.each w y h | inr q ↦ subst (IsSeat g) q is ];
   idle = ap (map worker_of) e ∙ (last_idle seats n x are.idle idle ∙ ap (λ (n : ℕ). replicate n Idle) (sym k));
 }
 
 -- ---- whether all is quiet
 
-pub all_idle_more : (seats : List Seat) (i : ℕ) (x : Seat) → i < length seats → slice_index_or seats i x ≡ x → list_all is_idle (map worker_of (take i seats)) ≡ true → worker_of x ≡ Idle
+pub all_idle_more : (seats : List Seat) (i : ℕ) (x : Seat) → i < length seats → slice_index_or seats i x ≡ x
+    → list_all is_idle (map worker_of (take i seats)) ≡ true → worker_of x ≡ Idle
     → list_all is_idle (map worker_of (take (suc i) seats)) ≡ true
 all_idle_more [] i x h e all idle = absurd (omega arith)
 all_idle_more (y ∷ ys) zero x h e all idle = ap (λ (s : Seat). is_idle (worker_of s) && true) e ∙ ap (λ (k : Worker). is_idle k && true) idle
@@ -280,8 +304,10 @@ all_idle_more (y ∷ ys) (suc i) x h e all idle =
     let parts = and_both (is_idle (worker_of y)) (list_all is_idle (map worker_of (take i ys))) all in
     ap (λ b. b && list_all is_idle (map worker_of (take (suc i) ys))) parts.0 ∙ all_idle_more ys i x (omega arith) e parts.1 idle
 
-pub one_busy : (seats : List Seat) (i : ℕ) (x : Seat) → i < length seats → slice_index_or seats i x ≡ x → (worker_of x ≡ Idle → ⊥) → list_all is_idle (map worker_of seats) ≡ true → ⊥
-one_busy seats i x h e busy all = busy (idle_is (worker_of x) (all_idle (map worker_of seats) i (worker_of x) all (worker_there seats i x (slice_get-get_or seats i x h ∙ ap (λ (s : Seat). Some s) e))))
+pub one_busy : (seats : List Seat) (i : ℕ) (x : Seat) → i < length seats → slice_index_or seats i x ≡ x → (worker_of x ≡ Idle → ⊥)
+    → list_all is_idle (map worker_of seats) ≡ true → ⊥
+one_busy seats i x h e busy all = busy (idle_is (worker_of x)
+    (all_idle (map worker_of seats) i (worker_of x) all (worker_there seats i x (slice_get-get_or seats i x h ∙ ap (λ (s : Seat). Some s) e))))
   where
     idle_is : (y : Worker) → is_idle y ≡ true → y ≡ Idle
     idle_is Idle q = refl

@@ -1,5 +1,6 @@
 -- What is read lies below.
-use Rattle.std.proofs.Common.{◌≡◌, ℕ, ◌+◌, ◌<◌, Bool, true, false, List, length, take, sym, ◌∙◌, ap, subst, inl, inr, arith, Option, Some, None, slice_index, slice_index_or, slice_set, option_map, refl, true≢false}
+use Rattle.std.proofs.Common.{◌≡◌, ℕ, ◌+◌, ◌<◌, Bool, true, false, List, length, take, sym, ◌∙◌, ap, subst, inl, inr, arith, Option, Some, None, slice_index}
+use Rattle.std.proofs.Common.{slice_index_or, slice_set, option_map, refl, true≢false}
 use Rattle.std.proofs.lemmas.Bool.{cases_eq}
 use Rattle.std.proofs.lemmas.List.{get_or-set_other, get_or-set_same, get_or-take, length-set, length-take-le}
 use Rattle.std.proofs.lemmas.Option.{slice_get_within}
@@ -29,14 +30,16 @@ place_within r k is h = omega (arith, is.room r.vertex (vertex_within r.game r.v
 abbrev pub noted : Reading → ℕ → Measure → Reading
 noted r place value = record { game = r.game; vertex = r.vertex; marks = slice_set r.marks place true; values = slice_set r.values place value }
 
-pub note_keeps : (r : Reading) (place : ℕ) (value : Measure) → IsReading r → place < length (successors_of r) → LiesBelow r.game (slice_index (successors_of r) place) value → IsReading (noted r place value)
+pub note_keeps : (r : Reading) (place : ℕ) (value : Measure) → IsReading r → place < length (successors_of r)
+    → LiesBelow r.game (slice_index (successors_of r) place) value → IsReading (noted r place value)
 note_keeps r place value is h below = record {
   game = is.game;
   even = length-set r.values place value ∙ is.even ∙ sym (length-set r.marks place true);
   room = λ v in'. omega (arith, is.room v in', length-set r.marks place true);
   below = λ k in' mark. elim (cases_eq k place) [
     | inl q ↦ (
-        let here : slice_index_or (slice_set r.values place value) place Top ≡ value = get_or-set_same r.values place value Top (omega (arith, place_within r place is h, is.even)) in
+        let here : slice_index_or (slice_set r.values place value) place Top
+        ≡ value = get_or-set_same r.values place value Top (omega (arith, place_within r place is h, is.even)) in
         subst (λ (k : ℕ). LiesBelow r.game (slice_index (successors_of r) k) (slice_index_or (slice_set r.values place value) k Top)) (sym q)
         (subst (LiesBelow r.game (slice_index (successors_of r) place)) (sym here) below)
         )
@@ -47,24 +50,30 @@ note_keeps r place value is h below = record {
   ];
 }
 
-pub read_more : (r : Reading) (place : ℕ) (value : Measure) → IsReading r → place < length (successors_of r) → AreRead r place → AreRead (noted r place value) (place + 1)
+pub read_more : (r : Reading) (place : ℕ) (value : Measure) → IsReading r → place < length (successors_of r) → AreRead r place
+    → AreRead (noted r place value) (place + 1)
 read_more r place value is h all k in' = elim (cases_eq k place) [
-  | inl q ↦ subst (λ (k : ℕ). slice_index_or (slice_set r.marks place true) k false ≡ true) (sym q) (get_or-set_same r.marks place true false (place_within r place is h))
+  | inl q ↦ subst (λ (k : ℕ). slice_index_or (slice_set r.marks place true) k false ≡ true) (sym q)
+      (get_or-set_same r.marks place true false (place_within r place is h))
   | inr q ↦ get_or-set_other r.marks place k true false q ∙ all k (omega arith)
 ]
 
 values_long : (r : Reading) → IsReading r → r.vertex < length r.game.vertices → length (values_of r) ≡ length (successors_of r)
 values_long r is h = length-take-le (length (successors_of r)) r.values (omega (arith, is.even, is.room r.vertex h))
 
-pub values_below : (r : Reading) → IsReading r → r.vertex < length r.game.vertices → AreRead r (length (successors_of r)) → EachBelow r.game (successors_of r) (values_of r)
+pub values_below : (r : Reading) → IsReading r → r.vertex < length r.game.vertices → AreRead r (length (successors_of r))
+    → EachBelow r.game (successors_of r) (values_of r)
 values_below r is h all k in' =
     let inside : k < length (successors_of r) = omega (arith, values_long r is h) in
-    subst (LiesBelow r.game (slice_index (successors_of r) k)) (sym (get_or-take (length (successors_of r)) r.values k Top inside)) (is.below k inside (all k inside))
+    subst (LiesBelow r.game (slice_index (successors_of r) k)) (sym (get_or-take (length (successors_of r)) r.values k Top inside))
+    (is.below k inside (all k inside))
 
-pub values_measures : (r : Reading) → IsReading r → r.vertex < length r.game.vertices → AreRead r (length (successors_of r)) → AllByRecursion (IsMeasure r.game) (values_of r)
+pub values_measures : (r : Reading) → IsReading r → r.vertex < length r.game.vertices → AreRead r (length (successors_of r))
+    → AllByRecursion (IsMeasure r.game) (values_of r)
 values_measures r is h all = all_from (IsMeasure r.game) (values_of r) Top (λ k in'. (values_below r is h all k in').measure)
 
-pub lifted_below : (r : Reading) (m : Measure) → IsReading r → r.vertex < length r.game.vertices → AreRead r (length (successors_of r)) → IsDemandOf r.game r.vertex (values_of r) m
+pub lifted_below : (r : Reading) (m : Measure) → IsReading r → r.vertex < length r.game.vertices → AreRead r (length (successors_of r))
+    → IsDemandOf r.game r.vertex (values_of r) m
     → LiesBelow r.game r.vertex m
 lifted_below r m is h all (x, at, (progs, z, b)) =
     let here : successors_of r ≡ x.successors = ap successors_at at in
@@ -89,29 +98,34 @@ successors_here g now r ts values h =
 
 values_here : (g : Game) (now r : Reading) (ts : List ℕ) (values : List Measure) → HasRead g now r ts values → values_of now ≡ take (length ts) values
 values_here g now r ts values h =
-    ap (λ (xs : List ℕ). take (length xs) now.values) (successors_here g now r ts values h) ∙ ap (take (length ts)) (sym (h.stored ∙ ap (λ (r : Reading). r.values) h.view))
+    ap (λ (xs : List ℕ). take (length xs) now.values) (successors_here g now r ts values h)
+    ∙ ap (take (length ts)) (sym (h.stored ∙ ap (λ (r : Reading). r.values) h.view))
 
 inside_here : (g : Game) (now r : Reading) (ts : List ℕ) (values : List Measure) → HasRead g now r ts values → now.vertex < length now.game.vertices
 inside_here g now r ts values h = subst (λ (g : Game). now.vertex < length g.vertices) (sym h.same) h.inside
 
-pub code_measures : (g : Game) (now r : Reading) (ts : List ℕ) (values : List Measure) → HasRead g now r ts values → AllByRecursion (IsMeasure g) (take (length ts) values)
+pub code_measures : (g : Game) (now r : Reading) (ts : List ℕ) (values : List Measure) → HasRead g now r ts values
+    → AllByRecursion (IsMeasure g) (take (length ts) values)
 code_measures g now r ts values h =
     let is = subst IsReading h.view h.is in
     subst (λ (vs : List Measure). AllByRecursion (IsMeasure g) vs) (values_here g now r ts values h)
     (subst (λ (g : Game). AllByRecursion (IsMeasure g) (values_of now)) h.same (values_measures now is (inside_here g now r ts values h) h.all))
 
-pub code_below : (g : Game) (now r : Reading) (ts : List ℕ) (values : List Measure) (m : Measure) → HasRead g now r ts values → IsDemandOf g r.vertex (take (length ts) values) m
+pub code_below : (g : Game) (now r : Reading) (ts : List ℕ) (values : List Measure) (m : Measure) → HasRead g now r ts values
+    → IsDemandOf g r.vertex (take (length ts) values) m
     → LiesBelow g now.vertex m
 code_below g now r ts values m h d =
     let is = subst IsReading h.view h.is in
     let d' : IsDemandOf g now.vertex (values_of now) m =
-    subst (λ (vs : List Measure). IsDemandOf g now.vertex vs m) (sym (values_here g now r ts values h)) (subst (λ (r : Reading). IsDemandOf g r.vertex (take (length ts) values) m) h.view d) in
+    subst (λ (vs : List Measure). IsDemandOf g now.vertex vs m) (sym (values_here g now r ts values h))
+    (subst (λ (r : Reading). IsDemandOf g r.vertex (take (length ts) values) m) h.view d) in
     subst (λ (g : Game). LiesBelow g now.vertex m) h.same
     (lifted_below now m is (inside_here g now r ts values h) h.all (subst (λ (g : Game). IsDemandOf g now.vertex (values_of now) m) (sym h.same) d'))
 
 -- Nothing is read.
 pub begin_keeps : (g : Game) (r : Reading) (v : ℕ) (marks : List Bool) → IsReading r → r.game ≡ g → length marks ≡ length r.marks
-    → ((k : ℕ) → k < length (successors_at (vertex g v)) → slice_index_or marks k false ≡ false) → IsReading (record { game = r.game; vertex = v; marks = marks; values = r.values })
+    → ((k : ℕ) → k < length (successors_at (vertex g v)) → slice_index_or marks k false ≡ false)
+    → IsReading (record { game = r.game; vertex = v; marks = marks; values = r.values })
 begin_keeps g r v marks is same long none = record {
   game = is.game;
   even = is.even ∙ sym long;

@@ -1,5 +1,6 @@
 -- Lists of values and of numbers, as they are written.
-use Rattle.std.proofs.Common.{◌≡◌, ℕ, suc, ◌+◌, ◌-◌, ◌<◌, ◌≤◌, Bool, true, false, List, [], ◌∷◌, ◌++◌, length, map, drop, filter, decimal, refl, sym, ap, ◌∙◌, add-one, append-nil, arith, slice_index_or, cond}
+use Rattle.std.proofs.Common.{◌≡◌, ℕ, suc, ◌+◌, ◌-◌, ◌<◌, ◌≤◌, Bool, true, false, List, [], ◌∷◌, ◌++◌, length, map, drop, filter, decimal, refl, sym, ap, ◌∙◌}
+use Rattle.std.proofs.Common.{add-one, append-nil, arith, slice_index_or, cond}
 use Rattle.std.specs.Prelude.{if◌then◌else◌}
 use Rattle.std.specs.List.{flat_map, join_with_byte, range_with_len}
 use Rattle.std.proofs.Math.Seq.{drop-cons}
@@ -44,7 +45,8 @@ range_next v n h = let e : n - v ≡ suc (n - (v + 1)) = omega arith in ap (rang
 range_none : (v n : ℕ) → n ≤ v → range_with_len v (n - v) ≡ []
 range_none v n h = let e : n - v ≡ 0 = omega arith in ap (range_with_len v) e
 
-pub next_marked : (marks : List Bool) (v : ℕ) (first : Bool) → v < length marks → slice_index_or marks v false ≡ true → left first (marked_from marks v) ≡ (before first ++ decimal v) ++ left false (marked_from marks (v + 1))
+pub next_marked : (marks : List Bool) (v : ℕ) (first : Bool) → v < length marks → slice_index_or marks v false ≡ true
+    → left first (marked_from marks v) ≡ (before first ++ decimal v) ++ left false (marked_from marks (v + 1))
 next_marked marks v first h e = ap (left first) (is_next) ∙ by first
   where
     is_next : marked_from marks v ≡ v ∷ marked_from marks (v + 1)
@@ -55,9 +57,11 @@ next_marked marks v first h e = ap (left first) (is_next) ∙ by first
     by true = joined v (marked_from marks (v + 1))
     by false = refl
 
-pub next_unmarked : (marks : List Bool) (v : ℕ) (first : Bool) → v < length marks → slice_index_or marks v false ≡ false → left first (marked_from marks v) ≡ left first (marked_from marks (v + 1))
+pub next_unmarked : (marks : List Bool) (v : ℕ) (first : Bool) → v < length marks → slice_index_or marks v false ≡ false
+    → left first (marked_from marks v) ≡ left first (marked_from marks (v + 1))
 next_unmarked marks v first h e = ap (left first)
-    (ap (filter (λ u. slice_index_or marks u false)) (range_next v (length marks) h) ∙ ap (λ b. cond b (v ∷ marked_from marks (v + 1)) (marked_from marks (v + 1))) e)
+    (ap (filter (λ u. slice_index_or marks u false)) (range_next v (length marks) h)
+    ∙ ap (λ b. cond b (v ∷ marked_from marks (v + 1)) (marked_from marks (v + 1))) e)
 
 pub none_marked : (marks : List Bool) (v : ℕ) (first : Bool) → length marks ≤ v → left first (marked_from marks v) ≡ left first []
 none_marked marks v first h = ap (λ xs. left first (filter (λ u. slice_index_or marks u false) xs)) (range_none v (length marks) h)

@@ -1,6 +1,6 @@
 // Guesses of the least progress table. What is guessed is tested before anything rests on it.
 
-ghost use Rattle.std.specs.Prelude.{◌≡◌, IfOk};
+ghost use Rattle.std.specs.Prelude.{◌≡◌, IfOk, IfSome};
 ghost use Rattle.progress.specs.Progress.{IsLeastTable, IsProgress, LiesUnder};
 
 use crate::jumps::jump_ahead;
@@ -8,15 +8,21 @@ use crate::settle::solve_one_seen;
 use game::graph::Game;
 use progress::claim::Claim;
 use progress::observer::{Observer, Stage};
+use progress::proposal::Proposal;
 use progress::settle::{is_settled, lift_ahead, settle_seen};
 use progress::table::{PlainTable, Settled, opening};
 use std::alloc::Global;
 use text::Memory;
 
-/// A guess of the least progress table of a game, part by part. A part may rest on those before it.
+/// A guess of the least progress table of a game: the whole table, or part by part. A part may rest on those before it.
 pub trait Guess {
     /// How many parts there are.
     fn parts(&self) -> u32;
+
+    /// Proposes the whole table over a blank proposal. The answer is whether the whole was guessed.
+    fn propose(&self, game: &Game, proposal: &mut Proposal) -> bool
+        requires { proposal.old.game ≡ game.now }
+        ensures { proposal.new.game ≡ game.now };
 
     /// Claims what is guessed of a part.
     fn claim_part(&self, game: &Game, claim: &mut Claim, part: u32)
@@ -31,6 +37,13 @@ pub struct NoGuess;
 impl Guess for NoGuess {
     fn parts(&self) -> u32 {
         0
+    }
+
+    fn propose(&self, _game: &Game, _proposal: &mut Proposal) -> bool
+        requires { _proposal.old.game ≡ _game.now }
+        ensures { _proposal.new.game ≡ _game.now }
+    {
+        false
     }
 
     fn claim_part(&self, _game: &Game, _claim: &mut Claim, _part: u32)
@@ -86,6 +99,16 @@ impl<G: Guess> Guess for Option<G> {
         }
     }
 
+    fn propose(&self, game: &Game, proposal: &mut Proposal) -> bool
+        requires { proposal.old.game ≡ game.now }
+        ensures { proposal.new.game ≡ game.now }
+    {
+        match self {
+            Some(guess) => guess.propose(game, proposal),
+            None => false,
+        }
+    }
+
     fn claim_part(&self, game: &Game, claim: &mut Claim, part: u32)
         requires { claim.old.game ≡ game.now }
         ensures { claim.new.game ≡ game.now }
@@ -120,6 +143,23 @@ pub fn jump_to_guess<G: Guess>(
     Ok(jump_to_parts(game, table, &mut claim, guess))
 }
 
+// The table that is proposed as a whole, where the proposal is good. Want of memory is no proposal.
+fn proposed<G: Guess>(alloc: Global, game: &Game, guess: &G) -> Option<Settled>
+    ensures game { IfSome result (λ s. s.game ≡ game.now) }
+    ensures least { IfSome result (λ s. IsLeastTable game.now s.values) }
+{
+    match Proposal::new(alloc, game) {
+        Ok(mut proposal) => {
+            if guess.propose(game, &mut proposal) {
+                proposal.into_settled(game)
+            } else {
+                None
+            }
+        }
+        Err(Memory) => None,
+    }
+}
+
 // The table that is guessed, where no lift raises it.
 fn settled(game: &Game, table: PlainTable) -> Settled
     requires game { table.game ≡ game.now }
@@ -145,8 +185,27 @@ fn lifted<O: Observer>(alloc: Global, game: &Game, mut table: PlainTable, observ
     settled(game, table)
 }
 
-/// The least progress table of a game, on one thread, with the help of a guess. Where that is the whole table, nothing is lifted. An
-/// observer is told what it is of `solve_one_seen`.
+// The least progress table, from one guessed part after another.
+fn solve_by_parts<G: Guess, O: Observer>(
+    alloc: Global,
+    game: &Game,
+    guess: &G,
+    observer: &O,
+) -> Result<Settled, Memory>
+    ensures game { IfOk result (λ s. s.game ≡ game.now) }
+    ensures least { IfOk result (λ s. IsLeastTable game.now s.values) }
+{
+    let mut table = opening(alloc, game)?;
+    let _ = jump_to_guess(alloc, game, &mut table, guess);
+    if is_settled(game, &table) {
+        Ok(settled(game, table))
+    } else {
+        Ok(lifted(alloc, game, table, observer))
+    }
+}
+
+/// The least progress table of a game, on one thread, with the help of a guess. Where that is the whole table, one pass over the edges
+/// tests it, and nothing is lifted. An observer is told what it is of `solve_one_seen`.
 ///
 /// # Errors
 /// Want of memory for the table itself.
@@ -165,11 +224,8 @@ pub fn solve_one_by<G: Guess, O: Observer>(
     observer.sees(Stage::Searching {
         vertices: game.vertices(),
     });
-    let mut table = opening(alloc, game)?;
-    let _ = jump_to_guess(alloc, game, &mut table, guess);
-    if is_settled(game, &table) {
-        Ok(settled(game, table))
-    } else {
-        Ok(lifted(alloc, game, table, observer))
+    match proposed(alloc, game, guess) {
+        Some(settled) => Ok(settled),
+        None => solve_by_parts(alloc, game, guess, observer),
     }
 }

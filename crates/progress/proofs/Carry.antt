@@ -1,5 +1,7 @@
 -- The least counts over others: the last component with room takes one more, and those below it nothing.
-use Rattle.progress.proofs.Common.{◌≡◌, ℕ, zero, suc, ◌+◌, ◌-◌, ◌/◌, ◌%◌, ◌≢◌, ◌<◌, ◌≤◌, true, false, List, [], ◌∷◌, ◌++◌, length, map, take, drop, replicate, refl, sym, ap, subst, ◌∙◌, inl, inr, arith, true≢false, slice_index, append_assoc, length-append, length-take-le, length-map, AllZip-long, Game, count, Top, Counts, components, kept, is_odd, IsMeasure, IsProg, AreFull, bounds}
+use Rattle.progress.proofs.Common.{◌≡◌, ℕ, zero, suc, ◌+◌, ◌-◌, ◌/◌, ◌%◌, ◌≢◌, ◌<◌, ◌≤◌, true, false, List, [], ◌∷◌, ◌++◌, length, map, take, drop, replicate}
+use Rattle.progress.proofs.Common.{refl, sym, ap, subst, ◌∙◌, inl, inr, arith, true≢false, slice_index, append_assoc, length-append, length-take-le}
+use Rattle.progress.proofs.Common.{length-map, AllZip-long, Game, count, Top, Counts, components, kept, is_odd, IsMeasure, IsProg, AreFull, bounds}
 use Rattle.progress.proofs.Cycles.{odd_or_even}
 use Rattle.progress.proofs.Components.{kept_is}
 use Rattle.progress.proofs.Measures.{Bounded, IsLeastOver, NoneOver, none, none_bounded, none_least, raised, deeper, full, no_counts, least_prog, none_prog}
@@ -10,7 +12,8 @@ full_none f ps c zero b h = λ x bound o. true≢false o
 full_none f [] [] (suc k) b h = no_counts f k
 full_none f [] (y ∷ ys) (suc k) b h = absurd b
 full_none f (p ∷ ps) [] (suc k) b h = absurd b
-full_none f (p ∷ ps) (y ∷ ys) (suc k) b h = full f p ps true k y ys (h 0 (omega arith) (omega arith)) (full_none f ps ys k b.1 (λ i l m. h (suc i) (omega arith) (omega arith)))
+full_none f (p ∷ ps) (y ∷ ys) (suc k) b h = full f p ps true k y ys (h 0 (omega arith) (omega arith))
+    (full_none f ps ys k b.1 (λ i l m. h (suc i) (omega arith) (omega arith)))
 
 -- the last component with room takes one more
 pub room_least : (f : ℕ → ℕ) (ps c : List ℕ) (k j : ℕ) → Bounded f ps c → j < k → slice_index c j < slice_index (map f ps) j → AreFull (map f ps) c (suc j) k
@@ -20,7 +23,8 @@ room_least f [] c (suc k) j b l r h = absurd (omega arith)
 room_least f (p ∷ ps) [] (suc k) j b l r h = absurd b
 room_least f (p ∷ ps) (y ∷ ys) (suc k) zero b l r h = raised f p ps true k y ys r (full_none f ps ys k b.1 (λ i m n. h (suc i) (omega arith) (omega arith)))
 room_least f (p ∷ ps) (y ∷ ys) (suc k) (suc j) b l r h =
-    deeper f p ps true k y ys (take j ys ++ suc (slice_index ys j) ∷ none (drop (suc j) ps)) b.0 (room_least f ps ys k j b.1 (omega arith) r (λ i m n. h (suc i) (omega arith) (omega arith)))
+    deeper f p ps true k y ys (take j ys ++ suc (slice_index ys j) ∷ none (drop (suc j) ps)) b.0
+    (room_least f ps ys k j b.1 (omega arith) r (λ i m n. h (suc i) (omega arith) (omega arith)))
 
 -- the first counts stay, and the others are nothing
 pub kept_least : (f : ℕ → ℕ) (ps c : List ℕ) (k : ℕ) → Bounded f ps c → k ≤ length ps → IsLeastOver f ps false k c (take k c ++ none (drop k ps))
@@ -68,15 +72,19 @@ module _ (g : Game) (p : ℕ) (c limits : List ℕ) (k : ℕ) (is : bounds g ≡
       (subst (λ xs. IsLeastOver (count g) (components g) false k c (take k c ++ xs)) (zeros_are k) least)))))
 
   -- at an odd one the last of them that has room takes one more
-  pub odd_prog : (p % 2 ≢ 0) → (j : ℕ) → j < k → slice_index c j < slice_index limits j → AreFull limits c (j + 1) k → (d : List ℕ) → d ≡ take j c ++ (slice_index c j + 1) ∷ []
+  pub odd_prog : (p % 2 ≢ 0) → (j : ℕ) → j < k → slice_index c j < slice_index limits j → AreFull limits c (j + 1) k → (d : List ℕ)
+      → d ≡ take j c ++ (slice_index c j + 1) ∷ []
       → IsProg g p (Counts c) (Counts (d ++ replicate (length limits - length d) 0))
   odd_prog odd j low room filled d e =
       let y = suc (slice_index c j) in
       let one : slice_index c j + 1 ≡ y = omega arith in
-      let least = room_least (count g) (components g) c k j measure low (subst (λ xs. slice_index c j < slice_index xs j) (sym is) room) (λ i l m. subst (λ xs. slice_index xs i ≤ slice_index c i) (sym is) (filled i (omega arith) m)) in
-      let cut : length d ≡ suc j = ap length e ∙ (length-append (take j c) ((slice_index c j + 1) ∷ []) ∙ (let t = length-take-le j c (let l = counts_long in omega arith) in omega arith)) in
+      let least = room_least (count g) (components g) c k j measure low (subst (λ xs. slice_index c j < slice_index xs j) (sym is) room)
+      (λ i l m. subst (λ xs. slice_index xs i ≤ slice_index c i) (sym is) (filled i (omega arith) m)) in
+      let cut : length d ≡ suc j = ap length e ∙ (length-append (take j c) ((slice_index c j + 1) ∷ [])
+      ∙ (let t = length-take-le j c (let l = counts_long in omega arith) in omega arith)) in
       let is_d : take j c ++ y ∷ replicate (length limits - suc j) 0 ≡ d ++ replicate (length limits - length d) 0 =
-      (ap (λ z. take j c ++ z ∷ replicate (length limits - suc j) 0) (sym one) ∙ sym (append_assoc (take j c) ((slice_index c j + 1) ∷ []) (replicate (length limits - suc j) 0)))
+      (ap (λ z. take j c ++ z ∷ replicate (length limits - suc j) 0) (sym one)
+      ∙ sym (append_assoc (take j c) ((slice_index c j + 1) ∷ []) (replicate (length limits - suc j) 0)))
       ∙ (ap (λ xs. xs ++ replicate (length limits - suc j) 0) (sym e) ∙ ap (λ n. d ++ replicate (length limits - n) 0) (sym cut)) in
       least_prog g p c (d ++ replicate (length limits - length d) 0)
       (subst (λ b. IsLeastOver (count g) (components g) b (kept g p) c (d ++ replicate (length limits - length d) 0)) (sym (odd_is p odd))

@@ -1,5 +1,8 @@
 -- Good claims lie below.
-use Rattle.progress.proofs.Common.{◌≡◌, ℕ, ◌+◌, ◌%◌, ◌<◌, true, List, length, refl, sym, ap, subst, ◌∙◌, inl, inr, arith, true≢false, Contains, Option, Some, None, slice_get_within, Player, Even, Odd, Vertex, Game, vertex, IsVertex, dual, priority_at, greatest_met, Measure, Top, Counts, IsAtMost, IsBelow, IsMeasure, Reaches, is_odd, IsProgress, value_at, IsPlain, LiesBelow, Table, Entry, GoesOn, IsGoodClaim, IsGoodEntry, claimed_at, entry_at, value_or}
+use Rattle.progress.proofs.Common.{◌≡◌, ℕ, ◌+◌, ◌%◌, ◌<◌, true, List, length, refl, sym, ap, subst, ◌∙◌, inl, inr, arith, true≢false, Contains, Option, Some}
+use Rattle.progress.proofs.Common.{None, slice_get_within, Player, Even, Odd, Vertex, Game, vertex, IsVertex, dual, priority_at, greatest_met, Measure, Top}
+use Rattle.progress.proofs.Common.{Counts, IsAtMost, IsBelow, IsMeasure, Reaches, is_odd, IsProgress, value_at, IsPlain, LiesBelow, Table, Entry, GoesOn}
+use Rattle.progress.proofs.Common.{IsGoodClaim, IsGoodEntry, claimed_at, entry_at, value_or}
 use Rattle.progress.proofs.Lists.{all_contained, all_got}
 use Rattle.progress.proofs.Measures.{at_most_or_below, at_most_trans, not_below, prog, prog_more}
 use Rattle.progress.proofs.Lifts.{even_reaches, odd_reaches, value_measure}
@@ -22,7 +25,8 @@ abbrev rank_of : Option Entry → Measure
 rank_of None = Top
 rank_of (Some x) = Counts x.rank
 
-module _ (t : Table) (claim : List (Option Entry)) (plain : IsPlain t) (good : IsGoodClaim t.game t.values claim) (other : List Measure) (is : IsProgress t.game other) where
+module _ (t : Table) (claim : List (Option Entry)) (plain : IsPlain t) (good : IsGoodClaim t.game t.values claim) (other : List Measure)
+    (is : IsProgress t.game other) where
   abbrev g : Game
   g = t.game
 
@@ -92,7 +96,8 @@ module _ (t : Table) (claim : List (Option Entry)) (plain : IsPlain t) (good : I
       owned w.0 w.1 w.2 w.0.owner refl
     where
       target : (x : Vertex) (v : ℕ) → vertex g u ≡ Some x → Contains x.successors v → v < length g.vertices
-      target x v at has = all_contained (λ v. v < length g.vertices) x.successors v (all_got (IsVertex (length g.vertices)) g.vertices u x plain.game.vertices at).within has
+      target x v at has = all_contained (λ v. v < length g.vertices) x.successors v
+          (all_got (IsVertex (length g.vertices)) g.vertices u x plain.game.vertices at).within has
 
       owned : (x : Vertex) → vertex g u ≡ Some x → IsGoodEntry g t.values claim x b.entry → (o : Player) → x.owner ≡ o → (v : ℕ) × Step u v × IsBad v
       owned x at ok Even own =
@@ -112,7 +117,8 @@ module _ (t : Table) (claim : List (Option Entry)) (plain : IsPlain t) (good : I
       let counts = below_counts (value_at other c.at) c.is_in.entry.value c.is_in.high in
       elim (odd_or_even (greatest_met g c.others)) [
         | inl w ↦ no_odd_cycle g Step (value_at other) (λ u w s. s.value) c.at c.others counts.counts counts.is c.some c.path w.0
-        | inr w ↦ no_odd_cycle (dual g) Step rank_at (λ u w s. subst (λ p. Reaches (dual g) p (rank_at w) (rank_at u)) (sym (priority_dual g Even (λ n. n) u s.from)) s.rank)
+        | inr w ↦ no_odd_cycle (dual g) Step rank_at (λ u w s. subst (λ p. Reaches (dual g) p (rank_at w) (rank_at u))
+            (sym (priority_dual g Even (λ n. n) u s.from)) s.rank)
             c.at c.others c.is_in.entry.rank (ap rank_of c.is_in.here) c.some c.path
             (subst (λ p. is_odd p ≡ true) (sym (met_of g Even (λ n. n) c.others c.some all)) (odd_after (greatest_met g c.others) w.1))
       ]
@@ -126,7 +132,8 @@ module _ (t : Table) (claim : List (Option Entry)) (plain : IsPlain t) (good : I
     | inr low ↦ low
   ]
 
-pub claims_lie_below : (t : Table) (claim : List (Option Entry)) → IsPlain t → IsGoodClaim t.game t.values claim → (v : ℕ) (x : Entry) → entry_at claim v ≡ Some x → LiesBelow t.game v x.value
+pub claims_lie_below : (t : Table) (claim : List (Option Entry)) → IsPlain t → IsGoodClaim t.game t.values claim → (v : ℕ) (x : Entry)
+    → entry_at claim v ≡ Some x → LiesBelow t.game v x.value
 claims_lie_below t claim plain good v x e = record {
   measure = (good v x e).2.measure;
   under = λ other is. claim_under t claim plain good other is v x e;

@@ -1,9 +1,17 @@
 -- The names of other libraries that most proofs here use.
-pub use Rattle.std.proofs.Common.{AllPairs, Bool, Contains, IsSome, IsTrue, List, MatchBool, None, Option, Some, [], add-one, ap, append_assoc, ap₂, arith, below_more, cond, count_by, drop, eq-eqb, eqb-true, false, get_or, if◌then◌else◌, inl, inr, le-leb, le_trans, length, length-append, length-drop, length-take-le, lt-ltb, lt_of_le_of_lt, lt_of_lt_of_le, lt_trans, ltb-true, map, max, mul-le-mul_right, nat_eq, nat_le, nat_lt, not, option_map, refl, replicate, rules, slice_get, slice_index, slice_index_or, slice_set, subst, suc, sym, take, true, true≢false, zero, ℕ, ◌%◌, ◌&&◌, ◌*◌, ◌++◌, ◌+◌, ◌-◌, ◌/◌, ◌<◌, ◌==◌, ◌||◌, ◌↔◌, ◌∙◌, ◌∷◌, ◌≡◌, ◌≢◌, ◌≤◌, ◌⊎◌}
+pub use Rattle.std.proofs.Common.{AllPairs, Bool, Contains, IsSome, IsTrue, List, MatchBool, None, Option, Some, [], add-one, ap, append_assoc, ap₂, arith}
+pub use Rattle.std.proofs.Common.{below_more, cond, count_by, drop, eq-eqb, eqb-true, false, get_or, if◌then◌else◌, inl, inr, le-leb, le_trans, length}
+pub use Rattle.std.proofs.Common.{length-append, length-drop, length-take-le, lt-ltb, lt_of_le_of_lt, lt_of_lt_of_le, lt_trans, ltb-true, map, max}
+pub use Rattle.std.proofs.Common.{mul-le-mul_right, nat_eq, nat_le, nat_lt, not, option_map, refl, replicate, rules, slice_get, slice_index, slice_index_or}
+pub use Rattle.std.proofs.Common.{slice_set, subst, suc, sym, take, true, true≢false, zero, ℕ, ◌%◌, ◌&&◌, ◌*◌, ◌++◌, ◌+◌, ◌-◌, ◌/◌, ◌<◌, ◌==◌, ◌||◌, ◌↔◌, ◌∙◌}
+pub use Rattle.std.proofs.Common.{◌∷◌, ◌≡◌, ◌≢◌, ◌≤◌, ◌⊎◌}
 pub use Rattle.game.specs.Game.{Game, IsGame, IsVertex, Vertex, count, dual, greatest, greatest_of, opponent, vertex}
-pub use Rattle.progress.specs.Measure.{Counts, IsAtMost, IsBelow, IsMeasure, IsProg, IsRank, Measure, Reaches, Top, components, is_odd, kept, measure_cmp, odd_down}
-pub use Rattle.progress.specs.Progress.{IsBestFor, IsLeastTable, IsLiftAt, IsProgress, IsTable, greater_of, opening, opening_from, opening_value, value_at, zeros}
-pub use Rattle.std.proofs.lemmas.List.{drop_all, ext_get_or, get_or-map, get_or-replicate, get_or-set_other, get_or-set_same, get_or_default, get_or_past, length-map, length-replicate, length-set, replicate-append-replicate, take_all, with_items_is}
+pub use Rattle.progress.specs.Measure.{Counts, IsAtMost, IsBelow, IsMeasure, IsProg, IsRank, Measure, Reaches, Top, components, is_odd, kept, measure_cmp}
+pub use Rattle.progress.specs.Measure.{odd_down}
+pub use Rattle.progress.specs.Progress.{IsBestFor, IsLeastTable, IsLiftAt, IsProgress, IsTable, greater_of, opening, opening_from, opening_value, value_at}
+pub use Rattle.progress.specs.Progress.{zeros}
+pub use Rattle.std.proofs.lemmas.List.{drop_all, ext_get_or, get_or-map, get_or-replicate, get_or-set_other, get_or-set_same, get_or_default, get_or_past}
+pub use Rattle.std.proofs.lemmas.List.{length-map, length-replicate, length-set, replicate-append-replicate, take_all, with_items_is}
 pub use Rattle.std.proofs.lemmas.Bool.Decides.{eqb_tells, leb_tells}
 pub use Rattle.std.specs.List.{AllByRecursion, AllZip, range_with_len}
 pub use Rattle.game.specs.declared.player.Player.TheVariants.{Even, Odd}
@@ -13,7 +21,8 @@ pub use Rattle.std.proofs.lemmas.Option.{get_or_from_slice_get, slice_get-get_or
 pub use Rattle.game.specs.Wins.{Edge, IsOf, IsStrategy, OddWins, Wins, WinsBy, greatest_met, priority_at}
 pub use Rattle.progress.specs.Tables.{IsOpening, IsPlain, IsSettled, IsStored, LiesBelow, Table}
 pub use Rattle.progress.specs.Lifting.{AreLifts, AreRises, IsLifted, code, decode, height, rank, size, sum_of, total}
-pub use Rattle.progress.specs.Claim.{AreEntered, AreRaised, Claim, Descends, Entry, GoesOn, IsGoodAt, IsGoodClaim, IsGoodEntry, IsGoodFrom, claimed_at, entry_at, raised_by, value_or}
+pub use Rattle.progress.specs.Claim.{AreEntered, AreRaised, Claim, Descends, Entry, GoesOn, IsGoodAt, IsGoodClaim, IsGoodEntry, IsGoodFrom, claimed_at}
+pub use Rattle.progress.specs.Claim.{entry_at, raised_by, value_or}
 pub use Rattle.std.proofs.lemmas.Slice.Zip.{AllZip-long}
 pub use Rattle.progress.specs.Progs.{AreFull, IsBetter, IsDemandOf, IsLiftOf, IsProgAt, IsProgUnder, bounds}
 pub use Rattle.std.specs.Ordering.{is_gt, is_le, is_lt, nat_cmp}

@@ -1,5 +1,7 @@
 -- The components, and measures that have a count for each of them.
-use Rattle.progress.proofs.Common.{append_assoc, ◌++◌, ◌≡◌, ℕ, zero, suc, ◌+◌, ◌-◌, ◌/◌, ◌%◌, length, ◌<◌, ◌≤◌, ◌⊎◌, Bool, true, false, List, [], ◌∷◌, map, refl, sym, ap, subst, ◌∙◌, inl, inr, arith, true≢false, if◌then◌else◌, count_by, None, nat_le, AllByRecursion, leb_tells, Vertex, Game, vertex, greatest, greatest_of, priority_at, components, is_odd, kept, odd_down}
+use Rattle.progress.proofs.Common.{append_assoc, ◌++◌, ◌≡◌, ℕ, zero, suc, ◌+◌, ◌-◌, ◌/◌, ◌%◌, length, ◌<◌, ◌≤◌, ◌⊎◌, Bool, true, false, List, [], ◌∷◌, map}
+use Rattle.progress.proofs.Common.{refl, sym, ap, subst, ◌∙◌, inl, inr, arith, true≢false, if◌then◌else◌, count_by, None, nat_le, AllByRecursion, leb_tells}
+use Rattle.progress.proofs.Common.{Vertex, Game, vertex, greatest, greatest_of, priority_at, components, is_odd, kept, odd_down}
 use Rattle.progress.proofs.Lists.{count_yes, count_no}
 use Rattle.progress.proofs.Order.{Over}
 use Rattle.progress.proofs.Cycles.{priority, odd_or_even}
@@ -16,11 +18,13 @@ odd_down_odd (suc n) = by (odd_down_odd n) (is_odd (suc n)) refl
     by h false e = h
 
 -- an odd number comes first, and the smaller ones follow
-pub map_odd_down : (f : ℕ → ℕ) (n p : ℕ) (xs ys : List ℕ) → p ≡ suc n → n % 2 ≡ 0 → xs ++ map f (odd_down p) ≡ ys → (xs ++ f (n + 1) ∷ []) ++ map f (odd_down n) ≡ ys
+pub map_odd_down : (f : ℕ → ℕ) (n p : ℕ) (xs ys : List ℕ) → p ≡ suc n → n % 2 ≡ 0 → xs ++ map f (odd_down p) ≡ ys
+    → (xs ++ f (n + 1) ∷ []) ++ map f (odd_down n) ≡ ys
 map_odd_down f n p xs ys e even whole = elim (odd_or_even (suc n)) [
   | inl w ↦ (
       let one : suc n ≡ n + 1 = omega arith in
-      let down : odd_down p ≡ (n + 1) ∷ odd_down n = ap odd_down e ∙ (ap (λ b. if b then suc n ∷ odd_down n else odd_down n) w.0 ∙ ap (λ k. k ∷ odd_down n) one) in
+      let down : odd_down p ≡ (n + 1) ∷ odd_down n = ap odd_down e
+      ∙ (ap (λ b. if b then suc n ∷ odd_down n else odd_down n) w.0 ∙ ap (λ k. k ∷ odd_down n) one) in
       append_assoc xs (f (n + 1) ∷ []) (map f (odd_down n)) ∙ (ap (λ ps. xs ++ map f ps) (sym down) ∙ whole))
   | inr w ↦ (let m = w.1 in absurd (omega arith))
 ]
@@ -47,7 +51,8 @@ pub odd_down_long : (n : ℕ) → length (odd_down n) ≡ (n + 1) / 2
 odd_down_long zero = refl
 odd_down_long (suc n) = by (odd_down_long n) (odd_or_even (suc n))
   where
-    by : length (odd_down n) ≡ (n + 1) / 2 → ((is_odd (suc n) ≡ true) × (suc n % 2 ≡ 1)) ⊎ ((is_odd (suc n) ≡ false) × (suc n % 2 ≡ 0)) → length (odd_down (suc n)) ≡ (suc n + 1) / 2
+    by : length (odd_down n) ≡ (n + 1) / 2 → ((is_odd (suc n) ≡ true) × (suc n % 2 ≡ 1)) ⊎ ((is_odd (suc n) ≡ false) × (suc n % 2 ≡ 0))
+        → length (odd_down (suc n)) ≡ (suc n + 1) / 2
     by e (inl w) = let odd = w.1 in rw w.0 (omega arith)
     by e (inr w) = let even = w.1 in rw w.0 (omega arith)
 
@@ -55,7 +60,8 @@ kept_down_is : (q n : ℕ) → kept_down q n ≡ (n + 1) / 2 - q / 2
 kept_down_is q zero = let half : (0 + 1) / 2 ≡ 0 = omega arith in omega (arith, half)
 kept_down_is q (suc n) = by (kept_down_is q n) (odd_or_even (suc n))
   where
-    by : kept_down q n ≡ (n + 1) / 2 - q / 2 → ((is_odd (suc n) ≡ true) × (suc n % 2 ≡ 1)) ⊎ ((is_odd (suc n) ≡ false) × (suc n % 2 ≡ 0)) → kept_down q (suc n) ≡ (suc n + 1) / 2 - q / 2
+    by : kept_down q n ≡ (n + 1) / 2 - q / 2 → ((is_odd (suc n) ≡ true) × (suc n % 2 ≡ 1)) ⊎ ((is_odd (suc n) ≡ false) × (suc n % 2 ≡ 0))
+        → kept_down q (suc n) ≡ (suc n + 1) / 2 - q / 2
     by e (inl w) = elim (leb_tells q (suc n)) [
       | inl y ↦ (let odd = w.1 in let low = y.1 in rw w.0 (count_yes (λ r. nat_le q r) (suc n) (odd_down n) y.0 ∙ omega arith))
       | inr y ↦ (let odd = w.1 in let high = y.1 in rw w.0 (count_no (λ r. nat_le q r) (suc n) (odd_down n) y.0 ∙ omega arith))
@@ -75,7 +81,8 @@ module _ (q : ℕ) (f h : ℕ → ℕ) (more : (p : ℕ) → is_odd p ≡ true �
     | inl w ↦ (
         let low = w.1 in
         let e = count_yes (λ r. nat_le q r) (suc n) (odd_down n) (le_yes q (suc n) (omega arith)) in
-        subst (λ k. Over (is_odd q) k (f (suc n) ∷ map f (odd_down n)) (h (suc n) ∷ map h (odd_down n))) (sym e) (equal_or (more (suc n) odd (omega arith)) (rest (λ o. low))))
+        subst (λ k. Over (is_odd q) k (f (suc n) ∷ map f (odd_down n)) (h (suc n) ∷ map h (odd_down n))) (sym e)
+        (equal_or (more (suc n) odd (omega arith)) (rest (λ o. low))))
     | inr w ↦ elim (leb_tells q (suc n)) [
       | inl y ↦ (
           let high = w.1 in
@@ -87,7 +94,8 @@ module _ (q : ℕ) (f h : ℕ → ℕ) (more : (p : ℕ) → is_odd p ≡ true �
       | inr y ↦ (
           let high = y.1 in
           let e = count_no (λ r. nat_le q r) (suc n) (odd_down n) (le_no q (suc n) high) ∙ none_kept q n (omega arith) in
-          subst (λ k. Over (is_odd q) k (f (suc n) ∷ map f (odd_down n)) (h (suc n) ∷ map h (odd_down n))) (sym e) (not_odd (λ o. (let u = within o in omega arith))))
+          subst (λ k. Over (is_odd q) k (f (suc n) ∷ map f (odd_down n)) (h (suc n) ∷ map h (odd_down n))) (sym e)
+          (not_odd (λ o. (let u = within o in omega arith))))
     ]
   ]
     where
@@ -109,7 +117,8 @@ module _ (q : ℕ) (f h : ℕ → ℕ) (more : (p : ℕ) → is_odd p ≡ true �
       lower : is_odd (suc n) ≡ false → is_odd q ≡ true → q ≤ n
       lower even odd = elim (leb_tells q n) [
         | inl w ↦ w.1
-        | inr w ↦ (let high = w.1 in let low = within odd in let same : suc n ≡ q = omega arith in absurd (true≢false (sym odd ∙ (ap is_odd (sym same) ∙ even))))
+        | inr w ↦ (let high = w.1 in let low = within odd in let same : suc n ≡ q = omega arith
+            in absurd (true≢false (sym odd ∙ (ap is_odd (sym same) ∙ even))))
       ]
 
       by : ((is_odd q ≡ true → q ≤ n) → Down (odd_down n)) → (b : Bool) → is_odd (suc n) ≡ b → Down (if b then suc n ∷ odd_down n else odd_down n)

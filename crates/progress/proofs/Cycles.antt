@@ -1,5 +1,7 @@
 -- Along edges at which measures reach, no cycle's greatest priority is odd.
-use Rattle.progress.proofs.Common.{◌≡◌, ◌≢◌, ℕ, ◌%◌, ◌<◌, ◌≤◌, ◌⊎◌, max, Bool, true, false, List, [], ◌∷◌, refl, sym, ap, subst, ◌∙◌, inl, inr, arith, true≢false, nat_le, leb_tells, eqb_tells, IsPath, Game, vertex, priority_at, greatest_met, Measure, Top, Counts, components, kept, Reaches, is_odd}
+use Rattle.progress.proofs.Common.{◌≡◌, ◌≢◌, ℕ, ◌%◌, ◌<◌, ◌≤◌, ◌⊎◌, max, Bool, true, false, List, [], ◌∷◌, refl, sym, ap, subst, ◌∙◌, inl, inr, arith}
+use Rattle.progress.proofs.Common.{true≢false, nat_le, leb_tells, eqb_tells, IsPath, Game, vertex, priority_at, greatest_met, Measure, Top, Counts}
+use Rattle.progress.proofs.Common.{components, kept, Reaches, is_odd}
 use Rattle.progress.proofs.Lists.{count_more}
 use Rattle.progress.proofs.Order.{Over, over_trans, over_fewer, over_itself, not_over_itself}
 use Rattle.progress.proofs.Measures.{over_reaches}
@@ -42,12 +44,18 @@ module _ (g : Game) (R : ℕ → ℕ → Type 0) (value : ℕ → Measure) (step
   weakly : (p u t : ℕ) (c : List ℕ) → priority g u ≤ p → R u t → value u ≡ Counts c → Falls false (kept g p) t c
   weakly p u t c h r e =
       let f = along u t c r e in
-      record { counts = f.counts; is = f.is; over = over_fewer (is_odd (priority g u)) (kept g p) (kept g (priority g u)) f.counts c (kept_fewer g (priority g u) p h) f.over }
+      record {
+        counts = f.counts;
+        is = f.is;
+        over = over_fewer (is_odd (priority g u)) (kept g p) (kept g (priority g u)) f.counts c
+            (kept_fewer g (priority g u) p h) f.over;
+      }
 
   strictly : (p u t : ℕ) (c : List ℕ) → is_odd p ≡ true → priority g u ≡ p → R u t → value u ≡ Counts c → Falls true (kept g p) t c
   strictly p u t c odd h r e = subst (λ b. Falls b (kept g p) t c) odd (subst (λ q. Falls (is_odd q) (kept g q) t c) h (along u t c r e))
 
-  falls_weakly : (p s : ℕ) (others : List ℕ) (t : ℕ) (c : List ℕ) → priority g s ≤ p → greatest_met g others ≤ p → IsPath R s others t → value s ≡ Counts c → Falls false (kept g p) t c
+  falls_weakly : (p s : ℕ) (others : List ℕ) (t : ℕ) (c : List ℕ) → priority g s ≤ p → greatest_met g others ≤ p → IsPath R s others t → value s ≡ Counts c
+      → Falls false (kept g p) t c
   falls_weakly p s [] t c h i path e = record { counts = c; is = subst (λ v. value v ≡ Counts c) path e; over = over_itself (kept g p) c }
   falls_weakly p s (m ∷ others) t c h i path e =
       let f = weakly p s m c h path.0 e in
@@ -55,7 +63,8 @@ module _ (g : Game) (R : ℕ → ℕ → Type 0) (value : ℕ → Measure) (step
       record { counts = r.counts; is = r.is; over = over_trans false false (kept g p) r.counts f.counts c r.over f.over }
 
   -- where the greatest priority is odd, and not at the end, it is met before
-  falls_strictly : (p s : ℕ) (others : List ℕ) (t : ℕ) (c : List ℕ) → is_odd p ≡ true → max (priority g s) (greatest_met g others) ≡ p → priority g t < p → IsPath R s others t → value s ≡ Counts c
+  falls_strictly : (p s : ℕ) (others : List ℕ) (t : ℕ) (c : List ℕ) → is_odd p ≡ true → max (priority g s) (greatest_met g others) ≡ p → priority g t < p
+      → IsPath R s others t → value s ≡ Counts c
       → Falls true (kept g p) t c
   falls_strictly p s [] t c odd h below path e = let q : priority g s ≡ priority g t = ap (priority g) path in absurd (omega arith)
   falls_strictly p s (m ∷ others) t c odd h below path e = elim (eqb_tells (priority g s) p) [

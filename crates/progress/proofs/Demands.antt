@@ -1,5 +1,7 @@
 -- What a vertex asks for lies below where the values of its successors do.
-use Rattle.progress.proofs.Common.{◌≡◌, ℕ, ◌<◌, List, length, map, sym, ◌∙◌, subst, inl, inr, arith, refl, leb_tells, Some, AllZip, range_with_len, slice_index, slice_index_or, length-map, get_or-map, get_or_past, IsBestFor, IsProgress, Game, IsGame, Vertex, vertex, Measure, Top, IsAtMost, IsMeasure, IsProg, LiesBelow, value_at}
+use Rattle.progress.proofs.Common.{◌≡◌, ℕ, ◌<◌, List, length, map, sym, ◌∙◌, subst, inl, inr, arith, refl, leb_tells, Some, AllZip, range_with_len}
+use Rattle.progress.proofs.Common.{slice_index, slice_index_or, length-map, get_or-map, get_or_past, IsBestFor, IsProgress, Game, IsGame, Vertex, vertex}
+use Rattle.progress.proofs.Common.{Measure, Top, IsAtMost, IsMeasure, IsProg, LiesBelow, value_at}
 use Rattle.std.proofs.lemmas.List.FromFn.{fill_by_all}
 use Rattle.progress.proofs.Lifts.{settled}
 use Rattle.progress.proofs.Lists.{all_contained}
@@ -27,9 +29,12 @@ demand_below g v values r x game at long each progs z b = record {
         let f = λ (k : ℕ). slice_index_or values k Top in
         let h = λ (k : ℕ). slice_index_or theirs k Top in
         let more : (k : ℕ) → IsAtMost (f k) (h k) = λ k. elim (leb_tells (length values) k) [
-          | inl w ↦ subst (IsAtMost (f k)) (sym (get_or_past theirs k Top (let l = w.1 in let e = length-map x.successors (value_at other) in omega arith))) (at_most_top (f k))
+          | inl w ↦ subst (IsAtMost (f k)) (sym (get_or_past theirs k Top (let l = w.1 in let e = length-map x.successors (value_at other) in omega arith)))
+              (at_most_top (f k))
           | inr w ↦ subst (IsAtMost (f k)) (sym (get_or-map (value_at other) x.successors k 0 Top (let l = w.1 in omega arith))) ((each k w.1).under other is)
         ] in
         let z' = subst (λ ms. AllZip (IsProg g x.priority) ms progs) (by_places values (length values) refl) z in
-        let w' = subst (λ ms. AllZip (IsProg g x.priority) ms s.progs) (by_places theirs (length values) (length-map x.successors (value_at other) ∙ sym long)) s.zipped in
-        at_most_trans r s.best (value_at other v) (best_more g x.priority f h more (range_with_len 0 (length values)) x.owner progs s.progs r s.best z' w' b s.best_is) s.under
+        let w' = subst (λ ms. AllZip (IsProg g x.priority) ms s.progs)
+        (by_places theirs (length values) (length-map x.successors (value_at other) ∙ sym long)) s.zipped in
+        at_most_trans r s.best (value_at other v) (best_more g x.priority f h more
+        (range_with_len 0 (length values)) x.owner progs s.progs r s.best z' w' b s.best_is) s.under

@@ -1,5 +1,6 @@
 -- Different places of a list at which a test passes are at most as many as it counts.
-use Rattle.progress.proofs.Common.{◌≡◌, ◌≢◌, ℕ, zero, suc, ◌≤◌, Bool, true, false, List, [], ◌∷◌, length, refl, sym, ap, ◌∙◌, arith, true≢false, count_by, Some, slice_get, AllByRecursion}
+use Rattle.progress.proofs.Common.{◌≡◌, ◌≢◌, ℕ, zero, suc, ◌≤◌, Bool, true, false, List, [], ◌∷◌, length, refl, sym, ap, ◌∙◌, arith, true≢false, count_by}
+use Rattle.progress.proofs.Common.{Some, slice_get, AllByRecursion}
 pub use Rattle.progress.specs.StoredClaim.{Apart}
 use Rattle.progress.proofs.Lists.{count_yes, count_no}
 
@@ -43,7 +44,8 @@ module _ {X : Type 0} (p : X → Bool) where
   pub apart_count : (xs : List X) (places : List ℕ) → Apart places → AllByRecursion (PassesAt xs) places → length places ≤ count_by p xs
   apart_count [] [] a h = omega arith
   apart_count [] (i ∷ places) a ((x, at, passes), more) = absurd cc
-  apart_count (x ∷ xs) places a h = by (apart_count xs (lowered places) (lowered_apart places a) (lowered_all (PassesAt (x ∷ xs)) (PassesAt xs) places (λ i w. w) h)) (p x) refl
+  apart_count (x ∷ xs) places a h = by (apart_count xs (lowered places) (lowered_apart places a)
+      (lowered_all (PassesAt (x ∷ xs)) (PassesAt xs) places (λ i w. w) h)) (p x) refl
     where
       by : length (lowered places) ≤ count_by p xs → (b : Bool) → p x ≡ b → length places ≤ count_by p (x ∷ xs)
       by r true e = omega (arith, r, lowered_almost places a, count_yes p x xs e)

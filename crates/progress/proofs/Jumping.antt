@@ -1,5 +1,8 @@
 -- Testing claims, and raising a table by them.
-use Rattle.progress.proofs.Common.{◌≡◌, ◌≢◌, ◌↔◌, ℕ, ◌+◌, ◌<◌, ◌≤◌, ◌⊎◌, Bool, false, List, length, refl, sym, ap, subst, ◌∙◌, inl, inr, arith, true≢false, IsTrue, Option, Some, None, slice_index, slice_set, eqb_tells, Game, dual, Counts, IsAtMost, IsProg, Measure, Reaches, greater_of, value_at, AreEntered, AreRaised, Claim, Descends, Entry, IsGoodAt, IsGoodClaim, IsGoodFrom, claimed_at, entry_at, raised_by}
+use Rattle.progress.proofs.Common.{◌≡◌, ◌≢◌, ◌↔◌, ℕ, ◌+◌, ◌<◌, ◌≤◌, ◌⊎◌, Bool, false, List, length, refl, sym, ap, subst, ◌∙◌, inl, inr, arith, true≢false}
+use Rattle.progress.proofs.Common.{IsTrue, Option, Some, None, slice_index, slice_set, eqb_tells, Game, dual, Counts, IsAtMost, IsProg, Measure, Reaches}
+use Rattle.progress.proofs.Common.{greater_of, value_at, AreEntered, AreRaised, Claim, Descends, Entry, IsGoodAt, IsGoodClaim, IsGoodFrom, claimed_at}
+use Rattle.progress.proofs.Common.{entry_at, raised_by}
 use Rattle.progress.proofs.Measures.{at_most_itself, at_most_or_below, at_most_trans, greater_taken, own_greater, prog_more}
 use Rattle.progress.proofs.Plain.{value_set_other, value_set_same}
 use Rattle.progress.proofs.Putting.{contained_from}
@@ -26,8 +29,10 @@ module _ (g : Game) (values : List Measure) (c : Claim) (same : g ≡ c.game) (p
 
 -- ------------------------------------------------------------------ the whole claim
 
-pub all_good : (g : Game) (values : List Measure) (entries : List (Option Entry)) (vs : List ℕ) (n : ℕ) → AreEntered entries vs → length vs ≤ n → ((i : ℕ) → i < n → IsGoodAt g values entries (slice_index vs i)) → IsGoodClaim g values entries
-all_good g values entries vs n entered l f v x e = contained_from (IsGoodAt g values entries) vs n l f v ((entered v).0 (some_there (entry_at entries v) x e)) x e
+pub all_good : (g : Game) (values : List Measure) (entries : List (Option Entry)) (vs : List ℕ) (n : ℕ) → AreEntered entries vs → length vs ≤ n
+    → ((i : ℕ) → i < n → IsGoodAt g values entries (slice_index vs i)) → IsGoodClaim g values entries
+all_good g values entries vs n entered l f v x e = contained_from (IsGoodAt g values entries) vs n l f v
+    ((entered v).0 (some_there (entry_at entries v) x e)) x e
 
 -- ------------------------------------------------------------------ raising
 
@@ -50,7 +55,8 @@ module _ (old : List Measure) (entries : List (Option Entry)) (vs : List ℕ) wh
   abbrev Raised : ℕ → Measure
   Raised u = raised_by (value_at old u) (entry_at entries u)
 
-  pub raising_more : (n v : ℕ) (now new : List Measure) (m : Measure) (x : Entry) → IsRaising old entries vs n now → slice_index vs n ≡ v → v < length now → entry_at entries v ≡ Some x → m ≡ x.value
+  pub raising_more : (n v : ℕ) (now new : List Measure) (m : Measure) (x : Entry) → IsRaising old entries vs n now → slice_index vs n ≡ v → v < length now
+      → entry_at entries v ≡ Some x → m ≡ x.value
       → new ≡ slice_set now v (greater_of (value_at now v) m) → IsRaising old entries vs (n + 1) new
   raising_more n v now new m x is place inside at e set = record {
     either = either;
@@ -72,7 +78,8 @@ module _ (old : List Measure) (entries : List (Option Entry)) (vs : List ℕ) wh
 
       new_v : value_at new v ≡ Raised v
       new_v =
-          ap (λ ms. value_at ms v) set ∙ (value_set_same now v (greater_of (value_at now v) m) inside ∙ (ap (greater_of (value_at now v)) e ∙ both (is.either v)))
+          ap (λ ms. value_at ms v) set ∙ (value_set_same now v (greater_of (value_at now v) m) inside
+          ∙ (ap (greater_of (value_at now v)) e ∙ both (is.either v)))
 
       new_other : (u : ℕ) → u ≢ v → value_at new u ≡ value_at now u
       new_other u d = ap (λ ms. value_at ms u) set ∙ value_set_other now v u (greater_of (value_at now v) m) d

@@ -35,3 +35,5 @@ pub mod Joined
 pub mod Rising
 pub mod Rounds
 pub mod Demands
+pub mod Proposals
+pub mod StoredProposals

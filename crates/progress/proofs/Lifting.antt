@@ -1,5 +1,7 @@
 -- Lifting one vertex after another.
-use Rattle.progress.proofs.Common.{◌≢◌, ℕ, ◌+◌, ◌*◌, ◌<◌, ◌≤◌, List, [], ◌∷◌, length, sym, subst, ◌∙◌, inl, inr, arith, leb_tells, eqb_tells, ext_get_or, Game, IsGame, Measure, Top, IsMeasure, IsAtMost, IsLeastTable, IsProgress, IsTable, opening, value_at, sum_of, IsLifted, AreLifts, AreRises, height, rank}
+use Rattle.progress.proofs.Common.{◌≢◌, ℕ, ◌+◌, ◌*◌, ◌<◌, ◌≤◌, List, [], ◌∷◌, length, sym, subst, ◌∙◌, inl, inr, arith, leb_tells, eqb_tells, ext_get_or}
+use Rattle.progress.proofs.Common.{Game, IsGame, Measure, Top, IsMeasure, IsAtMost, IsLeastTable, IsProgress, IsTable, opening, value_at, sum_of, IsLifted}
+use Rattle.progress.proofs.Common.{AreLifts, AreRises, height, rank}
 use Rattle.progress.proofs.Lists.{all_from}
 use Rattle.progress.proofs.Measures.{at_most_itself}
 use Rattle.progress.proofs.Lifts.{value_measure}
@@ -14,12 +16,17 @@ lifted_under g table new other game is h l v = elim (eqb_tells v l.at) [
   | inr w ↦ subst (λ m. IsAtMost m (value_at other v)) (sym (l.others v w.1)) (h v)
 ]
 
-lifts_under : (g : Game) (table : List Measure) (tables : List (List Measure)) (end other : List Measure) → IsGame g → IsProgress g other → LiesUnder table other → AreLifts g table tables end → LiesUnder end other
+lifts_under : (g : Game) (table : List Measure) (tables : List (List Measure)) (end other : List Measure) → IsGame g → IsProgress g other
+    → LiesUnder table other → AreLifts g table tables end → LiesUnder end other
 lifts_under g table [] end other game is h l = subst (λ t. LiesUnder t other) l h
 lifts_under g table (new ∷ tables) end other game is h l = lifts_under g new tables end other game is (lifted_under g table new other game is h l.0) l.1
 
-pub lifting_least : (g : Game) → IsGame g → (tables : List (List Measure)) (table : List Measure) → AreLifts g (opening g) tables table → IsProgress g table → IsLeastTable g table
-lifting_least g game tables table l is = record { progress = is; under = λ v h other o. lifts_under g (opening g) tables table other game o (opening_under g game other o) l v }
+pub lifting_least : (g : Game) → IsGame g → (tables : List (List Measure)) (table : List Measure) → AreLifts g (opening g) tables table → IsProgress g table
+    → IsLeastTable g table
+lifting_least g game tables table l is = record {
+  progress = is;
+  under = λ v h other o. lifts_under g (opening g) tables table other game o (opening_under g game other o) l v;
+}
 
 pub lifted_rises : (g : Game) (table new : List Measure) → IsLifted g table new → LiesUnder table new
 lifted_rises g table new l v = elim (eqb_tells v l.at) [
@@ -39,7 +46,8 @@ lifted_table g table new is l = (l.long ∙ is.0, all_from (IsMeasure g) new Top
 -- a greater table has a greater sum of ranks
 pub sum_above : (g : Game) (table new : List Measure) → IsTable g table → IsTable g new → LiesUnder table new → table ≢ new → sum_of g table < sum_of g new
 sum_above g table new is are under differs = elim (leb_tells n o) [
-  | inl w ↦ absurd (differs (ext_get_or Top table new (is.0 ∙ sym are.0) (λ v h. rank_same g (value_at table v) (value_at new v) (measured v) (measured' v) (under v) (by w.1 v (let e = is.0 in omega arith)))))
+  | inl w ↦ absurd (differs (ext_get_or Top table new (is.0 ∙ sym are.0)
+      (λ v h. rank_same g (value_at table v) (value_at new v) (measured v) (measured' v) (under v) (by w.1 v (let e = is.0 in omega arith)))))
   | inr w ↦ w.1
 ]
   where
@@ -56,7 +64,8 @@ sum_above g table new is are under differs = elim (leb_tells n o) [
     measured' v = value_measure g new are.1 v
 
     by : sum_of g new ≤ sum_of g table → (v : ℕ) → v < length g.vertices → rank g (value_at new v) ≤ rank g (value_at table v)
-    by h = total_same (λ v. rank g (value_at table v)) (λ v. rank g (value_at new v)) (length g.vertices) (λ v. rank_more g (value_at table v) (value_at new v) (measured v) (measured' v) (under v)) h
+    by h = total_same (λ v. rank g (value_at table v)) (λ v. rank g (value_at new v)) (length g.vertices)
+        (λ v. rank_more g (value_at table v) (value_at new v) (measured v) (measured' v) (under v)) h
 
 -- and one that is nowhere less no lesser one
 pub sum_least : (g : Game) (table new : List Measure) → IsTable g table → IsTable g new → LiesUnder table new → sum_of g table ≤ sum_of g new
@@ -68,12 +77,15 @@ sum_least g table new is are under =
 pub sum_rises : (g : Game) (table new : List Measure) → IsTable g table → IsLifted g table new → table ≢ new → sum_of g table < sum_of g new
 sum_rises g table new is l differs = sum_above g table new is (lifted_table g table new is l) (lifted_rises g table new l) differs
 
-rises_few : (g : Game) (table : List Measure) (tables : List (List Measure)) (end : List Measure) → IsTable g table → AreRises g table tables end → length tables + sum_of g table ≤ length g.vertices * height g
-rises_few g table [] end is l = let r = total_bounded (λ v. rank g (value_at table v)) (height g) (length g.vertices) (λ v h. rank_bounded g (value_at table v) (value_measure g table is.1 v)) in omega (arith, r)
+rises_few : (g : Game) (table : List Measure) (tables : List (List Measure)) (end : List Measure) → IsTable g table → AreRises g table tables end
+    → length tables + sum_of g table ≤ length g.vertices * height g
+rises_few g table [] end is l = let r = total_bounded (λ v. rank g (value_at table v)) (height g) (length g.vertices)
+    (λ v h. rank_bounded g (value_at table v) (value_measure g table is.1 v)) in omega (arith, r)
 rises_few g table (new ∷ tables) end is l =
     let r = rises_few g new tables end (lifted_table g table new is l.0) l.2 in
     let s = sum_rises g table new is l.0 l.1 in
     omega (arith, r, s)
 
-pub lifting_ends : (g : Game) (tables : List (List Measure)) (table : List Measure) → AreRises g (opening g) tables table → length tables ≤ length g.vertices * height g
+pub lifting_ends : (g : Game) (tables : List (List Measure)) (table : List Measure) → AreRises g (opening g) tables table
+    → length tables ≤ length g.vertices * height g
 lifting_ends g tables table l = let r = rises_few g (opening g) tables table (opening_table g) l in omega (arith, r)

@@ -1,5 +1,7 @@
 -- What a progress table says of a vertex and its successors.
-use Rattle.progress.proofs.Common.{◌≡◌, ℕ, ◌≤◌, List, length, map, refl, subst, ◌∙◌, arith, Contains, Some, AllZip, AllByRecursion, AllZip-long, length-map, Player, Even, Odd, Vertex, Game, vertex, IsVertex, IsGame, Measure, Top, IsMeasure, IsAtMost, Reaches, IsProg, greater_of, IsBestFor, IsProgress, value_at, IsLeastSuccessor}
+use Rattle.progress.proofs.Common.{◌≡◌, ℕ, ◌≤◌, List, length, map, refl, subst, ◌∙◌, arith, Contains, Some, AllZip, AllByRecursion, AllZip-long, length-map}
+use Rattle.progress.proofs.Common.{Player, Even, Odd, Vertex, Game, vertex, IsVertex, IsGame, Measure, Top, IsMeasure, IsAtMost, Reaches, IsProg, greater_of}
+use Rattle.progress.proofs.Common.{IsBestFor, IsProgress, value_at, IsLeastSuccessor}
 use Rattle.progress.proofs.Lists.{all_got, all_or, zip_back, zip_on, zip_made, best_of}
 use Rattle.progress.proofs.Measures.{at_most_itself, at_most_trans, at_most_either, greater_own, reaches_up, prog, prog_more}
 
@@ -8,7 +10,8 @@ value_measure g table h v = all_or (IsMeasure g) table v Top h tt
 
 pub best_for : (player : Player) (ms : List Measure) → 1 ≤ length ms → (b : Measure) × IsBestFor player ms b
 best_for Even ms h = let r = best_of (λ a b. IsAtMost a b) at_most_itself at_most_trans at_most_either ms h in (r.0, (r.1, r.2))
-best_for Odd ms h = let r = best_of (λ a b. IsAtMost b a) at_most_itself (λ a b c x y. at_most_trans c b a y x) (λ a b. at_most_either b a) ms h in (r.0, (r.1, r.2))
+best_for Odd ms h = let r = best_of (λ a b. IsAtMost b a) at_most_itself (λ a b c x y. at_most_trans c b a y x) (λ a b. at_most_either b a) ms h
+    in (r.0, (r.1, r.2))
 
 -- the vertex's progs, and the best of them, which is at most the vertex's value
 pub record Settled (g : Game) (table : List Measure) (v : ℕ) (x : Vertex) : Type 0 where
@@ -22,7 +25,8 @@ pub settled : (g : Game) (table : List Measure) → IsGame g → IsProgress g ta
 settled g table game is v x at =
     let some : 1 ≤ length x.successors = (all_got (IsVertex (length g.vertices)) g.vertices v x game.vertices at).some in
     let made = zip_made (IsProg g x.priority) (value_at table) x.successors (λ t. prog g x.priority (value_at table t) (value_measure g table is.0.1 t)) in
-    let long : length made.0 ≡ length x.successors = AllZip-long (IsProg g x.priority) (map (value_at table) x.successors) made.0 made.1 ∙ length-map x.successors (value_at table) in
+    let long : length made.0 ≡ length x.successors = AllZip-long (IsProg g x.priority) (map (value_at table) x.successors) made.0 made.1
+    ∙ length-map x.successors (value_at table) in
     let best = best_for x.owner made.0 (omega (arith, some, long)) in
     record {
       progs = made.0;
@@ -38,10 +42,14 @@ pub even_reaches : (g : Game) (table : List Measure) → IsGame g → IsProgress
 even_reaches g table game is v x at own =
     let s = settled g table game is v x at in
     let best = subst (λ o. IsBestFor o s.progs s.best) own s.best_is in
-    let back = zip_back (IsProg g x.priority) (value_at table) x.successors s.progs s.best s.zipped best.0 in
-    (back.0, record { successor = back.1; least = least back.0 s.progs s.best back.2 s.zipped best.1 }, reaches_up g x.priority (value_at table back.0) s.best (value_at table v) back.2.reaches s.under)
+    let back = zip_back (IsProg g x.priority) (value_at table) x.successors s.progs s.best s.zipped best.0 in (
+      back.0,
+      record { successor = back.1; least = least back.0 s.progs s.best back.2 s.zipped best.1 },
+      reaches_up g x.priority (value_at table back.0) s.best (value_at table v) back.2.reaches s.under,
+    )
   where
-    least : (t : ℕ) (progs : List Measure) (best : Measure) → IsProg g x.priority (value_at table t) best → AllZip (IsProg g x.priority) (map (value_at table) x.successors) progs
+    least : (t : ℕ) (progs : List Measure) (best : Measure) → IsProg g x.priority (value_at table t) best
+        → AllZip (IsProg g x.priority) (map (value_at table) x.successors) progs
         → AllByRecursion (λ m. IsAtMost best m) progs → (u : ℕ) → Contains x.successors u → (m r : Measure) → IsProg g x.priority (value_at table t) m
         → IsProg g x.priority (value_at table u) r → IsAtMost m r
     least t progs best is zipped all u has m r i j =

@@ -1,5 +1,7 @@
 -- Lists: what they contain, place by place.
-use Rattle.progress.proofs.Common.{◌≡◌, ℕ, zero, suc, ◌+◌, ◌<◌, ◌≤◌, ◌⊎◌, List, [], ◌∷◌, length, map, refl, sym, ap, subst, ◌∙◌, inl, inr, arith, Contains, Some, slice_get, slice_index_or, Bool, true, false, cond, count_by, true≢false, AllZip, AllByRecursion, All-from_recursion, sum_by-cons, get_or_from_slice_get, slice_get_within}
+use Rattle.progress.proofs.Common.{◌≡◌, ℕ, zero, suc, ◌+◌, ◌<◌, ◌≤◌, ◌⊎◌, List, [], ◌∷◌, length, map, refl, sym, ap, subst, ◌∙◌, inl, inr, arith, Contains}
+use Rattle.progress.proofs.Common.{Some, slice_get, slice_index_or, Bool, true, false, cond, count_by, true≢false, AllZip, AllByRecursion, All-from_recursion}
+use Rattle.progress.proofs.Common.{sum_by-cons, get_or_from_slice_get, slice_get_within}
 
 pub contains_first : {X : Type 0} (x : X) (xs : List X) → Contains (x ∷ xs) x
 contains_first x xs = (0, omega arith, refl)
@@ -30,7 +32,8 @@ all_weaker P Q [] f h = tt
 all_weaker P Q (x ∷ xs) f h = (f x h.0, all_weaker P Q xs f h.1)
 
 -- from the second list back to the first
-pub zip_back : {X Y Z : Type 0} (R : Y → Z → Type 0) (f : X → Y) (xs : List X) (zs : List Z) (z : Z) → AllZip R (map f xs) zs → Contains zs z → (x : X) × Contains xs x × R (f x) z
+pub zip_back : {X Y Z : Type 0} (R : Y → Z → Type 0) (f : X → Y) (xs : List X) (zs : List Z) (z : Z) → AllZip R (map f xs) zs → Contains zs z → (x : X)
+    × Contains xs x × R (f x) z
 zip_back R f [] [] z h c = absurd (contains_none z c)
 zip_back R f [] (w ∷ ws) z h c = absurd h
 zip_back R f (x ∷ xs) [] z h c = absurd h
@@ -66,10 +69,12 @@ best_of R itself trans either (x ∷ y ∷ ys) h =
     ]
 
 pub count_yes : {X : Type 0} (p : X → Bool) (x : X) (xs : List X) → p x ≡ true → count_by p (x ∷ xs) ≡ suc (count_by p xs)
-count_yes p x xs e = let s : count_by p (x ∷ xs) ≡ cond {A = ℕ} (p x) 1 0 + count_by p xs = sum_by-cons (λ y. cond (p y) 1 0) x xs in let t : cond {A = ℕ} (p x) 1 0 ≡ 1 = ap (λ b. cond {A = ℕ} b 1 0) e in omega arith
+count_yes p x xs e = let s : count_by p (x ∷ xs) ≡ cond {A = ℕ} (p x) 1 0 + count_by p xs = sum_by-cons (λ y. cond (p y) 1 0) x xs
+    in let t : cond {A = ℕ} (p x) 1 0 ≡ 1 = ap (λ b. cond {A = ℕ} b 1 0) e in omega arith
 
 pub count_no : {X : Type 0} (p : X → Bool) (x : X) (xs : List X) → p x ≡ false → count_by p (x ∷ xs) ≡ count_by p xs
-count_no p x xs e = let s : count_by p (x ∷ xs) ≡ cond {A = ℕ} (p x) 1 0 + count_by p xs = sum_by-cons (λ y. cond (p y) 1 0) x xs in let t : cond {A = ℕ} (p x) 1 0 ≡ 0 = ap (λ b. cond {A = ℕ} b 1 0) e in omega arith
+count_no p x xs e = let s : count_by p (x ∷ xs) ≡ cond {A = ℕ} (p x) 1 0 + count_by p xs = sum_by-cons (λ y. cond (p y) 1 0) x xs
+    in let t : cond {A = ℕ} (p x) 1 0 ≡ 0 = ap (λ b. cond {A = ℕ} b 1 0) e in omega arith
 
 -- what passes more is counted more often
 pub count_more : {X : Type 0} (p q : X → Bool) (xs : List X) → ((x : X) → p x ≡ true → q x ≡ true) → count_by p xs ≤ count_by q xs
@@ -91,6 +96,7 @@ all_map P f [] h = tt
 all_map P f (x ∷ xs) h = (h x, all_map P f xs h)
 
 -- a list from the second of two, place by place
-pub zip_from : {X Y : Type 0} (R : Y → X → Type 0) (P : X → Type 0) (f : X → Y) (ps : List X) → AllByRecursion P ps → ((p : X) → P p → R (f p) p) → AllZip R (map f ps) ps
+pub zip_from : {X Y : Type 0} (R : Y → X → Type 0) (P : X → Type 0) (f : X → Y) (ps : List X) → AllByRecursion P ps → ((p : X) → P p → R (f p) p)
+    → AllZip R (map f ps) ps
 zip_from R P f [] h make = tt
 zip_from R P f (p ∷ ps) h make = (make p h.0, zip_from R P f ps h.1 make)

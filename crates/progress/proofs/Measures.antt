@@ -1,6 +1,10 @@
 -- Measures: their order, and the least one that reaches another.
-use Rattle.progress.proofs.Common.{◌≡◌, ℕ, zero, suc, ◌+◌, ◌≤◌, ◌⊎◌, Bool, true, false, List, [], ◌∷◌, length, map, take, refl, sym, ap, subst, ◌∙◌, inl, inr, arith, IsTrue, true≢false, MatchBool, if◌then◌else◌, AllZip, Ordering, nat_cmp, is_lt, is_le, slice_cmp, leb_tells, AllZip-long, Game, count, Measure, Top, Counts, components, IsMeasure, measure_cmp, IsAtMost, IsBelow, kept, Reaches, IsProg, is_odd, greater_of}
-use Rattle.progress.proofs.Order.{Over, Passes, over_from, over_to, over_trans, over_fewer, over_itself, not_over_itself, over_either, over_same, whole_to, whole_from, whole_fewer}
+use Rattle.progress.proofs.Common.{◌≡◌, ℕ, zero, suc, ◌+◌, ◌≤◌, ◌⊎◌, Bool, true, false, List, [], ◌∷◌, length, map, take, refl, sym, ap, subst, ◌∙◌, inl, inr}
+use Rattle.progress.proofs.Common.{arith, IsTrue, true≢false, MatchBool, if◌then◌else◌, AllZip, Ordering, nat_cmp, is_lt, is_le, slice_cmp, leb_tells}
+use Rattle.progress.proofs.Common.{AllZip-long, Game, count, Measure, Top, Counts, components, IsMeasure, measure_cmp, IsAtMost, IsBelow, kept, Reaches}
+use Rattle.progress.proofs.Common.{IsProg, is_odd, greater_of}
+use Rattle.progress.proofs.Order.{Over, Passes, over_from, over_to, over_trans, over_fewer, over_itself, not_over_itself, over_either, over_same, whole_to}
+use Rattle.progress.proofs.Order.{whole_from, whole_fewer}
 
 -- every measure is at most itself
 pub at_most_itself : (m : Measure) → IsAtMost m m
@@ -23,7 +27,11 @@ at_most_or_below Top (Counts y) = inr refl
 at_most_or_below (Counts x) Top = inl refl
 at_most_or_below (Counts x) (Counts y) =
     let k = length x + length y in
-    elim (over_either k x y) [ inl o ↦ inl (whole_to true k x y (omega arith) (omega arith) o) | inr o ↦ inr (whole_to false k y x (omega arith) (omega arith) o) ]
+    elim (over_either k x y) [
+      | inl o ↦ inl (whole_to true k x y (omega arith) (omega arith) o)
+      | inr o ↦ inr
+          (whole_to false k y x (omega arith) (omega arith) o)
+    ]
 
 pub below_at_most : (a b : Measure) → IsBelow a b → IsAtMost a b
 below_at_most Top Top h = absurd (true≢false (sym h))
@@ -109,7 +117,8 @@ none_least f (p ∷ ps) (zero ∷ ys) h = inr (refl, none_least f ps ys h.1)
 none_least f (p ∷ ps) (suc y ∷ ys) h = inl (omega arith)
 
 -- the rest can't be over: the first count rises, and the rest is nothing
-pub raised : (f : ℕ → ℕ) (p : ℕ) (ps : List ℕ) (s : Bool) (k y : ℕ) (ys : List ℕ) → suc y ≤ f p → NoneOver f ps s k ys → IsLeastOver f (p ∷ ps) s (suc k) (y ∷ ys) (suc y ∷ none ps)
+pub raised : (f : ℕ → ℕ) (p : ℕ) (ps : List ℕ) (s : Bool) (k y : ℕ) (ys : List ℕ) → suc y ≤ f p → NoneOver f ps s k ys
+    → IsLeastOver f (p ∷ ps) s (suc k) (y ∷ ys) (suc y ∷ none ps)
 raised f p ps s k y ys h never = record { bounded = (h, none_bounded f ps); over = inl (omega arith); least = least }
   where
     least : (x : List ℕ) → Bounded f (p ∷ ps) x → Over s (suc k) (y ∷ ys) x → Over false (suc (length ps)) (suc y ∷ none ps) x
@@ -121,7 +130,8 @@ raised f p ps s k y ys h never = record { bounded = (h, none_bounded f ps); over
     least (z ∷ zs) b (inr o) = absurd (never zs b.1 o.1)
 
 -- the rest is over by itself
-pub deeper : (f : ℕ → ℕ) (p : ℕ) (ps : List ℕ) (s : Bool) (k y : ℕ) (ys ds : List ℕ) → y ≤ f p → IsLeastOver f ps s k ys ds → IsLeastOver f (p ∷ ps) s (suc k) (y ∷ ys) (y ∷ ds)
+pub deeper : (f : ℕ → ℕ) (p : ℕ) (ps : List ℕ) (s : Bool) (k y : ℕ) (ys ds : List ℕ) → y ≤ f p → IsLeastOver f ps s k ys ds
+    → IsLeastOver f (p ∷ ps) s (suc k) (y ∷ ys) (y ∷ ds)
 deeper f p ps s k y ys ds h is = record { bounded = (h, is.bounded); over = inr (refl, is.over); least = least }
   where
     least : (x : List ℕ) → Bounded f (p ∷ ps) x → Over s (suc k) (y ∷ ys) x → Over false (suc (length ps)) (y ∷ ds) x
@@ -189,7 +199,8 @@ pub reaches_down : (g : Game) (p : ℕ) (m n r : Measure) → IsAtMost m n → R
 reaches_down g p m n Top h i = tt
 reaches_down g p m Top (Counts d) h i = absurd i
 reaches_down g p Top (Counts e) (Counts d) h i = absurd (true≢false (sym h))
-reaches_down g p (Counts c) (Counts e) (Counts d) h i = reaches_over g p c d (over_trans false (is_odd p) (kept g p) c e d (whole_fewer (kept g p) c e h) (over_reaches g p e d i))
+reaches_down g p (Counts c) (Counts e) (Counts d) h i = reaches_over g p c d
+    (over_trans false (is_odd p) (kept g p) c e d (whole_fewer (kept g p) c e h) (over_reaches g p e d i))
 
 pub prog_more : (g : Game) (p : ℕ) (m n r s : Measure) → IsAtMost m n → IsProg g p m r → IsProg g p n s → IsAtMost r s
 prog_more g p m n r s h i j = i.least s j.measure (reaches_down g p m n s h j.reaches)

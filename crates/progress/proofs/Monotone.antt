@@ -1,11 +1,14 @@
 -- Lifts of greater tables are greater.
-use Rattle.progress.proofs.Common.{◌≡◌, ℕ, ◌≤◌, Bool, true, false, if◌then◌else◌, List, [], ◌∷◌, length, map, refl, sym, ap, subst, ◌∙◌, arith, Contains, Some, AllZip, AllByRecursion, is_lt, length-map, AllZip-long, Player, Even, Odd, Vertex, Game, vertex, IsVertex, IsGame, Measure, IsMeasure, measure_cmp, IsAtMost, IsProg, greater_of, IsBestFor, IsLiftAt, IsProgress, IsTable, value_at}
+use Rattle.progress.proofs.Common.{◌≡◌, ℕ, ◌≤◌, Bool, true, false, if◌then◌else◌, List, [], ◌∷◌, length, map, refl, sym, ap, subst, ◌∙◌, arith, Contains}
+use Rattle.progress.proofs.Common.{Some, AllZip, AllByRecursion, is_lt, length-map, AllZip-long, Player, Even, Odd, Vertex, Game, vertex, IsVertex, IsGame}
+use Rattle.progress.proofs.Common.{Measure, IsMeasure, measure_cmp, IsAtMost, IsProg, greater_of, IsBestFor, IsLiftAt, IsProgress, IsTable, value_at}
 pub use Rattle.progress.specs.Progress.{LiesUnder}
 use Rattle.progress.proofs.Lists.{all_got, all_contained, zip_back, zip_on, zip_made}
 use Rattle.progress.proofs.Measures.{at_most_both, at_most_itself, at_most_trans, below_at_most, prog, prog_more}
 use Rattle.progress.proofs.Lifts.{best_for, settled, value_measure}
 
-pub best_more : (g : Game) (p : ℕ) (f h : ℕ → Measure) → ((t : ℕ) → IsAtMost (f t) (h t)) → (ts : List ℕ) (o : Player) (progs rises : List Measure) (best more : Measure)
+pub best_more : (g : Game) (p : ℕ) (f h : ℕ → Measure) → ((t : ℕ) → IsAtMost (f t) (h t))
+    → (ts : List ℕ) (o : Player) (progs rises : List Measure) (best more : Measure)
     → AllZip (IsProg g p) (map f ts) progs → AllZip (IsProg g p) (map h ts) rises → IsBestFor o progs best → IsBestFor o rises more → IsAtMost best more
 best_more g p f h l ts Even progs rises best more z w b c =
     let t = zip_back (IsProg g p) h ts rises more w c.0 in
@@ -36,7 +39,8 @@ pub lift_rises : (g : Game) (table : List Measure) (v : ℕ) (r : Measure) → I
 lift_rises g table v r (x, at, (progs, best, zipped, b, e)) = subst (λ m. IsAtMost (value_at table v) m) (sym e) (greater_rises (value_at table v) best)
 
 -- a lift of a table under a progress table stays under it
-pub lift_under : (g : Game) (table other : List Measure) → IsGame g → IsProgress g other → LiesUnder table other → (v : ℕ) (r : Measure) → IsLiftAt g table v r → IsAtMost r (value_at other v)
+pub lift_under : (g : Game) (table other : List Measure) → IsGame g → IsProgress g other → LiesUnder table other → (v : ℕ) (r : Measure)
+    → IsLiftAt g table v r → IsAtMost r (value_at other v)
 lift_under g table other game is under v r (x, at, (progs, best, zipped, b, e)) =
     let s = settled g other game is v x at in
     let low = best_more g x.priority (value_at table) (value_at other) under x.successors x.owner progs s.progs best s.best zipped s.zipped b s.best_is in
@@ -70,10 +74,12 @@ lift_measure g table is v r (x, at, (progs, best, zipped, b, e)) =
     (all_contained (IsMeasure g) progs best (right_all g x.priority (map (value_at table) x.successors) progs zipped) (best_one_of x.owner progs best b)))
 
 -- and it has one at each vertex
-pub lift_at : (g : Game) → IsGame g → (table : List Measure) → IsTable g table → (v : ℕ) (x : Vertex) → vertex g v ≡ Some x → (r : Measure) × IsLiftAt g table v r
+pub lift_at : (g : Game) → IsGame g → (table : List Measure) → IsTable g table → (v : ℕ) (x : Vertex) → vertex g v ≡ Some x → (r : Measure)
+    × IsLiftAt g table v r
 lift_at g game table is v x at =
     let some : 1 ≤ length x.successors = (all_got (IsVertex (length g.vertices)) g.vertices v x game.vertices at).some in
     let made = zip_made (IsProg g x.priority) (value_at table) x.successors (λ t. prog g x.priority (value_at table t) (value_measure g table is.1 t)) in
-    let long : length made.0 ≡ length x.successors = AllZip-long (IsProg g x.priority) (map (value_at table) x.successors) made.0 made.1 ∙ length-map x.successors (value_at table) in
+    let long : length made.0 ≡ length x.successors = AllZip-long (IsProg g x.priority) (map (value_at table) x.successors) made.0 made.1
+    ∙ length-map x.successors (value_at table) in
     let best = best_for x.owner made.0 (omega (arith, some, long)) in
     (greater_of (value_at table v) best.0, (x, at, (made.0, best.0, made.1, best.1, refl)))

@@ -1,5 +1,7 @@
 -- No vertex is won by both: both strategies together run into a cycle.
-use Rattle.progress.proofs.Common.{◌≡◌, ◌≢◌, ℕ, zero, suc, ◌+◌, ◌%◌, ◌<◌, ◌≤◌, ◌⊎◌, true, List, [], ◌∷◌, ◌++◌, length, refl, sym, subst, ◌∙◌, inl, inr, arith, IsTrue, Some, get_or, AllByRecursion, range_with_len, eqb_tells, count_by-le-length, slice_get_cases, slice_get-get_or, length-range_with_len, IsPath, Player, Even, Odd, Vertex, Game, vertex, Edge, Wins, OddWins, greatest_met}
+use Rattle.progress.proofs.Common.{◌≡◌, ◌≢◌, ℕ, zero, suc, ◌+◌, ◌%◌, ◌<◌, ◌≤◌, ◌⊎◌, true, List, [], ◌∷◌, ◌++◌, length, refl, sym, subst, ◌∙◌, inl, inr, arith}
+use Rattle.progress.proofs.Common.{IsTrue, Some, get_or, AllByRecursion, range_with_len, eqb_tells, count_by-le-length, slice_get_cases, slice_get-get_or}
+use Rattle.progress.proofs.Common.{length-range_with_len, IsPath, Player, Even, Odd, Vertex, Game, vertex, Edge, Wins, OddWins, greatest_met}
 use Rattle.progress.proofs.Lists.{all_weaker}
 use Rattle.progress.proofs.Distinct.{Apart, PassesAt, apart_count}
 
@@ -48,7 +50,8 @@ module _ (R : ℕ → ℕ → Type 0) (In : ℕ → Type 0) (n : ℕ) (below : (
   few seen a h =
       let ns = range_with_len 0 n in
       let long : length ns ≡ n = length-range_with_len 0 n in
-      let c = apart_count (λ x. true) ns seen a (all_weaker (λ x. x < n) (PassesAt (λ x. true) ns) seen (λ x l. (get_or ns x 0, slice_get-get_or ns x 0 (omega (arith, l, long)), refl)) h) in
+      let c = apart_count (λ x. true) ns seen a (all_weaker (λ x. x < n) (PassesAt (λ x. true) ns) seen
+      (λ x l. (get_or ns x 0, slice_get-get_or ns x 0 (omega (arith, l, long)), refl)) h) in
       omega (arith, c, long, count_by-le-length (λ x. true) ns)
 
   walk : (fuel u : ℕ) (seen : List ℕ) → n < fuel + length seen → In u → Apart seen → AllByRecursion (From u) seen → Cycle
@@ -56,8 +59,10 @@ module _ (R : ℕ → ℕ → Type 0) (In : ℕ → Type 0) (n : ℕ) (below : (
   walk (suc fuel) u seen h i a f = elim (new_or (From u) u seen f) [
     | inl new ↦ (
         let step = on u i in
-        walk fuel step.0 (u ∷ seen) (omega arith) step.2 (new, a)
-        (record { is_in = i; others = step.0 ∷ []; some = (λ e. cc); path = (step.1, refl) }, all_weaker (From u) (From step.0) seen (λ x. further u step.0 x step.1) f))
+        walk fuel step.0 (u ∷ seen) (omega arith) step.2 (new, a) (
+          record { is_in = i; others = step.0 ∷ []; some = (λ e. cc); path = (step.1, refl) },
+          all_weaker (From u) (From step.0) seen (λ x. further u step.0 x step.1) f,
+        ))
     | inr c ↦ record { at = u; is_in = i; others = c.others; some = c.some; path = c.path }
   ]
 
@@ -92,6 +97,8 @@ module _ (g : Game) (v : ℕ) (w : Wins g v) (o : OddWins g v) where
   pub not_both_win : ⊥
   not_both_win =
       let c = cycle Both In (length g.vertices) (λ u i. w.strategy.inside u i.0) on v (w.has, o.has) in
-      let even : greatest_met g c.others % 2 ≡ 0 = w.strategy.cycles c.at c.others c.is_in.0 c.some (path_weaker Both (Edge Even g w.choice) (λ u t b. b.0) c.at c.others c.at c.path) in
-      let odd : greatest_met g c.others % 2 ≡ 1 = o.strategy.cycles c.at c.others c.is_in.1 c.some (path_weaker Both (Edge Odd g o.choice) (λ u t b. b.1) c.at c.others c.at c.path) in
+      let even : greatest_met g c.others % 2 ≡ 0 = w.strategy.cycles c.at c.others c.is_in.0 c.some
+      (path_weaker Both (Edge Even g w.choice) (λ u t b. b.0) c.at c.others c.at c.path) in
+      let odd : greatest_met g c.others % 2 ≡ 1 = o.strategy.cycles c.at c.others c.is_in.1 c.some
+      (path_weaker Both (Edge Odd g o.choice) (λ u t b. b.1) c.at c.others c.at c.path) in
       omega (arith, even, odd)

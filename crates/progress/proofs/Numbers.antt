@@ -1,5 +1,8 @@
 -- Ranks, read and written in mixed radix, one place after another.
-use Rattle.progress.proofs.Common.{◌≡◌, ℕ, Bool, true, false, zero, suc, ◌+◌, ◌*◌, ◌/◌, ◌%◌, ◌<◌, ◌≤◌, ◌↔◌, ◌++◌, List, [], ◌∷◌, length, map, drop, refl, sym, ap, ap₂, subst, ◌∙◌, inl, inr, arith, slice_index, nat_lt, if◌then◌else◌, lt-ltb, ltb-true, mul-le-mul_right, append_assoc, leb_tells, max, zeros, Game, count, Measure, Top, Counts, components, IsMeasure, IsAtMost, IsBelow, IsRank, AllZip, bounds, counts_of, code, decode, height, rank, size}
+use Rattle.progress.proofs.Common.{◌≡◌, ℕ, Bool, true, false, zero, suc, ◌+◌, ◌*◌, ◌/◌, ◌%◌, ◌<◌, ◌≤◌, ◌↔◌, ◌++◌, List, [], ◌∷◌, length, map, drop, refl, sym}
+use Rattle.progress.proofs.Common.{ap, ap₂, subst, ◌∙◌, inl, inr, arith, slice_index, nat_lt, if◌then◌else◌, lt-ltb, ltb-true, mul-le-mul_right, append_assoc}
+use Rattle.progress.proofs.Common.{leb_tells, max, zeros, Game, count, Measure, Top, Counts, components, IsMeasure, IsAtMost, IsBelow, IsRank, AllZip, bounds}
+use Rattle.progress.proofs.Common.{counts_of, code, decode, height, rank, size}
 use Rattle.progress.specs.Lifting.{of_rank}
 use Rattle.std.proofs.Math.Nat.{mul-div_cancel_left}
 use Rattle.progress.proofs.Measures.{Bounded, at_most_or_below, at_most_top, none, none_bounded}
@@ -22,7 +25,8 @@ code_bounds f (p ∷ ps) (y ∷ ys) = ap₂ (λ m n. y * m + n) (size_bounds f p
 
 pub decode_bounds : (f : ℕ → ℕ) (ps : List ℕ) (n : ℕ) → decode (λ b. b) (map f ps) n ≡ decode f ps n
 decode_bounds f [] n = refl
-decode_bounds f (p ∷ ps) n = ap (λ s. n / s ∷ decode (λ b. b) (map f ps) (n % s)) (size_bounds f ps) ∙ ap (λ ds. n / size f ps ∷ ds) (decode_bounds f ps (n % size f ps))
+decode_bounds f (p ∷ ps) n = ap (λ s. n / s ∷ decode (λ b. b) (map f ps) (n % s)) (size_bounds f ps)
+    ∙ ap (λ ds. n / size f ps ∷ ds) (decode_bounds f ps (n % size f ps))
 
 -- ------------------------------------------------------------------ place after place
 
@@ -31,22 +35,26 @@ size_at [] i h = absurd (omega arith)
 size_at (b ∷ bs) zero h = omega arith
 size_at (b ∷ bs) (suc i) h = size_at bs i (omega arith)
 
-pub size_over : (bs : List ℕ) (i number : ℕ) → i < length bs → number * size (λ b. b) (drop i bs) ≡ size (λ b. b) bs → (slice_index bs i + 1) * number ≤ size (λ b. b) bs
+pub size_over : (bs : List ℕ) (i number : ℕ) → i < length bs → number * size (λ b. b) (drop i bs) ≡ size (λ b. b) bs
+    → (slice_index bs i + 1) * number ≤ size (λ b. b) bs
 size_over bs i number h e =
     let s = size_some (λ b. b) (drop (suc i) bs) in
     let at = size_at bs i h in
-    let m : 1 * ((slice_index bs i + 1) * number) ≤ size (λ b. b) (drop (suc i) bs) * ((slice_index bs i + 1) * number) = mul-le-mul_right ((slice_index bs i + 1) * number) s in
+    let m : 1 * ((slice_index bs i + 1) * number) ≤ size (λ b. b) (drop (suc i) bs) * ((slice_index bs i + 1) * number) = mul-le-mul_right
+    ((slice_index bs i + 1) * number) s in
     let q : number * size (λ b. b) (drop i bs) ≡ number * ((slice_index bs i + 1) * size (λ b. b) (drop (suc i) bs)) = ap (λ n. number * n) at in
     omega (arith, m, q, e)
 
 -- what has grown too great already is only a part
-pub size_great : (bs : List ℕ) (i number b limit : ℕ) → i < length bs → number * size (λ b. b) (drop i bs) ≡ size (λ b. b) bs → b ≡ slice_index bs i → limit ≤ number * (b + 1) → size (λ b. b) bs < limit → ⊥
+pub size_great : (bs : List ℕ) (i number b limit : ℕ) → i < length bs → number * size (λ b. b) (drop i bs) ≡ size (λ b. b) bs → b ≡ slice_index bs i
+    → limit ≤ number * (b + 1) → size (λ b. b) bs < limit → ⊥
 size_great bs i number b limit h e q great few =
     let s = size_over bs i number h e in
     let m : number * (b + 1) ≡ number * (slice_index bs i + 1) = ap (λ k. number * (k + 1)) q in
     omega (arith, s, m, great, few)
 
-pub size_next : (bs : List ℕ) (i number : ℕ) → i < length bs → number * size (λ b. b) (drop i bs) ≡ size (λ b. b) bs → (number * (slice_index bs i + 1)) * size (λ b. b) (drop (suc i) bs) ≡ size (λ b. b) bs
+pub size_next : (bs : List ℕ) (i number : ℕ) → i < length bs → number * size (λ b. b) (drop i bs) ≡ size (λ b. b) bs
+    → (number * (slice_index bs i + 1)) * size (λ b. b) (drop (suc i) bs) ≡ size (λ b. b) bs
 size_next bs i number h e =
     let q : number * size (λ b. b) (drop i bs) ≡ number * ((slice_index bs i + 1) * size (λ b. b) (drop (suc i) bs)) = ap (λ n. number * n) (size_at bs i h) in
     omega (arith, q, e)
@@ -74,7 +82,8 @@ read_small bs cs i number e =
     omega (arith, m, e)
 
 -- the number with one place more is within the limit
-pub read_within : (bs cs : List ℕ) (i number b k limit : ℕ) → i < length bs → i < length cs → Bounded (λ b. b) bs cs → size (λ b. b) bs < limit → b ≡ slice_index bs i → k ≡ slice_index cs i
+pub read_within : (bs cs : List ℕ) (i number b k limit : ℕ) → i < length bs → i < length cs → Bounded (λ b. b) bs cs → size (λ b. b) bs < limit
+    → b ≡ slice_index bs i → k ≡ slice_index cs i
     → IsReadTo bs cs i number → number * (b + 1) + k < limit
 read_within bs cs i number b k limit h l within few q r e =
     let low = code_bounded (λ b. b) bs cs within in
@@ -90,7 +99,8 @@ weight_next bs i h =
     ap (λ n. n / (slice_index bs i + 1)) (size_at bs i h) ∙ mul-div_cancel_left (size (λ b. b) (drop (suc i) bs)) some
 
 pub place_small : (bs : List ℕ) (i rest : ℕ) → i < length bs → rest < size (λ b. b) (drop i bs) → rest / size (λ b. b) (drop (suc i) bs) ≤ slice_index bs i
-place_small bs i rest h l = front_low rest (slice_index bs i) (size (λ b. b) (drop (suc i) bs)) (size_some (λ b. b) (drop (suc i) bs)) (omega (arith, l, size_at bs i h))
+place_small bs i rest h l = front_low rest (slice_index bs i) (size (λ b. b) (drop (suc i) bs)) (size_some (λ b. b) (drop (suc i) bs))
+    (omega (arith, l, size_at bs i h))
 
 pub decode_at : (bs : List ℕ) (i rest : ℕ) → i < length bs
     → decode (λ b. b) (drop i bs) rest ≡ rest / size (λ b. b) (drop (suc i) bs) ∷ decode (λ b. b) (drop (suc i) bs) (rest % size (λ b. b) (drop (suc i) bs))
@@ -99,7 +109,8 @@ decode_at (b ∷ bs) zero rest h = refl
 decode_at (b ∷ bs) (suc i) rest h = decode_at bs i rest (omega arith)
 
 pub decode_next : (bs done : List ℕ) (i rest number : ℕ) → i < length bs → done ++ decode (λ b. b) (drop i bs) rest ≡ decode (λ b. b) bs number
-    → (done ++ (rest / size (λ b. b) (drop (suc i) bs)) ∷ []) ++ decode (λ b. b) (drop (suc i) bs) (rest % size (λ b. b) (drop (suc i) bs)) ≡ decode (λ b. b) bs number
+    → (done ++ (rest / size (λ b. b) (drop (suc i) bs)) ∷ []) ++ decode (λ b. b) (drop (suc i) bs) (rest % size (λ b. b) (drop (suc i) bs))
+    ≡ decode (λ b. b) bs number
 decode_next bs done i rest number h e =
     let w = size (λ b. b) (drop (suc i) bs) in
     append_assoc done ((rest / w) ∷ []) (decode (λ b. b) (drop (suc i) bs) (rest % w)) ∙ (ap (λ ds. done ++ ds) (sym (decode_at bs i rest h)) ∙ e)
@@ -158,7 +169,8 @@ module _ (g : Game) (limits : List ℕ) (same : limits ≡ bounds g) where
 
   pub counts_within : (m : Measure) (c : List ℕ) → IsMeasure g m → (m ≡ Top → ⊥) → c ≡ counts_of m → AllZip (λ count bound. count ≤ bound) c limits
   counts_within Top c h n e = absurd (n refl)
-  counts_within (Counts d) c h n e = subst (AllZip (λ count bound. count ≤ bound) c) (sym same) (subst (λ (k : List ℕ). AllZip (λ count bound. count ≤ bound) k (bounds g)) (sym e) (to_bounds (count g) d (components g) h))
+  counts_within (Counts d) c h n e = subst (AllZip (λ count bound. count ≤ bound) c) (sym same)
+      (subst (λ (k : List ℕ). AllZip (λ count bound. count ≤ bound) k (bounds g)) (sym e) (to_bounds (count g) d (components g) h))
 
   pub number_is : (m : Measure) (c : List ℕ) → (m ≡ Top → ⊥) → c ≡ counts_of m → code (λ b. b) limits c ≡ rank g m
   number_is Top c n e = absurd (n refl)

@@ -1,5 +1,9 @@
 -- The table that lifting begins with.
-use Rattle.progress.proofs.Common.{◌≡◌, ℕ, zero, suc, ◌+◌, ◌≤◌, Bool, true, false, ◌&&◌, if◌then◌else◌, List, [], ◌∷◌, length, map, refl, sym, ap, subst, ◌∙◌, inl, inr, arith, Contains, Some, nat_eq, slice_get, slice_index_or, AllByRecursion, same_text, get_or_past, length-map, AllZip-long, slice_get_cases, Player, Even, Odd, Vertex, Game, vertex, IsGame, count, Measure, Top, Counts, components, IsMeasure, IsAtMost, Reaches, is_odd, kept, IsProgress, IsTable, value_at, zeros, opening, opening_value, opening_from, and_parts}
+use Rattle.progress.proofs.Common.{◌≡◌, ℕ, zero, suc, ◌+◌, ◌≤◌, Bool, true, false, ◌&&◌, if◌then◌else◌, List, [], ◌∷◌, length, map, refl, sym, ap, subst, ◌∙◌}
+use Rattle.progress.proofs.Common.{inl, inr, arith, Contains, Some, nat_eq, slice_get, slice_index_or, AllByRecursion, same_text, get_or_past, length-map}
+use Rattle.progress.proofs.Common.{AllZip-long, slice_get_cases, Player, Even, Odd, Vertex, Game, vertex, IsGame, count, Measure, Top, Counts, components}
+use Rattle.progress.proofs.Common.{IsMeasure, IsAtMost, Reaches, is_odd, kept, IsProgress, IsTable, value_at, zeros, opening, opening_value, opening_from}
+use Rattle.progress.proofs.Common.{and_parts}
 use lib.Pointwise.{pointwise}
 use Rattle.progress.proofs.Lists.{contains_first, contains_none, contains_cases}
 use Rattle.progress.proofs.Order.{Over, not_over_itself, whole_to}
@@ -7,11 +11,12 @@ use Rattle.progress.proofs.Measures.{none_bounded, none_least, over_reaches, at_
 use Rattle.progress.proofs.Lifts.{even_reaches, odd_reaches, value_measure}
 use Rattle.progress.proofs.Monotone.{LiesUnder}
 
-zeros_least : (g : Game) (m : Measure) → IsMeasure g m → IsAtMost (zeros g) m
+pub zeros_least : (g : Game) (m : Measure) → IsMeasure g m → IsAtMost (zeros g) m
 zeros_least g Top h = refl
 zeros_least g (Counts c) h =
     let ps = components g in
-    whole_to false (length ps) (map (λ p. 0) ps) c (let l = length-map {B = ℕ} ps (λ p. 0) in omega (arith, l)) (omega (arith, AllZip-long (λ k q. k ≤ count g q) c ps h)) (none_least (count g) ps c h)
+    whole_to false (length ps) (map (λ p. 0) ps) c (let l = length-map {B = ℕ} ps (λ p. 0) in omega (arith, l))
+    (omega (arith, AllZip-long (λ k q. k ≤ count g q) c ps h)) (none_least (count g) ps c h)
 
 opening_measure : (g : Game) (v : ℕ) (x : Vertex) → IsMeasure g (opening_value g v x)
 opening_measure g v x = by (is_odd x.priority && pointwise nat_eq x.successors (v ∷ []))
@@ -31,7 +36,8 @@ opening_all g v (x ∷ xs) = (opening_measure g v x, opening_all g (v + 1) xs)
 pub opening_table : (g : Game) → IsTable g (opening g)
 opening_table g = (opening_long g 0 g.vertices, opening_all g 0 g.vertices)
 
-pub opening_at : (g : Game) (n : ℕ) (xs : List Vertex) (i : ℕ) (x : Vertex) → slice_get xs i ≡ Some x → slice_index_or (opening_from g n xs) i Top ≡ opening_value g (n + i) x
+pub opening_at : (g : Game) (n : ℕ) (xs : List Vertex) (i : ℕ) (x : Vertex) → slice_get xs i ≡ Some x
+    → slice_index_or (opening_from g n xs) i Top ≡ opening_value g (n + i) x
 opening_at g n [] i x e = absurd cc
 opening_at g n (y ∷ ys) zero x e = let q : y ≡ x = cc in let m : n ≡ n + 0 = omega arith in ap (opening_value g n) q ∙ ap (λ k. opening_value g k x) m
 opening_at g n (y ∷ ys) (suc i) x e = let m : (n + 1) + i ≡ n + suc i = omega arith in opening_at g (n + 1) ys i x e ∙ ap (λ k. opening_value g k x) m
@@ -42,10 +48,12 @@ itself_top g p Top odd r = refl
 itself_top g p (Counts c) odd r = absurd (not_over_itself (kept g p) c (subst (λ b. Over b (kept g p) c c) odd (over_reaches g p c c r)))
 
 module _ (g : Game) (game : IsGame g) (table : List Measure) (is : IsProgress g table) where
-  loops : (v : ℕ) (x : Vertex) → vertex g v ≡ Some x → x.successors ≡ v ∷ [] → (o : Player) → x.owner ≡ o → Reaches g x.priority (value_at table v) (value_at table v)
+  loops : (v : ℕ) (x : Vertex) → vertex g v ≡ Some x → x.successors ≡ v ∷ [] → (o : Player) → x.owner ≡ o
+      → Reaches g x.priority (value_at table v) (value_at table v)
   loops v x at only Even own =
       let r = even_reaches g table game is v x at own in
-      let t : v ≡ r.0 = elim (contains_cases v r.0 [] (subst (λ ts. Contains ts r.0) only r.1.successor)) [ inl e ↦ e | inr d ↦ absurd (contains_none r.0 d) ] in
+      let t : v ≡ r.0 = elim (contains_cases v r.0 [] (subst (λ ts. Contains ts r.0) only r.1.successor))
+      [ inl e ↦ e | inr d ↦ absurd (contains_none r.0 d) ] in
       subst (λ u. Reaches g x.priority (value_at table u) (value_at table v)) (sym t) r.2
   loops v x at only Odd own = odd_reaches g table game is v x at own v (subst (λ ts. Contains ts v) (sym only) (contains_first v []))
 
@@ -63,7 +71,8 @@ module _ (g : Game) (game : IsGame g) (table : List Measure) (is : IsProgress g 
   pub opening_under : LiesUnder (opening g) table
   opening_under v = elim ((slice_get_cases g.vertices v).1) [
     | inl w ↦ subst (λ m. IsAtMost m (value_at table v)) (sym (opening_at g 0 g.vertices v w.0 w.2) ∙ refl) (shift w.0 w.2)
-    | inr w ↦ subst (λ m. IsAtMost (value_at (opening g) v) m) (sym (get_or_past table v Top (let l = w.0 in omega (arith, l, is.0.0)))) (at_most_top (value_at (opening g) v))
+    | inr w ↦ subst (λ m. IsAtMost (value_at (opening g) v) m) (sym (get_or_past table v Top (let l = w.0 in omega (arith, l, is.0.0))))
+        (at_most_top (value_at (opening g) v))
   ]
     where
       shift : (x : Vertex) → vertex g v ≡ Some x → IsAtMost (opening_value g (0 + v) x) (value_at table v)

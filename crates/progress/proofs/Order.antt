@@ -1,5 +1,7 @@
 -- The order of measures, by the first counts.
-use Rattle.progress.proofs.Common.{◌≡◌, ℕ, zero, suc, ◌+◌, ◌<◌, ◌≤◌, ◌⊎◌, Bool, true, false, ◌||◌, List, [], ◌∷◌, length, take, refl, sym, ap₂, ◌∙◌, inl, inr, arith, IsTrue, true≢false, Ordering, Less, Equal, Greater, nat_cmp, is_lt, is_le, slice_cmp, take_all, leb_tells, eqb_tells}
+use Rattle.progress.proofs.Common.{◌≡◌, ℕ, zero, suc, ◌+◌, ◌<◌, ◌≤◌, ◌⊎◌, Bool, true, false, ◌||◌, List, [], ◌∷◌, length, take, refl, sym, ap₂, ◌∙◌, inl, inr}
+use Rattle.progress.proofs.Common.{arith, IsTrue, true≢false, Ordering, Less, Equal, Greater, nat_cmp, is_lt, is_le, slice_cmp, take_all, leb_tells}
+use Rattle.progress.proofs.Common.{eqb_tells}
 use Rattle.std.specs.Cmp.{nat_cmp_is}
 
 -- d's first k counts are, read as a list, at least those of c, and greater if strictly
@@ -17,7 +19,11 @@ Passes false o = IsTrue (is_le o)
 
 pub compared : (x y : ℕ) → ((nat_cmp x y ≡ Less) × (x < y)) ⊎ (((nat_cmp x y ≡ Equal) × (x ≡ y)) ⊎ ((nat_cmp x y ≡ Greater) × (y < x)))
 compared x y = elim (leb_tells y x) [
-  | inl h ↦ elim (eqb_tells x y) [ inl e ↦ inr (inl (sym (nat_cmp_is x y Equal e.1), e.1)) | inr n ↦ let w : y < x = omega (arith, h.1, n.1) in inr (inr (sym (nat_cmp_is x y Greater w), w)) ]
+  | inl h ↦ elim (eqb_tells x y) [
+    | inl e ↦ inr (inl (sym (nat_cmp_is x y Equal e.1), e.1))
+    | inr n ↦ let w : y < x = omega (arith, h.1, n.1)
+        in inr (inr (sym (nat_cmp_is x y Greater w), w))
+  ]
   | inr h ↦ inl (sym (nat_cmp_is x y Less h.1), h.1)
 ]
 
@@ -114,7 +120,8 @@ pub whole_from : (s : Bool) (k : ℕ) (c d : List ℕ) → length c ≤ k → le
 whole_from s k c d h i o = over_from s k c d (rw (take_all k c h, take_all k d i) o)
 
 pub whole_fewer : (k : ℕ) (c d : List ℕ) → Passes false (slice_cmp nat_cmp c d) → Over false k c d
-whole_fewer k c d o = over_fewer false k (k + (length c + length d)) c d (omega arith) (whole_from false (k + (length c + length d)) c d (omega arith) (omega arith) o)
+whole_fewer k c d o = over_fewer false k (k + (length c + length d)) c d (omega arith)
+    (whole_from false (k + (length c + length d)) c d (omega arith) (omega arith) o)
 
 -- at most each other
 pub over_same : (k : ℕ) (c d : List ℕ) → length c ≤ k → length d ≤ k → Over false k c d → Over false k d c → c ≡ d

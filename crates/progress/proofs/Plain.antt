@@ -1,5 +1,9 @@
 -- Tables whose values are at most those of every progress table.
-use Rattle.progress.proofs.Common.{AllByRecursion, Some, option_map, ◌≡◌, ◌≢◌, ℕ, ◌+◌, ◌-◌, ◌<◌, ◌≤◌, Bool, true, false, List, [], ◌++◌, length, replicate, refl, sym, ap, subst, ◌∙◌, inl, inr, arith, if◌then◌else◌, slice_set, eqb_tells, ext_get_or, get_or-set_other, get_or-set_same, get_or-replicate, length-map, length-replicate, length-set, AllZip-long, Game, IsGame, count, greatest, vertex, Measure, Top, Counts, components, IsMeasure, IsProgress, opening, opening_value, value_at, zeros, bounds, IsOpening, IsPlain, IsSettled, IsStored, LiesBelow, Table, HasWidth, Rows}
+use Rattle.progress.proofs.Common.{AllByRecursion, Some, option_map, ◌≡◌, ◌≢◌, ℕ, ◌+◌, ◌-◌, ◌<◌, ◌≤◌, Bool, true, false, List, [], ◌++◌, length, replicate}
+use Rattle.progress.proofs.Common.{refl, sym, ap, subst, ◌∙◌, inl, inr, arith, if◌then◌else◌, slice_set, eqb_tells, ext_get_or, get_or-set_other}
+use Rattle.progress.proofs.Common.{get_or-set_same, get_or-replicate, length-map, length-replicate, length-set, AllZip-long, Game, IsGame, count, greatest}
+use Rattle.progress.proofs.Common.{vertex, Measure, Top, Counts, components, IsMeasure, IsProgress, opening, opening_value, value_at, zeros, bounds}
+use Rattle.progress.proofs.Common.{IsOpening, IsPlain, IsSettled, IsStored, LiesBelow, Table, HasWidth, Rows}
 use Rattle.progress.proofs.Bests.{its_successors}
 use Rattle.progress.proofs.Carry.{none_is}
 use Rattle.progress.proofs.Components.{odd_down_long}
@@ -23,7 +27,8 @@ zeros_are g w e =
     let long : w ≡ length (components g) - 0 = let b = bounds_long g in omega arith in
     ap Counts (ap (λ n. replicate n 0) long ∙ sym (none_is (components g) 0))
 
-pub padded_zeros : (g : Game) (counts : List ℕ) (w : ℕ) (m : Measure) → counts ≡ [] → w ≡ length (bounds g) → m ≡ Counts (counts ++ replicate (w - length counts) 0) → m ≡ zeros g
+pub padded_zeros : (g : Game) (counts : List ℕ) (w : ℕ) (m : Measure) → counts ≡ [] → w ≡ length (bounds g)
+    → m ≡ Counts (counts ++ replicate (w - length counts) 0) → m ≡ zeros g
 padded_zeros g counts w m none wide e =
     let whole : w - 0 ≡ w = omega arith in
     e ∙ (ap (λ cs. Counts (cs ++ replicate (w - length cs) 0)) none ∙ (ap (λ n. Counts (replicate n 0)) whole ∙ zeros_are g w wide))
@@ -31,7 +36,8 @@ padded_zeros g counts w m none wide e =
 -- ------------------------------------------------------------------ the opening table
 
 pub opening_is : (g : Game) (v : ℕ) (top : Bool) → IsOpening g v top → value_at (opening g) v ≡ (if top then Top else zeros g)
-opening_is g v top (x, at, e) = let z : 0 + v ≡ v = omega arith in opening_at g 0 g.vertices v x at ∙ subst (λ (u : ℕ). opening_value g u x ≡ (if top then Top else zeros g)) (sym z) e
+opening_is g v top (x, at, e) = let z : 0 + v ≡ v = omega arith in opening_at g 0 g.vertices v x at
+    ∙ subst (λ (u : ℕ). opening_value g u x ≡ (if top then Top else zeros g)) (sym z) e
 
 pub opening_plain : (g : Game) (values : List Measure) → IsGame g → values ≡ opening g → IsPlain (record { game = g; values = values })
 opening_plain g values game e = subst (λ (ms : List Measure). IsPlain (record { game = g; values = ms })) (sym e) (record {
@@ -55,7 +61,8 @@ value_set_same values v m h = get_or-set_same values v m Top h
 pub value_set_other : (values : List Measure) (v u : ℕ) (m : Measure) → u ≢ v → value_at (slice_set values v m) u ≡ value_at values u
 value_set_other values v u m n = get_or-set_other values v u m Top n
 
-pub set_plain : (t : Table) (v : ℕ) (m : Measure) → IsPlain t → v < length t.game.vertices → LiesBelow t.game v m → IsPlain (record { game = t.game; values = slice_set t.values v m })
+pub set_plain : (t : Table) (v : ℕ) (m : Measure) → IsPlain t → v < length t.game.vertices → LiesBelow t.game v m
+    → IsPlain (record { game = t.game; values = slice_set t.values v m })
 set_plain t v m is h below = record {
   game = is.game;
   long = length-set t.values v m ∙ is.long;
@@ -64,7 +71,8 @@ set_plain t v m is h below = record {
   where
     at : (u : ℕ) → u < length t.game.vertices → LiesBelow t.game u (value_at (slice_set t.values v m) u)
     at u l = elim (eqb_tells u v) [
-      | inl w ↦ subst (λ (k : ℕ). LiesBelow t.game k (value_at (slice_set t.values v m) k)) (sym w.1) (subst (LiesBelow t.game v) (sym (value_set_same t.values v m (let e = is.long in omega arith))) below)
+      | inl w ↦ subst (λ (k : ℕ). LiesBelow t.game k (value_at (slice_set t.values v m) k)) (sym w.1)
+          (subst (LiesBelow t.game v) (sym (value_set_same t.values v m (let e = is.long in omega arith))) below)
       | inr w ↦ subst (LiesBelow t.game u) (sym (value_set_other t.values v u m w.1)) (is.below u l)
     ]
 
@@ -80,7 +88,8 @@ pub record IsOpened (g : Game) (v : ℕ) (r : Rows) : Type 0 where
   pub done : (u : ℕ) → u < v → value_at r.values u ≡ value_at (opening g) u
   pub rest : (u : ℕ) → v ≤ u → u < length g.vertices → value_at r.values u ≡ zeros g
 
-pub opened_first : (g : Game) (n w : ℕ) (r : Rows) → n ≡ length g.vertices → w ≡ length (bounds g) → r.width ≡ w → r.values ≡ replicate n (Counts (replicate w 0)) → IsOpened g 0 r
+pub opened_first : (g : Game) (n w : ℕ) (r : Rows) → n ≡ length g.vertices → w ≡ length (bounds g) → r.width ≡ w
+    → r.values ≡ replicate n (Counts (replicate w 0)) → IsOpened g 0 r
 opened_first g n w r many wide width values = record {
   width = width ∙ wide;
   long = ap length values ∙ (length-replicate n (Counts (replicate w 0)) ∙ many);
@@ -120,7 +129,8 @@ opened_whole g v r is h = same_values (length g.vertices) r.values (opening g) i
 
 -- ------------------------------------------------------------------ as they are stored
 
-pub stored_width : (g edges : Game) (limits : List ℕ) (w : ℕ) (values : List Measure) → IsStored (record { game = g; values = values }) limits w edges → w ≡ length (bounds g)
+pub stored_width : (g edges : Game) (limits : List ℕ) (w : ℕ) (values : List Measure) → IsStored (record { game = g; values = values }) limits w edges
+    → w ≡ length (bounds g)
 stored_width g edges limits w values is = is.wide ∙ ap length is.bounded
 
 -- a stored table under the name that a call gives its game
@@ -132,7 +142,8 @@ stored_as of g edges limits w values same is = (
 )
 
 -- what is told of a vertex by the name of the table's game
-module _ (of g : Game) (values : List Measure) (plain : IsPlain (record { game = of; values = values })) (same : of ≡ g) (v : ℕ) (h : v < length g.vertices) where
+module _ (of g : Game) (values : List Measure) (plain : IsPlain (record { game = of; values = values })) (same : of ≡ g) (v : ℕ)
+    (h : v < length g.vertices) where
   pub value_here : v < length values
   value_here = omega (arith, h, plain.long, ap (λ (k : Game). length k.vertices) same)
 
@@ -141,11 +152,14 @@ module _ (of g : Game) (values : List Measure) (plain : IsPlain (record { game =
       let long : length g.vertices ≡ length values = ap (λ (k : Game). length k.vertices) (sym same) ∙ sym plain.long in
       subst (λ n. AllByRecursion (λ t. t < n) ts × (0 < length ts)) long (its_successors g (subst IsGame same plain.game) v h ts e)
 
-pub set_stored : (g edges noted : Game) (limits : List ℕ) (r new : Rows) (v : ℕ) (m : Measure) → IsStored (record { game = g; values = r.values }) limits r.width edges → v < length g.vertices → LiesBelow g v m
-    → new ≡ record { width = r.width; values = slice_set r.values v m } → noted ≡ edges → IsStored (record { game = g; values = new.values }) limits new.width noted
-set_stored g edges noted limits r new v m is h below e same = subst (λ (s : Rows). IsStored (record { game = g; values = s.values }) limits s.width noted) (sym e) (record {
-  plain = set_plain (record { game = g; values = r.values }) v m is.plain h below;
-  bounded = is.bounded;
-  wide = is.wide;
-  edges_are = same ∙ is.edges_are;
-})
+pub set_stored : (g edges noted : Game) (limits : List ℕ) (r new : Rows) (v : ℕ) (m : Measure)
+    → IsStored (record { game = g; values = r.values }) limits r.width edges → v < length g.vertices → LiesBelow g v m
+    → new ≡ record { width = r.width; values = slice_set r.values v m } → noted ≡ edges
+    → IsStored (record { game = g; values = new.values }) limits new.width noted
+set_stored g edges noted limits r new v m is h below e same = subst (λ (s : Rows). IsStored (record { game = g; values = s.values }) limits s.width noted)
+    (sym e) (record {
+      plain = set_plain (record { game = g; values = r.values }) v m is.plain h below;
+      bounded = is.bounded;
+      wide = is.wide;
+      edges_are = same ∙ is.edges_are;
+    })

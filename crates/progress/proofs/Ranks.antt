@@ -1,5 +1,8 @@
 -- Measures as numbers, in their order.
-use Rattle.progress.proofs.Common.{◌≡◌, ℕ, suc, ◌+◌, ◌*◌, ◌/◌, ◌%◌, ◌<◌, ◌≤◌, map, subst, ◌∙◌, AllPairs, Contains, slice_index_or, true, List, [], ◌∷◌, length, sym, ap, inl, inr, arith, true≢false, mul-le-mul_right, range_with_len, leb_tells, length-map-range_with_len, get_or-map-range_with_len, AllZip-long, Game, count, Measure, Top, Counts, components, IsMeasure, IsAtMost, IsBelow, IsRank, code, decode, height, rank, size}
+use Rattle.progress.proofs.Common.{◌≡◌, ℕ, suc, ◌+◌, ◌*◌, ◌/◌, ◌%◌, ◌<◌, ◌≤◌, map, subst, ◌∙◌, AllPairs, Contains, slice_index_or, true, List, [], ◌∷◌}
+use Rattle.progress.proofs.Common.{length, sym, ap, inl, inr, arith, true≢false, mul-le-mul_right, range_with_len, leb_tells, length-map-range_with_len}
+use Rattle.progress.proofs.Common.{get_or-map-range_with_len, AllZip-long, Game, count, Measure, Top, Counts, components, IsMeasure, IsAtMost, IsBelow}
+use Rattle.progress.proofs.Common.{IsRank, code, decode, height, rank, size}
 use Rattle.progress.proofs.Order.{Over, whole_from}
 use Rattle.progress.proofs.Measures.{Bounded, at_most_both, at_most_or_below}
 
@@ -9,7 +12,8 @@ digit y z s r q h i = let m : suc y * s ≤ z * s = mul-le-mul_right s h in omeg
 pub code_bounded : (f : ℕ → ℕ) (ps c : List ℕ) → Bounded f ps c → code f ps c < size f ps
 code_bounded f [] c h = omega arith
 code_bounded f (p ∷ ps) [] h = absurd h
-code_bounded f (p ∷ ps) (y ∷ ys) h = let d = digit y (suc (f p)) (size f ps) (code f ps ys) 0 (omega (arith, h.0)) (code_bounded f ps ys h.1) in omega (arith, d)
+code_bounded f (p ∷ ps) (y ∷ ys) h = let d = digit y (suc (f p)) (size f ps) (code f ps ys) 0 (omega (arith, h.0)) (code_bounded f ps ys h.1)
+    in omega (arith, d)
 
 pub code_rises : (f : ℕ → ℕ) (ps c d : List ℕ) → Bounded f ps c → Bounded f ps d → Over true (length ps) c d → code f ps c < code f ps d
 code_rises f [] c d h i o = absurd (true≢false o)
@@ -31,7 +35,8 @@ rank_rises g Top (Counts d) h i b = absurd (true≢false (sym b))
 rank_rises g (Counts c) Top h i b = code_bounded (count g) (components g) c h
 rank_rises g (Counts c) (Counts d) h i b =
     let n = length (components g) in
-    code_rises (count g) (components g) c d h i (whole_from true n c d (omega (arith, AllZip-long (λ k q. k ≤ count g q) c (components g) h)) (omega (arith, AllZip-long (λ k q. k ≤ count g q) d (components g) i)) b)
+    code_rises (count g) (components g) c d h i (whole_from true n c d (omega (arith, AllZip-long (λ k q. k ≤ count g q) c (components g) h))
+    (omega (arith, AllZip-long (λ k q. k ≤ count g q) d (components g) i)) b)
 
 pub rank_more : (g : Game) (m r : Measure) → IsMeasure g m → IsMeasure g r → IsAtMost m r → rank g m ≤ rank g r
 rank_more g m r h i l = elim (at_most_or_below m r) [
@@ -61,7 +66,10 @@ front_low n k s h l = elim (leb_tells (n / s) k) [
 
 pub decode_bounded : (f : ℕ → ℕ) (ps : List ℕ) (n : ℕ) → n < size f ps → Bounded f ps (decode f ps n)
 decode_bounded f [] n h = tt
-decode_bounded f (p ∷ ps) n h = (front_low n (f p) (size f ps) (size_some f ps) h, decode_bounded f ps (n % size f ps) (rest_low n (size f ps) (size_some f ps)))
+decode_bounded f (p ∷ ps) n h = (
+  front_low n (f p) (size f ps) (size_some f ps) h,
+  decode_bounded f ps (n % size f ps) (rest_low n (size f ps) (size_some f ps)),
+)
 
 pub code_decode : (f : ℕ → ℕ) (ps : List ℕ) (n : ℕ) → n < size f ps → code f ps (decode f ps n) ≡ n
 code_decode f [] n h = omega arith

@@ -1,5 +1,6 @@
 -- Tables that only rise.
-use Rattle.progress.proofs.Common.{◌<◌, ℕ, List, length, sym, subst, inl, inr, slice_set, eqb_tells, Measure, IsAtMost, value_at, Option, None, Some, AreRaised, Entry, entry_at, raised_by}
+use Rattle.progress.proofs.Common.{◌<◌, ℕ, List, length, sym, subst, inl, inr, slice_set, eqb_tells, Measure, IsAtMost, value_at, Option, None, Some}
+use Rattle.progress.proofs.Common.{AreRaised, Entry, entry_at, raised_by}
 use Rattle.progress.proofs.Measures.{at_most_itself, at_most_trans}
 use Rattle.progress.proofs.Monotone.{LiesUnder, greater_rises}
 use Rattle.progress.proofs.Plain.{value_set_other, value_set_same}
@@ -12,7 +13,8 @@ under_trans first second third h k v = at_most_trans (value_at first v) (value_a
 
 pub set_under : (values : List Measure) (v : ℕ) (m : Measure) → v < length values → IsAtMost (value_at values v) m → LiesUnder values (slice_set values v m)
 set_under values v m inside low u = elim (eqb_tells u v) [
-  | inl w ↦ subst (λ k. IsAtMost (value_at values k) (value_at (slice_set values v m) k)) (sym w.1) (subst (IsAtMost (value_at values v)) (sym (value_set_same values v m inside)) low)
+  | inl w ↦ subst (λ k. IsAtMost (value_at values k) (value_at (slice_set values v m) k)) (sym w.1)
+      (subst (IsAtMost (value_at values v)) (sym (value_set_same values v m inside)) low)
   | inr w ↦ subst (IsAtMost (value_at values u)) (sym (value_set_other values v u m w.1)) (at_most_itself (value_at values u))
 ]
 

@@ -1,5 +1,8 @@
--- Two tables with a lift of each vertex between them, of which the second is nowhere less: where their sums of ranks are equal, they are the least progress table.
-use Rattle.progress.proofs.Common.{◌≡◌, ℕ, zero, suc, ◌+◌, ◌<◌, ◌≤◌, List, length, map, refl, sym, ap, subst, ◌∙◌, arith, AllZip, ext_get_or, slice_set, Vertex, Game, IsGame, rank, sum_of, total, Measure, Top, IsAtMost, IsProg, IsBestFor, IsLeastTable, IsLiftAt, IsTable, greater_of, value_at, IsPlain, IsStill}
+-- Two tables with a lift of each vertex between them, of which the second is nowhere less: where their sums of ranks are equal, they are the least progress
+-- table.
+use Rattle.progress.proofs.Common.{◌≡◌, ℕ, zero, suc, ◌+◌, ◌<◌, ◌≤◌, List, length, map, refl, sym, ap, subst, ◌∙◌, arith, AllZip, ext_get_or, slice_set}
+use Rattle.progress.proofs.Common.{Vertex, Game, IsGame, rank, sum_of, total, Measure, Top, IsAtMost, IsProg, IsBestFor, IsLeastTable, IsLiftAt, IsTable}
+use Rattle.progress.proofs.Common.{greater_of, value_at, IsPlain, IsStill}
 use Rattle.progress.specs.Progress.{IsOverLift, LiesUnder}
 use Rattle.progress.proofs.Bests.{vertex_here}
 use Rattle.progress.proofs.Gathering.{greater_up}
@@ -20,32 +23,41 @@ pub sum_next : (g : Game) (values : List Measure) (v : ℕ) (m : Measure) → v 
     → total (λ u. rank g (value_at (slice_set values v m) u)) (suc v) ≡ rank g m + total (λ u. rank g (value_at values u)) v
 sum_next g values v m h =
     let here : rank g (value_at (slice_set values v m) v) ≡ rank g m = ap (rank g) (value_set_same values v m h) in
-    let rest = total_alike (λ u. rank g (value_at (slice_set values v m) u)) (λ u. rank g (value_at values u)) v (λ u l. ap (rank g) (value_set_other values v u m (λ e. omega (arith, l, e)))) in
+    let rest = total_alike (λ u. rank g (value_at (slice_set values v m) u)) (λ u. rank g (value_at values u)) v
+    (λ u l. ap (rank g) (value_set_other values v u m (λ e. omega (arith, l, e)))) in
     omega (arith, here, rest)
 
 -- what is at least the lift of a greater table is at least that of a lesser one
-pub over_lesser : (g : Game) (lesser greater : List Measure) (v : ℕ) (m : Measure) → IsGame g → IsTable g greater → LiesUnder lesser greater → IsOverLift g greater v m → IsOverLift g lesser v m
+pub over_lesser : (g : Game) (lesser greater : List Measure) (v : ℕ) (m : Measure) → IsGame g → IsTable g greater → LiesUnder lesser greater
+    → IsOverLift g greater v m → IsOverLift g lesser v m
 over_lesser g lesser greater v m game is under over r (x, at, (progs, b, zipped, best, e)) = by (lift_at g game greater is v x at)
   where
     by : (s : Measure) × IsLiftAt g greater v s → IsAtMost r m
     by (s, (y, here, (rises, c, zips, more, q))) =
         let same : y ≡ x = cc (at, here) in
         let low = best_more g x.priority (value_at lesser) (value_at greater) under x.successors x.owner progs rises b c zipped
-        (subst (λ (z : Vertex). AllZip (IsProg g z.priority) (map (value_at greater) z.successors) rises) same zips) best (subst (λ (z : Vertex). IsBestFor z.owner rises c) same more) in
-        at_most_trans r s m (subst (λ (n : Measure). IsAtMost n s) (sym e) (subst (IsAtMost (greater_of (value_at lesser v) b)) (sym q) (greater_up (value_at lesser v) (value_at greater v) b c (under v) low))) (over s (y, here, (rises, c, zips, more, q)))
+        (subst (λ (z : Vertex). AllZip (IsProg g z.priority) (map (value_at greater) z.successors) rises) same zips) best
+        (subst (λ (z : Vertex). IsBestFor z.owner rises c) same more) in
+        at_most_trans r s m (subst (λ (n : Measure). IsAtMost n s) (sym e)
+        (subst (IsAtMost (greater_of (value_at lesser v) b)) (sym q) (greater_up (value_at lesser v) (value_at greater v) b c (under v) low)))
+        (over s (y, here, (rises, c, zips, more, q)))
 
 module _ (g : Game) (old new : List Measure) (is : IsTable g old) (will : IsTable g new) (under : LiesUnder old new) where
   -- what rises has a greater sum
   pub sum_under : sum_of g old ≤ sum_of g new
-  sum_under = total_more (λ v. rank g (value_at old v)) (λ v. rank g (value_at new v)) (length g.vertices) (λ v. rank_more g (value_at old v) (value_at new v) (value_measure g old is.1 v) (value_measure g new will.1 v) (under v))
+  sum_under = total_more (λ v. rank g (value_at old v)) (λ v. rank g (value_at new v)) (length g.vertices)
+      (λ v. rank_more g (value_at old v) (value_at new v) (value_measure g old is.1 v) (value_measure g new will.1 v) (under v))
 
   -- and only what stays has the same
   pub same_sum : sum_of g new ≤ sum_of g old → old ≡ new
   same_sum h =
-      let few = total_same (λ v. rank g (value_at old v)) (λ v. rank g (value_at new v)) (length g.vertices) (λ v. rank_more g (value_at old v) (value_at new v) (value_measure g old is.1 v) (value_measure g new will.1 v) (under v)) h in
-      ext_get_or Top old new (is.0 ∙ sym will.0) (λ v l. rank_same g (value_at old v) (value_at new v) (value_measure g old is.1 v) (value_measure g new will.1 v) (under v) (few v (let e = is.0 in omega arith)))
+      let few = total_same (λ v. rank g (value_at old v)) (λ v. rank g (value_at new v)) (length g.vertices)
+      (λ v. rank_more g (value_at old v) (value_at new v) (value_measure g old is.1 v) (value_measure g new will.1 v) (under v)) h in
+      ext_get_or Top old new (is.0 ∙ sym will.0) (λ v l. rank_same g (value_at old v) (value_at new v) (value_measure g old is.1 v)
+      (value_measure g new will.1 v) (under v) (few v (let e = is.0 in omega arith)))
 
-pub rounds_least : (g : Game) (old new : List Measure) → IsPlain (record { game = g; values = old }) → IsPlain (record { game = g; values = new }) → LiesUnder old new → sum_of g new ≡ sum_of g old
+pub rounds_least : (g : Game) (old new : List Measure) → IsPlain (record { game = g; values = old }) → IsPlain (record { game = g; values = new })
+    → LiesUnder old new → sum_of g new ≡ sum_of g old
     → ((v : ℕ) → v < length g.vertices → IsOverLift g old v (value_at new v)) → IsLeastTable g new
 rounds_least g old new was is under sum over = record {
   progress = all_still g new is (λ v h. still v h);

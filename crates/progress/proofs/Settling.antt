@@ -1,5 +1,9 @@
 -- Raising vertices to their lifts until no lift raises one.
-use Rattle.progress.proofs.Common.{◌≡◌, ◌≢◌, ◌↔◌, ℕ, ◌+◌, ◌*◌, ◌<◌, ◌≤◌, Bool, true, false, List, length, map, refl, sym, ap, subst, ◌∙◌, inl, inr, arith, Some, option_map, slice_set, IsTrue, not, MatchBool, true≢false, eqb_tells, leb_tells, get_or_past, length-set, slice_get_within, Player, Vertex, Game, IsGame, vertex, IsLifted, height, rank, sum_of, Measure, Top, IsAtMost, IsBelow, IsMeasure, IsProg, Reaches, IsBestFor, IsLeastTable, IsLiftAt, IsProgress, IsTable, greater_of, value_at, IsStill, Sweeps, IsPlain, LiesBelow, Table}
+use Rattle.progress.proofs.Common.{◌≡◌, ◌≢◌, ◌↔◌, ℕ, ◌+◌, ◌*◌, ◌<◌, ◌≤◌, Bool, true, false, List, length, map, refl, sym, ap, subst, ◌∙◌, inl, inr, arith}
+use Rattle.progress.proofs.Common.{Some, option_map, slice_set, IsTrue, not, MatchBool, true≢false, eqb_tells, leb_tells, get_or_past, length-set}
+use Rattle.progress.proofs.Common.{slice_get_within, Player, Vertex, Game, IsGame, vertex, IsLifted, height, rank, sum_of, Measure, Top, IsAtMost, IsBelow}
+use Rattle.progress.proofs.Common.{IsMeasure, IsProg, Reaches, IsBestFor, IsLeastTable, IsLiftAt, IsProgress, IsTable, greater_of, value_at, IsStill, Sweeps}
+use Rattle.progress.proofs.Common.{IsPlain, LiesBelow, Table}
 use Rattle.progress.proofs.Bests.{best_prog, vertex_here, vertex_tells}
 use Rattle.progress.proofs.Lifting.{sum_rises}
 use Rattle.progress.proofs.Lifts.{value_measure}
@@ -11,53 +15,13 @@ use Rattle.progress.proofs.Ranks.{rank_bounded}
 use Rattle.progress.proofs.Reaching.{not_reached}
 use Rattle.progress.proofs.Rests.{total_bounded}
 
-module _ (g : Game) (values : List Measure) (plain : IsPlain (record { game = g; values = values })) where
-  pub plain_table : IsTable g values
-  plain_table = (plain.long, all_from (IsMeasure g) values Top (λ v l. (plain.below v (let e = plain.long in omega arith)).measure))
-
+module _ (g : Game) (values : List Measure) (table : IsTable g values) where
   measured : (v : ℕ) → IsMeasure g (value_at values v)
-  measured v = value_measure g values plain_table.1 v
-
-  plain_under : (other : List Measure) → IsProgress g other → LiesUnder values other
-  plain_under other is v = elim (leb_tells (length g.vertices) v) [
-    | inl w ↦ (let h = w.1 in subst (λ (m : Measure). IsAtMost (value_at values v) m) (sym (get_or_past other v Top (let e = is.0.0 in omega arith))) (at_most_top (value_at values v)))
-    | inr w ↦ (plain.below v w.1).under other is
-  ]
-
-  -- a lift of a plain table is below
-  pub lift_below : (v : ℕ) (r : Measure) → IsLiftAt g values v r → LiesBelow g v r
-  lift_below v r lift = record {
-    measure = lift_measure g values plain_table v r lift;
-    under = λ other is. lift_under g values other plain.game is (plain_under other is) v r lift;
-  }
-
-  -- a lift that is greater than the value raises the sum of the ranks
-  pub sum_raised : (v : ℕ) (r : Measure) (new : List Measure) → v < length g.vertices → IsLiftAt g values v r → IsBelow (value_at values v) r → new ≡ slice_set values v r → sum_of g values < sum_of g new
-  sum_raised v r new h lift below e = subst (λ (ms : List Measure). sum_of g values < sum_of g ms) (sym e) (sum_rises g values (slice_set values v r) plain_table lifted differs)
-    where
-      here : v < length values
-      here = let l = plain.long in omega arith
-
-      at : value_at (slice_set values v r) v ≡ r
-      at = value_set_same values v r here
-
-      lifted : IsLifted g values (slice_set values v r)
-      lifted = record {
-        at = v;
-        lift = subst (IsLiftAt g values v) (sym at) lift;
-        others = λ u n. value_set_other values v u r n;
-        long = length-set values v r;
-      }
-
-      differs : values ≢ slice_set values v r
-      differs q = let same : value_at values v ≡ r = ap (λ ms. value_at ms v) q ∙ at in not_below (value_at values v) r below (subst (λ (m : Measure). IsAtMost r m) (sym same) (at_most_itself r))
-
-  pub sum_limit : sum_of g values ≤ length g.vertices * height g
-  sum_limit = total_bounded (λ v. rank g (value_at values v)) (height g) (length g.vertices) (λ v h. rank_bounded g (value_at values v) (measured v))
+  measured v = value_measure g values table.1 v
 
   -- where every vertex is still the table is a progress table
-  pub all_still : ((v : ℕ) → v < length g.vertices → IsStill g values v) → IsProgress g values
-  all_still still = (plain_table, λ v r lift. lift_one g values v r (value_at values v) lift (still v (within v r lift)))
+  pub table_still : ((v : ℕ) → v < length g.vertices → IsStill g values v) → IsProgress g values
+  table_still still = (table, λ v r lift. lift_one g values v r (value_at values v) lift (still v (within v r lift)))
     where
       within : (v : ℕ) (r : Measure) → IsLiftAt g values v r → v < length g.vertices
       within v r (x, at, more) = slice_get_within g.vertices v x at
@@ -76,7 +40,8 @@ module _ (g : Game) (values : List Measure) (plain : IsPlain (record { game = g;
         let same_priority : x.priority ≡ p = vertex_tells (λ (y : Vertex). y.priority) g v p x here.1 priority in
         let same_next : x.successors ≡ next = vertex_tells (λ (y : Vertex). y.successors) g v next x here.1 successors in
         let b = subst (λ (ts : List ℕ). IsBestFor o (map (value_at values) ts) (value_at values best)) (sym same_next) is_best in
-        let w = best_prog g x.priority o (map (value_at values) x.successors) (value_at values best) r (all_map (IsMeasure g) (value_at values) x.successors measured) b
+        let w = best_prog g x.priority o (map (value_at values) x.successors) (value_at values best) r
+        (all_map (IsMeasure g) (value_at values) x.successors measured) b
         (subst (λ (q : ℕ). IsProg g q (value_at values best) r) (sym same_priority) is) in
         (x, here.1, (w.0, r, w.1, subst (λ q. IsBestFor q w.0 r) (sym same_owner) w.2, refl))
 
@@ -96,11 +61,61 @@ module _ (g : Game) (values : List Measure) (plain : IsPlain (record { game = g;
     pub risen_lift : (r : Measure) → IsProg g p (value_at values best) r → (Reaches g p (value_at values best) own → ⊥) → IsLiftAt g values v r
     risen_lift r is never = subst (IsLiftAt g values v) (sym (greater_taken own r (not_reached g p (value_at values best) own r is never))) (lift_from r is)
 
+module _ (g : Game) (values : List Measure) (plain : IsPlain (record { game = g; values = values })) where
+  pub plain_table : IsTable g values
+  plain_table = (plain.long, all_from (IsMeasure g) values Top (λ v l. (plain.below v (let e = plain.long in omega arith)).measure))
+
+  plain_under : (other : List Measure) → IsProgress g other → LiesUnder values other
+  plain_under other is v = elim (leb_tells (length g.vertices) v) [
+    | inl w ↦ (let h = w.1 in subst (λ (m : Measure). IsAtMost (value_at values v) m) (sym (get_or_past other v Top (let e = is.0.0 in omega arith)))
+        (at_most_top (value_at values v)))
+    | inr w ↦ (plain.below v w.1).under other is
+  ]
+
+  -- a lift of a plain table is below
+  pub lift_below : (v : ℕ) (r : Measure) → IsLiftAt g values v r → LiesBelow g v r
+  lift_below v r lift = record {
+    measure = lift_measure g values plain_table v r lift;
+    under = λ other is. lift_under g values other plain.game is (plain_under other is) v r lift;
+  }
+
+  -- a lift that is greater than the value raises the sum of the ranks
+  pub sum_raised : (v : ℕ) (r : Measure) (new : List Measure) → v < length g.vertices → IsLiftAt g values v r → IsBelow (value_at values v) r
+      → new ≡ slice_set values v r → sum_of g values < sum_of g new
+  sum_raised v r new h lift below e = subst (λ (ms : List Measure). sum_of g values < sum_of g ms) (sym e)
+      (sum_rises g values (slice_set values v r) plain_table lifted differs)
+    where
+      here : v < length values
+      here = let l = plain.long in omega arith
+
+      at : value_at (slice_set values v r) v ≡ r
+      at = value_set_same values v r here
+
+      lifted : IsLifted g values (slice_set values v r)
+      lifted = record {
+        at = v;
+        lift = subst (IsLiftAt g values v) (sym at) lift;
+        others = λ u n. value_set_other values v u r n;
+        long = length-set values v r;
+      }
+
+      differs : values ≢ slice_set values v r
+      differs q = let same : value_at values v ≡ r = ap (λ ms. value_at ms v) q
+          ∙ at in not_below (value_at values v) r below (subst (λ (m : Measure). IsAtMost r m) (sym same) (at_most_itself r))
+
+  pub sum_limit : sum_of g values ≤ length g.vertices * height g
+  sum_limit = total_bounded (λ v. rank g (value_at values v)) (height g) (length g.vertices)
+      (λ v h. rank_bounded g (value_at values v) (measured g values plain_table v))
+
+  pub all_still : ((v : ℕ) → v < length g.vertices → IsStill g values v) → IsProgress g values
+  all_still still = table_still g values plain_table still
+
 -- Of the vertices from v on some rose, or all are still.
 abbrev pub Swept : Game → ℕ → List Measure → List Measure → Bool → Type 0
 Swept g v old new rose = MatchBool rose (sum_of g old < sum_of g new) ((new ≡ old) × ((u : ℕ) → v ≤ u → u < length g.vertices → IsStill g new u))
 
-pub swept_still : (g : Game) (v w : ℕ) (old mid new : List Measure) (rose : Bool) → Swept g v old mid rose → v ≡ w + 1 → new ≡ mid → IsStill g new w → Swept g w old new rose
+pub swept_still : (g : Game) (v w : ℕ) (old mid new : List Measure) (rose : Bool) → Swept g v old mid rose → v ≡ w + 1 → new ≡ mid → IsStill g new w
+    → Swept g w old new rose
 swept_still g v w old mid new true h e same still = subst (λ (ms : List Measure). sum_of g old < sum_of g ms) (sym same) h
 swept_still g v w old mid new false h e same still = (
   same ∙ h.0,
@@ -111,12 +126,14 @@ swept_still g v w old mid new false h e same still = (
 )
 
 -- a sweep over all vertices
-pub swept_whole : (g : Game) (v : ℕ) (old new : List Measure) (rose : Bool) → IsPlain (record { game = g; values = new }) → Swept g v old new rose → v ≡ 0 → Sweeps g old new rose
+pub swept_whole : (g : Game) (v : ℕ) (old new : List Measure) (rose : Bool) → IsPlain (record { game = g; values = new }) → Swept g v old new rose → v ≡ 0
+    → Sweeps g old new rose
 swept_whole g v old new true plain h e = h
 swept_whole g v old new false plain h e = all_still g new plain (λ u l. h.1 u (omega arith) l)
 
 -- a sweep in which none rose leaves the least progress table
-pub swept_least : (g : Game) (old new : List Measure) (rose : Bool) → IsPlain (record { game = g; values = new }) → Sweeps g old new rose → rose ≡ false → IsLeastTable g new
+pub swept_least : (g : Game) (old new : List Measure) (rose : Bool) → IsPlain (record { game = g; values = new }) → Sweeps g old new rose → rose ≡ false
+    → IsLeastTable g new
 swept_least g old new true plain h e = absurd (true≢false e)
 swept_least g old new false plain h e = record { progress = h; under = λ v l. (plain.below v l).under }
 

@@ -1,5 +1,11 @@
 -- Claims that are stored in rows.
-use Rattle.progress.proofs.Common.{◌≡◌, ◌≢◌, ◌↔◌, ℕ, zero, suc, ◌+◌, ◌/◌, ◌<◌, ◌≤◌, Bool, true, false, not, List, [], ◌∷◌, length, drop, map, refl, sym, ap, subst, ◌∙◌, inl, inr, arith, true≢false, IsTrue, IsSome, Contains, Option, Some, None, slice_index, slice_set, replicate, get_or, if◌then◌else◌, AllByRecursion, range_with_len, is_le, eqb_tells, leb_tells, drop_all, get_or-set_other, get_or-set_same, get_or_past, length-replicate, length-set, get_or-replicate, count_by-le-length, slice_get-get_or, length-range_with_len, Game, IsGame, Vertex, dual, greatest, greatest_of, Counts, IsAtMost, IsMeasure, IsProg, Measure, Reaches, Top, components, measure_cmp, value_at, IsProgUnder, bounds, ArePut, ReachesAt, Rows, is_top_of, measure_of, AreEntered, Claim, Descends, Entry, entry_at}
+use Rattle.progress.proofs.Common.{◌≡◌, ◌≢◌, ◌↔◌, ℕ, zero, suc, ◌+◌, ◌/◌, ◌<◌, ◌≤◌, Bool, true, false, not, List, [], ◌∷◌, length, drop, map, refl, sym, ap}
+use Rattle.progress.proofs.Common.{subst, ◌∙◌, inl, inr, arith, true≢false, IsTrue, IsSome, Contains, Option, Some, None, slice_index, slice_set, replicate}
+use Rattle.progress.proofs.Common.{get_or, if◌then◌else◌, AllByRecursion, range_with_len, is_le, eqb_tells, leb_tells, drop_all, get_or-set_other}
+use Rattle.progress.proofs.Common.{get_or-set_same, get_or_past, length-replicate, length-set, get_or-replicate, count_by-le-length, slice_get-get_or}
+use Rattle.progress.proofs.Common.{length-range_with_len, Game, IsGame, Vertex, dual, greatest, greatest_of, Counts, IsAtMost, IsMeasure, IsProg, Measure}
+use Rattle.progress.proofs.Common.{Reaches, Top, components, measure_cmp, value_at, IsProgUnder, bounds, ArePut, ReachesAt, Rows, is_top_of, measure_of}
+use Rattle.progress.proofs.Common.{AreEntered, Claim, Descends, Entry, entry_at}
 use Rattle.progress.specs.StoredClaim.{Apart, IsStoredClaim, entries_of, entry_of}
 use Rattle.progress.proofs.Lists.{all_weaker, contains_cases, contains_first, contains_later, contains_none}
 use Rattle.progress.proofs.Distinct.{PassesAt, apart_count}
@@ -87,12 +93,14 @@ apart_few : (n : ℕ) (seen : List ℕ) → Apart seen → AllByRecursion (λ x.
 apart_few n seen a h =
     let ns = range_with_len 0 n in
     let long : length ns ≡ n = length-range_with_len 0 n in
-    let c = apart_count (λ x. true) ns seen a (all_weaker (λ x. x < n) (PassesAt (λ x. true) ns) seen (λ x l. (get_or ns x 0, slice_get-get_or ns x 0 (omega (arith, l, long)), refl)) h) in
+    let c = apart_count (λ x. true) ns seen a (all_weaker (λ x. x < n) (PassesAt (λ x. true) ns) seen
+    (λ x l. (get_or ns x 0, slice_get-get_or ns x 0 (omega (arith, l, long)), refl)) h) in
     omega (arith, c, long, count_by-le-length (λ x. true) ns)
 
 -- ------------------------------------------------------------------ reading
 
-module _ (of : Game) (values : Rows) (moves : List ℕ) (ranks : Rows) (vertices : List ℕ) (first : ℕ) (stored : IsStoredClaim of values moves ranks vertices first) where
+module _ (of : Game) (values : Rows) (moves : List ℕ) (ranks : Rows) (vertices : List ℕ) (first : ℕ)
+    (stored : IsStoredClaim of values moves ranks vertices first) where
   abbrev Entries : List (Option Entry)
   Entries = entries_of values.values moves ranks.values
 
@@ -100,7 +108,8 @@ module _ (of : Game) (values : Rows) (moves : List ℕ) (ranks : Rows) (vertices
   At v = entry_of (value_at values.values v) (slice_index moves v) (value_at ranks.values v)
 
   at_stored : (v : ℕ) → entry_at Entries v ≡ At v
-  at_stored v = let a = stored.values_long in let b = stored.moves_long in let c = stored.ranks_long in entries_at values.values moves ranks.values v (omega arith) (omega arith)
+  at_stored v = let a = stored.values_long in let b = stored.moves_long in let c = stored.ranks_long
+      in entries_at values.values moves ranks.values v (omega arith) (omega arith)
 
   entered_within : (v : ℕ) → IsSome (entry_at Entries v) → v < length of.vertices
   entered_within v h = elim (leb_tells (length ranks.values) v) [
@@ -146,7 +155,8 @@ module _ (of : Game) (values : Rows) (moves : List ℕ) (ranks : Rows) (vertices
     parts v x e = entry_parts (value_at values.values v) (slice_index moves v) (value_at ranks.values v) x (sym (at_is v) ∙ e)
 
     pub has_entry : (v : ℕ) (top : Bool) → top ≡ is_top_of (value_at ranks.values v) → IsTrue (not top) ↔ IsSome (entry_at now.entries v)
-    has_entry v top e = subst (λ o. IsTrue (not top) ↔ IsSome o) (sym (at_is v)) (entry_some (value_at values.values v) (slice_index moves v) (value_at ranks.values v) top e)
+    has_entry v top e = subst (λ o. IsTrue (not top) ↔ IsSome o) (sym (at_is v))
+        (entry_some (value_at values.values v) (slice_index moves v) (value_at ranks.values v) top e)
 
     pub has_stored : (v : ℕ) (b : Bool) → (IsTrue b ↔ IsSome (entry_at now.entries v)) → IsTrue b ↔ IsSome (entry_at Entries v)
     has_stored v b h = subst (λ (c : Claim). IsTrue b ↔ IsSome (entry_at c.entries v)) (sym is) h
@@ -167,10 +177,12 @@ module _ (of : Game) (values : Rows) (moves : List ℕ) (ranks : Rows) (vertices
     width_is w e = e ∙ (stored.ranked ∙ ap (λ (g : Game). length (components (dual g))) game_is)
 
     pub entered_is : (vs : List ℕ) → vs ≡ drop first vertices → AreEntered now.entries vs
-    entered_is vs e = subst (λ (us : List ℕ). AreEntered now.entries us) (sym e) (λ v. subst (λ (c : Claim). IsSome (entry_at c.entries v) ↔ Contains (drop first vertices) v) is (stored.entered v))
+    entered_is vs e = subst (λ (us : List ℕ). AreEntered now.entries us) (sym e)
+        (λ v. subst (λ (c : Claim). IsSome (entry_at c.entries v) ↔ Contains (drop first vertices) v) is (stored.entered v))
 
     pub entered_inside : (vs : List ℕ) → vs ≡ drop first vertices → (v : ℕ) → Contains vs v → v < length now.game.vertices
-    entered_inside vs e v h = subst (λ (g : Game). v < length g.vertices) game_is (entered_within v ((stored.entered v).1 (subst (λ (us : List ℕ). Contains us v) e h)))
+    entered_inside vs e v h = subst (λ (g : Game). v < length g.vertices) game_is
+        (entered_within v ((stored.entered v).1 (subst (λ (us : List ℕ). Contains us v) e h)))
 
     pub at_most_is : (v : ℕ) (m : Measure) (b : Bool) → IsSome (entry_at now.entries v) → b ≡ is_le (measure_cmp (value_at values.values v) m)
         → IsTrue b ↔ ((x : Entry) → entry_at now.entries v ≡ Some x → IsAtMost x.value m)
@@ -179,21 +191,25 @@ module _ (of : Game) (values : Rows) (moves : List ℕ) (ranks : Rows) (vertices
       (λ f. let w = is_there (entry_at now.entries v) some in e ∙ subst (λ (k : Measure). IsAtMost k m) (sym (parts v w.0 w.1).value) (f w.0 w.1)),
     )
 
-    pub top_asks : (v p : ℕ) (r : Measure) → true ≡ is_top_of (value_at values.values v) → r ≡ Top → (y : Entry) → entry_at now.entries v ≡ Some y → IsProg now.game p y.value r
+    pub top_asks : (v p : ℕ) (r : Measure) → true ≡ is_top_of (value_at values.values v) → r ≡ Top → (y : Entry) → entry_at now.entries v ≡ Some y
+        → IsProg now.game p y.value r
     top_asks v p r top e y at =
-        subst (λ (k : Measure). IsProg now.game p y.value k) (sym e) (subst (λ (k : Measure). IsProg now.game p k Top) (sym (is_top y.value (top ∙ ap is_top_of (parts v y at).value))) (top_prog now.game p))
+        subst (λ (k : Measure). IsProg now.game p y.value k) (sym e)
+        (subst (λ (k : Measure). IsProg now.game p k Top) (sym (is_top y.value (top ∙ ap is_top_of (parts v y at).value))) (top_prog now.game p))
       where
         is_top : (m : Measure) → true ≡ is_top_of m → m ≡ Top
         is_top Top h = refl
         is_top (Counts c) h = absurd (true≢false h)
 
     pub counts_ask : (v p : ℕ) (limits c : List ℕ) (r : Measure) → false ≡ is_top_of (value_at values.values v) → limits ≡ bounds now.game
-        → measure_of (is_top_of (value_at values.values v)) c ≡ value_at values.values v → IsProgUnder limits p (Counts c) r → (y : Entry) → entry_at now.entries v ≡ Some y → IsProg now.game p y.value r
+        → measure_of (is_top_of (value_at values.values v)) c ≡ value_at values.values v → IsProgUnder limits p (Counts c) r → (y : Entry)
+        → entry_at now.entries v ≡ Some y → IsProg now.game p y.value r
     counts_ask v p limits c r low e is_value under y at =
         let same : Counts c ≡ y.value = ap (λ b. measure_of b c) low ∙ (is_value ∙ (parts v y at).value) in
         subst (λ (k : Measure). IsProg now.game p k r) same (under now.game (sym e) (subst (IsMeasure now.game) (sym same) (its_measure v y at)))
 
-    pub descends_is : (p v t : ℕ) (b : Bool) → IsSome (entry_at now.entries v) → IsSome (entry_at now.entries t) → ReachesAt ranks (p + 1) t v b → IsTrue b ↔ Descends now p v t
+    pub descends_is : (p v t : ℕ) (b : Bool) → IsSome (entry_at now.entries v) → IsSome (entry_at now.entries t) → ReachesAt ranks (p + 1) t v b → IsTrue b
+        ↔ Descends now p v t
     descends_is p v t b some there reaches =
         let r = reaches (dual now.game) (sym (width_is ranks.width refl)) in (
           (λ h x y at next. subst (λ (k : Measure). Reaches (dual now.game) (p + 1) k (Counts x.rank)) (parts t y next).rank
@@ -205,8 +221,10 @@ module _ (of : Game) (values : Rows) (moves : List ℕ) (ranks : Rows) (vertices
 
 -- ------------------------------------------------------------------ no entries yet
 
-module _ (g : Game) (game : IsGame g) (n wide high : ℕ) (many : n ≡ length g.vertices) (values : Rows) (moves : List ℕ) (ranks : Rows) (vertices : List ℕ) (width : values.width ≡ wide) (is_wide : wide ≡ length (bounds g))
-    (zeros : values.values ≡ replicate n (Counts (replicate wide 0))) (moves_long : length moves ≡ n) (ranked : ranks.width ≡ high) (is_high : high ≡ length (components (dual g))) (tops : ranks.values ≡ replicate n Top)
+module _ (g : Game) (game : IsGame g) (n wide high : ℕ) (many : n ≡ length g.vertices) (values : Rows) (moves : List ℕ) (ranks : Rows) (vertices : List ℕ)
+    (width : values.width ≡ wide) (is_wide : wide ≡ length (bounds g))
+    (zeros : values.values ≡ replicate n (Counts (replicate wide 0))) (moves_long : length moves ≡ n) (ranked : ranks.width ≡ high)
+    (is_high : high ≡ length (components (dual g))) (tops : ranks.values ≡ replicate n Top)
     (room_long : length vertices ≡ n) where
   values_are : length values.values ≡ length g.vertices
   values_are = ap length zeros ∙ (length-replicate n (Counts (replicate wide 0)) ∙ many)
@@ -217,7 +235,8 @@ module _ (g : Game) (game : IsGame g) (n wide high : ℕ) (many : n ≡ length g
   pub new_none : (v : ℕ) → entry_at (entries_of values.values moves ranks.values) v ≡ None
   new_none v =
       let a = values_are in let b = ranks_are in
-      entries_at values.values moves ranks.values v (omega arith) (omega arith) ∙ ap (λ r. entry_of (value_at values.values v) (slice_index moves v) r) (ap (λ ms. value_at ms v) tops ∙ top_at)
+      entries_at values.values moves ranks.values v (omega arith) (omega arith)
+      ∙ ap (λ r. entry_of (value_at values.values v) (slice_index moves v) r) (ap (λ ms. value_at ms v) tops ∙ top_at)
     where
       top_at : value_at (replicate n Top) v ≡ Top
       top_at = elim (leb_tells n v) [
@@ -236,7 +255,10 @@ module _ (g : Game) (game : IsGame g) (n wide high : ℕ) (many : n ≡ length g
     room_long = room_long ∙ many;
     within = omega arith;
     measures = λ v x e. (let q : None ≡ Some x = sym (new_none v) ∙ e in absurd cc);
-    entered = λ v. ((λ h. absurd (true≢false (sym (subst (λ o. IsSome o) (new_none v) h)))), (λ c. absurd (contains_none v (subst (λ xs. Contains xs v) none_left c))));
+    entered = λ v. (
+      (λ h. absurd (true≢false (sym (subst (λ o. IsSome o) (new_none v) h)))),
+      (λ c. absurd (contains_none v (subst (λ xs. Contains xs v) none_left c))),
+    );
     apart = subst Apart (sym none_left) tt;
   })
     where
@@ -245,10 +267,14 @@ module _ (g : Game) (game : IsGame g) (n wide high : ℕ) (many : n ≡ length g
 
 -- ------------------------------------------------------------------ one entry more, or another in its place
 
-module _ (of : Game) (values : Rows) (moves : List ℕ) (ranks : Rows) (vertices vertices' : List ℕ) (first first' v : ℕ) (stored : IsStoredClaim of values moves ranks vertices first) (has : Bool)
-    (there : IsTrue has ↔ IsSome (entry_at (entries_of values.values moves ranks.values) v)) (old new : List ℕ) (was : old ≡ vertices) (whole : vertices' ≡ new) (kept : length new ≡ length old) (within : first' ≤ first)
-    (listed : drop first' new ≡ (if has then drop first old else v ∷ drop first old)) (m : Measure) (t : ℕ) (c : List ℕ) (h : v < length of.vertices) (written ranked : Rows)
-    (is_written : written ≡ record { width = values.width; values = slice_set values.values v m }) (is_ranked : ranked ≡ record { width = ranks.width; values = slice_set ranks.values v (Counts c) }) where
+module _ (of : Game) (values : Rows) (moves : List ℕ) (ranks : Rows) (vertices vertices' : List ℕ) (first first' v : ℕ)
+    (stored : IsStoredClaim of values moves ranks vertices first) (has : Bool)
+    (there : IsTrue has ↔ IsSome (entry_at (entries_of values.values moves ranks.values) v)) (old new : List ℕ) (was : old ≡ vertices)
+    (whole : vertices' ≡ new) (kept : length new ≡ length old) (within : first' ≤ first)
+    (listed : drop first' new ≡ (if has then drop first old else v ∷ drop first old)) (m : Measure) (t : ℕ) (c : List ℕ) (h : v < length of.vertices)
+    (written ranked : Rows)
+    (is_written : written ≡ record { width = values.width; values = slice_set values.values v m })
+    (is_ranked : ranked ≡ record { width = ranks.width; values = slice_set ranks.values v (Counts c) }) where
   abbrev Old : List (Option Entry)
   Old = entries_of values.values moves ranks.values
 
@@ -282,7 +308,8 @@ module _ (of : Game) (values : Rows) (moves : List ℕ) (ranks : Rows) (vertices
   moved_long : length (slice_set moves v t) ≡ length of.vertices
   moved_long = length-set moves v t ∙ stored.moves_long
 
-  new_at : (u : ℕ) → entry_at New u ≡ entry_of (value_at (slice_set values.values v m) u) (slice_index (slice_set moves v t) u) (value_at (slice_set ranks.values v (Counts c)) u)
+  new_at : (u : ℕ) → entry_at New u ≡ entry_of (value_at (slice_set values.values v m) u) (slice_index (slice_set moves v t) u)
+      (value_at (slice_set ranks.values v (Counts c)) u)
   new_at u =
       let a = written_long in let b = ranked_long in let d = moved_long in
       entries_at written.values (slice_set moves v t) ranked.values u (omega arith) (omega arith)
@@ -292,7 +319,8 @@ module _ (of : Game) (values : Rows) (moves : List ℕ) (ranks : Rows) (vertices
   put_here =
       let a = stored.values_long in let b = stored.ranks_long in let d = stored.moves_long in
       new_at v
-      ∙ (ap (λ k. entry_of k (slice_index (slice_set moves v t) v) (value_at (slice_set ranks.values v (Counts c)) v)) (value_set_same values.values v m (omega arith))
+      ∙ (ap (λ k. entry_of k (slice_index (slice_set moves v t) v) (value_at (slice_set ranks.values v (Counts c)) v))
+      (value_set_same values.values v m (omega arith))
       ∙ (ap (λ k. entry_of m k (value_at (slice_set ranks.values v (Counts c)) v)) (get_or-set_same moves v t 0 (omega arith))
       ∙ ap (λ k. entry_of m t k) (value_set_same ranks.values v (Counts c) (omega arith))))
 
@@ -325,7 +353,8 @@ module _ (of : Game) (values : Rows) (moves : List ℕ) (ranks : Rows) (vertices
     where
       measures : (u : ℕ) (x : Entry) → entry_at New u ≡ Some x → IsMeasure of x.value
       measures u x e = elim (eqb_tells u v) [
-        | inl w ↦ (let q : Made ≡ x = some_entry Made x (sym put_here ∙ (ap (λ k. entry_at New k) (sym w.1) ∙ e)) in subst (λ (y : Entry). IsMeasure of y.value) q measure)
+        | inl w ↦ (let q : Made ≡ x = some_entry Made x (sym put_here ∙ (ap (λ k. entry_at New k) (sym w.1) ∙ e))
+            in subst (λ (y : Entry). IsMeasure of y.value) q measure)
         | inr w ↦ stored.measures u x (sym (put_old u w.1) ∙ e)
       ]
 
@@ -338,28 +367,37 @@ module _ (of : Game) (values : Rows) (moves : List ℕ) (ranks : Rows) (vertices
       entered : (b : Bool) → (IsTrue b ↔ IsSome (entry_at Old v)) → Listed b → (u : ℕ) → Is u
       entered true is same u = elim (eqb_tells u v) [
         | inl w ↦ subst Is (sym w.1) (at_v (subst (λ xs. Contains xs v) (sym same) ((stored.entered v).0 (is.0 refl))))
-        | inr w ↦ subst (λ o. IsSome o ↔ Contains (drop first' vertices') u) (sym (put_old u w.1)) (subst (λ xs. IsSome (entry_at Old u) ↔ Contains xs u) (sym same) (stored.entered u))
+        | inr w ↦ subst (λ o. IsSome o ↔ Contains (drop first' vertices') u) (sym (put_old u w.1))
+            (subst (λ xs. IsSome (entry_at Old u) ↔ Contains xs u) (sym same) (stored.entered u))
       ]
       entered false is more u = elim (eqb_tells u v) [
         | inl w ↦ subst Is (sym w.1) (at_v (subst (λ xs. Contains xs v) (sym more) (contains_first v (drop first vertices))))
-        | inr w ↦ subst (λ o. IsSome o ↔ Contains (drop first' vertices') u) (sym (put_old u w.1)) (subst (λ xs. IsSome (entry_at Old u) ↔ Contains xs u) (sym more) (
-          (λ s. contains_later v u (drop first vertices) ((stored.entered u).0 s)),
-          (λ d. elim (contains_cases v u (drop first vertices) d) [ inl q ↦ absurd (w.1 (sym q)) | inr old ↦ (stored.entered u).1 old ]),
-        ))
+        | inr w ↦ subst (λ o. IsSome o ↔ Contains (drop first' vertices') u) (sym (put_old u w.1))
+            (subst (λ xs. IsSome (entry_at Old u) ↔ Contains xs u) (sym more) (
+              (λ s. contains_later v u (drop first vertices) ((stored.entered u).0 s)),
+              (λ d. elim (contains_cases v u (drop first vertices) d) [ inl q ↦ absurd (w.1 (sym q)) | inr old ↦ (stored.entered u).1 old ]),
+            ))
       ]
 
       apart : (b : Bool) → (IsTrue b ↔ IsSome (entry_at Old v)) → Listed b → Apart (drop first' vertices')
       apart true is same = subst Apart (sym same) stored.apart
-      apart false is more = subst Apart (sym more) (all_of (λ u. v ≢ u) (drop first vertices) (λ u d e. free is ((stored.entered v).1 (subst (λ k. Contains (drop first vertices) k) (sym e) d))), stored.apart)
+      apart false is more = subst Apart (sym more) (
+        all_of (λ u. v ≢ u) (drop first vertices)
+            (λ u d e. free is ((stored.entered v).1 (subst (λ k. Contains (drop first vertices) k) (sym e) d))),
+        stored.apart,
+      )
 
 -- ------------------------------------------------------------------ all entries away
 
-pub cleared_places : (of : Game) (values : Rows) (moves : List ℕ) (ranks : Rows) (vertices : List ℕ) (first : ℕ) → IsStoredClaim of values moves ranks vertices first → (places : List ℕ) → places ≡ drop first vertices
+pub cleared_places : (of : Game) (values : Rows) (moves : List ℕ) (ranks : Rows) (vertices : List ℕ) (first : ℕ)
+    → IsStoredClaim of values moves ranks vertices first → (places : List ℕ) → places ≡ drop first vertices
     → AllByRecursion (λ v. v < length ranks.values) places
 cleared_places of values moves ranks vertices first stored places are = all_of (λ v. v < length ranks.values) places (λ v c. (
-    let h = entered_within of values moves ranks vertices first stored v ((stored.entered v).1 (subst (λ xs. Contains xs v) are c)) in let l = stored.ranks_long in omega arith))
+    let h = entered_within of values moves ranks vertices first stored v ((stored.entered v).1 (subst (λ xs. Contains xs v) are c))
+    in let l = stored.ranks_long in omega arith))
 
-module _ (of : Game) (values : Rows) (moves : List ℕ) (ranks new : Rows) (vertices : List ℕ) (first : ℕ) (stored : IsStoredClaim of values moves ranks vertices first) (places : List ℕ) (are : places ≡ drop first vertices)
+module _ (of : Game) (values : Rows) (moves : List ℕ) (ranks new : Rows) (vertices : List ℕ) (first : ℕ)
+    (stored : IsStoredClaim of values moves ranks vertices first) (places : List ℕ) (are : places ≡ drop first vertices)
     (put : ArePut ranks places new) where
   cleared_at : (v : ℕ) → value_at new.values v ≡ Top
   cleared_at v = elim (put.left v) [ inl q ↦ q | inr q ↦ by (value_at ranks.values v) refl q ]
@@ -368,7 +406,8 @@ module _ (of : Game) (values : Rows) (moves : List ℕ) (ranks new : Rows) (vert
       by Top e q = q ∙ e
       by (Counts c) e q =
           let a = stored.values_long in let b = stored.moves_long in let d = stored.ranks_long in
-          let at = entries_at values.values moves ranks.values v (omega arith) (omega arith) ∙ ap (entry_of (value_at values.values v) (slice_index moves v)) e in
+          let at = entries_at values.values moves ranks.values v (omega arith) (omega arith)
+          ∙ ap (entry_of (value_at values.values v) (slice_index moves v)) e in
           put.put v (subst (λ xs. Contains xs v) (sym are) ((stored.entered v).0 (subst (λ o. IsSome o) (sym at) refl)))
 
   pub cleared_none : (v : ℕ) → entry_at (entries_of values.values moves new.values) v ≡ None
@@ -387,7 +426,10 @@ module _ (of : Game) (values : Rows) (moves : List ℕ) (ranks new : Rows) (vert
     room_long = stored.room_long;
     within = (let l = stored.room_long in omega arith);
     measures = λ v x at. (let q : None ≡ Some x = sym (cleared_none v) ∙ at in absurd cc);
-    entered = λ v. ((λ h. absurd (true≢false (sym (subst (λ o. IsSome o) (cleared_none v) h)))), (λ c. absurd (contains_none v (subst (λ xs. Contains xs v) none_left c))));
+    entered = λ v. (
+      (λ h. absurd (true≢false (sym (subst (λ o. IsSome o) (cleared_none v) h)))),
+      (λ c. absurd (contains_none v (subst (λ xs. Contains xs v) none_left c))),
+    );
     apart = subst Apart (sym none_left) tt;
   }
     where

@@ -1,5 +1,8 @@
 -- A strategy that wins for Even gives a progress table that isn't top on its set.
-use Rattle.progress.proofs.Common.{◌≡◌, ◌≢◌, ℕ, ◌<◌, ◌≤◌, Bool, true, false, List, length, map, refl, sym, ap, subst, ◌∙◌, inl, inr, arith, IsTrue, Some, AllZip, range_with_len, length-map-range_with_len, get_or-map-range_with_len, slice_get_within, Player, Even, Odd, Vertex, Game, vertex, count, greatest, Edge, IsStrategy, Wins, priority_at, Measure, Top, Counts, components, IsMeasure, IsAtMost, Reaches, IsProg, is_odd, IsBestFor, IsProgress, IsTable, IsLiftAt, value_at}
+use Rattle.progress.proofs.Common.{◌≡◌, ◌≢◌, ℕ, ◌<◌, ◌≤◌, Bool, true, false, List, length, map, refl, sym, ap, subst, ◌∙◌, inl, inr, arith, IsTrue, Some}
+use Rattle.progress.proofs.Common.{AllZip, range_with_len, length-map-range_with_len, get_or-map-range_with_len, slice_get_within, Player, Even, Odd, Vertex}
+use Rattle.progress.proofs.Common.{Game, vertex, count, greatest, Edge, IsStrategy, Wins, priority_at, Measure, Top, Counts, components, IsMeasure, IsAtMost}
+use Rattle.progress.proofs.Common.{Reaches, IsProg, is_odd, IsBestFor, IsProgress, IsTable, IsLiftAt, value_at}
 use Rattle.progress.proofs.Lists.{all_map, zip_back, zip_from, zip_on}
 use Rattle.progress.proofs.Measures.{at_most_top, at_most_trans, own_greater, reaches_over}
 use Rattle.progress.proofs.Cycles.{priority}
@@ -25,11 +28,15 @@ module _ (g : Game) (set : ℕ → Bool) (choice : ℕ → ℕ) (strategy : IsSt
   at_set v h = at_table v (strategy.inside v h) ∙ ap (λ b. given b v) h
 
   is_measure : (b : Bool) (v : ℕ) → IsMeasure g (given b v)
-  is_measure true v = zip_from (λ k p. k ≤ count g p) (λ p. is_odd p ≡ true) (λ p. ever g set choice strategy p v) (components g) (odd_down_odd (greatest g)) (λ p. ever_bounded g set choice strategy p v)
+  is_measure true v = zip_from (λ k p. k ≤ count g p) (λ p. is_odd p ≡ true) (λ p. ever g set choice strategy p v) (components g) (odd_down_odd (greatest g))
+      (λ p. ever_bounded g set choice strategy p v)
   is_measure false v = tt
 
   is_table : IsTable g table
-  is_table = (length-map-range_with_len (λ v. given (set v) v) 0 (length g.vertices), all_map (IsMeasure g) (λ v. given (set v) v) (range_with_len 0 (length g.vertices)) (λ v. is_measure (set v) v))
+  is_table = (
+    length-map-range_with_len (λ v. given (set v) v) 0 (length g.vertices),
+    all_map (IsMeasure g) (λ v. given (set v) v) (range_with_len 0 (length g.vertices)) (λ v. is_measure (set v) v),
+  )
 
   -- along the strategy's edges the values reach
   reaches : (v t : ℕ) → IsTrue (set v) → Edge Even g choice v t → Reaches g (priority g v) (value_at table t) (value_at table v)

@@ -1,5 +1,7 @@
 -- A progress table wins for Even wherever its value isn't top.
-use Rattle.progress.proofs.Common.{◌≡◌, ◌≢◌, ℕ, ◌<◌, Bool, true, false, List, [], length, refl, sym, ap, subst, ◌∙◌, inl, inr, arith, Some, None, Option, IsTrue, true≢false, get_or_past, leb_tells, Player, Even, Odd, Vertex, Game, vertex, IsGame, Edge, Wins, priority_at, greatest_met, Measure, Top, Counts, Reaches, IsProgress, value_at, IsLeastSuccessor}
+use Rattle.progress.proofs.Common.{◌≡◌, ◌≢◌, ℕ, ◌<◌, Bool, true, false, List, [], length, refl, sym, ap, subst, ◌∙◌, inl, inr, arith, Some, None, Option}
+use Rattle.progress.proofs.Common.{IsTrue, true≢false, get_or_past, leb_tells, Player, Even, Odd, Vertex, Game, vertex, IsGame, Edge, Wins, priority_at}
+use Rattle.progress.proofs.Common.{greatest_met, Measure, Top, Counts, Reaches, IsProgress, value_at, IsLeastSuccessor}
 use Rattle.progress.proofs.Lifts.{even_reaches, odd_reaches}
 use Rattle.progress.proofs.Cycles.{priority, odd_or_even, no_odd_cycle}
 
@@ -45,7 +47,8 @@ module _ (g : Game) (table : List Measure) (game : IsGame g) (is : IsProgress g 
   step : (u t : ℕ) → Edge Even g choice u t → Reaches g (priority g u) (value_at table t) (value_at table u)
   step u t (x, at, inl w) =
       let r = ((pick u).1 x at w.0).1 in
-      subst (λ o. Reaches g (priority_at o) (value_at table t) (value_at table u)) (sym at) (subst (λ z. Reaches g x.priority (value_at table z) (value_at table u)) (sym w.1) r)
+      subst (λ o. Reaches g (priority_at o) (value_at table t) (value_at table u)) (sym at)
+      (subst (λ z. Reaches g x.priority (value_at table z) (value_at table u)) (sym w.1) r)
   step u t (x, at, inr w) =
       subst (λ o. Reaches g (priority_at o) (value_at table t) (value_at table u)) (sym at) (odd_reaches g table game is u x at (other_owner x.owner w.0) t w.1)
 
@@ -60,7 +63,8 @@ module _ (g : Game) (table : List Measure) (game : IsGame g) (is : IsProgress g 
     | inr w ↦ omega (arith, w.1, is.0.0)
   ]
 
-  pub table_wins : (v : ℕ) → value_at table v ≢ Top → (w : Wins g v) × ((u : ℕ) (x : Vertex) → vertex g u ≡ Some x → x.owner ≡ Even → IsLeastSuccessor g table x (w.choice u))
+  pub table_wins : (v : ℕ) → value_at table v ≢ Top → (w : Wins g v)
+      × ((u : ℕ) (x : Vertex) → vertex g u ≡ Some x → x.owner ≡ Even → IsLeastSuccessor g table x (w.choice u))
   table_wins v n = (
     record {
       set = λ u. is_counts (value_at table u);
@@ -71,7 +75,8 @@ module _ (g : Game) (table : List Measure) (game : IsGame g) (is : IsProgress g 
         own = λ u x h at o. ((pick u).1 x at o).0.successor;
         closed = λ u t h e. stays (priority g u) (value_at table t) (value_at table u) h (step u t e);
         cycles = λ u others h m path. elim (odd_or_even (greatest_met g others)) [
-          | inl w ↦ absurd (no_odd_cycle g (Edge Even g choice) (value_at table) step u others (counts_of (value_at table u)) (has_counts (value_at table u) h) m path w.0)
+          | inl w ↦ absurd (no_odd_cycle g (Edge Even g choice) (value_at table) step u others (counts_of (value_at table u))
+              (has_counts (value_at table u) h) m path w.0)
           | inr w ↦ w.1
         ];
       };

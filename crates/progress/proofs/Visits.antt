@@ -1,5 +1,8 @@
 -- How often a priority is met at most along a strategy, before a greater one.
-use Rattle.progress.proofs.Common.{◌≡◌, ◌≢◌, ℕ, zero, suc, ◌%◌, ◌<◌, ◌≤◌, ◌⊎◌, max, Bool, true, false, ◌&&◌, List, [], ◌∷◌, length, map, refl, sym, ap, subst, ◌∙◌, inl, inr, arith, true≢false, IsTrue, Contains, Some, None, Option, nat_le, ◌==◌, eqb-true, eq-eqb, le-leb, le_trans, lt_of_lt_of_le, lt_of_le_of_lt, AllByRecursion, leb_tells, IsPath, Player, Even, Odd, Vertex, Game, vertex, count, Edge, IsStrategy, priority_at, greatest_met, is_odd, and_parts}
+use Rattle.progress.proofs.Common.{◌≡◌, ◌≢◌, ℕ, zero, suc, ◌%◌, ◌<◌, ◌≤◌, ◌⊎◌, max, Bool, true, false, ◌&&◌, List, [], ◌∷◌, length, map, refl, sym, ap, subst}
+use Rattle.progress.proofs.Common.{◌∙◌, inl, inr, arith, true≢false, IsTrue, Contains, Some, None, Option, nat_le, ◌==◌, eqb-true, eq-eqb, le-leb, le_trans}
+use Rattle.progress.proofs.Common.{lt_of_lt_of_le, lt_of_le_of_lt, AllByRecursion, leb_tells, IsPath, Player, Even, Odd, Vertex, Game, vertex, count, Edge}
+use Rattle.progress.proofs.Common.{IsStrategy, priority_at, greatest_met, is_odd, and_parts}
 use Rattle.progress.proofs.Lists.{contains_first, contains_later, contains_none, contains_cases, all_weaker}
 use Rattle.progress.proofs.Distinct.{Apart, PassesAt, apart_count}
 use Rattle.progress.proofs.Rests.{rests}
@@ -56,7 +59,8 @@ module _ (g : Game) (set : ℕ → Bool) (choice : ℕ → ℕ) (strategy : IsSt
   moves u = moves_of u (vertex g u)
 
   edge_moves : (u t : ℕ) → Edge Even g choice u t → Contains (moves u) t
-  edge_moves u t (x, at, inl w) = subst (λ o. Contains (moves_of u o) t) (sym at) (subst (λ o. Contains (owned u x o) t) (sym w.0) (subst (λ z. Contains (z ∷ []) t) w.1 (contains_first t [])))
+  edge_moves u t (x, at, inl w) = subst (λ o. Contains (moves_of u o) t) (sym at)
+      (subst (λ o. Contains (owned u x o) t) (sym w.0) (subst (λ z. Contains (z ∷ []) t) w.1 (contains_first t [])))
   edge_moves u t (x, at, inr w) = subst (λ o. Contains (moves_of u o) t) (sym at) (subst (λ o. Contains (owned u x o) t) (sym (other_owner x.owner w.0)) w.1)
 
   moves_edge : (u t : ℕ) → Contains (moves u) t → Edge Even g choice u t
@@ -122,11 +126,19 @@ module _ (g : Game) (set : ℕ → Bool) (choice : ℕ → ℕ) (strategy : IsSt
     places = v ∷ m.places;
     long = ap suc m.long;
     apart = (all_weaker (IsMet p t) (λ x. v ≢ x) m.places (λ x. not_again p v t x odd h q e) m.each, m.apart);
-    each = (record { here = q; others = []; path = refl; low = omega arith }, all_weaker (IsMet p t) (IsMet p v) m.places (λ x. before p v t x (omega arith) e) m.each);
+    each = (
+      record { here = q; others = []; path = refl; low = omega arith },
+      all_weaker (IsMet p t) (IsMet p v) m.places (λ x. before p v t x (omega arith) e) m.each,
+    );
   }
 
   met_past : (p v n : ℕ) → priority g v ≤ p → (t : ℕ) → Edge Even g choice v t → Met p t n → Met p v n
-  met_past p v n l t e m = record { places = m.places; long = m.long; apart = m.apart; each = all_weaker (IsMet p t) (IsMet p v) m.places (λ x. before p v t x l e) m.each }
+  met_past p v n l t e m = record {
+    places = m.places;
+    long = m.long;
+    apart = m.apart;
+    each = all_weaker (IsMet p t) (IsMet p v) m.places (λ x. before p v t x l e) m.each;
+  }
 
   met_here : (p v : ℕ) → priority g v ≡ p → Met p v 1
   met_here p v q = record { places = v ∷ []; long = refl; apart = (tt, tt); each = (record { here = q; others = []; path = refl; low = omega arith }, tt) }
@@ -147,7 +159,8 @@ module _ (g : Game) (set : ℕ → Bool) (choice : ℕ → ℕ) (strategy : IsSt
 
   met : (p : ℕ) → is_odd p ≡ true → (k v : ℕ) → Met p v (longest p k v)
   met p odd zero v = none_met p v
-  met p odd (suc k) v = met_by p v (most (map (λ t. longest p k t) (moves v))) (λ t. longest p k t) odd (met p odd k) (most_is (λ t. longest p k t) (moves v)) (within p v) (priority g v == p) refl refl
+  met p odd (suc k) v = met_by p v (most (map (λ t. longest p k t) (moves v))) (λ t. longest p k t) odd (met p odd k)
+      (most_is (λ t. longest p k t) (moves v)) (within p v) (priority g v == p) refl refl
 
   -- a vertex of an odd priority is one of the game's
   is_vertex : (p x : ℕ) → is_odd p ≡ true → priority g x ≡ p → PassesAt (λ y. y.priority == p) g.vertices x
@@ -160,7 +173,8 @@ module _ (g : Game) (set : ℕ → Bool) (choice : ℕ → ℕ) (strategy : IsSt
   pub longest_bounded : (p k v : ℕ) → is_odd p ≡ true → longest p k v ≤ count g p
   longest_bounded p k v odd =
       let m = met p odd k v in
-      let h = apart_count (λ y. y.priority == p) g.vertices m.places m.apart (all_weaker (IsMet p v) (PassesAt (λ y. y.priority == p) g.vertices) m.places (λ x i. is_vertex p x odd i.here) m.each) in
+      let h = apart_count (λ y. y.priority == p) g.vertices m.places m.apart
+      (all_weaker (IsMet p v) (PassesAt (λ y. y.priority == p) g.vertices) m.places (λ x i. is_vertex p x odd i.here) m.each) in
       let e = m.long in
       omega (arith, h, e)
 

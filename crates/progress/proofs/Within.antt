@@ -1,10 +1,12 @@
 -- Counts within their bounds.
-use Rattle.progress.proofs.Common.{◌≡◌, ◌↔◌, ◌<◌, ◌≤◌, ℕ, suc, false, Bool, IsTrue, List, [], ◌∷◌, length, map, ◌∙◌, arith, refl, subst, sym, slice_index, true≢false, AllZip, Game, count, Measure, Top, Counts, IsMeasure, components, bounds, counts_of}
+use Rattle.progress.proofs.Common.{◌≡◌, ◌↔◌, ◌<◌, ◌≤◌, ℕ, suc, false, Bool, IsTrue, List, [], ◌∷◌, length, map, ◌∙◌, arith, refl, subst, sym, slice_index}
+use Rattle.progress.proofs.Common.{true≢false, AllZip, Game, count, Measure, Top, Counts, IsMeasure, components, bounds, counts_of}
 
 abbrev AreWithin : List ℕ → List ℕ → Type 0
 AreWithin cs bs = AllZip (λ count bound. count ≤ bound) cs bs
 
-pub within_from : (cs bs : List ℕ) → length cs ≡ length bs → ((i : ℕ) → i < length cs → slice_index cs i ≤ slice_index bs i) → AllZip (λ count bound. count ≤ bound) cs bs
+pub within_from : (cs bs : List ℕ) → length cs ≡ length bs → ((i : ℕ) → i < length cs → slice_index cs i ≤ slice_index bs i)
+    → AllZip (λ count bound. count ≤ bound) cs bs
 within_from [] [] e h = tt
 within_from [] (b ∷ bs) e h = absurd (omega arith)
 within_from (c ∷ cs) [] e h = absurd (omega arith)
@@ -28,5 +30,6 @@ pub measure_within : (g : Game) (m : Measure) (cs limits : List ℕ) (b top : Bo
 measure_within g Top cs limits b top e n c l h = absurd (true≢false (sym (n refl) ∙ e))
 measure_within g (Counts ds) cs limits b top e n c l h = (
   (λ i. from_bounds (count g) ds (components g) (subst (λ (xs : List ℕ). AreWithin ds xs) l (subst (λ (xs : List ℕ). AreWithin xs limits) c (h.0 i)))),
-  (λ i. h.1 (subst (λ (xs : List ℕ). AreWithin xs limits) (sym c) (subst (λ (xs : List ℕ). AreWithin ds xs) (sym l) (to_bounds (count g) ds (components g) i)))),
+  (λ i. h.1 (subst (λ (xs : List ℕ). AreWithin xs limits) (sym c)
+      (subst (λ (xs : List ℕ). AreWithin ds xs) (sym l) (to_bounds (count g) ds (components g) i)))),
 )

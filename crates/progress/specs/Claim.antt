@@ -31,7 +31,8 @@ claimed_at values entries v = value_or (value_at values v) (entry_at entries v)
 abbrev pub GoesOn : Vertex → Entry → ℕ → Type 0
 GoesOn v x t = Contains v.successors t × (v.owner ≡ Odd → t ≡ x.move)
 
--- From an entry at a vertex of this priority on to t the claimed value is at most the prog of the value there. In the dual game the rank reaches the rank there:
+-- From an entry at a vertex of this priority on to t the claimed value is at most the prog of the value there. In the dual game the rank reaches the rank
+-- there:
 -- it doesn't rise in its counts at or above the priority, and falls in them where the priority is even.
 pub record IsGoodEdge (g : Game) (values : List Measure) (entries : List (Option Entry)) (p : ℕ) (x : Entry) (t : ℕ) : Type 0 where
   pub value : (r : Measure) → IsProg g p (claimed_at values entries t) r → IsAtMost x.value r

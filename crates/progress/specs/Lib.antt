@@ -9,3 +9,5 @@ pub mod View
 pub mod Progs
 pub mod Tables
 pub mod Settling
+pub mod Proposal
+pub mod StoredProposal

@@ -33,6 +33,11 @@ pub record IsSettled (t : Table) : Type 0 where
   pub game : IsGame t.game
   pub least : IsLeastTable t.game t.values
 
+-- a least progress table that is stored in rows of so many counts
+pub record IsStoredSettled (t : Table) (width : ℕ) : Type 0 where
+  pub settled : IsSettled t
+  pub wide : width ≡ length (bounds t.game)
+
 -- whether the opening value of a vertex is top
 abbrev pub IsOpening : Game → ℕ → Bool → Type 0
 IsOpening g v top = (x : Vertex) × (vertex g v ≡ Some x) × (opening_value g v x ≡ (if top then Top else zeros g))

@@ -7,6 +7,7 @@ pub mod measure;
 pub mod observer;
 mod pending;
 pub mod progs;
+pub mod proposal;
 pub mod rank;
 pub mod rows;
 pub mod settle;

@@ -85,7 +85,7 @@ pub(crate) fn is_better(player: Player, order: Ordering) -> bool
 
 // Whether there is a count for each bound, and none above it.
 #[tactic(auto, using(crate::proofs::Within::within_from))]
-fn are_within(counts: &[u32], bounds: &[u32]) -> bool
+pub(crate) fn are_within(counts: &[u32], bounds: &[u32]) -> bool
     ensures { IsTrue result ↔ AllZip (λ count bound. count ≤ bound) counts.now bounds.now }
 {
     if counts.len() != bounds.len() {

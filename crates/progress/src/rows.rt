@@ -1,13 +1,16 @@
 // The measures of many vertices, in one list of counts.
 
-ghost use Rattle.std.specs.Prelude.{◌≡◌, ◌<◌, ◌≤◌, ◌+◌, ◌*◌, ◌++◌, drop, length, map, replicate, slice_set, take, IfOk};
-ghost use Rattle.progress.specs.Measure.{Counts, Top, measure_cmp};
-ghost use Rattle.progress.specs.Progress.{IsBestFor, value_at};
+ghost use Rattle.std.specs.Prelude.{◌≡◌, ◌<◌, ◌≤◌, ◌↔◌, ◌+◌, ◌*◌, ◌++◌, drop, length, map, replicate, slice_set, take, IfOk, IsTrue};
+ghost use Rattle.progress.specs.Measure.{Counts, Top, components, measure_cmp};
+ghost use Rattle.progress.specs.Progress.{IsBestFor, IsTable, value_at};
+ghost use Rattle.progress.specs.Progs.{IsProgUnder};
+ghost use Rattle.progress.specs.Settling.{IsStill};
 ghost use Rattle.std.specs.List.{AllByRecursion};
 ghost use Rattle.progress.specs.View.{ArePut, HasWidth, ReachesAt, Rows, is_top_of, measure_of};
 
 use crate::measure::{COMPONENTS, Measure, compare};
-use crate::progs::is_better;
+use crate::progs::{is_better, prog_of};
+use game::graph::Game;
 use game::limits::MOST_VERTICES;
 use game::player::Player;
 use std::alloc::{AllocError, Global};
@@ -148,6 +151,40 @@ impl Rows {
         }
     }
 
+    /// Whether a measure is nothing but zeros.
+    pub(crate) fn is_zeros(&self, v: usize) -> bool
+        requires { v < length self.now.values }
+        ensures { IsTrue result ↔ (value_at self.now.values v ≡ Counts (replicate self.now.width 0)) }
+    {
+        !self.is_top(v) && are_zeros(self.counts(v))
+    }
+
+    /// What a vertex of this priority asks for where its play goes on at this place, in a game with these bounds.
+    pub(crate) fn prog_of(&self, bounds: &[u32], priority: u8, next: usize) -> Measure
+        requires few { length bounds.now ≤ COMPONENTS }
+        requires width { self.now.width ≡ length bounds.now }
+        requires next { next < length self.now.values }
+        ensures { IsProgUnder bounds.now priority (value_at self.now.values next) result }
+    {
+        if self.is_top(next) {
+            Measure::top()
+        } else {
+            prog_of(bounds, priority, self.counts(next))
+        }
+    }
+
+    /// Whether no lift raises a vertex of a game whose vertices have these measures.
+    pub(crate) fn is_still(&self, game: &Game, v: u32) -> bool
+        requires table { IsTable game.now self.now.values }
+        requires width { length (components game.now) ≡ self.now.width }
+        requires vertex { v < length game.now.vertices }
+        ensures { IsTrue result ↔ IsStill game.now self.now.values v }
+    {
+        game.known();
+        let best = self.best(game.owner(v), game.successors(v));
+        self.reaches(v as usize, best as usize, game.priority(v))
+    }
+
     /// The place with whose measure a player goes on, of some.
     pub(crate) fn best(&self, player: Player, places: &[u32]) -> u32
         requires some { 0 < length places.now }
@@ -196,6 +233,13 @@ impl Rows {
         self.tops[v] = false;
         write_row(self.counts.as_mut_slice(), self.width, v, counts);
     }
+}
+
+// Whether all of the numbers are zero.
+fn are_zeros(numbers: &[u32]) -> bool
+    ensures { IsTrue result ↔ (numbers.now ≡ replicate (length numbers.now) 0) }
+{
+    numbers.iter().all(|number| *number == 0)
 }
 
 // So many of the numbers, after as many for each place before.

@@ -7,7 +7,7 @@ ghost use Rattle.progress.specs.Claim.{AreRaised, Entry, IsGoodAt, IsGoodClaim, 
 ghost use Rattle.progress.specs.Measure.{IsProg, Top};
 ghost use Rattle.progress.specs.Progress.{IsProgress, LiesUnder, greater_of, opening as opening_of, value_at};
 ghost use Rattle.progress.specs.Settling.{IsStill, LiftsAt};
-ghost use Rattle.progress.specs.Tables.{IsOpening, IsPlain, IsSettled, LiesBelow};
+ghost use Rattle.progress.specs.Tables.{IsOpening, IsPlain, IsSettled, IsStoredSettled, LiesBelow};
 
 use crate::bounds::bounds;
 use crate::claim::Claim;
@@ -146,9 +146,7 @@ impl PlainTable {
         requires vertex { v < length game.now.vertices }
         ensures { IsTrue result ↔ IsStill game.now self.now.values v }
     {
-        let best = self.rows.best(game.owner(v), game.successors(v));
-        self.rows
-            .reaches(v as usize, best as usize, game.priority(v))
+        self.rows.is_still(game, v)
     }
 
     // What a vertex of this priority asks for where its play goes on at another vertex.
@@ -308,49 +306,60 @@ impl PlainTable {
         ensures { result ≡ self }
     {
         self.known();
-        Settled { table: self }
+        let PlainTable { rows, of, .. } = self;
+        Settled::of_rows(rows, of)
     }
 }
 
 /// The least progress table of a game.
 #[derive(Drop)]
 pub struct Settled {
-    table: PlainTable,
+    values: Rows,
+    of: Snapshot<Game>,
 }
 
 impl Model for Settled {
-    ghost use Rattle.progress.specs.Tables.{IsSettled, Table};
+    ghost use Rattle.progress.specs.Tables.{IsStoredSettled, Table};
 
     ghost Value = { Table };
 
-    ghost view = { λ s. s.table };
+    ghost view = { λ s. record { game = s.of.value; values = s.values.values } };
 
-    ghost invariant = { λ s. IsSettled s.table };
+    ghost invariant = { λ s. IsStoredSettled record { game = s.of.value; values = s.values.values } s.values.width };
 }
 
 impl Settled {
+    // The least progress table from its rows.
+    pub(crate) fn of_rows(rows: Rows, of: Snapshot<Game>) -> Self
+        requires { IsStoredSettled record { game = of.value; values = rows.values } rows.width }
+        ensures { result ≡ record { game = of.value; values = rows.values } }
+    {
+        Settled { values: rows, of }
+    }
+
     /// Whether the measure of a vertex is top.
     pub fn is_top(&self, v: u32) -> bool
         requires { v < length self.now.game.vertices }
         ensures value { IsTrue result ↔ (value_at self.now.values v ≡ Top) }
         ensures settled { IsSettled self.now }
     {
-        self.table.is_top(v)
+        self.values.is_top(v as usize)
     }
 
     /// What holds of every settled table.
     pub fn known(&self)
         ensures { IsSettled self.now }
     {
-        let _ = &self.table;
+        let _ = &self.values;
     }
 
     /// The measure of a vertex.
+    #[tactic(auto, using(crate::proofs::Plain::bounds_few))]
     pub fn value(&self, v: u32) -> Measure
         requires { v < length self.now.game.vertices }
         ensures value { result ≡ value_at self.now.values v }
         ensures least { IsSettled self.now }
     {
-        self.table.value(v)
+        self.values.value(v as usize)
     }
 }

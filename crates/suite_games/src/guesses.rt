@@ -13,6 +13,7 @@ use measures::guess::{Guess, jump_to_guess, solve_one_by};
 use measures::measure::Measure;
 use measures::observer::Silent;
 use measures::progs::is_measure;
+use measures::proposal::Proposal;
 use measures::settle::{is_settled, settle};
 use measures::table::opening;
 use normal::form::Normal;
@@ -256,11 +257,37 @@ impl Wrong<'_> {
         };
         claim.set(v, &value, next, &rank[..width]);
     }
+
+    // Top is proposed of the vertex, without a reason.
+    fn spoil_proposal(&self, game: &Game, proposal: &mut Proposal, v: u32)
+        requires same { proposal.old.game ≡ game.now }
+        ensures { proposal.new.game ≡ game.now }
+    {
+        let rank = [0; 17];
+        let width = proposal.rank_width();
+        if v < game.vertices() && width <= rank.len() {
+            proposal.put_top(v, 1, &rank[..width]);
+        }
+    }
 }
 
 impl Guess for Wrong<'_> {
     fn parts(&self) -> u32 {
         self.guess.parts()
+    }
+
+    fn propose(&self, game: &Game, proposal: &mut Proposal) -> bool
+        requires { proposal.old.game ≡ game.now }
+        ensures { proposal.new.game ≡ game.now }
+    {
+        let is_whole = self.guess.propose(game, proposal);
+        self.spoil_proposal(game, proposal, self.vertex);
+        if let Fault::Component = self.fault {
+            for v in 0..game.vertices() {
+                self.spoil_proposal(game, proposal, v);
+            }
+        }
+        is_whole
     }
 
     fn claim_part(&self, game: &Game, claim: &mut Claim, part: u32)

@@ -10,7 +10,8 @@ pub returns-then-not-read_rank-clause-fault : goal.returns-then-not-read_rank-cl
 returns-then-not-read_rank-clause-fault c =
     let f = c.in-Some.ensures in
     let read = rw c.if-not-read_rank.true at c.read_rank.ensures in
-    let none : rank_of c.args.entries.now.width c.in-Some.spelled.rank.now ≡ None = subst (λ w. rank_of w c.in-Some.spelled.rank.now ≡ None) c.requires.width read in
+    let none : rank_of c.args.entries.now.width c.in-Some.spelled.rank.now
+    ≡ None = subst (λ w. rank_of w c.in-Some.spelled.rank.now ≡ None) c.requires.width read in
     no_rank c.args.entries.now.width c.args.line.now f.vertex f.move _ f.found none
 
 pub returns-then-not-has_place-clause-fault : goal.returns-then-not-has_place-clause-fault
@@ -18,14 +19,20 @@ returns-then-not-has_place-clause-fault c =
     let f = c.in-Some.ensures in
     let counts = c.read_rank.new.counts in
     let read = rw c.if-not-read_rank.false at c.read_rank.ensures in
-    let some : rank_of c.args.entries.now.width c.in-Some.spelled.rank.now ≡ Some counts = subst (λ w. rank_of w c.in-Some.spelled.rank.now ≡ Some counts) c.requires.width read in
-    (_, shaped c.args.entries.now.width c.args.line.now f.vertex f.move _ f.found counts some, no_place c.args.entries.now.entries c.requires.few _ f.vertex _ f.move f.number f.next (rw c.if-not-has_place.true at c.has_place.ensures))
+    let some : rank_of c.args.entries.now.width c.in-Some.spelled.rank.now
+    ≡ Some counts = subst (λ w. rank_of w c.in-Some.spelled.rank.now ≡ Some counts) c.requires.width read in (
+      _,
+      shaped c.args.entries.now.width c.args.line.now f.vertex f.move _ f.found counts some,
+      no_place c.args.entries.now.entries c.requires.few _ f.vertex _ f.move f.number f.next (rw c.if-not-has_place.true at c.has_place.ensures),
+    )
 
 pub returns-clause-added : goal.returns-clause-added
 returns-clause-added c =
     let f = c.in-Some.ensures in
     let counts = c.read_rank.new.counts in
     let read = rw c.if-not-read_rank.false at c.read_rank.ensures in
-    let some : rank_of c.args.entries.now.width c.in-Some.spelled.rank.now ≡ Some counts = subst (λ w. rank_of w c.in-Some.spelled.rank.now ≡ Some counts) c.requires.width read in
-    placed c.args.entries.now.entries c.requires.few _ f.vertex _ f.move f.number f.next (rw c.if-not-has_place.false at c.has_place.ensures) c.args.entries.now.width c.args.line.now counts c.set.new.self
+    let some : rank_of c.args.entries.now.width c.in-Some.spelled.rank.now
+    ≡ Some counts = subst (λ w. rank_of w c.in-Some.spelled.rank.now ≡ Some counts) c.requires.width read in
+    placed c.args.entries.now.entries c.requires.few _ f.vertex _ f.move f.number f.next
+    (rw c.if-not-has_place.false at c.has_place.ensures) c.args.entries.now.width c.args.line.now counts c.set.new.self
     (shaped c.args.entries.now.width c.args.line.now f.vertex f.move _ f.found counts some) c.set.ensures

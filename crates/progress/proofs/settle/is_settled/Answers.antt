@@ -6,8 +6,11 @@ pub returns-then-not-is_still : goal.returns-then-not-is_still
 returns-then-not-is_still c =
     let g = c.args.game.now in
     let t = c.args.table.now in
-    let plain = move_plain g t c.known.ensures c.requires in
-    ((λ f. absurd (true≢false (sym f))), (λ progress. sym c.if-not-is_still.true ∙ c.is_still.ensures.1 (progress_still g t.values plain.game progress c.loop-v.v (omega arith))))
+    let plain = move_plain g t c.known.ensures c.requires in (
+      (λ f. absurd (true≢false (sym f))),
+      (λ progress. sym c.if-not-is_still.true
+          ∙ c.is_still.ensures.1 (progress_still g t.values plain.game progress c.loop-v.v (omega arith))),
+    )
 
 pub loop-v-preserved : goal.loop-v-preserved
 loop-v-preserved c = below_more (IsStill c.args.game.now c.args.table.now.values) c.loop-v.v c.loop-v.invariant (c.is_still.ensures.0 c.if-not-is_still.false)

@@ -8,7 +8,10 @@ pub returns-in_err-put_number-in-Some : goal.returns-in_err-put_number-in-Some
 returns-in_err-put_number-in-Some g c =
     let first = codes "(" ++ decimal c.in-Some.first.now in
     let whole = counts_begin c.args.counts.now c.in-Some.first.now c.in-Some.rest.now c.in-Some.ensures.cases.0 in
-    record { wrote = Wrote-as _ _ _ _ _ whole (Wrote-err _ _ _ _ c.from_residual.ensures.0 (WroteFront-more _ _ first _ c.in_err-put_number-in-Some.ensures.wrote)) }
+    record {
+      wrote = Wrote-as _ _ _ _ _ whole (Wrote-err _ _ _ _ c.from_residual.ensures.0
+          (WroteFront-more _ _ first _ c.in_err-put_number-in-Some.ensures.wrote));
+    }
 
 pub returns-in_err-put_more-in-Some : goal.returns-in_err-put_more-in-Some
 returns-in_err-put_more-in-Some g c =
@@ -17,7 +20,8 @@ returns-in_err-put_more-in-Some g c =
     record {
       wrote = Wrote-as _ _ _ _ _ whole
           (Wrote-err _ _ _ _ c.from_residual-in_err-put_more-in-Some.ensures.0
-          (WroteFront-after _ _ _ first _ c.in_ok-put_number-in-Some.ensures.wrote (WroteFront-more _ _ (flat_map more c.in-Some.rest.now) _ c.in_err-put_more-in-Some.ensures)));
+          (WroteFront-after _ _ _ first _ c.in_ok-put_number-in-Some.ensures.wrote
+          (WroteFront-more _ _ (flat_map more c.in-Some.rest.now) _ c.in_err-put_more-in-Some.ensures)));
     }
 
 pub returns-in_ok-put_more-in-Some : goal.returns-in_ok-put_more-in-Some
@@ -26,5 +30,6 @@ returns-in_ok-put_more-in-Some g c =
     let whole = counts_begin c.args.counts.now c.in-Some.first.now c.in-Some.rest.now c.in-Some.ensures.cases.0 in
     record {
       wrote = Wrote-as _ _ _ _ _ whole
-          (Wrote-after _ _ _ first _ _ c.in_ok-put_number-in-Some.ensures.wrote (Wrote-after _ _ _ (flat_map more c.in-Some.rest.now) _ _ c.in_ok-put_more-in-Some.ensures c.put-in-Some.ensures.wrote));
+          (Wrote-after _ _ _ first _ _ c.in_ok-put_number-in-Some.ensures.wrote
+          (Wrote-after _ _ _ (flat_map more c.in-Some.rest.now) _ _ c.in_ok-put_more-in-Some.ensures c.put-in-Some.ensures.wrote));
     }

@@ -1,4 +1,5 @@
-use Rattle.progress.proofs.Common.{◌≡◌, ◌+◌, ◌<◌, ◌∙◌, ℕ, ap, arith, length, map, slice_index_or, subst, sym, take, true≢false, get_or-map, length-map, All-from_recursion, Measure, Top, measure_cmp, IsBestFor, value_at}
+use Rattle.progress.proofs.Common.{◌≡◌, ◌+◌, ◌<◌, ◌∙◌, ℕ, ap, arith, length, map, slice_index_or, subst, sym, take, true≢false, get_or-map, length-map}
+use Rattle.progress.proofs.Common.{All-from_recursion, Measure, Top, measure_cmp, IsBestFor, value_at}
 use Rattle.progress.proofs.Bests.{best_first, best_next_left, best_next_taken}
 use Rattle.progress.proofs.rows.Rows.best.Goals as goal
 use Rattle.progress.proofs.rows.Rows.best.Goals.{then-is_better, else-is_better}
@@ -22,10 +23,12 @@ loop-k-preserved c =
     let here : k < length places = omega arith in
     let long : k < length ms = let l = length-map places value in omega arith in
     let at = get_or-map value places k 0 Top here in
-    let order : c.compare.result ≡ measure_cmp (slice_index_or ms k Top) (value c.loop-k.best) = c.compare.ensures ∙ ap (λ (m : Measure). measure_cmp m (value c.loop-k.best)) (sym at) in
+    let order : c.compare.result ≡ measure_cmp (slice_index_or ms k Top) (value c.loop-k.best) = c.compare.ensures
+    ∙ ap (λ (m : Measure). measure_cmp m (value c.loop-k.best)) (sym at) in
     elim c.if-is_better.branch [
       | then-is_better w ↦ record {
-        inside = subst (λ (b : ℕ). b < length c.args.self.now.values) (sym w.best-is) (All-from_recursion (λ t. t < length c.args.self.now.values) places c.requires.inside k 0 here);
+        inside = subst (λ (b : ℕ). b < length c.args.self.now.values) (sym w.best-is)
+            (All-from_recursion (λ t. t < length c.args.self.now.values) places c.requires.inside k 0 here);
         best = subst (λ (b : ℕ). IsBestFor c.args.player (take (k + 1) ms) (value b)) (sym w.best-is)
             (subst (λ (m : Measure). IsBestFor c.args.player (take (k + 1) ms) m) at
             (best_next_taken c.args.player ms k (value c.loop-k.best) long c.loop-k.invariant.best (rw order at (c.is_better.ensures.0 w.if-is_better.true))));
@@ -33,9 +36,11 @@ loop-k-preserved c =
       | else-is_better w ↦ record {
         inside = subst (λ (b : ℕ). b < length c.args.self.now.values) (sym w.best-is) c.loop-k.invariant.inside;
         best = subst (λ (b : ℕ). IsBestFor c.args.player (take (k + 1) ms) (value b)) (sym w.best-is)
-            (best_next_left c.args.player ms k (value c.loop-k.best) long c.loop-k.invariant.best (λ better. true≢false (sym (c.is_better.ensures.1 (rw (← order) at better)) ∙ w.if-is_better.false)));
+            (best_next_left c.args.player ms k (value c.loop-k.best) long c.loop-k.invariant.best
+            (λ better. true≢false (sym (c.is_better.ensures.1 (rw (← order) at better)) ∙ w.if-is_better.false)));
       }
     ]
 
 pub compare-requires-clause-first : goal.compare-requires-clause-first
-compare-requires-clause-first c = All-from_recursion (λ t. t < length c.args.self.now.values) c.args.places.now c.requires.inside c.loop-k.k 0 c.loop-k-test.true
+compare-requires-clause-first c = All-from_recursion
+    (λ t. t < length c.args.self.now.values) c.args.places.now c.requires.inside c.loop-k.k 0 c.loop-k-test.true

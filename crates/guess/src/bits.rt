@@ -1,0 +1,208 @@
+// Sets of states, one for each node, as bits.
+
+use std::alloc::{AllocError, Global};
+
+/// How many states have their bits in one word.
+pub(crate) const WORD: u32 = 64;
+
+/// The bit of a state in its word.
+pub(crate) fn bit(state: u32) -> u64 {
+    1_u64 << (state % WORD)
+}
+
+/// How many words hold so many bits.
+pub(crate) fn words_for(bits: u32) -> u32 {
+    bits.div_ceil(WORD)
+}
+
+/// A set for each node. Past the last word nothing is read but zero, and nothing is written.
+#[derive(Drop)]
+pub(crate) struct Sheet {
+    words: Vec<u64>,
+    width: u32,
+    // The bits of the last word that are states.
+    tail: u64,
+}
+
+impl Sheet {
+    /// Empty sets of states below this number, for so many nodes.
+    pub(crate) fn new(alloc: Global, nodes: u32, states: u32) -> Result<Self, AllocError> {
+        let width = words_for(states);
+        let length = (nodes as usize).saturating_mul(width as usize);
+        let rest = states % WORD;
+        let tail = if rest == 0 {
+            u64::MAX
+        } else {
+            bit(rest).wrapping_sub(1)
+        };
+        Ok(Sheet {
+            words: vec![in alloc; 0; length]?,
+            width,
+            tail,
+        })
+    }
+
+    /// How many words a set has.
+    pub(crate) fn width(&self) -> u32 {
+        self.width
+    }
+
+    /// All states of a word.
+    pub(crate) fn full(&self, word: u32) -> u64 {
+        if word.saturating_add(1) == self.width {
+            self.tail
+        } else {
+            u64::MAX
+        }
+    }
+
+    fn place(&self, node: u32, word: u32) -> usize {
+        node.wrapping_mul(self.width).wrapping_add(word) as usize
+    }
+
+    pub(crate) fn word(&self, node: u32, word: u32) -> u64 {
+        let place = self.place(node, word);
+        self.words.get(place).copied().unwrap_or(0)
+    }
+
+    pub(crate) fn set_word(&mut self, node: u32, word: u32, bits: u64) {
+        let place = self.place(node, word);
+        if let Some(item) = self.words.get_mut(place) {
+            *item = bits;
+        }
+    }
+
+    /// Adds the states of a word.
+    pub(crate) fn add(&mut self, node: u32, word: u32, bits: u64) {
+        let place = self.place(node, word);
+        if let Some(item) = self.words.get_mut(place) {
+            *item |= bits;
+        }
+    }
+
+    /// Takes the states of a word away.
+    pub(crate) fn remove(&mut self, node: u32, word: u32, bits: u64) {
+        let place = self.place(node, word);
+        if let Some(item) = self.words.get_mut(place) {
+            *item &= !bits;
+        }
+    }
+
+    pub(crate) fn has(&self, node: u32, state: u32) -> bool {
+        self.word(node, state / WORD) & bit(state) != 0
+    }
+
+    /// Makes a node's set all states, or none.
+    pub(crate) fn fill(&mut self, node: u32, is_in: bool) {
+        for word in 0..self.width {
+            let bits = if is_in { self.full(word) } else { 0 };
+            self.set_word(node, word, bits);
+        }
+    }
+
+    // The first bit of a set from one on that is in the same word.
+    fn first_within(&self, node: u32, from: u32) -> Option<u32> {
+        let before = bit(from).wrapping_sub(1);
+        let rest = self.word(node, from / WORD) & !before;
+        if rest == 0 {
+            return None;
+        }
+        let start = (from / WORD).wrapping_mul(WORD);
+        Some(start.wrapping_add(rest.trailing_zeros()))
+    }
+}
+
+/// A set for each node, of which few or many states are gone through in order.
+#[derive(Drop)]
+pub(crate) struct Fronts {
+    bits: Sheet,
+    // Which words have bits, and which words of that have some.
+    words: Sheet,
+    blocks: Sheet,
+}
+
+impl Fronts {
+    pub(crate) fn new(alloc: Global, nodes: u32, states: u32) -> Result<Self, AllocError> {
+        let words = words_for(states);
+        Ok(Fronts {
+            bits: Sheet::new(alloc, nodes, states)?,
+            words: Sheet::new(alloc, nodes, words)?,
+            blocks: Sheet::new(alloc, nodes, words_for(words))?,
+        })
+    }
+
+    pub(crate) fn word(&self, node: u32, word: u32) -> u64 {
+        self.bits.word(node, word)
+    }
+
+    pub(crate) fn has(&self, node: u32, state: u32) -> bool {
+        self.bits.has(node, state)
+    }
+
+    pub(crate) fn add(&mut self, node: u32, word: u32, bits: u64) {
+        let old = self.bits.word(node, word);
+        self.bits.set_word(node, word, old | bits);
+        if old == 0 && bits != 0 {
+            self.words.add(node, word / WORD, bit(word));
+            self.blocks.add(node, word / WORD / WORD, bit(word / WORD));
+        }
+    }
+
+    pub(crate) fn add_state(&mut self, node: u32, state: u32) {
+        self.add(node, state / WORD, bit(state));
+    }
+
+    // The first block of words from one on that isn't empty.
+    fn next_block(&self, node: u32, from: u32) -> Option<u32> {
+        if let Some(block) = self.blocks.first_within(node, from) {
+            return Some(block);
+        }
+        for word in (from / WORD).saturating_add(1)..self.blocks.width() {
+            if let Some(block) = self.blocks.first_within(node, word.wrapping_mul(WORD)) {
+                return Some(block);
+            }
+        }
+        None
+    }
+
+    /// The first word of a node's set from one on that isn't empty.
+    pub(crate) fn next(&self, node: u32, from: u32) -> Option<u32> {
+        if let Some(word) = self.words.first_within(node, from) {
+            return Some(word);
+        }
+        let block = self.next_block(node, (from / WORD).saturating_add(1))?;
+        self.words.first_within(node, block.wrapping_mul(WORD))
+    }
+
+    pub(crate) fn is_empty(&self, node: u32) -> bool {
+        self.next(node, 0).is_none()
+    }
+
+    pub(crate) fn count(&self, node: u32) -> u32 {
+        let mut count = 0_u32;
+        let mut from = 0;
+        for _ in 0..=self.bits.width() {
+            let Some(word) = self.next(node, from) else {
+                break;
+            };
+            count = count.saturating_add(self.word(node, word).count_ones());
+            from = word.saturating_add(1);
+        }
+        count
+    }
+
+    /// Makes a node's set empty.
+    pub(crate) fn clear(&mut self, node: u32) {
+        for _ in 0..=self.bits.width() {
+            let Some(word) = self.next(node, 0) else {
+                return;
+            };
+            self.bits.set_word(node, word, 0);
+            self.words.remove(node, word / WORD, bit(word));
+            if self.words.word(node, word / WORD) == 0 {
+                self.blocks
+                    .remove(node, word / WORD / WORD, bit(word / WORD));
+            }
+        }
+    }
+}
