@@ -35,7 +35,10 @@ module _ (l : System) (ok : IsSystem l) (scope : Scope) (name : List ℕ) (f : F
 
     pub reach : (k : ℕ) → l.states ≤ k → (s : ℕ) → s < l.states
         → (iterate k (body l f e name) (λ t. ⊥) s ↔ mean l (Mu name f) e s) × (iterate k (body l f e name) (λ t. Unit {0}) s ↔ mean l (Nu name f) e s)
-    reach k le s lt = (low_reached l.states (body l f e name) body_grows body_decides k le s lt, high_reached l.states (body l f e name) body_grows body_decides k le s lt)
+    reach k le s lt = (
+      low_reached l.states (body l f e name) body_grows body_decides k le s lt,
+      high_reached l.states (body l f e name) body_grows body_decides k le s lt,
+    )
 
   pub mu_least : (U : ℕ → Type 0) → IsWithin l.states (body l f e name U) U → IsWithin l.states (mean l (Mu name f) e) U
   mu_least U closed = in_closed l.states (body l f e name) body_grows U closed l.states

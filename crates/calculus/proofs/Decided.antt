@@ -37,7 +37,8 @@ module _ (n : ℕ) where
   same_decided : (P Q : ℕ → Type 0) → ((s : ℕ) → s < n → P s ↔ Q s) → IsDecided n P → IsDecided n Q
   same_decided P Q same (u, h) = (u, λ s lt. (λ e. (same s lt).0 ((h s lt).0 e), λ q. (h s lt).1 ((same s lt).1 q)))
 
-  iterates_told : (k : ℕ) (P : ℕ → Type 0) → IsDecided n P → (F : (ℕ → Type 0) → ℕ → Type 0) → ((U : ℕ → Type 0) → IsDecided n U → IsDecided n (F U)) → IsDecided n (iterate k F P)
+  iterates_told : (k : ℕ) (P : ℕ → Type 0) → IsDecided n P → (F : (ℕ → Type 0) → ℕ → Type 0) → ((U : ℕ → Type 0) → IsDecided n U → IsDecided n (F U))
+      → IsDecided n (iterate k F P)
   iterates_told zero P p F step = p
   iterates_told (suc k) P p F step = step (iterate k F P) (iterates_told k P p F step)
 
@@ -56,7 +57,8 @@ module _ (l : System) (ok : IsSystem l) where
   )
 
   -- any number of steps: the iterates of one more
-  module _ (r : Regular) (decides : (V : ℕ → Type 0) → IsDecided l.states V → IsDecided l.states (IntoSet l r V)) (U : ℕ → Type 0) (told : IsDecided l.states U) where
+  module _ (r : Regular) (decides : (V : ℕ → Type 0) → IsDecided l.states V → IsDecided l.states (IntoSet l r V)) (U : ℕ → Type 0)
+      (told : IsDecided l.states U) where
     wave : (ℕ → Type 0) → ℕ → Type 0
     wave V s = U s ⊎ IntoSet l r V s
 
@@ -94,7 +96,10 @@ module _ (l : System) (ok : IsSystem l) where
       (into_decided r (IntoSet l q U) (into_decided q U u))
   into_decided (Either r q) U u =
       same_decided l.states (λ s. IntoSet l r U s ⊎ IntoSet l q U s) (IntoSet l (Either r q) U)
-      (λ s lt. (λ w. elim w [ inl x ↦ (x.0, inl x.1, x.2) | inr x ↦ (x.0, inr x.1, x.2) ], λ w. elim (w.1) [ inl x ↦ inl (w.0, x, w.2) | inr x ↦ inr (w.0, x, w.2) ]))
+      (λ s lt. (
+        λ w. elim w [ inl x ↦ (x.0, inl x.1, x.2) | inr x ↦ (x.0, inr x.1, x.2) ],
+        λ w. elim (w.1) [ inl x ↦ inl (w.0, x, w.2) | inr x ↦ inr (w.0, x, w.2) ],
+      ))
       (or_decided l.states (IntoSet l r U) (IntoSet l q U) (into_decided r U u) (into_decided q U u))
   into_decided (Star r) U u = star_decided r (into_decided r) U u
   into_decided (Plus r) U u =
@@ -107,7 +112,8 @@ module _ (l : System) (ok : IsSystem l) where
   Told e = (name : List ℕ) → IsDecided l.states (e name)
 
   pub with_told : (e : Env) (name : List ℕ) (U : ℕ → Type 0) → IsDecided l.states U → Told e → Told (with_set e name U)
-  with_told e name U u told other = elim (bytes_eq other name) as (λ b. IsDecided l.states (λ s. MatchBool b (U s) (e other s))) [ true ↦ u | false ↦ told other ]
+  with_told e name U u told other = elim (bytes_eq other name) as (λ b. IsDecided l.states (λ s. MatchBool b (U s) (e other s)))
+      [ true ↦ u | false ↦ told other ]
 
   pub mean_decided : (f : Formula) (e : Env) → Told e → IsDecided l.states (mean l f e)
   mean_decided True e told = (λ s. true, λ s lt. (λ _. tt, λ _. refl))
@@ -121,9 +127,13 @@ module _ (l : System) (ok : IsSystem l) where
   mean_decided (Box r f) e told =
       same_decided l.states (λ s. IntoSet l r (λ t. mean l f e t → ⊥) s → ⊥) (mean l (Box r f) e)
       (λ s lt. (
-        λ no t go. let w = mean_decided f e told in of_all (w.0 t) (mean l f e t) (w.1 t (leads_inside l ok r s t lt go)) (λ out. no (t, go, λ m. none_of (w.0 t) out ((w.1 t (leads_inside l ok r s t lt go)).1 m))),
+        λ no t go. let w = mean_decided f e told in of_all (w.0 t) (mean l f e t) (w.1 t (leads_inside l ok r s t lt go))
+            (λ out. no (t, go, λ m. none_of (w.0 t) out ((w.1 t (leads_inside l ok r s t lt go)).1 m))),
         λ all w. w.2 (all w.0 w.1),
       ))
-      (not_decided l.states (IntoSet l r (λ t. mean l f e t → ⊥)) (into_decided r (λ t. mean l f e t → ⊥) (not_decided l.states (mean l f e) (mean_decided f e told))))
-  mean_decided (Mu name f) e told = iterates_told l.states l.states (λ t. ⊥) (λ s. false, λ s lt. (false_is_none, λ no. absurd no)) (λ set. mean l f (with_set e name set)) (λ U u. mean_decided f (with_set e name U) (with_told e name U u told))
-  mean_decided (Nu name f) e told = iterates_told l.states l.states (λ t. Unit {0}) (λ s. true, λ s lt. (λ _. tt, λ _. refl)) (λ set. mean l f (with_set e name set)) (λ U u. mean_decided f (with_set e name U) (with_told e name U u told))
+      (not_decided l.states (IntoSet l r (λ t. mean l f e t → ⊥))
+      (into_decided r (λ t. mean l f e t → ⊥) (not_decided l.states (mean l f e) (mean_decided f e told))))
+  mean_decided (Mu name f) e told = iterates_told l.states l.states (λ t. ⊥) (λ s. false, λ s lt. (false_is_none, λ no. absurd no))
+      (λ set. mean l f (with_set e name set)) (λ U u. mean_decided f (with_set e name U) (with_told e name U u told))
+  mean_decided (Nu name f) e told = iterates_told l.states l.states (λ t. Unit {0}) (λ s. true, λ s lt. (λ _. tt, λ _. refl))
+      (λ set. mean l f (with_set e name set)) (λ U u. mean_decided f (with_set e name U) (with_told e name U u told))

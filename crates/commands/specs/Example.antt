@@ -7,7 +7,8 @@ use Rattle.lts.specs.Canon.{line_end}
 use Rattle.commands.specs.CommandLine.{Choice, mucheck_app, number_in, stands}
 use Rattle.commands.specs.Winners.{winners_text}
 
-winners_of_two : winners_text (true ∷ false ∷ []) ≡ codes "vertices 2" ++ line_end ++ codes "even 1" ++ line_end ++ codes "0 even" ++ line_end ++ codes "1 odd" ++ line_end
+winners_of_two : winners_text (true ∷ false ∷ []) ≡ codes "vertices 2" ++ line_end ++ codes "even 1" ++ line_end ++ codes "0 even" ++ line_end
+    ++ codes "1 odd" ++ line_end
 unfolding digits
 winners_of_two = refl
 
@@ -30,7 +31,12 @@ plain_check rules boards = refl
 
 -- the files of a check, and its numbers of workers and of shards
 abbrev numbers_of_check : List Row → Option Text × Option Text × ℕ × ℕ
-numbers_of_check rows = (first_of (codes "SYSTEM") rows, first_of (codes "FORMULA") rows, number_in rows (codes "workers") 1, number_in rows (codes "shards") 16)
+numbers_of_check rows = (
+  first_of (codes "SYSTEM") rows,
+  first_of (codes "FORMULA") rows,
+  number_in rows (codes "workers") 1,
+  number_in rows (codes "shards") 16,
+)
 
 -- mucheck check --workers=4 a.aut b.mcf
 check_by_four : (rules boards : Choice)

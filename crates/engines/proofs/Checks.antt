@@ -11,10 +11,12 @@ use Rattle.calculus.specs.Tree.{Formula}
 use Rattle.requests.specs.declared.error.MuError.{MuError}
 use Rattle.requests.specs.declared.error.MuError.TheVariants as error
 use Rattle.normal.specs.declared.priorities.Priorities.{Priorities}
-use Rattle.requests.specs.Check.{IsArenaOf, Way, BySets, ByGame, IsErrorOf, Answers, AreSpelled, AreMarks, IsBeyond, IsTextOf, IsWithin, SpellsSystem, HasRefused}
+use Rattle.requests.specs.Check.{IsArenaOf, Way, BySets, ByGame, IsErrorOf, Answers, AreSpelled, AreMarks, IsBeyond, IsTextOf, IsWithin, SpellsSystem}
+use Rattle.requests.specs.Check.{HasRefused}
 use Rattle.requests.specs.declared.request.WitnessForm.{WitnessForm}
 use Rattle.requests.specs.declared.request.WitnessForm.TheVariants.{System as AsSystem, Drawing}
-use Rattle.requests.specs.Writers.{EvenText, WitnessText, DrawingText, Lent, IsLentFor, Unasked, AreKept, AreWritten, IsWhole, all_writers, kind_where, lent_for, report_writer, witness_kind}
+use Rattle.requests.specs.Writers.{EvenText, WitnessText, DrawingText, Lent, IsLentFor, Unasked, AreKept, AreWritten, IsWhole, all_writers, kind_where}
+use Rattle.requests.specs.Writers.{lent_for, report_writer, witness_kind}
 use Rattle.requests.specs.Texts.{IsFormulaOf, IsReadRefusal}
 use Rattle.requests.specs.declared.request.Wanted.{Wanted}
 use Rattle.engines.specs.Findings.{AreFindings, IsTextFound, IsUnprepared, IsUnshown, formula_of, system_of, way_in}
@@ -26,7 +28,8 @@ use Rattle.requests.specs.declared.texts.Texts.{Texts}
 use Rattle.calculus.specs.Closed.{closed_formula}
 
 -- That a limit is passed is told where both texts are spelled.
-pub beyond_of : (rule : Priorities) (board : Option BoardKind) (first second : List ℕ) (writers : List Lent) (l : System) (f : Formula) (e : MuError) → AreSpelled first second l f
+pub beyond_of : (rule : Priorities) (board : Option BoardKind) (first second : List ℕ) (writers : List Lent) (l : System) (f : Formula) (e : MuError)
+    → AreSpelled first second l f
     → IsBeyond (ByGame rule board) l f e → AreKept writers → HasRefused (ByGame rule board) first second writers e
 beyond_of rule board first second writers l f error.Memory spelled h kept = ((l, spelled.system.spelled), kept)
 beyond_of rule board first second writers l f (error.Normal e) spelled h kept = (record { l = l; f = f; spelled = spelled; beyond = h }, kept)
@@ -44,7 +47,8 @@ beyond_of rule board first second writers l f (error.Schedule e) spelled h kept 
 beyond_of rule board first second writers l f (error.Write e) spelled h kept = absurd h
 
 -- What is beyond a limit before a board is asked for is so whatever board is.
-pub beyond_any : (rule : Priorities) (board : Option BoardKind) (l : System) (f : Formula) (e : MuError) → IsBeyond (ByGame rule None) l f e → IsBeyond (ByGame rule board) l f e
+pub beyond_any : (rule : Priorities) (board : Option BoardKind) (l : System) (f : Formula) (e : MuError) → IsBeyond (ByGame rule None) l f e
+    → IsBeyond (ByGame rule board) l f e
 beyond_any rule board l f error.Memory h = tt
 beyond_any rule board l f (error.Normal e) h = h
 beyond_any rule board l f (error.Build e) h = h
@@ -61,7 +65,8 @@ beyond_any rule board l f (error.Schedule e) h = absurd h
 beyond_any rule board l f (error.Write e) h = absurd h
 
 -- A game that isn't solved is one that was made.
-pub beyond_board : (rule : Priorities) (kind : BoardKind) (l : System) (f : Formula) (g : Game) (e : MuError) → IsArenaOf rule l f g → IsUnsolved (Some kind) g e
+pub beyond_board : (rule : Priorities) (kind : BoardKind) (l : System) (f : Formula) (g : Game) (e : MuError) → IsArenaOf rule l f g
+    → IsUnsolved (Some kind) g e
     → IsBeyond (ByGame rule (Some kind)) l f e
 beyond_board rule kind l f g error.Memory is h = tt
 beyond_board rule kind l f g (error.Table e) is h = (is.within, subst (λ x. IsUnsolved (Some kind) x (error.Table e)) is.same h)
@@ -79,19 +84,23 @@ beyond_board rule kind l f g (error.Schedule e) is h = absurd h
 beyond_board rule kind l f g (error.Write e) is h = absurd h
 
 -- What was read is what something is made of.
-pub spelled_by : {T : Type 0} → (texts_of : T → Texts) (first second : List ℕ) (texts : Texts) (r : Result T MuError) → AreSpelled first second texts.system.system (closed_formula texts.formula)
+pub spelled_by : {T : Type 0} → (texts_of : T → Texts) (first second : List ℕ) (texts : Texts) (r : Result T MuError)
+    → AreSpelled first second texts.system.system (closed_formula texts.formula)
     → IfOk r (λ x. texts_of x ≡ texts) → IfOk r (λ x. AreSpelled first second (texts_of x).system.system (closed_formula (texts_of x).formula))
 spelled_by texts_of first second texts (Ok x) h e = subst (λ (t : Texts). AreSpelled first second t.system.system (closed_formula t.formula)) (sym e) h
 spelled_by texts_of first second texts (Err e) h same = tt
 
 -- None of the writers of all texts was written to.
-pub kept_writers : (wanted : Wanted) (game even odd witness out : Option (List ℕ)) → AreKept (all_writers wanted game game even even odd odd witness witness out out)
+pub kept_writers : (wanted : Wanted) (game even odd witness out : Option (List ℕ))
+    → AreKept (all_writers wanted game game even even odd odd witness witness out out)
 kept_writers wanted game even odd witness out = (Keeps-refl game, (Keeps-refl even, (Keeps-refl odd, (Keeps-refl witness, (Keeps-refl out, tt)))))
 
 -- No writer was written to before all that is wanted was made, which there was no memory for.
-pub unprepared_of : (x : Findings) (wanted : Wanted) (first second : List ℕ) (writers : List Lent) (e : MuError) → AreSpelled first second (system_of x) (formula_of x)
+pub unprepared_of : (x : Findings) (wanted : Wanted) (first second : List ℕ) (writers : List Lent) (e : MuError)
+    → AreSpelled first second (system_of x) (formula_of x)
     → AreFindings x → AreKept writers → (IsTrue wanted.evidence → IsLentFor EvenText writers)
-    → (IsTrue (is_some wanted.witness) → IsLentFor WitnessText writers ⊎ IsLentFor DrawingText writers) → IsUnprepared x wanted e → HasRefused (way_in x) first second writers e
+    → (IsTrue (is_some wanted.witness) → IsLentFor WitnessText writers ⊎ IsLentFor DrawingText writers) → IsUnprepared x wanted e
+    → HasRefused (way_in x) first second writers e
 unprepared_of x wanted first second writers e spelled found kept even witness (inl (asked, is)) =
     subst (HasRefused (way_in x) first second writers) (sym is)
     (record { l = system_of x; f = formula_of x; spelled = spelled; within = found.marks.within; needed = inl (even asked); memory = refl }, kept)
@@ -115,22 +124,34 @@ unprepared_of x wanted first second writers e spelled found kept even witness (i
     unshown (error.Write e) h = absurd h
 
 -- What was found one way is found an equal way.
-pub by_way : (p q : Way) (first second : List ℕ) (writers : List Lent) (r : Result Bool MuError) → p ≡ q → Answers p first second writers r → Answers q first second writers r
+pub by_way : (p q : Way) (first second : List ℕ) (writers : List Lent) (r : Result Bool MuError) → p ≡ q → Answers p first second writers r
+    → Answers q first second writers r
 by_way p q first second writers r e h = subst (λ x. Answers x first second writers r) e h
 
 -- An answer that was written, or begun.
-pub answer_of : (way : Way) (first second : List ℕ) (writers : List Lent) (l : System) (f : Formula) (marks : List Bool) (wrote : Result Unit WriteFault) (r : Result Bool MuError)
+pub answer_of : (way : Way) (first second : List ℕ) (writers : List Lent) (l : System) (f : Formula) (marks : List Bool) (wrote : Result Unit WriteFault)
+    (r : Result Bool MuError)
     → AreSpelled first second l f → AreMarks way l f marks → AreWritten (IsTextOf way l f marks) writers wrote
     → MatchResult wrote (λ x. r ≡ Ok (slice_index_or marks l.initial false)) (λ fault. r ≡ Err (error.Write fault)) → Answers way first second writers r
 answer_of way first second writers l f marks (Ok x) r spelled found written e =
-    subst (Answers way first second writers) (sym e) (record { l = l; f = f; marks = marks; spelled = spelled; found = found; written = written; answered = refl })
+    subst (Answers way first second writers) (sym e) (record {
+      l = l;
+      f = f;
+      marks = marks;
+      spelled = spelled;
+      found = found;
+      written = written;
+      answered = refl;
+    })
 answer_of way first second writers l f marks (Err fault) r spelled found begun e =
     subst (Answers way first second writers) (sym e) (record { l = l; f = f; marks = marks; spelled = spelled; found = found; begun = begun })
 
 -- The same of what was found out.
-pub found_answer : (x : Findings) (way : Way) (first second : List ℕ) (writers : List Lent) (wrote : Result Unit WriteFault) (r : Result Bool MuError) → way_in x ≡ way → AreFindings x
+pub found_answer : (x : Findings) (way : Way) (first second : List ℕ) (writers : List Lent) (wrote : Result Unit WriteFault) (r : Result Bool MuError)
+    → way_in x ≡ way → AreFindings x
     → AreSpelled first second (system_of x) (formula_of x) → AreWritten (IsTextFound x) writers wrote
-    → MatchResult wrote (λ _. r ≡ Ok (slice_index_or x.marks.items (system_of x).initial false)) (λ fault. r ≡ Err (error.Write fault)) → Answers way first second writers r
+    → MatchResult wrote (λ _. r ≡ Ok (slice_index_or x.marks.items (system_of x).initial false)) (λ fault. r ≡ Err (error.Write fault))
+    → Answers way first second writers r
 found_answer x way first second writers wrote r e found spelled written answered =
     by_way (way_in x) way first second writers r e
     (answer_of (way_in x) first second writers (system_of x) (formula_of x) x.marks.items wrote r spelled found.marks written answered)
@@ -142,10 +163,12 @@ witness_lent (Some AsSystem) h = inl refl
 witness_lent (Some Drawing) h = inr refl
 
 -- Nothing was written where what is wanted could not be made.
-pub unprepared_all : (x : Findings) (wanted : Wanted) (first second : List ℕ) (game even odd witness out : Option (List ℕ)) (e : MuError) → AreSpelled first second (system_of x) (formula_of x)
+pub unprepared_all : (x : Findings) (wanted : Wanted) (first second : List ℕ) (game even odd witness out : Option (List ℕ)) (e : MuError)
+    → AreSpelled first second (system_of x) (formula_of x)
     → AreFindings x → IsUnprepared x wanted e → HasRefused (way_in x) first second (all_writers wanted game game even even odd odd witness witness out out) e
 unprepared_all x wanted first second game even odd witness out e spelled found is =
-    unprepared_of x wanted first second (all_writers wanted game game even even odd odd witness witness out out) e spelled found (kept_writers wanted game even odd witness out)
+    unprepared_of x wanted first second (all_writers wanted game game even even odd odd witness witness out out) e spelled found
+    (kept_writers wanted game even odd witness out)
     (λ h. inr (inl (ap (λ b. kind_where b EvenText) h)))
     (λ h. elim (witness_lent wanted.witness h) [
       | inl k ↦ inl (inr (inr (inr (inl k))))
@@ -157,8 +180,13 @@ alone_kept : (game even odd witness old new : Option (List ℕ)) → AreKept (re
 alone_kept game even odd witness old new h = (Keeps-refl game, (Keeps-refl even, (Keeps-refl odd, (Keeps-refl witness, h))))
 
 -- By sets of states the report alone is written.
-pub alone_of : (first second : List ℕ) (game even odd witness old new : Option (List ℕ)) (r : Result Bool MuError) → Answers BySets first second (report_writer old new) r → IfErr r (IsErrorOf BySets)
-    → Answers BySets first second (all_writers (record { game = false; evidence = false; witness = None }) game game even even odd odd witness witness old new) r
+pub alone_of : (first second : List ℕ) (game even odd witness old new : Option (List ℕ)) (r : Result Bool MuError)
+    → Answers BySets first second (report_writer old new) r → IfErr r (IsErrorOf BySets)
+    → Answers BySets first second (all_writers (record {
+      game = false;
+      evidence = false;
+      witness = None;
+    }) game game even even odd odd witness witness old new) r
 alone_of first second game even odd witness old new (Ok a) h plain = record {
   l = h.l;
   f = h.f;

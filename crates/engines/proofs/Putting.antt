@@ -6,7 +6,14 @@ use Rattle.std.specs.Option.{is_some}
 use Rattle.std.specs.Prelude.{IfSome, option_map}
 use Rattle.std.specs.Result.{IsErr}
 use Rattle.std.specs.Arc.{arc_value}
-use Rattle.text.specs.Wrote.{WroteFront}
+use Rattle.text.specs.Wrote.{Wrote, WroteFront}
+use Rattle.systems.specs.Numbered.{system_with}
+use Rattle.systems.specs.declared.system.Transition.{Transition}
+use Rattle.lts.specs.Canon.{aut_text}
+use Rattle.witness.specs.Drawing.{drawing}
+use Rattle.requests.specs.declared.request.WitnessForm.{WitnessForm}
+use Rattle.requests.specs.declared.request.WitnessForm.TheVariants.{System, Drawing}
+use Rattle.requests.specs.declared.texts.Texts.{Texts}
 use Rattle.game.specs.Game.{Game}
 use Rattle.evidence.specs.Best.{IsEvenOf, IsOddOf}
 use Rattle.evidence.specs.Canon.{evidence_text}
@@ -16,9 +23,10 @@ use Rattle.engines.specs.declared.findings.Findings.{Findings}
 use Rattle.engines.specs.declared.prepared.Prepared.{Prepared}
 use Rattle.engines.specs.declared.prepared.Shown.{Shown}
 use Rattle.requests.specs.declared.request.Wanted.{Wanted}
-use Rattle.engines.specs.Findings.{AreFindings, IsPairOf, IsTextFound}
-use Rattle.requests.specs.Writers.{EvenText, GameText, OddText, Unasked, Lent, AreKept, AreWhole, AreWritten, AreWrittenUpTo, all_writers, kind_where, lent_for, report_writer, witness_kind}
-use Rattle.engines.proofs.Orders.{stopped_at, then_more, unasked}
+use Rattle.engines.specs.Findings.{AreFindings, AreShown, IsPairOf, IsTextFound}
+use Rattle.requests.specs.Writers.{EvenText, GameText, OddText, Unasked, Lent, AreKept, AreWhole, AreWritten, AreWrittenUpTo, all_writers, kind_where}
+use Rattle.requests.specs.Writers.{lent_for, report_writer, witness_kind}
+use Rattle.engines.proofs.Orders.{one_text, stopped_at, then_more, unasked}
 
 -- ------------------------------------------------------------------ the witness
 
@@ -28,7 +36,8 @@ kind_made p s is form = sym (ap (option_map (λ (y : Shown). y.form)) is) ∙ fo
 
 -- the witness was begun
 pub shown_stopped : {T E : Type 0} → (x : Findings) (p : Prepared) (s : Shown) (old new out : Option (List ℕ)) (r : Result T E) → p.shown ≡ Some s
-    → option_map (λ (y : Shown). y.form) p.shown ≡ p.wanted.witness → IsErr r → AreWrittenUpTo (IsTextFound x) (lent_for (witness_kind (Some s.form)) old new ∷ [])
+    → option_map (λ (y : Shown). y.form) p.shown ≡ p.wanted.witness → IsErr r
+    → AreWrittenUpTo (IsTextFound x) (lent_for (witness_kind (Some s.form)) old new ∷ [])
     → AreWritten (IsTextFound x) (lent_for (witness_kind p.wanted.witness) old new ∷ report_writer out out) r
 shown_stopped x p s old new out r is form h up =
     subst (λ kind. AreWritten (IsTextFound x) (lent_for (witness_kind kind) old new ∷ report_writer out out) r) (kind_made p s is form)
@@ -46,9 +55,34 @@ shown_written x p s old new out_old out_new r is form whole rest =
     subst (λ kind. AreWritten (IsTextFound x) (lent_for (witness_kind kind) old new ∷ report_writer out_old out_new) r) (kind_made p s is form)
     (then_more (IsTextFound x) (lent_for (witness_kind (Some s.form)) old new) (report_writer out_old out_new) r whole.0 rest)
 
+-- it is written as a system
+pub system_written : {T E : Type 0} → (x : Findings) (form : WitnessForm) (u : Texts) (part shown : List Transition) (old new : Option (List ℕ))
+    (r : Result T E) → form ≡ System → u ≡ x.texts.value → part ≡ shown → AreShown x shown
+    → Wrote old new r (aut_text (system_with u.system part)) → AreWritten (IsTextFound x) (lent_for (witness_kind (Some form)) old new ∷ []) r
+system_written x form u part shown old new r is at same are wrote =
+    subst (λ k. AreWritten (IsTextFound x) (lent_for (witness_kind (Some k)) old new ∷ []) r) (sym is)
+    (one_text (IsTextFound x) (lent_for (witness_kind (Some System)) old new) r (aut_text (system_with u.system part)) (
+      system_with x.texts.value.system shown,
+      are.shown,
+      ap (λ (y : Texts). aut_text (system_with y.system part)) at ∙ ap (λ p. aut_text (system_with x.texts.value.system p)) same,
+    ) wrote)
+
+-- and as a drawing
+pub drawing_written : {T E : Type 0} → (x : Findings) (form : WitnessForm) (u : Texts) (part shown : List Transition) (old new : Option (List ℕ))
+    (r : Result T E) → form ≡ Drawing → u ≡ x.texts.value → part ≡ shown → AreShown x shown
+    → Wrote old new r (drawing (system_with u.system part)) → AreWritten (IsTextFound x) (lent_for (witness_kind (Some form)) old new ∷ []) r
+drawing_written x form u part shown old new r is at same are wrote =
+    subst (λ k. AreWritten (IsTextFound x) (lent_for (witness_kind (Some k)) old new ∷ []) r) (sym is)
+    (one_text (IsTextFound x) (lent_for (witness_kind (Some Drawing)) old new) r (drawing (system_with u.system part)) (
+      system_with x.texts.value.system shown,
+      are.shown,
+      ap (λ (y : Texts). drawing (system_with y.system part)) at ∙ ap (λ p. drawing (system_with x.texts.value.system p)) same,
+    ) wrote)
+
 -- ------------------------------------------------------------------ the evidence of both players
 
-pub pair_in : (x : Findings) (p : Prepared) (pair : EvidencePair) → p.pair ≡ Some pair → IfSome p.pair (IsPairOf (arc_value x.solution.game)) → IsPairOf (arc_value x.solution.game) pair
+pub pair_in : (x : Findings) (p : Prepared) (pair : EvidencePair) → p.pair ≡ Some pair → IfSome p.pair (IsPairOf (arc_value x.solution.game))
+    → IsPairOf (arc_value x.solution.game) pair
 pair_in x p pair is h = subst (λ (o : Option EvidencePair). IfSome o (IsPairOf (arc_value x.solution.game))) is h
 
 pair_wanted : (p : Prepared) (pair : EvidencePair) → p.pair ≡ Some pair → is_some p.pair ≡ p.wanted.evidence → true ≡ p.wanted.evidence
@@ -64,21 +98,28 @@ found_odd : (x : Findings) (e : Evidence) → AreFindings x → IsOddOf (arc_val
 found_odd x e found is = (e, subst (λ (g : Game). IsOddOf g e) found.solution.game.same is, refl)
 
 -- Even's was begun
-pub even_stopped : {T E : Type 0} → (x : Findings) (p : Prepared) (pair : EvidencePair) (old new odd : Option (List ℕ)) (rest : List Lent) (r : Result T E) → AreFindings x
-    → IsPairOf (arc_value x.solution.game) pair → p.pair ≡ Some pair → is_some p.pair ≡ p.wanted.evidence → AreKept rest → IsErr r → WroteFront old new (evidence_text pair.even.evidence)
+pub even_stopped : {T E : Type 0} → (x : Findings) (p : Prepared) (pair : EvidencePair) (old new odd : Option (List ℕ)) (rest : List Lent) (r : Result T E)
+    → AreFindings x
+    → IsPairOf (arc_value x.solution.game) pair → p.pair ≡ Some pair → is_some p.pair ≡ p.wanted.evidence → AreKept rest → IsErr r
+    → WroteFront old new (evidence_text pair.even.evidence)
     → AreWritten (IsTextFound x) (lent_for (kind_where p.wanted.evidence EvenText) old new ∷ lent_for (kind_where p.wanted.evidence OddText) odd odd ∷ rest) r
 even_stopped x p pair old new odd rest r found are is e kept h front =
-    subst (λ b. AreWritten (IsTextFound x) (lent_for (kind_where b EvenText) old new ∷ lent_for (kind_where b OddText) odd odd ∷ rest) r) (pair_wanted p pair is e)
+    subst (λ b. AreWritten (IsTextFound x) (lent_for (kind_where b EvenText) old new ∷ lent_for (kind_where b OddText) odd odd ∷ rest) r)
+    (pair_wanted p pair is e)
     (stopped_at (IsTextFound x) (lent_for EvenText old new ∷ lent_for OddText odd odd ∷ rest) r h
     (inl ((evidence_text pair.even.evidence, found_even x pair.even.evidence found are.even, front), (Keeps-refl odd, kept))))
 
 -- Even's was written, and Odd's begun
-pub odd_stopped : {T E : Type 0} → (x : Findings) (p : Prepared) (pair : EvidencePair) (old new odd_old odd_new : Option (List ℕ)) (rest : List Lent) (r : Result T E) → AreFindings x
-    → IsPairOf (arc_value x.solution.game) pair → p.pair ≡ Some pair → is_some p.pair ≡ p.wanted.evidence → AreKept rest → IsErr r → Appends old new (evidence_text pair.even.evidence)
+pub odd_stopped : {T E : Type 0} → (x : Findings) (p : Prepared) (pair : EvidencePair) (old new odd_old odd_new : Option (List ℕ)) (rest : List Lent)
+    (r : Result T E) → AreFindings x
+    → IsPairOf (arc_value x.solution.game) pair → p.pair ≡ Some pair → is_some p.pair ≡ p.wanted.evidence → AreKept rest → IsErr r
+    → Appends old new (evidence_text pair.even.evidence)
     → WroteFront odd_old odd_new (evidence_text pair.odd.evidence)
-    → AreWritten (IsTextFound x) (lent_for (kind_where p.wanted.evidence EvenText) old new ∷ lent_for (kind_where p.wanted.evidence OddText) odd_old odd_new ∷ rest) r
+    → AreWritten (IsTextFound x) (lent_for (kind_where p.wanted.evidence EvenText) old new ∷ lent_for
+    (kind_where p.wanted.evidence OddText) odd_old odd_new ∷ rest) r
 odd_stopped x p pair old new odd_old odd_new rest r found are is e kept h whole front =
-    subst (λ b. AreWritten (IsTextFound x) (lent_for (kind_where b EvenText) old new ∷ lent_for (kind_where b OddText) odd_old odd_new ∷ rest) r) (pair_wanted p pair is e)
+    subst (λ b. AreWritten (IsTextFound x) (lent_for (kind_where b EvenText) old new ∷ lent_for (kind_where b OddText) odd_old odd_new ∷ rest) r)
+    (pair_wanted p pair is e)
     (stopped_at (IsTextFound x) (lent_for EvenText old new ∷ lent_for OddText odd_old odd_new ∷ rest) r h
     (inr (
       (evidence_text pair.even.evidence, found_even x pair.even.evidence found are.even, whole),
@@ -86,18 +127,23 @@ odd_stopped x p pair old new odd_old odd_new rest r found are is e kept h whole 
     )))
 
 -- none is wanted
-pub unpaired_written : {T E : Type 0} → (x : Findings) (p : Prepared) (even odd : Option (List ℕ)) (rest : List Lent) (r : Result T E) → p.pair ≡ None → is_some p.pair ≡ p.wanted.evidence
-    → AreWritten (IsTextFound x) rest r → AreWritten (IsTextFound x) (lent_for (kind_where p.wanted.evidence EvenText) even even ∷ lent_for (kind_where p.wanted.evidence OddText) odd odd ∷ rest) r
+pub unpaired_written : {T E : Type 0} → (x : Findings) (p : Prepared) (even odd : Option (List ℕ)) (rest : List Lent) (r : Result T E) → p.pair ≡ None
+    → is_some p.pair ≡ p.wanted.evidence
+    → AreWritten (IsTextFound x) rest r → AreWritten (IsTextFound x)
+    (lent_for (kind_where p.wanted.evidence EvenText) even even ∷ lent_for (kind_where p.wanted.evidence OddText) odd odd ∷ rest) r
 unpaired_written x p even odd rest r is e written =
-    subst (λ b. AreWritten (IsTextFound x) (lent_for (kind_where b EvenText) even even ∷ lent_for (kind_where b OddText) odd odd ∷ rest) r) (pair_unwanted p is e)
+    subst (λ b. AreWritten (IsTextFound x) (lent_for (kind_where b EvenText) even even ∷ lent_for (kind_where b OddText) odd odd ∷ rest) r)
+    (pair_unwanted p is e)
     (then_more (IsTextFound x) (lent_for Unasked even even) (lent_for Unasked odd odd ∷ rest) r (unasked x even)
     (then_more (IsTextFound x) (lent_for Unasked odd odd) rest r (unasked x odd) written))
 
 -- ------------------------------------------------------------------ the game
 
 -- it was begun
-pub game_stopped : {T E : Type 0} → (x : Findings) (wanted : Wanted) (old new even odd witness out : Option (List ℕ)) (text : List ℕ) (r : Result T E) → wanted.game ≡ true → IsErr r
-    → IsTextFound x GameText text → WroteFront old new text → AreWritten (IsTextFound x) (all_writers wanted old new even even odd odd witness witness out out) r
+pub game_stopped : {T E : Type 0} → (x : Findings) (wanted : Wanted) (old new even odd witness out : Option (List ℕ)) (text : List ℕ) (r : Result T E)
+    → wanted.game ≡ true → IsErr r
+    → IsTextFound x GameText text → WroteFront old new text → AreWritten (IsTextFound x)
+    (all_writers wanted old new even even odd odd witness witness out out) r
 game_stopped x wanted old new even odd witness out text r is h made front =
     let rest = lent_for (kind_where wanted.evidence EvenText) even even
     ∷ (lent_for (kind_where wanted.evidence OddText) odd odd ∷ (lent_for (witness_kind wanted.witness) witness witness ∷ report_writer out out)) in

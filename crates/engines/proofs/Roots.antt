@@ -1,5 +1,6 @@
 -- The vertices of the states with the root node.
-use Rattle.std.proofs.Common.{◌≡◌, ◌+◌, ◌*◌, ◌<◌, ◌≤◌, ℕ, Bool, false, List, [], ◌∷◌, ◌++◌, length, Some, get_or, refl, sym, ap, ◌∙◌, subst, inl, inr, length-append, arith}
+use Rattle.std.proofs.Common.{◌≡◌, ◌+◌, ◌*◌, ◌<◌, ◌≤◌, ℕ, Bool, false, List, [], ◌∷◌, ◌++◌, length, Some, get_or, refl, sym, ap, ◌∙◌, subst, inl, inr}
+use Rattle.std.proofs.Common.{length-append, arith}
 use Rattle.std.specs.Prelude.{MatchOption, IsTrue, ◌↔◌, option_map}
 use Rattle.std.proofs.Math.Nat.{mul-lt-mul_of_pos_right}
 use Rattle.game.specs.Game.{Game, IsGame}
@@ -41,7 +42,8 @@ marks_more n marks mark P m here = record { count = omega (arith, m.count, lengt
   where
     at : (s : ℕ) → s < n + 1 → marked (marks ++ mark ∷ []) s ↔ P s
     at s h = elim (cases_order s n) [
-      | inl e ↦ let seam : get_or (marks ++ mark ∷ []) s false ≡ mark = subst (λ k. get_or (marks ++ mark ∷ []) k false ≡ mark) (m.count ∙ sym e) (get_or-append_seam marks mark [] false) in
+      | inl e ↦ let seam : get_or (marks ++ mark ∷ []) s false
+          ≡ mark = subst (λ k. get_or (marks ++ mark ∷ []) k false ≡ mark) (m.count ∙ sym e) (get_or-append_seam marks mark [] false) in
           subst (λ b. IsTrue b ↔ P s) (sym seam) (subst (λ k. IsTrue mark ↔ P k) (sym e) here)
       | inr w ↦ elim w [
         | inl lt ↦ subst (λ b. IsTrue b ↔ P s) (sym (get_or-append marks (mark ∷ []) false s (omega (arith, m.count, lt)))) (m.exact s lt)

@@ -1,18 +1,30 @@
 -- Evidence that has the initial state's vertex with the root node.
 use Rattle.std.proofs.Common.{◌≡◌, ◌<◌, ℕ, Bool, true, false, Some, inl, inr, refl, sym, ap, ◌∙◌, subst, true≢false}
-use Rattle.std.specs.Prelude.{IsTrue, ◌↔◌, IfOk, Result, Ok, Err, slice_index_or}
+use Rattle.std.specs.Prelude.{IsTrue, ◌↔◌, ◌⊎◌, IfOk, List, Result, Ok, Err, slice_index_or}
 use Rattle.std.specs.Arc.{arc_value}
+use Rattle.systems.specs.Numbered.{IsInside, system_with}
+use Rattle.systems.specs.declared.system.Transition.{Transition}
+use Rattle.calculus.specs.Admitted.{IsAdmitted}
+use Rattle.calculus.specs.Closed.{closed_formula}
 use Rattle.calculus.specs.Meaning.{Marks}
+use Rattle.calculus.specs.Tree.{Formula}
+use Rattle.normal.specs.Nodes.{Node}
 use Rattle.normal.specs.Rules.{nodes_with}
+use Rattle.normal.specs.Tree.{normal_form}
 use Rattle.game.specs.Game.{Game, IsGame}
 use Rattle.game.specs.Arena.{arena, place, place_in}
 use Rattle.game.specs.Wins.{OddWins, Wins}
 use Rattle.progress.specs.Laws.{OneWins}
+use Rattle.laws.specs.Admissible.{IsNodes}
+use Rattle.laws.specs.Laws.{ChosenIsAdmissible}
+use Rattle.evidence.specs.Best.{IsEvenOf, IsOddOf}
 use Rattle.evidence.specs.Evidence.{IsGood, has}
 use Rattle.evidence.specs.View.{Piece}
 use Rattle.evidence.specs.declared.error.EvidenceError.{EvidenceError}
+use Rattle.witness.specs.Witness.{HasTaken, IsWitness, root_of}
 use Rattle.requests.specs.Roots.{WinsRoot}
-use Rattle.engines.specs.Findings.{AreFindings, IsWinning, formula_of, system_of}
+use Rattle.requests.specs.declared.texts.Texts.{Texts}
+use Rattle.engines.specs.Findings.{AreFindings, AreShown, IsWinning, formula_of, system_of}
 use Rattle.engines.specs.declared.findings.Findings.{Findings}
 use Rattle.engines.proofs.Limits.{nodes_some}
 use Rattle.engines.proofs.Roots.{arena_roots, root_below}
@@ -29,7 +41,8 @@ some_same a b e = cc
 won_in : (x : Findings) → AreFindings x → Marks (system_of x).states x.marks.items (WinsRoot (game_in x))
 won_in x found = subst (λ (g : Game). Marks (system_of x).states x.marks.items (WinsRoot g)) (sym found.solution.game.same) found.marks.won
 
-even_there : (x : Findings) → AreFindings x → (system_of x).initial < (system_of x).states → mark_in x ≡ true → (v : ℕ) → place_in (game_in x) (system_of x).initial 0 ≡ Some v
+even_there : (x : Findings) → AreFindings x → (system_of x).initial < (system_of x).states → mark_in x ≡ true → (v : ℕ)
+    → place_in (game_in x) (system_of x).initial 0 ≡ Some v
     → Wins (game_in x) v
 even_there x found inside mark v at =
     let w = ((won_in x found).exact (system_of x).initial inside).0 mark in
@@ -47,27 +60,76 @@ odd_there x found inside one game mark v at =
     ]
 
 -- Even's, where the initial state satisfies the formula
-pub even_winning : (x : Findings) (e : Piece) → AreFindings x → (system_of x).initial < (system_of x).states → mark_in x ≡ true → e.game ≡ game_in x → IsGood (game_in x) e.evidence
+pub even_winning : (x : Findings) (e : Piece) → AreFindings x → (system_of x).initial < (system_of x).states → mark_in x ≡ true → e.game ≡ game_in x
+    → IsEvenOf (game_in x) e.evidence → IsGood (game_in x) e.evidence
     → ((v : ℕ) → IsTrue (has e.evidence v) ↔ Wins (game_in x) v) → IsWinning x e
-even_winning x e found inside mark same good exact = record {
+even_winning x e found inside mark same even good exact = record {
   game = same;
+  best = inl (subst (λ (g : Game). IsEvenOf g e.evidence) (sym same) even);
   good = subst (λ (g : Game). IsGood g e.evidence) (sym same) good;
   root = λ v at. (exact v).1 (even_there x found inside mark v (ap (λ (g : Game). place_in g (system_of x).initial 0) (sym same) ∙ at));
 }
 
 -- Odd's, where it doesn't
-pub odd_winning : (x : Findings) (e : Piece) → AreFindings x → (system_of x).initial < (system_of x).states → OneWins → IsGame (game_in x) → mark_in x ≡ false → e.game ≡ game_in x
-    → IsGood (game_in x) e.evidence → ((v : ℕ) → IsTrue (has e.evidence v) ↔ OddWins (game_in x) v) → IsWinning x e
-odd_winning x e found inside one game mark same good exact = record {
+pub odd_winning : (x : Findings) (e : Piece) → AreFindings x → (system_of x).initial < (system_of x).states → OneWins → IsGame (game_in x)
+    → mark_in x ≡ false → e.game ≡ game_in x
+    → IsOddOf (game_in x) e.evidence → IsGood (game_in x) e.evidence → ((v : ℕ) → IsTrue (has e.evidence v) ↔ OddWins (game_in x) v)
+    → IsWinning x e
+odd_winning x e found inside one game mark same odd good exact = record {
   game = same;
+  best = inr (subst (λ (g : Game). IsOddOf g e.evidence) (sym same) odd);
   good = subst (λ (g : Game). IsGood g e.evidence) (sym same) good;
   root = λ v at. (exact v).1 (odd_there x found inside one game mark v (ap (λ (g : Game). place_in g (system_of x).initial 0) (sym same) ∙ at));
 }
 
 -- the same of Odd's where it is made
-pub odd_found : (x : Findings) (g : Game) (r : Result Piece EvidenceError) → AreFindings x → (system_of x).initial < (system_of x).states → OneWins → IsGame (game_in x) → mark_in x ≡ false
-    → g ≡ game_in x → IfOk r (λ e. e.game ≡ g) → IfOk r (λ e. IsGood g e.evidence) → IfOk r (λ e. (v : ℕ) → IsTrue (has e.evidence v) ↔ OddWins g v) → IfOk r (IsWinning x)
-odd_found x g (Ok e) found inside one game mark same of good exact =
-    odd_winning x e found inside one game mark (of ∙ same) (subst (λ (h : Game). IsGood h e.evidence) same good)
+pub odd_found : (x : Findings) (g : Game) (r : Result Piece EvidenceError) → AreFindings x → (system_of x).initial < (system_of x).states → OneWins
+    → IsGame (game_in x) → mark_in x ≡ false
+    → g ≡ game_in x → IfOk r (λ e. e.game ≡ g) → IfOk r (λ e. IsOddOf g e.evidence) → IfOk r (λ e. IsGood g e.evidence)
+    → IfOk r (λ e. (v : ℕ) → IsTrue (has e.evidence v) ↔ OddWins g v)
+    → IfOk r (IsWinning x)
+odd_found x g (Ok e) found inside one game mark same of odd good exact =
+    odd_winning x e found inside one game mark (of ∙ same) (subst (λ (h : Game). IsOddOf h e.evidence) same odd)
+    (subst (λ (h : Game). IsGood h e.evidence) same good)
     (subst (λ (h : Game). (v : ℕ) → IsTrue (has e.evidence v) ↔ OddWins h v) same exact)
-odd_found x g (Err e) found inside one game mark same of good exact = tt
+odd_found x g (Err e) found inside one game mark same of odd good exact = tt
+
+-- What the play takes by such evidence is shown.
+pub shown_by : (x : Findings) (e : Piece) (nodes : List Node) (part : List Transition) → ChosenIsAdmissible → AreFindings x → IsWinning x e
+    → nodes ≡ nodes_with x.solution.priorities (formula_of x) → IsInside x.texts.value.system part
+    → HasTaken (system_of x) nodes e.evidence (system_with x.texts.value.system part)
+    → ((f : Formula) → IsAdmitted f → IsNodes (normal_form f) nodes → IsWitness (system_of x) f (system_with x.texts.value.system part))
+    → AreShown x part
+shown_by x e nodes part chosen found win same inside taken witness =
+    let rule = x.solution.priorities in
+    let l = system_of x in
+    let f = formula_of x in
+    let whole = system_with x.texts.value.system part in
+    let game = win.game ∙ found.solution.game.same in
+    let admitted = x.texts.value.formula.admitted in
+    record {
+      inside = inside;
+      shown = record {
+        evidence = e.evidence;
+        winners = record {
+          best = subst (λ (g : Game). IsEvenOf g e.evidence ⊎ IsOddOf g e.evidence) game win.best;
+          root = win.root (root_of l (nodes_with rule f)) (ap (λ (g : Game). place_in g l.initial 0) game);
+        };
+        taken = subst (λ (ns : List Node). HasTaken l ns e.evidence whole) same taken;
+        witness = witness f admitted (subst (IsNodes (normal_form f)) (sym same) (chosen rule f admitted));
+      };
+    }
+
+-- the same of the texts as they are read off what was found
+pub shown_at : (x : Findings) (e : Piece) (t u : Texts) (nodes : List Node) (part : List Transition) → t ≡ x.texts.value → u ≡ x.texts.value
+    → ChosenIsAdmissible → AreFindings x → IsWinning x e → nodes ≡ nodes_with x.solution.priorities (closed_formula t.formula) → IsInside u.system part
+    → HasTaken u.system.system nodes e.evidence (system_with u.system part)
+    → ((f : Formula) → IsAdmitted f → IsNodes (normal_form f) nodes → IsWitness u.system.system f (system_with u.system part))
+    → AreShown x part
+shown_at x e t u nodes part at_t at_u chosen found win same inside taken witness =
+    shown_by x e nodes part chosen found win
+    (subst (λ (y : Texts). nodes ≡ nodes_with x.solution.priorities (closed_formula y.formula)) at_t same)
+    (subst (λ (y : Texts). IsInside y.system part) at_u inside)
+    (subst (λ (y : Texts). HasTaken y.system.system nodes e.evidence (system_with y.system part)) at_u taken)
+    (subst (λ (y : Texts). (f : Formula) → IsAdmitted f → IsNodes (normal_form f) nodes → IsWitness y.system.system f (system_with y.system part))
+    at_u witness)

@@ -10,6 +10,7 @@ use Rattle.calculus.specs.Closed.{closed_formula}
 use Rattle.normal.specs.declared.limits.TheConstants.{GREATEST_PRIORITY}
 use Rattle.normal.specs.declared.priorities.Priorities.{Priorities}
 use Rattle.normal.specs.Refused.{HasRefusalWith}
+use Rattle.normal.specs.Rules.{nodes_with}
 use Rattle.game.specs.Game.{Game, greatest}
 use Rattle.game.specs.Arena.{place_in}
 use Rattle.game.specs.Wins.{OddWins, Wins}
@@ -17,7 +18,7 @@ use Rattle.evidence.specs.Best.{IsEvenOf, IsOddOf}
 use Rattle.evidence.specs.Evidence.{IsGood, has}
 use Rattle.evidence.specs.View.{Piece}
 use Rattle.evidence.specs.declared.error.EvidenceError.TheVariants as evidence
-use Rattle.witness.specs.Witness.{IsWitness}
+use Rattle.witness.specs.Witness.{IsShown}
 use Rattle.requests.specs.declared.error.MuError.{MuError}
 use Rattle.requests.specs.declared.error.MuError.TheVariants as error
 use Rattle.requests.specs.declared.request.Wanted.{Wanted}
@@ -72,16 +73,17 @@ pub record IsPairOf (g : Game) (pair : EvidencePair) : Type 0 where
   pub even : IsEvenOf g pair.even.evidence
   pub odd : IsOddOf g pair.odd.evidence
 
--- good evidence that has the initial state's vertex with the root node
+-- good evidence of the least progress tables that has the initial state's vertex with the root node
 pub record IsWinning (x : Findings) (e : Piece) : Type 0 where
   pub game : e.game ≡ arc_value x.solution.game
+  pub best : IsEvenOf e.game e.evidence ⊎ IsOddOf e.game e.evidence
   pub good : IsGood e.game e.evidence
   pub root : (v : ℕ) → place_in e.game (system_of x).initial 0 ≡ Some v → IsTrue (has e.evidence v)
 
 -- the transitions of a witness
 pub record AreShown (x : Findings) (part : List Transition) : Type 0 where
   pub inside : IsInside x.texts.value.system part
-  pub witness : IsWitness (system_of x) (formula_of x) (system_with x.texts.value.system part)
+  pub shown : IsShown (system_of x) (formula_of x) (nodes_with x.solution.priorities (formula_of x)) (system_with x.texts.value.system part)
 
 -- Memory was wanting for a witness: that of the evidence, of the normal form or of the walk.
 abbrev pub IsUnshown : Findings → MuError → Type 0

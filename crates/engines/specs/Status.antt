@@ -17,7 +17,8 @@ use Rattle.tables.specs.declared.error.TableError.TheVariants as table
 use Rattle.liftcore.specs.declared.error.ScheduleError.{ScheduleError}
 use Rattle.liftcore.specs.declared.error.ScheduleError.TheVariants as schedule
 use Rattle.requests.specs.declared.error.MuError.{MuError}
-use Rattle.requests.specs.declared.error.MuError.TheVariants.{Arguments, File, Read, Memory, System, Formula, Normal, Build, Game, Evidence, Table, Solve, Schedule, Write}
+use Rattle.requests.specs.declared.error.MuError.TheVariants.{Arguments, File, Read, Memory, System, Formula, Normal, Build, Game, Evidence, Table, Solve}
+use Rattle.requests.specs.declared.error.MuError.TheVariants.{Schedule, Write}
 
 -- 2 where the text is at fault, 3 where a read or memory failed
 abbrev pub system_status : AutError → ℕ

@@ -54,8 +54,8 @@ const BOTH: Wanted = Wanted {
     witness: None,
 };
 
-/// Writes to each writer that is lent, and answers. A macro and no function: of a writer that a function is given for good its caller
-/// would know nothing any more.
+/// Writes to each writer that is lent, and answers. It is a macro, since a function that takes a writer by value hides the writer's final
+/// contents from its caller.
 macro_rules! answer_lent {
     ($alloc:expr, $found:expr, $game:expr, $evidence:expr, $out:expr) => {
         match $evidence {
@@ -117,7 +117,7 @@ pub fn check_plain<R: Read + Drop, S: Read + Drop, W: Write>(
     check_plain_seen(alloc, aut, formula, out, &Silent)
 }
 
-/// The same, told to a watcher: what is read and evaluated.
+/// Checks as `check_plain` does, and tells a watcher what is being read and evaluated.
 ///
 /// # Errors
 /// Those of `check_plain`.
@@ -247,7 +247,8 @@ pub fn check<
     evidence: EvidenceWriters<'_, E, O>,
 ) -> Result<bool, MuError>
     ensures { Checks (ByGame options.now.priorities (Some options.now.board)) (R.remaining aut) (S.remaining formula)
-        (game_writer G.contents game.entry game.exit ++ (evidence_writers E.contents O.contents evidence.entry evidence.exit ++ (no_writer ∷ report_writer (W.contents out.old) (W.contents out.new)))) result }
+        (game_writer G.contents game.entry game.exit ++ (evidence_writers E.contents O.contents evidence.entry evidence.exit
+        ++ (no_writer ∷ report_writer (W.contents out.old) (W.contents out.new)))) result }
 {
     let found = match find_with(rt, alloc, aut, formula, options, &NoGate) {
         Ok(found) => found,
@@ -256,7 +257,7 @@ pub fn check<
     answer_lent!(alloc, &found, game, evidence, out)
 }
 
-/// The same, with a gate that each worker calls before each of its turns; one worker alone calls none.
+/// Checks as `check` does, with a gate that each worker calls before each of its turns. One worker alone calls none.
 ///
 /// # Errors
 /// Those of `check`.
@@ -281,7 +282,8 @@ pub fn check_gated<
     gate: &T,
 ) -> Result<bool, MuError>
     ensures { Checks (ByGame options.now.priorities (Some options.now.board)) (R.remaining aut) (S.remaining formula)
-        (game_writer G.contents game.entry game.exit ++ (evidence_writers E.contents O.contents evidence.entry evidence.exit ++ (no_writer ∷ report_writer (W.contents out.old) (W.contents out.new)))) result }
+        (game_writer G.contents game.entry game.exit ++ (evidence_writers E.contents O.contents evidence.entry evidence.exit
+        ++ (no_writer ∷ report_writer (W.contents out.old) (W.contents out.new)))) result }
 {
     let found = match find_with(rt, alloc, aut, formula, options, gate) {
         Ok(found) => found,
@@ -290,9 +292,9 @@ pub fn check_gated<
     answer_lent!(alloc, &found, game, evidence, out)
 }
 
-/// The same, told to a watcher, with a writer for each text, to which it is written where it is wanted; nothing is written to the
-/// others. Of the witness it is proved that it is a part of the system, with the same states and the same initial state, which
-/// satisfies the formula in it exactly where it does in the system.
+/// Checks as `check` does, and tells a watcher what it is doing. Each text has a writer, to which it is written where it is wanted; nothing is
+/// written to the others. Of the witness it is proved that it has the system's states and initial state, and just the transitions that the play
+/// takes from there by the winner's evidence, and that the formula holds at the initial state exactly where it does in the system.
 ///
 /// # Errors
 /// Those of `check`. E5 and N3 also for want of memory where a witness is made.
@@ -333,7 +335,7 @@ pub fn check_all<
     }
 }
 
-/// The same as `check` on one thread and without a board, whatever the options ask for of workers, shards and board. It waits for nobody.
+/// Checks on one thread and without a board, and writes what `check` writes. It waits for nobody.
 ///
 /// # Errors
 /// Those of the readers, of the normal form and of the game, unchanged; E5 for memory in evidence; U3 where a read of the
@@ -357,7 +359,8 @@ pub fn check_one<
     evidence: EvidenceWriters<'_, E, O>,
 ) -> Result<bool, MuError>
     ensures { Checks (ByGame options.now.priorities None) (R.remaining aut) (S.remaining formula)
-        (game_writer G.contents game.entry game.exit ++ (evidence_writers E.contents O.contents evidence.entry evidence.exit ++ (no_writer ∷ report_writer (W.contents out.old) (W.contents out.new)))) result }
+        (game_writer G.contents game.entry game.exit ++ (evidence_writers E.contents O.contents evidence.entry evidence.exit
+        ++ (no_writer ∷ report_writer (W.contents out.old) (W.contents out.new)))) result }
 {
     let found = match find_alone(rt, alloc, aut, formula, options.priorities) {
         Ok(found) => found,

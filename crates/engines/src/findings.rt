@@ -83,10 +83,11 @@ pub fn find_alone<R: Read + Drop, S: Read + Drop, H: Threads + Sync>(
     }
 }
 
-/// The same by the workers over the board that the options ask for. The gate is told of each turn.
+/// Reads both texts, and finds out by the workers, over the board that the options ask for, which states satisfy the formula. The gate is told
+/// of each turn.
 ///
 /// # Errors
-/// The same, and those of the board and of the workers' table: T1 where the packed board can't be had, and only there.
+/// Those of `find_alone`, and those of the board and of the workers' table: T1 where the packed board can't be had, and only there.
 pub fn find_with<
     R: Read + Drop,
     S: Read + Drop,
@@ -110,7 +111,7 @@ pub fn find_with<
     find_seen(rt, alloc, aut, formula, options, gate, &Silent)
 }
 
-/// The same, told to a watcher: what is read, built, searched and lifted.
+/// Finds what `find_with` does, and tells a watcher what is being read, built, searched and lifted.
 ///
 /// # Errors
 /// Those of `find_with`.
@@ -219,7 +220,7 @@ fn solve_posed(alloc: Global, posed: &Posed) -> Result<Settled, Memory>
     solve_one_by(alloc, &posed.game, &guess, &Silent)
 }
 
-/// The same by workers, of which one alone is helped by a guess.
+/// The least progress table, by workers, of which one alone is helped by a guess.
 fn solve_by_workers<
     T: Gate + Sync,
     O: Observer + Sync,

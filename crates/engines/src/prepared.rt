@@ -112,7 +112,7 @@ fn part_in(alloc: Global, found: &Findings, pair: &EvidencePair) -> Result<Vec<T
     }
 }
 
-/// The same where there is no evidence yet: that of the player who wins is made.
+/// The transitions that the answer rests on, where there is no evidence yet: that of the player who wins is made.
 fn part_alone(alloc: Global, found: &Findings) -> Result<Vec<Transition>, MuError>
     requires { AreFindings found.now }
     ensures part { IfOk result (λ part. AreShown found.now part.items) }

@@ -4,7 +4,8 @@ use Rattle.std.specs.Prelude.{IsTrue, nat_le, drop}
 use Rattle.std.proofs.lemmas.Bool.{leb-true, and_parts}
 use Rattle.formula.specs.declared.limits.TheConstants.{DEEPEST, MOST_PARENS}
 use Rattle.formula.specs.Token.{Token, Name, NotSign, Open, Close, Dot}
-use Rattle.formula.specs.Syntax.{RegSyntax, reg_tokens, reg_fits, reg_nesting, reg_parens, Syntax, True', False', Var', Group', Neg', Both', OneOf', If', Dia', Box', Mu', Nu', form, ends_in_binder, fits, tokens, nesting, parens, is_within_limits}
+use Rattle.formula.specs.Syntax.{RegSyntax, reg_tokens, reg_fits, reg_nesting, reg_parens, Syntax, True', False', Var', Group', Neg', Both', OneOf', If'}
+use Rattle.formula.specs.Syntax.{Dia', Box', Mu', Nu', form, ends_in_binder, fits, tokens, nesting, parens, is_within_limits}
 use Rattle.formula.specs.Written.{joined, connective_token, connective_row, modal, opening, closing, bound}
 use Rattle.formula.specs.Read.{state_row}
 use Rattle.formula.specs.declared.written.Connective.{Connective}
@@ -38,9 +39,14 @@ in_group f fit g n m st far e =
     let u = first-unary g n st in
     let on : List Token = Close ∷ u.rest in
     let w = unary-as u.operand u.rest ((tokens f ++ Close ∷ []) ++ m) Open u.row (u.spelled ∙ e) in
-    let inner : Standing w.0 on = record { grammatical = subst (λ s. IsTrue (fits s)) w.1 u.standing.grammatical; ended = omega (arith, any_formula w.0); reaches = λ b. omega arith } in
+    let inner : Standing w.0 on = record {
+      grammatical = subst (λ s. IsTrue (fits s)) w.1 u.standing.grammatical;
+      ended = omega (arith, any_formula w.0);
+      reaches = λ b. omega arith;
+    } in
     let outer : Standing f (Close ∷ m) = record { grammatical = fit; ended = omega (arith, any_formula f); reaches = λ b. omega arith } in
-    let p = one-state 3 w.0 f on (Close ∷ m) inner outer (any_formula w.0) (any_formula f) (omega arith) (omega arith) (w.2 ∙ append_assoc (tokens f) (Close ∷ []) m) in
+    let p = one-state 3 w.0 f on (Close ∷ m) inner outer (any_formula w.0) (any_formula f) (omega arith) (omega arith)
+    (w.2 ∙ append_assoc (tokens f) (Close ∷ []) m) in
     record { nests = omega (arith, ap nesting p.0, ap nesting w.1, u.nests); opens = omega (arith, ap parens p.0, ap parens w.1, u.opens) }
 
 after_not : (f : Syntax) → form f ≤ 0 → Least f → Least (Neg' f)
@@ -49,7 +55,11 @@ after_not f low least g n m st far e =
     let w = unary-as u.operand u.rest (tokens f ++ m) NotSign u.row (u.spelled ∙ e) in
     let o = and_parts (nat_le (form w.0) 0) (fits w.0) (subst (λ s. IsTrue (fits s)) w.1 u.standing.grammatical) in
     let some : 0 < state_row u.rest = omega (arith, u.standing.ended) in
-    let inner : Standing w.0 u.rest = record { grammatical = o.1; ended = omega (arith, leb-true (form w.0) 0 o.0); reaches = λ b. u.standing.reaches (ap ends_in_binder w.1 ∙ b) } in
+    let inner : Standing w.0 u.rest = record {
+      grammatical = o.1;
+      ended = omega (arith, leb-true (form w.0) 0 o.0);
+      reaches = λ b. u.standing.reaches (ap ends_in_binder w.1 ∙ b);
+    } in
     let h = least w.0 u.rest m inner (omega arith) w.2 in
     record { nests = omega (arith, h.nests, ap nesting w.1, u.nests); opens = omega (arith, h.opens, ap parens w.1, u.opens) }
 
@@ -61,11 +71,16 @@ after_brackets mark r f fit low least g n m st far e =
     = ap (λ ts. ts ++ m) (modal-tokens mark r f) ∙ ap (λ ts. opening mark ∷ ts) (append_assoc (reg_tokens r) (closing mark ∷ tokens f) m) in
     let w = modal-as mark u.operand u.rest (reg_tokens r ++ closing mark ∷ (tokens f ++ m)) u.row (u.spelled ∙ e ∙ split) in
     let o = modal-inside mark w.0 w.1 (subst (λ s. IsTrue (fits s)) w.2 u.standing.grammatical) in
-    let p = one_at 7 w.0 r (closing mark ∷ (tokens w.1 ++ u.rest)) (closing mark ∷ (tokens f ++ m)) o.1 fit (any_form w.0) (any_form r) (omega (arith, closing-row mark (tokens w.1 ++ u.rest))) (omega (arith, closing-row mark (tokens f ++ m))) w.3 in
+    let p = one_at 7 w.0 r (closing mark ∷ (tokens w.1 ++ u.rest)) (closing mark ∷ (tokens f ++ m)) o.1 fit (any_form w.0) (any_form r)
+    (omega (arith, closing-row mark (tokens w.1 ++ u.rest))) (omega (arith, closing-row mark (tokens f ++ m))) w.3 in
     let some : 0 < state_row u.rest = omega (arith, u.standing.ended) in
     let his = modal-is mark w.0 w.1 in
     let own = modal-is mark r f in
-    let inner : Standing w.1 u.rest = record { grammatical = o.2; ended = omega (arith, o.0); reaches = λ b. u.standing.reaches (ap ends_in_binder w.2 ∙ his.ends ∙ b) } in
+    let inner : Standing w.1 u.rest = record {
+      grammatical = o.2;
+      ended = omega (arith, o.0);
+      reaches = λ b. u.standing.reaches (ap ends_in_binder w.2 ∙ his.ends ∙ b);
+    } in
     let h = least w.1 u.rest m inner (omega arith) (ap (drop 1) p.1) in
     record {
       nests = omega (arith, own.nesting, his.nesting, h.nests, ap reg_nesting p.0, ap nesting w.2, u.nests);
@@ -79,9 +94,17 @@ after_dot word x f least g n m st far e =
     let his = bound-is word w.0 w.1 in
     let own = bound-is word x f in
     let last : 3 < state_row u.rest = u.standing.reaches (ap ends_in_binder w.2 ∙ his.ends) in
-    let inner : Standing w.1 u.rest = record { grammatical = sym his.fits ∙ subst (λ s. IsTrue (fits s)) w.2 u.standing.grammatical; ended = omega (arith, any_formula w.1); reaches = λ b. last } in
+    let inner : Standing w.1 u.rest = record {
+      grammatical = sym his.fits
+          ∙ subst (λ s. IsTrue (fits s)) w.2 u.standing.grammatical;
+      ended = omega (arith, any_formula w.1);
+      reaches = λ b. last;
+    } in
     let h = least w.1 u.rest m inner (omega (arith, any_formula f)) (ap (drop 2) w.3) in
-    record { nests = omega (arith, own.nesting, his.nesting, h.nests, ap nesting w.2, u.nests); opens = omega (arith, own.parens, his.parens, h.opens, ap parens w.2, u.opens) }
+    record {
+      nests = omega (arith, own.nesting, his.nesting, h.nests, ap nesting w.2, u.nests);
+      opens = omega (arith, own.parens, his.parens, h.opens, ap parens w.2, u.opens);
+    }
 
 -- the left operand begins the other formula too, and the right one the operand after the sign there
 after_sign : (mark : Connective) (a b : Syntax) → IsTrue (fits (joined mark a b)) → Least a → Least b → Least (joined mark a b)
@@ -115,7 +138,8 @@ no-larger s g more fs fg e =
     least s fs g [] more whole (omega (arith, any_formula s)) (append-nil (tokens g) ∙ e)
 
 -- A formula that begins another one within the limits is within them.
-pub begins-within : (s g : Syntax) (more : List Token) → IsTrue (fits s) → IsTrue (fits g) → tokens g ≡ tokens s ++ more → IsTrue (is_within_limits g) → IsTrue (is_within_limits s)
+pub begins-within : (s g : Syntax) (more : List Token) → IsTrue (fits s) → IsTrue (fits g) → tokens g ≡ tokens s ++ more → IsTrue (is_within_limits g)
+    → IsTrue (is_within_limits s)
 begins-within s g more fs fg e small =
     let w = no-larger s g more fs fg e in
     let o = and_parts (nat_le (nesting g) DEEPEST) (nat_le (parens g) MOST_PARENS) small in

@@ -5,10 +5,14 @@ use Rattle.std.specs.Str.{bytes_eq}
 use Rattle.std.proofs.lemmas.Bool.{ne_eqb, and_parts, true≢false}
 use Rattle.text.specs.Text.{is_name, is_name_byte, is_letter}
 use Rattle.systems.specs.Label.{is_label, multiset}
-use Rattle.calculus.specs.Tree.{Action, Anything, Nothing, Names, Quoted, NotAct, AndAct, OrAct, ImpliesAct, Regular, Step, Then, Either, Star, Plus, Formula, True, False, Var, Not, And, Or, Implies, Dia, Box, Mu, Nu}
+use Rattle.calculus.specs.Tree.{Action, Anything, Nothing, Names, Quoted, NotAct, AndAct, OrAct, ImpliesAct, Regular, Step, Then, Either, Star, Plus, Formula}
+use Rattle.calculus.specs.Tree.{True, False, Var, Not, And, Or, Implies, Dia, Box, Mu, Nu}
 use Rattle.calculus.specs.Canon.{infix_text, binder_text, action_text, regular_text, canon}
-use Rattle.formula.specs.Token.{Token, Name, Atom, TrueWord, FalseWord, MuWord, NuWord, TauWord, ImpliesSign, OrSign, AndSign, Bar, NotSign, Less, Greater, OpenBox, CloseBox, Open, Close, Dot, ChoiceSign, PlusSign, StarSign, spelling, is_free_name, IsToken, Piece, Blank, Word, begins, token_ends, text_of, Cuts, tokens_of, words, reserved_words}
-use Rattle.formula.specs.Syntax.{RegSyntax, Anything', Nothing', Tau', Names', Quoted', Parens', Not', And', Or', Implies', Star', Plus', Then', Either', reg_tokens, more_names, Syntax, True', False', Var', Group', Neg', Both', OneOf', If', Dia', Box', Mu', Nu', tokens}
+use Rattle.formula.specs.Token.{Token, Name, Atom, TrueWord, FalseWord, MuWord, NuWord, TauWord, ImpliesSign, OrSign, AndSign, Bar, NotSign, Less, Greater}
+use Rattle.formula.specs.Token.{OpenBox, CloseBox, Open, Close, Dot, ChoiceSign, PlusSign, StarSign, spelling, is_free_name, IsToken, Piece, Blank, Word}
+use Rattle.formula.specs.Token.{begins, token_ends, text_of, Cuts, tokens_of, words, reserved_words}
+use Rattle.formula.specs.Syntax.{RegSyntax, Anything', Nothing', Tau', Names', Quoted', Parens', Not', And', Or', Implies', Star', Plus', Then', Either'}
+use Rattle.formula.specs.Syntax.{reg_tokens, more_names, Syntax, True', False', Var', Group', Neg', Both', OneOf', If', Dia', Box', Mu', Nu', tokens}
 
 -- Pieces that a text is made of, whatever pieces follow, if no byte of a name comes next.
 pub record Writes (text : List ℕ) (ts : List Token) : Type 0 where
@@ -52,11 +56,13 @@ postfixed t text ts is apart w = record {
   pieces = λ ps. w.pieces (Word t ∷ ps);
   joined = λ ps. w.joined (Word t ∷ ps) ∙ sym (append_assoc text (spelling t) (text_of ps));
   spelled = λ ps. w.spelled (Word t ∷ ps) ∙ sym (append_assoc ts (t ∷ []) (tokens_of ps));
-  cut = λ ps m c h. w.cut (Word t ∷ ps) m (is.0, is.1 (text_of ps ++ m), c) (ap (begins is_name_byte) (append_assoc (spelling t) (text_of ps) m) ∙ apart (text_of ps ++ m));
+  cut = λ ps m c h. w.cut (Word t ∷ ps) m (is.0, is.1 (text_of ps ++ m), c)
+      (ap (begins is_name_byte) (append_assoc (spelling t) (text_of ps) m) ∙ apart (text_of ps ++ m));
 }
 
 -- `(left sign right)`
-infix' : (t : Token) (left right : List ℕ) (ts us : List Token) → IsSign t → Writes left ts → Writes right us → Writes (infix_text left (spelling t) right) (Open ∷ ((ts ++ t ∷ us) ++ Close ∷ []))
+infix' : (t : Token) (left right : List ℕ) (ts us : List Token) → IsSign t → Writes left ts → Writes right us
+    → Writes (infix_text left (spelling t) right) (Open ∷ ((ts ++ t ∷ us) ++ Close ∷ []))
 infix' t left right ts us is l r = record {
   pieces = λ ps. Word Open ∷ l.pieces (Blank 32 ∷ Word t ∷ Blank 32 ∷ r.pieces (Word Close ∷ ps));
   joined = λ ps. ap (λ x. 40 ∷ x) (l.joined (Blank 32 ∷ Word t ∷ Blank 32 ∷ r.pieces (Word Close ∷ ps)))
@@ -64,8 +70,12 @@ infix' t left right ts us is l r = record {
   spelled = λ ps. ap (λ x. Open ∷ x) (l.spelled (Blank 32 ∷ Word t ∷ Blank 32 ∷ r.pieces (Word Close ∷ ps)))
       ∙ (ap (λ x. Open ∷ (ts ++ (t ∷ x))) (r.spelled (Word Close ∷ ps)) ∙ retoken ts us (tokens_of ps));
   cut = λ ps m c h.
-      let right_cut = r.cut (Word Close ∷ ps) m (tt, refl, c) refl in
-      (tt, refl, l.cut (Blank 32 ∷ Word t ∷ Blank 32 ∷ r.pieces (Word Close ∷ ps)) m (refl, refl, (is.0, is.1 (32 ∷ (text_of (r.pieces (Word Close ∷ ps)) ++ m)), (refl, refl, right_cut))) refl);
+      let right_cut = r.cut (Word Close ∷ ps) m (tt, refl, c) refl in (
+        tt,
+        refl,
+        l.cut (Blank 32 ∷ Word t ∷ Blank 32 ∷ r.pieces (Word Close ∷ ps)) m
+            (refl, refl, (is.0, is.1 (32 ∷ (text_of (r.pieces (Word Close ∷ ps)) ++ m)), (refl, refl, right_cut))) refl,
+      );
 }
   where
     regroup : (l s r m : List ℕ) → 40 ∷ (l ++ (32 ∷ (s ++ (32 ∷ (r ++ (41 ∷ m)))))) ≡ infix_text l s r ++ m
@@ -100,7 +110,8 @@ binder : (t : Token) (name body : List ℕ) (ts : List Token) → IsWord t → i
 binder t name body ts is free f = record {
   pieces = λ ps. Word Open ∷ Word t ∷ Blank 32 ∷ Word (Name name) ∷ Word Dot ∷ Blank 32 ∷ f.pieces (Word Close ∷ ps);
   joined = λ ps. ap (λ x. 40 ∷ (spelling t ++ (32 ∷ (name ++ (46 ∷ 32 ∷ x))))) (f.joined (Word Close ∷ ps)) ∙ regroup (spelling t) name body (text_of ps);
-  spelled = λ ps. ap (λ x. Open ∷ t ∷ Name name ∷ Dot ∷ x) (f.spelled (Word Close ∷ ps)) ∙ ap (λ x. Open ∷ t ∷ Name name ∷ Dot ∷ x) (sym (append_assoc ts (Close ∷ []) (tokens_of ps)));
+  spelled = λ ps. ap (λ x. Open ∷ t ∷ Name name ∷ Dot ∷ x) (f.spelled (Word Close ∷ ps))
+      ∙ ap (λ x. Open ∷ t ∷ Name name ∷ Dot ∷ x) (sym (append_assoc ts (Close ∷ []) (tokens_of ps)));
   cut = λ ps m c h.
       let body_cut = f.cut (Word Close ∷ ps) m (tt, refl, c) refl in
       (tt, refl, (is.0, is.1 _ refl, (refl, refl, (free, refl, (tt, refl, (refl, refl, body_cut))))));
@@ -115,10 +126,12 @@ bar_ends [] m h = cc
 bar_ends (b ∷ name) m h = ap not (ne_eqb b 124 (λ e. absurd (true≢false (sym (and_parts (is_letter b) (list_all is_name_byte name) h).0 ∙ ap is_letter e))))
 
 is_name_of : (name : List ℕ) → is_free_name name ≡ true → is_name name ≡ true
-is_name_of name h = (and_parts (is_name name) (not (list_any (bytes_eq name) words)) (and_parts (is_name name && not (list_any (bytes_eq name) words)) (not (list_any (bytes_eq name) reserved_words)) h).0).0
+is_name_of name h = (and_parts (is_name name) (not (list_any (bytes_eq name) words))
+    (and_parts (is_name name && not (list_any (bytes_eq name) words)) (not (list_any (bytes_eq name) reserved_words)) h).0).0
 
 -- names with bars between them
-names_written : (x : List ℕ) (names : List (List ℕ)) → is_free_name x ≡ true → AllByRecursion (λ x. is_free_name x ≡ true) names → Writes (join_with_byte 124 (x ∷ names)) (Name x ∷ more_names names)
+names_written : (x : List ℕ) (names : List (List ℕ)) → is_free_name x ≡ true → AllByRecursion (λ x. is_free_name x ≡ true) names
+    → Writes (join_with_byte 124 (x ∷ names)) (Name x ∷ more_names names)
 names_written x [] h all = word (Name x) (h, λ m k. ap not k)
 names_written x (y ∷ names) h all =
     let w = names_written y names all.0 all.1 in
@@ -129,11 +142,13 @@ names_written x (y ∷ names) h all =
       cut = λ ps m c k. (h, refl, (tt, ap (λ l. token_ends Bar (l ++ m)) (w.joined ps) ∙ begins_name y names (text_of ps) m all.0, w.cut ps m c k));
     }
   where
-    begins_name : (y : List ℕ) (names : List (List ℕ)) (t m : List ℕ) → is_free_name y ≡ true → token_ends Bar ((join_with_byte 124 (y ∷ names) ++ t) ++ m) ≡ true
+    begins_name : (y : List ℕ) (names : List (List ℕ)) (t m : List ℕ) → is_free_name y ≡ true
+        → token_ends Bar ((join_with_byte 124 (y ∷ names) ++ t) ++ m) ≡ true
     begins_name y [] t m h = ap (token_ends Bar) (append_assoc y t m) ∙ bar_ends y (t ++ m) (is_name_of y h)
     begins_name y (z ∷ names) t m h =
         ap (λ l. token_ends Bar (l ++ m)) (append_assoc y (124 ∷ join_with_byte 124 (z ∷ names)) t)
-        ∙ (ap (token_ends Bar) (append_assoc y ((124 ∷ join_with_byte 124 (z ∷ names)) ++ t) m) ∙ bar_ends y (((124 ∷ join_with_byte 124 (z ∷ names)) ++ t) ++ m) (is_name_of y h))
+        ∙ (ap (token_ends Bar) (append_assoc y ((124 ∷ join_with_byte 124 (z ∷ names)) ++ t) m)
+        ∙ bar_ends y (((124 ∷ join_with_byte 124 (z ∷ names)) ++ t) ++ m) (is_name_of y h))
 
 -- what an action formula must be for a text to spell it
 abbrev pub IsSpellableAction : Action → Type 0
@@ -220,9 +235,12 @@ formula_written True s = word TrueWord (tt, λ m k. ap not k)
 formula_written False s = word FalseWord (tt, λ m k. ap not k)
 formula_written (Var name) s = word (Name name) (s, λ m k. ap not k)
 formula_written (Not f) s = prefixed NotSign (canon f) (tokens (canon_syntax f)) (tt, λ m. refl) (formula_written f s)
-formula_written (And f g) s = infix' AndSign (canon f) (canon g) (tokens (canon_syntax f)) (tokens (canon_syntax g)) (tt, λ m. refl) (formula_written f s.0) (formula_written g s.1)
-formula_written (Or f g) s = infix' OrSign (canon f) (canon g) (tokens (canon_syntax f)) (tokens (canon_syntax g)) (tt, λ m. refl) (formula_written f s.0) (formula_written g s.1)
-formula_written (Implies f g) s = infix' ImpliesSign (canon f) (canon g) (tokens (canon_syntax f)) (tokens (canon_syntax g)) (tt, λ m. refl) (formula_written f s.0) (formula_written g s.1)
+formula_written (And f g) s = infix' AndSign (canon f) (canon g) (tokens (canon_syntax f)) (tokens (canon_syntax g)) (tt, λ m. refl) (formula_written f s.0)
+    (formula_written g s.1)
+formula_written (Or f g) s = infix' OrSign (canon f) (canon g) (tokens (canon_syntax f)) (tokens (canon_syntax g)) (tt, λ m. refl) (formula_written f s.0)
+    (formula_written g s.1)
+formula_written (Implies f g) s = infix' ImpliesSign (canon f) (canon g) (tokens (canon_syntax f)) (tokens (canon_syntax g)) (tt, λ m. refl)
+    (formula_written f s.0) (formula_written g s.1)
 formula_written (Dia r f) s = modal Less Greater _ _ _ _ (tt, λ m. refl) (tt, λ m. refl) (λ m. refl) (regular_written r s.0) (formula_written f s.1)
 formula_written (Box r f) s = modal OpenBox CloseBox _ _ _ _ (tt, λ m. refl) (tt, λ m. refl) (λ m. refl) (regular_written r s.0) (formula_written f s.1)
 formula_written (Mu name f) s = binder MuWord name (canon f) (tokens (canon_syntax f)) (tt, λ m k. ap not k) s.0 (formula_written f s.1)

@@ -1,11 +1,15 @@
 -- The canonical text of a formula that some text spells is a text of that formula.
-use Rattle.std.proofs.Common.{◌≡◌, ℕ, ◌≤◌, Bool, true, false, not, ◌&&◌, List, [], ◌∷◌, ◌++◌, Some, option_map, refl, sym, ap, ◌∙◌, arith, append_assoc, append-nil}
+use Rattle.std.proofs.Common.{◌≡◌, ℕ, ◌≤◌, Bool, true, false, not, ◌&&◌, List, [], ◌∷◌, ◌++◌, Some, option_map, refl, sym, ap, ◌∙◌, arith, append_assoc}
+use Rattle.std.proofs.Common.{append-nil}
 use Rattle.std.specs.Prelude.{nat_le}
 use Rattle.std.proofs.lemmas.Bool.{le-leb, and_from}
-use Rattle.calculus.specs.Tree.{Action, Names, NotAct, AndAct, OrAct, ImpliesAct, Regular, Step, Then, Either, Star, Plus, Formula, True, Not, And, Or, Implies, Dia, Box, Mu, Nu}
+use Rattle.calculus.specs.Tree.{Action, Names, NotAct, AndAct, OrAct, ImpliesAct, Regular, Step, Then, Either, Star, Plus, Formula, True, Not, And, Or}
+use Rattle.calculus.specs.Tree.{Implies, Dia, Box, Mu, Nu}
 use Rattle.calculus.specs.Canon.{canon}
-use Rattle.formula.specs.Token.{Token, ImpliesSign, OrSign, AndSign, Greater, CloseBox, Close, Dot, ChoiceSign, PlusSign, StarSign, is_after_postfix, is_decided}
-use Rattle.formula.specs.Syntax.{reg_form, reg_fits, reg_tokens, more_names, option_two, action_meant, regular_meant, form, ends_in_binder, left_fits, fits, tokens, meant}
+use Rattle.formula.specs.Token.{Token, ImpliesSign, OrSign, AndSign, Greater, CloseBox, Close, Dot, ChoiceSign, PlusSign, StarSign, is_after_postfix}
+use Rattle.formula.specs.Token.{is_decided}
+use Rattle.formula.specs.Syntax.{reg_form, reg_fits, reg_tokens, more_names, option_two, action_meant, regular_meant, form, ends_in_binder, left_fits, fits}
+use Rattle.formula.specs.Syntax.{tokens, meant}
 use Rattle.formula.specs.Spells.{IsWritten, Spells}
 use Rattle.formula.proofs.Canonical.{IsSpellableAction, IsSpellableRegular, IsSpellable, canon_action, canon_regular, canon_syntax, formula_written}
 
@@ -119,7 +123,8 @@ formula_again _ s = refl
 -- Each `+` is decided.
 
 -- the tokens of `(left sign right)` before more are decided where the parts are
-infix_decided : (sign : Token) (ts us more : List Token) → is_decided (ts ++ (sign ∷ (us ++ (Close ∷ more)))) ≡ true → is_decided (((ts ++ sign ∷ us) ++ Close ∷ []) ++ more) ≡ true
+infix_decided : (sign : Token) (ts us more : List Token) → is_decided (ts ++ (sign ∷ (us ++ (Close ∷ more)))) ≡ true
+    → is_decided (((ts ++ sign ∷ us) ++ Close ∷ []) ++ more) ≡ true
 infix_decided sign ts us more h = simp append_assoc h
 
 names_decided : (names : List (List ℕ)) (ts : List Token) → is_decided ts ≡ true → is_decided (more_names names ++ ts) ≡ true
@@ -152,9 +157,11 @@ regular_decided : (r : Regular) (ts : List Token) → is_decided ts ≡ true →
 regular_decided (Step a) ts h k = action_decided a ts h
 regular_decided (Then r s) ts h k = infix_decided Dot (reg_tokens (canon_regular r)) _ ts (regular_decided r _ (regular_decided s _ h refl) refl)
 regular_decided (Either r s) ts h k =
-    infix_decided ChoiceSign (reg_tokens (canon_regular r)) _ ts (regular_decided r _ (and_from _ _ (ap not (begins_operand s (Close ∷ ts))) (regular_decided s _ h refl)) refl)
+    infix_decided ChoiceSign (reg_tokens (canon_regular r)) _ ts
+    (regular_decided r _ (and_from _ _ (ap not (begins_operand s (Close ∷ ts))) (regular_decided s _ h refl)) refl)
 regular_decided (Star r) ts h k = ap is_decided (append_assoc (reg_tokens (canon_regular r)) (StarSign ∷ []) ts) ∙ regular_decided r (StarSign ∷ ts) h refl
-regular_decided (Plus r) ts h k = ap is_decided (append_assoc (reg_tokens (canon_regular r)) (PlusSign ∷ []) ts) ∙ regular_decided r (PlusSign ∷ ts) (and_from _ _ k h) refl
+regular_decided (Plus r) ts h k = ap is_decided (append_assoc (reg_tokens (canon_regular r)) (PlusSign ∷ []) ts)
+    ∙ regular_decided r (PlusSign ∷ ts) (and_from _ _ k h) refl
 
 formula_decided : (f : Formula) (ts : List Token) → is_decided ts ≡ true → is_decided (tokens (canon_syntax f) ++ ts) ≡ true
 formula_decided (Not f) ts h = formula_decided f ts h

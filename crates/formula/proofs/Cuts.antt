@@ -10,7 +10,8 @@ use Rattle.std.proofs.lemmas.List.Sums.{take_while-cons}
 use Rattle.text.specs.Text.{is_name_byte, is_letter}
 use Rattle.systems.specs.declared.limits.TheConstants.{LONGEST_LABEL}
 use Rattle.systems.specs.Label.{is_label_byte}
-use Rattle.formula.specs.Token.{Token, Atom, spelling, reserved_words, IsToken, Piece, Blank, Comment, Word, piece_text, piece_ends, begins, token_ends, text_of, Cuts, tokens_of, offsets_from}
+use Rattle.formula.specs.Token.{Token, Atom, spelling, reserved_words, IsToken, Piece, Blank, Comment, Word, piece_text, piece_ends, begins, token_ends}
+use Rattle.formula.specs.Token.{text_of, Cuts, tokens_of, offsets_from}
 use Rattle.formula.specs.Cutting.{IsFront, IsFirst, IsNamed, IsGap}
 use Rattle.formula.proofs.Regulars.{all_true, le_true}
 
@@ -47,14 +48,16 @@ offsets-none at (Word t ∷ ps) e = cc
 pub cuts-append : (ps qs : List Piece) (rest : List ℕ) → Cuts ps (text_of qs ++ rest) → Cuts qs rest → Cuts (ps ++ qs) rest
 cuts-append [] qs rest c d = d
 cuts-append (p ∷ ps) qs rest c d =
-    let e : text_of ps ++ (text_of qs ++ rest) ≡ text_of (ps ++ qs) ++ rest = sym (ap (λ t. t ++ rest) (text_of-append ps qs) ∙ append_assoc (text_of ps) (text_of qs) rest) in
+    let e : text_of ps ++ (text_of qs ++ rest) ≡ text_of (ps ++ qs)
+    ++ rest = sym (ap (λ t. t ++ rest) (text_of-append ps qs) ∙ append_assoc (text_of ps) (text_of qs) rest) in
     (c.0, subst (λ (t : List ℕ). IsTrue (piece_ends p t)) e c.1, cuts-append ps qs rest c.2 d)
 
 pub front-append : (ps qs : List Piece) (n m : ℕ) (text : List ℕ) → IsFront ps n text → IsFront qs m (drop n text) → IsFront (ps ++ qs) (n + m) text
 front-append ps qs n m text a b =
     let l = length-drop n text in
     let inside : m ≤ length (drop n text) = b.within in
-    let cut : drop n text ≡ text_of qs ++ drop (n + m) text = sym (take-append-drop m (drop n text)) ∙ ap (λ t. t ++ drop m (drop n text)) b.joined ∙ ap (λ t. text_of qs ++ t) (drop-drop m n text) in
+    let cut : drop n text ≡ text_of qs ++ drop (n + m) text = sym (take-append-drop m (drop n text)) ∙ ap (λ t. t ++ drop m (drop n text)) b.joined
+    ∙ ap (λ t. text_of qs ++ t) (drop-drop m n text) in
     let tail : Cuts qs (drop (n + m) text) = subst (λ (t : List ℕ). Cuts qs t) (drop-drop m n text) b.cut in
     record {
       joined = take-add n m text ∙ ap (λ t. t ++ take m (drop n text)) a.joined ∙ ap (λ t. text_of ps ++ t) b.joined ∙ sym (text_of-append ps qs);
@@ -68,21 +71,28 @@ pub record Run (p : ℕ → Bool) (xs : List ℕ) (n : ℕ) : Type 0 where
   pub passes : IsTrue (list_all p (take n xs))
   pub ends : begins p (drop n xs) ≡ false
 
-run-step : (p : ℕ → Bool) (x : ℕ) (xs : List ℕ) (b : Bool) → p x ≡ b → Run p xs (length (take_while p xs)) → Run p (x ∷ xs) (length (cond b (x ∷ take_while p xs) []))
-run-step p x xs true e r = record { within = let w : length (take_while p xs) ≤ length xs = r.within in omega arith; passes = all_true _ _ e r.passes; ends = r.ends }
+run-step : (p : ℕ → Bool) (x : ℕ) (xs : List ℕ) (b : Bool) → p x ≡ b → Run p xs (length (take_while p xs))
+    → Run p (x ∷ xs) (length (cond b (x ∷ take_while p xs) []))
+run-step p x xs true e r = record {
+  within = let w : length (take_while p xs) ≤ length xs = r.within in omega arith;
+  passes = all_true _ _ e r.passes;
+  ends = r.ends;
+}
 run-step p x xs false e r = record { within = omega arith; passes = refl; ends = e }
 
 pub run-of : (p : ℕ → Bool) (xs : List ℕ) → Run p xs (length (take_while p xs))
 run-of p [] = record { within = omega arith; passes = refl; ends = refl }
 run-of p (x ∷ xs) = subst (λ (n : ℕ). Run p (x ∷ xs) n) (ap length (sym (take_while-cons p x xs))) (run-step p x xs (p x) refl (run-of p xs))
 
-pub word-front : (t : Token) (n : ℕ) (text : List ℕ) → take n text ≡ spelling t → n ≤ length text → IsToken t → IsTrue (token_ends t (drop n text)) → IsFront (Word t ∷ []) n text
+pub word-front : (t : Token) (n : ℕ) (text : List ℕ) → take n text ≡ spelling t → n ≤ length text → IsToken t → IsTrue (token_ends t (drop n text))
+    → IsFront (Word t ∷ []) n text
 word-front t n text e within valid ends = record { joined = e ∙ sym (append-nil (spelling t)); within = within; cut = (valid, ends, tt) }
 
 letter_named : (b : ℕ) → IsTrue (is_letter b) → is_name_byte b ≡ true
 letter_named b h = grind (arith)
 
-pub named-front : (text : List ℕ) (n : ℕ) (t : Token) → 0 < length text → IsTrue (is_letter (get_or text 0 0)) → Run is_name_byte text n → IsNamed (take n text) t
+pub named-front : (text : List ℕ) (n : ℕ) (t : Token) → 0 < length text → IsTrue (is_letter (get_or text 0 0)) → Run is_name_byte text n
+    → IsNamed (take n text) t
     → list_any (bytes_eq (take n text)) reserved_words ≡ false → IsFirst t n text
 named-front [] n t some letter run named free = absurd (omega arith)
 named-front (x ∷ xs) zero t some letter run named free = absurd (true≢false (sym (letter_named x letter) ∙ run.ends))
@@ -99,9 +109,12 @@ atom-front (x ∷ xs) n some quote run few many inside closed =
     let two : n + 2 ≡ suc (n + 1) = omega arith in
     let l : length (take n xs) ≡ n = length-take-le n xs run.within in
     let bytes : take (n + 2) (x ∷ xs) ≡ spelling (Atom (take n xs))
-    = ap (λ k. take k (x ∷ xs)) two ∙ ap (λ t. x ∷ t) (take_more xs n 0 inside ∙ ap (λ b. take n xs ++ b ∷ []) closed) ∙ ap (λ b. b ∷ (take n xs ++ 34 ∷ [])) quote in
+    = ap (λ k. take k (x ∷ xs)) two ∙ ap (λ t. x ∷ t) (take_more xs n 0 inside ∙ ap (λ b. take n xs ++ b ∷ []) closed)
+    ∙ ap (λ b. b ∷ (take n xs ++ 34 ∷ [])) quote in
     record {
-      front = word-front (Atom (take n xs)) (n + 2) (x ∷ xs) bytes (omega arith) (all_true _ _ (all_true _ _ (le_true 1 (length (take n xs)) (omega arith)) (le_true (length (take n xs)) LONGEST_LABEL (omega arith))) run.passes) refl;
+      front = word-front (Atom (take n xs)) (n + 2) (x ∷ xs) bytes (omega arith)
+          (all_true _ _ (all_true _ _ (le_true 1 (length (take n xs)) (omega arith))
+          (le_true (length (take n xs)) LONGEST_LABEL (omega arith))) run.passes) refl;
       some = omega arith;
     }
 
@@ -118,7 +131,8 @@ gap-more n m text p g f e = record {
 blank-front : (x : ℕ) (xs : List ℕ) → IsTrue (x == 32 || x == 9 || x == 13 || x == 10) → IsFront (Blank x ∷ []) 1 (x ∷ xs)
 blank-front x xs h = record { joined = refl; within = omega arith; cut = (h, refl, tt) }
 
-pub gap-blank : (n : ℕ) (text : List ℕ) → IsGap n text → n < length text → IsTrue (get_or text n 0 == 32 || get_or text n 0 == 9 || get_or text n 0 == 13 || get_or text n 0 == 10) → IsGap (n + 1) text
+pub gap-blank : (n : ℕ) (text : List ℕ) → IsGap n text → n < length text
+    → IsTrue (get_or text n 0 == 32 || get_or text n 0 == 9 || get_or text n 0 == 13 || get_or text n 0 == 10) → IsGap (n + 1) text
 gap-blank n text g lt h =
     let x = get_or text n 0 in
     gap-more n 1 text (Blank x) g (subst (λ (t : List ℕ). IsFront (Blank x ∷ []) 1 t) (sym (drop_more text n 0 lt)) (blank-front x (drop (n + 1) text) h)) refl
@@ -127,7 +141,8 @@ comment-front : (m : ℕ) (xs : List ℕ) → Run (λ b. not (b == 10)) (37 ∷ 
 comment-front zero xs r = absurd (true≢false r.ends)
 comment-front (suc m) xs r = (take m xs, record { joined = sym (append-nil (37 ∷ take m xs)); within = r.within; cut = (r.passes, ap not r.ends, tt) })
 
-pub gap-comment : (n : ℕ) (text : List ℕ) → IsGap n text → n < length text → get_or text n 0 ≡ 37 → IsGap (n + length (take_while (λ b. not (b == 10)) (drop n text))) text
+pub gap-comment : (n : ℕ) (text : List ℕ) → IsGap n text → n < length text → get_or text n 0 ≡ 37
+    → IsGap (n + length (take_while (λ b. not (b == 10)) (drop n text))) text
 gap-comment n text g lt e =
     let p : ℕ → Bool = λ b. not (b == 10) in
     let m = length (take_while p (drop n text)) in

@@ -3,7 +3,8 @@ use Rattle.std.specs.Prelude.{◌≡◌, ◌≢◌, ◌⊎◌, ℕ, ◌+◌, Boo
 use Rattle.std.specs.List.{list_any}
 use Rattle.std.proofs.Common.{sym, ◌∙◌, ap, subst, append_assoc, append-nil, true≢false, inl, inr}
 use Rattle.std.proofs.lemmas.List.{length-append}
-use Rattle.formula.specs.Token.{Reserved, PlusSign, spelling, Piece, Blank, Comment, Word, piece_text, IsPiece, piece_ends, text_of, Cuts, tokens_of, offsets_from, is_reserved}
+use Rattle.formula.specs.Token.{Reserved, PlusSign, spelling, Piece, Blank, Comment, Word, piece_text, IsPiece, piece_ends, text_of, Cuts, tokens_of}
+use Rattle.formula.specs.Token.{offsets_from, is_reserved}
 use Rattle.formula.specs.Fault.{NothingBegins, TokenFault, IsTokens}
 use Rattle.formula.specs.declared.error.FormulaFault.{FormulaFault}
 use Rattle.formula.specs.declared.error.FormulaFault.TheVariants as fault
@@ -48,11 +49,13 @@ plain_reserves (Word t) h = h
 plain_reserves _ h = h
 
 -- Two fronts of pieces, none reserved, each before a text where no more stand, are of one length.
-same_front : (ps qs : List Piece) (m n : List ℕ) → Cuts ps m → Cuts qs n → IsFalse (list_any is_reserved (tokens_of ps)) → IsFalse (list_any is_reserved (tokens_of qs)) → Blocks m → Blocks n
+same_front : (ps qs : List Piece) (m n : List ℕ) → Cuts ps m → Cuts qs n → IsFalse (list_any is_reserved (tokens_of ps))
+    → IsFalse (list_any is_reserved (tokens_of qs)) → Blocks m → Blocks n
     → text_of ps ++ m ≡ text_of qs ++ n → (length (text_of ps) ≡ length (text_of qs)) × (m ≡ n)
 same_front [] [] m n cp cq fp fq bm bn e = (refl, e)
 same_front [] (q ∷ qs) m n cp cq fp fq bm bn e = absurd (not_first q qs fq (bm q (text_of qs ++ n) cq.0 cq.1 (e ∙ append_assoc (piece_text q) (text_of qs) n)))
-same_front (p ∷ ps) [] m n cp cq fp fq bm bn e = absurd (not_first p ps fp (bn p (text_of ps ++ m) cp.0 cp.1 (sym e ∙ append_assoc (piece_text p) (text_of ps) m)))
+same_front (p ∷ ps) [] m n cp cq fp fq bm bn e = absurd (not_first p ps fp
+    (bn p (text_of ps ++ m) cp.0 cp.1 (sym e ∙ append_assoc (piece_text p) (text_of ps) m)))
 same_front (p ∷ ps) (q ∷ qs) m n cp cq fp fq bm bn e =
     let apart = sym (append_assoc (piece_text p) (text_of ps) m) ∙ e ∙ append_assoc (piece_text q) (text_of qs) n in
     let first = one_piece p q (text_of ps ++ m) (text_of qs ++ n) cp.0 cq.0 cp.1 cq.1 apart in
@@ -75,7 +78,8 @@ end_blocks p rest valid ends e = absurd (some_bytes p rest valid (sym e))
 abbrev Stops : List ℕ → FormulaFault → Type 0
 Stops rest f =
     ((f ≡ fault.NoToken) × (rest ≢ []) × NothingBegins rest)
-    ⊎ ((f ≡ fault.ReservedWord) × (word more : List ℕ) × IsPiece (Word (Reserved word)) × IsTrue (piece_ends (Word (Reserved word)) more) × (rest ≡ word ++ more))
+    ⊎ ((f ≡ fault.ReservedWord) × (word more : List ℕ) × IsPiece (Word (Reserved word)) × IsTrue (piece_ends (Word (Reserved word)) more)
+    × (rest ≡ word ++ more))
 
 -- the text is cut up to here, where the tokens stop
 record Stop (text : List ℕ) (f : FormulaFault) (place : ℕ) : Type 0 where
@@ -90,9 +94,27 @@ record Stop (text : List ℕ) (f : FormulaFault) (place : ℕ) : Type 0 where
 
 stop : (text : List ℕ) (f : FormulaFault) (place : ℕ) → TokenFault text f place → Stop text f place
 stop text fault.NoToken place (pieces, rest, joined, cut, free, some, none, here) =
-    record { pieces = pieces; rest = rest; joined = joined; cut = cut; free = free; blocked = nothing_blocks rest none; here = here; why = inl (refl, some, none) }
+    record {
+      pieces = pieces;
+      rest = rest;
+      joined = joined;
+      cut = cut;
+      free = free;
+      blocked = nothing_blocks rest none;
+      here = here;
+      why = inl (refl, some, none);
+    }
 stop text fault.ReservedWord place (pieces, word, more, joined, cut, free, valid, ends, here) =
-    record { pieces = pieces; rest = word ++ more; joined = joined; cut = cut; free = free; blocked = reserved_blocks word more valid ends; here = here; why = inr (refl, word, more, valid, ends, refl) }
+    record {
+      pieces = pieces;
+      rest = word ++ more;
+      joined = joined;
+      cut = cut;
+      free = free;
+      blocked = reserved_blocks word more valid ends;
+      here = here;
+      why = inr (refl, word, more, valid, ends, refl);
+    }
 stop text _ place h = absurd h
 
 one_reason : (m n : List ℕ) (f g : FormulaFault) → m ≡ n → Stops m f → Stops n g → f ≡ g
@@ -117,7 +139,8 @@ ends_stop rest f e (inr a) = some_bytes (Word (Reserved a.1)) a.2 a.3 (sym a.5 �
 pub no_token_fault : (text : List ℕ) (pieces : List Piece) (f : FormulaFault) (place : ℕ) → IsTokens text pieces → TokenFault text f place → ⊥
 no_token_fault text pieces f place t h =
     let x = stop text f place h in
-    let same = same_front x.pieces pieces x.rest [] x.cut t.cut x.free t.free x.blocked end_blocks (sym x.joined ∙ t.joined ∙ sym (append-nil (text_of pieces))) in
+    let same = same_front x.pieces pieces x.rest [] x.cut t.cut x.free t.free x.blocked end_blocks
+    (sym x.joined ∙ t.joined ∙ sym (append-nil (text_of pieces))) in
     ends_stop x.rest f same.1 x.why
 
 plain_offsets : (ps : List Piece) (at : ℕ) → offsets_from at (map plain ps) ≡ offsets_from at ps

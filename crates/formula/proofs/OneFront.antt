@@ -16,10 +16,12 @@ abbrev Stuck : (List Token → Type 0) → List Token → List Token → Type 0
 Stuck P front back = (t : Token) (more : List Token) → back ≡ t ∷ more → P (front ++ t ∷ []) → ⊥
 
 -- it can, where another front is longer
-grows : (P : List Token → Type 0) → ((xs ys : List Token) → P (xs ++ ys) → P xs) → (back back' front' : List Token) (t : Token) → P (t ∷ front') → Stuck P [] back → back ≡ t ∷ (front' ++ back') → ⊥
+grows : (P : List Token → Type 0) → ((xs ys : List Token) → P (xs ++ ys) → P xs) → (back back' front' : List Token) (t : Token) → P (t ∷ front')
+    → Stuck P [] back → back ≡ t ∷ (front' ++ back') → ⊥
 grows P closed back back' front' t holds stuck e = stuck t (front' ++ back') e (closed (t ∷ []) front' holds)
 
-one_front : (P : List Token → Type 0) → ((xs ys : List Token) → P (xs ++ ys) → P xs) → (front front' back back' : List Token) → P front → P front' → Stuck P front back → Stuck P front' back'
+one_front : (P : List Token → Type 0) → ((xs ys : List Token) → P (xs ++ ys) → P xs) → (front front' back back' : List Token) → P front → P front'
+    → Stuck P front back → Stuck P front' back'
     → front ++ back ≡ front' ++ back' → (front ≡ front') × (back ≡ back')
 one_front P closed [] [] back back' h k stuck stuck' e = (refl, e)
 one_front P closed [] (t ∷ front') back back' h k stuck stuck' e = absurd (grows P closed back back' front' t k stuck e)
@@ -43,7 +45,8 @@ Kind front f = ((f ≡ fault.Unexpected) × (Begins front → ⊥)) ⊎ ((f ≡ 
 abbrev Reason : List ℕ → List ℕ → List Token → List Token → FormulaFault → ℕ → Type 0
 Reason text offsets front back f place =
     ((back ≡ []) × (f ≡ fault.Unfinished) × (place ≡ length text) × ((s : Syntax) → IsTrue (fits s) → tokens s ≡ front → ⊥))
-    ⊎ ((t : Token) × (more : List Token) × (back ≡ t ∷ more) × (BeginsWithin (front ++ t ∷ []) → ⊥) × (slice_get offsets (length front) ≡ Some place) × Kind (front ++ t ∷ []) f)
+    ⊎ ((t : Token) × (more : List Token) × (back ≡ t ∷ more) × (BeginsWithin (front ++ t ∷ []) → ⊥) × (slice_get offsets (length front) ≡ Some place)
+    × Kind (front ++ t ∷ []) f)
 
 -- the tokens are those of a formula up to here and no further
 record Stop (text : List ℕ) (f : FormulaFault) (place : ℕ) : Type 0 where
@@ -60,14 +63,39 @@ begins_within front none (s, more, fit, small, e) = none (s, more, fit, e)
 
 stop : (text : List ℕ) (f : FormulaFault) (place : ℕ) → GrammarFault text f place → Stop text f place
 stop text fault.Unexpected place (pieces, front, back, t, whole, split, begun, none, there) =
-    record { pieces = pieces; front = front; back = t ∷ back; whole = whole; split = split; begun = begun; why = inr (t, back, refl, begins_within (front ++ t ∷ []) none, there, inl (refl, none)) }
+    record {
+      pieces = pieces;
+      front = front;
+      back = t ∷ back;
+      whole = whole;
+      split = split;
+      begun = begun;
+      why = inr (t, back, refl, begins_within (front ++ t ∷ []) none, there, inl (refl, none));
+    }
 stop text fault.TooLarge place (pieces, front, back, t, whole, split, begun, some, none, there) =
-    record { pieces = pieces; front = front; back = t ∷ back; whole = whole; split = split; begun = begun; why = inr (t, back, refl, none, there, inr (refl, some)) }
+    record {
+      pieces = pieces;
+      front = front;
+      back = t ∷ back;
+      whole = whole;
+      split = split;
+      begun = begun;
+      why = inr (t, back, refl, none, there, inr (refl, some));
+    }
 stop text fault.Unfinished place (pieces, whole, begun, none, there) =
-    record { pieces = pieces; front = tokens_of pieces; back = []; whole = whole; split = sym (append-nil (tokens_of pieces)); begun = begun; why = inl (refl, refl, there, none) }
+    record {
+      pieces = pieces;
+      front = tokens_of pieces;
+      back = [];
+      whole = whole;
+      split = sym (append-nil (tokens_of pieces));
+      begun = begun;
+      why = inl (refl, refl, there, none);
+    }
 stop text _ place h = absurd h
 
-stuck : (text offsets : List ℕ) (front back : List Token) (f : FormulaFault) (place : ℕ) → Reason text offsets front back f place → Stuck BeginsWithin front back
+stuck : (text offsets : List ℕ) (front back : List Token) (f : FormulaFault) (place : ℕ) → Reason text offsets front back f place
+    → Stuck BeginsWithin front back
 stuck text offsets front back f place (inl a) t more e h = cc
 stuck text offsets front back f place (inr a) t more e h =
     let same = heads_same a.0 t a.1 more (sym a.2 ∙ e) in
@@ -79,7 +107,8 @@ one_kind front f g (inr a) (inr b) = a.0 ∙ sym b.0
 one_kind front f g (inl a) (inr b) = absurd (a.1 b.1)
 one_kind front f g (inr a) (inl b) = absurd (b.1 a.1)
 
-one_reason : (text offsets : List ℕ) (front back : List Token) (f g : FormulaFault) (p q : ℕ) → Reason text offsets front back f p → Reason text offsets front back g q → (f ≡ g) × (p ≡ q)
+one_reason : (text offsets : List ℕ) (front back : List Token) (f g : FormulaFault) (p q : ℕ) → Reason text offsets front back f p
+    → Reason text offsets front back g q → (f ≡ g) × (p ≡ q)
 one_reason text offsets front back f g p q (inl a) (inl b) = (a.1 ∙ sym b.1, a.2 ∙ sym b.2)
 one_reason text offsets front back f g p q (inl a) (inr b) = let e : [] ≡ b.0 ∷ b.1 = sym a.0 ∙ b.2 in cc
 one_reason text offsets front back f g p q (inr a) (inl b) = let e : [] ≡ a.0 ∷ a.1 = sym b.0 ∙ a.2 in cc
@@ -98,20 +127,24 @@ one_grammar_fault text f g p q a b =
     let joined = sym x.whole.joined ∙ y.whole.joined in
     let words = same_tokens xs ys x.whole.cut y.whole.cut x.whole.decided y.whole.decided joined in
     let offsets = same_offsets xs ys x.whole.cut y.whole.cut joined in
-    let same = one_front BeginsWithin within_closed x.front y.front x.back y.back x.begun y.begun (stuck text (offsets_from 0 xs) x.front x.back f p x.why) (stuck text (offsets_from 0 ys) y.front y.back g q y.why)
+    let same = one_front BeginsWithin within_closed x.front y.front x.back y.back x.begun y.begun (stuck text (offsets_from 0 xs) x.front x.back f p x.why)
+    (stuck text (offsets_from 0 ys) y.front y.back g q y.why)
     (sym x.split ∙ words ∙ y.split) in
     let other : Reason text (offsets_from 0 xs) x.front x.back g q =
     subst (λ (os : List ℕ). Reason text os x.front x.back g q) (sym offsets)
-    (subst (λ (front : List Token). Reason text (offsets_from 0 ys) front x.back g q) (sym same.0) (subst (λ (back : List Token). Reason text (offsets_from 0 ys) y.front back g q) (sym same.1) y.why)) in
+    (subst (λ (front : List Token). Reason text (offsets_from 0 ys) front x.back g q) (sym same.0)
+    (subst (λ (back : List Token). Reason text (offsets_from 0 ys) y.front back g q) (sym same.1) y.why)) in
     one_reason text (offsets_from 0 xs) x.front x.back f g p q x.why other
 
-goes_on : (text offsets : List ℕ) (front back : List Token) (f : FormulaFault) (place : ℕ) (s : Syntax) → Reason text offsets front back f place → IsTrue (fits s) → IsTrue (is_within_limits s) → tokens s ≡ front ++ back → ⊥
+goes_on : (text offsets : List ℕ) (front back : List Token) (f : FormulaFault) (place : ℕ) (s : Syntax) → Reason text offsets front back f place
+    → IsTrue (fits s) → IsTrue (is_within_limits s) → tokens s ≡ front ++ back → ⊥
 goes_on text offsets front back f place s (inl a) fit small e = a.3 s fit (e ∙ ap (λ ts. front ++ ts) a.0 ∙ append-nil front)
 goes_on text offsets front back f place s (inr a) fit small e =
     a.3 (s, a.1, fit, small, e ∙ ap (λ ts. front ++ ts) a.2 ∙ sym (append_assoc front (a.0 ∷ []) a.1))
 
 -- A text that is written as a formula within the limits has no fault of the grammar.
-pub no_grammar_fault : (text : List ℕ) (pieces : List Piece) (s : Syntax) (f : FormulaFault) (place : ℕ) → IsWritten text pieces s → IsTrue (is_within_limits s) → GrammarFault text f place → ⊥
+pub no_grammar_fault : (text : List ℕ) (pieces : List Piece) (s : Syntax) (f : FormulaFault) (place : ℕ) → IsWritten text pieces s
+    → IsTrue (is_within_limits s) → GrammarFault text f place → ⊥
 no_grammar_fault text pieces s f place w small h =
     let x = stop text f place h in
     let words = same_tokens pieces x.pieces w.cut x.whole.cut w.decided x.whole.decided (sym w.joined ∙ x.whole.joined) in

@@ -46,30 +46,46 @@ grown_text : (ps : List Piece) (p : Piece) → text_of (ps ++ p ∷ []) ≡ text
 grown_text ps p = text_of-append ps (p ∷ []) ∙ ap (λ text. text_of ps ++ text) (append-nil (piece_text p))
 
 grown_cut : (ps : List Piece) (p : Piece) (more : List ℕ) → Cuts ps (piece_text p ++ more) → IsPiece p → IsTrue (piece_ends p more) → Cuts (ps ++ p ∷ []) more
-grown_cut ps p more cut valid ends = cuts-append ps (p ∷ []) more (subst (λ (text : List ℕ). Cuts ps (text ++ more)) (sym (append-nil (piece_text p))) cut) (valid, ends, tt)
+grown_cut ps p more cut valid ends = cuts-append ps (p ∷ []) more (subst (λ (text : List ℕ). Cuts ps (text ++ more)) (sym (append-nil (piece_text p))) cut)
+    (valid, ends, tt)
 
-grown_free : (ps : List Piece) (p : Piece) → IsFalse (list_any is_reserved (tokens_of ps)) → IsFalse (list_any is_reserved (tokens_of (p ∷ []))) → IsFalse (list_any is_reserved (tokens_of (ps ++ p ∷ [])))
-grown_free ps p h k = ap (list_any is_reserved) (tokens_of-append ps (p ∷ [])) ∙ (list_any-append is_reserved (tokens_of ps) (tokens_of (p ∷ [])) ∙ (λ i. h i || k i))
+grown_free : (ps : List Piece) (p : Piece) → IsFalse (list_any is_reserved (tokens_of ps)) → IsFalse (list_any is_reserved (tokens_of (p ∷ [])))
+    → IsFalse (list_any is_reserved (tokens_of (ps ++ p ∷ [])))
+grown_free ps p h k = ap (list_any is_reserved) (tokens_of-append ps (p ∷ []))
+    ∙ (list_any-append is_reserved (tokens_of ps) (tokens_of (p ∷ [])) ∙ (λ i. h i || k i))
 
 -- No text is without both: a token fault, and pieces that are all tokens, none reserved.
 module _ (text : List ℕ) (faultless : (f : FormulaFault) (place : ℕ) → TokenFault text f place → ⊥) (untold : (ps : List Piece) → IsTokens text ps → ⊥) where
   -- with this piece next, where the text after it cannot be cut on
-  cut_one : (ps : List Piece) (rest : List ℕ) (p : Piece) (more : List ℕ) → text ≡ text_of ps ++ rest → Cuts ps rest → IsFalse (list_any is_reserved (tokens_of ps)) → IsPiece p → IsTrue (piece_ends p more) → rest ≡ piece_text p ++ more → Kind p
+  cut_one : (ps : List Piece) (rest : List ℕ) (p : Piece) (more : List ℕ) → text ≡ text_of ps ++ rest → Cuts ps rest
+      → IsFalse (list_any is_reserved (tokens_of ps)) → IsPiece p → IsTrue (piece_ends p more) → rest ≡ piece_text p ++ more → Kind p
       → (text ≡ text_of (ps ++ p ∷ []) ++ more → Cuts (ps ++ p ∷ []) more → IsFalse (list_any is_reserved (tokens_of (ps ++ p ∷ []))) → ⊥) → ⊥
   cut_one ps rest p more e cut none valid ends is (word bytes same) on =
       let here : rest ≡ bytes ++ more = is ∙ ap (λ q. piece_text q ++ more) same in
       let joined : text ≡ text_of ps ++ (bytes ++ more) = e ∙ ap (λ us. text_of ps ++ us) here in
       let before : Cuts ps (bytes ++ more) = subst (λ (us : List ℕ). Cuts ps us) here cut in
-      faultless fault.ReservedWord (length (text_of ps)) (ps, bytes, more, joined, before, none, subst IsPiece same valid, subst (λ q. IsTrue (piece_ends q more)) same ends, refl)
+      faultless fault.ReservedWord (length (text_of ps)) (
+        ps,
+        bytes,
+        more,
+        joined,
+        before,
+        none,
+        subst IsPiece same valid,
+        subst (λ q. IsTrue (piece_ends q more)) same ends,
+        refl,
+      )
   cut_one ps rest p more e cut none valid ends is (free also) on =
       on (e ∙ (ap (λ us. text_of ps ++ us) is ∙ (sym (append_assoc (text_of ps) (piece_text p) more) ∙ ap (λ us. us ++ more) (sym (grown_text ps p)))))
       (grown_cut ps p more (subst (λ (us : List ℕ). Cuts ps us) is cut) valid ends) (grown_free ps p none also)
 
-  cut_on : (n : ℕ) (ps : List Piece) (rest : List ℕ) → length rest ≤ n → text ≡ text_of ps ++ rest → Cuts ps rest → IsFalse (list_any is_reserved (tokens_of ps)) → ⊥
+  cut_on : (n : ℕ) (ps : List Piece) (rest : List ℕ) → length rest ≤ n → text ≡ text_of ps ++ rest → Cuts ps rest
+      → IsFalse (list_any is_reserved (tokens_of ps)) → ⊥
   cut_on n ps [] few e cut none = untold _ (settled_tokens text ps (e ∙ append-nil (text_of ps)) cut none)
   cut_on zero ps (b ∷ rest) few e cut none = absurd (omega arith)
   cut_on (suc n) ps (b ∷ rest) few e cut none =
-      let nothing : NothingBegins (b ∷ rest) = λ p more valid ends is. cut_one ps (b ∷ rest) p more e cut none valid ends is (kind p) (λ k c h. cut_on n (ps ++ p ∷ []) more (omega (arith, ap length is, fewer p more valid)) k c h) in
+      let nothing : NothingBegins (b ∷ rest) = λ p more valid ends is. cut_one ps (b ∷ rest) p more e cut none valid ends is (kind p)
+      (λ k c h. cut_on n (ps ++ p ∷ []) more (omega (arith, ap length is, fewer p more valid)) k c h) in
       faultless fault.NoToken (length (text_of ps)) (ps, b ∷ rest, e, cut, none, (λ empty. cc), nothing, refl)
 
   pub all_cut : ⊥
@@ -113,7 +129,8 @@ module _ (text : List ℕ) (ps : List Piece) (all : IsTokens text ps) (faultless
 
 -- ---- the written formula
 
-variable_fault_at : (text : List ℕ) (f : FormulaFault) (place : ℕ) (ps : List Piece) (s : Syntax) (first : ℕ) (others : List (ℕ × FormulaFault)) → IsTrue (is_variable_fault f) → IsWritten text ps s → IsTrue (is_within_limits s)
+variable_fault_at : (text : List ℕ) (f : FormulaFault) (place : ℕ) (ps : List Piece) (s : Syntax) (first : ℕ) (others : List (ℕ × FormulaFault))
+    → IsTrue (is_variable_fault f) → IsWritten text ps s → IsTrue (is_within_limits s)
     → operand_faults 0 s ≡ [] → variable_faults [] 0 s ≡ (first, f) ∷ others → slice_get (offsets_from 0 ps) first ≡ Some place → TreeFault text f place
 variable_fault_at text fault.Unbound place ps s first others kind w small none e there = (ps, s, first, others, w, small, none, e, there)
 variable_fault_at text fault.OddNegations place ps s first others kind w small none e there = (ps, s, first, others, w, small, none, e, there)
@@ -124,7 +141,8 @@ some_of (Some a) h = (a, refl)
 some_of None h = absurd (true≢false (sym h))
 
 -- No written formula within the limits is without both: a fault of an operand or a variable, and an admitted meaning.
-module _ (text : List ℕ) (ps : List Piece) (s : Syntax) (w : IsWritten text ps s) (small : IsTrue (is_within_limits s)) (faultless : (f : FormulaFault) (place : ℕ) → TreeFault text f place → ⊥)
+module _ (text : List ℕ) (ps : List Piece) (s : Syntax) (w : IsWritten text ps s) (small : IsTrue (is_within_limits s))
+    (faultless : (f : FormulaFault) (place : ℕ) → TreeFault text f place → ⊥)
     (unmeant : (f : Formula) → meant s ≡ Some f → IsAdmitted f → ⊥) where
   place_of : (n : ℕ) → n < 0 + length (tokens s) → (place : ℕ) × (slice_get (offsets_from 0 ps) n ≡ Some place)
   place_of n lt = token_place ps n (omega (arith, ap length w.spelled, lt))
@@ -132,7 +150,8 @@ module _ (text : List ℕ) (ps : List Piece) (s : Syntax) (w : IsWritten text ps
   by_variables : (f : Formula) → operand_faults 0 s ≡ [] → meant s ≡ Some f → (faults : List (ℕ × FormulaFault)) → variable_faults [] 0 s ≡ faults → ⊥
   by_variables f none m [] e = unmeant f m (admitted_in s [] 0 f e m)
   by_variables f none m (first ∷ others) e =
-      let below = subst (AllByRecursion (λ (x : ℕ × FormulaFault). (x.0 < 0 + length (tokens s)) × IsTrue (is_variable_fault x.1))) e (variables_below s [] 0) in
+      let below = subst (AllByRecursion (λ (x : ℕ × FormulaFault). (x.0 < 0 + length (tokens s)) × IsTrue (is_variable_fault x.1))) e
+      (variables_below s [] 0) in
       let place = place_of first.0 below.0.0 in
       faultless first.1 place.0 (variable_fault_at text first.1 place.0 ps s first.0 others below.0.1 w small none e place.1)
 
@@ -148,7 +167,8 @@ module _ (text : List ℕ) (ps : List Piece) (s : Syntax) (w : IsWritten text ps
 
 -- ---- the text
 
-pub decided : (text : List ℕ) → (((f : Formula) × SpellsWithin text f × IsAdmitted f) → ⊥) → (((f : FormulaFault) × (place : ℕ) × HasFault text f place) → ⊥) → ⊥
+pub decided : (text : List ℕ) → (((f : Formula) × SpellsWithin text f × IsAdmitted f) → ⊥) → (((f : FormulaFault) × (place : ℕ) × HasFault text f place) → ⊥)
+    → ⊥
 decided text unspelled faultless = elim (leb_tells (length text) LONGEST_TEXT) [
   | inl short ↦
       all_cut text (λ f place h. faultless (f, place, inr (short.1, inl h)))

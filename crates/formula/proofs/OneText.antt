@@ -24,7 +24,8 @@ one_writing text ps qs s t a b =
     one_syntax s t a.grammatical b.grammatical (sym a.spelled ∙ (same ∙ b.spelled))
 
 pub one_formula : (text : List ℕ) (f g : Formula) → Spells text f → Spells text g → f ≡ g
-one_formula text f g a b = some_once f g (sym a.stands_for ∙ (ap meant (one_writing text a.pieces b.pieces a.syntax b.syntax a.written b.written) ∙ b.stands_for))
+one_formula text f g a b = some_once f g (sym a.stands_for ∙
+    (ap meant (one_writing text a.pieces b.pieces a.syntax b.syntax a.written b.written) ∙ b.stands_for))
 
 -- the faults of a written formula, with their places in tokens, those of operands first
 abbrev pub faults : Syntax → List (ℕ × FormulaFault)
@@ -42,16 +43,36 @@ pub record First (text : List ℕ) (f : FormulaFault) (place : ℕ) : Type 0 whe
   pub there : slice_get (offsets_from 0 pieces) number ≡ Some place
 
 operand_first : (operands : List ℕ) (variables : List (ℕ × FormulaFault)) (number : ℕ) (others : List ℕ) → operands ≡ number ∷ others
-    → map (λ place. (place, fault.NotAnAction)) operands ++ variables ≡ (number, fault.NotAnAction) ∷ (map (λ place. (place, fault.NotAnAction)) others ++ variables)
+    → map (λ place. (place, fault.NotAnAction)) operands ++ variables
+    ≡ (number, fault.NotAnAction) ∷ (map (λ place. (place, fault.NotAnAction)) others ++ variables)
 operand_first operands variables number others e = λ i. map (λ place. (place, fault.NotAnAction)) (e i) ++ variables
 
-pub variable_first : (operands : List ℕ) (variables rest : List (ℕ × FormulaFault)) → operands ≡ [] → variables ≡ rest → map (λ place. (place, fault.NotAnAction)) operands ++ variables ≡ rest
+pub variable_first : (operands : List ℕ) (variables rest : List (ℕ × FormulaFault)) → operands ≡ [] → variables ≡ rest
+    → map (λ place. (place, fault.NotAnAction)) operands ++ variables ≡ rest
 variable_first operands variables rest none e = (λ i. map (λ place. (place, fault.NotAnAction)) (none i) ++ variables) ∙ e
 
 pub first : (text : List ℕ) (f : FormulaFault) (place : ℕ) → TreeFault text f place → First text f place
 first text fault.NotAnAction place (pieces, s, number, others, written, within, e, there) =
-    record { pieces = pieces; syntax = s; number = number; others = _; written = written; within = within; first = operand_first _ _ number others e; there = there }
-first text _ place h = record { pieces = h.0; syntax = h.1; number = h.2; others = h.3; written = h.4; within = h.5; first = variable_first _ _ _ h.6 h.7; there = h.8 }
+    record {
+      pieces = pieces;
+      syntax = s;
+      number = number;
+      others = _;
+      written = written;
+      within = within;
+      first = operand_first _ _ number others e;
+      there = there;
+    }
+first text _ place h = record {
+  pieces = h.0;
+  syntax = h.1;
+  number = h.2;
+  others = h.3;
+  written = h.4;
+  within = h.5;
+  first = variable_first _ _ _ h.6 h.7;
+  there = h.8;
+}
 
 same_first : (n m : ℕ) (f g : FormulaFault) (others more : List (ℕ × FormulaFault)) → (n, f) ∷ others ≡ (m, g) ∷ more → (n ≡ m) × (f ≡ g)
 same_first n m f g others more e = let p : (n, f) ≡ (m, g) = cc in (ap (λ (x : ℕ × FormulaFault). x.0) p, ap (λ (x : ℕ × FormulaFault). x.1) p)
@@ -70,12 +91,14 @@ Later text f place = TokenFault text f place ⊎ (GrammarFault text f place ⊎ 
 token_alone : (text : List ℕ) (f g : FormulaFault) (p q : ℕ) → TokenFault text f p → Later text g q → (f ≡ g) × (p ≡ q)
 token_alone text f g p q a (inl b) = one_token_fault text f g p q a b
 token_alone text f g p q a (inr (inl b)) = let t = grammar_tokens text g q b in absurd (no_token_fault text t.0 f p t.1 a)
-token_alone text f g p q a (inr (inr b)) = let t = first text g q b in absurd (no_token_fault text t.pieces f p (written_tokens text t.pieces t.syntax t.written) a)
+token_alone text f g p q a (inr (inr b)) = let t = first text g q b
+    in absurd (no_token_fault text t.pieces f p (written_tokens text t.pieces t.syntax t.written) a)
 
 both_back : (f g : FormulaFault) (p q : ℕ) → (g ≡ f) × (q ≡ p) → (f ≡ g) × (p ≡ q)
 both_back f g p q e = (sym e.0, sym e.1)
 
-grammar_or_tree : (text : List ℕ) (f g : FormulaFault) (p q : ℕ) → GrammarFault text f p ⊎ TreeFault text f p → GrammarFault text g q ⊎ TreeFault text g q → (f ≡ g) × (p ≡ q)
+grammar_or_tree : (text : List ℕ) (f g : FormulaFault) (p q : ℕ) → GrammarFault text f p ⊎ TreeFault text f p → GrammarFault text g q ⊎ TreeFault text g q
+    → (f ≡ g) × (p ≡ q)
 grammar_or_tree text f g p q (inl a) (inl b) = one_grammar_fault text f g p q a b
 grammar_or_tree text f g p q (inr a) (inr b) = one_tree_fault text f g p q (first text f p a) (first text g q b)
 grammar_or_tree text f g p q (inl a) (inr b) = let t = first text g q b in absurd (no_grammar_fault text t.pieces t.syntax f p t.written t.within a)

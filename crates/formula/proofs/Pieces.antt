@@ -1,5 +1,6 @@
 -- A text is cut into tokens in one way: the first piece and what follows it are found again from the text.
-use Rattle.std.proofs.Common.{◌≡◌, ℕ, Bool, true, false, not, ◌&&◌, ◌||◌, List, [], ◌∷◌, ◌++◌, map, length, refl, sym, ap, ◌∙◌, subst, append_assoc, append-nil, inl, inr}
+use Rattle.std.proofs.Common.{◌≡◌, ℕ, Bool, true, false, not, ◌&&◌, ◌||◌, List, [], ◌∷◌, ◌++◌, map, length, refl, sym, ap, ◌∙◌, subst, append_assoc}
+use Rattle.std.proofs.Common.{append-nil, inl, inr}
 use Rattle.std.specs.Prelude.{nat_le, ◌==◌, if◌then◌else◌, codes}
 use Rattle.std.specs.List.{list_all, list_any, AllByRecursion}
 use Rattle.std.specs.Str.{bytes_eq}
@@ -8,7 +9,10 @@ use Rattle.std.proofs.lemmas.Slice.Eq.{bytes_eq-Decides}
 use Rattle.text.specs.Text.{is_name, is_name_byte, is_letter, is_digit}
 use Rattle.systems.specs.declared.limits.TheConstants.{LONGEST_LABEL}
 use Rattle.systems.specs.Label.{is_label_byte}
-use Rattle.formula.specs.Token.{Token, Name, Reserved, Atom, TrueWord, FalseWord, MuWord, NuWord, TauWord, ImpliesSign, OrSign, AndSign, Bar, NotSign, Less, Greater, OpenBox, CloseBox, Open, Close, Dot, ChoiceSign, PlusSign, StarSign, spelling, words, reserved_words, is_free_name, IsToken, Piece, Blank, Comment, Word, piece_text, IsPiece, begins, token_ends, piece_ends, text_of, Cuts, tokens_of, is_after_postfix, sign_is_decided, is_decided}
+use Rattle.formula.specs.Token.{Token, Name, Reserved, Atom, TrueWord, FalseWord, MuWord, NuWord, TauWord, ImpliesSign, OrSign, AndSign, Bar, NotSign, Less}
+use Rattle.formula.specs.Token.{Greater, OpenBox, CloseBox, Open, Close, Dot, ChoiceSign, PlusSign, StarSign, spelling, words, reserved_words, is_free_name}
+use Rattle.formula.specs.Token.{IsToken, Piece, Blank, Comment, Word, piece_text, IsPiece, begins, token_ends, piece_ends, text_of, Cuts, tokens_of}
+use Rattle.formula.specs.Token.{is_after_postfix, sign_is_decided, is_decided}
 
 -- the longest front whose bytes pass, and the rest
 abbrev front : (ℕ → Bool) → List ℕ → List ℕ
@@ -120,11 +124,13 @@ bytes_same xs ys h = (bytes_eq-Decides xs ys).0 h
 one_of : (bytes : List ℕ) (names : List (List ℕ)) (P : List ℕ → Type 0) → list_any (bytes_eq bytes) names ≡ true → AllByRecursion P names → P bytes
 one_of bytes [] P h each = cc
 one_of bytes (name ∷ names) P h each =
-    either_true (bytes_eq bytes name) (list_any (bytes_eq bytes) names) (P bytes) h (λ e. subst P (sym (bytes_same bytes name e)) each.0) (λ e. one_of bytes names P e each.1)
+    either_true (bytes_eq bytes name) (list_any (bytes_eq bytes) names) (P bytes) h (λ e. subst P (sym (bytes_same bytes name e)) each.0)
+    (λ e. one_of bytes names P e each.1)
 
 pub reserved_word : (bytes : List ℕ) → list_any (bytes_eq bytes) reserved_words ≡ true → (is_name bytes ≡ true) × (word_of bytes ≡ Reserved bytes)
 reserved_word bytes h =
-    one_of bytes reserved_words (λ bytes. (is_name bytes ≡ true) × (word_of bytes ≡ Reserved bytes)) h ((refl, refl), ((refl, refl), ((refl, refl), ((refl, refl), ((refl, refl), ((refl, refl), tt))))))
+    one_of bytes reserved_words (λ bytes. (is_name bytes ≡ true) × (word_of bytes ≡ Reserved bytes)) h
+    ((refl, refl), ((refl, refl), ((refl, refl), ((refl, refl), ((refl, refl), ((refl, refl), tt))))))
 
 or_false : (a b : Bool) → (a || b) ≡ false → (a ≡ false) × (b ≡ false)
 or_false true b h = cc
@@ -173,7 +179,8 @@ token_found _ m h k = refl
 cut_found : (p : Piece) (m : List ℕ) → IsPiece p → piece_ends p m ≡ true → cut_at (piece_text p ++ m) ≡ (plain p, m)
 cut_found (Blank byte) m h k =
     let P : Type 0 = cut_at (byte ∷ m) ≡ (Blank byte, m) in
-    let at : (b : ℕ) → cut_at (b ∷ m) ≡ (Blank b, m) → (byte == b) ≡ true → P = λ b e s. subst (λ c. cut_at (c ∷ m) ≡ (Blank c, m)) (sym (eqb-true byte b s)) e in
+    let at : (b : ℕ) → cut_at (b ∷ m) ≡ (Blank b, m) → (byte == b) ≡ true
+    → P = λ b e s. subst (λ c. cut_at (c ∷ m) ≡ (Blank c, m)) (sym (eqb-true byte b s)) e in
     either_true (byte == 32 || byte == 9 || byte == 13) (byte == 10) P h
     (λ x. either_true (byte == 32 || byte == 9) (byte == 13) P x
     (λ y. either_true (byte == 32) (byte == 9) P y (at 32 refl) (at 9 refl)) (at 13 refl)) (at 10 refl)
@@ -183,7 +190,8 @@ cut_found (Comment bytes) m h k =
 cut_found (Word t) m h k = token_found t m h k
 
 -- The pieces at the front of one text are one, apart from the kind of a `+`, and the same follows.
-pub one_piece : (p q : Piece) (m n : List ℕ) → IsPiece p → IsPiece q → piece_ends p m ≡ true → piece_ends q n ≡ true → piece_text p ++ m ≡ piece_text q ++ n → (plain p ≡ plain q) × (m ≡ n)
+pub one_piece : (p q : Piece) (m n : List ℕ) → IsPiece p → IsPiece q → piece_ends p m ≡ true → piece_ends q n ≡ true → piece_text p ++ m ≡ piece_text q ++ n
+    → (plain p ≡ plain q) × (m ≡ n)
 one_piece p q m n hp hq ep eq e =
     let both = sym (cut_found p m hp ep) ∙ (ap cut_at e ∙ cut_found q n hq eq) in
     (ap (λ (c : Piece × List ℕ). c.0) both, ap (λ (c : Piece × List ℕ). c.1) both)
@@ -203,7 +211,8 @@ same_pieces [] [] cp cq e = refl
 same_pieces [] (q ∷ qs) cp cq e = absurd (some_bytes q (text_of qs) cq.0 (sym e))
 same_pieces (p ∷ ps) [] cp cq e = absurd (some_bytes p (text_of ps) cp.0 e)
 same_pieces (p ∷ ps) (q ∷ qs) cp cq e =
-    let ends : (r : Piece) (rs : List Piece) → piece_ends r (text_of rs ++ []) ≡ true → piece_ends r (text_of rs) ≡ true = λ r rs h. ap (piece_ends r) (sym (append-nil (text_of rs))) ∙ h in
+    let ends : (r : Piece) (rs : List Piece) → piece_ends r (text_of rs ++ []) ≡ true
+    → piece_ends r (text_of rs) ≡ true = λ r rs h. ap (piece_ends r) (sym (append-nil (text_of rs))) ∙ h in
     let first = one_piece p q (text_of ps) (text_of qs) cp.0 cq.0 (ends p ps cp.1) (ends q qs cq.1) e in
     λ i. first.0 i ∷ same_pieces ps qs cp.2 cq.2 first.1 i
 
@@ -240,5 +249,7 @@ same_signs (t ∷ ts) (u ∷ us) h k e =
     λ i. head i ∷ tail i
 
 -- A text has its tokens in one way.
-pub same_tokens : (ps qs : List Piece) → Cuts ps [] → Cuts qs [] → is_decided (tokens_of ps) ≡ true → is_decided (tokens_of qs) ≡ true → text_of ps ≡ text_of qs → tokens_of ps ≡ tokens_of qs
-same_tokens ps qs cp cq dp dq e = same_signs (tokens_of ps) (tokens_of qs) dp dq (plain_tokens ps ∙ (ap tokens_of (same_pieces ps qs cp cq e) ∙ sym (plain_tokens qs)))
+pub same_tokens : (ps qs : List Piece) → Cuts ps [] → Cuts qs [] → is_decided (tokens_of ps) ≡ true → is_decided (tokens_of qs) ≡ true
+    → text_of ps ≡ text_of qs → tokens_of ps ≡ tokens_of qs
+same_tokens ps qs cp cq dp dq e = same_signs (tokens_of ps) (tokens_of qs) dp dq
+    (plain_tokens ps ∙ (ap tokens_of (same_pieces ps qs cp cq e) ∙ sym (plain_tokens qs)))

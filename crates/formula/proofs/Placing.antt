@@ -6,8 +6,10 @@ use Rattle.std.proofs.Common.{arith, get_or}
 use Rattle.std.proofs.lemmas.List.{length-append}
 use Rattle.std.proofs.lemmas.Option.{slice_get-get_or}
 use Rattle.lts.proofs.Gathering.{all_append}
-use Rattle.formula.specs.Token.{Token, Close, Greater, CloseBox, AndSign, OrSign, ImpliesSign, StarSign, PlusSign, Dot, ChoiceSign, spelling, Piece, Blank, Comment, Word, tokens_of, offsets_from}
-use Rattle.formula.specs.Syntax.{RegSyntax, Parens', Not', And', Or', Implies', Star', Plus', Then', Either', reg_tokens, counts_as_action, Syntax, Var', Group', Neg', Both', OneOf', If', Dia', Box', Mu', Nu', tokens}
+use Rattle.formula.specs.Token.{Token, Close, Greater, CloseBox, AndSign, OrSign, ImpliesSign, StarSign, PlusSign, Dot, ChoiceSign, spelling, Piece, Blank}
+use Rattle.formula.specs.Token.{Comment, Word, tokens_of, offsets_from}
+use Rattle.formula.specs.Syntax.{RegSyntax, Parens', Not', And', Or', Implies', Star', Plus', Then', Either', reg_tokens, counts_as_action, Syntax, Var'}
+use Rattle.formula.specs.Syntax.{Group', Neg', Both', OneOf', If', Dia', Box', Mu', Nu', tokens}
 use Rattle.calculus.specs.Admitted.{Scope, negated}
 use Rattle.formula.specs.Fault.{operand_fault, reg_faults, operand_faults, variable_fault, variable_faults}
 use Rattle.formula.specs.Checked.{is_variable_fault}
@@ -45,15 +47,18 @@ variables_wider n m (fault ∷ faults) le h = let low : fault.0 < n = h.0.0 in (
 two : (at i j n : ℕ) (xs ys : List ℕ) → at + i ≤ n → at + (i + 1) + j ≤ n → Below (at + i) xs → Below (at + (i + 1) + j) ys → Below n (xs ++ ys)
 two at i j n xs ys le le' h k = all_append (λ place. place < n) xs ys (wider (at + i) n xs le h) (wider (at + (i + 1) + j) n ys le' k)
 
-two_variables : (at i j n : ℕ) (xs ys : List (ℕ × FormulaFault)) → at + i ≤ n → at + (i + 1) + j ≤ n → VariablesBelow (at + i) xs → VariablesBelow (at + (i + 1) + j) ys → VariablesBelow n (xs ++ ys)
+two_variables : (at i j n : ℕ) (xs ys : List (ℕ × FormulaFault)) → at + i ≤ n → at + (i + 1) + j ≤ n → VariablesBelow (at + i) xs
+    → VariablesBelow (at + (i + 1) + j) ys → VariablesBelow n (xs ++ ys)
 two_variables at i j n xs ys le le' h k =
-    all_append (λ (fault : ℕ × FormulaFault). (fault.0 < n) × IsTrue (is_variable_fault fault.1)) xs ys (variables_wider (at + i) n xs le h) (variables_wider (at + (i + 1) + j) n ys le' k)
+    all_append (λ (fault : ℕ × FormulaFault). (fault.0 < n) × IsTrue (is_variable_fault fault.1)) xs ys (variables_wider (at + i) n xs le h)
+    (variables_wider (at + (i + 1) + j) n ys le' k)
 
 with_operand : (n at : ℕ) (faults : List ℕ) (b : Bool) → at < n → Below n faults → Below n (if b then faults else at ∷ faults)
 with_operand n at faults true lt h = h
 with_operand n at faults false lt h = (lt, h)
 
-operand_below : (r : RegSyntax) (at : ℕ) → Below (at + length (reg_tokens r)) (reg_faults at r) → Below (at + length (reg_tokens r)) (operand_fault r at (reg_faults at r))
+operand_below : (r : RegSyntax) (at : ℕ) → Below (at + length (reg_tokens r)) (reg_faults at r)
+    → Below (at + length (reg_tokens r)) (operand_fault r at (reg_faults at r))
 operand_below r at h = with_operand (at + length (reg_tokens r)) at (reg_faults at r) (counts_as_action r) (omega (arith, reg-some r)) h
 
 joined_length : (xs ys : List Token) (t : Token) → length (xs ++ t ∷ ys) ≡ length xs + 1 + length ys
@@ -67,13 +72,16 @@ reg_below (Parens' r) at = let l = last_length (reg_tokens r) Close in wider (at
 reg_below (Not' r) at = wider (at + 1 + length (reg_tokens r)) _ _ (omega arith) (operand_below r (at + 1) (reg_below r (at + 1)))
 reg_below (And' r s) at =
     let l = joined_length (reg_tokens r) (reg_tokens s) AndSign in
-    two at (length (reg_tokens r)) (length (reg_tokens s)) _ _ _ (omega arith) (omega arith) (operand_below r _ (reg_below r _)) (operand_below s _ (reg_below s _))
+    two at (length (reg_tokens r)) (length (reg_tokens s)) _ _ _ (omega arith) (omega arith) (operand_below r _ (reg_below r _))
+    (operand_below s _ (reg_below s _))
 reg_below (Or' r s) at =
     let l = joined_length (reg_tokens r) (reg_tokens s) OrSign in
-    two at (length (reg_tokens r)) (length (reg_tokens s)) _ _ _ (omega arith) (omega arith) (operand_below r _ (reg_below r _)) (operand_below s _ (reg_below s _))
+    two at (length (reg_tokens r)) (length (reg_tokens s)) _ _ _ (omega arith) (omega arith) (operand_below r _ (reg_below r _))
+    (operand_below s _ (reg_below s _))
 reg_below (Implies' r s) at =
     let l = joined_length (reg_tokens r) (reg_tokens s) ImpliesSign in
-    two at (length (reg_tokens r)) (length (reg_tokens s)) _ _ _ (omega arith) (omega arith) (operand_below r _ (reg_below r _)) (operand_below s _ (reg_below s _))
+    two at (length (reg_tokens r)) (length (reg_tokens s)) _ _ _ (omega arith) (omega arith) (operand_below r _ (reg_below r _))
+    (operand_below s _ (reg_below s _))
 reg_below (Star' r) at = let l = last_length (reg_tokens r) StarSign in wider (at + length (reg_tokens r)) _ _ (omega arith) (reg_below r at)
 reg_below (Plus' r) at = let l = last_length (reg_tokens r) PlusSign in wider (at + length (reg_tokens r)) _ _ (omega arith) (reg_below r at)
 reg_below (Then' r s) at =
@@ -105,8 +113,10 @@ operands_below (OneOf' f g) at =
 operands_below (If' f g) at =
     let l = joined_length (tokens f) (tokens g) ImpliesSign in
     two at (length (tokens f)) (length (tokens g)) _ _ _ (omega arith) (omega arith) (operands_below f _) (operands_below g _)
-operands_below (Dia' r f) at = wider (at + (1 + length (reg_tokens r ++ Greater ∷ tokens f))) _ _ (omega arith) (modal_below r f Greater at _ (operands_below f _))
-operands_below (Box' r f) at = wider (at + (1 + length (reg_tokens r ++ CloseBox ∷ tokens f))) _ _ (omega arith) (modal_below r f CloseBox at _ (operands_below f _))
+operands_below (Dia' r f) at = wider (at + (1 + length (reg_tokens r ++ Greater ∷ tokens f))) _ _ (omega arith)
+    (modal_below r f Greater at _ (operands_below f _))
+operands_below (Box' r f) at = wider (at + (1 + length (reg_tokens r ++ CloseBox ∷ tokens f))) _ _ (omega arith)
+    (modal_below r f CloseBox at _ (operands_below f _))
 operands_below (Mu' name f) at = wider (at + 3 + length (tokens f)) _ _ (omega arith) (operands_below f (at + 3))
 operands_below (Nu' name f) at = wider (at + 3 + length (tokens f)) _ _ (omega arith) (operands_below f (at + 3))
 operands_below _ at = tt
@@ -123,14 +133,17 @@ variable_below n at name (binder ∷ scope) lt =
       | false ↦ variable_below n at name scope lt
     ]
 
-modal_variables : (r : RegSyntax) (f : Syntax) (t : Token) (at : ℕ) (faults : List (ℕ × FormulaFault)) → VariablesBelow (at + (length (reg_tokens r) + 2) + length (tokens f)) faults
+modal_variables : (r : RegSyntax) (f : Syntax) (t : Token) (at : ℕ) (faults : List (ℕ × FormulaFault))
+    → VariablesBelow (at + (length (reg_tokens r) + 2) + length (tokens f)) faults
     → VariablesBelow (at + (1 + length (reg_tokens r ++ t ∷ tokens f))) faults
-modal_variables r f t at faults h = let l = joined_length (reg_tokens r) (tokens f) t in variables_wider (at + (length (reg_tokens r) + 2) + length (tokens f)) _ faults (omega arith) h
+modal_variables r f t at faults h = let l = joined_length (reg_tokens r) (tokens f) t
+    in variables_wider (at + (length (reg_tokens r) + 2) + length (tokens f)) _ faults (omega arith) h
 
 -- Each fault of a variable stands at a token.
 pub variables_below : (s : Syntax) (scope : Scope) (at : ℕ) → VariablesBelow (at + length (tokens s)) (variable_faults scope at s)
 variables_below (Var' name) scope at = variable_below (at + 1) at name scope (omega arith)
-variables_below (Group' f) scope at = let l = last_length (tokens f) Close in variables_wider (at + 1 + length (tokens f)) _ _ (omega arith) (variables_below f scope (at + 1))
+variables_below (Group' f) scope at = let l = last_length (tokens f) Close
+    in variables_wider (at + 1 + length (tokens f)) _ _ (omega arith) (variables_below f scope (at + 1))
 variables_below (Neg' f) scope at = variables_wider (at + 1 + length (tokens f)) _ _ (omega arith) (variables_below f (negated scope) (at + 1))
 variables_below (Both' f g) scope at =
     let l = joined_length (tokens f) (tokens g) AndSign in
@@ -141,8 +154,10 @@ variables_below (OneOf' f g) scope at =
 variables_below (If' f g) scope at =
     let l = joined_length (tokens f) (tokens g) ImpliesSign in
     two_variables at (length (tokens f)) (length (tokens g)) _ _ _ (omega arith) (omega arith) (variables_below f (negated scope) _) (variables_below g scope _)
-variables_below (Dia' r f) scope at = variables_wider (at + (1 + length (reg_tokens r ++ Greater ∷ tokens f))) _ _ (omega arith) (modal_variables r f Greater at _ (variables_below f scope _))
-variables_below (Box' r f) scope at = variables_wider (at + (1 + length (reg_tokens r ++ CloseBox ∷ tokens f))) _ _ (omega arith) (modal_variables r f CloseBox at _ (variables_below f scope _))
+variables_below (Dia' r f) scope at = variables_wider (at + (1 + length (reg_tokens r ++ Greater ∷ tokens f))) _ _ (omega arith)
+    (modal_variables r f Greater at _ (variables_below f scope _))
+variables_below (Box' r f) scope at = variables_wider (at + (1 + length (reg_tokens r ++ CloseBox ∷ tokens f))) _ _ (omega arith)
+    (modal_variables r f CloseBox at _ (variables_below f scope _))
 variables_below (Mu' name f) scope at = variables_wider (at + 3 + length (tokens f)) _ _ (omega arith) (variables_below f ((name, true) ∷ scope) (at + 3))
 variables_below (Nu' name f) scope at = variables_wider (at + 3 + length (tokens f)) _ _ (omega arith) (variables_below f ((name, true) ∷ scope) (at + 3))
 variables_below _ scope at = tt

@@ -1,5 +1,6 @@
 -- What a refusal says of its text.
-use Rattle.std.specs.Prelude.{◌≡◌, ℕ, nat_le, ◌+◌, ◌-◌, ◌<◌, ◌≤◌, ◌⊎◌, List, [], ◌∷◌, ◌++◌, length, map, drop, take, Some, suc, slice_get, IsTrue, Result, Ok, Err, IfOk, IfErr, MatchResult}
+use Rattle.std.specs.Prelude.{◌≡◌, ℕ, nat_le, ◌+◌, ◌-◌, ◌<◌, ◌≤◌, ◌⊎◌, List, [], ◌∷◌, ◌++◌, length, map, drop, take, Some, suc, slice_get, IsTrue, Result, Ok}
+use Rattle.std.specs.Prelude.{Err, IfOk, IfErr, MatchResult}
 use Rattle.std.proofs.Common.{arith, refl, sym, ◌∙◌, ap, subst, append-nil, append_assoc, length-append, true≢false, inl, inr}
 use Rattle.std.specs.List.{list_any}
 use Rattle.std.proofs.lemmas.Bool.{leb-true, and_parts}
@@ -45,23 +46,27 @@ first_is : {A : Type 0} (xs : List A) (x : A) → slice_get xs 0 ≡ Some x → 
 first_is [] x e = cc
 first_is (y ∷ ys) x e = cc
 
-pub operand-refused : (s : Syntax) (places : List ℕ) (place : ℕ) (e : FormulaError) → slice_get (operand_faults 0 s) 0 ≡ Some place → IsRefusal fault.NotAnAction (slice_get places place) e
+pub operand-refused : (s : Syntax) (places : List ℕ) (place : ℕ) (e : FormulaError) → slice_get (operand_faults 0 s) 0 ≡ Some place
+    → IsRefusal fault.NotAnAction (slice_get places place) e
     → IsTreeRefusal s places e
 operand-refused s places place (refused.Fault other offset) h r =
     subst (λ (f : FormulaFault). IsTreeRefusal s places (refused.Fault f offset)) (sym r.0) (place, drop 1 (operand_faults 0 s), first_is _ _ h, r.1)
 operand-refused s places place refused.Memory h r = absurd r
 
-variable-refusal : (s : Syntax) (places : List ℕ) (f : FormulaFault) (place offset : ℕ) → operand_faults 0 s ≡ [] → slice_get (variable_faults [] 0 s) 0 ≡ Some (place, f)
+variable-refusal : (s : Syntax) (places : List ℕ) (f : FormulaFault) (place offset : ℕ) → operand_faults 0 s ≡ []
+    → slice_get (variable_faults [] 0 s) 0 ≡ Some (place, f)
     → IsTrue (is_variable_fault f) → slice_get places place ≡ Some offset → IsTreeRefusal s places (refused.Fault f offset)
 variable-refusal s places fault.Unbound place offset none h v p = (place, drop 1 (variable_faults [] 0 s), none, first_is _ _ h, p)
 variable-refusal s places fault.OddNegations place offset none h v p = (place, drop 1 (variable_faults [] 0 s), none, first_is _ _ h, p)
 variable-refusal s places fault.NotAnAction place offset none h v p = absurd (true≢false (sym v))
 variable-refusal s places _ place offset none h v p = absurd (true≢false (sym v))
 
-pub variable-refused : (s : Syntax) (places : List ℕ) (found : Misplaced) (e : FormulaError) → operand_faults 0 s ≡ [] → slice_get (variable_faults [] 0 s) 0 ≡ Some (found.place, found.fault)
+pub variable-refused : (s : Syntax) (places : List ℕ) (found : Misplaced) (e : FormulaError) → operand_faults 0 s ≡ []
+    → slice_get (variable_faults [] 0 s) 0 ≡ Some (found.place, found.fault)
     → IsTrue (is_variable_fault found.fault) → IsRefusal found.fault (slice_get places found.place) e → IsTreeRefusal s places e
 variable-refused s places found (refused.Fault other offset) none h v r =
-    subst (λ (f : FormulaFault). IsTreeRefusal s places (refused.Fault f offset)) (sym r.0) (variable-refusal s places found.fault found.place offset none h v r.1)
+    subst (λ (f : FormulaFault). IsTreeRefusal s places (refused.Fault f offset)) (sym r.0)
+    (variable-refusal s places found.fault found.place offset none h v r.1)
 variable-refused s places found refused.Memory none h v r = absurd r
 
 -- a formula that is the tokens stands at their front, and nothing is after it
@@ -96,7 +101,8 @@ not_over [] more h e = absurd (omega (arith, h))
 not_over (t ∷ back) more h e = absurd (omega (arith, ap length e))
 
 -- After a whole formula a token is left.
-pub left-over : (s : ReadState) (ts : List Token) (e : Misread) → IsState 3 DEEPEST MOST_PARENS s → 3 < state_row (words s.rest.now) → state_tokens s ≡ ts → 0 < length s.rest.now
+pub left-over : (s : ReadState) (ts : List Token) (e : Misread) → IsState 3 DEEPEST MOST_PARENS s → 3 < state_row (words s.rest.now) → state_tokens s ≡ ts
+    → 0 < length s.rest.now
     → e ≡ misread.Unexpected (length s.rest.now) → IsWholeMisread ts e
 left-over s ts e is stops eaten some at =
     let f : Syntax = state_syntax s.syntax.value in
@@ -116,7 +122,8 @@ left-over s ts e is stops eaten some at =
           let his = any_formula f in
           let inner : Standing x.syntax [] = record { grammatical = x.grammatical; ended = omega arith; reaches = λ b. omega arith } in
           let outer : Standing f (take 1 back ++ more) = record { grammatical = is.grammatical; ended = omega arith; reaches = λ b. omega arith } in
-          let p = one-state 3 x.syntax f [] (take 1 back ++ more) inner outer (any_formula x.syntax) (any_formula f) (omega arith) (omega arith) (append-nil (tokens x.syntax) ∙ x.spelled) in
+          let p = one-state 3 x.syntax f [] (take 1 back ++ more) inner outer (any_formula x.syntax) (any_formula f) (omega arith) (omega arith)
+          (append-nil (tokens x.syntax) ∙ x.spelled) in
           not_over back more (omega arith) p.1;
     })
 
@@ -127,7 +134,8 @@ within_limits front w =
     (w.it.syntax, w.it.more, w.it.grammatical, all_true _ _ (le_true _ _ low) (le_true _ _ narrow), w.it.spelled)
 
 split_limits : (s : Syntax) → IsTrue (is_within_limits s) → (nesting s ≤ DEEPEST) × (parens s ≤ MOST_PARENS)
-split_limits s h = let o = and_parts (nat_le (nesting s) DEEPEST) (nat_le (parens s) MOST_PARENS) h in (leb-true (nesting s) DEEPEST o.0, leb-true (parens s) MOST_PARENS o.1)
+split_limits s h = let o = and_parts (nat_le (nesting s) DEEPEST) (nat_le (parens s) MOST_PARENS) h
+    in (leb-true (nesting s) DEEPEST o.0, leb-true (parens s) MOST_PARENS o.1)
 
 first_of : (back : List Token) → 0 < length back → (token : Token) × (others : List Token) × (back ≡ token ∷ others)
 first_of [] h = absurd (omega (arith, h))
@@ -137,7 +145,8 @@ no_more : (back : List Token) → 0 ≡ length back → back ≡ []
 no_more [] e = refl
 no_more (token ∷ others) e = absurd (omega (arith, e))
 
-pub unfinished : (ts : List Token) (places : List ℕ) (end : ℕ) → IsWholeMisread ts (misread.Unexpected 0) → IsGrammarRefusal ts places end (refused.Fault fault.Unfinished end)
+pub unfinished : (ts : List Token) (places : List ℕ) (end : ℕ) → IsWholeMisread ts (misread.Unexpected 0)
+    → IsGrammarRefusal ts places end (refused.Fault fault.Unfinished end)
 unfinished ts places end h =
     let none : h.back ≡ [] = no_more h.back h.place in
     let whole : h.front ≡ ts = sym (append-nil h.front) ∙ (ap (λ ts. h.front ++ ts) (sym none) ∙ sym h.joined) in
@@ -154,7 +163,8 @@ unfinished ts places end h =
     )
 
 -- the token with which no formula begins
-unexpected_at : (ts : List Token) (places : List ℕ) (end left offset : ℕ) → IsWholeMisread ts (misread.Unexpected left) → 0 < left → slice_get places (length ts - left) ≡ Some offset
+unexpected_at : (ts : List Token) (places : List ℕ) (end left offset : ℕ) → IsWholeMisread ts (misread.Unexpected left) → 0 < left
+    → slice_get places (length ts - left) ≡ Some offset
     → IsGrammarRefusal ts places end (refused.Fault fault.Unexpected offset)
 unexpected_at ts places end left offset h some at =
     let place = h.place in
@@ -184,7 +194,8 @@ unexpected ts places end left (refused.Fault other offset) h some r =
 unexpected ts places end left refused.Memory h some r = tt
 
 -- the token with which no formula within the limits begins
-too_large_at : (ts : List Token) (places : List ℕ) (end left offset : ℕ) → IsWholeMisread ts (misread.TooLarge left) → slice_get places (length ts - left) ≡ Some offset
+too_large_at : (ts : List Token) (places : List ℕ) (end left offset : ℕ) → IsWholeMisread ts (misread.TooLarge left)
+    → slice_get places (length ts - left) ≡ Some offset
     → IsGrammarRefusal ts places end (refused.Fault fault.TooLarge offset)
 too_large_at ts places end left offset h at =
     let place = h.place in
@@ -226,9 +237,38 @@ lexed_tokens text placed l = record { joined = l.joined; cut = l.cut; decided = 
 pub grammar-told : (text : List ℕ) (placed : List Placed) (e : FormulaError) → length text ≤ LONGEST_TEXT → IsLexed text placed
     → IsGrammarRefusal (words placed) (map (λ p. p.offset) placed) (length text) e → IsTold text e
 grammar-told text placed (refused.Fault fault.Unexpected offset) short l r =
-    inr (short, inr (inl (l.pieces, r.0, r.1, r.2, lexed_tokens text placed l, l.spelled ∙ r.3, r.4, r.5, ap (λ places. slice_get places (length r.0)) l.places ∙ r.6)))
+    inr (
+      short,
+      inr (inl (
+        l.pieces,
+        r.0,
+        r.1,
+        r.2,
+        lexed_tokens text placed l,
+        l.spelled
+            ∙ r.3,
+        r.4,
+        r.5,
+        ap (λ places. slice_get places (length r.0)) l.places ∙ r.6,
+      )),
+    )
 grammar-told text placed (refused.Fault fault.TooLarge offset) short l r =
-    inr (short, inr (inl (l.pieces, r.0, r.1, r.2, lexed_tokens text placed l, l.spelled ∙ r.3, r.4, r.5, r.6, ap (λ places. slice_get places (length r.0)) l.places ∙ r.7)))
+    inr (
+      short,
+      inr (inl (
+        l.pieces,
+        r.0,
+        r.1,
+        r.2,
+        lexed_tokens text placed l,
+        l.spelled
+            ∙ r.3,
+        r.4,
+        r.5,
+        r.6,
+        ap (λ places. slice_get places (length r.0)) l.places ∙ r.7,
+      )),
+    )
 grammar-told text placed (refused.Fault fault.Unfinished offset) short l r =
     inr (short, inr (inl (l.pieces, lexed_tokens text placed l, subst BeginsWithin (sym l.spelled) r.0, λ s fit e. r.1 s fit (e ∙ l.spelled), r.2)))
 grammar-told text placed (refused.Fault _ offset) short l r = absurd r
@@ -237,11 +277,13 @@ grammar-told text placed refused.Memory short l r = tt
 pub written-as : (text : List ℕ) (placed : List Placed) (s : Syntax) (l : IsLexed text placed) → IsWhole s (words placed) → IsWritten text l.pieces s
 written-as text placed s l w = record { joined = l.joined; cut = l.cut; decided = l.decided; spelled = l.spelled ∙ sym w.spelled; grammatical = w.grammatical }
 
-pub spelled-within : (text : List ℕ) (placed : List Placed) (s : Syntax) (f : Formula) → length text ≤ LONGEST_TEXT → IsLexed text placed → IsWhole s (words placed) → meant s ≡ Some f → SpellsWithin text f
+pub spelled-within : (text : List ℕ) (placed : List Placed) (s : Syntax) (f : Formula) → length text ≤ LONGEST_TEXT → IsLexed text placed
+    → IsWhole s (words placed) → meant s ≡ Some f → SpellsWithin text f
 spelled-within text placed s f short l w m =
     record { pieces = l.pieces; syntax = s; written = written-as text placed s l w; stands_for = m; within = w.within; short = short }
 
-pub tree-told : (text : List ℕ) (placed : List Placed) (s : Syntax) (e : FormulaError) → length text ≤ LONGEST_TEXT → IsLexed text placed → IsWhole s (words placed)
+pub tree-told : (text : List ℕ) (placed : List Placed) (s : Syntax) (e : FormulaError) → length text ≤ LONGEST_TEXT → IsLexed text placed
+    → IsWhole s (words placed)
     → IsTreeRefusal s (map (λ p. p.offset) placed) e → IsTold text e
 tree-told text placed s (refused.Fault fault.NotAnAction offset) short l w r =
     inr (short, inr (inr (l.pieces, s, r.0, r.1, written-as text placed s l w, w.within, r.2, ap (λ places. slice_get places r.0) l.places ∙ r.3)))
@@ -250,14 +292,17 @@ tree-told text placed s (refused.Fault _ offset) short l w r =
 tree-told text placed s refused.Memory short l w r = tt
 
 -- what a written formula without faults means is admitted
-pub meant-admitted : (s : Syntax) (places : List ℕ) (r : Result State FormulaError) → variable_faults [] 0 s ≡ [] → MatchResult r (λ f. meant s ≡ Some (formula_of f)) (λ e. e ≡ refused.Memory)
+pub meant-admitted : (s : Syntax) (places : List ℕ) (r : Result State FormulaError) → variable_faults [] 0 s ≡ []
+    → MatchResult r (λ f. meant s ≡ Some (formula_of f)) (λ e. e ≡ refused.Memory)
     → MatchResult r (λ f. (meant s ≡ Some (formula_of f)) × IsAdmitted (formula_of f)) (λ e. (e ≡ refused.Memory) ⊎ IsTreeRefusal s places e)
 meant-admitted s places (Ok f) none m = (m, admitted_in s [] 0 (formula_of f) none m)
 meant-admitted s places (Err e) none m = inl m
 
 -- what a written formula means, or its refusal, is the text's
-pub meaning-told : (text : List ℕ) (placed : List Placed) (s : Syntax) (r : Result State FormulaError) → length text ≤ LONGEST_TEXT → IsLexed text placed → IsWhole s (words placed)
-    → MatchResult r (λ f. (meant s ≡ Some (formula_of f)) × IsAdmitted (formula_of f)) (λ e. (e ≡ refused.Memory) ⊎ IsTreeRefusal s (map (λ p. p.offset) placed) e)
+pub meaning-told : (text : List ℕ) (placed : List Placed) (s : Syntax) (r : Result State FormulaError) → length text ≤ LONGEST_TEXT → IsLexed text placed
+    → IsWhole s (words placed)
+    → MatchResult r (λ f. (meant s ≡ Some (formula_of f)) × IsAdmitted (formula_of f))
+    (λ e. (e ≡ refused.Memory) ⊎ IsTreeRefusal s (map (λ p. p.offset) placed) e)
     → MatchResult r (λ f. SpellsWithin text (formula_of f) × IsAdmitted (formula_of f)) (IsTold text)
 meaning-told text placed s (Ok f) short l w m = (spelled-within text placed s (formula_of f) short l w m.0, m.1)
 meaning-told text placed s (Err e) short l w (inl m) = subst (IsTold text) (sym m) tt
@@ -279,7 +324,8 @@ laws = record {
 }
 
 -- all that the reader promises
-pub promised : (text : List ℕ) (r : Result Closed FormulaError) → IfOk r (λ f. IsDue text (closed_formula f)) → IfErr r (IsTold text) → Reads Spells SpellsWithin IsDue HasFaultAt closed_formula named (Some text) r
+pub promised : (text : List ℕ) (r : Result Closed FormulaError) → IfOk r (λ f. IsDue text (closed_formula f)) → IfErr r (IsTold text)
+    → Reads Spells SpellsWithin IsDue HasFaultAt closed_formula named (Some text) r
 promised text r due told =
     let k = keeps Spells IsDue IsDue HasFaultAt closed_formula named laws (Some text) r due told in
     record { spelled = IfOk-weaker r _ _ (λ f d. d.0) due; only = k.only; complete = k.complete; none = k.none; exact = k.exact; fault = k.fault }

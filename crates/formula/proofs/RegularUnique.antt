@@ -1,9 +1,12 @@
 -- A regular formula's tree is found again from its tokens, so tokens have one tree at most.
-use Rattle.std.proofs.Common.{◌≡◌, ℕ, zero, suc, ◌+◌, ◌<◌, ◌≤◌, Bool, true, false, ◌&&◌, List, [], ◌∷◌, ◌++◌, Option, Some, None, option_map, refl, sym, ap, ◌∙◌, subst, arith, append_assoc, inl, inr}
+use Rattle.std.proofs.Common.{◌≡◌, ℕ, zero, suc, ◌+◌, ◌<◌, ◌≤◌, Bool, true, false, ◌&&◌, List, [], ◌∷◌, ◌++◌, Option, Some, None, option_map, refl, sym, ap}
+use Rattle.std.proofs.Common.{◌∙◌, subst, arith, append_assoc, inl, inr}
 use Rattle.std.specs.Prelude.{nat_le, nat_lt, ◌==◌, if◌then◌else◌}
 use Rattle.std.proofs.lemmas.Bool.{leb-true, ltb-true, lt-ltb, ne_eqb, eq-eqb, and_parts, cases_eq}
-use Rattle.formula.specs.Token.{Token, Name, Atom, TrueWord, FalseWord, TauWord, ImpliesSign, OrSign, AndSign, Bar, NotSign, Open, Close, Dot, ChoiceSign, PlusSign, StarSign}
-use Rattle.formula.specs.Syntax.{RegSyntax, Anything', Nothing', Tau', Names', Quoted', Parens', Not', And', Or', Implies', Star', Plus', Then', Either', reg_form, reg_fits, reg_tokens, reg_nesting, more_names}
+use Rattle.formula.specs.Token.{Token, Name, Atom, TrueWord, FalseWord, TauWord, ImpliesSign, OrSign, AndSign, Bar, NotSign, Open, Close, Dot, ChoiceSign}
+use Rattle.formula.specs.Token.{PlusSign, StarSign}
+use Rattle.formula.specs.Syntax.{RegSyntax, Anything', Nothing', Tau', Names', Quoted', Parens', Not', And', Or', Implies', Star', Plus', Then', Either'}
+use Rattle.formula.specs.Syntax.{reg_form, reg_fits, reg_tokens, reg_nesting, more_names}
 
 -- the least form that can go on with this token
 abbrev pub reg_level : Token → ℕ
@@ -111,7 +114,8 @@ stops_below j k [] le h = refl
 stops_below j k (t ∷ ts) le h = lt-ltb j (reg_level t) (omega (arith, ltb-true k (reg_level t) h))
 
 -- a tree that was found is found as any weaker form
-lifted : (read : RegReader) (ts m : List Token) (r : RegSyntax) (j k : ℕ) → suc j ≤ k → levels read (suc j) ts ≡ Some (r, m) → reg_stops k m ≡ true → levels read k ts ≡ Some (r, m)
+lifted : (read : RegReader) (ts m : List Token) (r : RegSyntax) (j k : ℕ) → suc j ≤ k → levels read (suc j) ts ≡ Some (r, m) → reg_stops k m ≡ true
+    → levels read k ts ≡ Some (r, m)
 lifted read ts m r j zero le e h = absurd (omega arith)
 lifted read ts m r j (suc zero) le e h =
     let same : suc j ≡ suc zero = omega arith in
@@ -120,12 +124,14 @@ lifted read ts m r j (suc (suc k)) le e h =
     elim (cases_eq (suc j) (suc (suc k))) [
       | inl same ↦ subst (λ i. levels read i ts ≡ Some (r, m)) same e
       | inr other ↦
-          let below : levels read (suc k) ts ≡ Some (r, m) = lifted read ts m r j (suc k) (omega arith) e (stops_below (suc k) (suc (suc k)) m (omega arith) h) in
+          let below : levels read (suc k) ts ≡ Some (r, m) = lifted read ts m r j (suc k) (omega arith) e
+          (stops_below (suc k) (suc (suc k)) m (omega arith) h) in
           ap (after (suc (suc k)) read) below ∙ settled (suc (suc k)) read r m h
     ]
 
 -- the same of an atom or a negation
-lifted_unary : (read : RegReader) (ts m : List Token) (r : RegSyntax) (k : ℕ) → unary read ts ≡ Some (r, m) → reg_stops k m ≡ true → levels read k ts ≡ Some (r, m)
+lifted_unary : (read : RegReader) (ts m : List Token) (r : RegSyntax) (k : ℕ) → unary read ts ≡ Some (r, m) → reg_stops k m ≡ true
+    → levels read k ts ≡ Some (r, m)
 lifted_unary read ts m r zero e h = e
 lifted_unary read ts m r (suc k) e h = lifted read ts m r 0 (suc k) (omega arith) e h
 
@@ -135,9 +141,11 @@ Reads r = (k n : ℕ) (m : List Token) → reg_form r ≤ k → reg_size r ≤ n
 
 -- as an operand of postfix signs, whatever signs follow
 abbrev ReadsOn : RegSyntax → Type 0
-ReadsOn r = (n : ℕ) (m : List Token) → reg_form r ≤ 5 → reg_size r ≤ n → reg_stops 4 m ≡ true → levels (reg_read n) 5 (reg_tokens r ++ m) ≡ more 5 (reg_read n) r m
+ReadsOn r = (n : ℕ) (m : List Token) → reg_form r ≤ 5 → reg_size r ≤ n → reg_stops 4 m ≡ true
+    → levels (reg_read n) 5 (reg_tokens r ++ m) ≡ more 5 (reg_read n) r m
 
-inner : (r : RegSyntax) → Reads r → (k n : ℕ) (m : List Token) → reg_form r ≤ k → reg_size r < n → reg_stops k m ≡ true → reg_read n k (reg_tokens r ++ m) ≡ Some (r, m)
+inner : (r : RegSyntax) → Reads r → (k n : ℕ) (m : List Token) → reg_form r ≤ k → reg_size r < n → reg_stops k m ≡ true
+    → reg_read n k (reg_tokens r ++ m) ≡ Some (r, m)
 inner r f k zero m a b c = absurd (omega arith)
 inner r f k (suc n) m a b c = f k n m a (omega arith) c
 
@@ -164,7 +172,8 @@ operands i j r s h =
     (leb-true (reg_form r) i y.0, leb-true (reg_form s) j y.1, y.2, x.1)
 
 -- a tree of two operands that an operator joins
-join_finds : (t : Token) (a b : RegSyntax) (j : ℕ) → reg_level t ≡ suc (suc j) → ((x y : Found RegSyntax) → chosen t x y ≡ y) → Operands (suc j) (suc (suc j)) a b → Reads a → Reads b
+join_finds : (t : Token) (a b : RegSyntax) (j : ℕ) → reg_level t ≡ suc (suc j) → ((x y : Found RegSyntax) → chosen t x y ≡ y)
+    → Operands (suc j) (suc (suc j)) a b → Reads a → Reads b
     → (k n : ℕ) (m : List Token) → suc (suc j) ≤ k → suc (reg_size a + reg_size b) ≤ n → reg_stops k m ≡ true
     → levels (reg_read n) k ((reg_tokens a ++ t ∷ reg_tokens b) ++ m) ≡ Some (joined t a b, m)
 join_finds t a b j level infix' o ra rb k n m above size h =
@@ -175,7 +184,8 @@ join_finds t a b j level infix' o ra rb k n m above size h =
     let here : (reg_level t == suc (suc j)) ≡ true = eq-eqb (reg_level t) (suc (suc j)) level in
     let both : levels (reg_read n) (suc (suc j)) (reg_tokens a ++ (t ∷ rest)) ≡ Some (joined t a b, m) =
     ap (after (suc (suc j)) (reg_read n)) left
-    ∙ ap (λ (c : Bool). if c then chosen t (more (suc (suc j)) (reg_read n) (joined t a a) rest) (within (joined t a) (reg_read n (suc (suc j)) rest)) else Some (a, t ∷ rest)) here
+    ∙ ap (λ (c : Bool). if c then chosen t (more (suc (suc j)) (reg_read n) (joined t a a) rest)
+    (within (joined t a) (reg_read n (suc (suc j)) rest)) else Some (a, t ∷ rest)) here
     ∙ infix' (more (suc (suc j)) (reg_read n) (joined t a a) rest) (within (joined t a) (reg_read n (suc (suc j)) rest))
     ∙ ap (within (joined t a)) right in
     ap (levels (reg_read n) k) (append_assoc (reg_tokens a) (t ∷ reg_tokens b) m)
@@ -197,7 +207,8 @@ reads_on : (r : RegSyntax) → reg_form r ≤ 4 → Reads r → ReadsOn r
 reads_on r low f n m low' size h = ap (after 5 (reg_read n)) (f 4 n m low size h)
 
 -- a leaf or a negation, which is found as a unary form
-from_unary : (r : RegSyntax) → ((n : ℕ) (m : List Token) → reg_size r ≤ n → reg_stops (reg_form r) m ≡ true → unary (reg_read n) (reg_tokens r ++ m) ≡ Some (r, m)) → Reads r
+from_unary : (r : RegSyntax) → ((n : ℕ) (m : List Token) → reg_size r ≤ n → reg_stops (reg_form r) m ≡ true
+    → unary (reg_read n) (reg_tokens r ++ m) ≡ Some (r, m)) → Reads r
 from_unary r f k n m low size h = lifted_unary (reg_read n) (reg_tokens r ++ m) m r k (f n m size (stops_below (reg_form r) k m low h)) h
 
 abbrev Finds : RegSyntax → Type 0
@@ -209,7 +220,8 @@ operand r low f = (f, reads_on r low f)
 whole : (r : RegSyntax) → 5 < reg_form r → Reads r → Finds r
 whole r high f = (f, λ n m low size h. absurd (omega arith))
 
-settle : (n k : ℕ) (r : RegSyntax) (ts m : List Token) → 5 ≤ k → reg_stops k m ≡ true → levels (reg_read n) 5 ts ≡ more 5 (reg_read n) r m → levels (reg_read n) k ts ≡ Some (r, m)
+settle : (n k : ℕ) (r : RegSyntax) (ts m : List Token) → 5 ≤ k → reg_stops k m ≡ true → levels (reg_read n) 5 ts ≡ more 5 (reg_read n) r m
+    → levels (reg_read n) k ts ≡ Some (r, m)
 settle n k r ts m low h e = lifted (reg_read n) ts m r 4 k low (e ∙ settled 5 (reg_read n) r m (stops_below 5 k m low h)) h
 
 pub any_form : (r : RegSyntax) → reg_form r ≤ 7
@@ -227,7 +239,8 @@ pub finds : (r : RegSyntax) → reg_fits r ≡ true → Finds r
 finds Anything' h = operand Anything' (omega arith) (from_unary Anything' (λ n m size stop. refl))
 finds Nothing' h = operand Nothing' (omega arith) (from_unary Nothing' (λ n m size stop. refl))
 finds Tau' h = operand Tau' (omega arith) (from_unary Tau' (λ n m size stop. refl))
-finds (Names' x names) h = operand (Names' x names) (omega arith) (from_unary (Names' x names) (λ n m size stop. ap (λ p. Some (Names' x p.0, p.1)) (names_found names m stop)))
+finds (Names' x names) h = operand (Names' x names) (omega arith)
+    (from_unary (Names' x names) (λ n m size stop. ap (λ p. Some (Names' x p.0, p.1)) (names_found names m stop)))
 finds (Quoted' bytes) h = operand (Quoted' bytes) (omega arith) (from_unary (Quoted' bytes) (λ n m size stop. refl))
 finds (Parens' r) h =
     let f = (finds r h).0 in
@@ -262,7 +275,8 @@ finds (Either' r s) h =
     whole (Either' r s) (omega arith) (join_finds ChoiceSign r s 5 refl (λ x y. refl) o (finds r o.2).0 (finds s o.3).0)
 
 -- The tree of a regular formula is found again at the front of its tokens, where the next token cannot go on.
-pub reg_found : (r : RegSyntax) (k n : ℕ) (m : List Token) → reg_fits r ≡ true → reg_form r ≤ k → reg_size r < n → reg_stops k m ≡ true → reg_read n k (reg_tokens r ++ m) ≡ Some (r, m)
+pub reg_found : (r : RegSyntax) (k n : ℕ) (m : List Token) → reg_fits r ≡ true → reg_form r ≤ k → reg_size r < n → reg_stops k m ≡ true
+    → reg_read n k (reg_tokens r ++ m) ≡ Some (r, m)
 reg_found r k n m fit low size stop = inner r (finds r fit).0 k n m low size stop
 
 pub some_once : {A : Type 0} (x y : A) → Some x ≡ Some y → x ≡ y
@@ -272,14 +286,16 @@ pub found_once : {A : Type 0} (x y : A × List Token) → Some x ≡ Some y → 
 found_once x y e = let p = some_once x y e in (ap (λ q. q.0) p, ap (λ q. q.1) p)
 
 -- Two regular formulas of one form at the front of the same tokens, each followed by a token that cannot go on, are one.
-pub one_regular : (k : ℕ) (r s : RegSyntax) (m n : List Token) → reg_fits r ≡ true → reg_fits s ≡ true → reg_form r ≤ k → reg_form s ≤ k → reg_stops k m ≡ true → reg_stops k n ≡ true
+pub one_regular : (k : ℕ) (r s : RegSyntax) (m n : List Token) → reg_fits r ≡ true → reg_fits s ≡ true → reg_form r ≤ k → reg_form s ≤ k
+    → reg_stops k m ≡ true → reg_stops k n ≡ true
     → reg_tokens r ++ m ≡ reg_tokens s ++ n → (r ≡ s) × (m ≡ n)
 one_regular k r s m n fr fs lr ls sm sn e =
     let size : ℕ = suc (reg_size r + reg_size s) in
     found_once (r, m) (s, n) (sym (reg_found r k size m fr lr (omega arith) sm) ∙ (ap (reg_read size k) e ∙ reg_found s k size n fs ls (omega arith) sn))
 
 -- after postfix signs a formula is at least as deep, and what's left may stand after such a sign
-pub more_grows : (read : RegReader) (r s : RegSyntax) (ts m : List Token) → reg_stops 5 m ≡ true → more 5 read r ts ≡ Some (s, m) → (reg_nesting r ≤ reg_nesting s) × (reg_stops 4 ts ≡ true)
+pub more_grows : (read : RegReader) (r s : RegSyntax) (ts m : List Token) → reg_stops 5 m ≡ true → more 5 read r ts ≡ Some (s, m)
+    → (reg_nesting r ≤ reg_nesting s) × (reg_stops 4 ts ≡ true)
 more_grows read r s [] m stop e = let d : reg_nesting r ≡ reg_nesting s = ap reg_nesting (found_once (r, []) (s, m) e).0 in (omega arith, refl)
 more_grows read r s (StarSign ∷ ts) m stop e = let p = more_grows read (Star' r) s ts m stop e in (omega (arith, p.0), refl)
 more_grows read r s (PlusSign ∷ ts) m stop e = let p = more_grows read (Plus' r) s ts m stop e in (omega (arith, p.0), refl)
@@ -289,7 +305,8 @@ more_grows read r s (t ∷ ts) m stop e =
     (omega arith, stops_below 4 5 (t ∷ ts) (omega arith) (subst (λ n. reg_stops 5 n ≡ true) (sym f.1) stop))
 
 -- A postfixed formula at the front of tokens is found from any formula there that postfix signs follow.
-pub postfix_found : (left s : RegSyntax) (ts m : List Token) → reg_fits left ≡ true → reg_fits s ≡ true → reg_form left ≤ 5 → reg_form s ≤ 5 → reg_stops 4 ts ≡ true → reg_stops 5 m ≡ true
+pub postfix_found : (left s : RegSyntax) (ts m : List Token) → reg_fits left ≡ true → reg_fits s ≡ true → reg_form left ≤ 5 → reg_form s ≤ 5
+    → reg_stops 4 ts ≡ true → reg_stops 5 m ≡ true
     → reg_tokens s ++ m ≡ reg_tokens left ++ ts → more 5 (reg_read (reg_size left + reg_size s)) left ts ≡ Some (s, m)
 postfix_found left s ts m fl fs ll ls st sm e =
     let n : ℕ = reg_size left + reg_size s in

@@ -44,7 +44,8 @@ le_true m n h = search (arith)
 both_fit : (m k n l : ℕ) (a b : Bool) → m ≤ k → n ≤ l → IsTrue a → IsTrue b → IsTrue (nat_le m k && nat_le n l && a && b)
 both_fit m k n l a b p q x y = all_true _ _ (all_true _ _ (all_true _ _ (le_true m k p) (le_true n l q)) x) y
 
-pub infixed-fits : (mark : Infix) (r s : RegSyntax) → IsTrue (reg_fits r) → IsTrue (reg_fits s) → reg_form r < infix_row mark → reg_form s ≤ infix_row mark → IsTrue (reg_fits (infixed mark r s))
+pub infixed-fits : (mark : Infix) (r s : RegSyntax) → IsTrue (reg_fits r) → IsTrue (reg_fits s) → reg_form r < infix_row mark → reg_form s ≤ infix_row mark
+    → IsTrue (reg_fits (infixed mark r s))
 infixed-fits sign.And r s p q m n = both_fit (reg_form r) 1 (reg_form s) 2 _ _ (omega arith) n p q
 infixed-fits sign.Or r s p q m n = both_fit (reg_form r) 2 (reg_form s) 3 _ _ (omega arith) n p q
 infixed-fits sign.Implies r s p q m n = both_fit (reg_form r) 3 (reg_form s) 4 _ _ (omega arith) n p q
@@ -67,8 +68,10 @@ pub kept-length : (front : List Token) (rest tokens : List Placed) → front ++ 
 kept-length front rest tokens e = omega (arith, no-longer front rest (words tokens) e, words-length tokens)
 
 -- an atom or a negation that was read
-pub low-read : (depth inside : ℕ) (ts : List Token) (w : WrittenRegular) (x : RegSyntax) (height : ℕ) (rest : List Placed) (r : ReadRegular) → IsRegularOf w height rest r → reg_syntax w ≡ x → IsTrue (reg_fits x) → reg_form x ≤ 1
-    → height ≡ reg_nesting x → reg_nesting x ≤ depth → reg_parens x ≤ inside → 1 < reg_row (words rest) → reg_tokens x ++ words rest ≡ ts → ReadsRegular 1 depth inside ts r
+pub low-read : (depth inside : ℕ) (ts : List Token) (w : WrittenRegular) (x : RegSyntax) (height : ℕ) (rest : List Placed) (r : ReadRegular)
+    → IsRegularOf w height rest r → reg_syntax w ≡ x → IsTrue (reg_fits x) → reg_form x ≤ 1
+    → height ≡ reg_nesting x → reg_nesting x ≤ depth → reg_parens x ≤ inside → 1 < reg_row (words rest) → reg_tokens x ++ words rest ≡ ts
+    → ReadsRegular 1 depth inside ts r
 low-read depth inside ts w x height rest r b is fit low high deep wide stops eaten =
     let e : reg_syntax r.syntax.value ≡ x = ap reg_syntax b.is ∙ is in
     record {
@@ -84,9 +87,11 @@ low-read depth inside ts w x height rest r b is fit low high deep wide stops eat
     }
 
 -- two formulas and the sign between them
-pub joined-read : (mark : Infix) (level depth inside : ℕ) (us : List Token) (left right : ReadRegular) (w : WrittenRegular) (r : ReadRegular) → IsRegular level depth inside left → reg_form (reg_syntax left.syntax.value) < infix_row mark
+pub joined-read : (mark : Infix) (level depth inside : ℕ) (us : List Token) (left right : ReadRegular) (w : WrittenRegular) (r : ReadRegular)
+    → IsRegular level depth inside left → reg_form (reg_syntax left.syntax.value) < infix_row mark
     → words left.rest.now ≡ infix_token mark ∷ us → infix_row mark ≤ level → left.height < depth → ReadsRegular (infix_row mark) (depth - 1) inside us right
-    → IsRegularOf w (max left.height right.height + 1) right.rest.now r → reg_syntax w ≡ infixed mark (reg_syntax left.syntax.value) (reg_syntax right.syntax.value) → LongerRegular level depth inside left r
+    → IsRegularOf w (max left.height right.height + 1) right.rest.now r
+    → reg_syntax w ≡ infixed mark (reg_syntax left.syntax.value) (reg_syntax right.syntax.value) → LongerRegular level depth inside left r
 joined-read mark level depth inside us left right w r l below front above low h b is =
     let f = reg_syntax left.syntax.value in
     let g = reg_syntax right.syntax.value in
@@ -96,8 +101,10 @@ joined-read mark level depth inside us left right w r l below front above low h 
     let wide : reg_parens (reg_syntax r.syntax.value) ≡ max (reg_parens f) (reg_parens g) = ap reg_parens e ∙ (infixed-is mark f g).parens in
     record {
       eaten =
-          ap (λ ts. ts ++ words r.rest.now) (ap reg_tokens e ∙ infixed-tokens mark f g) ∙ append_assoc (reg_tokens f) (infix_token mark ∷ reg_tokens g) (words r.rest.now)
-          ∙ ap (λ ts. reg_tokens f ++ (infix_token mark ∷ ts)) (ap (λ ps. reg_tokens g ++ words ps) b.after ∙ h.eaten) ∙ ap (λ ts. reg_tokens f ++ ts) (sym front);
+          ap (λ ts. ts ++ words r.rest.now) (ap reg_tokens e ∙ infixed-tokens mark f g)
+          ∙ append_assoc (reg_tokens f) (infix_token mark ∷ reg_tokens g) (words r.rest.now)
+          ∙ ap (λ ts. reg_tokens f ++ (infix_token mark ∷ ts)) (ap (λ ps. reg_tokens g ++ words ps) b.after ∙ h.eaten)
+          ∙ ap (λ ts. reg_tokens f ++ ts) (sym front);
       sound = record {
         grammatical = subst (λ x. IsTrue (reg_fits x)) (sym e) (infixed-fits mark f g l.grammatical h.sound.grammatical below h.sound.row);
         row = omega arith;
@@ -106,11 +113,18 @@ joined-read mark level depth inside us left right w r l below front above low h 
         narrow = omega (arith, l.narrow, h.sound.narrow);
       };
       onward = inl (omega (arith, ap (λ ps. reg_row (words ps)) b.after, h.stops));
-      shorter = omega (arith, ap (λ ps. length ps) b.after, no-longer (reg_tokens g) right.rest.now us h.eaten, words-length left.rest.now, ap (λ ts. length ts) front);
+      shorter = omega (
+        arith,
+        ap (λ ps. length ps) b.after,
+        no-longer (reg_tokens g) right.rest.now us h.eaten,
+        words-length left.rest.now,
+        ap (λ ts. length ts) front,
+      );
     }
 
 -- one more name at the end
-pub more_names-push : (names : List (List ℕ)) (name : List ℕ) (more : List Token) → more_names names ++ Bar ∷ Name name ∷ more ≡ more_names (names ++ name ∷ []) ++ more
+pub more_names-push : (names : List (List ℕ)) (name : List ℕ) (more : List Token)
+    → more_names names ++ Bar ∷ Name name ∷ more ≡ more_names (names ++ name ∷ []) ++ more
 more_names-push [] name more = refl
 more_names-push (other ∷ names) name more = ap (λ ts. Bar ∷ Name other ∷ ts) (more_names-push names name more)
 
@@ -129,12 +143,14 @@ bar_first (token ∷ more) e = absurd (true≢false e.0)
 bar_first [] e = absurd (true≢false e.0)
 
 -- a bar and a name at a place, after these names
-pub names-more : (ts : List Placed) (n : ℕ) (names : List (List ℕ)) (name : List ℕ) (after : List Placed) → words ts ≡ more_names names ++ words (drop n ts) → MatchBar (words (drop n ts)) true
+pub names-more : (ts : List Placed) (n : ℕ) (names : List (List ℕ)) (name : List ℕ) (after : List Placed) → words ts ≡ more_names names ++ words (drop n ts)
+    → MatchBar (words (drop n ts)) true
     → words (drop (n + 1) ts) ≡ Name name ∷ words after → (n + 2 ≤ length ts) × (words ts ≡ more_names (names ++ name ∷ []) ++ words (drop (n + 2) ts))
 names-more ts n names name after whole bar named =
     let b = bar_first _ bar in
     let p = words-next ts n _ _ b in
     let q = words-next ts (n + 1) _ _ named in
     let two : n + 1 + 1 ≡ n + 2 = omega arith in
-    let here : words (drop n ts) ≡ Bar ∷ Name name ∷ words (drop (n + 2) ts) = b ∙ ap (λ w. Bar ∷ w) (sym p.1 ∙ named ∙ ap (λ w. Name name ∷ w) (sym q.1 ∙ ap (λ k. words (drop k ts)) two)) in
+    let here : words (drop n ts) ≡ Bar ∷ Name name ∷ words (drop (n + 2) ts) = b
+    ∙ ap (λ w. Bar ∷ w) (sym p.1 ∙ named ∙ ap (λ w. Name name ∷ w) (sym q.1 ∙ ap (λ k. words (drop k ts)) two)) in
     (omega arith, whole ∙ ap (λ w. more_names names ++ w) here ∙ more_names-push names name (words (drop (n + 2) ts)))

@@ -4,7 +4,8 @@ use Rattle.std.specs.Option.{is_some}
 use Rattle.std.specs.Str.{bytes_eq}
 use Rattle.std.proofs.Common.{sym, ◌∙◌, ap}
 use Rattle.calculus.specs.Tree.{Formula, Not, And, Or, Implies, Dia, Box, Mu, Nu}
-use Rattle.formula.specs.Syntax.{RegSyntax, Parens', Not', And', Or', Implies', Star', Plus', Then', Either', counts_as_action, action_meant, regular_meant, option_two, Syntax, True', False', Var', Group', Neg', Both', OneOf', If', Dia', Box', Mu', Nu', meant}
+use Rattle.formula.specs.Syntax.{RegSyntax, Parens', Not', And', Or', Implies', Star', Plus', Then', Either', counts_as_action, action_meant, regular_meant}
+use Rattle.formula.specs.Syntax.{option_two, Syntax, True', False', Var', Group', Neg', Both', OneOf', If', Dia', Box', Mu', Nu', meant}
 use Rattle.calculus.specs.Admitted.{Scope, negated, is_free_to_stand, is_admitted_in}
 use Rattle.formula.specs.Fault.{operand_fault, reg_faults, operand_faults, variable_fault, variable_faults}
 use Rattle.formula.specs.declared.error.FormulaFault.TheVariants.{OddNegations}
@@ -25,7 +26,8 @@ some_one : {A B : Type 0} (f : A → B) (xs : List ℕ) (o : Option A) → none 
 some_one f xs (Some a) h = h
 some_one f xs None h = h
 
-some_both : {A B C : Type 0} (f : A → B → C) (xs ys : List ℕ) (o : Option A) (p : Option B) → none xs ≡ is_some o → none ys ≡ is_some p → none (xs ++ ys) ≡ is_some (option_two f o p)
+some_both : {A B C : Type 0} (f : A → B → C) (xs ys : List ℕ) (o : Option A) (p : Option B) → none xs ≡ is_some o → none ys ≡ is_some p
+    → none (xs ++ ys) ≡ is_some (option_two f o p)
 some_both f xs ys (Some a) (Some b) h k = none_both xs ys _ _ h k
 some_both f xs ys (Some a) None h k = none_both xs ys _ _ h k
 some_both f xs ys None p h k = none_both xs ys _ _ h k
@@ -88,7 +90,8 @@ odd false x = refl
 variable_same : (name : List ℕ) (scope : Scope) (at : ℕ) → none (variable_fault name scope at) ≡ is_free_to_stand name scope
 variable_same name [] at = refl
 variable_same name (binder ∷ scope) at =
-    elim (bytes_eq name binder.0) as (λ b. none (if b then (if binder.1 then [] else (at, OddNegations) ∷ []) else variable_fault name scope at) ≡ (if b then binder.1 else is_free_to_stand name scope)) [
+    elim (bytes_eq name binder.0) as (λ b. none (if b then (if binder.1 then [] else (at, OddNegations) ∷ []) else variable_fault name scope at)
+    ≡ (if b then binder.1 else is_free_to_stand name scope)) [
       | true ↦ odd binder.1 (at, OddNegations)
       | false ↦ variable_same name scope at
     ]
@@ -100,7 +103,8 @@ from_map : {A B : Type 0} (f : A → B) (o : Option A) (b : B) → option_map f 
 from_map f (Some a) b e = (a, refl, cc)
 from_map f None b e = cc
 
-from_two : {A B C : Type 0} (f : A → B → C) (o : Option A) (p : Option B) (c : C) → option_two f o p ≡ Some c → (a : A) × (b : B) × (o ≡ Some a) × (p ≡ Some b) × (f a b ≡ c)
+from_two : {A B C : Type 0} (f : A → B → C) (o : Option A) (p : Option B) (c : C) → option_two f o p ≡ Some c → (a : A) × (b : B) × (o ≡ Some a)
+    × (p ≡ Some b) × (f a b ≡ c)
 from_two f (Some a) (Some b) c e = (a, b, refl, refl, cc)
 from_two f (Some a) None c e = cc
 from_two f None p c e = cc
@@ -119,8 +123,10 @@ admitted_same (If' g h) scope at f m = let w = from_two Implies (meant g) (meant
     none_both _ _ _ _ (admitted_same g (negated scope) at w.0 w.2) (admitted_same h scope _ w.1 w.3) ∙ ap (is_admitted_in scope) w.4
 admitted_same (Dia' r g) scope at f m = let w = from_two Dia (regular_meant r) (meant g) f m in admitted_same g scope _ w.1 w.3 ∙ ap (is_admitted_in scope) w.4
 admitted_same (Box' r g) scope at f m = let w = from_two Box (regular_meant r) (meant g) f m in admitted_same g scope _ w.1 w.3 ∙ ap (is_admitted_in scope) w.4
-admitted_same (Mu' name g) scope at f m = let w = from_map (Mu name) (meant g) f m in admitted_same g ((name, true) ∷ scope) _ w.0 w.1 ∙ ap (is_admitted_in scope) w.2
-admitted_same (Nu' name g) scope at f m = let w = from_map (Nu name) (meant g) f m in admitted_same g ((name, true) ∷ scope) _ w.0 w.1 ∙ ap (is_admitted_in scope) w.2
+admitted_same (Mu' name g) scope at f m = let w = from_map (Mu name) (meant g) f m in admitted_same g ((name, true) ∷ scope) _ w.0 w.1
+    ∙ ap (is_admitted_in scope) w.2
+admitted_same (Nu' name g) scope at f m = let w = from_map (Nu name) (meant g) f m in admitted_same g ((name, true) ∷ scope) _ w.0 w.1
+    ∙ ap (is_admitted_in scope) w.2
 
 pub admitted_in : (s : Syntax) (scope : Scope) (at : ℕ) (f : Formula) → variable_faults scope at s ≡ [] → meant s ≡ Some f → IsTrue (is_admitted_in scope f)
 admitted_in s scope at f e m = sym (admitted_same s scope at f m) ∙ ap none e

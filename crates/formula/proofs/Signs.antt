@@ -2,7 +2,8 @@
 use Rattle.std.specs.Prelude.{◌≡◌, ℕ, Bool, true, false, not, ◌||◌, List, [], ◌∷◌, ◌++◌, IsTrue, IsFalse, refl, if◌then◌else◌}
 use Rattle.std.specs.List.{list_any}
 use Rattle.std.proofs.Common.{sym, ◌∙◌, ap, subst}
-use Rattle.formula.specs.Token.{Token, ChoiceSign, PlusSign, spelling, IsToken, Piece, Blank, Comment, Word, piece_ends, token_ends, text_of, Cuts, tokens_of, is_after_postfix, sign_is_decided, is_decided, is_reserved}
+use Rattle.formula.specs.Token.{Token, ChoiceSign, PlusSign, spelling, IsToken, Piece, Blank, Comment, Word, piece_ends, token_ends, text_of, Cuts, tokens_of}
+use Rattle.formula.specs.Token.{is_after_postfix, sign_is_decided, is_decided, is_reserved}
 use Rattle.formula.specs.Fault.{IsTokens}
 use Rattle.formula.proofs.Regulars.{all_true}
 use Rattle.formula.proofs.Pieces.{plain_token, decided}
@@ -65,5 +66,12 @@ same_reserved (Comment bytes ∷ ps) = same_reserved ps
 same_reserved (Word t ∷ ps) = λ i. (settles t (tokens_of (settled ps))).free i || same_reserved ps i
 
 -- A text that is cut into tokens, none reserved, is so with each `+` what the next token makes it.
-pub settled_tokens : (text : List ℕ) (ps : List Piece) → text ≡ text_of ps → Cuts ps [] → IsFalse (list_any is_reserved (tokens_of ps)) → IsTokens text (settled ps)
-settled_tokens text ps e cut free = record { joined = e ∙ sym (same_text ps); cut = same_cut ps [] cut; decided = all_decided ps; free = same_reserved ps ∙ free }
+pub settled_tokens : (text : List ℕ) (ps : List Piece) → text ≡ text_of ps → Cuts ps [] → IsFalse (list_any is_reserved (tokens_of ps))
+    → IsTokens text (settled ps)
+settled_tokens text ps e cut free = record {
+  joined = e ∙ sym (same_text ps);
+  cut = same_cut ps [] cut;
+  decided = all_decided ps;
+  free = same_reserved ps
+      ∙ free;
+}

@@ -5,10 +5,14 @@ use Rattle.std.specs.List.{AllByRecursion}
 use Rattle.std.proofs.lemmas.Bool.{leb-true, le-leb, and_parts, and_from}
 use Rattle.systems.specs.Label.{multiset}
 use Rattle.formula.specs.declared.limits.TheConstants.{LONGEST_TEXT, DEEPEST, MOST_PARENS}
-use Rattle.calculus.specs.Tree.{Action, Anything, Nothing, Names, Quoted, NotAct, AndAct, OrAct, ImpliesAct, Regular, Step, Then, Either, Star, Plus, Formula, True, False, Var, Not, And, Or, Implies, Dia, Box, Mu, Nu}
+use Rattle.calculus.specs.Tree.{Action, Anything, Nothing, Names, Quoted, NotAct, AndAct, OrAct, ImpliesAct, Regular, Step, Then, Either, Star, Plus, Formula}
+use Rattle.calculus.specs.Tree.{True, False, Var, Not, And, Or, Implies, Dia, Box, Mu, Nu}
 use Rattle.calculus.specs.Canon.{canon}
-use Rattle.formula.specs.Token.{Token, Name, ImpliesSign, OrSign, AndSign, Greater, CloseBox, Close, Dot, ChoiceSign, PlusSign, StarSign, is_free_name, IsToken, Piece, Blank, Comment, Word, Cuts, tokens_of}
-use Rattle.formula.specs.Syntax.{RegSyntax, Anything', Nothing', Tau', Names', Quoted', Parens', Not', And', Or', Implies', Star', Plus', Then', Either', reg_tokens, more_names, option_two, action_meant, regular_meant, reg_nesting, reg_parens, Syntax, True', False', Var', Group', Neg', Both', OneOf', If', Dia', Box', Mu', Nu', tokens, meant, nesting, parens}
+use Rattle.formula.specs.Token.{Token, Name, ImpliesSign, OrSign, AndSign, Greater, CloseBox, Close, Dot, ChoiceSign, PlusSign, StarSign, is_free_name}
+use Rattle.formula.specs.Token.{IsToken, Piece, Blank, Comment, Word, Cuts, tokens_of}
+use Rattle.formula.specs.Syntax.{RegSyntax, Anything', Nothing', Tau', Names', Quoted', Parens', Not', And', Or', Implies', Star', Plus', Then', Either'}
+use Rattle.formula.specs.Syntax.{reg_tokens, more_names, option_two, action_meant, regular_meant, reg_nesting, reg_parens, Syntax, True', False', Var'}
+use Rattle.formula.specs.Syntax.{Group', Neg', Both', OneOf', If', Dia', Box', Mu', Nu', tokens, meant, nesting, parens}
 use Rattle.formula.specs.Spells.{Spells, SpellsWithin}
 use Rattle.formula.proofs.Ascending.{multiset_again, multiset_all}
 use Rattle.formula.proofs.Canonical.{IsSpellableAction, IsSpellableRegular, IsSpellable, canon_action, canon_regular, canon_syntax}
@@ -35,7 +39,8 @@ of_one : {A B : Type 0} (f : A → B) (o : Option A) (P : A → Type 0) (Q : B �
 of_one f None P Q g h = h
 of_one f (Some a) P Q g h = g a h
 
-of_two : {A B C : Type 0} (f : A → B → C) (o : Option A) (p : Option B) (P : A → Type 0) (Q : B → Type 0) (R : C → Type 0) → ((a : A) (b : B) → P a → Q b → R (f a b))
+of_two : {A B C : Type 0} (f : A → B → C) (o : Option A) (p : Option B) (P : A → Type 0) (Q : B → Type 0) (R : C → Type 0)
+    → ((a : A) (b : B) → P a → Q b → R (f a b))
     → IfSome o P → IfSome p Q → IfSome (option_two f o p) R
 of_two f None p P Q R g h k = tt
 of_two f (Some a) None P Q R g h k = tt
@@ -52,7 +57,8 @@ names_spellable x names all = (multiset_all (λ x. is_free_name x ≡ true) (x �
 sides : (ts us : List Token) (t : Token) → AreTokens (ts ++ t ∷ us) → AreTokens ts × AreTokens us
 sides ts us t all = let r = both_sides ts (t ∷ us) all in (r.0, r.1.1)
 
-of_sign : {A B C : Type 0} (f : A → B → C) (o : Option A) (p : Option B) (P : A → Type 0) (Q : B → Type 0) (R : C → Type 0) (ts us : List Token) (t : Token) → ((a : A) (b : B) → P a → Q b → R (f a b))
+of_sign : {A B C : Type 0} (f : A → B → C) (o : Option A) (p : Option B) (P : A → Type 0) (Q : B → Type 0) (R : C → Type 0) (ts us : List Token) (t : Token)
+    → ((a : A) (b : B) → P a → Q b → R (f a b))
     → (AreTokens ts → IfSome o P) → (AreTokens us → IfSome p Q) → AreTokens (ts ++ t ∷ us) → IfSome (option_two f o p) R
 of_sign f o p P Q R ts us t g h k all = let x = sides ts us t all in of_two f o p P Q R g (h x.0) (k x.1)
 
@@ -64,9 +70,12 @@ action_spellable (Names' x names) all = names_spellable x names all
 action_spellable (Quoted' bytes) all = all.0
 action_spellable (Parens' r) all = action_spellable r (both_sides (reg_tokens r) (Close ∷ []) all.1).0
 action_spellable (Not' r) all = of_one NotAct (action_meant r) IsSpellableAction IsSpellableAction (λ a h. h) (action_spellable r all.1)
-action_spellable (And' r s) all = of_sign AndAct _ _ IsSpellableAction IsSpellableAction IsSpellableAction _ _ AndSign (λ a b h k. (h, k)) (λ h. action_spellable r h) (λ h. action_spellable s h) all
-action_spellable (Or' r s) all = of_sign OrAct _ _ IsSpellableAction IsSpellableAction IsSpellableAction _ _ OrSign (λ a b h k. (h, k)) (λ h. action_spellable r h) (λ h. action_spellable s h) all
-action_spellable (Implies' r s) all = of_sign ImpliesAct _ _ IsSpellableAction IsSpellableAction IsSpellableAction _ _ ImpliesSign (λ a b h k. (h, k)) (λ h. action_spellable r h) (λ h. action_spellable s h) all
+action_spellable (And' r s) all = of_sign AndAct _ _ IsSpellableAction IsSpellableAction IsSpellableAction _ _ AndSign (λ a b h k. (h, k))
+    (λ h. action_spellable r h) (λ h. action_spellable s h) all
+action_spellable (Or' r s) all = of_sign OrAct _ _ IsSpellableAction IsSpellableAction IsSpellableAction _ _ OrSign (λ a b h k. (h, k))
+    (λ h. action_spellable r h) (λ h. action_spellable s h) all
+action_spellable (Implies' r s) all = of_sign ImpliesAct _ _ IsSpellableAction IsSpellableAction IsSpellableAction _ _ ImpliesSign (λ a b h k. (h, k))
+    (λ h. action_spellable r h) (λ h. action_spellable s h) all
 action_spellable (Star' r) all = tt
 action_spellable (Plus' r) all = tt
 action_spellable (Then' r s) all = tt
@@ -80,13 +89,20 @@ regular_spellable (Names' x names) all = names_spellable x names all
 regular_spellable (Quoted' bytes) all = all.0
 regular_spellable (Parens' r) all = regular_spellable r (both_sides (reg_tokens r) (Close ∷ []) all.1).0
 regular_spellable (Not' r) all = of_one (λ a. Step (NotAct a)) (action_meant r) IsSpellableAction IsSpellableRegular (λ a h. h) (action_spellable r all.1)
-regular_spellable (And' r s) all = of_sign (λ a b. Step (AndAct a b)) _ _ IsSpellableAction IsSpellableAction IsSpellableRegular _ _ AndSign (λ a b h k. (h, k)) (λ h. action_spellable r h) (λ h. action_spellable s h) all
-regular_spellable (Or' r s) all = of_sign (λ a b. Step (OrAct a b)) _ _ IsSpellableAction IsSpellableAction IsSpellableRegular _ _ OrSign (λ a b h k. (h, k)) (λ h. action_spellable r h) (λ h. action_spellable s h) all
-regular_spellable (Implies' r s) all = of_sign (λ a b. Step (ImpliesAct a b)) _ _ IsSpellableAction IsSpellableAction IsSpellableRegular _ _ ImpliesSign (λ a b h k. (h, k)) (λ h. action_spellable r h) (λ h. action_spellable s h) all
-regular_spellable (Star' r) all = of_one Star (regular_meant r) IsSpellableRegular IsSpellableRegular (λ r h. h) (regular_spellable r (both_sides (reg_tokens r) (StarSign ∷ []) all).0)
-regular_spellable (Plus' r) all = of_one Plus (regular_meant r) IsSpellableRegular IsSpellableRegular (λ r h. h) (regular_spellable r (both_sides (reg_tokens r) (PlusSign ∷ []) all).0)
-regular_spellable (Then' r s) all = of_sign Then _ _ IsSpellableRegular IsSpellableRegular IsSpellableRegular _ _ Dot (λ a b h k. (h, k)) (λ h. regular_spellable r h) (λ h. regular_spellable s h) all
-regular_spellable (Either' r s) all = of_sign Either _ _ IsSpellableRegular IsSpellableRegular IsSpellableRegular _ _ ChoiceSign (λ a b h k. (h, k)) (λ h. regular_spellable r h) (λ h. regular_spellable s h) all
+regular_spellable (And' r s) all = of_sign (λ a b. Step (AndAct a b)) _ _ IsSpellableAction IsSpellableAction IsSpellableRegular _ _ AndSign
+    (λ a b h k. (h, k)) (λ h. action_spellable r h) (λ h. action_spellable s h) all
+regular_spellable (Or' r s) all = of_sign (λ a b. Step (OrAct a b)) _ _ IsSpellableAction IsSpellableAction IsSpellableRegular _ _ OrSign (λ a b h k. (h, k))
+    (λ h. action_spellable r h) (λ h. action_spellable s h) all
+regular_spellable (Implies' r s) all = of_sign (λ a b. Step (ImpliesAct a b)) _ _ IsSpellableAction IsSpellableAction IsSpellableRegular _ _ ImpliesSign
+    (λ a b h k. (h, k)) (λ h. action_spellable r h) (λ h. action_spellable s h) all
+regular_spellable (Star' r) all = of_one Star (regular_meant r) IsSpellableRegular IsSpellableRegular (λ r h. h)
+    (regular_spellable r (both_sides (reg_tokens r) (StarSign ∷ []) all).0)
+regular_spellable (Plus' r) all = of_one Plus (regular_meant r) IsSpellableRegular IsSpellableRegular (λ r h. h)
+    (regular_spellable r (both_sides (reg_tokens r) (PlusSign ∷ []) all).0)
+regular_spellable (Then' r s) all = of_sign Then _ _ IsSpellableRegular IsSpellableRegular IsSpellableRegular _ _ Dot (λ a b h k. (h, k))
+    (λ h. regular_spellable r h) (λ h. regular_spellable s h) all
+regular_spellable (Either' r s) all = of_sign Either _ _ IsSpellableRegular IsSpellableRegular IsSpellableRegular _ _ ChoiceSign (λ a b h k. (h, k))
+    (λ h. regular_spellable r h) (λ h. regular_spellable s h) all
 
 formula_spellable : (s : Syntax) → AreTokens (tokens s) → IfSome (meant s) IsSpellable
 formula_spellable True' all = tt
@@ -94,11 +110,16 @@ formula_spellable False' all = tt
 formula_spellable (Var' name) all = all.0
 formula_spellable (Group' f) all = formula_spellable f (both_sides (tokens f) (Close ∷ []) all.1).0
 formula_spellable (Neg' f) all = of_one Not (meant f) IsSpellable IsSpellable (λ f h. h) (formula_spellable f all.1)
-formula_spellable (Both' f g) all = of_sign And _ _ IsSpellable IsSpellable IsSpellable _ _ AndSign (λ f g h k. (h, k)) (λ h. formula_spellable f h) (λ h. formula_spellable g h) all
-formula_spellable (OneOf' f g) all = of_sign Or _ _ IsSpellable IsSpellable IsSpellable _ _ OrSign (λ f g h k. (h, k)) (λ h. formula_spellable f h) (λ h. formula_spellable g h) all
-formula_spellable (If' f g) all = of_sign Implies _ _ IsSpellable IsSpellable IsSpellable _ _ ImpliesSign (λ f g h k. (h, k)) (λ h. formula_spellable f h) (λ h. formula_spellable g h) all
-formula_spellable (Dia' r f) all = of_sign Dia _ _ IsSpellableRegular IsSpellable IsSpellable _ _ Greater (λ r f h k. (h, k)) (λ h. regular_spellable r h) (λ h. formula_spellable f h) all.1
-formula_spellable (Box' r f) all = of_sign Box _ _ IsSpellableRegular IsSpellable IsSpellable _ _ CloseBox (λ r f h k. (h, k)) (λ h. regular_spellable r h) (λ h. formula_spellable f h) all.1
+formula_spellable (Both' f g) all = of_sign And _ _ IsSpellable IsSpellable IsSpellable _ _ AndSign (λ f g h k. (h, k)) (λ h. formula_spellable f h)
+    (λ h. formula_spellable g h) all
+formula_spellable (OneOf' f g) all = of_sign Or _ _ IsSpellable IsSpellable IsSpellable _ _ OrSign (λ f g h k. (h, k)) (λ h. formula_spellable f h)
+    (λ h. formula_spellable g h) all
+formula_spellable (If' f g) all = of_sign Implies _ _ IsSpellable IsSpellable IsSpellable _ _ ImpliesSign (λ f g h k. (h, k)) (λ h. formula_spellable f h)
+    (λ h. formula_spellable g h) all
+formula_spellable (Dia' r f) all = of_sign Dia _ _ IsSpellableRegular IsSpellable IsSpellable _ _ Greater (λ r f h k. (h, k)) (λ h. regular_spellable r h)
+    (λ h. formula_spellable f h) all.1
+formula_spellable (Box' r f) all = of_sign Box _ _ IsSpellableRegular IsSpellable IsSpellable _ _ CloseBox (λ r f h k. (h, k)) (λ h. regular_spellable r h)
+    (λ h. formula_spellable f h) all.1
 formula_spellable (Mu' name f) all = of_one (Mu name) (meant f) IsSpellable IsSpellable (λ f h. (all.1.0, h)) (formula_spellable f all.1.1.1)
 formula_spellable (Nu' name f) all = of_one (Nu name) (meant f) IsSpellable IsSpellable (λ f h. (all.1.0, h)) (formula_spellable f all.1.1.1)
 
@@ -142,11 +163,13 @@ abbrev IsDepth : ℕ → Formula → Type 0
 IsDepth n f = n ≡ formula_depth f
 
 -- an operator stands above its operand, and one with two above the deeper of them
-nests_one : {A B : Type 0} (f : A → B) (o : Option A) (d : A → ℕ) (e : B → ℕ) (m : ℕ) → ((a : A) → 1 + d a ≡ e (f a)) → IfSome o (λ a. m ≡ d a) → IfSome (option_map f o) (λ b. 1 + m ≡ e b)
+nests_one : {A B : Type 0} (f : A → B) (o : Option A) (d : A → ℕ) (e : B → ℕ) (m : ℕ) → ((a : A) → 1 + d a ≡ e (f a)) → IfSome o (λ a. m ≡ d a)
+    → IfSome (option_map f o) (λ b. 1 + m ≡ e b)
 nests_one f None d e m above h = tt
 nests_one f (Some a) d e m above h = ap (λ k. 1 + k) h ∙ above a
 
-nests_two : {A B C : Type 0} (f : A → B → C) (o : Option A) (p : Option B) (d : A → ℕ) (e : B → ℕ) (c : C → ℕ) (m n : ℕ) → ((a : A) (b : B) → 1 + max (d a) (e b) ≡ c (f a b))
+nests_two : {A B C : Type 0} (f : A → B → C) (o : Option A) (p : Option B) (d : A → ℕ) (e : B → ℕ) (c : C → ℕ) (m n : ℕ)
+    → ((a : A) (b : B) → 1 + max (d a) (e b) ≡ c (f a b))
     → IfSome o (λ a. m ≡ d a) → IfSome p (λ b. n ≡ e b) → IfSome (option_two f o p) (λ x. 1 + max m n ≡ c x)
 nests_two f None p d e c m n above h k = tt
 nests_two f (Some a) None d e c m n above h k = tt
@@ -160,9 +183,12 @@ action_nests (Names' x names) = refl
 action_nests (Quoted' bytes) = refl
 action_nests (Parens' r) = action_nests r
 action_nests (Not' r) = nests_one NotAct (action_meant r) action_depth action_depth (reg_nesting r) (λ a. refl) (action_nests r)
-action_nests (And' r s) = nests_two AndAct (action_meant r) (action_meant s) action_depth action_depth action_depth (reg_nesting r) (reg_nesting s) (λ a b. refl) (action_nests r) (action_nests s)
-action_nests (Or' r s) = nests_two OrAct (action_meant r) (action_meant s) action_depth action_depth action_depth (reg_nesting r) (reg_nesting s) (λ a b. refl) (action_nests r) (action_nests s)
-action_nests (Implies' r s) = nests_two ImpliesAct (action_meant r) (action_meant s) action_depth action_depth action_depth (reg_nesting r) (reg_nesting s) (λ a b. refl) (action_nests r) (action_nests s)
+action_nests (And' r s) = nests_two AndAct (action_meant r) (action_meant s) action_depth action_depth action_depth (reg_nesting r) (reg_nesting s)
+    (λ a b. refl) (action_nests r) (action_nests s)
+action_nests (Or' r s) = nests_two OrAct (action_meant r) (action_meant s) action_depth action_depth action_depth (reg_nesting r) (reg_nesting s)
+    (λ a b. refl) (action_nests r) (action_nests s)
+action_nests (Implies' r s) = nests_two ImpliesAct (action_meant r) (action_meant s) action_depth action_depth action_depth (reg_nesting r) (reg_nesting s)
+    (λ a b. refl) (action_nests r) (action_nests s)
 action_nests (Star' r) = tt
 action_nests (Plus' r) = tt
 action_nests (Then' r s) = tt
@@ -176,13 +202,18 @@ regular_nests (Names' x names) = refl
 regular_nests (Quoted' bytes) = refl
 regular_nests (Parens' r) = regular_nests r
 regular_nests (Not' r) = nests_one (λ a. Step (NotAct a)) (action_meant r) action_depth regular_depth (reg_nesting r) (λ a. refl) (action_nests r)
-regular_nests (And' r s) = nests_two (λ a b. Step (AndAct a b)) (action_meant r) (action_meant s) action_depth action_depth regular_depth (reg_nesting r) (reg_nesting s) (λ a b. refl) (action_nests r) (action_nests s)
-regular_nests (Or' r s) = nests_two (λ a b. Step (OrAct a b)) (action_meant r) (action_meant s) action_depth action_depth regular_depth (reg_nesting r) (reg_nesting s) (λ a b. refl) (action_nests r) (action_nests s)
-regular_nests (Implies' r s) = nests_two (λ a b. Step (ImpliesAct a b)) (action_meant r) (action_meant s) action_depth action_depth regular_depth (reg_nesting r) (reg_nesting s) (λ a b. refl) (action_nests r) (action_nests s)
+regular_nests (And' r s) = nests_two (λ a b. Step (AndAct a b)) (action_meant r) (action_meant s) action_depth action_depth regular_depth (reg_nesting r)
+    (reg_nesting s) (λ a b. refl) (action_nests r) (action_nests s)
+regular_nests (Or' r s) = nests_two (λ a b. Step (OrAct a b)) (action_meant r) (action_meant s) action_depth action_depth regular_depth (reg_nesting r)
+    (reg_nesting s) (λ a b. refl) (action_nests r) (action_nests s)
+regular_nests (Implies' r s) = nests_two (λ a b. Step (ImpliesAct a b)) (action_meant r) (action_meant s) action_depth action_depth regular_depth
+    (reg_nesting r) (reg_nesting s) (λ a b. refl) (action_nests r) (action_nests s)
 regular_nests (Star' r) = nests_one Star (regular_meant r) regular_depth regular_depth (reg_nesting r) (λ a. refl) (regular_nests r)
 regular_nests (Plus' r) = nests_one Plus (regular_meant r) regular_depth regular_depth (reg_nesting r) (λ a. refl) (regular_nests r)
-regular_nests (Then' r s) = nests_two Then (regular_meant r) (regular_meant s) regular_depth regular_depth regular_depth (reg_nesting r) (reg_nesting s) (λ a b. refl) (regular_nests r) (regular_nests s)
-regular_nests (Either' r s) = nests_two Either (regular_meant r) (regular_meant s) regular_depth regular_depth regular_depth (reg_nesting r) (reg_nesting s) (λ a b. refl) (regular_nests r) (regular_nests s)
+regular_nests (Then' r s) = nests_two Then (regular_meant r) (regular_meant s) regular_depth regular_depth regular_depth (reg_nesting r) (reg_nesting s)
+    (λ a b. refl) (regular_nests r) (regular_nests s)
+regular_nests (Either' r s) = nests_two Either (regular_meant r) (regular_meant s) regular_depth regular_depth regular_depth (reg_nesting r) (reg_nesting s)
+    (λ a b. refl) (regular_nests r) (regular_nests s)
 
 formula_nests : (s : Syntax) → IfSome (meant s) (IsDepth (nesting s))
 formula_nests True' = refl
@@ -190,11 +221,16 @@ formula_nests False' = refl
 formula_nests (Var' name) = refl
 formula_nests (Group' f) = formula_nests f
 formula_nests (Neg' f) = nests_one Not (meant f) formula_depth formula_depth (nesting f) (λ a. refl) (formula_nests f)
-formula_nests (Both' f g) = nests_two And (meant f) (meant g) formula_depth formula_depth formula_depth (nesting f) (nesting g) (λ a b. refl) (formula_nests f) (formula_nests g)
-formula_nests (OneOf' f g) = nests_two Or (meant f) (meant g) formula_depth formula_depth formula_depth (nesting f) (nesting g) (λ a b. refl) (formula_nests f) (formula_nests g)
-formula_nests (If' f g) = nests_two Implies (meant f) (meant g) formula_depth formula_depth formula_depth (nesting f) (nesting g) (λ a b. refl) (formula_nests f) (formula_nests g)
-formula_nests (Dia' r f) = nests_two Dia (regular_meant r) (meant f) regular_depth formula_depth formula_depth (reg_nesting r) (nesting f) (λ a b. refl) (regular_nests r) (formula_nests f)
-formula_nests (Box' r f) = nests_two Box (regular_meant r) (meant f) regular_depth formula_depth formula_depth (reg_nesting r) (nesting f) (λ a b. refl) (regular_nests r) (formula_nests f)
+formula_nests (Both' f g) = nests_two And (meant f) (meant g) formula_depth formula_depth formula_depth (nesting f) (nesting g) (λ a b. refl)
+    (formula_nests f) (formula_nests g)
+formula_nests (OneOf' f g) = nests_two Or (meant f) (meant g) formula_depth formula_depth formula_depth (nesting f) (nesting g) (λ a b. refl)
+    (formula_nests f) (formula_nests g)
+formula_nests (If' f g) = nests_two Implies (meant f) (meant g) formula_depth formula_depth formula_depth (nesting f) (nesting g) (λ a b. refl)
+    (formula_nests f) (formula_nests g)
+formula_nests (Dia' r f) = nests_two Dia (regular_meant r) (meant f) regular_depth formula_depth formula_depth (reg_nesting r) (nesting f) (λ a b. refl)
+    (regular_nests r) (formula_nests f)
+formula_nests (Box' r f) = nests_two Box (regular_meant r) (meant f) regular_depth formula_depth formula_depth (reg_nesting r) (nesting f) (λ a b. refl)
+    (regular_nests r) (formula_nests f)
 formula_nests (Mu' name f) = nests_one (Mu name) (meant f) formula_depth formula_depth (nesting f) (λ a. refl) (formula_nests f)
 formula_nests (Nu' name f) = nests_one (Nu name) (meant f) formula_depth formula_depth (nesting f) (λ a. refl) (formula_nests f)
 
@@ -247,7 +283,11 @@ pub canon_within : (text : List ℕ) (f : Formula) → SpellsWithin text f → l
 canon_within text f a short =
     let s = spelled_spellable text f (record { pieces = a.pieces; syntax = a.syntax; written = a.written; stands_for = a.stands_for }) in
     let limits = and_parts (nat_le (nesting a.syntax) DEEPEST) (nat_le (parens a.syntax) MOST_PARENS) a.within in
-    let nest : nesting (canon_syntax f) ≤ DEEPEST = omega (arith, same_nesting a.syntax (canon_syntax f) f a.stands_for (formula_again f s), leb-true (nesting a.syntax) DEEPEST limits.0) in
+    let nest : nesting (canon_syntax f) ≤ DEEPEST = omega (
+      arith,
+      same_nesting a.syntax (canon_syntax f) f a.stands_for (formula_again f s),
+      leb-true (nesting a.syntax) DEEPEST limits.0,
+    ) in
     record {
       pieces = _;
       syntax = canon_syntax f;

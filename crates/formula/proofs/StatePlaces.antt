@@ -3,7 +3,8 @@ use Rattle.std.proofs.Common.{◌≡◌, ℕ, ◌+◌, ◌-◌, ◌<◌, ◌≤�
 use Rattle.std.specs.Prelude.{IsTrue, nat_le, drop}
 use Rattle.std.proofs.lemmas.Bool.{leb-true, and_parts}
 use Rattle.formula.specs.Token.{Token, Name, TrueWord, FalseWord, MuWord, NuWord, NotSign, Less, Greater, OpenBox, CloseBox, Open, Close, Dot}
-use Rattle.formula.specs.Syntax.{RegSyntax, reg_tokens, reg_fits, reg_nesting, reg_parens, Syntax, True', False', Var', Group', Neg', Both', OneOf', If', Dia', Box', Mu', Nu', form, ends_in_binder, fits, tokens, nesting, parens}
+use Rattle.formula.specs.Syntax.{RegSyntax, reg_tokens, reg_fits, reg_nesting, reg_parens, Syntax, True', False', Var', Group', Neg', Both', OneOf', If'}
+use Rattle.formula.specs.Syntax.{Dia', Box', Mu', Nu', form, ends_in_binder, fits, tokens, nesting, parens}
 use Rattle.formula.specs.Written.{joined, connective_token, connective_row, modal, opening, closing, bound, binder_token}
 use Rattle.formula.specs.Read.{reg_row, state_row}
 use Rattle.formula.specs.Misread.{BeginsRegular, StandsRegular, BeginsState, StandsState}
@@ -46,8 +47,10 @@ unary-as False' rest more t low e = as_first FalseWord t False' rest rest more e
 unary-as (Var' x) rest more t low e = as_first (Name x) t (Var' x) rest rest more e tt
 unary-as (Group' f) rest more t low e = as_first Open t (Group' f) rest _ more e (f, refl, sym (append_assoc (tokens f) (Close ∷ []) rest) ∙ ap (drop 1) e)
 unary-as (Neg' f) rest more t low e = as_first NotSign t (Neg' f) rest _ more e (f, refl, ap (drop 1) e)
-unary-as (Dia' r f) rest more t low e = as_first Less t (Dia' r f) rest _ more e (r, f, refl, sym (append_assoc (reg_tokens r) (Greater ∷ tokens f) rest) ∙ ap (drop 1) e)
-unary-as (Box' r f) rest more t low e = as_first OpenBox t (Box' r f) rest _ more e (r, f, refl, sym (append_assoc (reg_tokens r) (CloseBox ∷ tokens f) rest) ∙ ap (drop 1) e)
+unary-as (Dia' r f) rest more t low e = as_first Less t (Dia' r f) rest _ more e
+    (r, f, refl, sym (append_assoc (reg_tokens r) (Greater ∷ tokens f) rest) ∙ ap (drop 1) e)
+unary-as (Box' r f) rest more t low e = as_first OpenBox t (Box' r f) rest _ more e
+    (r, f, refl, sym (append_assoc (reg_tokens r) (CloseBox ∷ tokens f) rest) ∙ ap (drop 1) e)
 unary-as (Mu' x f) rest more t low e = as_first MuWord t (Mu' x f) rest _ more e (x, f, refl, ap (drop 1) e)
 unary-as (Nu' x f) rest more t low e = as_first NuWord t (Nu' x f) rest _ more e (x, f, refl, ap (drop 1) e)
 unary-as (Both' f g) rest more t low e = absurd (omega (arith, low))
@@ -72,27 +75,46 @@ modal-inside brackets.Diamond r f h = modal_parts r f h
 modal-inside brackets.Box r f h = modal_parts r f h
 
 -- a part from which a formula begins, and one in which a formula stands
-begins-part : (nested opened depth inside depth' inside' level : ℕ) (s : Syntax) (front more : List Token) → IsTrue (fits s) → form s ≤ level → tokens s ≡ front ++ more → (nested ≤ depth → nesting s ≤ depth') → (opened ≤ inside → parens s ≤ inside')
+begins-part : (nested opened depth inside depth' inside' level : ℕ) (s : Syntax) (front more : List Token) → IsTrue (fits s) → form s ≤ level
+    → tokens s ≡ front ++ more → (nested ≤ depth → nesting s ≤ depth') → (opened ≤ inside → parens s ≤ inside')
     → (nested' opened' : ℕ) × BeginsState level nested' opened' front × (nested ≤ depth → nested' ≤ depth') × (opened ≤ inside → opened' ≤ inside')
 begins-part nested opened depth inside depth' inside' level s front more fit row e low narrow =
     (nesting s, parens s, record { syntax = s; more = more; grammatical = fit; row = row; nests = refl; opens = refl; spelled = e }, low, narrow)
 
-stands-part : (nested opened depth inside depth' inside' level : ℕ) (s : Syntax) (rest ts : List Token) → IsTrue (fits s) → form s ≤ level → level < state_row rest → (ends_in_binder s ≡ true → 3 < state_row rest) → tokens s ++ rest ≡ ts
+stands-part : (nested opened depth inside depth' inside' level : ℕ) (s : Syntax) (rest ts : List Token) → IsTrue (fits s) → form s ≤ level
+    → level < state_row rest → (ends_in_binder s ≡ true → 3 < state_row rest) → tokens s ++ rest ≡ ts
     → (nested ≤ depth → nesting s ≤ depth') → (opened ≤ inside → parens s ≤ inside')
     → (nested' opened' : ℕ) × StandsState level nested' opened' ts × (nested ≤ depth → nested' ≤ depth') × (opened ≤ inside → opened' ≤ inside')
-stands-part nested opened depth inside depth' inside' level s rest ts fit row stop reaches e low narrow =
-    (nesting s, parens s, record { syntax = s; rest = rest; grammatical = fit; row = row; nests = refl; opens = refl; stops = stop; reaches = reaches; spelled = e }, low, narrow)
+stands-part nested opened depth inside depth' inside' level s rest ts fit row stop reaches e low narrow = (
+  nesting s,
+  parens s,
+  record {
+    syntax = s;
+    rest = rest;
+    grammatical = fit;
+    row = row;
+    nests = refl;
+    opens = refl;
+    stops = stop;
+    reaches = reaches;
+    spelled = e;
+  },
+  low,
+  narrow,
+)
 
 -- after a `!`
 pub after-not : (depth inside : ℕ) → IsPlace (BeginsState 0) (StandsState 0) (BeginsState 0) (StandsState 0) (depth + 1) inside depth inside (NotSign ∷ [])
 after-not depth inside = record {
   outward = λ ts nested opened b.
-      begins-part nested opened depth inside (depth + 1) inside 0 (Neg' b.syntax) (NotSign ∷ ts) b.more (all_true _ _ (le_true _ _ b.row) b.grammatical) (omega arith) (ap (λ us. NotSign ∷ us) b.spelled)
+      begins-part nested opened depth inside (depth + 1) inside 0 (Neg' b.syntax) (NotSign ∷ ts) b.more (all_true _ _ (le_true _ _ b.row) b.grammatical)
+      (omega arith) (ap (λ us. NotSign ∷ us) b.spelled)
       (λ h. omega (arith, b.nests, h)) (λ h. omega (arith, b.opens, h));
   inward = λ ts nested opened x.
       let u = unary-as x.syntax x.rest ts NotSign x.row x.spelled in
       let o = and_parts (nat_le (form u.0) 0) (fits u.0) (subst (λ s. IsTrue (fits s)) u.1 x.grammatical) in
-      stands-part nested opened (depth + 1) inside depth inside 0 u.0 x.rest ts o.1 (leb-true (form u.0) 0 o.0) x.stops (λ e. x.reaches (ap ends_in_binder u.1 ∙ e)) u.2
+      stands-part nested opened (depth + 1) inside depth inside 0 u.0 x.rest ts o.1 (leb-true (form u.0) 0 o.0) x.stops
+      (λ e. x.reaches (ap ends_in_binder u.1 ∙ e)) u.2
       (λ h. omega (arith, ap nesting u.1, x.nests, h)) (λ h. omega (arith, ap parens u.1, x.opens, h));
 }
 
@@ -101,10 +123,12 @@ pub in-group : (depth inside : ℕ) → IsPlace (BeginsState 0) (StandsState 0) 
 in-group depth inside = record {
   outward = λ ts nested opened b.
       begins-part nested opened depth inside depth (inside + 1) 0 (Group' b.syntax) (Open ∷ ts) (b.more ++ Close ∷ []) b.grammatical (omega arith)
-      (ap (λ us. Open ∷ us) (ap (λ us. us ++ Close ∷ []) b.spelled ∙ append_assoc ts b.more (Close ∷ []))) (λ h. omega (arith, b.nests, h)) (λ h. omega (arith, b.opens, h));
+      (ap (λ us. Open ∷ us) (ap (λ us. us ++ Close ∷ []) b.spelled ∙ append_assoc ts b.more (Close ∷ []))) (λ h. omega (arith, b.nests, h))
+      (λ h. omega (arith, b.opens, h));
   inward = λ ts nested opened x.
       let u = unary-as x.syntax x.rest ts Open x.row x.spelled in
-      stands-part nested opened depth (inside + 1) depth inside 3 u.0 (Close ∷ x.rest) ts (subst (λ s. IsTrue (fits s)) u.1 x.grammatical) (any_formula u.0) (omega arith) (λ e. omega arith) u.2
+      stands-part nested opened depth (inside + 1) depth inside 3 u.0 (Close ∷ x.rest) ts (subst (λ s. IsTrue (fits s)) u.1 x.grammatical) (any_formula u.0)
+      (omega arith) (λ e. omega arith) u.2
       (λ h. omega (arith, ap nesting u.1, x.nests, h)) (λ h. omega (arith, ap parens u.1, x.opens, h));
 }
 
@@ -112,27 +136,34 @@ in-group depth inside = record {
 pub at-front : (level depth inside : ℕ) → IsPlace (BeginsState level) (StandsState level) (BeginsState 0) (StandsState 0) depth inside depth inside []
 at-front level depth inside = record {
   outward = λ ts nested opened b.
-      begins-part nested opened depth inside depth inside level b.syntax ts b.more b.grammatical (omega (arith, b.row)) b.spelled (λ h. omega (arith, b.nests, h)) (λ h. omega (arith, b.opens, h));
+      begins-part nested opened depth inside depth inside level b.syntax ts b.more b.grammatical (omega (arith, b.row)) b.spelled
+      (λ h. omega (arith, b.nests, h)) (λ h. omega (arith, b.opens, h));
   inward = λ ts nested opened x.
       let u = first-unary x.syntax x.rest (standing level nested opened ts x) in
-      stands-part nested opened depth inside depth inside 0 u.operand u.rest ts u.standing.grammatical u.row (omega (arith, u.standing.ended)) u.standing.reaches (u.spelled ∙ x.spelled)
+      stands-part nested opened depth inside depth inside 0 u.operand u.rest ts u.standing.grammatical u.row
+      (omega (arith, u.standing.ended)) u.standing.reaches (u.spelled ∙ x.spelled)
       (λ h. omega (arith, u.nests, x.nests, h)) (λ h. omega (arith, u.opens, x.opens, h));
 }
 
 -- after a left operand and its sign
-pub after-sign : (mark : Connective) (left : Syntax) (level depth inside : ℕ) → LeftOperand mark left → connective_row mark ≤ level → nesting left < depth → parens left ≤ inside
-    → IsPlace (BeginsState level) (StandsState level) (BeginsState (connective_row mark)) (StandsState (connective_row mark)) depth inside (depth - 1) inside (tokens left ++ connective_token mark ∷ [])
+pub after-sign : (mark : Connective) (left : Syntax) (level depth inside : ℕ) → LeftOperand mark left → connective_row mark ≤ level → nesting left < depth
+    → parens left ≤ inside
+    → IsPlace (BeginsState level) (StandsState level) (BeginsState (connective_row mark)) (StandsState (connective_row mark)) depth inside (depth - 1) inside
+    (tokens left ++ connective_token mark ∷ [])
 after-sign mark left level depth inside w lower low narrow = record {
   outward = λ ts nested opened b.
       let f = b.syntax in
       begins-part nested opened (depth - 1) inside depth inside level (joined mark left f) ((tokens left ++ connective_token mark ∷ []) ++ ts) b.more
       (joined-fits mark left f w.grammatical b.grammatical w.below b.row (rw w.open_end refl)) (omega (arith, (joined-is mark left f).form, lower))
       (joined-tokens mark left f ∙ ap (λ us. tokens left ++ connective_token mark ∷ us) b.spelled
-      ∙ sym (append_assoc (tokens left) (connective_token mark ∷ ts) b.more) ∙ ap (λ us. us ++ b.more) (sym (append_assoc (tokens left) (connective_token mark ∷ []) ts)))
+      ∙ sym (append_assoc (tokens left) (connective_token mark ∷ ts) b.more)
+      ∙ ap (λ us. us ++ b.more) (sym (append_assoc (tokens left) (connective_token mark ∷ []) ts)))
       (λ h. omega (arith, (joined-is mark left f).nesting, b.nests, low, h)) (λ h. omega (arith, (joined-is mark left f).parens, b.opens, narrow, h));
   inward = λ ts nested opened x.
-      let h = spine mark left ts x.syntax w x.rest (standing level nested opened _ x) (omega (arith, x.stops, lower)) (x.spelled ∙ append_assoc (tokens left) (connective_token mark ∷ []) ts) in
-      stands-part nested opened depth inside (depth - 1) inside (connective_row mark) h.operand h.rest ts h.standing.grammatical h.row h.stops h.standing.reaches h.spelled
+      let h = spine mark left ts x.syntax w x.rest (standing level nested opened _ x) (omega (arith, x.stops, lower))
+      (x.spelled ∙ append_assoc (tokens left) (connective_token mark ∷ []) ts) in
+      stands-part nested opened depth inside (depth - 1) inside
+      (connective_row mark) h.operand h.rest ts h.standing.grammatical h.row h.stops h.standing.reaches h.spelled
       (λ k. omega (arith, h.nests, x.nests, k)) (λ k. omega (arith, h.opens, x.opens, k));
 }
 
@@ -142,28 +173,35 @@ closing-row brackets.Diamond more = refl
 closing-row brackets.Box more = refl
 
 -- in the brackets of a modality
-pub in-brackets : (mark : Brackets) (depth inside : ℕ) → IsPlace (BeginsState 0) (StandsState 0) (BeginsRegular 7) (StandsRegular 7) (depth + 1) inside depth inside (opening mark ∷ [])
+pub in-brackets : (mark : Brackets) (depth inside : ℕ) → IsPlace (BeginsState 0) (StandsState 0) (BeginsRegular 7) (StandsRegular 7)
+    (depth + 1) inside depth inside (opening mark ∷ [])
 in-brackets mark depth inside = record {
   outward = λ ts nested opened b.
       let r = b.syntax in
-      begins-part nested opened depth inside (depth + 1) inside 0 (modal mark r True') (opening mark ∷ ts) (b.more ++ closing mark ∷ TrueWord ∷ []) (modal-fits mark r True' b.grammatical (omega arith) refl)
+      begins-part nested opened depth inside (depth + 1) inside 0 (modal mark r True') (opening mark ∷ ts) (b.more ++ closing mark ∷ TrueWord ∷ [])
+      (modal-fits mark r True' b.grammatical (omega arith) refl)
       (omega (arith, (modal-is mark r True').form))
-      (modal-tokens mark r True' ∙ ap (λ us. opening mark ∷ us) (ap (λ us. us ++ closing mark ∷ TrueWord ∷ []) b.spelled ∙ append_assoc ts b.more (closing mark ∷ TrueWord ∷ [])))
+      (modal-tokens mark r True' ∙ ap (λ us. opening mark ∷ us)
+      (ap (λ us. us ++ closing mark ∷ TrueWord ∷ []) b.spelled ∙ append_assoc ts b.more (closing mark ∷ TrueWord ∷ [])))
       (λ h. omega (arith, (modal-is mark r True').nesting, b.nests, h)) (λ h. omega (arith, (modal-is mark r True').parens, b.opens, h));
   inward = λ ts nested opened x.
       let u = modal-as mark x.syntax x.rest ts x.row x.spelled in
       let o = modal-inside mark u.0 u.1 (subst (λ s. IsTrue (fits s)) u.2 x.grammatical) in
-      regular-part nested opened (depth + 1) inside depth inside 7 u.0 (closing mark ∷ (tokens u.1 ++ x.rest)) ts o.1 (any_form u.0) (omega (arith, closing-row mark (tokens u.1 ++ x.rest))) u.3
-      (λ h. omega (arith, ap nesting u.2, (modal-is mark u.0 u.1).nesting, x.nests, h)) (λ h. omega (arith, ap parens u.2, (modal-is mark u.0 u.1).parens, x.opens, h));
+      regular-part nested opened (depth + 1) inside depth inside 7 u.0 (closing mark ∷ (tokens u.1 ++ x.rest)) ts o.1 (any_form u.0)
+      (omega (arith, closing-row mark (tokens u.1 ++ x.rest))) u.3
+      (λ h. omega (arith, ap nesting u.2, (modal-is mark u.0 u.1).nesting, x.nests, h))
+      (λ h. omega (arith, ap parens u.2, (modal-is mark u.0 u.1).parens, x.opens, h));
 }
 
 -- after the brackets of a modality
 pub after-brackets : (mark : Brackets) (r : RegSyntax) (depth inside : ℕ) → IsTrue (reg_fits r) → reg_nesting r ≤ depth → reg_parens r ≤ inside
-    → IsPlace (BeginsState 0) (StandsState 0) (BeginsState 0) (StandsState 0) (depth + 1) inside depth inside (opening mark ∷ (reg_tokens r ++ closing mark ∷ []))
+    → IsPlace (BeginsState 0) (StandsState 0) (BeginsState 0) (StandsState 0) (depth + 1) inside depth inside
+    (opening mark ∷ (reg_tokens r ++ closing mark ∷ []))
 after-brackets mark r depth inside fit low narrow = record {
   outward = λ ts nested opened b.
       let f = b.syntax in
-      begins-part nested opened depth inside (depth + 1) inside 0 (modal mark r f) (opening mark ∷ ((reg_tokens r ++ closing mark ∷ []) ++ ts)) b.more (modal-fits mark r f fit b.row b.grammatical)
+      begins-part nested opened depth inside (depth + 1) inside 0 (modal mark r f) (opening mark ∷ ((reg_tokens r ++ closing mark ∷ []) ++ ts)) b.more
+      (modal-fits mark r f fit b.row b.grammatical)
       (omega (arith, (modal-is mark r f).form))
       (modal-tokens mark r f ∙ ap (λ us. opening mark ∷ us) (ap (λ us. reg_tokens r ++ closing mark ∷ us) b.spelled
       ∙ sym (append_assoc (reg_tokens r) (closing mark ∷ ts) b.more) ∙ ap (λ us. us ++ b.more) (sym (append_assoc (reg_tokens r) (closing mark ∷ []) ts))))
@@ -171,22 +209,30 @@ after-brackets mark r depth inside fit low narrow = record {
   inward = λ ts nested opened x.
       let u = modal-as mark x.syntax x.rest ((reg_tokens r ++ closing mark ∷ []) ++ ts) x.row x.spelled in
       let o = modal-inside mark u.0 u.1 (subst (λ s. IsTrue (fits s)) u.2 x.grammatical) in
-      let p = one_at 7 u.0 r (closing mark ∷ (tokens u.1 ++ x.rest)) (closing mark ∷ ts) o.1 fit (any_form u.0) (any_form r) (omega (arith, closing-row mark (tokens u.1 ++ x.rest))) (omega (arith, closing-row mark ts))
+      let p = one_at 7 u.0 r (closing mark ∷ (tokens u.1 ++ x.rest)) (closing mark ∷ ts) o.1 fit (any_form u.0) (any_form r)
+      (omega (arith, closing-row mark (tokens u.1 ++ x.rest))) (omega (arith, closing-row mark ts))
       (u.3 ∙ append_assoc (reg_tokens r) (closing mark ∷ []) ts) in
-      stands-part nested opened (depth + 1) inside depth inside 0 u.1 x.rest ts o.2 o.0 x.stops (λ e. x.reaches (ap ends_in_binder u.2 ∙ (modal-is mark u.0 u.1).ends ∙ e)) (ap (drop 1) p.1)
-      (λ h. omega (arith, ap nesting u.2, (modal-is mark u.0 u.1).nesting, x.nests, h)) (λ h. omega (arith, ap parens u.2, (modal-is mark u.0 u.1).parens, x.opens, h));
+      stands-part nested opened (depth + 1) inside depth inside 0 u.1 x.rest ts o.2 o.0 x.stops
+      (λ e. x.reaches (ap ends_in_binder u.2 ∙ (modal-is mark u.0 u.1).ends ∙ e)) (ap (drop 1) p.1)
+      (λ h. omega (arith, ap nesting u.2, (modal-is mark u.0 u.1).nesting, x.nests, h))
+      (λ h. omega (arith, ap parens u.2, (modal-is mark u.0 u.1).parens, x.opens, h));
 }
 
 -- after the dot of a binder
-pub after-dot : (word : Binder) (x : List ℕ) (depth inside : ℕ) → IsPlace (BeginsState 0) (StandsState 0) (BeginsState 3) (StandsState 3) (depth + 1) inside depth inside (binder_token word ∷ Name x ∷ Dot ∷ [])
+pub after-dot : (word : Binder) (x : List ℕ) (depth inside : ℕ)
+    → IsPlace (BeginsState 0) (StandsState 0) (BeginsState 3) (StandsState 3) (depth + 1) inside depth inside (binder_token word ∷ Name x ∷ Dot ∷ [])
 after-dot word y depth inside = record {
   outward = λ ts nested opened b.
       let f = b.syntax in
-      begins-part nested opened depth inside (depth + 1) inside 0 (bound word y f) (binder_token word ∷ Name y ∷ Dot ∷ ts) b.more ((bound-is word y f).fits ∙ b.grammatical) (omega (arith, (bound-is word y f).form))
-      (bound-tokens word y f ∙ ap (λ us. binder_token word ∷ Name y ∷ Dot ∷ us) b.spelled) (λ h. omega (arith, (bound-is word y f).nesting, b.nests, h)) (λ h. omega (arith, (bound-is word y f).parens, b.opens, h));
+      begins-part nested opened depth inside (depth + 1) inside 0 (bound word y f) (binder_token word ∷ Name y ∷ Dot ∷ ts) b.more
+      ((bound-is word y f).fits ∙ b.grammatical) (omega (arith, (bound-is word y f).form))
+      (bound-tokens word y f ∙ ap (λ us. binder_token word ∷ Name y ∷ Dot ∷ us) b.spelled) (λ h. omega (arith, (bound-is word y f).nesting, b.nests, h))
+      (λ h. omega (arith, (bound-is word y f).parens, b.opens, h));
   inward = λ ts nested opened x.
       let u = bound-as word x.syntax x.rest (Name y ∷ Dot ∷ ts) x.row x.spelled in
       let far : 3 < state_row x.rest = x.reaches (ap ends_in_binder u.2 ∙ (bound-is word u.0 u.1).ends) in
-      stands-part nested opened (depth + 1) inside depth inside 3 u.1 x.rest ts (sym ((bound-is word u.0 u.1).fits) ∙ subst (λ s. IsTrue (fits s)) u.2 x.grammatical) (any_formula u.1) far (λ e. far) (ap (drop 2) u.3)
-      (λ h. omega (arith, ap nesting u.2, (bound-is word u.0 u.1).nesting, x.nests, h)) (λ h. omega (arith, ap parens u.2, (bound-is word u.0 u.1).parens, x.opens, h));
+      stands-part nested opened (depth + 1) inside depth inside 3 u.1 x.rest ts
+      (sym ((bound-is word u.0 u.1).fits) ∙ subst (λ s. IsTrue (fits s)) u.2 x.grammatical) (any_formula u.1) far (λ e. far) (ap (drop 2) u.3)
+      (λ h. omega (arith, ap nesting u.2, (bound-is word u.0 u.1).nesting, x.nests, h))
+      (λ h. omega (arith, ap parens u.2, (bound-is word u.0 u.1).parens, x.opens, h));
 }

@@ -1,5 +1,6 @@
 -- State formulas at the front of tokens: which one stands after an operand and its sign, and which unary one comes first.
-use Rattle.std.proofs.Common.{◌≡◌, ℕ, ◌+◌, ◌-◌, ◌<◌, ◌≤◌, Bool, true, false, not, List, [], ◌∷◌, ◌++◌, refl, sym, ap, ◌∙◌, subst, arith, append_assoc, inl, inr, true≢false}
+use Rattle.std.proofs.Common.{◌≡◌, ℕ, ◌+◌, ◌-◌, ◌<◌, ◌≤◌, Bool, true, false, not, List, [], ◌∷◌, ◌++◌, refl, sym, ap, ◌∙◌, subst, arith, append_assoc, inl}
+use Rattle.std.proofs.Common.{inr, true≢false}
 use Rattle.std.specs.Prelude.{IsTrue, nat_le, drop}
 use Rattle.std.proofs.lemmas.Bool.{lt-ltb, leb-true, and_parts, not-true, cases_order}
 use Rattle.formula.specs.Token.{Token, AndSign, OrSign, ImpliesSign}
@@ -36,7 +37,8 @@ pub record Standing (s : Syntax) (rest : List Token) : Type 0 where
 pub one-state : (k : ℕ) (f g : Syntax) (m n : List Token) → Standing f m → Standing g n → form f ≤ k → form g ≤ k → k < state_row m → k < state_row n
     → tokens f ++ m ≡ tokens g ++ n → (f ≡ g) × (m ≡ n)
 one-state k f g m n sf sg lf lg hm hn e =
-    one_tree k f g m n sf.grammatical sg.grammatical lf lg (row-stops k m hm) (row-stops k n hn) (reaches-stops (ends_in_binder f) m sf.reaches) (reaches-stops (ends_in_binder g) n sg.reaches) e
+    one_tree k f g m n sf.grammatical sg.grammatical lf lg (row-stops k m hm) (row-stops k n hn) (reaches-stops (ends_in_binder f) m sf.reaches)
+    (reaches-stops (ends_in_binder g) n sg.reaches) e
 
 -- the operands that a sign joins
 pub record Operands (mark : Connective) (f g : Syntax) : Type 0 where
@@ -49,7 +51,13 @@ pub record Operands (mark : Connective) (f g : Syntax) : Type 0 where
 as_operands : (mark : Connective) (i j : ℕ) (f g : Syntax) → i < connective_row mark → j ≤ connective_row mark → Parted i j f g → Operands mark f g
 as_operands mark i j f g low high o =
     let l = and_parts (nat_le (form f) i) (not (ends_in_binder f)) o.0 in
-    record { left = o.2; right = o.3; below = omega (arith, leb-true (form f) i l.0, low); row = omega (arith, o.1, high); open_end = not-true (ends_in_binder f) l.1 }
+    record {
+      left = o.2;
+      right = o.3;
+      below = omega (arith, leb-true (form f) i l.0, low);
+      row = omega (arith, o.1, high);
+      open_end = not-true (ends_in_binder f) l.1;
+    }
 
 pub joined-operands : (mark : Connective) (f g : Syntax) → IsTrue (fits (joined mark f g)) → Operands mark f g
 joined-operands connective.And f g h = as_operands connective.And 0 1 f g (omega arith) (omega arith) (operands 0 1 f g h)
@@ -102,7 +110,8 @@ pub record OperandAfter (mark : Connective) (left s : Syntax) (ts : List Token) 
 
 abbrev pub HasOperand : Connective → Syntax → List Token → Syntax → Type 0
 HasOperand mark left ts s =
-    (m : List Token) → Standing s m → connective_row mark < state_row m → tokens s ++ m ≡ tokens left ++ connective_token mark ∷ ts → OperandAfter mark left s ts
+    (m : List Token) → Standing s m → connective_row mark < state_row m → tokens s ++ m ≡ tokens left ++ connective_token mark ∷ ts
+    → OperandAfter mark left s ts
 
 -- a formula of a lower form would be the left operand itself, which the sign follows
 too_low : (mark : Connective) (left s : Syntax) (ts : List Token) → LeftOperand mark left → form s < connective_row mark → HasOperand mark left ts s
@@ -111,7 +120,8 @@ too_low mark left s ts w low m st far e =
     let most = row-most mark in
     let row : state_row (connective_token mark ∷ ts) ≡ connective_row mark = connective-row mark ts in
     let below = w.below in
-    let p = one-state (connective_row mark - 1) s left m (connective_token mark ∷ ts) st (left-standing mark left ts w) (omega arith) (omega arith) (omega arith) (omega arith) e in
+    let p = one-state (connective_row mark - 1) s left m (connective_token mark ∷ ts) st (left-standing mark left ts w) (omega arith) (omega arith)
+    (omega arith) (omega arith) e in
     let same : state_row m ≡ state_row (connective_token mark ∷ ts) = ap state_row p.1 in
     absurd (omega arith)
 
@@ -120,8 +130,10 @@ at_sign : (mark : Connective) (left l r : Syntax) (ts : List Token) → LeftOper
 at_sign mark left l r ts w m st far e =
     let o = joined-operands mark l r st.grammatical in
     let on : List Token = tokens r ++ m in
-    let p = one-state (connective_row mark - 1) l left (connective_token mark ∷ on) (connective_token mark ∷ ts) (left-standing mark l on (own_left mark l r st.grammatical)) (left-standing mark left ts w)
-    (omega (arith, o.below)) (omega (arith, w.below)) (omega (arith, row-some mark, connective-row mark on)) (omega (arith, row-some mark, connective-row mark ts)) (sym (joined-split mark l r m) ∙ e) in
+    let p = one-state (connective_row mark - 1) l left (connective_token mark ∷ on) (connective_token mark ∷ ts)
+    (left-standing mark l on (own_left mark l r st.grammatical)) (left-standing mark left ts w)
+    (omega (arith, o.below)) (omega (arith, w.below)) (omega (arith, row-some mark, connective-row mark on))
+    (omega (arith, row-some mark, connective-row mark ts)) (sym (joined-split mark l r m) ∙ e) in
     let deep = (joined-is mark l r).nesting in
     record {
       operand = r;
@@ -136,10 +148,12 @@ at_sign mark left l r ts w m st far e =
     }
 
 -- of a formula that is joined by a weaker sign, the left operand has it
-before_sign : (mark mark' : Connective) (left l r : Syntax) (ts : List Token) → connective_row mark < connective_row mark' → HasOperand mark left ts l → HasOperand mark left ts (joined mark' l r)
+before_sign : (mark mark' : Connective) (left l r : Syntax) (ts : List Token) → connective_row mark < connective_row mark' → HasOperand mark left ts l
+    → HasOperand mark left ts (joined mark' l r)
 before_sign mark mark' left l r ts weaker inner m st far e =
     let on : List Token = tokens r ++ m in
-    let h = inner (connective_token mark' ∷ on) (left-standing mark' l on (own_left mark' l r st.grammatical)) (omega (arith, connective-row mark' on)) (sym (joined-split mark' l r m) ∙ e) in
+    let h = inner (connective_token mark' ∷ on) (left-standing mark' l on (own_left mark' l r st.grammatical)) (omega (arith, connective-row mark' on))
+    (sym (joined-split mark' l r m) ∙ e) in
     let deep = (joined-is mark' l r).nesting in
     record {
       operand = h.operand;
@@ -153,12 +167,14 @@ before_sign mark mark' left l r ts weaker inner m st far e =
       spelled = h.spelled;
     }
 
-in_joined : (mark mark' : Connective) (left l r : Syntax) (ts : List Token) → LeftOperand mark left → HasOperand mark left ts l → HasOperand mark left ts (joined mark' l r)
+in_joined : (mark mark' : Connective) (left l r : Syntax) (ts : List Token) → LeftOperand mark left → HasOperand mark left ts l
+    → HasOperand mark left ts (joined mark' l r)
 in_joined mark mark' left l r ts w inner =
     elim (cases_order (connective_row mark) (connective_row mark')) as (λ o. HasOperand mark left ts (joined mark' l r)) [
       | inl same ↦ subst (λ sign. HasOperand mark left ts (joined sign l r)) (one_sign mark mark' same) (at_sign mark left l r ts w)
       | inr (inl weaker) ↦ before_sign mark mark' left l r ts weaker inner
-      | inr (inr stronger) ↦ too_low mark left (joined mark' l r) ts w (let own : form (joined mark' l r) ≡ connective_row mark' = (joined-is mark' l r).form in omega arith)
+      | inr (inr stronger) ↦ too_low mark left (joined mark' l r) ts w
+          (let own : form (joined mark' l r) ≡ connective_row mark' = (joined-is mark' l r).form in omega arith)
     ]
 
 unary_low : (mark : Connective) (s : Syntax) → form s ≤ 0 → form s < connective_row mark
@@ -181,7 +197,8 @@ pub record FirstUnary (s : Syntax) (ts : List Token) : Type 0 where
   pub opens : parens operand ≤ parens s
   pub spelled : tokens operand ++ rest ≡ ts
 
-first_joined : (mark : Connective) (l r : Syntax) (m : List Token) → Standing (joined mark l r) m → ((m : List Token) → Standing l m → FirstUnary l (tokens l ++ m))
+first_joined : (mark : Connective) (l r : Syntax) (m : List Token) → Standing (joined mark l r) m
+    → ((m : List Token) → Standing l m → FirstUnary l (tokens l ++ m))
     → FirstUnary (joined mark l r) (tokens (joined mark l r) ++ m)
 first_joined mark l r m st inner =
     let h = inner (connective_token mark ∷ (tokens r ++ m)) (left-standing mark l (tokens r ++ m) (own_left mark l r st.grammatical)) in

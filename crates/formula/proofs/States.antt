@@ -2,7 +2,8 @@
 use Rattle.std.specs.Prelude.{◌≡◌, ℕ, ◌+◌, ◌-◌, ◌<◌, ◌≤◌, Bool, true, false, not, ◌&&◌, nat_le, List, [], ◌∷◌, ◌++◌, length, max, Some, IsTrue, refl}
 use Rattle.std.proofs.Common.{arith, sym, ◌∙◌, ap, subst, append_assoc, true≢false}
 use Rattle.formula.specs.Token.{Token, Name, AndSign, OrSign, ImpliesSign, NotSign, Open, Close, Dot}
-use Rattle.formula.specs.Syntax.{RegSyntax, reg_tokens, reg_fits, reg_nesting, reg_parens, Syntax, Group', Neg', tokens, fits, form, nesting, parens, ends_in_binder}
+use Rattle.formula.specs.Syntax.{RegSyntax, reg_tokens, reg_fits, reg_nesting, reg_parens, Syntax, Group', Neg', tokens, fits, form, nesting, parens}
+use Rattle.formula.specs.Syntax.{ends_in_binder}
 use Rattle.formula.specs.Written.{words, reg_syntax, state_syntax, joined, connective_token, connective_row, modal, opening, closing, bound, binder_token}
 use Rattle.formula.specs.Read.{IsState, IsStateOf, IsFormulaOf, state_row}
 use Rattle.formula.specs.Misread.{ReadsRegular, ReadsState, LongerState}
@@ -52,7 +53,8 @@ not_true false h = refl
 both_fit : (m k n l : ℕ) (a b e : Bool) → m ≤ k → n ≤ l → IsTrue a → IsTrue b → IsTrue (not e) → IsTrue ((nat_le m k && not e) && nat_le n l && a && b)
 both_fit m k n l a b e p q x y z = all_true _ _ (all_true _ _ (all_true _ _ (all_true _ _ (le_true m k p) z) (le_true n l q)) x) y
 
-pub joined-fits : (mark : Connective) (f g : Syntax) → IsTrue (fits f) → IsTrue (fits g) → form f < connective_row mark → form g ≤ connective_row mark → IsTrue (not (ends_in_binder f)) → IsTrue (fits (joined mark f g))
+pub joined-fits : (mark : Connective) (f g : Syntax) → IsTrue (fits f) → IsTrue (fits g) → form f < connective_row mark → form g ≤ connective_row mark
+    → IsTrue (not (ends_in_binder f)) → IsTrue (fits (joined mark f g))
 joined-fits connective.And f g p q m n e = both_fit (form f) 0 (form g) 1 _ _ _ (omega arith) n p q e
 joined-fits connective.Or f g p q m n e = both_fit (form f) 1 (form g) 2 _ _ _ (omega arith) n p q e
 joined-fits connective.Implies f g p q m n e = both_fit (form f) 2 (form g) 3 _ _ _ (omega arith) n p q e
@@ -99,8 +101,10 @@ some-row (ImpliesSign ∷ ts) = omega arith
 some-row (_ ∷ ts) = omega arith
 
 -- a unary formula that was read
-pub unary-read : (depth inside : ℕ) (ts : List Token) (w : WrittenState) (x : Syntax) (height : ℕ) (rest : List Placed) (s : ReadState) → IsStateOf w height rest s → state_syntax w ≡ x → IsTrue (fits x) → form x ≤ 0
-    → height ≡ nesting x → nesting x ≤ depth → parens x ≤ inside → (ends_in_binder x ≡ true → 3 < state_row (words rest)) → tokens x ++ words rest ≡ ts → ReadsState 0 depth inside ts s
+pub unary-read : (depth inside : ℕ) (ts : List Token) (w : WrittenState) (x : Syntax) (height : ℕ) (rest : List Placed) (s : ReadState)
+    → IsStateOf w height rest s → state_syntax w ≡ x → IsTrue (fits x) → form x ≤ 0
+    → height ≡ nesting x → nesting x ≤ depth → parens x ≤ inside → (ends_in_binder x ≡ true → 3 < state_row (words rest)) → tokens x ++ words rest ≡ ts
+    → ReadsState 0 depth inside ts s
 unary-read depth inside ts w x height rest s b is fit low high deep wide reaches eaten =
     let e : state_syntax s.syntax.value ≡ x = ap state_syntax b.is ∙ is in
     let own : form (state_syntax s.syntax.value) ≡ form x = ap form e in
@@ -119,30 +123,39 @@ unary-read depth inside ts w x height rest s b is fit low high deep wide reaches
       stops = some;
     }
 
-pub group-read : (depth inside : ℕ) (us : List Token) (inner : ReadState) (w : WrittenState) (rest : List Placed) (s : ReadState) → IsStateOf w inner.height rest s → state_syntax w ≡ Group' (state_syntax inner.syntax.value)
+pub group-read : (depth inside : ℕ) (us : List Token) (inner : ReadState) (w : WrittenState) (rest : List Placed) (s : ReadState)
+    → IsStateOf w inner.height rest s → state_syntax w ≡ Group' (state_syntax inner.syntax.value)
     → ReadsState 3 depth inside us inner → words inner.rest.now ≡ Close ∷ words rest → ReadsState 0 depth (inside + 1) (Open ∷ us) s
 group-read depth inside us inner w rest s b is i close =
     let f = state_syntax inner.syntax.value in
-    unary-read _ _ _ w _ _ rest s b is i.sound.grammatical (omega arith) i.sound.height (omega (arith, i.sound.height, i.sound.low)) (omega (arith, i.sound.narrow)) (λ h. absurd (true≢false (sym h)))
+    unary-read _ _ _ w _ _ rest s b is i.sound.grammatical (omega arith) i.sound.height (omega (arith, i.sound.height, i.sound.low))
+    (omega (arith, i.sound.narrow)) (λ h. absurd (true≢false (sym h)))
     (ap (λ ts. Open ∷ ts) (append_assoc (tokens f) (Close ∷ []) (words rest) ∙ (ap (λ ts. tokens f ++ ts) (sym close) ∙ i.eaten)))
 
-pub not-read : (depth inside : ℕ) (us : List Token) (inner : ReadState) (w : WrittenState) (s : ReadState) → IsStateOf w (inner.height + 1) inner.rest.now s → state_syntax w ≡ Neg' (state_syntax inner.syntax.value)
+pub not-read : (depth inside : ℕ) (us : List Token) (inner : ReadState) (w : WrittenState) (s : ReadState) → IsStateOf w (inner.height + 1) inner.rest.now s
+    → state_syntax w ≡ Neg' (state_syntax inner.syntax.value)
     → ReadsState 0 depth inside us inner → ReadsState 0 (depth + 1) inside (NotSign ∷ us) s
 not-read depth inside us inner w s b is i =
-    unary-read _ _ _ w _ _ inner.rest.now s b is (all_true _ _ (le_true _ _ i.sound.row) i.sound.grammatical) (omega arith) (omega (arith, i.sound.height)) (omega (arith, i.sound.height, i.sound.low)) i.sound.narrow
+    unary-read _ _ _ w _ _ inner.rest.now s b is (all_true _ _ (le_true _ _ i.sound.row) i.sound.grammatical) (omega arith) (omega (arith, i.sound.height))
+    (omega (arith, i.sound.height, i.sound.low)) i.sound.narrow
     i.sound.reaches (ap (λ ts. NotSign ∷ ts) i.eaten)
 
-pub modal-read : (mark : Brackets) (depth inside : ℕ) (us : List Token) (r : ReadRegular) (after : List Token) (inner : ReadState) (w : WrittenState) (s : ReadState)
+pub modal-read : (mark : Brackets) (depth inside : ℕ) (us : List Token) (r : ReadRegular) (after : List Token) (inner : ReadState) (w : WrittenState)
+    (s : ReadState)
     → IsStateOf w (max r.height inner.height + 1) inner.rest.now s → state_syntax w ≡ modal mark (reg_syntax r.syntax.value) (state_syntax inner.syntax.value)
-    → ReadsRegular 7 depth inside us r → words r.rest.now ≡ closing mark ∷ after → ReadsState 0 depth inside after inner → ReadsState 0 (depth + 1) inside (opening mark ∷ us) s
+    → ReadsRegular 7 depth inside us r → words r.rest.now ≡ closing mark ∷ after → ReadsState 0 depth inside after inner
+    → ReadsState 0 (depth + 1) inside (opening mark ∷ us) s
 modal-read mark depth inside us r after inner w s b is l closed i =
     let x = reg_syntax r.syntax.value in
     let f = state_syntax inner.syntax.value in
     let deep = (modal-is mark x f).nesting in
-    unary-read _ _ _ w _ _ inner.rest.now s b is (modal-fits mark x f l.sound.grammatical i.sound.row i.sound.grammatical) (omega (arith, (modal-is mark x f).form)) (omega (arith, deep, l.sound.height, i.sound.height))
-    (omega (arith, deep, l.sound.height, l.sound.low, i.sound.height, i.sound.low)) (omega (arith, (modal-is mark x f).parens, l.sound.narrow, i.sound.narrow)) (λ h. i.sound.reaches (sym ((modal-is mark x f).ends) ∙ h))
+    unary-read _ _ _ w _ _ inner.rest.now s b is (modal-fits mark x f l.sound.grammatical i.sound.row i.sound.grammatical)
+    (omega (arith, (modal-is mark x f).form)) (omega (arith, deep, l.sound.height, i.sound.height))
+    (omega (arith, deep, l.sound.height, l.sound.low, i.sound.height, i.sound.low))
+    (omega (arith, (modal-is mark x f).parens, l.sound.narrow, i.sound.narrow)) (λ h. i.sound.reaches (sym ((modal-is mark x f).ends) ∙ h))
     (ap (λ ts. ts ++ words inner.rest.now) (modal-tokens mark x f)
-    ∙ ap (λ ts. opening mark ∷ ts) (append_assoc (reg_tokens x) (closing mark ∷ tokens f) (words inner.rest.now) ∙ ap (λ ts. reg_tokens x ++ (closing mark ∷ ts)) i.eaten ∙ ap (λ ts. reg_tokens x ++ ts) (sym closed) ∙ l.eaten))
+    ∙ ap (λ ts. opening mark ∷ ts) (append_assoc (reg_tokens x) (closing mark ∷ tokens f) (words inner.rest.now)
+    ∙ ap (λ ts. reg_tokens x ++ (closing mark ∷ ts)) i.eaten ∙ ap (λ ts. reg_tokens x ++ ts) (sym closed) ∙ l.eaten))
 
 pub bound-read : (word : Binder) (name : List ℕ) (depth inside : ℕ) (us after : List Token) (body : ReadState) (w : WrittenState) (s : ReadState)
     → IsStateOf w (body.height + 1) body.rest.now s → state_syntax w ≡ bound word name (state_syntax body.syntax.value) → us ≡ Name name ∷ Dot ∷ after
@@ -150,19 +163,25 @@ pub bound-read : (word : Binder) (name : List ℕ) (depth inside : ℕ) (us afte
 bound-read word name depth inside us after body w s b is front i =
     let f = state_syntax body.syntax.value in
     let deep = (bound-is word name f).nesting in
-    unary-read _ _ _ w _ _ body.rest.now s b is ((bound-is word name f).fits ∙ i.sound.grammatical) (omega (arith, (bound-is word name f).form)) (omega (arith, deep, i.sound.height)) (omega (arith, deep, i.sound.height, i.sound.low))
+    unary-read _ _ _ w _ _ body.rest.now s b is ((bound-is word name f).fits ∙ i.sound.grammatical) (omega (arith, (bound-is word name f).form))
+    (omega (arith, deep, i.sound.height)) (omega (arith, deep, i.sound.height, i.sound.low))
     (omega (arith, (bound-is word name f).parens, i.sound.narrow)) (λ h. i.stops)
     (ap (λ ts. ts ++ words body.rest.now) (bound-tokens word name f) ∙ ap (λ ts. binder_token word ∷ ts) (ap (λ ts. Name name ∷ Dot ∷ ts) i.eaten ∙ sym front))
 
 -- a formula of one token
-pub word-read : (depth inside : ℕ) (token : Token) (w : WrittenState) (rest : List Placed) (s : ReadState) → IsStateOf w 0 rest s → IsFormulaOf token (Some w) → ReadsState 0 depth inside (token ∷ words rest) s
+pub word-read : (depth inside : ℕ) (token : Token) (w : WrittenState) (rest : List Placed) (s : ReadState) → IsStateOf w 0 rest s
+    → IsFormulaOf token (Some w) → ReadsState 0 depth inside (token ∷ words rest) s
 word-read depth inside token w rest s b h =
-    unary-read _ _ _ w _ _ rest s b refl h.4 (omega (arith, h.1)) (sym h.2) (omega (arith, h.2)) (omega (arith, h.3)) (λ ends. absurd (true≢false (sym ends ∙ h.5))) (ap (λ ts. ts ++ words rest) h.0)
+    unary-read _ _ _ w _ _ rest s b refl h.4 (omega (arith, h.1)) (sym h.2) (omega (arith, h.2)) (omega (arith, h.3))
+    (λ ends. absurd (true≢false (sym ends ∙ h.5))) (ap (λ ts. ts ++ words rest) h.0)
 
 -- two formulas and the sign between them
-pub joined-read : (mark : Connective) (level depth inside : ℕ) (us : List Token) (left right : ReadState) (w : WrittenState) (s : ReadState) → IsState level depth inside left
-    → words left.rest.now ≡ connective_token mark ∷ us → connective_row mark ≤ level → left.height < depth → ReadsState (connective_row mark) (depth - 1) inside us right
-    → IsStateOf w (max left.height right.height + 1) right.rest.now s → state_syntax w ≡ joined mark (state_syntax left.syntax.value) (state_syntax right.syntax.value) → LongerState level depth inside left s
+pub joined-read : (mark : Connective) (level depth inside : ℕ) (us : List Token) (left right : ReadState) (w : WrittenState) (s : ReadState)
+    → IsState level depth inside left
+    → words left.rest.now ≡ connective_token mark ∷ us → connective_row mark ≤ level → left.height < depth
+    → ReadsState (connective_row mark) (depth - 1) inside us right
+    → IsStateOf w (max left.height right.height + 1) right.rest.now s
+    → state_syntax w ≡ joined mark (state_syntax left.syntax.value) (state_syntax right.syntax.value) → LongerState level depth inside left s
 joined-read mark level depth inside us left right w s l front above low h b is =
     let f = state_syntax left.syntax.value in
     let g = state_syntax right.syntax.value in
@@ -177,7 +196,8 @@ joined-read mark level depth inside us left right w s l front above low h b is =
     let wide : parens (state_syntax s.syntax.value) ≡ max (parens f) (parens g) = ap parens e ∙ (joined-is mark f g).parens in
     record {
       eaten =
-          ap (λ ts. ts ++ words s.rest.now) (ap tokens e ∙ joined-tokens mark f g) ∙ append_assoc (tokens f) (connective_token mark ∷ tokens g) (words s.rest.now)
+          ap (λ ts. ts ++ words s.rest.now) (ap tokens e ∙ joined-tokens mark f g)
+          ∙ append_assoc (tokens f) (connective_token mark ∷ tokens g) (words s.rest.now)
           ∙ ap (λ ts. tokens f ++ (connective_token mark ∷ ts)) (ap (λ ps. tokens g ++ words ps) b.after ∙ h.eaten) ∙ ap (λ ts. tokens f ++ ts) (sym front);
       sound = record {
         grammatical = subst (λ x. IsTrue (fits x)) (sym e) (joined-fits mark f g l.grammatical h.sound.grammatical below h.sound.row open_end);
@@ -185,8 +205,15 @@ joined-read mark level depth inside us left right w s l front above low h b is =
         height = omega (arith, b.high, l.height, h.sound.height);
         low = omega (arith, b.high, h.sound.low);
         narrow = omega (arith, l.narrow, h.sound.narrow);
-        reaches = λ k. let far : 3 < state_row (words right.rest.now) = h.sound.reaches (sym (ap ends_in_binder e ∙ (joined-is mark f g).ends) ∙ k) in omega arith;
+        reaches = λ k. let far : 3 < state_row (words right.rest.now) = h.sound.reaches (sym (ap ends_in_binder e ∙ (joined-is mark f g).ends) ∙ k)
+            in omega arith;
         ended = omega (arith, h.stops);
       };
-      shorter = omega (arith, ap (λ ps. length ps) b.after, no-longer (tokens g) right.rest.now us h.eaten, words-length left.rest.now, ap (λ ts. length ts) front);
+      shorter = omega (
+        arith,
+        ap (λ ps. length ps) b.after,
+        no-longer (tokens g) right.rest.now us h.eaten,
+        words-length left.rest.now,
+        ap (λ ts. length ts) front,
+      );
     }

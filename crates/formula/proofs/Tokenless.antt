@@ -1,5 +1,6 @@
 -- Where no token stands at the front of a text, or a reserved word does.
-use Rattle.std.specs.Prelude.{◌≡◌, ◌≢◌, ℕ, ◌<◌, ◌≤◌, Bool, true, false, not, ◌&&◌, ◌||◌, cond, List, [], ◌∷◌, ◌++◌, length, take, drop, refl, slice_get, nat_le, Option, Some, None, ◌⊎◌, ◌==◌}
+use Rattle.std.specs.Prelude.{◌≡◌, ◌≢◌, ℕ, ◌<◌, ◌≤◌, Bool, true, false, not, ◌&&◌, ◌||◌, cond, List, [], ◌∷◌, ◌++◌, length, take, drop, refl, slice_get}
+use Rattle.std.specs.Prelude.{nat_le, Option, Some, None, ◌⊎◌, ◌==◌}
 use Rattle.std.specs.List.{list_all, list_any, take_while}
 use Rattle.std.specs.Str.{bytes_eq}
 use Rattle.std.proofs.Common.{arith, sym, ◌∙◌, ap, subst, append_assoc, true≢false, get_or, inl, inr}
@@ -10,7 +11,8 @@ use Rattle.std.proofs.lemmas.List.Sums.{take_while-cons}
 use Rattle.text.specs.Text.{is_name, is_name_byte, is_letter}
 use Rattle.systems.specs.declared.limits.TheConstants.{LONGEST_LABEL}
 use Rattle.systems.specs.Label.{is_label_byte}
-use Rattle.formula.specs.Token.{Token, Name, Reserved, Atom, TrueWord, FalseWord, MuWord, NuWord, TauWord, ImpliesSign, OrSign, AndSign, spelling, reserved_words, IsToken, Blank, Comment, Word, begins, text_of, Cuts, tokens_of, is_reserved}
+use Rattle.formula.specs.Token.{Token, Name, Reserved, Atom, TrueWord, FalseWord, MuWord, NuWord, TauWord, ImpliesSign, OrSign, AndSign, spelling}
+use Rattle.formula.specs.Token.{reserved_words, IsToken, Blank, Comment, Word, begins, text_of, Cuts, tokens_of, is_reserved}
 use Rattle.formula.specs.Written.{words}
 use Rattle.formula.specs.Fault.{NothingBegins, TokenFault}
 use Rattle.formula.specs.Cutting.{IsCut, Stands, IsAtomless, IsSignless, BeginsReserved, IsTokenless, begins_gap, is_single, is_double}
@@ -56,7 +58,8 @@ atom-stands text bytes s =
     subst (λ (t : List ℕ). IsQuoted (length (take_while is_label_byte t)) t) (sym inside) (quoted bytes s.rest s.valid)
 
 -- The whole name is a reserved word.
-pub reserved-stands : (text : List ℕ) (n : ℕ) → Run is_name_byte text n → list_any (bytes_eq (take n text)) reserved_words ≡ true → BeginsReserved text fault.ReservedWord
+pub reserved-stands : (text : List ℕ) (n : ℕ) → Run is_name_byte text n → list_any (bytes_eq (take n text)) reserved_words ≡ true
+    → BeginsReserved text fault.ReservedWord
 reserved-stands text n run reserved =
     (refl, take n text, record { rest = drop n text; joined = sym (take-append-drop n text); valid = reserved; ends = ap not run.ends })
 
@@ -116,7 +119,8 @@ quote-tokenless (b ∷ text) f some quote none =
     ])
 
 -- Where the text begins with no letter, no quote and no sign, no token stands.
-pub sign-tokenless : (text : List ℕ) (f : FormulaFault) → 0 < length text → get_or text 0 0 ≢ 34 → is_letter (get_or text 0 0) ≡ false → IsSignless text f → IsTokenless text f
+pub sign-tokenless : (text : List ℕ) (f : FormulaFault) → 0 < length text → get_or text 0 0 ≢ 34 → is_letter (get_or text 0 0) ≡ false → IsSignless text f
+    → IsTokenless text f
 sign-tokenless [] f some quote letter none = absurd (omega arith)
 sign-tokenless (b ∷ text) f some quote letter none =
     subst (λ (g : FormulaFault). IsTokenless (b ∷ text) g) (sym none.0) (λ t s.
@@ -143,13 +147,15 @@ some_left : (text : List ℕ) (at : ℕ) → at < length text → drop at text �
 some_left text at lt e = let l = length-drop at text in let z : length (drop at text) ≡ 0 = ap length e in absurd (omega arith)
 
 -- The text is cut up to here, and no token goes on.
-pub token-fault : (text : List ℕ) (at : ℕ) (placed : List Placed) (f : FormulaFault) → IsCut text at placed → at < length text → IsTokenless (drop at text) f → TokenFault text f at
+pub token-fault : (text : List ℕ) (at : ℕ) (placed : List Placed) (f : FormulaFault) → IsCut text at placed → at < length text → IsTokenless (drop at text) f
+    → TokenFault text f at
 token-fault text at placed fault.NoToken c lt none =
     let joined : text ≡ text_of c.pieces ++ drop at text = sym (take-append-drop at text) ∙ ap (λ t. t ++ drop at text) c.front.joined in
     let free : list_any is_reserved (tokens_of c.pieces) ≡ false = ap (list_any is_reserved) c.spelled ∙ free_words placed in
     (c.pieces, drop at text, joined, c.front.cut, free, some_left text at lt, nothing (drop at text) c.over none, sym (front-length c.pieces at text c.front))
 token-fault text at placed fault.ReservedWord c lt (word, s) =
-    let joined : text ≡ text_of c.pieces ++ (word ++ s.rest) = sym (take-append-drop at text) ∙ ap (λ t. t ++ drop at text) c.front.joined ∙ ap (λ t. text_of c.pieces ++ t) s.joined in
+    let joined : text ≡ text_of c.pieces ++ (word ++ s.rest) = sym (take-append-drop at text) ∙ ap (λ t. t ++ drop at text) c.front.joined
+    ∙ ap (λ t. text_of c.pieces ++ t) s.joined in
     let free : list_any is_reserved (tokens_of c.pieces) ≡ false = ap (list_any is_reserved) c.spelled ∙ free_words placed in
     let cut : Cuts c.pieces (word ++ s.rest) = subst (λ (t : List ℕ). Cuts c.pieces t) s.joined c.front.cut in
     (c.pieces, word, s.rest, joined, cut, free, s.valid, s.ends, sym (front-length c.pieces at text c.front))

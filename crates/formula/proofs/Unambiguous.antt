@@ -1,9 +1,12 @@
 -- A formula's tree is found again from its tokens, so tokens have one tree at most.
-use Rattle.std.proofs.Common.{◌≡◌, ℕ, zero, suc, ◌+◌, ◌<◌, ◌≤◌, Bool, true, false, not, ◌&&◌, List, [], ◌∷◌, ◌++◌, Some, None, refl, sym, ap, ◌∙◌, subst, arith, append_assoc, append-nil, inl, inr}
+use Rattle.std.proofs.Common.{◌≡◌, ℕ, zero, suc, ◌+◌, ◌<◌, ◌≤◌, Bool, true, false, not, ◌&&◌, List, [], ◌∷◌, ◌++◌, Some, None, refl, sym, ap, ◌∙◌, subst}
+use Rattle.std.proofs.Common.{arith, append_assoc, append-nil, inl, inr}
 use Rattle.std.specs.Prelude.{nat_le, nat_lt, ◌==◌, if◌then◌else◌}
 use Rattle.std.proofs.lemmas.Bool.{leb-true, ltb-true, lt-ltb, ne_eqb, eq-eqb, and_parts, not-true, cases_eq}
-use Rattle.formula.specs.Token.{Token, Name, TrueWord, FalseWord, MuWord, NuWord, ImpliesSign, OrSign, AndSign, NotSign, Less, Greater, OpenBox, CloseBox, Open, Close, Dot}
-use Rattle.formula.specs.Syntax.{RegSyntax, reg_fits, reg_tokens, Syntax, True', False', Var', Group', Neg', Both', OneOf', If', Dia', Box', Mu', Nu', form, ends_in_binder, left_fits, fits, tokens}
+use Rattle.formula.specs.Token.{Token, Name, TrueWord, FalseWord, MuWord, NuWord, ImpliesSign, OrSign, AndSign, NotSign, Less, Greater, OpenBox, CloseBox}
+use Rattle.formula.specs.Token.{Open, Close, Dot}
+use Rattle.formula.specs.Syntax.{RegSyntax, reg_fits, reg_tokens, Syntax, True', False', Var', Group', Neg', Both', OneOf', If', Dia', Box', Mu', Nu', form}
+use Rattle.formula.specs.Syntax.{ends_in_binder, left_fits, fits, tokens}
 use Rattle.formula.proofs.RegularUnique.{Found, RegReader, within, reg_level, reg_size, reg_read, reg_found, any_form, found_once}
 
 -- the least form that can go on with this token
@@ -104,7 +107,8 @@ stops_below j k [] le h = refl
 stops_below j k (t ∷ ts) le h = lt-ltb j (level t) (omega (arith, ltb-true k (level t) h))
 
 -- a tree that was found is found as any weaker form
-lifted : (regular : RegReader) (read : Reader) (ts m : List Token) (f : Syntax) (j k : ℕ) → j ≤ k → levels regular read j ts ≡ Some (f, m) → stops k m ≡ true → levels regular read k ts ≡ Some (f, m)
+lifted : (regular : RegReader) (read : Reader) (ts m : List Token) (f : Syntax) (j k : ℕ) → j ≤ k → levels regular read j ts ≡ Some (f, m) → stops k m ≡ true
+    → levels regular read k ts ≡ Some (f, m)
 lifted regular read ts m f j zero le e h =
     let same : j ≡ zero = omega arith in
     subst (λ i. levels regular read i ts ≡ Some (f, m)) same e
@@ -135,7 +139,8 @@ joins t a b j at left fb ra rb k n m above small h d =
     let l = and_parts (nat_le (form a) j) (not (ends_in_binder a)) left in
     let stop : stops j (t ∷ rest) ≡ true = lt-ltb j (level t) (omega (arith, at)) in
     let free : binder_stops (ends_in_binder a) (t ∷ rest) ≡ true = ap (λ e. binder_stops e (t ∷ rest)) (not-true (ends_in_binder a) l.1) in
-    let first : levels (reg_read n) (read n) j (tokens a ++ (t ∷ rest)) ≡ Some (a, t ∷ rest) = ra j n (t ∷ rest) (leb-true (form a) j l.0) (omega arith) stop free in
+    let first : levels (reg_read n) (read n) j (tokens a ++ (t ∷ rest))
+    ≡ Some (a, t ∷ rest) = ra j n (t ∷ rest) (leb-true (form a) j l.0) (omega arith) stop free in
     let second : read n (suc j) rest ≡ Some (b, m) = inner b rb (suc j) n m fb (omega arith) (stops_below (suc j) k m above h) d in
     let here : (level t == suc j) ≡ true = eq-eqb (level t) (suc j) at in
     let both : levels (reg_read n) (read n) (suc j) (tokens a ++ (t ∷ rest)) ≡ Some (joined t a b, m) =
@@ -147,8 +152,10 @@ joins t a b j at left fb ra rb k n m above small h d =
 
 -- a tree that is found as a unary form
 from_unary : (f : Syntax)
-    → ((n : ℕ) (m : List Token) → size f ≤ n → stops 0 m ≡ true → binder_stops (ends_in_binder f) m ≡ true → unary (reg_read n) (read n) (tokens f ++ m) ≡ Some (f, m)) → Reads f
-from_unary f found k n m low small h d = lifted (reg_read n) (read n) (tokens f ++ m) m f 0 k (omega arith) (found n m small (stops_below 0 k m (omega arith) h) d) h
+    → ((n : ℕ) (m : List Token) → size f ≤ n → stops 0 m ≡ true → binder_stops (ends_in_binder f) m ≡ true
+    → unary (reg_read n) (read n) (tokens f ++ m) ≡ Some (f, m)) → Reads f
+from_unary f found k n m low small h d = lifted (reg_read n) (read n) (tokens f ++ m) m f 0 k (omega arith)
+    (found n m small (stops_below 0 k m (omega arith) h) d) h
 
 -- of an operator with two operands of these forms
 abbrev pub Operands : (i j : ℕ) → Syntax → Syntax → Type 0
@@ -164,7 +171,8 @@ operands i j f g h =
 -- after a modality, whose regular formula is found
 modal : (close : Token) (r : RegSyntax) (f : Syntax) (n : ℕ) (m : List Token) → nat_lt 7 (reg_level close) ≡ true → reg_fits r ≡ true → reg_size r < n
     → reg_read n 7 ((reg_tokens r ++ close ∷ tokens f) ++ m) ≡ Some (r, close ∷ (tokens f ++ m))
-modal close r f n m h fit small = ap (reg_read n 7) (append_assoc (reg_tokens r) (close ∷ tokens f) m) ∙ reg_found r 7 n (close ∷ (tokens f ++ m)) fit (any_form r) small h
+modal close r f n m h fit small = ap (reg_read n 7) (append_assoc (reg_tokens r) (close ∷ tokens f) m)
+    ∙ reg_found r 7 n (close ∷ (tokens f ++ m)) fit (any_form r) small h
 
 pub modal_parts : (r : RegSyntax) (f : Syntax) → (nat_le (form f) 0 && reg_fits r && fits f) ≡ true → (form f ≤ 0) × (reg_fits r ≡ true) × (fits f ≡ true)
 modal_parts r f h =
@@ -187,7 +195,8 @@ reads (Var' x) h = from_unary (Var' x) (λ n m small stop d. refl)
 reads (Group' f) h =
     let found = reads f h in
     from_unary (Group' f) (λ n m small stop d.
-    ap (λ ts. grouped (read n 3 ts)) (append_assoc (tokens f) (Close ∷ []) m) ∙ ap grouped (inner f found 3 n (Close ∷ m) (any_formula f) (omega arith) refl (closes (ends_in_binder f) m)))
+    ap (λ ts. grouped (read n 3 ts)) (append_assoc (tokens f) (Close ∷ []) m)
+    ∙ ap grouped (inner f found 3 n (Close ∷ m) (any_formula f) (omega arith) refl (closes (ends_in_binder f) m)))
 reads (Neg' f) h =
     let o = and_parts (nat_le (form f) 0) (fits f) h in
     let found = reads f o.1 in
@@ -223,9 +232,11 @@ pub one_tree : (k : ℕ) (f g : Syntax) (m n : List Token) → fits f ≡ true �
     → binder_stops (ends_in_binder f) m ≡ true → binder_stops (ends_in_binder g) n ≡ true → tokens f ++ m ≡ tokens g ++ n → (f ≡ g) × (m ≡ n)
 one_tree k f g m n ff fg lf lg sm sn bm bn e =
     let both : ℕ = suc (size f + size g) in
-    found_once (f, m) (g, n) (sym (inner f (reads f ff) k both m lf (omega arith) sm bm) ∙ (ap (read both k) e ∙ inner g (reads g fg) k both n lg (omega arith) sn bn))
+    found_once (f, m) (g, n) (sym (inner f (reads f ff) k both m lf (omega arith) sm bm)
+    ∙ (ap (read both k) e ∙ inner g (reads g fg) k both n lg (omega arith) sn bn))
 
 -- Tokens have one tree at most.
 pub one_syntax : (f g : Syntax) → fits f ≡ true → fits g ≡ true → tokens f ≡ tokens g → f ≡ g
 one_syntax f g ff fg e =
-    (one_tree 3 f g [] [] ff fg (any_formula f) (any_formula g) refl refl (either_stops (ends_in_binder f) [] refl) (either_stops (ends_in_binder g) [] refl) (append-nil (tokens f) ∙ (e ∙ sym (append-nil (tokens g))))).0
+    (one_tree 3 f g [] [] ff fg (any_formula f) (any_formula g) refl refl (either_stops (ends_in_binder f) [] refl) (either_stops (ends_in_binder g) [] refl)
+    (append-nil (tokens f) ∙ (e ∙ sym (append-nil (tokens g))))).0

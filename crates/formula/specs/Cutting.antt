@@ -1,9 +1,11 @@
 -- How a text is cut from its front on.
-use Rattle.std.specs.Prelude.{◌≡◌, ℕ, ◌<◌, ◌≤◌, Bool, false, not, List, [], ◌∷◌, ◌++◌, map, length, take, drop, IsTrue, IsFalse, Option, Some, None, slice_get, ◌==◌, ◌&&◌, ◌||◌, if◌then◌else◌}
+use Rattle.std.specs.Prelude.{◌≡◌, ℕ, ◌<◌, ◌≤◌, Bool, false, not, List, [], ◌∷◌, ◌++◌, map, length, take, drop, IsTrue, IsFalse, Option, Some, None}
+use Rattle.std.specs.Prelude.{slice_get, ◌==◌, ◌&&◌, ◌||◌, if◌then◌else◌}
 use Rattle.std.specs.List.{list_any}
 use Rattle.std.specs.Str.{bytes_eq}
 use Rattle.text.specs.Text.{is_name, is_name_byte}
-use Rattle.formula.specs.Token.{Token, Reserved, Atom, ChoiceSign, PlusSign, spelling, reserved_words, IsToken, Piece, Word, begins, token_ends, text_of, Cuts, tokens_of, offsets_from, is_decided, is_reserved}
+use Rattle.formula.specs.Token.{Token, Reserved, Atom, ChoiceSign, PlusSign, spelling, reserved_words, IsToken, Piece, Word, begins, token_ends, text_of}
+use Rattle.formula.specs.Token.{Cuts, tokens_of, offsets_from, is_decided, is_reserved}
 use Rattle.formula.specs.Written.{words}
 use Rattle.formula.specs.Fault.{TokenFault}
 use Rattle.formula.specs.declared.token.Placed.{Placed}

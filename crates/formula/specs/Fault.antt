@@ -5,7 +5,8 @@ use Rattle.std.specs.Str.{bytes_eq}
 use Rattle.formula.specs.declared.limits.TheConstants.{LONGEST_TEXT}
 use Rattle.formula.specs.Token.{Token, Reserved, Piece, Word, IsPiece, piece_text, piece_ends, Cuts, text_of, tokens_of, offsets_from, is_decided, is_reserved}
 use Rattle.calculus.specs.Admitted.{Scope, negated}
-use Rattle.formula.specs.Syntax.{RegSyntax, Parens', Not', And', Or', Implies', Star', Plus', Then', Either', reg_tokens, counts_as_action, Syntax, Var', Group', Neg', Both', OneOf', If', Dia', Box', Mu', Nu', fits, tokens, is_within_limits}
+use Rattle.formula.specs.Syntax.{RegSyntax, Parens', Not', And', Or', Implies', Star', Plus', Then', Either', reg_tokens, counts_as_action, Syntax, Var'}
+use Rattle.formula.specs.Syntax.{Group', Neg', Both', OneOf', If', Dia', Box', Mu', Nu', fits, tokens, is_within_limits}
 use Rattle.formula.specs.Spells.{IsWritten}
 use Rattle.formula.specs.declared.error.FormulaFault.{FormulaFault}
 use Rattle.formula.specs.declared.error.FormulaFault.TheVariants.{NoToken, Unexpected, Unfinished, ReservedWord, Unbound, OddNegations, NotAnAction, TooLarge}
@@ -20,7 +21,8 @@ TokenFault text NoToken place =
     (pieces : List Piece) × (rest : List ℕ) × (text ≡ text_of pieces ++ rest) × Cuts pieces rest × IsFalse (list_any is_reserved (tokens_of pieces))
     × (rest ≢ []) × NothingBegins rest × (place ≡ length (text_of pieces))
 TokenFault text ReservedWord place =
-    (pieces : List Piece) × (word rest : List ℕ) × (text ≡ text_of pieces ++ (word ++ rest)) × Cuts pieces (word ++ rest) × IsFalse (list_any is_reserved (tokens_of pieces))
+    (pieces : List Piece) × (word rest : List ℕ) × (text ≡ text_of pieces ++ (word ++ rest)) × Cuts pieces (word ++ rest)
+    × IsFalse (list_any is_reserved (tokens_of pieces))
     × IsPiece (Word (Reserved word)) × IsTrue (piece_ends (Word (Reserved word)) rest) × (place ≡ length (text_of pieces))
 TokenFault text _ place = ⊥
 
@@ -45,7 +47,8 @@ GrammarFault text Unexpected place =
     × BeginsWithin front × (Begins (front ++ token ∷ []) → ⊥) × (slice_get (offsets_from 0 pieces) (length front) ≡ Some place)
 GrammarFault text TooLarge place =
     (pieces : List Piece) × (front back : List Token) × (token : Token) × IsTokens text pieces × (tokens_of pieces ≡ front ++ token ∷ back)
-    × BeginsWithin front × Begins (front ++ token ∷ []) × (BeginsWithin (front ++ token ∷ []) → ⊥) × (slice_get (offsets_from 0 pieces) (length front) ≡ Some place)
+    × BeginsWithin front × Begins (front ++ token ∷ []) × (BeginsWithin (front ++ token ∷ []) → ⊥)
+    × (slice_get (offsets_from 0 pieces) (length front) ≡ Some place)
 GrammarFault text Unfinished place =
     (pieces : List Piece) × IsTokens text pieces × BeginsWithin (tokens_of pieces)
     × ((s : Syntax) → IsTrue (fits s) → tokens s ≡ tokens_of pieces → ⊥) × (place ≡ length text)

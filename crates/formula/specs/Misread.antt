@@ -2,7 +2,8 @@
 use Rattle.std.specs.Prelude.{◌≡◌, ℕ, ◌<◌, ◌≤◌, true, List, [], ◌∷◌, ◌++◌, length, take, IsTrue, Some, Result, MatchResult, suc, slice_get}
 use Rattle.formula.specs.declared.limits.TheConstants.{DEEPEST, MOST_PARENS}
 use Rattle.formula.specs.Token.{Token, Name}
-use Rattle.formula.specs.Syntax.{RegSyntax, reg_tokens, reg_fits, reg_form, reg_nesting, reg_parens, Syntax, tokens, fits, form, nesting, parens, ends_in_binder}
+use Rattle.formula.specs.Syntax.{RegSyntax, reg_tokens, reg_fits, reg_form, reg_nesting, reg_parens, Syntax, tokens, fits, form, nesting, parens}
+use Rattle.formula.specs.Syntax.{ends_in_binder}
 use Rattle.formula.specs.Written.{words}
 use Rattle.formula.specs.Read.{reg_row, state_row, regular_tokens, IsRegular, MayGoOn, state_tokens, IsState}
 use Rattle.formula.specs.Fault.{Begins, BeginsWithin}
@@ -115,7 +116,8 @@ pub record LongerRegular (level depth inside : ℕ) (left r : ReadRegular) : Typ
   pub shorter : length r.rest.now < length left.rest.now
 
 abbrev pub RegularFrom : (level depth inside : ℕ) → ReadRegular → Result ReadRegular Misread → Type 0
-RegularFrom level depth inside left result = MatchResult result (LongerRegular level depth inside left) (IsRegularMisread level depth inside (regular_tokens left))
+RegularFrom level depth inside left result = MatchResult result (LongerRegular level depth inside left)
+    (IsRegularMisread level depth inside (regular_tokens left))
 
 -- the same of state formulas
 pub record ReadsState (level depth inside : ℕ) (ts : List Token) (s : ReadState) : Type 0 where

@@ -1,7 +1,9 @@
 -- What a parser has read, and how far what follows lets it go on.
 use Rattle.std.specs.Prelude.{◌≡◌, ◌⊎◌, ℕ, ◌<◌, ◌≤◌, Bool, true, false, List, [], ◌∷◌, ◌++◌, IsTrue, IsFalse, ◌==◌, ◌||◌, Option, Some, None}
-use Rattle.formula.specs.Token.{Token, Name, Atom, TrueWord, FalseWord, MuWord, NuWord, TauWord, NotSign, Less, OpenBox, ImpliesSign, OrSign, AndSign, Bar, Dot, ChoiceSign, PlusSign, StarSign}
-use Rattle.formula.specs.Syntax.{reg_tokens, reg_fits, reg_form, reg_nesting, reg_parens, Syntax, tokens, fits, form, nesting, parens, ends_in_binder, is_within_limits}
+use Rattle.formula.specs.Token.{Token, Name, Atom, TrueWord, FalseWord, MuWord, NuWord, TauWord, NotSign, Less, OpenBox, ImpliesSign, OrSign, AndSign, Bar}
+use Rattle.formula.specs.Token.{Dot, ChoiceSign, PlusSign, StarSign}
+use Rattle.formula.specs.Syntax.{reg_tokens, reg_fits, reg_form, reg_nesting, reg_parens, Syntax, tokens, fits, form, nesting, parens, ends_in_binder}
+use Rattle.formula.specs.Syntax.{is_within_limits}
 use Rattle.formula.specs.Written.{words, reg_syntax, state_syntax, infix_token, infix_row, repeat_token, connective_token, opening, binder_token}
 use Rattle.formula.specs.declared.error.FormulaFault.{FormulaFault}
 use Rattle.formula.specs.declared.error.FormulaError.{FormulaError}
@@ -100,7 +102,8 @@ is_word _ = false
 
 -- the atom that is this one token
 abbrev pub IsWordOf : Token → Option WrittenRegular → Type 0
-IsWordOf token (Some r) = (reg_tokens (reg_syntax r) ≡ token ∷ []) × (reg_form (reg_syntax r) ≡ 0) × (reg_nesting (reg_syntax r) ≡ 0) × (reg_parens (reg_syntax r) ≡ 0) × IsTrue (reg_fits (reg_syntax r)) × IsTrue (is_word token)
+IsWordOf token (Some r) = (reg_tokens (reg_syntax r) ≡ token ∷ []) × (reg_form (reg_syntax r) ≡ 0) × (reg_nesting (reg_syntax r) ≡ 0)
+    × (reg_parens (reg_syntax r) ≡ 0) × IsTrue (reg_fits (reg_syntax r)) × IsTrue (is_word token)
 IsWordOf token None = is_word token ≡ false
 
 -- whether a bar stands first
@@ -140,7 +143,8 @@ is_state_word _ = false
 
 -- the formula that is this one token
 abbrev pub IsFormulaOf : Token → Option WrittenState → Type 0
-IsFormulaOf token (Some s) = (tokens (state_syntax s) ≡ token ∷ []) × (form (state_syntax s) ≡ 0) × (nesting (state_syntax s) ≡ 0) × (parens (state_syntax s) ≡ 0) × IsTrue (fits (state_syntax s)) × (ends_in_binder (state_syntax s) ≡ false)
+IsFormulaOf token (Some s) = (tokens (state_syntax s) ≡ token ∷ []) × (form (state_syntax s) ≡ 0) × (nesting (state_syntax s) ≡ 0)
+    × (parens (state_syntax s) ≡ 0) × IsTrue (fits (state_syntax s)) × (ends_in_binder (state_syntax s) ≡ false)
 IsFormulaOf token None = IsFalse (is_state_word token)
 
 -- these tokens are the formula, which is of the grammar and within the limits

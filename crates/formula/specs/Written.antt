@@ -1,7 +1,9 @@
 -- What tokens and written formulas of the program stand for.
 use Rattle.std.specs.Prelude.{ℕ, Bool, true, false, List, map}
-use Rattle.formula.specs.Token.{Token, Name, Atom, TrueWord, FalseWord, MuWord, NuWord, TauWord, ImpliesSign, OrSign, AndSign, Bar, NotSign, Less, Greater, OpenBox, CloseBox, Open, Close, Dot, ChoiceSign, PlusSign, StarSign}
-use Rattle.formula.specs.Syntax.{RegSyntax, Anything', Nothing', Tau', Names', Quoted', Parens', Not', And', Or', Implies', Star', Plus', Then', Either', Syntax, True', False', Var', Group', Neg', Both', OneOf', If', Dia', Box', Mu', Nu'}
+use Rattle.formula.specs.Token.{Token, Name, Atom, TrueWord, FalseWord, MuWord, NuWord, TauWord, ImpliesSign, OrSign, AndSign, Bar, NotSign, Less, Greater}
+use Rattle.formula.specs.Token.{OpenBox, CloseBox, Open, Close, Dot, ChoiceSign, PlusSign, StarSign}
+use Rattle.formula.specs.Syntax.{RegSyntax, Anything', Nothing', Tau', Names', Quoted', Parens', Not', And', Or', Implies', Star', Plus', Then', Either'}
+use Rattle.formula.specs.Syntax.{Syntax, True', False', Var', Group', Neg', Both', OneOf', If', Dia', Box', Mu', Nu'}
 use Rattle.formula.specs.declared.token.Token.{Token as Lexeme}
 use Rattle.formula.specs.declared.token.Token.TheVariants as lexeme
 use Rattle.formula.specs.declared.token.Placed.{Placed}

@@ -1,5 +1,10 @@
 -- The vertices of a system with a normal form.
-use Rattle.game.proofs.Common.{◌≡◌, ◌+◌, ◌-◌, ◌*◌, ◌≤◌, ◌<◌, ℕ, zero, suc, Bool, true, false, List, [], ◌∷◌, ◌++◌, Option, Some, None, length, map, filter, take, get_or, cond, refl, sym, ap, ◌∙◌, subst, arith, length-append, append_assoc, slice_get, option_map, AllByRecursion, range_with_len, length-map, map-append, take_more, append-nil, mul-add-lt, slice_get-map, slice_get_read, slice_get_within, get_or_from_slice_get, Shape, ConstantNode, JunctionNode, ModalityNode, FixpointNode, VariableNode, Node, node_of, nodes_of, IsShape, IsNode, IsForm, System, Vertex, IsVertex, IsAscending, IsGame, is_step, targets, place, or_else, sink, successors_of, vertex_of, rows, arena, Even}
+use Rattle.game.proofs.Common.{◌≡◌, ◌+◌, ◌-◌, ◌*◌, ◌≤◌, ◌<◌, ℕ, zero, suc, Bool, true, false, List, [], ◌∷◌, ◌++◌, Option, Some, None, length, map, filter}
+use Rattle.game.proofs.Common.{take, get_or, cond, refl, sym, ap, ◌∙◌, subst, arith, length-append, append_assoc, slice_get, option_map, AllByRecursion}
+use Rattle.game.proofs.Common.{range_with_len, length-map, map-append, take_more, append-nil, mul-add-lt, slice_get-map, slice_get_read, slice_get_within}
+use Rattle.game.proofs.Common.{get_or_from_slice_get, Shape, ConstantNode, JunctionNode, ModalityNode, FixpointNode, VariableNode, Node, node_of, nodes_of}
+use Rattle.game.proofs.Common.{IsShape, IsNode, IsForm, System, Vertex, IsVertex, IsAscending, IsGame, is_step, targets, place, or_else, sink, successors_of}
+use Rattle.game.proofs.Common.{vertex_of, rows, arena, Even}
 use Rattle.std.proofs.lemmas.List.FromFn.{length-range_with_len}
 use Rattle.std.proofs.Math.Nat.{mul-le-mul_left, mul-le-mul_right}
 use Rattle.normal.specs.declared.node as declared
@@ -9,16 +14,19 @@ use Rattle.game.proofs.Rows.{all_append}
 use Rattle.game.proofs.Steps.{Rising}
 
 -- The node of a number is what stands there.
-pub read_node : (xs : List declared.Node.Node) (nodes : List Node) (i : ℕ) (x : declared.Node.Node) (node : Node) → nodes_of xs ≡ nodes → i < length xs → x ≡ get_or xs i x → slice_get nodes i ≡ Some node → node ≡ node_of x
+pub read_node : (xs : List declared.Node.Node) (nodes : List Node) (i : ℕ) (x : declared.Node.Node) (node : Node) → nodes_of xs ≡ nodes → i < length xs
+    → x ≡ get_or xs i x → slice_get nodes i ≡ Some node → node ≡ node_of x
 read_node xs nodes i x node same below read is =
     let there : slice_get xs i ≡ Some x = slice_get_read xs (length xs) i x refl below read in
     let e : Some node ≡ Some (node_of x) = sym is ∙ (ap (λ ys. slice_get ys i) (sym same) ∙ (slice_get-map node_of xs i ∙ ap (option_map node_of) there)) in
     cc
 
 -- One node more is one vertex more.
-pub vertices_more : {X Y : Type 0} (f : X → Y) (xs : List X) (i : ℕ) (x : X) (y : Y) (base old new : List Y) → slice_get xs i ≡ Some x → old ≡ base ++ map f (take i xs) → new ≡ old ++ y ∷ [] → y ≡ f x → new ≡ base ++ map f (take (i + 1) xs)
+pub vertices_more : {X Y : Type 0} (f : X → Y) (xs : List X) (i : ℕ) (x : X) (y : Y) (base old new : List Y) → slice_get xs i ≡ Some x
+    → old ≡ base ++ map f (take i xs) → new ≡ old ++ y ∷ [] → y ≡ f x → new ≡ base ++ map f (take (i + 1) xs)
 vertices_more f xs i x y base old new is before push same =
-    let cut : take (i + 1) xs ≡ take i xs ++ x ∷ [] = take_more xs i x (slice_get_within xs i x is) ∙ ap (λ z. take i xs ++ z ∷ []) (get_or_from_slice_get xs i x x is) in
+    let cut : take (i + 1) xs ≡ take i xs ++ x ∷ [] = take_more xs i x (slice_get_within xs i x is)
+    ∙ ap (λ z. take i xs ++ z ∷ []) (get_or_from_slice_get xs i x x is) in
     push
     ∙ ((λ j. before j ++ same j ∷ [])
     ∙ (append_assoc base (map f (take i xs)) (f x ∷ []) ∙ ap (λ zs. base ++ zs) (sym (map-append f (take i xs) (x ∷ [])) ∙ ap (map f) (sym cut))))
@@ -32,10 +40,12 @@ range_more a (suc n) =
 
 pub rows_append : (l : System) (nodes : List Node) (xs ys : List ℕ) → rows l nodes (xs ++ ys) ≡ rows l nodes xs ++ rows l nodes ys
 rows_append l nodes [] ys = refl
-rows_append l nodes (s ∷ xs) ys = ap (λ vs. map (vertex_of l (length nodes) s) nodes ++ vs) (rows_append l nodes xs ys) ∙ sym (append_assoc (map (vertex_of l (length nodes) s) nodes) (rows l nodes xs) (rows l nodes ys))
+rows_append l nodes (s ∷ xs) ys = ap (λ vs. map (vertex_of l (length nodes) s) nodes ++ vs) (rows_append l nodes xs ys)
+    ∙ sym (append_assoc (map (vertex_of l (length nodes) s) nodes) (rows l nodes xs) (rows l nodes ys))
 
 -- One state more.
-pub rows_more : (l : System) (nodes : List Node) (a s : ℕ) (base old new : List Vertex) → a ≤ s → old ≡ base ++ rows l nodes (range_with_len a (s - a)) → new ≡ old ++ map (vertex_of l (length nodes) s) nodes
+pub rows_more : (l : System) (nodes : List Node) (a s : ℕ) (base old new : List Vertex) → a ≤ s → old ≡ base ++ rows l nodes (range_with_len a (s - a))
+    → new ≡ old ++ map (vertex_of l (length nodes) s) nodes
     → new ≡ base ++ rows l nodes (range_with_len a (s + 1 - a))
 rows_more l nodes a s base old new from before push =
     let n : ℕ = s - a in
@@ -45,24 +55,33 @@ rows_more l nodes a s base old new from before push =
     let last : rows l nodes (range_with_len a (s + 1 - a)) ≡ rows l nodes (range_with_len a n) ++ vs =
     (λ i. rows l nodes (range_with_len a (size i)))
     ∙ (ap (rows l nodes) (range_more a n)
-    ∙ (rows_append l nodes (range_with_len a n) ((a + n) ∷ []) ∙ ap (λ xs. rows l nodes (range_with_len a n) ++ xs) (append-nil (map (vertex_of l (length nodes) (a + n)) nodes) ∙ (λ i. map (vertex_of l (length nodes) (here i)) nodes))))
+    ∙ (rows_append l nodes (range_with_len a n) ((a + n) ∷ [])
+    ∙ ap (λ xs. rows l nodes (range_with_len a n) ++ xs)
+    (append-nil (map (vertex_of l (length nodes) (a + n)) nodes) ∙ (λ i. map (vertex_of l (length nodes) (here i)) nodes))))
     in
     push ∙ (ap (λ xs. xs ++ vs) before ∙ (append_assoc base (rows l nodes (range_with_len a n)) vs ∙ ap (λ xs. base ++ xs) (sym last)))
 
 rows_length : (l : System) (nodes : List Node) (xs : List ℕ) → length (rows l nodes xs) ≡ length xs * length nodes
 rows_length l nodes [] = omega arith
-rows_length l nodes (s ∷ xs) = omega (arith, length-append (map (vertex_of l (length nodes) s) nodes) (rows l nodes xs), length-map nodes (vertex_of l (length nodes) s), rows_length l nodes xs)
+rows_length l nodes (s ∷ xs) = omega (
+  arith,
+  length-append (map (vertex_of l (length nodes) s) nodes) (rows l nodes xs),
+  length-map nodes (vertex_of l (length nodes) s),
+  rows_length l nodes xs,
+)
 
 -- how many vertices there are after so many states
 pub rows_count : (l : System) (nodes : List Node) (s : ℕ) → length (rows l nodes (range_with_len 0 s)) ≡ s * length nodes
 rows_count l nodes s = rows_length l nodes (range_with_len 0 s) ∙ ap (λ n. n * length nodes) (length-range_with_len 0 s)
 
 -- there is room for one state more
-pub rows_fit : (l : System) (nodes : List Node) (a s end : ℕ) (base old : List Vertex) → old ≡ base ++ rows l nodes (range_with_len a (s - a)) → a ≤ s → s < end → length base + (end - a) * length nodes ≤ 16777216 → length old + length nodes ≤ 16777216
+pub rows_fit : (l : System) (nodes : List Node) (a s end : ℕ) (base old : List Vertex) → old ≡ base ++ rows l nodes (range_with_len a (s - a)) → a ≤ s
+    → s < end → length base + (end - a) * length nodes ≤ 16777216 → length old + length nodes ≤ 16777216
 rows_fit l nodes a s end base old is from below few =
     let n : ℕ = s - a in
     let le : n + 1 ≤ end - a = omega arith in
-    let count : length (rows l nodes (range_with_len a n)) ≡ n * length nodes = rows_length l nodes (range_with_len a n) ∙ ap (λ k. k * length nodes) (length-range_with_len a n) in
+    let count : length (rows l nodes (range_with_len a n)) ≡ n * length nodes = rows_length l nodes (range_with_len a n)
+    ∙ ap (λ k. k * length nodes) (length-range_with_len a n) in
     omega (arith, ap length is, length-append base (rows l nodes (range_with_len a n)), count, few, mul-le-mul_right (length nodes) le)
 
 rising_weaker : (a b limit : ℕ) (xs : List ℕ) → a ≤ b → Rising b limit xs → Rising a limit xs
@@ -95,7 +114,8 @@ rising_places n k a states [] in_node h = tt
 rising_places n k a states (x ∷ xs) in_node h = (
   omega (arith, mul-le-mul_left n h.0),
   place_below n x k states h.1 in_node,
-  rising_weaker (place n x k + 1) (2 + (x + 1) * n) (2 + states * n) (map (λ t. place n t k) xs) (omega (arith, in_node)) (rising_places n k (x + 1) states xs in_node h.2),
+  rising_weaker (place n x k + 1) (2 + (x + 1) * n) (2 + states * n) (map (λ t. place n t k) xs) (omega (arith, in_node))
+      (rising_places n k (x + 1) states xs in_node h.2),
 )
 
 -- what is asked of successors
@@ -125,7 +145,8 @@ successors_are l n s (JunctionNode flag left right) below h =
     let last = place_below n s right l.states below h.1 in
     record { some = omega arith; ascending = (omega (arith, h.0), tt); within = (omega (arith, h.0, last), (last, tt)) }
 successors_are l n s (ModalityNode flag a child) below h =
-    or_else_successors (2 + l.states * n) (cond flag 1 0) (2 + 0 * n) (map (λ t. place n t child) (targets l a s)) (other_below flag l.states n) (rising_places n child 0 l.states (targets l a s) h (rising_filter (is_step l a s) 0 l.states l.states (omega arith)))
+    or_else_successors (2 + l.states * n) (cond flag 1 0) (2 + 0 * n) (map (λ t. place n t child) (targets l a s)) (other_below flag l.states n)
+    (rising_places n child 0 l.states (targets l a s) h (rising_filter (is_step l a s) 0 l.states l.states (omega arith)))
 successors_are l n s (FixpointNode flag child) below h = one_successor (2 + l.states * n) (place n s child) (place_below n s child l.states below h)
 successors_are l n s (VariableNode binder) below h = one_successor (2 + l.states * n) (place n s binder) (place_below n s binder l.states below h)
 
@@ -134,14 +155,17 @@ vertex_good l n s node below h =
     let all = successors_are l n s node.shape below h.1 in
     record { priority = omega (arith, h.0); some = all.some; ascending = all.ascending; within = all.within }
 
-state_good : (l : System) (n s : ℕ) (nodes : List Node) → s < l.states → AllByRecursion (IsNode n) nodes → AllByRecursion (IsVertex (2 + l.states * n)) (map (vertex_of l n s) nodes)
+state_good : (l : System) (n s : ℕ) (nodes : List Node) → s < l.states → AllByRecursion (IsNode n) nodes
+    → AllByRecursion (IsVertex (2 + l.states * n)) (map (vertex_of l n s) nodes)
 state_good l n s [] below h = tt
 state_good l n s (node ∷ nodes) below h = (vertex_good l n s node below h.0, state_good l n s nodes below h.1)
 
-rows_good : (l : System) (nodes : List Node) (xs : List ℕ) → AllByRecursion (IsNode (length nodes)) nodes → AllByRecursion (λ s. s < l.states) xs → AllByRecursion (IsVertex (2 + l.states * length nodes)) (rows l nodes xs)
+rows_good : (l : System) (nodes : List Node) (xs : List ℕ) → AllByRecursion (IsNode (length nodes)) nodes → AllByRecursion (λ s. s < l.states) xs
+    → AllByRecursion (IsVertex (2 + l.states * length nodes)) (rows l nodes xs)
 rows_good l nodes [] h below = tt
 rows_good l nodes (s ∷ xs) h below =
-    all_append (IsVertex (2 + l.states * length nodes)) (map (vertex_of l (length nodes) s) nodes) (rows l nodes xs) (state_good l (length nodes) s nodes below.0 h) (rows_good l nodes xs h below.1)
+    all_append (IsVertex (2 + l.states * length nodes)) (map (vertex_of l (length nodes) s) nodes) (rows l nodes xs)
+    (state_good l (length nodes) s nodes below.0 h) (rows_good l nodes xs h below.1)
 
 range_below : (a m n : ℕ) → a + m ≡ n → AllByRecursion (λ s. s < n) (range_with_len a m)
 range_below a zero n size = tt
@@ -156,12 +180,23 @@ pub arena_is_game : (l : System) (nodes : List Node) → IsForm nodes → 2 + l.
 arena_is_game l nodes form few =
     let vs = rows l nodes (range_with_len 0 l.states) in
     let count : length (arena l nodes).vertices ≡ 2 + l.states * length nodes = omega (arith, rows_count l nodes l.states) in
-    let first : IsVertex (2 + l.states * length nodes) (record { owner = Even; priority = 0; successors = 0 ∷ [] }) = record { priority = omega arith; some = omega arith; ascending = tt; within = (omega arith, tt) } in
-    let second : IsVertex (2 + l.states * length nodes) (record { owner = Even; priority = 1; successors = 1 ∷ [] }) = record { priority = omega arith; some = omega arith; ascending = tt; within = (omega arith, tt) } in
+    let first : IsVertex (2 + l.states * length nodes) (record { owner = Even; priority = 0; successors = 0 ∷ [] }) = record {
+      priority = omega arith;
+      some = omega arith;
+      ascending = tt;
+      within = (omega arith, tt);
+    } in
+    let second : IsVertex (2 + l.states * length nodes) (record { owner = Even; priority = 1; successors = 1 ∷ [] }) = record {
+      priority = omega arith;
+      some = omega arith;
+      ascending = tt;
+      within = (omega arith, tt);
+    } in
     record {
       some = omega (arith, count);
       limit = omega (arith, count, few);
-      vertices = subst (λ n. AllByRecursion (IsVertex n) (arena l nodes).vertices) (sym count) (first, (second, rows_good l nodes (range_with_len 0 l.states) form.numbered (range_below 0 l.states l.states (omega arith))));
+      vertices = subst (λ n. AllByRecursion (IsVertex n) (arena l nodes).vertices) (sym count)
+          (first, (second, rows_good l nodes (range_with_len 0 l.states) form.numbered (range_below 0 l.states l.states (omega arith))));
       named = λ states n is. count ∙ ap named_count is;
     }
 

@@ -1,6 +1,9 @@
 -- The names of other libraries that most proofs here use.
-pub use Rattle.std.proofs.Common.{Bool, Global, List, MatchOption, None, Option, Some, Vec, [], ap, append_assoc, arith, cond, drop, eq-eqb, false, filter, get_or, inl, inr, length, length-append, length-drop, length-take, map, refl, rules, slice_index, slice_index_or, subst, suc, sym, take, true, true≢false, vec_len, zero, ℕ, ◌&&◌, ◌*◌, ◌++◌, ◌+◌, ◌-◌, ◌<◌, ◌==◌, ◌||◌, ◌∙◌, ◌∷◌, ◌≡◌, ◌≤◌}
-pub use Rattle.std.proofs.lemmas.List.{append-nil, drop-append-le, drop_more, get_or-map, get_or-replicate, get_or_past, length-map, map-append, take-append-le, take_all, take_more}
+pub use Rattle.std.proofs.Common.{Bool, Global, List, MatchOption, None, Option, Some, Vec, [], ap, append_assoc, arith, cond, drop, eq-eqb, false, filter}
+pub use Rattle.std.proofs.Common.{get_or, inl, inr, length, length-append, length-drop, length-take, map, refl, rules, slice_index, slice_index_or, subst}
+pub use Rattle.std.proofs.Common.{suc, sym, take, true, true≢false, vec_len, zero, ℕ, ◌&&◌, ◌*◌, ◌++◌, ◌+◌, ◌-◌, ◌<◌, ◌==◌, ◌||◌, ◌∙◌, ◌∷◌, ◌≡◌, ◌≤◌}
+pub use Rattle.std.proofs.lemmas.List.{append-nil, drop-append-le, drop_more, get_or-map, get_or-replicate, get_or_past, length-map, map-append}
+pub use Rattle.std.proofs.lemmas.List.{take-append-le, take_all, take_more}
 pub use Rattle.std.specs.List.{AllByRecursion, list_all, list_any, range_with_len, sum_by}
 pub use Rattle.game.specs.Arena.{arena, is_step, or_else, owner_of, place, rows, sink, successors_of, targets, vertex_of}
 pub use Rattle.game.specs.Steps.{IsRowOf, IsSetFor, IsSetOf, is_in, picks, successors_by, vertex_by}
@@ -16,7 +19,8 @@ pub use Rattle.game.specs.declared.graph.Row.{Row}
 pub use Rattle.std.proofs.lemmas.Grind.{common_steps}
 pub use Rattle.normal.specs.View.{node_of, nodes_of}
 pub use Rattle.systems.specs.Numbered.{IsInside, Numbered, arrow_of, arrows_from, label_at}
-pub use Rattle.std.proofs.lemmas.Bool.{and_cases, and_from, and_left, and_parts, and_right, eqb-false, le-leb, leb-false, leb-true, lt-leb, lt-ltb, ltb-true, ne_eqb}
+pub use Rattle.std.proofs.lemmas.Bool.{and_cases, and_from, and_left, and_parts, and_right, eqb-false, le-leb, leb-false, leb-true, lt-leb, lt-ltb, ltb-true}
+pub use Rattle.std.proofs.lemmas.Bool.{ne_eqb}
 pub use Rattle.systems.specs.System.{Arrow, System}
 pub use Rattle.std.proofs.lemmas.Bool.Decides.{eqb_tells, leb_tells}
 pub use Rattle.game.specs.Rises.{rises}

@@ -1,5 +1,6 @@
 -- The vertices of the game with the players exchanged.
-use Rattle.std.proofs.Common.{◌≡◌, ℕ, ◌+◌, ◌<◌, ◌≤◌, List, [], ◌∷◌, ◌++◌, length, map, take, sym, ap, subst, ◌∙◌, inl, inr, arith, Some, None, option_map, slice_get}
+use Rattle.std.proofs.Common.{◌≡◌, ℕ, ◌+◌, ◌<◌, ◌≤◌, List, [], ◌∷◌, ◌++◌, length, map, take, sym, ap, subst, ◌∙◌, inl, inr, arith, Some, None, option_map}
+use Rattle.std.proofs.Common.{slice_get}
 use Rattle.std.specs.List.{AllByRecursion}
 use Rattle.std.proofs.lemmas.List.{length-map, take_all}
 use Rattle.std.proofs.lemmas.Option.{get_or_from_slice_get, slice_get_cases, slice_get_within}
@@ -66,12 +67,18 @@ module _ (g : Game) (v : ℕ) (inside : v < length g.vertices) where
       omega (arith, few, limit, same)
 
   -- one vertex more
-  pub turned_more : (owner : Player) (priority : ℕ) (ts : List ℕ) (old new : List Vertex) → option_map (λ x. x.owner) (vertex g v) ≡ Some owner → option_map (λ x. x.priority) (vertex g v) ≡ Some priority
-      → option_map (λ x. x.successors) (vertex g v) ≡ Some ts → old ≡ map turned (take v g.vertices) → new ≡ old ++ record { owner = opponent owner; priority = priority + 1; successors = ts } ∷ []
+  pub turned_more : (owner : Player) (priority : ℕ) (ts : List ℕ) (old new : List Vertex) → option_map (λ x. x.owner) (vertex g v) ≡ Some owner
+      → option_map (λ x. x.priority) (vertex g v) ≡ Some priority
+      → option_map (λ x. x.successors) (vertex g v) ≡ Some ts → old ≡ map turned (take v g.vertices)
+      → new ≡ old ++ record { owner = opponent owner; priority = priority + 1; successors = ts } ∷ []
       → new ≡ map turned (take (v + 1) g.vertices)
   turned_more owner priority ts old new o p s before push =
       vertices_more turned g.vertices v here.at (record { owner = opponent owner; priority = priority + 1; successors = ts }) [] old new here.is before push
-      (λ i. record { owner = opponent (told (λ x. x.owner) owner o i); priority = told (λ x. x.priority) priority p i + 1; successors = told (λ x. x.successors) ts s i })
+      (λ i. record {
+        owner = opponent (told (λ x. x.owner) owner o i);
+        priority = told (λ x. x.priority) priority p i + 1;
+        successors = told (λ x. x.successors) ts s i;
+      })
 
 -- and all of them
 pub turned_whole : (g : Game) (v : ℕ) (vs : List Vertex) → length g.vertices ≤ v → vs ≡ map turned (take v g.vertices) → vs ≡ map turned g.vertices

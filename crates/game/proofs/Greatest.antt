@@ -1,5 +1,6 @@
 -- The greatest priority of a game.
-use Rattle.std.proofs.Common.{◌≡◌, ℕ, ◌<◌, ◌≤◌, ◌+◌, ◌⊎◌, max, Bool, true, false, cond, List, [], ◌∷◌, length, refl, sym, ap, subst, inl, inr, arith, count_by, ◌==◌, eq-eqb}
+use Rattle.std.proofs.Common.{◌≡◌, ℕ, ◌<◌, ◌≤◌, ◌+◌, ◌⊎◌, max, Bool, true, false, cond, List, [], ◌∷◌, length, refl, sym, ap, subst, inl, inr, arith}
+use Rattle.std.proofs.Common.{count_by, ◌==◌, eq-eqb}
 use Rattle.std.specs.List.{AllByRecursion}
 use Rattle.std.proofs.lemmas.Bool.Decides.{eqb_tells, leb_tells}
 use Rattle.std.proofs.lemmas.List.Sums.{sum_by-cons}
@@ -10,7 +11,8 @@ module _ (p : ℕ) (x : Vertex) (xs : List Vertex) where
   counted vs = count_by (λ y. y.priority == p) vs
 
   counted_one : (b : Bool) → (x.priority == p) ≡ b → counted (x ∷ xs) ≡ cond {A = ℕ} b 1 0 + counted xs
-  counted_one b e = let s : counted (x ∷ xs) ≡ cond {A = ℕ} (x.priority == p) 1 0 + counted xs = sum_by-cons (λ (y : Vertex). cond {A = ℕ} (y.priority == p) 1 0) x xs in let t = ap (λ c. cond {A = ℕ} c 1 0) e in omega (arith, s, t)
+  counted_one b e = let s : counted (x ∷ xs) ≡ cond {A = ℕ} (x.priority == p) 1 0
+      + counted xs = sum_by-cons (λ (y : Vertex). cond {A = ℕ} (y.priority == p) 1 0) x xs in let t = ap (λ c. cond {A = ℕ} c 1 0) e in omega (arith, s, t)
 
 -- a priority that is counted is at most the greatest
 counted_low : (p : ℕ) (xs : List Vertex) → 0 < count_by (λ x. x.priority == p) xs → p ≤ greatest_of xs

@@ -1,5 +1,8 @@
 -- The vertices of stored rows.
-use Rattle.game.proofs.Common.{◌≡◌, ◌==◌, ◌+◌, ◌≤◌, ◌<◌, ℕ, false, List, [], ◌∷◌, ◌++◌, length, take, drop, slice_index, cond, ap, sym, ◌∙◌, refl, arith, map, get_or, Some, subst, length-drop, length-append, count_by, if◌then◌else◌, option_map, slice_get, AllByRecursion, sum_by, take-append-le, drop-append-le, length-map, map-append, slice_get-map, slice_get_read, drop-append_seam, drop-append-add, ne_eqb, moved, All-from_recursion, Game, Vertex, IsVertex, vertex, game_of, vertex_of_row, vertices_of, AreStored, Row}
+use Rattle.game.proofs.Common.{◌≡◌, ◌==◌, ◌+◌, ◌≤◌, ◌<◌, ℕ, false, List, [], ◌∷◌, ◌++◌, length, take, drop, slice_index, cond, ap, sym, ◌∙◌, refl, arith, map}
+use Rattle.game.proofs.Common.{get_or, Some, subst, length-drop, length-append, count_by, if◌then◌else◌, option_map, slice_get, AllByRecursion, sum_by}
+use Rattle.game.proofs.Common.{take-append-le, drop-append-le, length-map, map-append, slice_get-map, slice_get_read, drop-append_seam, drop-append-add}
+use Rattle.game.proofs.Common.{ne_eqb, moved, All-from_recursion, Game, Vertex, IsVertex, vertex, game_of, vertex_of_row, vertices_of, AreStored, Row}
 use Rattle.std.proofs.lemmas.List.Sums.{sum_by-append, sum_by-cons}
 use Rattle.game.specs.declared.graph.Game.TheInside.{Inside}
 
@@ -26,7 +29,8 @@ row_same xs ys r h =
     λ i. record { owner = r.owner; priority = r.priority; successors = e i }
 
 -- The list of successors may grow.
-pub rows_same : (rows : List Row) (xs ys : List ℕ) → AllByRecursion (λ r. r.start + r.count ≤ length xs) rows → vertices_of rows (xs ++ ys) ≡ vertices_of rows xs
+pub rows_same : (rows : List Row) (xs ys : List ℕ) → AllByRecursion (λ r. r.start + r.count ≤ length xs) rows
+    → vertices_of rows (xs ++ ys) ≡ vertices_of rows xs
 rows_same [] xs ys h = refl
 rows_same (r ∷ rows) xs ys h = λ i. row_same xs ys r h.0 i ∷ rows_same rows xs ys h.1 i
 
@@ -39,7 +43,8 @@ stored_longer rows xs ys counts h =
     }
 
 -- One row more, whose successors come last, is one vertex more.
-pub vertices_more : (rows : List Row) (r : Row) (xs ys : List ℕ) → AllByRecursion (λ r. r.start + r.count ≤ length xs) rows → r.start ≡ length xs → r.count ≡ length ys
+pub vertices_more : (rows : List Row) (r : Row) (xs ys : List ℕ) → AllByRecursion (λ r. r.start + r.count ≤ length xs) rows → r.start ≡ length xs
+    → r.count ≡ length ys
     → vertices_of (rows ++ r ∷ []) (xs ++ ys) ≡ vertices_of rows xs ++ record { owner = r.owner; priority = r.priority; successors = ys } ∷ []
 vertices_more rows r xs ys h start count =
     let e : take r.count (drop r.start (xs ++ ys)) ≡ ys =
@@ -60,13 +65,16 @@ stored_more rows r xs ys counts after h start count counted =
       counted = λ p k. counted p k ∙ (ap (λ n. n + cond (r.priority == p) 1 0) (h.counted p k) ∙ sym (more p));
     }
   where
-    one : (p : ℕ) → sum_by (λ (v : Vertex). cond (v.priority == p) 1 0) (record { owner = r.owner; priority = r.priority; successors = ys } ∷ []) ≡ cond (r.priority == p) 1 0
+    one : (p : ℕ) → sum_by (λ (v : Vertex). cond (v.priority == p) 1 0) (record { owner = r.owner; priority = r.priority; successors = ys } ∷ [])
+        ≡ cond (r.priority == p) 1 0
     one p = omega arith
 
-    more : (p : ℕ) → count_by (λ v. v.priority == p) (vertices_of (rows ++ r ∷ []) (xs ++ ys)) ≡ count_by (λ v. v.priority == p) (vertices_of rows xs) + cond (r.priority == p) 1 0
+    more : (p : ℕ) → count_by (λ v. v.priority == p) (vertices_of (rows ++ r ∷ []) (xs ++ ys)) ≡ count_by (λ v. v.priority == p) (vertices_of rows xs)
+        + cond (r.priority == p) 1 0
     more p =
         ap (count_by (λ v. v.priority == p)) (vertices_more rows r xs ys h.within start count)
-        ∙ (sum_by-append (λ (v : Vertex). cond (v.priority == p) 1 0) (vertices_of rows xs) (record { owner = r.owner; priority = r.priority; successors = ys } ∷ []) ∙ ap (λ n. count_by (λ v. v.priority == p) (vertices_of rows xs) + n) (one p))
+        ∙ (sum_by-append (λ (v : Vertex). cond (v.priority == p) 1 0) (vertices_of rows xs)
+        (record { owner = r.owner; priority = r.priority; successors = ys } ∷ []) ∙ ap (λ n. count_by (λ v. v.priority == p) (vertices_of rows xs) + n) (one p))
 
 -- The rows of other vertices keep theirs where their successors come after those of these.
 moved_same : (more : List Row) (xs ys : List ℕ) → vertices_of (map (moved (length xs)) more) (xs ++ ys) ≡ vertices_of more ys
@@ -82,9 +90,11 @@ moved_same (r ∷ more) xs ys = λ i. record { owner = r.owner; priority = r.pri
 -- The vertices of two builders, one after the other.
 pub vertices_joined : (rows more : List Row) (xs ys : List ℕ) → AllByRecursion (λ r. r.start + r.count ≤ length xs) rows
     → vertices_of (rows ++ map (moved (length xs)) more) (xs ++ ys) ≡ vertices_of rows xs ++ vertices_of more ys
-vertices_joined rows more xs ys h = map-append (vertex_of_row (xs ++ ys)) rows (map (moved (length xs)) more) ∙ (λ i. rows_same rows xs ys h i ++ moved_same more xs ys i)
+vertices_joined rows more xs ys h = map-append (vertex_of_row (xs ++ ys)) rows (map (moved (length xs)) more)
+    ∙ (λ i. rows_same rows xs ys h i ++ moved_same more xs ys i)
 
-all_moved : (more : List Row) (xs ys : List ℕ) → AllByRecursion (λ r. r.start + r.count ≤ length ys) more → AllByRecursion (λ r. r.start + r.count ≤ length (xs ++ ys)) (map (moved (length xs)) more)
+all_moved : (more : List Row) (xs ys : List ℕ) → AllByRecursion (λ r. r.start + r.count ≤ length ys) more
+    → AllByRecursion (λ r. r.start + r.count ≤ length (xs ++ ys)) (map (moved (length xs)) more)
 all_moved [] xs ys h = tt
 all_moved (r ∷ more) xs ys h = (omega (arith, h.0, length-append xs ys), all_moved more xs ys h.1)
 
@@ -97,8 +107,10 @@ stored_joined rows more xs ys counts others after h k added =
       counted = λ p le. added p le ∙ ((λ i. h.counted p le i + k.counted p le i) ∙ sym (both p));
     }
   where
-    both : (p : ℕ) → count_by (λ v. v.priority == p) (vertices_of (rows ++ map (moved (length xs)) more) (xs ++ ys)) ≡ count_by (λ v. v.priority == p) (vertices_of rows xs) + count_by (λ v. v.priority == p) (vertices_of more ys)
-    both p = ap (count_by (λ v. v.priority == p)) (vertices_joined rows more xs ys h.within) ∙ sum_by-append (λ (v : Vertex). cond (v.priority == p) 1 0) (vertices_of rows xs) (vertices_of more ys)
+    both : (p : ℕ) → count_by (λ v. v.priority == p) (vertices_of (rows ++ map (moved (length xs)) more) (xs ++ ys))
+        ≡ count_by (λ v. v.priority == p) (vertices_of rows xs) + count_by (λ v. v.priority == p) (vertices_of more ys)
+    both p = ap (count_by (λ v. v.priority == p)) (vertices_joined rows more xs ys h.within)
+        ∙ sum_by-append (λ (v : Vertex). cond (v.priority == p) 1 0) (vertices_of rows xs) (vertices_of more ys)
 
 -- No vertex has a priority above the greatest.
 pub count_past : (n p : ℕ) (vs : List Vertex) → 32 < p → AllByRecursion (IsVertex n) vs → count_by (λ v. v.priority == p) vs ≡ 0
@@ -111,14 +123,16 @@ row_there : (i : Inside) (g : Game) (v : ℕ) → game_of i ≡ g → v < length
 row_there i g v is h = omega (arith, h, length-map i.rows.items (vertex_of_row i.successors.items), ap (λ (h : Game). length h.vertices) is)
 
 -- A row's successors stand in the list.
-pub row_within : (i : Inside) (g : Game) (v : ℕ) (row : Row) → game_of i ≡ g → v < length g.vertices → row ≡ get_or i.rows.items v row → AllByRecursion (λ row. row.start + row.count ≤ length i.successors.items) i.rows.items
+pub row_within : (i : Inside) (g : Game) (v : ℕ) (row : Row) → game_of i ≡ g → v < length g.vertices → row ≡ get_or i.rows.items v row
+    → AllByRecursion (λ row. row.start + row.count ≤ length i.successors.items) i.rows.items
     → row.start + row.count ≤ length i.successors.items
 row_within i g v row is h read within =
     let Within = λ (r : Row). r.start + r.count ≤ length i.successors.items in
     subst Within (sym read) (All-from_recursion Within i.rows.items within v row (row_there i g v is h))
 
 -- What is told of a vertex is told of its row.
-pub told : {X : Type 0} (f : Vertex → X) (i : Inside) (g : Game) (v : ℕ) (row : Row) → game_of i ≡ g → v < length g.vertices → row ≡ get_or i.rows.items v row → option_map f (vertex g v) ≡ Some (f (vertex_of_row i.successors.items row))
+pub told : {X : Type 0} (f : Vertex → X) (i : Inside) (g : Game) (v : ℕ) (row : Row) → game_of i ≡ g → v < length g.vertices
+    → row ≡ get_or i.rows.items v row → option_map f (vertex g v) ≡ Some (f (vertex_of_row i.successors.items row))
 told f i g v row is h read =
     let rows = i.rows.items in
     let of = vertex_of_row i.successors.items in

@@ -1,5 +1,7 @@
 -- What the test of a finished game says.
-use Rattle.game.proofs.Common.{◌≡◌, ◌==◌, ◌&&◌, ◌+◌, ◌≤◌, ◌<◌, ℕ, Bool, true, false, List, [], ◌∷◌, length, None, ap, sym, ◌∙◌, refl, arith, nat_le, nat_lt, not, AllByRecursion, list_all, ltb-true, leb-true, lt-ltb, le-leb, and_parts, and_from, ne_eqb, eqb-false, length-map, Vertex, IsVertex, IsGame, IsAscending, rises, vertex_of_row, vertices_of, Row}
+use Rattle.game.proofs.Common.{◌≡◌, ◌==◌, ◌&&◌, ◌+◌, ◌≤◌, ◌<◌, ℕ, Bool, true, false, List, [], ◌∷◌, length, None, ap, sym, ◌∙◌, refl, arith, nat_le, nat_lt}
+use Rattle.game.proofs.Common.{not, AllByRecursion, list_all, ltb-true, leb-true, lt-ltb, le-leb, and_parts, and_from, ne_eqb, eqb-false, length-map, Vertex}
+use Rattle.game.proofs.Common.{IsVertex, IsGame, IsAscending, rises, vertex_of_row, vertices_of, Row}
 use Rattle.std.proofs.lemmas.List.Folds.{list_all-map}
 
 -- what the test of one vertex says
@@ -34,7 +36,8 @@ ascending_to : (n least : ℕ) (xs : List ℕ) → BeginsFrom least xs → IsAsc
 ascending_to n least [] b h k = refl
 ascending_to n least (x ∷ xs) b h k =
     let rest = rest_from x xs h in
-    and_from (nat_le least x && nat_lt x n) (rises n (x + 1) xs) (and_from (nat_le least x) (nat_lt x n) (le-leb least x b) (lt-ltb x n k.0)) (ascending_to n (x + 1) xs rest.0 rest.1 k.1)
+    and_from (nat_le least x && nat_lt x n) (rises n (x + 1) xs) (and_from (nat_le least x) (nat_lt x n) (le-leb least x b) (lt-ltb x n k.0))
+    (ascending_to n (x + 1) xs rest.0 rest.1 k.1)
 
 begins_from_none : (xs : List ℕ) → BeginsFrom 0 xs
 begins_from_none [] = tt
@@ -62,7 +65,8 @@ vertex_from n v h =
 vertex_to : (n : ℕ) (v : Vertex) → IsVertex n v → is_vertex n v ≡ true
 vertex_to n v h =
     and_from (nat_lt v.priority 33 && not (length v.successors == 0)) (rises n 0 v.successors)
-    (and_from (nat_lt v.priority 33) (not (length v.successors == 0)) (lt-ltb v.priority 33 (omega (arith, h.priority))) (ap not (ne_eqb (length v.successors) 0 (λ e. omega (arith, h.some, e)))))
+    (and_from (nat_lt v.priority 33) (not (length v.successors == 0)) (lt-ltb v.priority 33 (omega (arith, h.priority)))
+    (ap not (ne_eqb (length v.successors) 0 (λ e. omega (arith, h.some, e)))))
     (ascending_to n 0 v.successors (begins_from_none v.successors) h.ascending h.within)
 
 pub vertices_from : (n : ℕ) (vs : List Vertex) → list_all (is_vertex n) vs ≡ true → AllByRecursion (IsVertex n) vs
@@ -74,7 +78,8 @@ vertices_to n [] h = refl
 vertices_to n (v ∷ vs) h = and_from (is_vertex n v) (list_all (is_vertex n) vs) (vertex_to n v h.0) (vertices_to n vs h.1)
 
 -- Some vertices that are not too many make a game where each is one of so many.
-pub game_from : (vs : List Vertex) → 1 ≤ length vs → length vs ≤ 16777216 → AllByRecursion (IsVertex (length vs)) vs → IsGame (record { vertices = vs; named = None })
+pub game_from : (vs : List Vertex) → 1 ≤ length vs → length vs ≤ 16777216 → AllByRecursion (IsVertex (length vs)) vs
+    → IsGame (record { vertices = vs; named = None })
 game_from vs some few h = record { some = some; limit = few; vertices = h; named = λ n k e. cc }
 
 -- The test of the rows is that of their vertices.
@@ -82,7 +87,8 @@ pub rows_test : (n : ℕ) (successors : List ℕ) (rows : List Row) → list_all
 rows_test n successors rows = sym (list_all-map (is_vertex n) (vertex_of_row successors) rows)
 
 -- The test of the rows, where the vertices are told by their value.
-pub tested : (n : ℕ) (successors : List ℕ) (rows : List Row) (vs : List Vertex) (b : Bool) → n ≡ length rows → vertices_of rows successors ≡ vs → list_all (is_fit n successors) rows ≡ b → list_all (is_vertex (length vs)) vs ≡ b
+pub tested : (n : ℕ) (successors : List ℕ) (rows : List Row) (vs : List Vertex) (b : Bool) → n ≡ length rows → vertices_of rows successors ≡ vs
+    → list_all (is_fit n successors) rows ≡ b → list_all (is_vertex (length vs)) vs ≡ b
 tested n successors rows vs b count same h =
     let size : length vs ≡ n = ap length (sym same) ∙ (length-map rows (vertex_of_row successors) ∙ sym count) in
     ap (λ k. list_all (is_vertex k) vs) size ∙ (ap (list_all (is_vertex n)) (sym same)

@@ -1,5 +1,6 @@
 -- The parity game of a system and a normal form.
-use Rattle.std.specs.Prelude.{ℕ, ◌+◌, ◌*◌, ◌<◌, Option, MatchOption, option_map, Bool, false, ◌&&◌, List, [], ◌∷◌, ◌++◌, length, map, filter, Some, ◌==◌, if◌then◌else◌}
+use Rattle.std.specs.Prelude.{ℕ, ◌+◌, ◌*◌, ◌<◌, Option, MatchOption, option_map, Bool, false, ◌&&◌, List, [], ◌∷◌, ◌++◌, length, map, filter, Some, ◌==◌}
+use Rattle.std.specs.Prelude.{if◌then◌else◌}
 use Rattle.std.specs.List.{list_any, range_with_len}
 use Rattle.systems.specs.System.{System}
 use Rattle.calculus.specs.Tree.{Action}
@@ -63,6 +64,7 @@ rows l nodes (s ∷ states) = map (vertex_of l (length nodes) s) nodes ++ rows l
 -- the sinks, and then each state with each node
 abbrev pub arena : System → List Node → Game
 arena l nodes = record {
-  vertices = record { owner = Even; priority = 0; successors = 0 ∷ [] } ∷ record { owner = Even; priority = 1; successors = 1 ∷ [] } ∷ rows l nodes (range_with_len 0 l.states);
+  vertices = record { owner = Even; priority = 0; successors = 0 ∷ [] } ∷ record { owner = Even; priority = 1; successors = 1 ∷ [] } ∷ rows l nodes
+      (range_with_len 0 l.states);
   named = Some (l.states, length nodes);
 }

@@ -1,6 +1,7 @@
 // Parity games, stored as one list of successors.
 
-ghost use Rattle.std.specs.Prelude.{◌≡◌, ◌==◌, ◌↔◌, ◌<◌, ◌≤◌, ◌+◌, ◌^◌, ◌⊎◌, ◌++◌, ◌∷◌, [], ℕ, None, length, map, slice_index, option_map, if◌then◌else◌, IsTrue, IsSome, IfSome, IfOk, OnOk, OnErr};
+ghost use Rattle.std.specs.Prelude.{◌≡◌, ◌==◌, ◌↔◌, ◌<◌, ◌≤◌, ◌+◌, ◌^◌, ◌⊎◌, ◌++◌, ◌∷◌, [], ℕ, None, length, map, slice_index, option_map, if◌then◌else◌};
+ghost use Rattle.std.specs.Prelude.{IsTrue, IsSome, IfSome, IfOk, OnOk, OnErr};
 ghost use Rattle.std.specs.List.{AllByRecursion};
 ghost use Rattle.game.specs.Game.{IsGame, IsVertex, vertex, greatest, count as count_of};
 ghost use Rattle.game.specs.Arena.{AreNames, place_in};

@@ -1,10 +1,12 @@
 -- Each cycle of the moves has an even greatest priority.
-use Rattle.std.proofs.Common.{◌≡◌, ℕ, zero, suc, ◌+◌, ◌<◌, ◌≤◌, ◌⊎◌, Bool, true, false, List, [], ◌∷◌, ◌++◌, append-nil, refl, sym, ap, ◌∙◌, subst, inl, inr, true≢false, arith}
+use Rattle.std.proofs.Common.{◌≡◌, ℕ, zero, suc, ◌+◌, ◌<◌, ◌≤◌, ◌⊎◌, Bool, true, false, List, [], ◌∷◌, ◌++◌, append-nil, refl, sym, ap, ◌∙◌, subst, inl, inr}
+use Rattle.std.proofs.Common.{true≢false, arith}
 use Rattle.std.specs.Prelude.{◌%◌}
 use Rattle.std.proofs.lemmas.Bool.Decides.{eqb_tells}
 use Rattle.systems.specs.System.{System}
 use Rattle.systems.specs.Path.{IsPath}
-use Rattle.normal.specs.Tree.{Norm, Constant, Junction, Modality, Fixpoint, Variable, size, Shape, ConstantNode, JunctionNode, ModalityNode, FixpointNode, VariableNode}
+use Rattle.normal.specs.Tree.{Norm, Constant, Junction, Modality, Fixpoint, Variable, size, Shape, ConstantNode, JunctionNode, ModalityNode, FixpointNode}
+use Rattle.normal.specs.Tree.{VariableNode}
 use Rattle.game.specs.Arena.{targets}
 use Rattle.progress.specs.Measure.{is_odd}
 use Rattle.normal.proofs.Numbers.{size_some}
@@ -15,7 +17,8 @@ use Rattle.laws.proofs.Trees.{IsWithin, Binds}
 use Rattle.laws.proofs.NodeSets.{set_at, sets_low, true_root, left_sets, right_sets, one_sets}
 use Rattle.laws.proofs.Moves.{first, rank, choose, Step, IsLaid, seen, move_choice, left_choice, right_choice, stay}
 use Rattle.laws.proofs.Closed.{at_true, rank_found, closed}
-use Rattle.laws.proofs.Paths.{path_into, level, sources, path_map, path_append, all_front, all_back, all_join, IsThrough, avoids_or_not, met, met_front, met_last, met_bound}
+use Rattle.laws.proofs.Paths.{path_into, level, sources, path_map, path_append, all_front, all_back, all_join, IsThrough, avoids_or_not, met, met_front}
+use Rattle.laws.proofs.Paths.{met_last, met_bound}
 use Rattle.laws.proofs.Spans.{IsHeld, held, bounded}
 
 -- what is not odd is even
@@ -62,7 +65,8 @@ module _ (l : System) (look : ℕ → Shape) (prio : ℕ → ℕ) (st nd : ℕ �
   abbrev rank_at : ℕ → Norm → Sets → ℕ → ℕ
   rank_at at f e v = rank l at f e (nd v) (st v)
 
-  module _ (P : ℕ → Type 0) (at : ℕ) (f : Norm) (e : Sets) (laid : IsLaid look at (Fixpoint true f)) (binds : Binds P at (Fixpoint true f)) (lower : (b : ℕ) → P b → b < at) where
+  module _ (P : ℕ → Type 0) (at : ℕ) (f : Norm) (e : Sets) (laid : IsLaid look at (Fixpoint true f)) (binds : Binds P at (Fixpoint true f))
+      (lower : (b : ℕ) → P b → b < at) where
     found_at : (v : ℕ) → sets l at (Fixpoint true f) e (nd v) (st v) ≡ true
         → (sets l (at + 1) f (put e at (iterates true l at f e (rank_at at f e v))) (nd v) (st v) ≡ true) × (rank_at at f e v ≤ l.states)
     found_at v x = rank_found l at f e (nd v) (st v) l.states (omega arith) x
@@ -76,7 +80,8 @@ module _ (l : System) (look : ℕ → Shape) (prio : ℕ → ℕ) (st nd : ℕ �
         let q = found_at v x.here in
         let r : ℕ = rank_at at f e v in
         let k : IsWithin (at + 1) f (nd v) = record { from = omega (arith, x.from.from); to = omega (arith, x.from.to) } in
-        let z = closed l look (λ b. (b ≡ at) ⊎ P b) (at + 1) f (put e at (iterates true l at f e r)) laid.1 binds deeper (st v) (nd v) (st w) (nd w) k x.state q.0 x.step in
+        let z = closed l look (λ b. (b ≡ at) ⊎ P b) (at + 1) f (put e at (iterates true l at f e r)) laid.1 binds deeper (st v) (nd v) (st w)
+        (nd w) k x.state q.0 x.step in
         (rank_found l at f e (nd w) (st w) r q.1 z).1
 
     -- from the iterate to the one before it
@@ -90,7 +95,8 @@ module _ (l : System) (look : ℕ → Shape) (prio : ℕ → ℕ) (st nd : ℕ �
         let q = found_at v x.here in
         let r : ℕ = rank_at at f e v in
         let y : iterates true l at f e r (st v) ≡ true =
-        ap (λ (u : ℕ → Bool). u (st v)) (sym (put_here e at (iterates true l at f e r) at refl) ∙ sym (sets_low l (at + 1) f (put e at (iterates true l at f e r)) at (omega arith)))
+        ap (λ (u : ℕ → Bool). u (st v)) (sym (put_here e at (iterates true l at f e r) at refl)
+        ∙ sym (sets_low l (at + 1) f (put e at (iterates true l at f e r)) at (omega arith)))
         ∙ (ap (λ (k : ℕ). sets l (at + 1) f (put e at (iterates true l at f e r)) k (st v)) (sym i) ∙ q.0) in
         let b = before r (st v) y in
         let z = seen l look at (nd v) (choose l at (Fixpoint true f) e (nd v) (st v)) (st v) (st w) (nd w) (FixpointNode true (at + 1)) laid.0 i x.step in
@@ -127,7 +133,8 @@ module _ (l : System) (look : ℕ → Shape) (prio : ℕ → ℕ) (st nd : ℕ �
           step = subst (λ i. Step l look (choose l (at + 1) f (put e at (iterates true l at f e i))) (st v) (nd v) (st w) (nd w)) x.0.1 x.0.0.step;
         }) u (m ∷ vs) u b.0
 
-  module _ (P : ℕ → Type 0) (at : ℕ) (f : Norm) (e : Sets) (laid : IsLaid look at (Fixpoint false f)) (binds : Binds P at (Fixpoint false f)) (good : IsEach (IsFitting prio) at (Fixpoint false f)) where
+  module _ (P : ℕ → Type 0) (at : ℕ) (f : Norm) (e : Sets) (laid : IsLaid look at (Fixpoint false f)) (binds : Binds P at (Fixpoint false f))
+      (good : IsEach (IsFitting prio) at (Fixpoint false f)) where
     nu_held : (v w : ℕ) → IsMove at (Fixpoint false f) e v w → (nd v ≡ at) ⊎ ((at < nd v) × IsHeld look prio (nd v))
     nu_held v w x =
         elim (same_or_not (nd v) at) [
@@ -140,7 +147,8 @@ module _ (l : System) (look : ℕ → Shape) (prio : ℕ → ℕ) (st nd : ℕ �
     nu_through : (u : ℕ) (vs : List ℕ) → IsThrough (IsMove at (Fixpoint false f) e) nd at u vs u → met number vs ≡ prio at
     nu_through u vs t =
         let p = path_append (IsMove at (Fixpoint false f) e) t.place t.after u (t.start ∷ t.before) t.place t.on t.to in
-        let b = (bounded look prio nd (IsMove at (Fixpoint false f) e) (λ v w x. x.step.0) at nu_held t.place (t.after ++ (t.start ∷ t.before)) t.place t.is p).0 in
+        let b = (bounded look prio nd (IsMove at (Fixpoint false f) e) (λ v w x. x.step.0) at nu_held t.place
+        (t.after ++ (t.start ∷ t.before)) t.place t.is p).0 in
         let a = all_join (λ v. number v ≤ prio at) (t.start ∷ t.before) t.after (all_back (λ v. number v ≤ prio at) t.after (t.start ∷ t.before) b)
         (all_front (λ v. number v ≤ prio at) t.after (t.start ∷ t.before) b) in
         let hi = met_bound number (prio at) ((t.start ∷ t.before) ++ t.after) a in
@@ -179,13 +187,15 @@ module _ (l : System) (look : ℕ → Shape) (prio : ℕ → ℕ) (st nd : ℕ �
       let lo = p.0.from.from in let hi = p.0.from.to in let sf = size_some f in let sg = size_some g in
       elim (same_or_not (nd u) at) as (λ _. met number (m ∷ vs) % 2 ≡ 0) [
         | inl i ↦ (
-            let z = seen l look at (nd u) (choose l at (Junction flag f g) e (nd u) (st u)) (st u) (st m) (nd m) (JunctionNode flag (at + 1) (at + 1 + size f)) laid.0 i p.0.step in
+            let z = seen l look at (nd u) (choose l at (Junction flag f g) e (nd u) (st u)) (st u) (st m) (nd m)
+            (JunctionNode flag (at + 1) (at + 1 + size f)) laid.0 i p.0.step in
             elim z.0 as (λ _. met number (m ∷ vs) % 2 ≡ 0) [
               | inl j ↦ (let w = (left m vs u (record { from = omega arith; to = omega arith }) p.1).1 in absurd (omega (arith, w.from)))
               | inr j ↦ (let w = (right m vs u (record { from = omega arith; to = omega arith }) p.1).1 in absurd (omega (arith, w.from)))
             ])
         | inr i ↦ elim (below_or_not (nd u) (at + 1 + size f)) as (λ _. met number (m ∷ vs) % 2 ≡ 0) [
-          | inl b ↦ cycles P (at + 1) f e laid.1 binds.0 (λ b q. let n = lower b q in omega arith) good.1 u m vs (left u (m ∷ vs) u (record { from = omega arith; to = b }) p).0
+          | inl b ↦ cycles P (at + 1) f e laid.1 binds.0 (λ b q. let n = lower b q in omega arith) good.1 u m vs
+              (left u (m ∷ vs) u (record { from = omega arith; to = b }) p).0
           | inr b ↦ cycles P (at + 1 + size f) g e laid.2 binds.1 (λ b q. let n = lower b q in omega arith) good.2 u m vs
               (right u (m ∷ vs) u (record { from = b; to = omega arith }) p).0
         ]
@@ -194,17 +204,21 @@ module _ (l : System) (look : ℕ → Shape) (prio : ℕ → ℕ) (st nd : ℕ �
       let in_body = inner at (Modality flag a f) e (at + 1) f e
       (λ k w. one_sets l at f e (sat l at (Modality flag a f) e) k (λ q. omega (arith, w.from)))
       (λ k s w. ap (λ (u : ℕ → ℕ). u s) (put_other (choose l (at + 1) f e) at (λ s. first (sat l (at + 1) f e) (targets l a s)) k (λ q. omega (arith, w.from))))
-      (λ v w b x. elim (stay look P (at + 1) f laid.1 binds (nd v) (nd w) b x.step.0) [ inl q ↦ q | inr q ↦ (let n = lower (nd w) q in let lo = x.to.from in absurd (omega arith)) ]) in
+      (λ v w b x. elim (stay look P (at + 1) f laid.1 binds (nd v) (nd w) b x.step.0)
+      [ inl q ↦ q | inr q ↦ (let n = lower (nd w) q in let lo = x.to.from in absurd (omega arith)) ]) in
       let lo = p.0.from.from in let hi = p.0.from.to in let sf = size_some f in
       elim (same_or_not (nd u) at) as (λ _. met number (m ∷ vs) % 2 ≡ 0) [
         | inl i ↦ (
-            let z = seen l look at (nd u) (choose l at (Modality flag a f) e (nd u) (st u)) (st u) (st m) (nd m) (ModalityNode flag a (at + 1)) laid.0 i p.0.step in
+            let z = seen l look at (nd u) (choose l at (Modality flag a f) e (nd u) (st u)) (st u) (st m) (nd m)
+            (ModalityNode flag a (at + 1)) laid.0 i p.0.step in
             let j : nd m ≡ at + 1 = z.0 in
             let w = (in_body m vs u (record { from = omega arith; to = omega arith }) p.1).1 in absurd (omega (arith, w.from)))
-        | inr i ↦ cycles P (at + 1) f e laid.1 binds (λ b q. let n = lower b q in omega arith) good.1 u m vs (in_body u (m ∷ vs) u (record { from = omega arith; to = omega arith }) p).0
+        | inr i ↦ cycles P (at + 1) f e laid.1 binds (λ b q. let n = lower b q in omega arith) good.1 u m vs
+            (in_body u (m ∷ vs) u (record { from = omega arith; to = omega arith }) p).0
       ]
   cycles P at (Fixpoint true f) e laid binds lower good u m vs p =
-      cycles (λ b. (b ≡ at) ⊎ P b) (at + 1) f (put e at (iterates true l at f e (rank_at at f e u))) laid.1 binds (deeper P at f e laid binds lower) good.1 u m vs
+      cycles (λ b. (b ≡ at) ⊎ P b) (at + 1) f (put e at (iterates true l at f e (rank_at at f e u))) laid.1 binds
+      (deeper P at f e laid binds lower) good.1 u m vs
       (mu_level P at f e laid binds lower u m vs p)
   cycles P at (Fixpoint false f) e laid binds lower good u m vs p =
       let done : IsThrough (IsMove at (Fixpoint false f) e) nd at u (m ∷ vs) u → met number (m ∷ vs) % 2 ≡ 0 = λ t. ap (λ n. n % 2)
@@ -214,7 +228,8 @@ module _ (l : System) (look : ℕ → Shape) (prio : ℕ → ℕ) (st nd : ℕ �
         | inr i ↦ elim (avoids_or_not (IsMove at (Fixpoint false f) e) nd at u (m ∷ vs) u p) as (λ _. met number (m ∷ vs) % 2 ≡ 0) [
           | inl q ↦ cycles (λ b. (b ≡ at) ⊎ P b) (at + 1) f (put e at (sat l at (Fixpoint false f) e)) laid.1 binds
               (λ b x. elim x [ inl y ↦ omega arith | inr y ↦ (let n = lower b y in omega arith) ]) good.1 u m vs
-              (path_into (λ v. nd v ≡ at → ⊥) (λ v w. IsMove at (Fixpoint false f) e v w × (nd w ≡ at → ⊥)) (IsMove (at + 1) f (put e at (sat l at (Fixpoint false f) e)))
+              (path_into (λ v. nd v ≡ at → ⊥) (λ v w. IsMove at (Fixpoint false f) e v w × (nd w ≡ at → ⊥))
+              (IsMove (at + 1) f (put e at (sat l at (Fixpoint false f) e)))
               (λ v w n x. (
                 x.1,
                 record {

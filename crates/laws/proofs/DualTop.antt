@@ -1,5 +1,6 @@
 -- One of the two least tables tells of each vertex, the game's or its dual's.
-use Rattle.progress.proofs.Common.{◌≡◌, ◌≢◌, ◌↔◌, ℕ, ◌<◌, ◌≤◌, ◌⊎◌, List, length, refl, inl, inr, Odd, Game, IsGame, dual, greatest, Measure, Top, Counts, IsLeastTable, value_at}
+use Rattle.progress.proofs.Common.{◌≡◌, ◌≢◌, ◌↔◌, ℕ, ◌<◌, ◌≤◌, ◌⊎◌, List, length, refl, inl, inr, Odd, Game, IsGame, dual, greatest, Measure, Top, Counts}
+use Rattle.progress.proofs.Common.{IsLeastTable, value_at}
 use Rattle.progress.proofs.LeastDecides.{least_decides}
 use Rattle.progress.proofs.NotBoth.{not_both_win}
 use Rattle.laws.proofs.OneWins.{one_wins}
@@ -23,5 +24,6 @@ top_exactly g game l table other is others v h = (there, back)
     back : value_at other v ≢ Top → value_at table v ≡ Top
     back n = elim (top_or (value_at table v)) [
       | inl e ↦ e
-      | inr m ↦ absurd (not_both_win g v ((least_decides g game table is v).0 m) (dual_wins g Odd v ((least_decides (dual g) (dual_game g game l) other others v).0 n)))
+      | inr m ↦ absurd (not_both_win g v ((least_decides g game table is v).0 m)
+          (dual_wins g Odd v ((least_decides (dual g) (dual_game g game l) other others v).0 n)))
     ]

@@ -1,5 +1,7 @@
 -- Lifting from the opening table ends in the least progress table.
-use Rattle.progress.proofs.Common.{◌≡◌, ℕ, zero, suc, ◌<◌, ◌≤◌, List, length, map, sym, subst, ◌∙◌, inl, inr, arith, range_with_len, leb_tells, get_or_past, ext_get_or, length-map-range_with_len, get_or-map-range_with_len, slice_get_within, slice_get_cases, Game, IsGame, Measure, Top, IsMeasure, IsAtMost, IsLeastTable, IsProgress, IsTable, IsLiftAt, value_at, opening, height, rank}
+use Rattle.progress.proofs.Common.{◌≡◌, ℕ, zero, suc, ◌<◌, ◌≤◌, List, length, map, sym, subst, ◌∙◌, inl, inr, arith, range_with_len, leb_tells, get_or_past}
+use Rattle.progress.proofs.Common.{ext_get_or, length-map-range_with_len, get_or-map-range_with_len, slice_get_within, slice_get_cases, Game, IsGame, Measure}
+use Rattle.progress.proofs.Common.{Top, IsMeasure, IsAtMost, IsLeastTable, IsProgress, IsTable, IsLiftAt, value_at, opening, height, rank}
 use Rattle.progress.proofs.Lifts.{value_measure}
 use Rattle.progress.proofs.Rests.{rests}
 use Rattle.progress.proofs.Lists.{all_map}
@@ -29,11 +31,15 @@ module _ (g : Game) (game : IsGame g) where
 
   next_table : (t : Table) → IsTable g (next_values t)
   unfolding next_values
-  next_table t = (length-map-range_with_len (λ v. (lifted_at t v).value) 0 (length g.vertices), all_map (IsMeasure g) (λ v. (lifted_at t v).value) (range_with_len 0 (length g.vertices)) (λ v. (lifted_at t v).measure))
+  next_table t = (
+    length-map-range_with_len (λ v. (lifted_at t v).value) 0 (length g.vertices),
+    all_map (IsMeasure g) (λ v. (lifted_at t v).value) (range_with_len 0 (length g.vertices)) (λ v. (lifted_at t v).measure),
+  )
 
   next_lift : (t : Table) (v : ℕ) → v < length g.vertices → IsLiftAt g t.0 v (value_at (next_values t) v)
   unfolding next_values
-  next_lift t v h = subst (IsLiftAt g t.0 v) (sym (get_or-map-range_with_len (λ u. (lifted_at t u).value) 0 (length g.vertices) v v Top h (omega arith))) ((lifted_at t v).lift h)
+  next_lift t v h = subst (IsLiftAt g t.0 v) (sym (get_or-map-range_with_len (λ u. (lifted_at t u).value) 0 (length g.vertices) v v Top h (omega arith)))
+      ((lifted_at t v).lift h)
 
   abbrev step : Table → Table
   step t = (next_values t, next_table t)
@@ -89,4 +95,5 @@ least_unique g s t h i =
     let a = h.progress.0.0 in
     let b = i.progress.0.0 in
     ext_get_or Top s t (omega (arith, a, b))
-    (λ v l. (let w : v < length g.vertices = omega (arith, a, l) in at_most_both (value_at s v) (value_at t v) (h.under v w t i.progress) (i.under v w s h.progress)))
+    (λ v l. (let w : v < length g.vertices = omega (arith, a, l)
+    in at_most_both (value_at s v) (value_at t v) (h.under v w t i.progress) (i.under v w s h.progress)))

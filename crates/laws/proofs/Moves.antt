@@ -2,7 +2,8 @@
 use Rattle.std.proofs.Common.{◌≡◌, ℕ, ◌+◌, ◌<◌, ◌≤◌, ◌⊎◌, Bool, true, false, List, [], ◌∷◌, refl, sym, ap, ◌∙◌, subst, inl, inr, arith}
 use Rattle.std.specs.Prelude.{Contains, if◌then◌else◌}
 use Rattle.systems.specs.System.{System}
-use Rattle.normal.specs.Tree.{Norm, Constant, Junction, Modality, Fixpoint, Variable, size, Shape, ConstantNode, JunctionNode, ModalityNode, FixpointNode, VariableNode, shape_at}
+use Rattle.normal.specs.Tree.{Norm, Constant, Junction, Modality, Fixpoint, Variable, size, Shape, ConstantNode, JunctionNode, ModalityNode, FixpointNode}
+use Rattle.normal.specs.Tree.{VariableNode, shape_at}
 use Rattle.game.specs.Arena.{targets}
 use Rattle.progress.proofs.Lists.{contains_first, contains_later}
 use Rattle.normal.proofs.Numbers.{size_some}
@@ -120,13 +121,15 @@ module _ (l : System) where
     -- inside the left operand the operand's choice
     pub left_choice : (k ≡ at → ⊥) → k < at + 1 + size f → choose l at (Junction flag f g) e k s ≡ choose l (at + 1) f e k s
     left_choice i b = ap (λ (u : ℕ → ℕ). u s)
-        (put_other (join (at + 1 + size f) (choose l (at + 1) f e) (choose l (at + 1 + size f) g e)) at (λ s. if sat l (at + 1) f e s then at + 1 else at + 1 + size f) k i
+        (put_other (join (at + 1 + size f) (choose l (at + 1) f e) (choose l (at + 1 + size f) g e)) at
+        (λ s. if sat l (at + 1) f e s then at + 1 else at + 1 + size f) k i
         ∙ join_left (at + 1 + size f) (choose l (at + 1) f e) (choose l (at + 1 + size f) g e) k b)
 
     -- inside the right operand the operand's choice
     pub right_choice : (k ≡ at → ⊥) → at + 1 + size f ≤ k → choose l at (Junction flag f g) e k s ≡ choose l (at + 1 + size f) g e k s
     right_choice i b = ap (λ (u : ℕ → ℕ). u s)
-        (put_other (join (at + 1 + size f) (choose l (at + 1) f e) (choose l (at + 1 + size f) g e)) at (λ s. if sat l (at + 1) f e s then at + 1 else at + 1 + size f) k i
+        (put_other (join (at + 1 + size f) (choose l (at + 1) f e) (choose l (at + 1 + size f) g e)) at
+        (λ s. if sat l (at + 1) f e s then at + 1 else at + 1 + size f) k i
         ∙ join_right (at + 1 + size f) (choose l (at + 1) f e) (choose l (at + 1 + size f) g e) k b)
 
 -- ---- steps stay
@@ -173,4 +176,5 @@ module _ (look : ℕ → Shape) where
             (λ x v. elim v [ inl q ↦ inl (record { from = omega arith; to = omega arith }) | inr q ↦ inr q ])
             (stay (λ b. (b ≡ at) ⊎ P b) (at + 1) f laid.1 binds k m (record { from = omega (arith, w.from); to = omega (arith, w.to) }) x)
       ]
-  stay P at (Variable b) laid binds k m w x = let y : m ≡ b = at_look at k m (VariableNode b) laid (omega (arith, w.from, w.to)) x in inr (subst P (sym y) binds)
+  stay P at (Variable b) laid binds k m w x = let y : m ≡ b = at_look at k m (VariableNode b) laid (omega (arith, w.from, w.to)) x
+      in inr (subst P (sym y) binds)

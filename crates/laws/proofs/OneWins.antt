@@ -1,5 +1,8 @@
 -- Each vertex is won by one of the players.
-use Rattle.progress.proofs.Common.{◌≡◌, ◌≢◌, ℕ, zero, suc, ◌%◌, ◌<◌, ◌≤◌, ◌⊎◌, Bool, true, false, ◌&&◌, List, [], ◌∷◌, length, refl, sym, ap, subst, ◌∙◌, inl, inr, arith, true≢false, IsTrue, Contains, Some, None, Option, ◌==◌, nat_lt, eqb-true, eq-eqb, ltb-true, lt-ltb, eqb_tells, leb_tells, slice_get_within, IsPath, Player, Even, Odd, Vertex, Game, vertex, IsVertex, IsGame, opponent, Edge, IsOf, WinsBy, greatest_met, and_from, and_parts, total}
+use Rattle.progress.proofs.Common.{◌≡◌, ◌≢◌, ℕ, zero, suc, ◌%◌, ◌<◌, ◌≤◌, ◌⊎◌, Bool, true, false, ◌&&◌, List, [], ◌∷◌, length, refl, sym, ap, subst, ◌∙◌, inl}
+use Rattle.progress.proofs.Common.{inr, arith, true≢false, IsTrue, Contains, Some, None, Option, ◌==◌, nat_lt, eqb-true, eq-eqb, ltb-true, lt-ltb, eqb_tells}
+use Rattle.progress.proofs.Common.{leb_tells, slice_get_within, IsPath, Player, Even, Odd, Vertex, Game, vertex, IsVertex, IsGame, opponent, Edge, IsOf}
+use Rattle.progress.proofs.Common.{WinsBy, greatest_met, and_from, and_parts, total}
 use Rattle.progress.proofs.Lists.{all_contained, all_got}
 use Rattle.progress.proofs.Searches.{either_way, find_below, find_in}
 use Rattle.progress.proofs.Rests.{total_same}
@@ -95,15 +98,18 @@ module _ (g : Game) (game : IsGame g) where
     cycles : (u : ℕ) (others : List ℕ) → others ≢ [] → IsPath (Step done side choice) u others u → IsOf (side u) (greatest_met g others)
 
   below : (u t : ℕ) (x : Vertex) → vertex g u ≡ Some x → Contains x.successors t → t < length g.vertices
-  below u t x at has = all_contained (λ t. t < length g.vertices) x.successors t (all_got (IsVertex (length g.vertices)) g.vertices u x game.vertices at).within has
+  below u t x at has = all_contained (λ t. t < length g.vertices) x.successors t
+      (all_got (IsVertex (length g.vertices)) g.vertices u x game.vertices at).within has
 
   -- on a cycle no place is decided
-  tight : (done : ℕ → Option Player) (R : ℕ → ℕ → Type 0) → ((u t : ℕ) → R u t → done u ≡ None) → (u : ℕ) (others : List ℕ) (t : ℕ) → done t ≡ None → IsPath R u others t → IsPath (λ a b. R a b × (done b ≡ None)) u others t
+  tight : (done : ℕ → Option Player) (R : ℕ → ℕ → Type 0) → ((u t : ℕ) → R u t → done u ≡ None) → (u : ℕ) (others : List ℕ) (t : ℕ) → done t ≡ None
+      → IsPath R u others t → IsPath (λ a b. R a b × (done b ≡ None)) u others t
   tight done R f u [] t h p = p
   tight done R f u (m ∷ []) t h p = ((p.0, subst (λ z. done z ≡ None) (sym p.1) h), p.1)
   tight done R f u (m ∷ o ∷ others) t h p = ((p.0, f m o p.1.0), tight done R f m (o ∷ others) t h p.1)
 
-  first_open : (done : ℕ → Option Player) (R : ℕ → ℕ → Type 0) → ((u t : ℕ) → R u t → done u ≡ None) → (u : ℕ) (others : List ℕ) (t : ℕ) → others ≢ [] → IsPath R u others t → done u ≡ None
+  first_open : (done : ℕ → Option Player) (R : ℕ → ℕ → Type 0) → ((u t : ℕ) → R u t → done u ≡ None) → (u : ℕ) (others : List ℕ) (t : ℕ) → others ≢ []
+      → IsPath R u others t → done u ≡ None
   first_open done R f u [] t h p = absurd (h refl)
   first_open done R f u (m ∷ others) t h p = f u m p.0
 
@@ -155,10 +161,23 @@ module _ (g : Game) (game : IsGame g) where
       by None e None at = inr (record { firm = λ h x is. absurd cc })
       by None e (Some x) at = elim (find_in (λ t. done t ≡ Some x.owner) (λ t. done t ≢ Some x.owner) (λ t. is_decided (done t) x.owner) x.successors) [
         | inl w ↦ inl (record { pending = e; at = x; is = at; to = x.owner; next = w.0; owned = λ h. (w.1, w.2); all = λ h. absurd (h refl) })
-        | inr none ↦ elim (find_in (λ t. done t ≢ Some (opponent x.owner)) (λ t. done t ≡ Some (opponent x.owner)) (λ t. elim (is_decided (done t) (opponent x.owner)) [ inl y ↦ inr y | inr z ↦ inl z ]) x.successors) [
-          | inl w ↦ inr (record { firm = λ h y is. (let q : x ≡ y = cc in subst (λ z. ((t : ℕ) → Contains z.successors t → done t ≢ Some z.owner) × ((t : ℕ) × Contains z.successors t × (done t ≢ Some (opponent z.owner)))) q (none, w)) })
-          | inr every ↦ inl (record { pending = e; at = x; is = at; to = opponent x.owner; next = 0; owned = λ h. absurd (not_opponent x.owner h); all = λ h. every })
-        ]
+        | inr none ↦ elim (find_in (λ t. done t ≢ Some (opponent x.owner)) (λ t. done t ≡ Some (opponent x.owner))
+            (λ t. elim (is_decided (done t) (opponent x.owner)) [ inl y ↦ inr y | inr z ↦ inl z ]) x.successors) [
+              | inl w ↦ inr (record {
+                firm = λ h y is. (let q : x ≡ y = cc
+                    in subst (λ z. ((t : ℕ) → Contains z.successors t → done t ≢ Some z.owner)
+                    × ((t : ℕ) × Contains z.successors t × (done t ≢ Some (opponent z.owner)))) q (none, w));
+              })
+              | inr every ↦ inl (record {
+                pending = e;
+                at = x;
+                is = at;
+                to = opponent x.owner;
+                next = 0;
+                owned = λ h. absurd (not_opponent x.owner h);
+                all = λ h. every;
+              })
+            ]
       ]
 
   abbrev with_one : (ℕ → Option Player) → ℕ → Player → ℕ → Option Player
@@ -248,7 +267,8 @@ module _ (g : Game) (game : IsGame g) where
         cycles : (u : ℕ) (others : List ℕ) → others ≢ [] → IsPath (Step done s.side falling) u others u → IsOf (s.side u) (greatest_met g others)
         cycles u others m p =
             let o = first_open done (Step done s.side falling) (λ b c st. st.0) u others u m p in
-            s.cycles u others m (path_weaker Tight (Step (with_one done a f.to) s.side s.choice) never_a u others u (tight done (Step done s.side falling) (λ b c st. st.0) u others u o p))
+            s.cycles u others m (path_weaker Tight (Step (with_one done a f.to) s.side s.choice) never_a u others u
+            (tight done (Step done s.side falling) (λ b c st. st.0) u others u o p))
 
   -- ---------------------------------------------------------------- none falls
 
@@ -275,7 +295,11 @@ module _ (g : Game) (game : IsGame g) where
     ]
     | inr none ↦ elim (decided (done k)) [
       | inl o ↦ inl (k, omega arith, o, low_more done k (priority g k) (λ u h e. absurd (none u h e)) (λ e. omega arith))
-      | inr w ↦ inr (λ u h e. elim (eqb_tells u k) [ inl y ↦ (let z : done k ≡ None = ap done (sym y.1) ∙ e in let v = w.1 in absurd cc) | inr y ↦ (let m = y.1 in none u (omega arith) e) ])
+      | inr w ↦ inr (λ u h e. elim (eqb_tells u k) [
+        | inl y ↦ (let z : done k ≡ None = ap done (sym y.1) ∙ e in let v = w.1 in absurd cc)
+        | inr y ↦
+            (let m = y.1 in none u (omega arith) e)
+      ])
     ]
   ]
 
@@ -291,7 +315,8 @@ module _ (g : Game) (game : IsGame g) where
   abbrev taken : (ℕ → Option Player) → (ℕ → Player) → Player → ℕ → Bool
   taken done side r u = is_open (done u) && eq_player (side u) r
 
-  decided_kept : (done : ℕ → Option Player) (test : Option Player → ℕ → Bool) (q : Player) → ((p : Player) (u : ℕ) → test (Some p) u ≡ false) → (u : ℕ) (p : Player) → done u ≡ Some p → put (test (done u) u) q (done u) ≡ Some p
+  decided_kept : (done : ℕ → Option Player) (test : Option Player → ℕ → Bool) (q : Player) → ((p : Player) (u : ℕ) → test (Some p) u ≡ false)
+      → (u : ℕ) (p : Player) → done u ≡ Some p → put (test (done u) u) q (done u) ≡ Some p
   decided_kept done test q f u p e = ap (λ o. put (test o u) q o) e ∙ ap (λ b. put b q (Some p)) (f p u)
 
   module _ (done : ℕ → Option Player) (firm : (u : ℕ) → u < length g.vertices → Firm done u) (d : ℕ) (q : Player) (parity : IsOf q d)
@@ -318,7 +343,11 @@ module _ (g : Game) (game : IsGame g) where
         by None e None at = record { to = 0; good = λ x h is. absurd cc }
         by None e (Some x) at =
             let w = ((firm u (slice_get_within g.vertices u x at)).firm e x at).1 in
-            record { to = w.0; good = λ y h is. (let z : x ≡ y = cc in subst (λ v. Contains v.successors w.0 × (done w.0 ≢ Some (opponent v.owner))) z (w.1, w.2)) }
+            record {
+              to = w.0;
+              good = λ y h is. (let z : x ≡ y = cc
+                  in subst (λ v. Contains v.successors w.0 × (done w.0 ≢ Some (opponent v.owner))) z (w.1, w.2));
+            }
 
     module _ (all : (u : ℕ) → u < length g.vertices → done u ≡ None → s.side u ≡ q) where
       abbrev move : Bool → ℕ → ℕ
@@ -346,7 +375,8 @@ module _ (g : Game) (game : IsGame g) where
           let good = (onward u).good x e at in
           let own : x.owner ≡ q = w.0 ∙ all u (slice_get_within g.vertices u x at) e in
           let is : t ≡ (onward u).to = w.1 ∙ ap (λ b. move b u) h in
-          subst (λ z. s.side z ≡ q) (sym is) (not_lost (onward u).to (below u (onward u).to x at good.0) (subst (λ o. done (onward u).to ≢ Some (opponent o)) own good.1))
+          subst (λ z. s.side z ≡ q) (sym is) (not_lost (onward u).to (below u (onward u).to x at good.0)
+          (subst (λ o. done (onward u).to ≢ Some (opponent o)) own good.1))
       high u t h (e, (x, at, inr w)) =
           let own : x.owner ≡ opponent q = other_player x.owner q (λ o. w.0 (o ∙ sym (all u (slice_get_within g.vertices u x at) e))) in
           let good = ((firm u (slice_get_within g.vertices u x at)).firm e x at).0 t w.1 in
@@ -358,7 +388,8 @@ module _ (g : Game) (game : IsGame g) where
       step_within : (u t : ℕ) → Step done s.side moving u t → u < length g.vertices
       step_within u t (e, (x, at, w)) = slice_get_within g.vertices u x at
 
-      low_path : (u : ℕ) (others : List ℕ) (t : ℕ) → t < length g.vertices → IsPath (λ a b. Step done s.side moving a b × (done b ≡ None)) u others t → greatest_met g others ≤ d
+      low_path : (u : ℕ) (others : List ℕ) (t : ℕ) → t < length g.vertices → IsPath (λ a b. Step done s.side moving a b × (done b ≡ None)) u others t
+          → greatest_met g others ≤ d
       low_path u [] t l p = omega arith
       low_path u (m ∷ []) t l p = let h = top m (subst (λ z. z < length g.vertices) (sym p.1) l) p.0.1 in omega arith
       low_path u (m ∷ o ∷ others) t l p =
@@ -366,7 +397,8 @@ module _ (g : Game) (game : IsGame g) where
           let r = low_path m (o ∷ others) t l p.1 in
           omega arith
 
-      calm_path : (u : ℕ) (others : List ℕ) (t : ℕ) → priority g u < d → greatest_met g others < d → IsPath (Step done s.side moving) u others t → IsPath (Step first s.side s.choice) u others t
+      calm_path : (u : ℕ) (others : List ℕ) (t : ℕ) → priority g u < d → greatest_met g others < d → IsPath (Step done s.side moving) u others t
+          → IsPath (Step first s.side s.choice) u others t
       calm_path u [] t l h p = p
       calm_path u (m ∷ others) t l h p = (
         elim (either_way (peaks done d u)) [
@@ -503,7 +535,8 @@ module _ (g : Game) (game : IsGame g) where
         where
           own : (u : ℕ) (x : Vertex) → done u ≡ None → vertex g u ≡ Some x → x.owner ≡ s'.side u → Contains x.successors (turning u)
           own u x e at o = elim (either_way (lost u)) [
-            | inl h ↦ subst (λ z. Contains x.successors z) (sym (ap (λ b. turn b u) h)) (s.own u x (stays_open u (lost_low u h) e) at (o ∙ (remains u (lost_side u h) ∙ sym (lost_side u h))))
+            | inl h ↦ subst (λ z. Contains x.successors z) (sym (ap (λ b. turn b u) h))
+                (s.own u x (stays_open u (lost_low u h) e) at (o ∙ (remains u (lost_side u h) ∙ sym (lost_side u h))))
             | inr h ↦ subst (λ z. Contains x.successors z) (sym (ap (λ b. turn b u) h)) (s'.own u x (second_open u h e) at o)
           ]
 
@@ -518,7 +551,8 @@ module _ (g : Game) (game : IsGame g) where
               let o = first_open done (Step done s'.side turning) (λ b c st. st.0) u others u m p in
               let t = tight done (Step done s'.side turning) (λ b c st. st.0) u others u o p in
               elim (either_way (lost u)) [
-                | inl h ↦ subst (λ z. IsOf z (greatest_met g others)) (lost_side u h ∙ sym (remains u (lost_side u h))) (s.cycles u others m (old_path u others u h t))
+                | inl h ↦ subst (λ z. IsOf z (greatest_met g others)) (lost_side u h ∙ sym (remains u (lost_side u h)))
+                    (s.cycles u others m (old_path u others u h t))
                 | inr h ↦ s'.cycles u others m (new_path u others u h t)
               ]
 
@@ -527,7 +561,8 @@ module _ (g : Game) (game : IsGame g) where
   abbrev opens : (ℕ → Option Player) → ℕ
   opens done = total (λ u. open_at (done u)) (length g.vertices)
 
-  fewer : (done : ℕ → Option Player) (test : ℕ → Bool) (p : Player) (a : ℕ) → a < length g.vertices → done a ≡ None → test a ≡ true → opens (with_all done test p) < opens done
+  fewer : (done : ℕ → Option Player) (test : ℕ → Bool) (p : Player) (a : ℕ) → a < length g.vertices → done a ≡ None → test a ≡ true
+      → opens (with_all done test p) < opens done
   fewer done test p a l e h = elim (leb_tells (opens done) (opens (with_all done test p))) [
     | inl w ↦ (
         let r = total_same (λ u. open_at (with_all done test p u)) (λ u. open_at (done u)) (length g.vertices) (λ u. put_less (test u) p (done u)) w.1 a l in
@@ -545,15 +580,18 @@ module _ (g : Game) (game : IsGame g) where
   solve (suc k) done h = elim (peak done (length g.vertices)) [
     | inr none ↦ all_decided done none
     | inl w ↦ elim (find_below (Falls done) (Firm done) (falls_or done) (length g.vertices)) [
-      | inl y ↦ falls_sides done y.0 y.2 (solve k (with_one done y.0 y.2.to) (let f = fewer done (λ u. u == y.0) y.2.to y.0 y.1 y.2.pending (eq-eqb y.0 y.0 refl) in omega arith))
+      | inl y ↦ falls_sides done y.0 y.2 (solve k (with_one done y.0 y.2.to)
+          (let f = fewer done (λ u. u == y.0) y.2.to y.0 y.1 y.2.pending (eq-eqb y.0 y.0 refl) in omega arith))
       | inr firm ↦ (
           let d = priority g w.0 in
           let p = of_parity d in
           let f = fewer done (peaks done d) p.0 w.0 w.1 w.2 (and_from (is_open (done w.0)) (d == d) (ap is_open w.2) (eq-eqb d d refl)) in
           let s = solve k (with_all done (peaks done d) p.0) (omega arith) in
-          elim (find_below (λ u. (done u ≡ None) × (s.side u ≡ opponent p.0)) (λ u. done u ≡ None → s.side u ≡ p.0) (sided done p.0 s.side) (length g.vertices)) [
+          elim (find_below (λ u. (done u ≡ None) × (s.side u ≡ opponent p.0)) (λ u. done u ≡ None → s.side u ≡ p.0) (sided done p.0 s.side)
+          (length g.vertices)) [
             | inl z ↦ two_sides done firm d p.0 p.1 w.3 s (solve k (with_all done (taken done s.side (opponent p.0)) (opponent p.0)) (
-                let f' = fewer done (taken done s.side (opponent p.0)) (opponent p.0) z.0 z.1 z.2.0 (and_from (is_open (done z.0)) (eq_player (s.side z.0) (opponent p.0)) (ap is_open z.2.0) (eq_itself (s.side z.0) (opponent p.0) z.2.1)) in
+                let f' = fewer done (taken done s.side (opponent p.0)) (opponent p.0) z.0 z.1 z.2.0
+                (and_from (is_open (done z.0)) (eq_player (s.side z.0) (opponent p.0)) (ap is_open z.2.0) (eq_itself (s.side z.0) (opponent p.0) z.2.1)) in
                 omega arith))
             | inr all ↦ one_side done firm d p.0 p.1 w.3 s all
           ])
@@ -574,7 +612,8 @@ module _ (g : Game) (game : IsGame g) where
     within u = nat_lt u (length g.vertices) && eq_player (s.side u) p
 
     within_tells : (u : ℕ) → IsTrue (within u) → (u < length g.vertices) × (s.side u ≡ p)
-    within_tells u h = let w = and_parts (nat_lt u (length g.vertices)) (eq_player (s.side u) p) h in (ltb-true u (length g.vertices) w.0, eq_yes (s.side u) p w.1)
+    within_tells u h = let w = and_parts (nat_lt u (length g.vertices)) (eq_player (s.side u) p) h
+        in (ltb-true u (length g.vertices) w.0, eq_yes (s.side u) p w.1)
 
     is_within : (u : ℕ) → u < length g.vertices → s.side u ≡ p → IsTrue (within u)
     is_within u l e = and_from (nat_lt u (length g.vertices)) (eq_player (s.side u) p) (lt-ltb u (length g.vertices) l) (eq_itself (s.side u) p e)
@@ -599,7 +638,8 @@ module _ (g : Game) (game : IsGame g) where
         inside = λ u h. (within_tells u h).0;
         own = λ u x h at o. s.own u x refl at (o ∙ sym (within_tells u h).1);
         closed = λ u t h w. (let i = (within_tells u h).1 in is_within t (target u t i w) (s.stays u t (as_step u t i w) ∙ i));
-        cycles = λ u others h m w. (let i = (within_tells u h).1 in subst (λ o. IsOf o (greatest_met g others)) i (s.cycles u others m (as_path u others u i w)));
+        cycles = λ u others h m w. (let i = (within_tells u h).1
+            in subst (λ o. IsOf o (greatest_met g others)) i (s.cycles u others m (as_path u others u i w)));
       };
     }
 

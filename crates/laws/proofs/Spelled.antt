@@ -1,5 +1,6 @@
 -- The tests say what the formula means that the tree spells, and the sets of the nodes are their meanings.
-use Rattle.std.proofs.Common.{◌≡◌, ℕ, zero, suc, ◌+◌, ◌<◌, ◌↔◌, Bool, true, false, List, length, replicate, refl, sym, ap, ◌∙◌, subst, inl, inr, true≢false, arith}
+use Rattle.std.proofs.Common.{◌≡◌, ℕ, zero, suc, ◌+◌, ◌<◌, ◌↔◌, Bool, true, false, List, length, replicate, refl, sym, ap, ◌∙◌, subst, inl, inr, true≢false}
+use Rattle.std.proofs.Common.{arith}
 use Rattle.std.specs.Prelude.{Contains, MatchBool, ◌==◌, if◌then◌else◌}
 use Rattle.std.specs.Str.{bytes_eq}
 use Rattle.std.proofs.lemmas.Bool.Decides.{eqb_tells}
@@ -7,7 +8,8 @@ use Rattle.std.proofs.lemmas.Slice.Eq.{bytes_eq-Decides}
 use Rattle.systems.specs.System.{System, IsSystem}
 use Rattle.calculus.specs.Tree.{Action, Step, Formula}
 use Rattle.calculus.specs.Meaning.{Leads, Env, no_sets, with_set, iterate, mean}
-use Rattle.normal.specs.Tree.{Norm, Constant, Junction, Modality, Fixpoint, Variable, size, binder_name, constant_formula, junction_formula, modality_formula, fixpoint_formula, formula_from}
+use Rattle.normal.specs.Tree.{Norm, Constant, Junction, Modality, Fixpoint, Variable, size, binder_name, constant_formula, junction_formula, modality_formula}
+use Rattle.normal.specs.Tree.{fixpoint_formula, formula_from}
 use Rattle.game.specs.Arena.{targets}
 use Rattle.normal.proofs.Numbers.{size_some}
 use Rattle.laws.specs.NodeMeaning.{tree_mean, node_mean}
@@ -47,7 +49,8 @@ IsLikeSet n U u = (s : ℕ) → s < n → U s ↔ (u s ≡ true)
 abbrev pub AreLike : ℕ → Env → Sets → Type 0
 AreLike n E e = (b : ℕ) → IsLikeSet n (E (binder_name b)) (e b)
 
-with_like : (n : ℕ) (E : Env) (e : Sets) (at : ℕ) (U : ℕ → Type 0) (u : ℕ → Bool) → AreLike n E e → IsLikeSet n U u → AreLike n (with_set E (binder_name at) U) (put e at u)
+with_like : (n : ℕ) (E : Env) (e : Sets) (at : ℕ) (U : ℕ → Type 0) (u : ℕ → Bool) → AreLike n E e → IsLikeSet n U u
+    → AreLike n (with_set E (binder_name at) U) (put e at u)
 with_like n E e at U u Ee Uu b s h =
     subst (λ t. MatchBool t (U s) (E (binder_name b) s) ↔ ((if b == at then u else e b) s ≡ true)) (sym (names_test b at))
     (elim (b == at) as (λ t. MatchBool t (U s) (E (binder_name b) s) ↔ ((if t then u else e b) s ≡ true)) [ true ↦ Uu s h | false ↦ Ee b s h ])
@@ -67,11 +70,13 @@ constant_means : (l : System) (flag : Bool) (E : Env) (s : ℕ) → mean l (cons
 constant_means l true E s = (λ x. refl, λ x. tt)
 constant_means l false E s = (λ x. absurd x, λ x. true≢false (sym x))
 
-junction_means : (l : System) (flag : Bool) (f g : Formula) (E : Env) (s : ℕ) → mean l (junction_formula flag f g) E s ↔ Joined flag (mean l f E s) (mean l g E s)
+junction_means : (l : System) (flag : Bool) (f g : Formula) (E : Env) (s : ℕ) → mean l (junction_formula flag f g) E s
+    ↔ Joined flag (mean l f E s) (mean l g E s)
 junction_means l true f g E s = (λ x. x, λ x. x)
 junction_means l false f g E s = (λ x. x, λ x. x)
 
-modality_means : (l : System) (flag : Bool) (a : Action) (f : Formula) (E : Env) (s : ℕ) → mean l (modality_formula flag a f) E s ↔ Reached flag (Leads l (Step a) s) (mean l f E)
+modality_means : (l : System) (flag : Bool) (a : Action) (f : Formula) (E : Env) (s : ℕ) → mean l (modality_formula flag a f) E s
+    ↔ Reached flag (Leads l (Step a) s) (mean l f E)
 modality_means l true a f E s = (λ x. x, λ x. x)
 modality_means l false a f E s = (λ x. x, λ x. x)
 
@@ -90,8 +95,10 @@ module _ (l : System) (ok : IsSystem l) where
   bound_like : (flag : Bool) (name : List ℕ) (f : Formula) (E : Env) (G : (ℕ → Bool) → ℕ → Bool)
       → ((U : ℕ → Type 0) (u : ℕ → Bool) → IsLikeSet l.states U u → IsLikeSet l.states (mean l f (with_set E name U)) (G u))
       → IsLikeSet l.states (mean l (fixpoint_formula flag name f) E) (turns l.states G (from flag))
-  bound_like true name f E G step = iterate_like l.states l.states (λ set. mean l f (with_set E name set)) G (λ t. ⊥) (from true) step (λ s h. (λ x. absurd x, λ x. true≢false (sym x)))
-  bound_like false name f E G step = iterate_like l.states l.states (λ set. mean l f (with_set E name set)) G (λ t. Unit {0}) (from false) step (λ s h. (λ x. refl, λ x. tt))
+  bound_like true name f E G step = iterate_like l.states l.states (λ set. mean l f (with_set E name set)) G (λ t. ⊥) (from true) step
+      (λ s h. (λ x. absurd x, λ x. true≢false (sym x)))
+  bound_like false name f E G step = iterate_like l.states l.states (λ set. mean l f (with_set E name set)) G (λ t. Unit {0}) (from false) step
+      (λ s h. (λ x. refl, λ x. tt))
 
   -- the test is the meaning
   pub meant : (at : ℕ) (f : Norm) (E : Env) (e : Sets) → AreLike l.states E e → IsLikeSet l.states (tree_mean l at f E) (sat l at f e)
@@ -115,23 +122,30 @@ module _ (l : System) (ok : IsSystem l) where
 pub node_within : (l : System) (at : ℕ) (f : Norm) (E : Env) (k s : ℕ) → node_mean l at f E k s → IsWithin at f k
 node_within l at (Constant flag) E k s x = let e = x.0 in record { from = omega arith; to = omega arith }
 node_within l at (Junction flag f g) E k s (inl x) = let e = x.0 in record { from = omega arith; to = omega arith }
-node_within l at (Junction flag f g) E k s (inr (inl x)) = let w = node_within l (at + 1) f E k s x in record { from = omega (arith, w.from); to = omega (arith, w.to) }
-node_within l at (Junction flag f g) E k s (inr (inr x)) = let w = node_within l (at + 1 + size f) g E k s x in record { from = omega (arith, w.from); to = omega (arith, w.to) }
+node_within l at (Junction flag f g) E k s (inr (inl x)) = let w = node_within l (at + 1) f E k s x
+    in record { from = omega (arith, w.from); to = omega (arith, w.to) }
+node_within l at (Junction flag f g) E k s (inr (inr x)) = let w = node_within l (at + 1 + size f) g E k s x
+    in record { from = omega (arith, w.from); to = omega (arith, w.to) }
 node_within l at (Modality flag a f) E k s (inl x) = let e = x.0 in record { from = omega arith; to = omega arith }
-node_within l at (Modality flag a f) E k s (inr x) = let w = node_within l (at + 1) f E k s x in record { from = omega (arith, w.from); to = omega (arith, w.to) }
+node_within l at (Modality flag a f) E k s (inr x) = let w = node_within l (at + 1) f E k s x
+    in record { from = omega (arith, w.from); to = omega (arith, w.to) }
 node_within l at (Fixpoint flag f) E k s (inl x) = let e = x.0 in record { from = omega arith; to = omega arith }
 node_within l at (Fixpoint flag f) E k s (inr x) =
-    let w = node_within l (at + 1) f (with_set E (binder_name at) (tree_mean l at (Fixpoint flag f) E)) k s x in record { from = omega (arith, w.from); to = omega (arith, w.to) }
+    let w = node_within l (at + 1) f (with_set E (binder_name at) (tree_mean l at (Fixpoint flag f) E)) k s x
+    in record { from = omega (arith, w.from); to = omega (arith, w.to) }
 node_within l at (Variable b) E k s x = let e = x.0 in record { from = omega arith; to = omega arith }
 
 module _ (l : System) (ok : IsSystem l) where
-  root_to : (at : ℕ) (f : Norm) (E : Env) (e : Sets) → AreLike l.states E e → (k s : ℕ) → s < l.states → (k ≡ at) × tree_mean l at f E s → sets l at f e k s ≡ true
+  root_to : (at : ℕ) (f : Norm) (E : Env) (e : Sets) → AreLike l.states E e → (k s : ℕ) → s < l.states → (k ≡ at) × tree_mean l at f E s
+      → sets l at f e k s ≡ true
   root_to at f E e like k s h x = true_root l at f e k s x.0 ((meant l ok at f E e like s h).0 x.1)
 
-  to_root : (at : ℕ) (f : Norm) (E : Env) (e : Sets) → AreLike l.states E e → (k s : ℕ) → s < l.states → k ≡ at → sets l at f e k s ≡ true → (k ≡ at) × tree_mean l at f E s
+  to_root : (at : ℕ) (f : Norm) (E : Env) (e : Sets) → AreLike l.states E e → (k s : ℕ) → s < l.states → k ≡ at → sets l at f e k s ≡ true → (k ≡ at)
+      × tree_mean l at f E s
   to_root at f E e like k s h i x = (i, (meant l ok at f E e like s h).1 (root_true l at f e k s i x))
 
-  inside_like : (at : ℕ) (f : Norm) (E : Env) (e : Sets) → AreLike l.states E e → AreLike l.states (with_set E (binder_name at) (tree_mean l at f E)) (put e at (sat l at f e))
+  inside_like : (at : ℕ) (f : Norm) (E : Env) (e : Sets) → AreLike l.states E e
+      → AreLike l.states (with_set E (binder_name at) (tree_mean l at f E)) (put e at (sat l at f e))
   inside_like at f E e like = with_like l.states E e at (tree_mean l at f E) (sat l at f e) like (meant l ok at f E e like)
 
   to_sets : (at : ℕ) (f : Norm) (E : Env) (e : Sets) → AreLike l.states E e → (k s : ℕ) → s < l.states → node_mean l at f E k s → sets l at f e k s ≡ true
@@ -139,7 +153,8 @@ module _ (l : System) (ok : IsSystem l) where
   to_sets at (Junction flag f g) E e like k s h (inl x) = root_to at (Junction flag f g) E e like k s h x
   to_sets at (Junction flag f g) E e like k s h (inr (inl x)) =
       let w = node_within l (at + 1) f E k s x in
-      at_set (sets l at (Junction flag f g) e) (sets l (at + 1) f e) k s (left_sets l at f g e (sat l at (Junction flag f g) e) k (λ q. omega (arith, w.from)) (omega (arith, w.to)))
+      at_set (sets l at (Junction flag f g) e) (sets l (at + 1) f e) k s
+      (left_sets l at f g e (sat l at (Junction flag f g) e) k (λ q. omega (arith, w.from)) (omega (arith, w.to)))
       (to_sets (at + 1) f E e like k s h x)
   to_sets at (Junction flag f g) E e like k s h (inr (inr x)) =
       let w = node_within l (at + 1 + size f) g E k s x in
@@ -152,10 +167,12 @@ module _ (l : System) (ok : IsSystem l) where
       (to_sets (at + 1) f E e like k s h x)
   to_sets at (Fixpoint flag f) E e like k s h (inl x) = root_to at (Fixpoint flag f) E e like k s h x
   to_sets at (Fixpoint flag f) E e like k s h (inr x) =
-      to_sets (at + 1) f (with_set E (binder_name at) (tree_mean l at (Fixpoint flag f) E)) (put e at (sat l at (Fixpoint flag f) e)) (inside_like at (Fixpoint flag f) E e like) k s h x
+      to_sets (at + 1) f (with_set E (binder_name at) (tree_mean l at (Fixpoint flag f) E)) (put e at (sat l at (Fixpoint flag f) e))
+      (inside_like at (Fixpoint flag f) E e like) k s h x
   to_sets at (Variable b) E e like k s h x = root_to at (Variable b) E e like k s h x
 
-  from_sets : (at : ℕ) (f : Norm) (E : Env) (e : Sets) → AreLike l.states E e → (k s : ℕ) → s < l.states → IsWithin at f k → sets l at f e k s ≡ true → node_mean l at f E k s
+  from_sets : (at : ℕ) (f : Norm) (E : Env) (e : Sets) → AreLike l.states E e → (k s : ℕ) → s < l.states → IsWithin at f k → sets l at f e k s ≡ true
+      → node_mean l at f E k s
   from_sets at (Constant flag) E e like k s h w x = to_root at (Constant flag) E e like k s h (omega (arith, w.from, w.to)) x
   from_sets at (Junction flag f g) E e like k s h w x =
       elim (same_or_not k at) as (λ _. node_mean l at (Junction flag f g) E k s) [

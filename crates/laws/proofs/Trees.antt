@@ -1,5 +1,6 @@
 -- Trees, their parts by number, and their free variables.
-use Rattle.std.proofs.Common.{◌≡◌, ℕ, ◌+◌, ◌<◌, ◌≤◌, ◌⊎◌, List, [], ◌∷◌, ◌++◌, length, map, refl, sym, ap, ap₂, ◌∙◌, subst, inl, inr, append_assoc, append-nil, length-append, arith}
+use Rattle.std.proofs.Common.{◌≡◌, ℕ, ◌+◌, ◌<◌, ◌≤◌, ◌⊎◌, List, [], ◌∷◌, ◌++◌, length, map, refl, sym, ap, ap₂, ◌∙◌, subst, inl, inr, append_assoc}
+use Rattle.std.proofs.Common.{append-nil, length-append, arith}
 use Rattle.std.specs.Prelude.{Some, slice_get}
 use Rattle.normal.specs.Tree.{Norm, Constant, Junction, Modality, Fixpoint, Variable, size, preorder}
 use Rattle.normal.proofs.Writing.{preorder_length}
@@ -38,7 +39,8 @@ each_each P at (Fixpoint flag f) h = (h, each_each P (at + 1) f h.1)
 each_each P at (Variable b) h = h
 
 -- at each number of the tree stands a part
-pub each_at : (P : ℕ → Norm → Type 0) (Q : ℕ → Type 0) → ((k : ℕ) (g : Norm) → P k g → Q k) → (at : ℕ) (f : Norm) → IsEach P at f → (c : ℕ) → IsWithin at f c → Q c
+pub each_at : (P : ℕ → Norm → Type 0) (Q : ℕ → Type 0) → ((k : ℕ) (g : Norm) → P k g → Q k) → (at : ℕ) (f : Norm) → IsEach P at f → (c : ℕ) → IsWithin at f c
+    → Q c
 each_at P Q step at (Constant flag) h c w = subst Q (omega (arith, w.from, w.to)) (step at (Constant flag) h)
 each_at P Q step at (Junction flag f g) h c w = elim (same_or_not c at) [
   | inl i ↦ subst Q (sym i) (step at (Junction flag f g) h.0)
@@ -99,7 +101,8 @@ pub map_preorder : {A B : Type 0} (h : A → B) (say : ℕ → Norm → A) (at :
 map_preorder h say at (Constant flag) = refl
 map_preorder h say at (Junction flag f g) =
     ap (λ zs. h (say at (Junction flag f g)) ∷ zs)
-    (map_append h (preorder say (at + 1) f) (preorder say (at + 1 + size f) g) ∙ ap₂ (λ xs ys. xs ++ ys) (map_preorder h say (at + 1) f) (map_preorder h say (at + 1 + size f) g))
+    (map_append h (preorder say (at + 1) f) (preorder say (at + 1 + size f) g)
+    ∙ ap₂ (λ xs ys. xs ++ ys) (map_preorder h say (at + 1) f) (map_preorder h say (at + 1 + size f) g))
 map_preorder h say at (Modality flag a f) = ap (λ zs. h (say at (Modality flag a f)) ∷ zs) (map_preorder h say (at + 1) f)
 map_preorder h say at (Fixpoint flag f) = ap (λ zs. h (say at (Fixpoint flag f)) ∷ zs) (map_preorder h say (at + 1) f)
 map_preorder h say at (Variable b) = refl
@@ -139,12 +142,17 @@ module _ {A : Type 0} (say : ℕ → Norm → A) (all : List A) where
       let x : A = say at (Junction flag f g) in (
         first_said pre x ((xs ++ ys) ++ post) at e h,
         said_on (at + 1) f (pre ++ (x ∷ [])) (ys ++ post) (e ∙ left_on pre x xs ys post) (length_one pre x at h),
-        said_on (at + 1 + size f) g (pre ++ (x ∷ xs)) post (e ∙ right_on pre x xs ys post) (length_more pre x xs at (size f) h (preorder_length say (at + 1) f)),
+        said_on (at + 1 + size f) g (pre ++ (x ∷ xs)) post (e ∙ right_on pre x xs ys post)
+            (length_more pre x xs at (size f) h (preorder_length say (at + 1) f)),
       )
-  said_on at (Modality flag a f) pre post e h =
-      (first_said pre (say at (Modality flag a f)) (preorder say (at + 1) f ++ post) at e h, one_said at f (say at (Modality flag a f)) pre post e h (said_on (at + 1) f))
-  said_on at (Fixpoint flag f) pre post e h =
-      (first_said pre (say at (Fixpoint flag f)) (preorder say (at + 1) f ++ post) at e h, one_said at f (say at (Fixpoint flag f)) pre post e h (said_on (at + 1) f))
+  said_on at (Modality flag a f) pre post e h = (
+    first_said pre (say at (Modality flag a f)) (preorder say (at + 1) f ++ post) at e h,
+    one_said at f (say at (Modality flag a f)) pre post e h (said_on (at + 1) f),
+  )
+  said_on at (Fixpoint flag f) pre post e h = (
+    first_said pre (say at (Fixpoint flag f)) (preorder say (at + 1) f ++ post) at e h,
+    one_said at f (say at (Fixpoint flag f)) pre post e h (said_on (at + 1) f),
+  )
   said_on at (Variable b) pre post e h = first_said pre (say at (Variable b)) post at e h
 
   -- what is said of a part stands at its number

@@ -1,5 +1,6 @@
 -- What is read off a block at once is what is read token by token.
-use Rattle.std.proofs.Common.{◌≡◌, ℕ, zero, suc, ◌+◌, ◌-◌, ◌*◌, ◌<◌, ◌≤◌, nat_le, get_or, Bool, true, false, cond, not, ◌&&◌, ◌==◌, nat_eq, List, [], ◌∷◌, ◌++◌, length, min, take, drop, Option, Some, None, Bor, refl, sym, ap, ◌∙◌, append_assoc, arith, true≢false}
+use Rattle.std.proofs.Common.{◌≡◌, ℕ, zero, suc, ◌+◌, ◌-◌, ◌*◌, ◌<◌, ◌≤◌, nat_le, get_or, Bool, true, false, cond, not, ◌&&◌, ◌==◌, nat_eq, List, [], ◌∷◌}
+use Rattle.std.proofs.Common.{◌++◌, length, min, take, drop, Option, Some, None, Bor, refl, sym, ap, ◌∙◌, append_assoc, arith, true≢false}
 use Rattle.std.specs.Prelude.{IfSome, MatchOption}
 use Rattle.std.specs.List.{list_all, list_any, prefix_len}
 use Rattle.std.specs.Io.{StartsWith}
@@ -27,7 +28,8 @@ use Rattle.lts.proofs.Scanning.{transition_finds}
 
 -- ---- the parts
 
-pub past_is : (s p : List ℕ) (r : Option (Bor (List ℕ))) → MatchOption r (pointwise nat_eq (take (length p) s) p ≡ false) (λ x. (pointwise nat_eq (take (length p) s) p ≡ true) × (x.now ≡ drop (length p) s) × (length x.now + length p ≡ length s))
+pub past_is : (s p : List ℕ) (r : Option (Bor (List ℕ))) → MatchOption r (pointwise nat_eq (take (length p) s) p ≡ false)
+    (λ x. (pointwise nat_eq (take (length p) s) p ≡ true) × (x.now ≡ drop (length p) s) × (length x.now + length p ≡ length s))
     → IfSome r (λ x. s ≡ p ++ x.now)
 past_is s p None h = tt
 past_is s p (Some x) (same, rest, long) =
@@ -35,10 +37,12 @@ past_is s p (Some x) (same, rest, long) =
     sym (take-append-drop (length p) s) ∙ ap (λ l. l ++ drop (length p) s) front ∙ ap (λ l. p ++ l) (sym rest)
 
 -- the digits so far, with one more
-pub digit_more : (bytes : List ℕ) (i v d : ℕ) → i < length bytes → (v ≡ value_of (take i bytes)) × (list_all is_digit (take i bytes) ≡ true) × (v ≤ 999999999) → is_digit (get_or bytes i 0) ≡ true → d ≡ get_or bytes i 0 - 48 → v ≤ 99999999
+pub digit_more : (bytes : List ℕ) (i v d : ℕ) → i < length bytes → (v ≡ value_of (take i bytes)) × (list_all is_digit (take i bytes) ≡ true)
+    × (v ≤ 999999999) → is_digit (get_or bytes i 0) ≡ true → d ≡ get_or bytes i 0 - 48 → v ≤ 99999999
     → (v * 10 + d ≡ value_of (take (i + 1) bytes)) × (list_all is_digit (take (i + 1) bytes) ≡ true) × (v * 10 + d ≤ 999999999)
 digit_more bytes i v d below (value, digits, few) one digit room =
-    let step : value_of (take (i + 1) bytes) ≡ 10 * value_of (take i bytes) + (get_or bytes i 0 - 48) = fold_more (λ n d. 10 * n + (d - 48)) 0 bytes i 0 below in
+    let step : value_of (take (i + 1) bytes) ≡ 10 * value_of (take i bytes)
+    + (get_or bytes i 0 - 48) = fold_more (λ n d. 10 * n + (d - 48)) 0 bytes i 0 below in
     let nine : get_or bytes i 0 ≤ 57 = leb-true (get_or bytes i 0) 57 (and_parts (nat_le 48 (get_or bytes i 0)) (nat_le (get_or bytes i 0) 57) one).1 in
     (omega (arith, step, value, digit), list_all_more is_digit bytes i 0 below ∙ rw (digits, one) refl, omega (arith, digit, nine, room))
 
@@ -55,11 +59,14 @@ plain_append from label to rest more =
     ∙ ap (λ l. 40 ∷ from ++ (44 ∷ 34 ∷ l)) (append_assoc label (34 ∷ 44 ∷ to ++ (41 ∷ rest)) more)
     ∙ ap (λ l. 40 ∷ from ++ (44 ∷ 34 ∷ label ++ (34 ∷ 44 ∷ l))) (append_assoc to (41 ∷ rest) more)
 
-pub plain_is : (s t n : ℕ) (label block r1 r2 r3 r4 r5 r6 last : List ℕ) → block ≡ (40 ∷ []) ++ r1 → IsNumberThen s r1 r2 → r2 ≡ (44 ∷ 34 ∷ []) ++ r3 → r3 ≡ label ++ r4 → list_all is_inner label ≡ true
-    → r4 ≡ (34 ∷ 44 ∷ []) ++ r5 → IsNumberThen t r5 r6 → r6 ≡ (41 ∷ 10 ∷ []) ++ last → n ≡ length block - length last → IsPlainThen s label t block (drop n block)
+pub plain_is : (s t n : ℕ) (label block r1 r2 r3 r4 r5 r6 last : List ℕ) → block ≡ (40 ∷ []) ++ r1 → IsNumberThen s r1 r2 → r2 ≡ (44 ∷ 34 ∷ []) ++ r3
+    → r3 ≡ label ++ r4 → list_all is_inner label ≡ true
+    → r4 ≡ (34 ∷ 44 ∷ []) ++ r5 → IsNumberThen t r5 r6 → r6 ≡ (41 ∷ 10 ∷ []) ++ last → n ≡ length block - length last
+    → IsPlainThen s label t block (drop n block)
 plain_is s t n label block r1 r2 r3 r4 r5 r6 last bracket source comma quote inner close target end len =
     let cut : block ≡ plain_text source.digits label target.digits (10 ∷ last) =
-    bracket ∙ ap (λ l. 40 ∷ l) (source.cut ∙ ap (λ l. source.digits ++ l) (comma ∙ ap (λ l. 44 ∷ 34 ∷ l) (quote ∙ ap (λ l. label ++ l) (close ∙ ap (λ l. 34 ∷ 44 ∷ l) (target.cut ∙ ap (λ l. target.digits ++ l) end))))) in
+    bracket ∙ ap (λ l. 40 ∷ l) (source.cut ∙ ap (λ l. source.digits ++ l)
+    (comma ∙ ap (λ l. 44 ∷ 34 ∷ l) (quote ∙ ap (λ l. label ++ l) (close ∙ ap (λ l. 34 ∷ 44 ∷ l) (target.cut ∙ ap (λ l. target.digits ++ l) end))))) in
     let front = plain_text source.digits label target.digits (10 ∷ []) in
     let split : block ≡ front ++ last = cut ∙ sym (plain_append source.digits label target.digits (10 ∷ []) last) in
     let long : n ≡ length front = omega (arith, len, ap length split ∙ length-append front last) in
@@ -88,10 +95,12 @@ digit_other : (b : ℕ) → is_digit b ≡ true → is_other 10 b ≡ true
 digit_other b has = let no : (b == 10) ≡ false = ne_eqb b 10 (λ e. true≢false (sym has ∙ ap is_digit e)) in rw no refl
 
 -- no LF stands in the line
-no_lf : (from label to : List ℕ) → is_numeral from ≡ true → is_numeral to ≡ true → list_all is_inner label ≡ true → list_all (is_other 10) (plain_text from label to []) ≡ true
+no_lf : (from label to : List ℕ) → is_numeral from ≡ true → is_numeral to ≡ true → list_all is_inner label ≡ true
+    → list_all (is_other 10) (plain_text from label to []) ≡ true
 no_lf from label to hf ht inner =
     front_all (is_other 10) from (44 ∷ 34 ∷ label ++ (34 ∷ 44 ∷ to ++ (41 ∷ []))) (all_of is_digit (is_other 10) digit_other from (numeral_digits from hf))
-    ∙ front_all (is_other 10) label (34 ∷ 44 ∷ to ++ (41 ∷ [])) (all_of is_inner (is_other 10) (λ b h. (and_parts (not (b == 34)) (not (b == 10)) h).1) label inner)
+    ∙ front_all (is_other 10) label (34 ∷ 44 ∷ to ++ (41 ∷ []))
+    (all_of is_inner (is_other 10) (λ b h. (and_parts (not (b == 34)) (not (b == 10)) h).1) label inner)
     ∙ front_all (is_other 10) to (41 ∷ []) (all_of is_digit (is_other 10) digit_other to (numeral_digits to ht))
 
 -- the line before an LF
@@ -100,7 +109,8 @@ cut_here [] rest all = (refl, refl)
 cut_here (b ∷ run) rest all =
     let h = and_parts (is_other 10 b) (list_all (is_other 10) run) all in
     let (piece, under) = cut_here run rest h.1 in
-    elim (b == 10) as (λ c. not c ≡ true → (cond c [] (b ∷ first_piece (run ++ 10 ∷ rest)) ≡ b ∷ run) × (cond c (run ++ 10 ∷ rest) (below (run ++ 10 ∷ rest)) ≡ rest)) [
+    elim (b == 10) as (λ c. not c ≡ true → (cond c [] (b ∷ first_piece (run ++ 10 ∷ rest)) ≡ b ∷ run)
+    × (cond c (run ++ 10 ∷ rest) (below (run ++ 10 ∷ rest)) ≡ rest)) [
       | true ↦ λ e. absurd cc
       | false ↦ λ e. (ap (λ l. b ∷ l) piece, under)
     ] h.0
@@ -124,21 +134,55 @@ abbrev arrow : ℕ → List ℕ → ℕ → Arrow
 arrow s label t = record { source = s; label = label; target = t }
 
 -- it is a transition
-spells : (from label to : List ℕ) → is_numeral from ≡ true → is_numeral to ≡ true → list_all is_inner label ≡ true → IsTransition (plain_text from label to []) (arrow (value_of from) label (value_of to))
+spells : (from label to : List ℕ) → is_numeral from ≡ true → is_numeral to ≡ true → list_all is_inner label ≡ true
+    → IsTransition (plain_text from label to []) (arrow (value_of from) label (value_of to))
 spells from label to hf ht inner =
-    let plain : list_any (λ b. b == 34) label ≡ false = none_other 34 label (all_of is_inner (is_other 34) (λ b h. (and_parts (not (b == 34)) (not (b == 10)) h).0) label inner) in
+    let plain : list_any (λ b. b == 34) label ≡ false = none_other 34 label
+    (all_of is_inner (is_other 34) (λ b h. (and_parts (not (b == 34)) (not (b == 10)) h).0) label inner) in
     let r5 : List ℕ = 41 ∷ [] in
     let r4 : List ℕ = to ++ r5 in
     let r3 : List ℕ = 44 ∷ r4 in
     let r2 : List ℕ = 34 ∷ label ++ (34 ∷ r3) in
-    let r1 : List ℕ = from ++ (44 ∷ r2) in
-    (from, to, (hf, refl), (ht, refl), plain, ([], r1, refl, refl, ([], 44 ∷ r2, refl, refl, ([], r2, refl, refl, ([], r3, refl, sym (around label r3), ([], r4, refl, refl, ([], r5, refl, refl, ([], [], refl, refl, refl))))))))
+    let r1 : List ℕ = from ++ (44 ∷ r2) in (
+      from,
+      to,
+      (hf, refl),
+      (ht, refl),
+      plain,
+      (
+        [],
+        r1,
+        refl,
+        refl,
+        (
+          [],
+          44 ∷ r2,
+          refl,
+          refl,
+          (
+            [],
+            r2,
+            refl,
+            refl,
+            (
+              [],
+              r3,
+              refl,
+              sym (around label r3),
+              ([], r4, refl, refl, ([], r5, refl, refl, ([], [], refl, refl, refl))),
+            ),
+          ),
+        ),
+      ),
+    )
 
 -- what the plain line says is what the tokens say, whatever follows the block
-pub plain_passes : (s t : ℕ) (label text left more : List ℕ) → IsPlainThen s label t text left → PassesTransition (take (LONGEST_LABEL + 1) label) (Some (record { source = s; target = t })) (text ++ more) (left ++ more)
+pub plain_passes : (s t : ℕ) (label text left more : List ℕ) → IsPlainThen s label t text left
+    → PassesTransition (take (LONGEST_LABEL + 1) label) (Some (record { source = s; target = t })) (text ++ more) (left ++ more)
 plain_passes s t label text left more p =
     let line = plain_text p.from label p.to [] in
-    let split : text ++ more ≡ line ++ 10 ∷ (left ++ more) = ap (λ l. l ++ more) p.cut ∙ plain_append p.from label p.to (10 ∷ left) more ∙ sym (plain_append p.from label p.to [] (10 ∷ (left ++ more))) in
+    let split : text ++ more ≡ line ++ 10 ∷ (left ++ more) = ap (λ l. l ++ more) p.cut ∙ plain_append p.from label p.to (10 ∷ left) more
+    ∙ sym (plain_append p.from label p.to [] (10 ∷ (left ++ more))) in
     let (piece, under) = cut_here line (left ++ more) (no_lf p.from label p.to p.from-numeral p.to-numeral p.inner) in
     let first : line_of (text ++ more) ≡ line = ap line_of split ∙ ap (without_end 13) piece ∙ no_cr p.from label p.to in
     let found = transition_finds line (arrow (value_of p.from) label (value_of p.to)) (spells p.from label p.to p.from-numeral p.to-numeral p.inner) in
@@ -151,8 +195,10 @@ drop_front zero block more within = refl
 drop_front (suc n) [] more within = absurd (omega (arith, within))
 drop_front (suc n) (b ∷ block) more within = drop_front n block more (omega (arith, within))
 
-pub at_hand_is : (kept block label : List ℕ) (s t n : ℕ) (old mid new : Option (List ℕ)) (limit : Option ℕ) → IfSome old (λ xs. StartsWith xs block) → Keeps old mid
-    → IfSome old (λ _. IfSome limit (λ n. length block ≤ n)) → DropsConsumable mid new limit n → n ≤ length block → IsPlainThen s label t block (drop n block) → kept ≡ take (LONGEST_LABEL + 1) label
+pub at_hand_is : (kept block label : List ℕ) (s t n : ℕ) (old mid new : Option (List ℕ)) (limit : Option ℕ) → IfSome old (λ xs. StartsWith xs block)
+    → Keeps old mid
+    → IfSome old (λ _. IfSome limit (λ n. length block ≤ n)) → DropsConsumable mid new limit n → n ≤ length block
+    → IsPlainThen s label t block (drop n block) → kept ≡ take (LONGEST_LABEL + 1) label
     → IfKnown old new (PassesAtHand kept (Some (record { source = s; target = t })))
 at_hand_is kept block label s t n None mid new limit front same fits drops within plain is = tt
 at_hand_is kept block label s t n (Some text) None new limit front same fits drops within plain is = absurd same
@@ -168,7 +214,8 @@ at_hand_is kept block label s t n (Some text) (Some left) new limit front same f
     fits_count None fits = tt
     fits_count (Some m) fits = omega (arith, fits, within)
 
-pub kept_is : (most : ℕ) (kept old label : List ℕ) → kept ≡ old ++ take most label → old ≡ [] → most ≡ min (length label) (LONGEST_LABEL + 1) → kept ≡ take (LONGEST_LABEL + 1) label
+pub kept_is : (most : ℕ) (kept old label : List ℕ) → kept ≡ old ++ take most label → old ≡ [] → most ≡ min (length label) (LONGEST_LABEL + 1)
+    → kept ≡ take (LONGEST_LABEL + 1) label
 kept_is most kept old label grown none is =
     let most-is : most ≡ min (LONGEST_LABEL + 1) (length label) = omega (arith, is) in
     grown ∙ ap (λ l. l ++ take most label) none ∙ ap (λ n. take n label) most-is ∙ take_min (LONGEST_LABEL + 1) label

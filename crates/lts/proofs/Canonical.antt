@@ -1,5 +1,6 @@
 -- The canonical text of a system, line by line, and that it spells the system.
-use Rattle.std.proofs.Common.{◌≡◌, ℕ, ◌+◌, ◌^◌, ◌<◌, ◌≤◌, Bool, true, false, not, ◌&&◌, ◌==◌, List, [], ◌∷◌, ◌++◌, length, map, codes, decimal, refl, sym, ap, ◌∙◌, subst, arith, append_assoc}
+use Rattle.std.proofs.Common.{◌≡◌, ℕ, ◌+◌, ◌^◌, ◌<◌, ◌≤◌, Bool, true, false, not, ◌&&◌, ◌==◌, List, [], ◌∷◌, ◌++◌, length, map, codes, decimal, refl, sym, ap}
+use Rattle.std.proofs.Common.{◌∙◌, subst, arith, append_assoc}
 use Rattle.std.specs.Prelude.{nat_le}
 use Rattle.std.specs.List.{flat_map, list_all, list_any, AllZip, AllByRecursion}
 use Rattle.std.proofs.lemmas.List.{length-map}
@@ -26,7 +27,8 @@ lines_of labels ts = flat_map arrow_line (map (arrow_of labels) ts)
 
 -- the lines by number are all of them
 pub all_lines : (labels : List (List ℕ)) (ts : List Transition) → lines_from (line_at labels ts) 0 (length ts) ≡ lines_of labels ts
-all_lines labels ts = listed arrow_line (arrow_of labels) (line_at labels ts) 0 ts (λ i t h. (let same : 0 + i ≡ i = omega arith in ap (λ n. line_at labels ts n) same ∙ ap (line_of labels) h))
+all_lines labels ts = listed arrow_line (arrow_of labels) (line_at labels ts) 0 ts
+    (λ i t h. (let same : 0 + i ≡ i = omega arith in ap (λ n. line_at labels ts n) same ∙ ap (line_of labels) h))
 
 -- ---- the header
 
@@ -56,7 +58,13 @@ header_is i m n hi hm hn = (
     32 ∷ over (header_tokens i m n) [],
     refl,
     refl,
-    (32 ∷ [], over (decimal i ∷ codes "," ∷ decimal m ∷ codes "," ∷ decimal n ∷ codes ")" ∷ []) [], refl, refl, spaced (decimal i ∷ codes "," ∷ decimal m ∷ codes "," ∷ decimal n ∷ codes ")" ∷ [])),
+    (
+      32 ∷ [],
+      over (decimal i ∷ codes "," ∷ decimal m ∷ codes "," ∷ decimal n ∷ codes ")" ∷ []) [],
+      refl,
+      refl,
+      spaced (decimal i ∷ codes "," ∷ decimal m ∷ codes "," ∷ decimal n ∷ codes ")" ∷ []),
+    ),
   ),
 )
 
@@ -102,16 +110,31 @@ module _ (n : ℕ) (limit : n ≤ MOST_STATES) where
   arrow_plain : (a : Arrow) → IsArrow n a → list_all plain (arrow_body a) ≡ true
   arrow_plain a h =
       let label : list_all plain (34 ∷ a.label ++ 34 ∷ []) ≡ true = list_all-append plain a.label (34 ∷ []) ∙ rw (label_is a.label h.label).0 refl in
-      over_plain (arrow_tokens a) (refl, (number_plain a.source (omega (arith, h.source)), (refl, (label, (refl, (number_plain a.target (omega (arith, h.target)), (refl, tt)))))))
+      over_plain (arrow_tokens a) (
+        refl,
+        (
+          number_plain a.source (omega (arith, h.source)),
+          (refl, (label, (refl, (number_plain a.target (omega (arith, h.target)), (refl, tt))))),
+        ),
+      )
 
   arrow_is : (a : Arrow) → IsArrow n a → IsTransition (arrow_body a) a
-  arrow_is a h = (decimal a.source, decimal a.target, numeral a.source (omega (arith, h.source)), numeral a.target (omega (arith, h.target)), (label_is a.label h.label).1, spaced (arrow_tokens a))
+  arrow_is a h = (
+    decimal a.source,
+    decimal a.target,
+    numeral a.source (omega (arith, h.source)),
+    numeral a.target (omega (arith, h.target)),
+    (label_is a.label h.label).1,
+    spaced (arrow_tokens a),
+  )
 
-  bodies_are : (arrows : List Arrow) → AllByRecursion (IsArrow n) arrows → (lines (flat_map arrow_line arrows) ≡ map arrow_body arrows) × AllZip IsTransition (map arrow_body arrows) arrows
+  bodies_are : (arrows : List Arrow) → AllByRecursion (IsArrow n) arrows → (lines (flat_map arrow_line arrows) ≡ map arrow_body arrows)
+      × AllZip IsTransition (map arrow_body arrows) arrows
   bodies_are [] h = (refl, tt)
   bodies_are (a ∷ arrows) h =
       let rest = bodies_are arrows h.1 in
-      let text : flat_map arrow_line (a ∷ arrows) ≡ arrow_body a ++ 10 ∷ flat_map arrow_line arrows = flat_map-cons arrow_line a arrows ∙ arrow_body_is a (flat_map arrow_line arrows) in
+      let text : flat_map arrow_line (a ∷ arrows) ≡ arrow_body a ++ 10 ∷ flat_map arrow_line arrows = flat_map-cons arrow_line a arrows
+      ∙ arrow_body_is a (flat_map arrow_line arrows) in
       (ap lines text ∙ first_line (arrow_body a) (flat_map arrow_line arrows) (arrow_plain a h.0) ∙ ap (λ l. arrow_body a ∷ l) rest.0, (arrow_is a h.0, rest.1))
 
 -- ---- the whole
@@ -131,7 +154,8 @@ canon_spells l h few =
       cut = ap lines (header_body_is l.initial count l.states rest)
           ∙ first_line body rest (header_plain l.initial count l.states (omega (arith, h.initial, h.limit)) (omega arith) (omega (arith, h.limit)))
           ∙ ap (λ x. body ∷ x) bodies.0;
-      header = subst (λ m. IsHeader body l.initial m l.states) (sym same) (header_is l.initial count l.states (omega (arith, h.initial, h.limit)) (omega arith) (omega (arith, h.limit)));
+      header = subst (λ m. IsHeader body l.initial m l.states) (sym same)
+          (header_is l.initial count l.states (omega (arith, h.initial, h.limit)) (omega arith) (omega (arith, h.limit)));
       each = bodies.1;
       set = h.set;
       count = omega (arith, same);
@@ -146,7 +170,8 @@ pub system_is : (l : Numbered) (ts : List Transition) → map (arrow_of l.labels
 system_is l ts is = λ j. record { states = l.system.states; initial = l.system.initial; arrows = is j }
 
 -- the same by the transitions that are at hand
-pub part_spells : (l : Numbered) (ts : List Transition) → IsSystem (system_with l ts) → length ts ≤ MOST_TRANSITIONS → IsAut (aut_text (system_with l ts)) (system_with l ts)
+pub part_spells : (l : Numbered) (ts : List Transition) → IsSystem (system_with l ts) → length ts ≤ MOST_TRANSITIONS
+    → IsAut (aut_text (system_with l ts)) (system_with l ts)
 part_spells l ts is few = canon_spells (system_with l ts) is (omega (arith, few, length-map ts (arrow_of l.labels)))
 
 -- the text by what the program has at hand

@@ -1,5 +1,6 @@
 -- A text spells a system, or a fault decides.
-use Rattle.std.proofs.Common.{◌≡◌, ℕ, ◌+◌, ◌<◌, ◌≤◌, ◌⊎◌, inl, inr, List, [], ◌∷◌, ◌++◌, length, Option, Some, None, Bool, true, false, append-nil, refl, sym, ap, ◌∙◌, subst, append_assoc, arith}
+use Rattle.std.proofs.Common.{◌≡◌, ℕ, ◌+◌, ◌<◌, ◌≤◌, ◌⊎◌, inl, inr, List, [], ◌∷◌, ◌++◌, length, Option, Some, None, Bool, true, false, append-nil, refl, sym}
+use Rattle.std.proofs.Common.{ap, ◌∙◌, subst, append_assoc, arith}
 use Rattle.std.specs.List.{AllByRecursion, AllZip}
 use Rattle.std.proofs.lemmas.Bool.Decides.{leb_tells}
 use Rattle.std.proofs.lemmas.List.{length-append}
@@ -55,7 +56,8 @@ longer : (front : List (List ℕ)) (line : List ℕ) (m : ℕ) → length front 
 longer front line m h = omega (arith, length-append front (line ∷ []), h)
 
 -- a line where one is due
-at_line : (m n : ℕ) (rest front : List (List ℕ)) (line : List ℕ) (back : List (List ℕ)) → rest ≡ front ++ line ∷ back → AllByRecursion (IsGoodLine n) front → length front < m
+at_line : (m n : ℕ) (rest front : List (List ℕ)) (line : List ℕ) (back : List (List ℕ)) → rest ≡ front ++ line ∷ back → AllByRecursion (IsGoodLine n) front
+    → length front < m
     → (IsGoodLine n line → Body m n rest) → Judged n line → Body m n rest
 at_line m n rest front line back split goods few go (fine good) = go good
 at_line m n rest front line back split goods few go (no_line bad) = inr (BadLine, length front, (front, back, line, split, goods, refl, few, bad))
@@ -71,12 +73,14 @@ body m n rest front [] split goods few = elim (leb_tells m (length front)) [
 body m n rest front (line ∷ back) split goods few = elim (leb_tells m (length front)) [
   | inl w ↦ inr (WrongCount, length front, (front, line ∷ back, split, goods, refl, inr (λ e. absurd cc, omega (arith, few, w.1))))
   | inr w ↦ at_line m n rest front line back split goods w.1
-      (λ good. body m n rest (front ++ line ∷ []) back (split ∙ sym (append_assoc front (line ∷ []) back)) (all_append (IsGoodLine n) front (line ∷ []) goods (good, tt)) (longer front line m w.1))
+      (λ good. body m n rest (front ++ line ∷ []) back (split ∙ sym (append_assoc front (line ∷ []) back))
+      (all_append (IsGoodLine n) front (line ∷ []) goods (good, tt)) (longer front line m w.1))
       (judged n line)
 ]
 
 -- what good lines spell
-spelled_by : (n : ℕ) (rest : List (List ℕ)) → AllByRecursion (IsGoodLine n) rest → (arrows : List Arrow) × AllZip IsTransition rest arrows × AllByRecursion (IsArrow n) arrows
+spelled_by : (n : ℕ) (rest : List (List ℕ)) → AllByRecursion (IsGoodLine n) rest → (arrows : List Arrow) × AllZip IsTransition rest arrows
+    × AllByRecursion (IsArrow n) arrows
 spelled_by n [] goods = ([], tt, tt)
 spelled_by n (line ∷ rest) goods =
     let (a, is, inside) = goods.0 in
@@ -89,7 +93,8 @@ abbrev Decided : List ℕ → Type 0
 Decided text = ((l : System) × IsAut text l) ⊎ ((fault : AutFault) × (line : ℕ) × HasFault text fault line)
 
 -- a header within the limits
-by_body : (text first : List ℕ) (rest : List (List ℕ)) (i m n : ℕ) → lines text ≡ first ∷ rest → IsHeader first i m n → m ≤ MOST_TRANSITIONS → n ≤ MOST_STATES → i < n → Body m n rest → Decided text
+by_body : (text first : List ℕ) (rest : List (List ℕ)) (i m n : ℕ) → lines text ≡ first ∷ rest → IsHeader first i m n → m ≤ MOST_TRANSITIONS
+    → n ≤ MOST_STATES → i < n → Body m n rest → Decided text
 by_body text first rest i m n cut header few limit initial (inl (count, goods)) =
     let (arrows, each, within) = spelled_by n rest goods in
     inl (

@@ -1,5 +1,6 @@
 -- What is wrong with a line, by what was found on it.
-use Rattle.std.proofs.Common.{◌≡◌, ℕ, ◌+◌, ◌^◌, ◌<◌, ◌≤◌, ◌⊎◌, inl, inr, true, false, ◌&&◌, nat_le, List, [], ◌∷◌, length, take, Option, Some, None, refl, sym, ap, ◌∙◌, subst, arith, true≢false}
+use Rattle.std.proofs.Common.{◌≡◌, ℕ, ◌+◌, ◌^◌, ◌<◌, ◌≤◌, ◌⊎◌, inl, inr, true, false, ◌&&◌, nat_le, List, [], ◌∷◌, length, take, Option, Some, None, refl}
+use Rattle.std.proofs.Common.{sym, ap, ◌∙◌, subst, arith, true≢false}
 use Rattle.std.specs.List.{list_all}
 use Rattle.std.proofs.lemmas.Bool.{cases_lt, leb-true, and_parts}
 use Rattle.std.proofs.lemmas.List.{take_all, length-take-le}
@@ -29,12 +30,14 @@ bad_line line none a h = let some = transition_finds line a h in cc
 pub bad_label : (n : ℕ) (line : List ℕ) (a : Arrow) → transition_at line ≡ Some a → is_label a.label ≡ false → LineFault n line BadLabel
 bad_label n line a found bad = let (b, is, s, l, t) = transition_gives line a found in (b, is, subst (λ x. is_label x ≡ false) l bad)
 
-pub no_state : (n : ℕ) (line : List ℕ) (a : Arrow) → transition_at line ≡ Some a → is_label a.label ≡ true → (n ≤ a.source) ⊎ (n ≤ a.target) → LineFault n line NoSuchState
+pub no_state : (n : ℕ) (line : List ℕ) (a : Arrow) → transition_at line ≡ Some a → is_label a.label ≡ true → (n ≤ a.source) ⊎ (n ≤ a.target)
+    → LineFault n line NoSuchState
 no_state n line a found good past =
     let (b, is, s, l, t) = transition_gives line a found in
     (b, is, subst (λ x. is_label x ≡ true) l good, elim past [ inl p ↦ inl (omega arith) | inr p ↦ inr (omega arith) ])
 
-pub good : (n : ℕ) (line : List ℕ) (a : Arrow) → n < 2 ^ 32 → transition_at line ≡ Some a → is_label a.label ≡ true → a.source < n → a.target < n → IsTransition line a × IsArrow n a
+pub good : (n : ℕ) (line : List ℕ) (a : Arrow) → n < 2 ^ 32 → transition_at line ≡ Some a → is_label a.label ≡ true → a.source < n → a.target < n
+    → IsTransition line a × IsArrow n a
 good n line a fits found right source target =
     let (b, is, s, l, t) = transition_gives line a found in
     let same_source : b.source ≡ a.source = omega arith in
@@ -83,42 +86,59 @@ pub record BadRow (n : ℕ) (fault : AutFault) (text : List ℕ) : Type 0 where
   pub cut : lines text ≡ line ∷ rest
   pub wrong : LineFault n line fault
 
-good_row : (n : ℕ) (e : Ends) (kept text left : List ℕ) → n < 2 ^ 32 → lines text ≡ line_of text ∷ lines (below text) → PassesTransition kept (Some e) text left → IsArrow n (as_kept e kept) → GoodRow n (as_kept e kept) text left
+good_row : (n : ℕ) (e : Ends) (kept text left : List ℕ) → n < 2 ^ 32 → lines text ≡ line_of text ∷ lines (below text)
+    → PassesTransition kept (Some e) text left → IsArrow n (as_kept e kept) → GoodRow n (as_kept e kept) text left
 good_row n e kept text left fits has (label, found, below, short) is =
     let same : label ≡ kept = sym (short ∙ kept_is label (ap is_label (sym short) ∙ is.label)) in
     let whole : transition_at (line_of text) ≡ Some (as_kept e kept) = found ∙ λ i. Some (as_kept e (same i)) in
     let row = good n (line_of text) (as_kept e kept) fits whole is.label is.source is.target in
     record { line = line_of text; cut = has ∙ ap (λ t. line_of text ∷ lines t) (sym below); is = row.0; inside = is }
 
-row_fault : (n : ℕ) (e : Ends) (kept text left : List ℕ) (fault : AutFault) → PassesTransition kept (Some e) text left → IsRowFault n (as_kept e kept) fault → LineFault n (line_of text) fault
-row_fault n e kept text left BadLabel (label, found, below, short) wrong = bad_label n (line_of text) (as_kept e label) found (kept_wrong label (ap is_label (sym short) ∙ wrong))
+row_fault : (n : ℕ) (e : Ends) (kept text left : List ℕ) (fault : AutFault) → PassesTransition kept (Some e) text left → IsRowFault n (as_kept e kept) fault
+    → LineFault n (line_of text) fault
+row_fault n e kept text left BadLabel (label, found, below, short) wrong = bad_label n (line_of text) (as_kept e label) found
+    (kept_wrong label (ap is_label (sym short) ∙ wrong))
 row_fault n e kept text left NoSuchState (label, found, below, short) (right, past) =
     let same : label ≡ kept = sym (short ∙ kept_is label (ap is_label (sym short) ∙ right)) in
     no_state n (line_of text) (as_kept e label) found (ap is_label same ∙ right) past
 row_fault n e kept text left _ passes wrong = absurd wrong
 
 -- what was read is a good row
-pub row_read : (n : ℕ) (e : Ends) (kept : List ℕ) (old mid new : Option (List ℕ)) → n < 2 ^ 32 → HasLine old mid true → IfKnown mid new (PassesTransition kept (Some e)) → IsArrow n (as_kept e kept) → IfKnown old new (GoodRow n (as_kept e kept))
+pub row_read : (n : ℕ) (e : Ends) (kept : List ℕ) (old mid new : Option (List ℕ)) → n < 2 ^ 32 → HasLine old mid true
+    → IfKnown mid new (PassesTransition kept (Some e)) → IsArrow n (as_kept e kept) → IfKnown old new (GoodRow n (as_kept e kept))
 row_read n e kept None mid new fits has passes is = tt
 row_read n e kept (Some text) None new fits has passes is = absurd has
 row_read n e kept (Some text) (Some left) None fits has passes is = absurd passes
-row_read n e kept (Some text) (Some left) (Some rest) fits (same, has) passes is = good_row n e kept text rest fits has (subst (λ t. PassesTransition kept (Some e) t rest) same passes) is
+row_read n e kept (Some text) (Some left) (Some rest) fits (same, has) passes is = good_row n e kept text rest fits has
+    (subst (λ t. PassesTransition kept (Some e) t rest) same passes) is
 
 -- it is none
-pub row_wrong : (n : ℕ) (e : Ends) (kept : List ℕ) (fault : AutFault) (old mid new : Option (List ℕ)) → HasLine old mid true → IfKnown mid new (PassesTransition kept (Some e)) → IsRowFault n (as_kept e kept) fault → IfSome old (BadRow n fault)
+pub row_wrong : (n : ℕ) (e : Ends) (kept : List ℕ) (fault : AutFault) (old mid new : Option (List ℕ)) → HasLine old mid true
+    → IfKnown mid new (PassesTransition kept (Some e)) → IsRowFault n (as_kept e kept) fault → IfSome old (BadRow n fault)
 row_wrong n e kept fault None mid new has passes wrong = tt
 row_wrong n e kept fault (Some text) None new has passes wrong = absurd has
 row_wrong n e kept fault (Some text) (Some left) None has passes wrong = absurd passes
 row_wrong n e kept fault (Some text) (Some left) (Some rest) (same, has) passes wrong =
-    record { line = line_of text; rest = lines (below text); cut = has; wrong = row_fault n e kept text rest fault (subst (λ t. PassesTransition kept (Some e) t rest) same passes) wrong }
+    record {
+      line = line_of text;
+      rest = lines (below text);
+      cut = has;
+      wrong = row_fault n e kept text rest fault (subst (λ t. PassesTransition kept (Some e) t rest) same passes) wrong;
+    }
 
 -- it has no such shape
-pub row_none : (n : ℕ) (kept : List ℕ) (old mid new : Option (List ℕ)) → HasLine old mid true → IfKnown mid new (PassesTransition kept None) → IfSome old (BadRow n BadLine)
+pub row_none : (n : ℕ) (kept : List ℕ) (old mid new : Option (List ℕ)) → HasLine old mid true → IfKnown mid new (PassesTransition kept None)
+    → IfSome old (BadRow n BadLine)
 row_none n kept None mid new has passes = tt
 row_none n kept (Some text) None new has passes = absurd has
 row_none n kept (Some text) (Some left) None has passes = absurd passes
 row_none n kept (Some text) (Some left) (Some rest) (same, has) passes =
-    record { line = line_of text; rest = lines (below text); cut = has; wrong = bad_line (line_of text) (ap (λ t. transition_at (line_of t)) (sym same) ∙ passes) }
+    record {
+      line = line_of text;
+      rest = lines (below text);
+      cut = has;
+      wrong = bad_line (line_of text) (ap (λ t. transition_at (line_of t)) (sym same) ∙ passes);
+    }
 
 -- no line is left
 pub no_row : (old new : Option (List ℕ)) → HasLine old new false → IfKnown old new HasNoLine
@@ -162,12 +182,16 @@ first_line [] h e = absurd (no_header h e)
 first_line (b ∷ text) h e = lines_cons b text
 
 -- the header announces what no system has
-pub over_first : (old new : Option (List ℕ)) (h : Announced) (fault : AutFault) → IfKnown old new (PassesLine header_at (Some h)) → IsFirstFault h fault → IfSome old (λ text. HasFault text fault 1)
+pub over_first : (old new : Option (List ℕ)) (h : Announced) (fault : AutFault) → IfKnown old new (PassesLine header_at (Some h)) → IsFirstFault h fault
+    → IfSome old (λ text. HasFault text fault 1)
 over_first None new h fault found wrong = tt
 over_first (Some text) None h fault found wrong = absurd found
 over_first (Some text) (Some left) h OverLimit (found, after) wrong =
     let (i, m, n, header, hi, hm, hn) = header_gives (line_of text) h found in
-    inl ((line_of text, lines (below text), i, m, n, first_line text h found, header, elim wrong [ inl p ↦ inl (omega arith) | inr p ↦ inr (omega arith) ]), refl)
+    inl (
+      (line_of text, lines (below text), i, m, n, first_line text h found, header, elim wrong [ inl p ↦ inl (omega arith) | inr p ↦ inr (omega arith) ]),
+      refl,
+    )
 over_first (Some text) (Some left) h BadStates (found, after) (few, small, past) =
     let (i, m, n, header, hi, hm, hn) = header_gives (line_of text) h found in
     inl ((line_of text, lines (below text), i, m, n, first_line text h found, header, omega arith, omega arith, omega arith), refl)
@@ -185,5 +209,6 @@ right_first (Some text) (Some left) h (found, after) admitted =
     record {
       first = line_of text;
       cut = first_line text h found ∙ ap (λ t. line_of text ∷ lines t) (sym after);
-      header = subst (λ n. IsHeader (line_of text) h.initial h.transitions n) same_n (subst (λ m. IsHeader (line_of text) h.initial m n) same_m (subst (λ i. IsHeader (line_of text) i m n) same_i header));
+      header = subst (λ n. IsHeader (line_of text) h.initial h.transitions n) same_n
+          (subst (λ m. IsHeader (line_of text) h.initial m n) same_m (subst (λ i. IsHeader (line_of text) i m n) same_i header));
     }

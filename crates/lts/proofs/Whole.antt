@@ -20,14 +20,16 @@ use Rattle.systems.specs.Numbered.{Numbered}
 use Rattle.lts.proofs.Faults.{no_fault, one_fault}
 use Rattle.lts.proofs.Unique as unique
 
-whole : (h : Announced) (text left rest : List ℕ) (arrows : List Arrow) (l : System) → IsAdmitted h → BeginsWith h text left → AreTransitions h arrows left rest → AllByRecursion (IsArrow h.states) arrows
+whole : (h : Announced) (text left rest : List ℕ) (arrows : List Arrow) (l : System) → IsAdmitted h → BeginsWith h text left
+    → AreTransitions h arrows left rest → AllByRecursion (IsArrow h.states) arrows
     → l.states ≡ h.states → l.initial ≡ h.initial → l.arrows ≡ set_of arrows → IsAut text l
 whole h text left rest arrows l admitted begins are within states initial set = record {
   first = begins.first;
   rest = lines left;
   spelled = arrows;
   cut = begins.cut;
-  header = subst (λ n. IsHeader begins.first l.initial (length (lines left)) n) (sym states) (subst (λ i. IsHeader begins.first i (length (lines left)) h.states) (sym initial)
+  header = subst (λ n. IsHeader begins.first l.initial (length (lines left)) n) (sym states)
+      (subst (λ i. IsHeader begins.first i (length (lines left)) h.states) (sym initial)
       (subst (λ m. IsHeader begins.first h.initial m h.states) (sym are.count) begins.header));
   each = are.each;
   set = set;
@@ -39,21 +41,38 @@ whole h text left rest arrows l admitted begins are within states initial set = 
 }
 
 -- what was read is spelled
-pub read_whole : (old mid new : Option (List ℕ)) (h : Announced) (arrows : List Arrow) (l : System) → IsAdmitted h → IfKnown old mid (BeginsWith h) → IfKnown mid new (AreTransitions h arrows) → AllByRecursion (IsArrow h.states) arrows
+pub read_whole : (old mid new : Option (List ℕ)) (h : Announced) (arrows : List Arrow) (l : System) → IsAdmitted h → IfKnown old mid (BeginsWith h)
+    → IfKnown mid new (AreTransitions h arrows) → AllByRecursion (IsArrow h.states) arrows
     → l.states ≡ h.states → l.initial ≡ h.initial → l.arrows ≡ set_of arrows → IfSome old (λ text. IsAut text l)
 read_whole None mid new h arrows l admitted begins are within states initial set = tt
 read_whole (Some text) None new h arrows l admitted begins are within states initial set = absurd begins
 read_whole (Some text) (Some left) None h arrows l admitted begins are within states initial set = absurd are
-read_whole (Some text) (Some left) (Some rest) h arrows l admitted begins are within states initial set = whole h text left rest arrows l admitted begins are within states initial set
+read_whole (Some text) (Some left)
+    (Some rest) h arrows l admitted begins are within states initial set = whole h text left rest arrows l admitted begins are within states initial set
 
 -- a fault below the header decides
-pub read_fault : (old mid : Option (List ℕ)) (h : Announced) (e : AutError) → IsAdmitted h → IfKnown old mid (BeginsWith h) → Refuses mid (HasRestFault h) e → Refuses old HasFault e
+pub read_fault : (old mid : Option (List ℕ)) (h : Announced) (e : AutError) → IsAdmitted h → IfKnown old mid (BeginsWith h) → Refuses mid (HasRestFault h) e
+    → Refuses old HasFault e
 read_fault None mid h e admitted begins wrong = tt
 read_fault (Some text) None h e admitted begins wrong = absurd begins
 read_fault (Some text) (Some left) h errors.Read admitted begins wrong = tt
 read_fault (Some text) (Some left) h errors.Memory admitted begins wrong = tt
 read_fault (Some text) (Some left) h (errors.Fault fault line) admitted begins (good, body, place) =
-    inr (begins.first, lines left, h.initial, h.transitions, h.states, good, begins.cut, begins.header, admitted.transitions, admitted.states, admitted.initial, body, place)
+    inr (
+      begins.first,
+      lines left,
+      h.initial,
+      h.transitions,
+      h.states,
+      good,
+      begins.cut,
+      begins.header,
+      admitted.transitions,
+      admitted.states,
+      admitted.initial,
+      body,
+      place,
+    )
 
 -- a line that could not be read is no fault
 pub unread_refuses : (old : Option (List ℕ)) (P : List ℕ → AutFault → ℕ → Type 0) (fault : ReadFault) → Refuses old P (unread fault)
@@ -70,5 +89,6 @@ laws = record {
 }
 
 -- all that the reader promises
-pub promised : (old : Option (List ℕ)) (r : Result Numbered AutError) → IfOk r (λ l. IfSome old (λ text. IsAut text l.system)) → IfErr r (Refuses old HasFault) → Reads IsAut IsAut IsAut HasFaultAt (λ (l : Numbered). l.system) named old r
+pub promised : (old : Option (List ℕ)) (r : Result Numbered AutError) → IfOk r (λ l. IfSome old (λ text. IsAut text l.system))
+    → IfErr r (Refuses old HasFault) → Reads IsAut IsAut IsAut HasFaultAt (λ (l : Numbered). l.system) named old r
 promised old r spelled fault = keeps IsAut IsAut IsAut HasFaultAt (λ (l : Numbered). l.system) named laws old r spelled fault

@@ -44,7 +44,13 @@ module _ (all : List Arrival) (more : Arrival) (earlier : AreEarlier all) where
 
   -- one more step is not on the chains from the numbers so far
   pub on : (k s : ℕ) → k ≤ length all → IsOneOf all k s → IsOneOf (all ++ more ∷ []) k s
-  on k s le (hops, i, e, lt, h) = (hops, i, comes_on hops k i le e, omega (arith, length-append all (more ∷ [])), ap (λ (a : Arrival). a.source) (same_below i lt) ∙ h)
+  on k s le (hops, i, e, lt, h) = (
+    hops,
+    i,
+    comes_on hops k i le e,
+    omega (arith, length-append all (more ∷ [])),
+    ap (λ (a : Arrival). a.source) (same_below i lt) ∙ h,
+  )
 
   pub back : (k s : ℕ) → k ≤ length all → IsOneOf (all ++ more ∷ []) k s → IsOneOf all k s
   back k s le (hops, i, e, lt, h) =

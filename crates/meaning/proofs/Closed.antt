@@ -17,7 +17,8 @@ abbrev SameFor : ℕ → List (List ℕ) → Env → Env → Type 0
 SameFor n names e d = (name : List ℕ) → list_any (bytes_eq name) names ≡ true → Same n (e name) (d name)
 
 -- below a binder for its name, too
-below : (n : ℕ) (names : List (List ℕ)) (e d : Env) (name : List ℕ) (U V : ℕ → Type 0) → SameFor n names e d → Same n U V → SameFor n (name ∷ names) (with_set e name U) (with_set d name V)
+below : (n : ℕ) (names : List (List ℕ)) (e d : Env) (name : List ℕ) (U V : ℕ → Type 0) → SameFor n names e d → Same n U V
+    → SameFor n (name ∷ names) (with_set e name U) (with_set d name V)
 below n names e d name U V each same other among s h = chosen (bytes_eq other name) among
   where
     chosen : (b : Bool) → (b || list_any (bytes_eq other) names) ≡ true → MatchBool b (U s) (e other s) ↔ MatchBool b (V s) (d other s)
@@ -40,10 +41,14 @@ module _ (l : System) (ok : IsSystem l) where
   alike (Implies f g) names e d among each s h =
       let w = and_parts (are_among names f) (are_among names g) among in
       let i = alike f names e d w.0 each s h in let j = alike g names e d w.1 each s h in (λ k x. j.0 (k (i.1 x)), λ k x. j.1 (k (i.0 x)))
-  alike (Dia r f) names e d among each s h =
-      (λ x. (x.0, x.1, (alike f names e d among each x.0 (leads_inside l ok r s x.0 h x.1)).0 x.2), λ x. (x.0, x.1, (alike f names e d among each x.0 (leads_inside l ok r s x.0 h x.1)).1 x.2))
-  alike (Box r f) names e d among each s h =
-      (λ all t go. (alike f names e d among each t (leads_inside l ok r s t h go)).0 (all t go), λ all t go. (alike f names e d among each t (leads_inside l ok r s t h go)).1 (all t go))
+  alike (Dia r f) names e d among each s h = (
+    λ x. (x.0, x.1, (alike f names e d among each x.0 (leads_inside l ok r s x.0 h x.1)).0 x.2),
+    λ x. (x.0, x.1, (alike f names e d among each x.0 (leads_inside l ok r s x.0 h x.1)).1 x.2),
+  )
+  alike (Box r f) names e d among each s h = (
+    λ all t go. (alike f names e d among each t (leads_inside l ok r s t h go)).0 (all t go),
+    λ all t go. (alike f names e d among each t (leads_inside l ok r s t h go)).1 (all t go),
+  )
   alike (Mu name f) names e d among each s h =
       iterate_same l.states l.states (λ set. mean l f (with_set e name set)) (λ set. mean l f (with_set d name set)) (λ t. ⊥)
       (λ U V uv. alike f (name ∷ names) (with_set e name U) (with_set d name V) among (below l.states names e d name U V each uv)) s h
@@ -52,5 +57,6 @@ module _ (l : System) (ok : IsSystem l) where
       (λ U V uv. alike f (name ∷ names) (with_set e name U) (with_set d name V) among (below l.states names e d name U V each uv)) s h
 
   -- the states of a closed formula, in any environment
-  pub marks_anywhere : (f : Formula) (e : Env) (marks : List Bool) → are_among [] f ≡ true → Marks l.states marks (mean l f no_sets) → Marks l.states marks (mean l f e)
+  pub marks_anywhere : (f : Formula) (e : Env) (marks : List Bool) → are_among [] f ≡ true → Marks l.states marks (mean l f no_sets)
+      → Marks l.states marks (mean l f e)
   marks_anywhere f e marks closed made = marks_same l.states marks _ _ made (alike f [] no_sets e closed (λ name none. absurd cc))

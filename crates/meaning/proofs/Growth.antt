@@ -1,5 +1,6 @@
 -- Marks that grow until nothing changes.
-use Rattle.std.proofs.Common.{◌≡◌, ℕ, zero, suc, ◌<◌, ◌≤◌, ◌⊎◌, Bool, true, false, not, ◌||◌, List, [], ◌∷◌, length, map, refl, sym, ap, ◌∙◌, subst, inl, inr, arith}
+use Rattle.std.proofs.Common.{◌≡◌, ℕ, zero, suc, ◌<◌, ◌≤◌, ◌⊎◌, Bool, true, false, not, ◌||◌, List, [], ◌∷◌, length, map, refl, sym, ap, ◌∙◌, subst, inl, inr}
+use Rattle.std.proofs.Common.{arith}
 use Rattle.std.specs.Prelude.{zip}
 use Rattle.std.specs.List.{list_all}
 use Rattle.systems.specs.Path.{IsPath}
@@ -50,11 +51,13 @@ true_of_or : (b c : Bool) → (b || c) ≡ true → (b ≡ true) ⊎ (c ≡ true
 true_of_or true c e = inl refl
 true_of_or false c e = inr e
 
-module _ (l : System) (ok : IsSystem l) (r : Regular) (marks found more : List Bool) (count : length found ≡ l.states) (m : Marks l.states more (Into l r found)) where
+module _ (l : System) (ok : IsSystem l) (r : Regular) (marks found more : List Bool) (count : length found ≡ l.states)
+    (m : Marks l.states more (Into l r found)) where
   one_step : (s : ℕ) → s < l.states → ((s : ℕ) → s < l.states → marked found s → Into l (Star r) marks s) → Into l r found s → Into l (Star r) marks s
   one_step s h sound (x, go, k) = let w = sound x (leads_inside l ok r s x h go) k in (w.0, (x ∷ w.1.0, (go, w.1.1)), w.2)
 
-  pub sound_more : ((s : ℕ) → s < l.states → marked found s → Into l (Star r) marks s) → (s : ℕ) → s < l.states → marked (joined found more) s → Into l (Star r) marks s
+  pub sound_more : ((s : ℕ) → s < l.states → marked found s → Into l (Star r) marks s) → (s : ℕ) → s < l.states → marked (joined found more) s
+      → Into l (Star r) marks s
   sound_more sound s h k =
       elim (true_of_or (at found s) (at more s) (sym (at_zip (λ p. p.0 || p.1) found more s (omega (arith, count)) (omega (arith, count, m.count))) ∙ k)) [
         | inl e ↦ sound s h e
@@ -64,13 +67,15 @@ module _ (l : System) (ok : IsSystem l) (r : Regular) (marks found more : List B
   pub base_more : ((s : ℕ) → s < l.states → marked marks s → marked found s) → (s : ℕ) → s < l.states → marked marks s → marked (joined found more) s
   base_more base s h k = at_zip (λ p. p.0 || p.1) found more s (omega (arith, count)) (omega (arith, count, m.count)) ∙ ap (λ b. b || at more s) (base s h k)
 
-  along : ((s : ℕ) → s < l.states → marked marks s → marked found s) → is_within more found ≡ true → (s : ℕ) (states : List ℕ) (t : ℕ) → s < l.states → IsPath (Leads l r) s states t → marked marks t → marked found s
+  along : ((s : ℕ) → s < l.states → marked marks s → marked found s) → is_within more found ≡ true → (s : ℕ) (states : List ℕ) (t : ℕ) → s < l.states
+      → IsPath (Leads l r) s states t → marked marks t → marked found s
   along base same s [] t h p k = base s h (subst (marked marks) (sym p) k)
   along base same s (x ∷ states) t h p k =
       nothing_new found more (omega (arith, count, m.count)) same s (omega (arith, count))
       ((m.exact s h).1 (x, p.0, along base same x states t (leads_inside l ok r s x h p.0) p.1 k))
 
-  pub reached_all : ((s : ℕ) → s < l.states → marked found s → Into l (Star r) marks s) → ((s : ℕ) → s < l.states → marked marks s → marked found s) → is_within more found ≡ true → Marks l.states found (Into l (Star r) marks)
+  pub reached_all : ((s : ℕ) → s < l.states → marked found s → Into l (Star r) marks s) → ((s : ℕ) → s < l.states → marked marks s → marked found s)
+      → is_within more found ≡ true → Marks l.states found (Into l (Star r) marks)
   reached_all sound base same = record { count = count; exact = λ s h. (sound s h, λ w. along base same s w.1.0 w.0 h w.1.1 w.2) }
 
   -- and the last step is that of at least one

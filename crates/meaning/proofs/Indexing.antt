@@ -1,5 +1,6 @@
 -- One more step in the chains.
-use Rattle.std.proofs.Common.{◌≡◌, ℕ, suc, ◌<◌, ◌≤◌, ◌⊎◌, ◌↔◌, Bool, true, false, ◌&&◌, ◌||◌, List, [], ◌∷◌, ◌++◌, length, length-append, nat_eq, refl, sym, ◌∙◌, ap, ap₂, subst, inl, inr, arith, true≢false}
+use Rattle.std.proofs.Common.{◌≡◌, ℕ, suc, ◌<◌, ◌≤◌, ◌⊎◌, ◌↔◌, Bool, true, false, ◌&&◌, ◌||◌, List, [], ◌∷◌, ◌++◌, length, length-append, nat_eq, refl, sym}
+use Rattle.std.proofs.Common.{◌∙◌, ap, ap₂, subst, inl, inr, arith, true≢false}
 use Rattle.std.specs.Prelude.{IsTrue, slice_set, slice_index_or}
 use Rattle.std.proofs.Math.ListN.{length-set}
 use Rattle.std.proofs.Math.Bool.{or-false}
@@ -11,7 +12,8 @@ use Rattle.meaning.specs.Arrivals.{arrival_at, IsOneOf, HasRoom}
 use Rattle.meaning.proofs.Elements.{last_or_less}
 use Rattle.meaning.proofs.Chains.{first_or_earlier, first, later, on, back, new_one, same_below}
 
-module _ (n : ℕ) (last : List ℕ) (all : List Arrival) (room : HasRoom n last all) (source target : ℕ) (from : source < n) (into : target < n) (a : Arrival) (begins : a.source ≡ source) (before : a.earlier ≡ slice_index_or last target 0) where
+module _ (n : ℕ) (last : List ℕ) (all : List Arrival) (room : HasRoom n last all) (source target : ℕ) (from : source < n) (into : target < n) (a : Arrival)
+    (begins : a.source ≡ source) (before : a.earlier ≡ slice_index_or last target 0) where
   abbrev all' : List Arrival
   all' = all ++ a ∷ []
 
@@ -22,9 +24,14 @@ module _ (n : ℕ) (last : List ℕ) (all : List Arrival) (room : HasRoom n last
   longer = omega (arith, length-append all (a ∷ []))
 
   -- the chain of each state begins where it did, but for the target's
-  begins_at : (t : ℕ) → ((target ≡ t) × (slice_index_or last' t 0 ≡ suc (length all))) ⊎ ((target ≡ t → ⊥) × (slice_index_or last' t 0 ≡ slice_index_or last t 0))
+  begins_at : (t : ℕ) → ((target ≡ t) × (slice_index_or last' t 0 ≡ suc (length all)))
+      ⊎ ((target ≡ t → ⊥) × (slice_index_or last' t 0 ≡ slice_index_or last t 0))
   begins_at t = elim (eqb_tells target t) [
-    | inl w ↦ inl (w.1, subst (λ x. slice_index_or last' x 0 ≡ suc (length all)) w.1 (get_or-set_same last target (suc (length all)) 0 (omega (arith, room.count))))
+    | inl w ↦ inl (
+      w.1,
+      subst (λ x. slice_index_or last' x 0 ≡ suc (length all)) w.1
+          (get_or-set_same last target (suc (length all)) 0 (omega (arith, room.count))),
+    )
     | inr w ↦ inr (w.1, get_or-set_other last target t (suc (length all)) 0 (λ q. w.1 (sym q)))
   ]
 
@@ -37,11 +44,13 @@ module _ (n : ℕ) (last : List ℕ) (all : List Arrival) (room : HasRoom n last
     ];
     earlier = λ i lt. elim (last_or_less i (length all) (omega (arith, longer))) [
       | inl m ↦ subst (λ (b : Arrival). b.earlier ≤ i) (sym (same_below all a room.earlier i m)) (room.earlier i m)
-      | inr e ↦ subst (λ k. (arrival_at all' k).earlier ≤ k) (sym e) (subst (λ (b : Arrival). b.earlier ≤ length all) (sym (new_one all a room.earlier)) (omega (arith, before, room.within target into)))
+      | inr e ↦ subst (λ k. (arrival_at all' k).earlier ≤ k) (sym e)
+          (subst (λ (b : Arrival). b.earlier ≤ length all) (sym (new_one all a room.earlier)) (omega (arith, before, room.within target into)))
     ];
     source = λ i lt. elim (last_or_less i (length all) (omega (arith, longer))) [
       | inl m ↦ subst (λ (b : Arrival). b.source < n) (sym (same_below all a room.earlier i m)) (room.source i m)
-      | inr e ↦ subst (λ k. (arrival_at all' k).source < n) (sym e) (subst (λ (b : Arrival). b.source < n) (sym (new_one all a room.earlier)) (omega (arith, begins)))
+      | inr e ↦ subst (λ k. (arrival_at all' k).source < n) (sym e)
+          (subst (λ (b : Arrival). b.source < n) (sym (new_one all a room.earlier)) (omega (arith, begins)))
     ];
   }
 
@@ -50,10 +59,12 @@ module _ (n : ℕ) (last : List ℕ) (all : List Arrival) (room : HasRoom n last
   at_target s = (
     λ h. elim (first_or_earlier all' (length all) s h) [
       | inl e ↦ inr (sym begins ∙ (sym (ap (λ (b : Arrival). b.source) (new_one all a room.earlier)) ∙ e))
-      | inr more ↦ inl (back all a room.earlier (slice_index_or last target 0) s (room.within target into) (subst (λ k. IsOneOf all' k s) (ap (λ (b : Arrival). b.earlier) (new_one all a room.earlier) ∙ before) more))
+      | inr more ↦ inl (back all a room.earlier (slice_index_or last target 0) s (room.within target into)
+          (subst (λ k. IsOneOf all' k s) (ap (λ (b : Arrival). b.earlier) (new_one all a room.earlier) ∙ before) more))
     ],
     λ h. elim h [
-      | inl more ↦ later all' (length all) s (subst (λ k. IsOneOf all' k s) (sym (ap (λ (b : Arrival). b.earlier) (new_one all a room.earlier) ∙ before)) (on all a room.earlier (slice_index_or last target 0) s (room.within target into) more))
+      | inl more ↦ later all' (length all) s (subst (λ k. IsOneOf all' k s) (sym (ap (λ (b : Arrival). b.earlier) (new_one all a room.earlier) ∙ before))
+          (on all a room.earlier (slice_index_or last target 0) s (room.within target into) more))
       | inr e ↦ first all' (length all) s (omega (arith, longer)) (ap (λ (b : Arrival). b.source) (new_one all a room.earlier) ∙ (begins ∙ e))
     ],
   )
@@ -61,8 +72,10 @@ module _ (n : ℕ) (last : List ℕ) (all : List Arrival) (room : HasRoom n last
   pub steps_more : (t s : ℕ) → t < n → IsOneOf all' (slice_index_or last' t 0) s ↔ (IsOneOf all (slice_index_or last t 0) s ⊎ ((source ≡ s) × (target ≡ t)))
   steps_more t s lt = elim (begins_at t) [
     | inl w ↦ (
-      λ h. elim ((at_target s).0 (subst (λ k. IsOneOf all' k s) w.1 h)) [ inl m ↦ inl (subst (λ x. IsOneOf all (slice_index_or last x 0) s) w.0 m) | inr e ↦ inr (e, w.0) ],
-      λ h. subst (λ k. IsOneOf all' k s) (sym w.1) ((at_target s).1 (elim h [ inl m ↦ inl (subst (λ x. IsOneOf all (slice_index_or last x 0) s) (sym w.0) m) | inr e ↦ inr e.0 ])),
+      λ h. elim ((at_target s).0 (subst (λ k. IsOneOf all' k s) w.1 h))
+          [ inl m ↦ inl (subst (λ x. IsOneOf all (slice_index_or last x 0) s) w.0 m) | inr e ↦ inr (e, w.0) ],
+      λ h. subst (λ k. IsOneOf all' k s) (sym w.1) ((at_target s).1
+          (elim h [ inl m ↦ inl (subst (λ x. IsOneOf all (slice_index_or last x 0) s) (sym w.0) m) | inr e ↦ inr e.0 ])),
     )
     | inr w ↦ (
       λ h. inl (back all a room.earlier (slice_index_or last t 0) s (room.within t lt) (subst (λ k. IsOneOf all' k s) w.1 h)),
@@ -74,7 +87,8 @@ module _ (n : ℕ) (last : List ℕ) (all : List Arrival) (room : HasRoom n last
   ]
 
 -- the test of one more transition
-pub told_chosen : (met holds : Bool) (source s target t : ℕ) (P : Type 0) → P ↔ IsTrue met → holds ≡ true → (P ⊎ ((source ≡ s) × (target ≡ t))) ↔ IsTrue (met || (nat_eq source s && (holds && nat_eq target t)))
+pub told_chosen : (met holds : Bool) (source s target t : ℕ) (P : Type 0) → P ↔ IsTrue met → holds ≡ true → (P ⊎ ((source ≡ s) × (target ≡ t)))
+    ↔ IsTrue (met || (nat_eq source s && (holds && nat_eq target t)))
 told_chosen met false source s target t P h e = absurd (true≢false (sym e))
 told_chosen true true source s target t P h e = (λ w. refl, λ w. inl (h.1 refl))
 told_chosen false true source s target t P h e = (

@@ -1,5 +1,6 @@
 -- Marks of all states, of the others, of both and of either.
-use Rattle.std.proofs.Common.{◌≡◌, ℕ, ◌<◌, ◌⊎◌, ◌↔◌, Bool, true, false, not, ◌&&◌, ◌||◌, List, [], ◌∷◌, length, map, replicate, refl, subst, sym, ap, ◌∙◌, inl, inr, arith}
+use Rattle.std.proofs.Common.{◌≡◌, ℕ, ◌<◌, ◌⊎◌, ◌↔◌, Bool, true, false, not, ◌&&◌, ◌||◌, List, [], ◌∷◌, length, map, replicate, refl, subst, sym, ap, ◌∙◌}
+use Rattle.std.proofs.Common.{inl, inr, arith}
 use Rattle.std.proofs.lemmas.List.{length-map, length-replicate, get_or-map, get_or-replicate}
 use Rattle.std.proofs.lemmas.Slice.Zip.{length-zip, get_or-zip}
 use Rattle.std.specs.Prelude.{zip, slice_index_or, IsTrue}
@@ -12,7 +13,8 @@ abbrev pub at : List Bool → ℕ → Bool
 at ms s = slice_index_or ms s false
 
 pub at_zip : (f : Bool × Bool → Bool) (ms ns : List Bool) (s : ℕ) → s < length ms → length ms ≡ length ns → at (map f (zip ms ns)) s ≡ f (at ms s, at ns s)
-at_zip f ms ns s h e = get_or-map f (zip ms ns) s (false, false) false (omega (arith, length-zip ms ns)) ∙ ap f (get_or-zip ms ns s (false, false) h (omega arith))
+at_zip f ms ns s h e = get_or-map f (zip ms ns) s (false, false) false (omega (arith, length-zip ms ns))
+    ∙ ap f (get_or-zip ms ns s (false, false) h (omega arith))
 
 pub length_zip : (f : Bool × Bool → Bool) (ms ns : List Bool) → length ms ≡ length ns → length (map f (zip ms ns)) ≡ length ms
 length_zip f ms ns e = omega (arith, length-map (zip ms ns) f, length-zip ms ns)
@@ -47,7 +49,8 @@ marks_or n ms ns P Q m k = record {
 pub marks_same : (n : ℕ) (ms : List Bool) (P Q : ℕ → Type 0) → Marks n ms P → ((s : ℕ) → s < n → P s ↔ Q s) → Marks n ms Q
 marks_same n ms P Q m same = record { count = m.count; exact = λ s h. (λ e. (same s h).0 ((m.exact s h).0 e), λ q. (m.exact s h).1 ((same s h).1 q)) }
 
-pub marks_implies : (n : ℕ) (ms ns : List Bool) (P Q : ℕ → Type 0) → Marks n ms P → Marks n ns Q → Marks n (map (λ p. p.0 || p.1) (zip (map not ms) ns)) (λ s. P s → Q s)
+pub marks_implies : (n : ℕ) (ms ns : List Bool) (P Q : ℕ → Type 0) → Marks n ms P → Marks n ns Q
+    → Marks n (map (λ p. p.0 || p.1) (zip (map not ms) ns)) (λ s. P s → Q s)
 marks_implies n ms ns P Q m k =
     marks_same n _ _ _ (marks_or n (map not ms) ns (λ s. P s → ⊥) Q (marks_not n ms P m) k)
     (λ s h. (λ x. elim x [ inl none ↦ λ p. absurd (none p) | inr q ↦ λ _. q ], λ f. decide s h f (at ms s) refl))

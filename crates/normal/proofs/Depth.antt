@@ -29,26 +29,45 @@ rises (Junction flag f g) =
     both : (m n p a b : ℕ) → (m % 2 ≡ p → m ≤ a) → (n % 2 ≡ p → n ≤ b) → max m n % 2 ≡ p → max m n ≤ max a b
     both m n p a b h k e = grind arith
 rises (Modality flag a f) = let h = rises f in record { odd = h.odd; even = h.even }
-rises (Fixpoint true f) = let h = rises f in let o = h.odd in let e = h.even in record { odd = λ w. up (greatest f) (chain f true) (chain f false) o e; even = λ w. omega arith }
+rises (Fixpoint true f) = let h = rises f in let o = h.odd in let e = h.even
+    in record { odd = λ w. up (greatest f) (chain f true) (chain f false) o e; even = λ w. omega arith }
   where
     up : (m a b : ℕ) → (m % 2 ≡ 1 → m ≤ a) → (m % 2 ≡ 0 → m ≤ b) → parity_from true m ≤ max (1 + b) a
-    up m a b o e = elim (eqb_tells (m % 2) 1) [ inl w ↦ omega (arith, o w.1, w.1) | inr w ↦ let even : m % 2 ≡ 0 = omega (arith, w.1) in omega (arith, e even, even) ]
-rises (Fixpoint false f) = let h = rises f in let o = h.odd in let e = h.even in record { odd = λ w. omega arith; even = λ w. up (greatest f) (chain f true) (chain f false) o e }
+    up m a b o e = elim (eqb_tells (m % 2) 1) [
+      | inl w ↦ omega (arith, o w.1, w.1)
+      | inr w ↦ let even : m % 2 ≡ 0 = omega (arith, w.1)
+          in omega (arith, e even, even)
+    ]
+rises (Fixpoint false f) = let h = rises f in let o = h.odd in let e = h.even
+    in record { odd = λ w. omega arith; even = λ w. up (greatest f) (chain f true) (chain f false) o e }
   where
     up : (m a b : ℕ) → (m % 2 ≡ 1 → m ≤ a) → (m % 2 ≡ 0 → m ≤ b) → parity_from false m ≤ max (1 + a) b
-    up m a b o e = elim (eqb_tells (m % 2) 1) [ inl w ↦ omega (arith, o w.1, w.1) | inr w ↦ let even : m % 2 ≡ 0 = omega (arith, w.1) in omega (arith, e even, even) ]
+    up m a b o e = elim (eqb_tells (m % 2) 1) [
+      | inl w ↦ omega (arith, o w.1, w.1)
+      | inr w ↦ let even : m % 2 ≡ 0 = omega (arith, w.1)
+          in omega (arith, e even, even)
+    ]
 rises (Variable binder) = record { odd = λ e. omega arith; even = λ e. omega arith }
 
 greatest_within_depth : (f : Norm) → greatest f ≤ depth f
 greatest_within_depth f =
     let h = rises f in
-    elim (eqb_tells (greatest f % 2) 1) [ inl w ↦ omega (arith, h.odd w.1) | inr w ↦ let even : greatest f % 2 ≡ 0 = omega (arith, w.1) in omega (arith, h.even even) ]
+    elim (eqb_tells (greatest f % 2) 1) [
+      | inl w ↦ omega (arith, h.odd w.1)
+      | inr w ↦ let even : greatest f % 2 ≡ 0 = omega (arith, w.1)
+          in omega (arith, h.even even)
+    ]
 
 -- the greatest priority in the tree is the greatest that a node has
 nodes_greatest : (at : ℕ) (f : Norm) → greatest_priority (nodes_by nested at f) ≡ greatest f
 nodes_greatest at (Constant flag) = omega arith
 nodes_greatest at (Junction flag f g) =
-    omega (arith, greatest_append (nodes_by nested (at + 1) f) (nodes_by nested (at + 1 + size f) g), nodes_greatest (at + 1) f, nodes_greatest (at + 1 + size f) g)
+    omega (
+      arith,
+      greatest_append (nodes_by nested (at + 1) f) (nodes_by nested (at + 1 + size f) g),
+      nodes_greatest (at + 1) f,
+      nodes_greatest (at + 1 + size f) g,
+    )
 nodes_greatest at (Modality flag a f) = omega (arith, nodes_greatest (at + 1) f)
 nodes_greatest at (Fixpoint flag f) = omega (arith, nodes_greatest (at + 1) f, no_less flag (greatest f))
 nodes_greatest at (Variable binder) = omega arith
@@ -68,11 +87,13 @@ above_le_greatest b at (Constant flag) = omega arith
 above_le_greatest b at (Junction flag f g) = omega (arith, above_le_greatest b (at + 1) f, above_le_greatest b (at + 1 + size f) g)
 above_le_greatest b at (Modality flag a f) = above_le_greatest b (at + 1) f
 above_le_greatest b at (Fixpoint flag f) =
-    let own = some_le (names b f) (parity_from flag (above at (at + 1) f)) (parity_from flag (greatest f)) (parity_rises flag (above at (at + 1) f) (greatest f) (above_le_greatest at (at + 1) f)) in
+    let own = some_le (names b f) (parity_from flag (above at (at + 1) f)) (parity_from flag (greatest f))
+    (parity_rises flag (above at (at + 1) f) (greatest f) (above_le_greatest at (at + 1) f)) in
     omega (arith, own, above_le_greatest b (at + 1) f, no_less flag (greatest f))
 above_le_greatest b at (Variable c) = omega arith
 
-zip_append : {A B : Type 0} (R : A → B → Type 0) (xs : List A) (ys : List B) (us : List A) (vs : List B) → AllZip R xs ys → AllZip R us vs → AllZip R (xs ++ us) (ys ++ vs)
+zip_append : {A B : Type 0} (R : A → B → Type 0) (xs : List A) (ys : List B) (us : List A) (vs : List B) → AllZip R xs ys → AllZip R us vs
+    → AllZip R (xs ++ us) (ys ++ vs)
 zip_append R [] [] us vs h k = k
 zip_append R [] (y ∷ ys) us vs h k = absurd h
 zip_append R (x ∷ xs) [] us vs h k = absurd h
@@ -85,7 +106,8 @@ lower : (at : ℕ) (f : Norm) → AllZip IsLower (nodes_by dependent at f) (node
 lower at (Constant flag) = (omega arith, tt)
 lower at (Junction flag f g) = (
   omega arith,
-  zip_append IsLower (nodes_by dependent (at + 1) f) (nodes_by nested (at + 1) f) (nodes_by dependent (at + 1 + size f) g) (nodes_by nested (at + 1 + size f) g) (lower (at + 1) f) (lower (at + 1 + size f) g),
+  zip_append IsLower (nodes_by dependent (at + 1) f) (nodes_by nested (at + 1) f) (nodes_by dependent (at + 1 + size f) g)
+      (nodes_by nested (at + 1 + size f) g) (lower (at + 1) f) (lower (at + 1 + size f) g),
 )
 lower at (Modality flag a f) = (omega arith, lower (at + 1) f)
 lower at (Fixpoint flag f) = (parity_rises flag (above at (at + 1) f) (greatest f) (above_le_greatest at (at + 1) f), lower (at + 1) f)

@@ -5,7 +5,8 @@ use Rattle.std.proofs.lemmas.Bool.{lt-ltb, le-ltb}
 use Rattle.std.proofs.lemmas.Bool.Decides.{eqb_tells}
 use Rattle.std.proofs.lemmas.List.{get_or-set_same, get_or-set_other}
 use Rattle.calculus.specs.Tree.{Action}
-use Rattle.normal.specs.Tree.{Norm, Constant, Junction, Modality, Fixpoint, Variable, ConstantNode, JunctionNode, ModalityNode, FixpointNode, VariableNode, size, chain, two}
+use Rattle.normal.specs.Tree.{Norm, Constant, Junction, Modality, Fixpoint, Variable, ConstantNode, JunctionNode, ModalityNode, FixpointNode, VariableNode}
+use Rattle.normal.specs.Tree.{size, chain, two}
 use Rattle.normal.specs.Nodes.{Node, Rule, nodes_by, greatest, greatest_priority, parity_from}
 use Rattle.normal.specs.Rules.{names, above, rule_of}
 use Rattle.normal.specs.Surveys.{last_seen, open_at, opened, raised, chosen, past, AreBefore, Summarizes, IsFixpointOf, noted, Surveys, closed}
@@ -24,7 +25,8 @@ record Tells (b at : ℕ) (f : Norm) (last : ℕ) : Type 0 where
   none : names b f ≡ false → last_seen b at f last ≡ last
   below : last_seen b at f last < at + size f
 
-either_some : (p q : Bool) (at mid one two : ℕ) → at ≤ mid → (p ≡ true → at ≤ one) → (q ≡ true → mid ≤ two) → (q ≡ false → two ≡ one) → (p || q) ≡ true → at ≤ two
+either_some : (p q : Bool) (at mid one two : ℕ) → at ≤ mid → (p ≡ true → at ≤ one) → (q ≡ true → mid ≤ two) → (q ≡ false → two ≡ one) → (p || q) ≡ true
+    → at ≤ two
 either_some true true at mid one two h l r n e = omega (arith, r refl)
 either_some true false at mid one two h l r n e = omega (arith, l refl, n refl)
 either_some false true at mid one two h l r n e = omega (arith, r refl)
@@ -55,12 +57,16 @@ tells b at (Junction flag f g) last h =
     let r = tells b (at + 1 + size f) g (last_seen b (at + 1) f last) low in
     let left = l.some in
     record {
-      some = either_some (names b f) (names b g) at (at + 1 + size f) (last_seen b (at + 1) f last) (last_seen b (at + 1 + size f) g (last_seen b (at + 1) f last)) (omega arith) (λ e. let i = left e in omega arith) r.some r.none;
-      none = neither_some (names b f) (names b g) last (last_seen b (at + 1) f last) (last_seen b (at + 1 + size f) g (last_seen b (at + 1) f last)) l.none r.none;
+      some = either_some (names b f) (names b g) at (at + 1 + size f) (last_seen b (at + 1) f last)
+          (last_seen b (at + 1 + size f) g (last_seen b (at + 1) f last)) (omega arith) (λ e. let i = left e in omega arith) r.some r.none;
+      none = neither_some (names b f) (names b g) last (last_seen b (at + 1) f last)
+          (last_seen b (at + 1 + size f) g (last_seen b (at + 1) f last)) l.none r.none;
       below = let i = r.below in omega arith;
     }
-tells b at (Modality flag a f) last h = let t = tells b (at + 1) f last (omega arith) in let some = t.some in record { some = λ e. let i = some e in omega arith; none = t.none; below = let i = t.below in omega arith }
-tells b at (Fixpoint flag f) last h = let t = tells b (at + 1) f last (omega arith) in let some = t.some in record { some = λ e. let i = some e in omega arith; none = t.none; below = let i = t.below in omega arith }
+tells b at (Modality flag a f) last h = let t = tells b (at + 1) f last (omega arith) in let some = t.some
+    in record { some = λ e. let i = some e in omega arith; none = t.none; below = let i = t.below in omega arith }
+tells b at (Fixpoint flag f) last h = let t = tells b (at + 1) f last (omega arith) in let some = t.some
+    in record { some = λ e. let i = some e in omega arith; none = t.none; below = let i = t.below in omega arith }
 tells b at (Variable c) last h = record { some = here_some (c == b) at last; none = here_none (c == b) at last; below = here_below (c == b) at last h }
 
 -- ---- bounds
@@ -104,7 +110,8 @@ above_le_size b at (Variable c) = omega arith
 -- ---- priorities that were noted
 
 -- two lists that agree at the tree's numbers give its nodes the same priorities
-noted_agree : (t u : List ℕ) (at : ℕ) (f : Norm) → ((k : ℕ) → at ≤ k → k < at + size f → slice_index t k ≡ slice_index u k) → nodes_by (noted t) at f ≡ nodes_by (noted u) at f
+noted_agree : (t u : List ℕ) (at : ℕ) (f : Norm) → ((k : ℕ) → at ≤ k → k < at + size f → slice_index t k ≡ slice_index u k)
+    → nodes_by (noted t) at f ≡ nodes_by (noted u) at f
 noted_agree t u at (Constant flag) h = let e = h at (omega arith) (omega arith) in λ i. record { shape = ConstantNode flag; priority = e i } ∷ []
 noted_agree t u at (Junction flag f g) h =
     let e = h at (omega arith) (omega arith) in
@@ -149,7 +156,8 @@ modality_zero Nested at flag a f = refl
 modality_zero Dependent at flag a f = refl
 
 -- past a tree no variable was seen from its end on
-pub past_before : (old new : Survey) (place : Place) (f : Norm) (s : Summary) → Surveys old new place f s → AreBefore old.opens place.level place.at → AreBefore new.opens place.level s.next
+pub past_before : (old new : Survey) (place : Place) (f : Norm) (s : Summary) → Surveys old new place f s → AreBefore old.opens place.level place.at
+    → AreBefore new.opens place.level s.next
 past_before old new place f s w before i below =
     let o = open_at old.opens i in
     let t = tells o.number place.at f o.last (before i below) in
@@ -165,8 +173,15 @@ three : (a b c : ℕ) → max (max a b) c ≡ max a (max b c)
 three a b c = omega arith
 
 pub junction_surveys : (old mid one new : Survey) (place : Place) (f g : ℕ → Norm) (first second s : Summary) → IsLeaf old mid place
-    → Surveys mid one (record { at = place.at + 1; level = place.level }) (f (place.at + 1)) first → Surveys one new (record { at = first.next; level = place.level }) (g first.next) second
-    → s ≡ record { next = second.next; nested = max first.nested second.nested; greatest = max first.greatest second.greatest; from_least = max first.from_least second.from_least; from_greatest = max first.from_greatest second.from_greatest }
+    → Surveys mid one (record { at = place.at + 1; level = place.level }) (f (place.at + 1)) first
+    → Surveys one new (record { at = first.next; level = place.level }) (g first.next) second
+    → s ≡ record {
+      next = second.next;
+      nested = max first.nested second.nested;
+      greatest = max first.greatest second.greatest;
+      from_least = max first.from_least second.from_least;
+      from_greatest = max first.from_greatest second.from_greatest;
+    }
     → (flag : Bool) → Surveys old new place (two flag f g place.at) s
 junction_surveys old mid one new place f g first second s h w v' is flag =
     let at = place.at in
@@ -174,7 +189,8 @@ junction_surveys old mid one new place f g first second s h w v' is flag =
     let middle = at + 1 + size left in
     let right = g middle in
     let next : first.next ≡ middle = w.summary.next in
-    let v : Surveys one new (record { at = middle; level = place.level }) right second = subst (λ n. Surveys one new (record { at = n; level = place.level }) (g n) second) next v' in
+    let v : Surveys one new (record { at = middle; level = place.level }) right second = subst
+    (λ n. Surveys one new (record { at = n; level = place.level }) (g n) second) next v' in
     let kept : (k : ℕ) → k < middle → slice_index new.priorities k ≡ slice_index one.priorities k = v.kept in
     let own : slice_index new.priorities at ≡ rule_of old.rule at (two flag f g at) =
     kept at (omega arith) ∙ (w.kept at (omega arith) ∙ (leaf_noted old mid place h ∙ junction_zero old.rule at flag left right))
@@ -183,19 +199,27 @@ junction_surveys old mid one new place f g first second s h w v' is flag =
     let by_left : nodes_by (noted new.priorities) (at + 1) left ≡ nodes_by (rule_of old.rule) (at + 1) left =
     noted_agree new.priorities one.priorities (at + 1) left (λ k low high. kept k high) ∙ (w.priorities ∙ ap (λ r. nodes_by (rule_of r) (at + 1) left) h.rule)
     in
-    let by_right : nodes_by (noted new.priorities) middle right ≡ nodes_by (rule_of old.rule) middle right = v.priorities ∙ ap (λ r. nodes_by (rule_of r) middle right) (w.rule ∙ h.rule) in
-    let first_greatest : first.greatest ≡ greatest_priority (nodes_by (rule_of old.rule) (at + 1) left) = w.summary.greatest ∙ ap (λ r. greatest_priority (nodes_by (rule_of r) (at + 1) left)) h.rule in
-    let second_greatest : second.greatest ≡ greatest_priority (nodes_by (rule_of old.rule) middle right) = v.summary.greatest ∙ ap (λ r. greatest_priority (nodes_by (rule_of r) middle right)) (w.rule ∙ h.rule) in
+    let by_right : nodes_by (noted new.priorities) middle right ≡ nodes_by (rule_of old.rule) middle right = v.priorities
+    ∙ ap (λ r. nodes_by (rule_of r) middle right) (w.rule ∙ h.rule) in
+    let first_greatest : first.greatest ≡ greatest_priority (nodes_by (rule_of old.rule) (at + 1) left) = w.summary.greatest
+    ∙ ap (λ r. greatest_priority (nodes_by (rule_of r) (at + 1) left)) h.rule in
+    let second_greatest : second.greatest ≡ greatest_priority (nodes_by (rule_of old.rule) middle right) = v.summary.greatest
+    ∙ ap (λ r. greatest_priority (nodes_by (rule_of r) middle right)) (w.rule ∙ h.rule) in
     record {
       priorities = λ i. record { shape = JunctionNode flag (at + 1) middle; priority = own i } ∷ (by_left i ++ by_right i);
       kept = λ k below. kept k (omega arith) ∙ (w.kept k (omega arith) ∙ leaf_kept old mid place h k below);
       opens = λ i below. v.opens i below ∙ (ap (past middle right) (w.opens i below ∙ ap (λ os. past (at + 1) left (open_at os i)) h.opens)
-          ∙ (let o = open_at old.opens i in λ j. record { number = o.number; last = last_seen o.number middle right (last_seen o.number (at + 1) left o.last); above = three o.above (above o.number (at + 1) left) (above o.number middle right) j }));
+          ∙ (let o = open_at old.opens i in λ j. record {
+            number = o.number;
+            last = last_seen o.number middle right (last_seen o.number (at + 1) left o.last);
+            above = three o.above (above o.number (at + 1) left) (above o.number middle right) j;
+          }));
       rule = v.rule ∙ (w.rule ∙ h.rule);
       summary = record {
         next = ap (λ (x : Summary). x.next) is ∙ (let e : second.next ≡ middle + size right = v.summary.next in omega arith);
         nested = ap (λ (x : Summary). x.nested) is ∙ (λ j. max (w.summary.nested j) (v.summary.nested j));
-        greatest = ap (λ (x : Summary). x.greatest) is ∙ ((λ j. max (first_greatest j) (second_greatest j)) ∙ (sym (greatest_append (nodes_by (rule_of old.rule) (at + 1) left) (nodes_by (rule_of old.rule) middle right))
+        greatest = ap (λ (x : Summary). x.greatest) is ∙ ((λ j. max (first_greatest j) (second_greatest j))
+            ∙ (sym (greatest_append (nodes_by (rule_of old.rule) (at + 1) left) (nodes_by (rule_of old.rule) middle right))
             ∙ (none_first (greatest_priority (nodes_by (rule_of old.rule) (at + 1) left ++ nodes_by (rule_of old.rule) middle right))
             ∙ (λ j. max (zero j) (greatest_priority (nodes_by (rule_of old.rule) (at + 1) left ++ nodes_by (rule_of old.rule) middle right))))));
         from_least = ap (λ (x : Summary). x.from_least) is ∙ (λ j. max (w.summary.from_least j) (v.summary.from_least j));
@@ -203,13 +227,16 @@ junction_surveys old mid one new place f g first second s h w v' is flag =
       };
     }
 
-pub modality_surveys : (old mid new : Survey) (place : Place) (f : Norm) (s : Summary) → IsLeaf old mid place → Surveys mid new (record { at = place.at + 1; level = place.level }) f s
+pub modality_surveys : (old mid new : Survey) (place : Place) (f : Norm) (s : Summary) → IsLeaf old mid place
+    → Surveys mid new (record { at = place.at + 1; level = place.level }) f s
     → (flag : Bool) (a : Action) → Surveys old new place (Modality flag a f) s
 modality_surveys old mid new place f s h w flag a =
     let at = place.at in
-    let own : slice_index new.priorities at ≡ rule_of old.rule at (Modality flag a f) = w.kept at (omega arith) ∙ (leaf_noted old mid place h ∙ modality_zero old.rule at flag a f) in
+    let own : slice_index new.priorities at ≡ rule_of old.rule at (Modality flag a f) = w.kept at (omega arith)
+    ∙ (leaf_noted old mid place h ∙ modality_zero old.rule at flag a f) in
     let zero = modality_zero old.rule at flag a f in
-    let rest : nodes_by (noted new.priorities) (at + 1) f ≡ nodes_by (rule_of old.rule) (at + 1) f = w.priorities ∙ ap (λ r. nodes_by (rule_of r) (at + 1) f) h.rule in
+    let rest : nodes_by (noted new.priorities) (at + 1) f ≡ nodes_by (rule_of old.rule) (at + 1) f = w.priorities
+    ∙ ap (λ r. nodes_by (rule_of r) (at + 1) f) h.rule in
     record {
       priorities = λ i. record { shape = ModalityNode flag a (at + 1); priority = own i } ∷ rest i;
       kept = λ k below. w.kept k (omega arith) ∙ leaf_kept old mid place h k below;
@@ -218,7 +245,9 @@ modality_surveys old mid new place f s h w flag a =
       summary = record {
         next = let e : s.next ≡ at + 1 + size f = w.summary.next in omega arith;
         nested = w.summary.nested;
-        greatest = w.summary.greatest ∙ (ap (λ r. greatest_priority (nodes_by (rule_of r) (at + 1) f)) h.rule ∙ (none_first (greatest_priority (nodes_by (rule_of old.rule) (at + 1) f)) ∙ (λ j. max (zero j) (greatest_priority (nodes_by (rule_of old.rule) (at + 1) f)))));
+        greatest = w.summary.greatest ∙ (ap (λ r. greatest_priority (nodes_by (rule_of r) (at + 1) f)) h.rule
+            ∙ (none_first (greatest_priority (nodes_by (rule_of old.rule) (at + 1) f))
+            ∙ (λ j. max (zero j) (greatest_priority (nodes_by (rule_of old.rule) (at + 1) f)))));
         from_least = w.summary.from_least;
         from_greatest = w.summary.from_greatest;
       };
@@ -226,12 +255,14 @@ modality_surveys old mid new place f s h w flag a =
 
 -- ---- fixpoints
 
-by_rule : (r : Priorities) (at : ℕ) (flag : Bool) (f : Norm) (inside over : ℕ) → inside ≡ greatest f → over ≡ above at (at + 1) f → chosen r flag inside over ≡ rule_of r at (Fixpoint flag f)
+by_rule : (r : Priorities) (at : ℕ) (flag : Bool) (f : Norm) (inside over : ℕ) → inside ≡ greatest f → over ≡ above at (at + 1) f
+    → chosen r flag inside over ≡ rule_of r at (Fixpoint flag f)
 by_rule Nested at flag f inside over e h = ap (parity_from flag) e
 by_rule Dependent at flag f inside over e h = ap (parity_from flag) h
 
 -- what is raised is what the tree has on its own
-over_all : (named later : Bool) (old inner priority : ℕ) → later ≡ named → (if later then max (max old inner) priority else max old inner) ≡ max old (max (if named then priority else 0) inner)
+over_all : (named later : Bool) (old inner priority : ℕ) → later ≡ named
+    → (if later then max (max old inner) priority else max old inner) ≡ max old (max (if named then priority else 0) inner)
 over_all true true old inner priority e = omega arith
 over_all true false old inner priority e = cc
 over_all false true old inner priority e = cc
@@ -244,9 +275,11 @@ later_named b at f last h = let t = tells b (at + 1) f last (omega arith) in by_
     by_cases true n some none = lt-ltb at n (omega (arith, some refl))
     by_cases false n some none = le-ltb at n (omega (arith, none refl))
 
-raised_past : (at : ℕ) (flag : Bool) (f : Norm) (o : Open) → o.last < at → raised at (parity_from flag (above at (at + 1) f)) (past (at + 1) f o) ≡ past at (Fixpoint flag f) o
+raised_past : (at : ℕ) (flag : Bool) (f : Norm) (o : Open) → o.last < at
+    → raised at (parity_from flag (above at (at + 1) f)) (past (at + 1) f o) ≡ past at (Fixpoint flag f) o
 raised_past at flag f o h =
-    let e = over_all (names o.number f) (nat_lt at (last_seen o.number (at + 1) f o.last)) o.above (above o.number (at + 1) f) (parity_from flag (above at (at + 1) f)) (later_named o.number at f o.last h) in
+    let e = over_all (names o.number f) (nat_lt at (last_seen o.number (at + 1) f o.last)) o.above (above o.number (at + 1) f)
+    (parity_from flag (above at (at + 1) f)) (later_named o.number at f o.last h) in
     λ i. record { number = o.number; last = last_seen o.number (at + 1) f o.last; above = e i }
 
 -- what the binder whose operand begins leaves
@@ -262,9 +295,11 @@ opened_own old new place h = ap (λ os. open_at os place.level) h.opens ∙ get_
 opened_others : (old new : Survey) (place : Place) → IsOpened old new place → (i : ℕ) → i < place.level → open_at new.opens i ≡ open_at old.opens i
 opened_others old new place h i below = ap (λ os. open_at os i) h.opens ∙ get_or-set_other old.opens place.level i (opened place.at) closed (λ e. omega arith)
 
-pub opened_before : (old new : Survey) (place : Place) → IsOpened old new place → AreBefore old.opens place.level place.at → AreBefore new.opens (place.level + 1) (place.at + 1)
+pub opened_before : (old new : Survey) (place : Place) → IsOpened old new place → AreBefore old.opens place.level place.at
+    → AreBefore new.opens (place.level + 1) (place.at + 1)
 opened_before old new place h before i below = elim (eqb_tells i place.level) [
-  | inl w ↦ let own : (open_at new.opens i).last ≡ place.at = ap (λ k. (open_at new.opens k).last) w.1 ∙ ap (λ (o : Open). o.last) (opened_own old new place h) in omega arith
+  | inl w ↦ let own : (open_at new.opens i).last ≡ place.at = ap (λ k. (open_at new.opens k).last) w.1
+      ∙ ap (λ (o : Open). o.last) (opened_own old new place h) in omega arith
   | inr w ↦
       let under : i < place.level = omega (arith, w.1) in
       let same : (open_at new.opens i).last ≡ (open_at old.opens i).last = ap (λ (o : Open). o.last) (opened_others old new place h i under) in
@@ -273,16 +308,19 @@ opened_before old new place h before i below = elim (eqb_tells i place.level) [
 ]
 
 -- how much its operand has above the binder
-pub opened_above : (old mid end : Survey) (place : Place) (f : Norm) (inside : Summary) → IsOpened old mid place → Surveys mid end (record { at = place.at + 1; level = place.level + 1 }) f inside
+pub opened_above : (old mid end : Survey) (place : Place) (f : Norm) (inside : Summary) → IsOpened old mid place
+    → Surveys mid end (record { at = place.at + 1; level = place.level + 1 }) f inside
     → (open_at end.opens place.level).above ≡ above place.at (place.at + 1) f
 opened_above old mid end place f inside h w =
-    let own : open_at end.opens place.level ≡ past (place.at + 1) f (opened place.at) = w.opens place.level (omega arith) ∙ ap (past (place.at + 1) f) (opened_own old mid place h) in
+    let own : open_at end.opens place.level ≡ past (place.at + 1) f (opened place.at) = w.opens place.level (omega arith)
+    ∙ ap (past (place.at + 1) f) (opened_own old mid place h) in
     ap (λ (o : Open). o.above) own ∙ none (above place.at (place.at + 1) f)
   where
     none : (n : ℕ) → max 0 n ≡ n
     none n = omega arith
 
-fixpoint_summary : (flag : Bool) (at : ℕ) (rule : Rule) (f : Norm) (inside s : Summary) (priority : ℕ) → Summarizes rule (at + 1) f inside → priority ≡ rule at (Fixpoint flag f) → IsFixpointOf flag inside priority s → Summarizes rule at (Fixpoint flag f) s
+fixpoint_summary : (flag : Bool) (at : ℕ) (rule : Rule) (f : Norm) (inside s : Summary) (priority : ℕ) → Summarizes rule (at + 1) f inside
+    → priority ≡ rule at (Fixpoint flag f) → IsFixpointOf flag inside priority s → Summarizes rule at (Fixpoint flag f) s
 fixpoint_summary true at rule f inside s priority h p is =
     record {
       next = let e : s.next ≡ inside.next = is.next in let n : inside.next ≡ at + 1 + size f = h.next in omega arith;
@@ -308,24 +346,29 @@ pub record IsClosed (old new : Survey) (place : Place) (flag : Bool) (inside s :
   pub rule : new.rule ≡ old.rule
   pub summary : IsFixpointOf flag inside (chosen old.rule flag inside.nested (open_at old.opens place.level).above) s
 
-pub fixpoint_surveys : (old mid end new : Survey) (place : Place) (flag : Bool) (f : Norm) (inside s : Summary) → IsOpened old mid place → Surveys mid end (record { at = place.at + 1; level = place.level + 1 }) f inside
+pub fixpoint_surveys : (old mid end new : Survey) (place : Place) (flag : Bool) (f : Norm) (inside s : Summary) → IsOpened old mid place
+    → Surveys mid end (record { at = place.at + 1; level = place.level + 1 }) f inside
     → IsClosed end new place flag inside s → AreBefore old.opens place.level place.at → Surveys old new place (Fixpoint flag f) s
 fixpoint_surveys old mid end new place flag f inside s h w k before =
     let at = place.at in
     let over : (open_at end.opens place.level).above ≡ above at (at + 1) f = opened_above old mid end place f inside h w in
     let rule : end.rule ≡ old.rule = w.rule ∙ h.rule in
     let priority = chosen end.rule flag inside.nested (open_at end.opens place.level).above in
-    let is : priority ≡ rule_of old.rule at (Fixpoint flag f) = by_rule end.rule at flag f inside.nested (open_at end.opens place.level).above w.summary.nested over ∙ ap (λ r. rule_of r at (Fixpoint flag f)) rule in
+    let is : priority ≡ rule_of old.rule at (Fixpoint flag f) = by_rule end.rule at flag f inside.nested
+    (open_at end.opens place.level).above w.summary.nested over ∙ ap (λ r. rule_of r at (Fixpoint flag f)) rule in
     let own : slice_index new.priorities at ≡ rule_of old.rule at (Fixpoint flag f) = k.own ∙ is in
     let rest : nodes_by (noted new.priorities) (at + 1) f ≡ nodes_by (rule_of old.rule) (at + 1) f =
-    noted_agree new.priorities end.priorities (at + 1) f (λ n low high. k.others n (λ e. omega arith)) ∙ (w.priorities ∙ ap (λ r. nodes_by (rule_of r) (at + 1) f) h.rule)
+    noted_agree new.priorities end.priorities (at + 1) f (λ n low high. k.others n (λ e. omega arith))
+    ∙ (w.priorities ∙ ap (λ r. nodes_by (rule_of r) (at + 1) f) h.rule)
     in
     record {
       priorities = λ i. record { shape = FixpointNode flag (at + 1); priority = own i } ∷ rest i;
       kept = λ n below. k.others n (λ e. omega arith) ∙ (w.kept n (omega arith) ∙ ap (λ t. slice_index t n) h.priorities);
       opens = λ i below.
-          let here : open_at end.opens i ≡ past (at + 1) f (open_at old.opens i) = w.opens i (omega arith) ∙ ap (past (at + 1) f) (opened_others old mid place h i below) in
+          let here : open_at end.opens i ≡ past (at + 1) f (open_at old.opens i) = w.opens i (omega arith)
+          ∙ ap (past (at + 1) f) (opened_others old mid place h i below) in
           k.opens i below ∙ ((λ j. raised at (parity_from flag (over j)) (here j)) ∙ raised_past at flag f (open_at old.opens i) (before i below));
       rule = k.rule ∙ rule;
-      summary = fixpoint_summary flag at (rule_of old.rule) f inside s priority (subst (λ r. Summarizes (rule_of r) (at + 1) f inside) h.rule w.summary) is k.summary;
+      summary = fixpoint_summary flag at (rule_of old.rule) f inside s priority
+          (subst (λ r. Summarizes (rule_of r) (at + 1) f inside) h.rule w.summary) is k.summary;
     }

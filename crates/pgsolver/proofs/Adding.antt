@@ -1,5 +1,6 @@
 -- The numbers behind commas, as they are added one after another.
-use Rattle.std.proofs.Common.{◌≡◌, ℕ, zero, suc, ◌+◌, ◌<◌, ◌≤◌, List, [], ◌∷◌, ◌++◌, length, take, drop, Option, Some, None, refl, sym, ap, ◌∙◌, append_assoc, append-nil, arith}
+use Rattle.std.proofs.Common.{◌≡◌, ℕ, zero, suc, ◌+◌, ◌<◌, ◌≤◌, List, [], ◌∷◌, ◌++◌, length, take, drop, Option, Some, None, refl, sym, ap, ◌∙◌, append_assoc}
+use Rattle.std.proofs.Common.{append-nil, arith}
 use Rattle.std.specs.Prelude.{codes}
 use Rattle.std.specs.List.{prefix_len}
 use Rattle.std.proofs.lemmas.List.{length-append, length-drop}
@@ -40,9 +41,16 @@ before_nothing None = refl
 before_nothing (Some m) = refl
 
 pub added_none : (line old : List ℕ) → HasAdded line old old line
-added_none line old = record { most = length line + 1; room = omega arith; numbers = []; added = sym (append-nil old); is = before_nothing (more_at (length line + 1) line) }
+added_none line old = record {
+  most = length line + 1;
+  room = omega arith;
+  numbers = [];
+  added = sym (append-nil old);
+  is = before_nothing (more_at (length line + 1) line);
+}
 
-before_more : (numbers : List ℕ) (v : ℕ) (found : Option (List ℕ × List ℕ)) → before numbers (found >>= λ m. Some (v ∷ m.0, m.1)) ≡ before (numbers ++ v ∷ []) found
+before_more : (numbers : List ℕ) (v : ℕ) (found : Option (List ℕ × List ℕ))
+    → before numbers (found >>= λ m. Some (v ∷ m.0, m.1)) ≡ before (numbers ++ v ∷ []) found
 before_more numbers v None = refl
 before_more numbers v (Some m) = ap (λ l. Some (l, m.1)) (sym (append_assoc numbers (v ∷ []) m.0))
 
@@ -51,13 +59,15 @@ one_less n zero h = absurd (omega arith)
 one_less n (suc m) h = (m, refl)
 
 -- one more number
-pub added_more : (line old now new rest after left : List ℕ) (v : ℕ) → HasAdded line old now rest → sign_at (codes ",") rest ≡ Some after → number_at after ≡ Some (v, left) → new ≡ now ++ v ∷ [] → HasAdded line old new left
+pub added_more : (line old now new rest after left : List ℕ) (v : ℕ) → HasAdded line old now rest → sign_at (codes ",") rest ≡ Some after
+    → number_at after ≡ Some (v, left) → new ≡ now ++ v ∷ [] → HasAdded line old new left
 unfolding more_at
 added_more line old now new rest after left v so sign number pushed =
     let (m, k) = one_less (length rest) so.most so.room in
     let shorter = sign_shorter 44 [] rest after sign in
     let less = number_shorter after v left number in
-    let opened : more_at (suc m) rest ≡ (more_at m left >>= λ more. Some (v ∷ more.0, more.1)) = ap (more_behind (more_at m) rest) sign ∙ ap (λ o. o >>= λ n. more_at m n.1 >>= λ more. Some (n.0 ∷ more.0, more.1)) number in
+    let opened : more_at (suc m) rest ≡ (more_at m left >>= λ more. Some (v ∷ more.0, more.1)) = ap (more_behind (more_at m) rest) sign
+    ∙ ap (λ o. o >>= λ n. more_at m n.1 >>= λ more. Some (n.0 ∷ more.0, more.1)) number in
     record {
       most = m;
       room = omega (arith, so.room, k, shorter, less);
@@ -67,18 +77,25 @@ added_more line old now new rest after left v so sign number pushed =
     }
 
 -- no number stands behind a comma
-pub added_wrong : (line old now rest after : List ℕ) → HasAdded line old now rest → sign_at (codes ",") rest ≡ Some after → number_at after ≡ None → more_at (length line + 1) line ≡ None
+pub added_wrong : (line old now rest after : List ℕ) → HasAdded line old now rest → sign_at (codes ",") rest ≡ Some after → number_at after ≡ None
+    → more_at (length line + 1) line ≡ None
 unfolding more_at
 added_wrong line old now rest after so sign none =
     let (m, k) = one_less (length rest) so.most so.room in
-    so.is ∙ ap (λ m. before so.numbers (more_at m rest)) k ∙ ap (before so.numbers) (ap (more_behind (more_at m) rest) sign ∙ ap (λ o. o >>= λ n. more_at m n.1 >>= λ more. Some (n.0 ∷ more.0, more.1)) none)
+    so.is ∙ ap (λ m. before so.numbers (more_at m rest)) k ∙ ap (before so.numbers)
+    (ap (more_behind (more_at m) rest) sign ∙ ap (λ o. o >>= λ n. more_at m n.1 >>= λ more. Some (n.0 ∷ more.0, more.1)) none)
 
 -- no comma follows
-pub added_all : (line old now rest : List ℕ) → HasAdded line old now rest → sign_at (codes ",") rest ≡ None → FindsMore old now (Some rest) (more_at (length line + 1) line)
+pub added_all : (line old now rest : List ℕ) → HasAdded line old now rest → sign_at (codes ",") rest ≡ None
+    → FindsMore old now (Some rest) (more_at (length line + 1) line)
 unfolding more_at
 added_all line old now rest so none =
-    let (m, k) = one_less (length rest) so.most so.room in
-    (so.numbers, so.added, so.is ∙ ap (λ m. before so.numbers (more_at m rest)) k ∙ ap (before so.numbers) (ap (more_behind (more_at m) rest) none) ∙ ap (λ l. Some (l, rest)) (append-nil so.numbers))
+    let (m, k) = one_less (length rest) so.most so.room in (
+      so.numbers,
+      so.added,
+      so.is ∙ ap (λ m. before so.numbers (more_at m rest)) k ∙ ap (before so.numbers) (ap (more_behind (more_at m) rest) none)
+          ∙ ap (λ l. Some (l, rest)) (append-nil so.numbers),
+    )
 
 -- ---- the first one
 
@@ -88,9 +105,14 @@ unfolding targets_at
 none_found line old none = ([], sym (append-nil old), ap (targets_behind line) none)
 
 -- the first successor was added, and then those behind commas
-pub first_found : (line : List ℕ) (v : ℕ) (rest old mid now : List ℕ) (found : Option (List ℕ)) → first_at line ≡ Some (v, rest) → mid ≡ old ++ v ∷ [] → FindsMore mid now found (more_at (length rest + 1) rest)
+pub first_found : (line : List ℕ) (v : ℕ) (rest old mid now : List ℕ) (found : Option (List ℕ)) → first_at line ≡ Some (v, rest) → mid ≡ old ++ v ∷ []
+    → FindsMore mid now found (more_at (length rest + 1) rest)
     → FindsMore old now found (targets_at line)
 unfolding targets_at
 first_found line v rest old mid now None first pushed none = ap (targets_behind line) first ∙ ap (λ o. o >>= λ more. Some (v ∷ more.0, more.1)) none
-first_found line v rest old mid now (Some left) first pushed (numbers, added, is) =
-    (v ∷ numbers, added ∙ ap (λ l. l ++ numbers) pushed ∙ append_assoc old (v ∷ []) numbers, ap (targets_behind line) first ∙ ap (λ o. o >>= λ more. Some (v ∷ more.0, more.1)) is)
+first_found line v rest old mid now (Some left) first pushed (numbers, added, is) = (
+  v ∷ numbers,
+  added ∙ ap (λ l. l ++ numbers) pushed ∙ append_assoc old (v ∷ []) numbers,
+  ap (targets_behind line) first
+      ∙ ap (λ o. o >>= λ more. Some (v ∷ more.0, more.1)) is,
+)

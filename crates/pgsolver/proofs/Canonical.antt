@@ -1,5 +1,6 @@
 -- The canonical text of a game spells the game without its names.
-use Rattle.std.proofs.Common.{◌≡◌, ◌≢◌, ℕ, zero, suc, ◌+◌, ◌/◌, ◌%◌, ◌-◌, ◌^◌, ◌<◌, ◌≤◌, true, List, [], ◌∷◌, ◌++◌, length, map, get_or, codes, decimal, Option, Some, None, refl, sym, ap, ◌∙◌, subst, arith, append_assoc, append-nil}
+use Rattle.std.proofs.Common.{◌≡◌, ◌≢◌, ℕ, zero, suc, ◌+◌, ◌/◌, ◌%◌, ◌-◌, ◌^◌, ◌<◌, ◌≤◌, true, List, [], ◌∷◌, ◌++◌, length, map, get_or, codes, decimal}
+use Rattle.std.proofs.Common.{Option, Some, None, refl, sym, ap, ◌∙◌, subst, arith, append_assoc, append-nil}
 use Rattle.std.specs.Prelude.{nat_le, AllPairs, slice_get}
 use Rattle.std.specs.List.{list_all, AllZip, AllByRecursion}
 use Rattle.std.proofs.lemmas.Bool.{and_parts, and_from, leb-true, le-leb, ne_eqb}
@@ -59,8 +60,10 @@ pair_name a b ha hb =
     let short_a = length-decimal-le 20 a (omega arith) (omega arith) ha in
     let short_b = length-decimal-le 20 b (omega arith) (omega arith) hb in
     let short : length (decimal a ++ (codes "," ++ decimal b)) ≤ 4096 = omega (arith, length-append (decimal a) (codes "," ++ decimal b)) in
-    let bytes : list_all is_label_byte (decimal a ++ (codes "," ++ decimal b)) ≡ true = list_all-append is_label_byte (decimal a) (codes "," ++ decimal b) ∙ rw (number_label a ha, number_label b hb) refl in
-    and_from (nat_le (length (decimal a ++ (codes "," ++ decimal b))) 4096) (list_all is_label_byte (decimal a ++ (codes "," ++ decimal b))) (le-leb _ _ short) bytes
+    let bytes : list_all is_label_byte (decimal a ++ (codes "," ++ decimal b)) ≡ true = list_all-append is_label_byte (decimal a) (codes "," ++ decimal b)
+    ∙ rw (number_label a ha, number_label b hb) refl in
+    and_from (nat_le (length (decimal a ++ (codes "," ++ decimal b))) 4096) (list_all is_label_byte (decimal a ++ (codes "," ++ decimal b)))
+    (le-leb _ _ short) bytes
 
 name_ok : (nodes v : ℕ) → v < 2 ^ 32 → is_name (vertex_name nodes v) ≡ true
 name_ok nodes zero h = refl
@@ -116,7 +119,8 @@ numerals_are : (n : ℕ) (ts : List ℕ) → n ≤ MOST_VERTICES → AllByRecurs
 numerals_are n [] small h = tt
 numerals_are n (t ∷ ts) small h = (numeral t (omega (arith, h.0)), numerals_are n ts small h.1)
 
-commas_plain : (n : ℕ) (ts : List ℕ) → n ≤ MOST_VERTICES → AllByRecursion (λ t. t < n) ts → AllByRecursion (λ token. list_all plain token ≡ true) (with_commas (map decimal ts))
+commas_plain : (n : ℕ) (ts : List ℕ) → n ≤ MOST_VERTICES → AllByRecursion (λ t. t < n) ts
+    → AllByRecursion (λ token. list_all plain token ≡ true) (with_commas (map decimal ts))
 commas_plain n [] small h = tt
 commas_plain n (t ∷ ts) small h = (refl, (number_plain t (omega (arith, h.0)), commas_plain n ts small h.1))
 
@@ -128,13 +132,16 @@ abbrev line_of_vertex : ℕ → Vertex → Line
 line_of_vertex v x = record { id = v; priority = x.priority; owner = x.owner; successors = x.successors }
 
 module _ (n : ℕ) (small : n ≤ MOST_VERTICES) (named : Option (ℕ × ℕ)) (v : ℕ) (inside : v < n) (o : Player) (p : ℕ) (low : p ≤ 32) where
-  line_is : (ss : List ℕ) → 1 ≤ length ss → AllByRecursion (λ t. t < n) ss → IsLine (line_body named v (record { owner = o; priority = p; successors = ss })) (record { id = v; priority = p; owner = o; successors = ss })
+  line_is : (ss : List ℕ) → 1 ≤ length ss → AllByRecursion (λ t. t < n) ss
+      → IsLine (line_body named v (record { owner = o; priority = p; successors = ss })) (record { id = v; priority = p; owner = o; successors = ss })
   line_is [] some h = absurd (omega (arith, some))
   line_is (t ∷ ts) some h =
       let tail = name_tokens (name_of named v) ++ codes ";" ∷ [] in
       let rest = tail_text named v in
       let text : over (front_tokens v p o) (over (number_tokens t ts) rest) ≡ line_body named v (record { owner = o; priority = p; successors = t ∷ ts }) =
-      over_rest (front_tokens v p o) (over (number_tokens t ts) rest) ∙ ap (λ l. front_text v (record { owner = o; priority = p; successors = t ∷ ts }) ++ l) (over_rest (number_tokens t ts) rest ∙ ap (λ l. l ++ rest) (sym (numbers_over t ts))) in
+      over_rest (front_tokens v p o) (over (number_tokens t ts) rest)
+      ∙ ap (λ l. front_text v (record { owner = o; priority = p; successors = t ∷ ts }) ++ l)
+      (over_rest (number_tokens t ts) rest ∙ ap (λ l. l ++ rest) (sym (numbers_over t ts))) in
       record {
         i = decimal v;
         p = decimal p;
@@ -148,16 +155,22 @@ module _ (n : ℕ) (small : n ≤ MOST_VERTICES) (named : Option (ℕ × ℕ)) (
         successors = numerals_are n (t ∷ ts) small h;
         gaps = ((32, refl, refl), (32, refl, refl), (32, refl, refl));
         named = name_is named v (omega arith);
-        spaced = subst (IsSpaced (front_tokens v p o ++ (number_tokens t ts ++ tail))) text (spaced_over (front_tokens v p o) (number_tokens t ts ++ tail) (over (number_tokens t ts) rest) (spaced_over (number_tokens t ts) tail rest (tail_spaced named v)));
+        spaced = subst (IsSpaced (front_tokens v p o ++ (number_tokens t ts ++ tail))) text
+            (spaced_over (front_tokens v p o) (number_tokens t ts ++ tail) (over (number_tokens t ts) rest)
+            (spaced_over (number_tokens t ts) tail rest (tail_spaced named v)));
       }
 
-  line_plain : (ss : List ℕ) → 1 ≤ length ss → AllByRecursion (λ t. t < n) ss → list_all plain (line_body named v (record { owner = o; priority = p; successors = ss })) ≡ true
+  line_plain : (ss : List ℕ) → 1 ≤ length ss → AllByRecursion (λ t. t < n) ss
+      → list_all plain (line_body named v (record { owner = o; priority = p; successors = ss })) ≡ true
   line_plain [] some h = absurd (omega (arith, some))
   line_plain (t ∷ ts) some h =
       let x : Vertex = record { owner = o; priority = p; successors = t ∷ ts } in
-      let front : list_all plain (front_text v x) ≡ true = over_plain (front_tokens v p o) (number_plain v (omega arith), (refl, (number_plain p (omega arith), (refl, (digit_plain o, (refl, tt)))))) in
-      let numbers : list_all plain (successors_text (t ∷ ts)) ≡ true = ap (list_all plain) (numbers_over t ts) ∙ over_plain (number_tokens t ts) (number_plain t (omega (arith, h.0)), commas_plain n ts small h.1) in
-      list_all-append plain (front_text v x) (successors_text (t ∷ ts) ++ tail_text named v) ∙ rw (front, list_all-append plain (successors_text (t ∷ ts)) (tail_text named v), numbers, tail_plain named v (omega arith)) refl
+      let front : list_all plain (front_text v x) ≡ true = over_plain (front_tokens v p o)
+      (number_plain v (omega arith), (refl, (number_plain p (omega arith), (refl, (digit_plain o, (refl, tt)))))) in
+      let numbers : list_all plain (successors_text (t ∷ ts)) ≡ true = ap (list_all plain) (numbers_over t ts)
+      ∙ over_plain (number_tokens t ts) (number_plain t (omega (arith, h.0)), commas_plain n ts small h.1) in
+      list_all-append plain (front_text v x) (successors_text (t ∷ ts) ++ tail_text named v)
+      ∙ rw (front, list_all-append plain (successors_text (t ∷ ts)) (tail_text named v), numbers, tail_plain named v (omega arith)) refl
 
 -- ---- all lines
 
@@ -169,26 +182,37 @@ abbrev lines_for : ℕ → List Vertex → List Line
 lines_for v [] = []
 lines_for v (x ∷ vs) = line_of_vertex v x ∷ lines_for (v + 1) vs
 
-cut_lines : (n : ℕ) (named : Option (ℕ × ℕ)) (v : ℕ) (vs : List Vertex) → n ≤ MOST_VERTICES → v + length vs ≤ n → AllByRecursion (IsVertex n) vs → lines (vertex_lines named v vs) ≡ bodies named v vs
+cut_lines : (n : ℕ) (named : Option (ℕ × ℕ)) (v : ℕ) (vs : List Vertex) → n ≤ MOST_VERTICES → v + length vs ≤ n → AllByRecursion (IsVertex n) vs
+    → lines (vertex_lines named v vs) ≡ bodies named v vs
 cut_lines n named v [] small room h = refl
 cut_lines n named v (x ∷ vs) small room h =
     ap lines (regroup (front_text v x) (successors_text x.successors) (name_text named v) (vertex_lines named (v + 1) vs))
-    ∙ first_line (line_body named v x) (vertex_lines named (v + 1) vs) (line_plain n small named v (omega (arith, room)) x.owner x.priority h.0.priority x.successors h.0.some h.0.within)
+    ∙ first_line (line_body named v x) (vertex_lines named (v + 1) vs)
+    (line_plain n small named v (omega (arith, room)) x.owner x.priority h.0.priority x.successors h.0.some h.0.within)
     ∙ ap (λ l. line_body named v x ∷ l) (cut_lines n named (v + 1) vs small (omega (arith, room)) h.1)
 
-each_line : (n : ℕ) (named : Option (ℕ × ℕ)) (v : ℕ) (vs : List Vertex) → n ≤ MOST_VERTICES → v + length vs ≤ n → AllByRecursion (IsVertex n) vs → AllZip IsLine (bodies named v vs) (lines_for v vs)
+each_line : (n : ℕ) (named : Option (ℕ × ℕ)) (v : ℕ) (vs : List Vertex) → n ≤ MOST_VERTICES → v + length vs ≤ n → AllByRecursion (IsVertex n) vs
+    → AllZip IsLine (bodies named v vs) (lines_for v vs)
 each_line n named v [] small room h = tt
-each_line n named v (x ∷ vs) small room h =
-    (line_is n small named v (omega (arith, room)) x.owner x.priority h.0.priority x.successors h.0.some h.0.within, each_line n named (v + 1) vs small (omega (arith, room)) h.1)
+each_line n named v (x ∷ vs) small room h = (
+  line_is n small named v (omega (arith, room)) x.owner x.priority h.0.priority x.successors h.0.some h.0.within,
+  each_line n named (v + 1) vs small (omega (arith, room)) h.1,
+)
 
 all_near : (n : ℕ) (ts : List ℕ) → AllByRecursion (λ t. t < n + 1) ts → AllByRecursion (λ t. t ≤ n) ts
 all_near n [] h = tt
 all_near n (t ∷ ts) h = (omega (arith, h.0), all_near n ts h.1)
 
-within_lines : (n v : ℕ) (vs : List Vertex) → v + length vs ≤ n + 1 → AllByRecursion (IsVertex (n + 1)) vs → greatest_of vs ≤ GREATEST_PRIORITY → AllByRecursion (IsWithin n) (lines_for v vs)
+within_lines : (n v : ℕ) (vs : List Vertex) → v + length vs ≤ n + 1 → AllByRecursion (IsVertex (n + 1)) vs → greatest_of vs ≤ GREATEST_PRIORITY
+    → AllByRecursion (IsWithin n) (lines_for v vs)
 within_lines n v [] room h low = tt
 within_lines n v (x ∷ vs) room h low = (
-  record { id = omega (arith, room); some = λ e. omega (arith, h.0.some, ap length e); successors = all_near n x.successors h.0.within; priority = omega (arith, low) },
+  record {
+    id = omega (arith, room);
+    some = λ e. omega (arith, h.0.some, ap length e);
+    successors = all_near n x.successors h.0.within;
+    priority = omega (arith, low);
+  },
   within_lines n (v + 1) vs (omega (arith, room)) h.1 (omega (arith, low)),
 )
 
@@ -211,13 +235,15 @@ own_set x v some up = λ i. record { owner = x.owner; priority = x.priority; suc
     own [] some up = refl
     own (t ∷ ts) some up = up_set t (t ∷ ts) (up_ascending t ts up)
 
-line_vertex : (n v : ℕ) (vs : List Vertex) (k : ℕ) (d : Line) → AllByRecursion (IsVertex n) vs → k < length (lines_for v vs) → slice_get vs k ≡ Some (vertex_of (get_or (lines_for v vs) k d))
+line_vertex : (n v : ℕ) (vs : List Vertex) (k : ℕ) (d : Line) → AllByRecursion (IsVertex n) vs → k < length (lines_for v vs)
+    → slice_get vs k ≡ Some (vertex_of (get_or (lines_for v vs) k d))
 line_vertex n v [] k d h below = absurd (omega arith)
 line_vertex n v (x ∷ vs) zero d h below = ap Some (sym (own_set x v h.0.some h.0.ascending))
 line_vertex n v (x ∷ vs) (suc k) d h below = line_vertex n (v + 1) vs k d h.1 (omega arith)
 
 -- The canonical text of a game spells it.
-pub canon_spells : (g : Game) → IsGame g → 1 ≤ length g.vertices → greatest g ≤ GREATEST_PRIORITY → IsGameText (game_text g) (record { vertices = g.vertices; named = None })
+pub canon_spells : (g : Game) → IsGame g → 1 ≤ length g.vertices → greatest g ≤ GREATEST_PRIORITY
+    → IsGameText (game_text g) (record { vertices = g.vertices; named = None })
 canon_spells g known some low =
     let n = length g.vertices - 1 in
     let size : length g.vertices ≡ n + 1 = omega arith in

@@ -1,5 +1,6 @@
 -- A text that spells a game has no deciding fault, and any other text has one at most.
-use Rattle.std.proofs.Common.{◌≡◌, ℕ, ◌+◌, ◌<◌, ◌≤◌, ◌⊎◌, inl, inr, Bool, true, false, ◌||◌, List, [], ◌∷◌, ◌++◌, length, map, refl, sym, ap, ◌∙◌, subst, arith, append-nil}
+use Rattle.std.proofs.Common.{◌≡◌, ℕ, ◌+◌, ◌<◌, ◌≤◌, ◌⊎◌, inl, inr, Bool, true, false, ◌||◌, List, [], ◌∷◌, ◌++◌, length, map, refl, sym, ap, ◌∙◌, subst}
+use Rattle.std.proofs.Common.{arith, append-nil}
 use Rattle.std.specs.Prelude.{nat_lt}
 use Rattle.std.specs.List.{AllZip, AllByRecursion}
 use Rattle.std.proofs.lemmas.List.{length-append}
@@ -31,7 +32,8 @@ record IsAmong (n : ℕ) (front : List (List ℕ)) (line : List ℕ) (spelled : 
   there : Has spelled x
   apart : (y : Line) → Has before y → y.id ≡ x.id → ⊥
 
-among : (n : ℕ) (front : List (List ℕ)) (line : List ℕ) (back : List (List ℕ)) (spelled : List Line) → AllZip IsLine (front ++ line ∷ back) spelled → AllByRecursion (IsWithin n) spelled → Differ spelled → IsAmong n front line spelled
+among : (n : ℕ) (front : List (List ℕ)) (line : List ℕ) (back : List (List ℕ)) (spelled : List Line) → AllZip IsLine (front ++ line ∷ back) spelled
+    → AllByRecursion (IsWithin n) spelled → Differ spelled → IsAmong n front line spelled
 among n [] line back [] each within once = absurd each
 among n [] line back (x ∷ spelled) each within once =
     record { before = []; x = x; each = tt; within_before = tt; is = each.0; within = within.0; there = inl refl; apart = λ y h e. h }
@@ -53,22 +55,28 @@ among n (l ∷ front) line back (z ∷ spelled) each within once =
 
 no_far : (n : ℕ) (x : Line) → IsWithin n x → HasBadSuccessor n x → ⊥
 no_far n x h (inl e) = h.some e
-no_far n x h (inr (t, there, far)) = let low = all_has (λ t. t ≤ n) x.successors t h.successors (Has-from_Contains x.successors t there) in omega (arith, low, far)
+no_far n x h (inr (t, there, far)) = let low = all_has (λ t. t ≤ n) x.successors t h.successors (Has-from_Contains x.successors t there)
+    in omega (arith, low, far)
 
 no_bad_id : (n : ℕ) (before : List Line) (x : Line) → IsWithin n x → ((y : Line) → Has before y → y.id ≡ x.id → ⊥) → IsBadId n before x → ⊥
 no_bad_id n before x h apart (inl high) = omega (arith, h.id, high)
 no_bad_id n before x h apart (inr (y, there, e)) = apart y (Has-from_Contains before y there) e
 
-no_line : (n : ℕ) (before : List Line) (line : List ℕ) (x : Line) (fault : PgFault) → n < MOST_VERTICES → IsLine line x → IsWithin n x → ((y : Line) → Has before y → y.id ≡ x.id → ⊥) → LineFault n before line fault → ⊥
+no_line : (n : ℕ) (before : List Line) (line : List ℕ) (x : Line) (fault : PgFault) → n < MOST_VERTICES → IsLine line x → IsWithin n x
+    → ((y : Line) → Has before y → y.id ≡ x.id → ⊥) → LineFault n before line fault → ⊥
 no_line n before line x BadLine small is within apart wrong = wrong x is
-no_line n before line x BadIdentifier small is within apart (y, same, bad) = no_bad_id n before x within apart (subst (IsBadId n before) (line_same n line x y small within is same) bad)
-no_line n before line x BadSuccessor small is within apart (y, same, right, bad) = no_far n x within (subst (HasBadSuccessor n) (line_same n line x y small within is same) bad)
-no_line n before line x PriorityTooGreat small is within apart (y, same, right, near, high) = let e = ap (λ (l : Line). l.priority) (line_same n line x y small within is same) in omega (arith, within.priority, e, high)
+no_line n before line x BadIdentifier small is within apart (y, same, bad) = no_bad_id n before x within apart
+    (subst (IsBadId n before) (line_same n line x y small within is same) bad)
+no_line n before line x BadSuccessor small is within apart (y, same, right, bad) = no_far n x within
+    (subst (HasBadSuccessor n) (line_same n line x y small within is same) bad)
+no_line n before line x PriorityTooGreat small is within apart (y, same, right, near, high) = let e = ap (λ (l : Line). l.priority)
+    (line_same n line x y small within is same) in omega (arith, within.priority, e, high)
 no_line n before line x BadHeader small is within apart wrong = wrong
 no_line n before line x TooManyVertices small is within apart wrong = wrong
 
 -- a faulty line is not among good ones
-no_among : (n : ℕ) (front : List (List ℕ)) (line : List ℕ) (back : List (List ℕ)) (spelled before : List Line) (fault : PgFault) → n < MOST_VERTICES → AreGood n (front ++ line ∷ back) spelled → AreGood n front before → LineFault n before line fault → ⊥
+no_among : (n : ℕ) (front : List (List ℕ)) (line : List ℕ) (back : List (List ℕ)) (spelled before : List Line) (fault : PgFault) → n < MOST_VERTICES
+    → AreGood n (front ++ line ∷ back) spelled → AreGood n front before → LineFault n before line fault → ⊥
 no_among n front line back spelled before fault small good goods wrong =
     let h = among n front line back spelled good.each good.within good.once in
     let same : before ≡ h.before = lines_are n front h.before before small h.within_before h.each goods.each in
@@ -84,23 +92,42 @@ record IsStop (n : ℕ) (rest : List (List ℕ)) (fault : PgFault) (good : ℕ) 
   split : rest ≡ front ++ back
   goods : AreGood n front before
   long : length front ≡ good
-  why : ((fault ≡ BadIdentifier) × (back ≡ []) × (good < n + 1)) ⊎ ((line : List ℕ) × (after : List (List ℕ)) × (back ≡ line ∷ after) × LineFault n before line fault)
+  why : ((fault ≡ BadIdentifier) × (back ≡ []) × (good < n + 1))
+      ⊎ ((line : List ℕ) × (after : List (List ℕ)) × (back ≡ line ∷ after) × LineFault n before line fault)
 
 stop_line : (n : ℕ) (rest : List (List ℕ)) (fault : PgFault) (good : ℕ) → FaultyLine n rest fault good → IsStop n rest fault good
-stop_line n rest fault good h = record { front = h.front; back = h.line ∷ h.back; before = h.before; split = h.cut; goods = h.good_lines; long = h.count; why = inr (h.line, h.back, refl, h.wrong) }
+stop_line n rest fault good h = record {
+  front = h.front;
+  back = h.line ∷ h.back;
+  before = h.before;
+  split = h.cut;
+  goods = h.good_lines;
+  long = h.count;
+  why = inr (h.line, h.back, refl, h.wrong);
+}
 
 stop_of : (n : ℕ) (rest : List (List ℕ)) (fault : PgFault) (good : ℕ) → BodyFault n rest fault good → IsStop n rest fault good
 stop_of n rest BadIdentifier good (inl h) = stop_line n rest BadIdentifier good h
 stop_of n rest BadIdentifier good (inr h) =
-    record { front = rest; back = []; before = h.spelled; split = sym (append-nil rest); goods = h.good_lines; long = h.count; why = inl (refl, refl, omega (arith, h.few, h.count)) }
+    record {
+      front = rest;
+      back = [];
+      before = h.spelled;
+      split = sym (append-nil rest);
+      goods = h.good_lines;
+      long = h.count;
+      why = inl (refl, refl, omega (arith, h.few, h.count));
+    }
 stop_of n rest _ good h = stop_line n rest _ good h
 
-no_body : (n : ℕ) (rest : List (List ℕ)) (spelled : List Line) (fault : PgFault) (good : ℕ) → n < MOST_VERTICES → AreGood n rest spelled → length rest ≡ n + 1 → IsStop n rest fault good → ⊥
+no_body : (n : ℕ) (rest : List (List ℕ)) (spelled : List Line) (fault : PgFault) (good : ℕ) → n < MOST_VERTICES → AreGood n rest spelled
+    → length rest ≡ n + 1 → IsStop n rest fault good → ⊥
 no_body n rest spelled fault good small all count stop =
     let sum : length rest ≡ length stop.front + length stop.back = ap length stop.split ∙ length-append stop.front stop.back in
     elim stop.why [
       | inl w ↦ absurd (omega (arith, sum, stop.long, count, ap length w.1, w.2))
-      | inr w ↦ no_among n stop.front w.0 w.1 spelled stop.before fault small (subst (λ l. AreGood n l spelled) (stop.split ∙ ap (λ l. stop.front ++ l) w.2) all) stop.goods w.3
+      | inr w ↦ no_among n stop.front w.0 w.1 spelled stop.before fault small
+          (subst (λ l. AreGood n l spelled) (stop.split ∙ ap (λ l. stop.front ++ l) w.2) all) stop.goods w.3
     ]
 
 no_first : (text : List ℕ) (g : Game) (fault : PgFault) → IsGameText text g → HeaderFault (lines text) fault → ⊥
@@ -119,7 +146,8 @@ no_fault text g fault line a (inl (wrong, place)) = no_first text g fault a wron
 no_fault text g fault line a (inr (first, rest, n, good, cut, header, small, body, place)) =
     let (same_n, same_rest) = text_same text g a first rest n cut header small in
     let stop = stop_of n rest fault good body in
-    no_body a.n a.rest a.spelled fault good a.limit a.good a.complete (subst (λ k. IsStop k a.rest fault good) same_n (subst (λ r. IsStop n r fault good) same_rest stop))
+    no_body a.n a.rest a.spelled fault good a.limit a.good a.complete
+    (subst (λ k. IsStop k a.rest fault good) same_n (subst (λ r. IsStop n r fault good) same_rest stop))
 
 -- ---- one fault at most
 
@@ -142,10 +170,12 @@ far_alike : (n : ℕ) (line : List ℕ) (x y : Line) → n < MOST_VERTICES → I
 far_alike n line x y small h k (inl none) = inl (none_mapped x.successors y.successors (ap (λ (l : Line). l.successors) (read_alike line x y h k)) none)
 far_alike n line x y small h k (inr (t, there, far)) =
     let same = ap (λ (l : Line). l.successors) (read_alike line x y h k) in
-    let (u, there', far') = far_one n y.successors small (ap (has_far n) (sym same) ∙ far_from n x.successors t small (Has-from_Contains x.successors t there) far) in
+    let (u, there', far') = far_one n y.successors small (ap (has_far n) (sym same)
+    ∙ far_from n x.successors t small (Has-from_Contains x.successors t there) far) in
     inr (u, Contains-from_Has y.successors u there', far')
 
-bad_alike : (n : ℕ) (before : List Line) (line : List ℕ) (x y : Line) → n < MOST_VERTICES → AllByRecursion (IsWithin n) before → IsLine line x → IsLine line y → IsBadId n before x → IsBadId n before y
+bad_alike : (n : ℕ) (before : List Line) (line : List ℕ) (x y : Line) → n < MOST_VERTICES → AllByRecursion (IsWithin n) before → IsLine line x
+    → IsLine line y → IsBadId n before x → IsBadId n before y
 bad_alike n before line x y small within h k (inl high) = let e = ap (λ (l : Line). l.id) (read_alike line x y h k) in inl (omega (arith, e, high))
 bad_alike n before line x y small within h k (inr (z, there, same)) =
     let e = ap (λ (l : Line). l.id) (read_alike line x y h k) in
@@ -176,7 +206,8 @@ module _ (n : ℕ) (before : List Line) (line : List ℕ) (small : n < MOST_VERT
   one_line f TooManyVertices p q = absurd q
 
 -- the front of one is a beginning of a longer one
-longer_front : (xs : List (List ℕ)) (l : List ℕ) (vs ys ws : List (List ℕ)) → xs ++ l ∷ vs ≡ ys ++ ws → length xs < length ys → (more : List (List ℕ)) × (ys ≡ xs ++ l ∷ more)
+longer_front : (xs : List (List ℕ)) (l : List ℕ) (vs ys ws : List (List ℕ)) → xs ++ l ∷ vs ≡ ys ++ ws → length xs < length ys → (more : List (List ℕ))
+    × (ys ≡ xs ++ l ∷ more)
 longer_front xs l vs [] ws e less = absurd (omega arith)
 longer_front [] l vs (y ∷ ys) ws e less = let same = lines_same l y vs (ys ++ ws) e in (ys, ap (λ z. z ∷ ys) (sym same.0))
 longer_front (x ∷ xs) l vs (y ∷ ys) ws e less =
@@ -191,7 +222,8 @@ not_before n rest f g i j small p q less =
     elim p.why [
       | inl w ↦ absurd (omega (arith, sum_p, sum_q, p.long, q.long, ap length w.1, less))
       | inr w ↦
-          let (more, is) = longer_front p.front w.0 w.1 q.front q.back (ap (λ l. p.front ++ l) (sym w.2) ∙ sym p.split ∙ q.split) (omega (arith, p.long, q.long, less)) in
+          let (more, is) = longer_front p.front w.0 w.1 q.front q.back (ap (λ l. p.front ++ l) (sym w.2) ∙ sym p.split ∙ q.split)
+          (omega (arith, p.long, q.long, less)) in
           no_among n p.front w.0 more q.before p.before f small (subst (λ l. AreGood n l q.before) is q.goods) p.goods w.3
     ]
 
@@ -206,9 +238,14 @@ same_split (x ∷ xs) (y ∷ ys) vs ws long e =
 
 one_body : (n : ℕ) (rest : List (List ℕ)) (f g : PgFault) (i j : ℕ) → n < MOST_VERTICES → IsStop n rest f i → IsStop n rest g j → (f ≡ g) × (i ≡ j)
 one_body n rest f g i j small p q =
-    let at : i ≡ j = elim (cases_lt i j) [ inl less ↦ absurd (not_before n rest f g i j small p q less) | inr low ↦ elim (cases_lt j i) [ inl less ↦ absurd (not_before n rest g f j i small q p less) | inr high ↦ omega arith ] ] in
+    let at : i ≡ j = elim (cases_lt i j) [
+      | inl less ↦ absurd (not_before n rest f g i j small p q less)
+      | inr low ↦ elim (cases_lt j i)
+          [ inl less ↦ absurd (not_before n rest g f j i small q p less) | inr high ↦ omega arith ]
+    ] in
     let parts = same_split p.front q.front p.back q.back (p.long ∙ at ∙ sym q.long) (sym p.split ∙ q.split) in
-    let before : q.before ≡ p.before = lines_are n p.front p.before q.before small p.goods.within p.goods.each (subst (λ l. AllZip IsLine l q.before) (sym parts.0) q.goods.each) in
+    let before : q.before ≡ p.before = lines_are n p.front p.before q.before small p.goods.within p.goods.each
+    (subst (λ l. AllZip IsLine l q.before) (sym parts.0) q.goods.each) in
     let fault : f ≡ g = elim p.why [
       | inl w ↦ elim q.why [
         | inl k ↦ w.0 ∙ sym k.0
@@ -224,7 +261,8 @@ one_body n rest f g i j small p q =
     (fault, at)
 
 -- two readings of one header
-two_headers : (all : List (List ℕ)) (first first' : List ℕ) (rest rest' : List (List ℕ)) (n n' : ℕ) → all ≡ first ∷ rest → all ≡ first' ∷ rest' → IsHeader first n → IsHeader first' n' → (capped n ≡ capped n') × (rest ≡ rest')
+two_headers : (all : List (List ℕ)) (first first' : List ℕ) (rest rest' : List (List ℕ)) (n n' : ℕ) → all ≡ first ∷ rest → all ≡ first' ∷ rest'
+    → IsHeader first n → IsHeader first' n' → (capped n ≡ capped n') × (rest ≡ rest')
 two_headers all first first' rest rest' n n' cut cut' h h' =
     let same = lines_same first first' rest rest' (sym cut ∙ cut') in
     (header_same first' n n' (subst (λ x. IsHeader x n) same.0 h) h', same.1)
@@ -244,9 +282,11 @@ one_first all f BadSuccessor p q = absurd q
 one_first all f PriorityTooGreat p q = absurd q
 
 -- a right header has no fault
-right_header : (all : List (List ℕ)) (fault : PgFault) (first : List ℕ) (rest : List (List ℕ)) (n : ℕ) → HeaderFault all fault → all ≡ first ∷ rest → IsHeader first n → n < MOST_VERTICES → ⊥
+right_header : (all : List (List ℕ)) (fault : PgFault) (first : List ℕ) (rest : List (List ℕ)) (n : ℕ) → HeaderFault all fault → all ≡ first ∷ rest
+    → IsHeader first n → n < MOST_VERTICES → ⊥
 right_header all BadHeader first rest n p cut h small = p first rest n cut h
-right_header all TooManyVertices first rest n (first', rest', n', cut', h', over) cut h small = let e = (two_headers all first first' rest rest' n n' cut cut' h h').0 in omega (arith, e, small, over)
+right_header all TooManyVertices first rest n (first', rest', n', cut', h', over) cut h small = let e =
+    (two_headers all first first' rest rest' n n' cut cut' h h').0 in omega (arith, e, small, over)
 right_header all BadLine first rest n p cut h small = p
 right_header all BadIdentifier first rest n p cut h small = p
 right_header all BadSuccessor first rest n p cut h small = p

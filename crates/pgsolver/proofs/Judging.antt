@@ -1,5 +1,6 @@
 -- What is wrong with a line, by what was found on it.
-use Rattle.std.proofs.Common.{◌≡◌, ℕ, ◌<◌, ◌≤◌, inl, inr, Bool, true, false, ◌||◌, List, [], ◌∷◌, map, Option, Some, None, slice_index_or, refl, sym, ap, ◌∙◌, subst, arith}
+use Rattle.std.proofs.Common.{◌≡◌, ℕ, ◌<◌, ◌≤◌, inl, inr, Bool, true, false, ◌||◌, List, [], ◌∷◌, map, Option, Some, None, slice_index_or, refl, sym, ap, ◌∙◌}
+use Rattle.std.proofs.Common.{subst, arith}
 use Rattle.std.specs.Prelude.{IfSome, nat_lt, is_some}
 use Rattle.std.specs.List.{AllByRecursion}
 use Rattle.std.proofs.lemmas.Bool.{ltb-true, ltb-false}
@@ -28,7 +29,8 @@ no_first (Some text) None line h = absurd h
 no_first (Some text) (Some left) line h = inl (λ first rest n e header. absurd cc, refl)
 
 -- the first line is no header
-pub bad_first : (old new : Option (List ℕ)) (line : List ℕ) → TakesLine old new true line → header_at line ≡ None → IfSome old (λ text. HasFault text BadHeader 1)
+pub bad_first : (old new : Option (List ℕ)) (line : List ℕ) → TakesLine old new true line → header_at line ≡ None
+    → IfSome old (λ text. HasFault text BadHeader 1)
 bad_first None new line h none = tt
 bad_first (Some text) None line h none = absurd h
 bad_first (Some text) (Some left) line h none =
@@ -40,7 +42,8 @@ bad_first (Some text) (Some left) line h none =
     )
 
 -- the header announces too many vertices
-pub over_first : (old new : Option (List ℕ)) (line : List ℕ) (v : ℕ) → TakesLine old new true line → header_at line ≡ Some v → MOST_VERTICES ≤ v → IfSome old (λ text. HasFault text TooManyVertices 1)
+pub over_first : (old new : Option (List ℕ)) (line : List ℕ) (v : ℕ) → TakesLine old new true line → header_at line ≡ Some v → MOST_VERTICES ≤ v
+    → IfSome old (λ text. HasFault text TooManyVertices 1)
 over_first None new line v taken found over = tt
 over_first (Some text) None line v taken found over = absurd taken
 over_first (Some text) (Some left) line v taken found over =
@@ -48,7 +51,8 @@ over_first (Some text) (Some left) line v taken found over =
     inl ((line, lines left, n, taken, header, omega arith), refl)
 
 -- the header announces what a game may have
-pub right_first : (old new : Option (List ℕ)) (line : List ℕ) (v : ℕ) → TakesLine old new true line → header_at line ≡ Some v → v < MOST_VERTICES → IfKnown old new (BeginsWith v)
+pub right_first : (old new : Option (List ℕ)) (line : List ℕ) (v : ℕ) → TakesLine old new true line → header_at line ≡ Some v → v < MOST_VERTICES
+    → IfKnown old new (BeginsWith v)
 right_first None new line v taken found within = tt
 right_first (Some text) None line v taken found within = absurd taken
 right_first (Some text) (Some left) line v taken found within =
@@ -85,7 +89,8 @@ far_one n (v ∷ vs) small h =
       | false ↦ λ _ h. let (t, there, far) = far_one n vs small h in (t, inr there, far)
     ] refl h
 
-module _ (n : ℕ) (small : n < MOST_VERTICES) (before : List Line) (places : List (Option ℕ)) (are : ArePlaces n before places) (line : List ℕ) (x : Line) (is : IsLine line x) (a : Line) (same : a ≡ capped_line x) where
+module _ (n : ℕ) (small : n < MOST_VERTICES) (before : List Line) (places : List (Option ℕ)) (are : ArePlaces n before places) (line : List ℕ) (x : Line)
+    (is : IsLine line x) (a : Line) (same : a ≡ capped_line x) where
   id_is : a.id ≡ capped x.id
   id_is = ap (λ (l : Line). l.id) same
 
@@ -113,7 +118,8 @@ module _ (n : ℕ) (small : n < MOST_VERTICES) (before : List Line) (places : Li
   near_successors : (a.successors ≡ [] → ⊥) → has_far n a.successors ≡ false → HasBadSuccessor n x → ⊥
   near_successors some near (inl e) = some_successor some e
   near_successors some near (inr (t, there, far)) =
-      let low = all_has (λ t. t ≤ n) x.successors t (near_same n x.successors small (ap (has_far n) (sym successors_are) ∙ near)).1 (Has-from_Contains x.successors t there) in
+      let low = all_has (λ t. t ≤ n) x.successors t (near_same n x.successors small (ap (has_far n) (sym successors_are) ∙ near)).1
+      (Has-from_Contains x.successors t there) in
       omega (arith, low, far)
 
   fault_of : (fault : PgFault) → IsFirstFault n places a fault → LineFault n before line fault
@@ -134,11 +140,14 @@ module _ (n : ℕ) (small : n < MOST_VERTICES) (before : List Line) (places : Li
   fault_of TooManyVertices h = absurd h
 
 -- what the line says is wrong
-pub faulty : (n : ℕ) (before : List Line) (places : List (Option ℕ)) (line : List ℕ) (a : Line) (fault : PgFault) → n < MOST_VERTICES → ArePlaces n before places → line_at line ≡ Some a → IsFirstFault n places a fault → LineFault n before line fault
-faulty n before places line a fault small are found wrong = let (x, is, same) = line_gives line a found in fault_of n small before places are line x is a same fault wrong
+pub faulty : (n : ℕ) (before : List Line) (places : List (Option ℕ)) (line : List ℕ) (a : Line) (fault : PgFault) → n < MOST_VERTICES
+    → ArePlaces n before places → line_at line ≡ Some a → IsFirstFault n places a fault → LineFault n before line fault
+faulty n before places line a fault small are found wrong = let (x, is, same) = line_gives line a found
+    in fault_of n small before places are line x is a same fault wrong
 
 -- what the line says is sound
-pub sound : (n : ℕ) (places : List (Option ℕ)) (line : List ℕ) (head : Head) (targets set : List ℕ) → n < MOST_VERTICES → line_at line ≡ Some (line_of head targets) → IsSound n places (line_of head targets) → set ≡ set_of targets → Says n places line head set
+pub sound : (n : ℕ) (places : List (Option ℕ)) (line : List ℕ) (head : Head) (targets set : List ℕ) → n < MOST_VERTICES
+    → line_at line ≡ Some (line_of head targets) → IsSound n places (line_of head targets) → set ≡ set_of targets → Says n places line head set
 sound n places line head targets set small found h made =
     let (x, is, same) = line_gives line (line_of head targets) found in
     let id : head.id ≡ capped x.id = ap (λ (l : Line). l.id) same in
@@ -149,7 +158,12 @@ sound n places line head targets set small found h made =
     record {
       x = x;
       is = is;
-      within = record { id = omega (arith, h.id); some = λ e. h.some (successors ∙ ap (map capped) e); successors = near.1; priority = omega (arith, h.priority) };
+      within = record {
+        id = omega (arith, h.id);
+        some = λ e. h.some (successors ∙ ap (map capped) e);
+        successors = near.1;
+        priority = omega (arith, h.priority);
+      };
       new = subst (λ v. slice_index_or places v None ≡ None) id_same h.new;
       id = id_same;
       priority = omega (arith, h.priority);

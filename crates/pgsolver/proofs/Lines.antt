@@ -1,5 +1,6 @@
 -- The lines of a game's text, piece by piece.
-use Rattle.std.proofs.Common.{◌≡◌, ℕ, suc, ◌+◌, ◌<◌, ◌≤◌, List, [], ◌∷◌, ◌++◌, length, drop, get_or, codes, decimal, Option, Some, Result, refl, sym, ap, ap₂, subst, ◌∙◌, append-nil, add-one, arith}
+use Rattle.std.proofs.Common.{◌≡◌, ℕ, suc, ◌+◌, ◌<◌, ◌≤◌, List, [], ◌∷◌, ◌++◌, length, drop, get_or, codes, decimal, Option, Some, Result, refl, sym, ap, ap₂}
+use Rattle.std.proofs.Common.{subst, ◌∙◌, append-nil, add-one, arith}
 use Rattle.std.specs.Prelude.{option_map, slice_get}
 use Rattle.game.specs.declared.player.Player.{Player}
 use Rattle.game.specs.Game.{Vertex}
@@ -24,7 +25,8 @@ numbers_are (t ∷ []) = sym (append-nil (decimal t))
 numbers_are (t ∷ u ∷ ts) = ap (λ l. decimal t ++ (44 ∷ l)) (numbers_are (u ∷ ts))
 
 -- the numbers from one on begin with it
-pub next_number : (before ts : List ℕ) (i d : ℕ) → i < length ts → numbers_from before (drop i ts) ≡ (before ++ decimal (get_or ts i d)) ++ numbers_from (44 ∷ []) (drop (i + 1) ts)
+pub next_number : (before ts : List ℕ) (i d : ℕ) → i < length ts
+    → numbers_from before (drop i ts) ≡ (before ++ decimal (get_or ts i d)) ++ numbers_from (44 ∷ []) (drop (i + 1) ts)
 next_number before ts i d h = rw (drop-cons ts i d h, add-one i) refl
 
 pub no_numbers : (before ts : List ℕ) (i : ℕ) → length ts ≤ i → numbers_from before (drop i ts) ≡ []
@@ -41,7 +43,8 @@ abbrev pub end_text : Option (ℕ × ℕ) → ℕ → List ℕ
 end_text named v = name_text named v ++ (codes ";" ++ line_end)
 
 -- the line by what was read of the vertex
-pub line_read : (named told : Option (ℕ × ℕ)) (v : ℕ) (o : Option Vertex) (x : Vertex) (owner : Player) (priority : ℕ) (successors : List ℕ) → o ≡ Some x → told ≡ named
+pub line_read : (named told : Option (ℕ × ℕ)) (v : ℕ) (o : Option Vertex) (x : Vertex) (owner : Player) (priority : ℕ) (successors : List ℕ) → o ≡ Some x
+    → told ≡ named
     → option_map (λ x. x.owner) o ≡ Some owner → option_map (λ x. x.priority) o ≡ Some priority → option_map (λ x. x.successors) o ≡ Some successors
     → front_text v (record { owner = owner; priority = priority; successors = [] }) ++ (successors_text successors ++ end_text told v) ≡ vertex_line named v x
 line_read named told v o x owner priority successors there same owned prior led =
@@ -55,13 +58,15 @@ other = record { owner = Even; priority = 0; successors = [] }
 
 -- ---- lines by number
 
-more_lines : (line : ℕ → List ℕ) (named : Option (ℕ × ℕ)) (v : ℕ) (xs : List Vertex) → ((i : ℕ) → i < length xs → line (v + i) ≡ line_of named (v + i) (slice_get xs i)) → lines_from line v (length xs) ≡ vertex_lines named v xs
+more_lines : (line : ℕ → List ℕ) (named : Option (ℕ × ℕ)) (v : ℕ) (xs : List Vertex)
+    → ((i : ℕ) → i < length xs → line (v + i) ≡ line_of named (v + i) (slice_get xs i)) → lines_from line v (length xs) ≡ vertex_lines named v xs
 more_lines line named v [] each = refl
 more_lines line named v (x ∷ xs) each =
     let none_more : v + 0 ≡ v = omega arith in
     let one_more : (i : ℕ) → v + suc i ≡ (v + 1) + i = λ i. omega arith in
     let first : line v ≡ vertex_line named v x = subst (λ n. line n ≡ line_of named n (Some x)) none_more (each 0 (omega arith)) in
-    let rest = more_lines line named (v + 1) xs (λ i h. subst (λ n. line n ≡ line_of named n (slice_get xs i)) (one_more i) (each (suc i) (omega (arith, h)))) in
+    let rest = more_lines line named (v + 1) xs (λ i h. subst (λ n. line n ≡ line_of named n (slice_get xs i)) (one_more i)
+    (each (suc i) (omega (arith, h)))) in
     ap₂ (λ a b. a ++ b) first rest
 
 -- the lines of all vertices are the text's
@@ -72,5 +77,6 @@ all_lines g = more_lines (line_at g) g.named 0 g.vertices here
     here i h = let same : 0 + i ≡ i = omega arith in rw same refl
 
 -- what was written of a vertex that is there is its line
-pub line_there : {T E : Type 0} → (g : Game) (v : ℕ) (a b : Option (List ℕ)) (r : Result T E) → v < length g.vertices → ((x : Vertex) → vertex g v ≡ Some x → Wrote a b r (vertex_line g.named v x)) → Wrote a b r (line_at g v)
+pub line_there : {T E : Type 0} → (g : Game) (v : ℕ) (a b : Option (List ℕ)) (r : Result T E) → v < length g.vertices
+    → ((x : Vertex) → vertex g v ≡ Some x → Wrote a b r (vertex_line g.named v x)) → Wrote a b r (line_at g v)
 line_there g v a b r h each = let there = slice_get-get_or g.vertices v other h in Wrote-as a b r _ _ (sym (ap (line_of g.named v) there)) (each _ there)

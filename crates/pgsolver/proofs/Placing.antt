@@ -1,5 +1,6 @@
 -- Identifiers, and the lines on which they stand.
-use Rattle.std.proofs.Common.{◌≡◌, ◌≢◌, ℕ, zero, suc, ◌+◌, ◌<◌, ◌≤◌, ◌⊎◌, inl, inr, true, false, cond, ◌==◌, List, [], ◌∷◌, ◌++◌, length, map, Some, refl, sym, ap, ◌∙◌, subst, arith}
+use Rattle.std.proofs.Common.{◌≡◌, ◌≢◌, ℕ, zero, suc, ◌+◌, ◌<◌, ◌≤◌, ◌⊎◌, inl, inr, true, false, cond, ◌==◌, List, [], ◌∷◌, ◌++◌, length, map, Some, refl}
+use Rattle.std.proofs.Common.{sym, ap, ◌∙◌, subst, arith}
 use Rattle.std.specs.Prelude.{slice_get, AllPairs}
 use Rattle.std.proofs.lemmas.Bool.{eqb-true, eqb-false}
 use Rattle.std.proofs.lemmas.List.{length-map}
@@ -20,12 +21,14 @@ without_one m (x ∷ xs) = cond (x == m) xs (x ∷ without_one m xs)
 less_has : (m z : ℕ) (xs : List ℕ) → Has (without_one m xs) z → Has xs z
 unfolding without_one
 less_has m z [] h = h
-less_has m z (x ∷ xs) h = elim (x == m) as (λ b. Has (cond b xs (x ∷ without_one m xs)) z → Has (x ∷ xs) z) [ true ↦ λ h. inr h | false ↦ λ h. elim h [ inl e ↦ inl e | inr k ↦ inr (less_has m z xs k) ] ] h
+less_has m z (x ∷ xs) h = elim (x == m) as (λ b. Has (cond b xs (x ∷ without_one m xs)) z → Has (x ∷ xs) z)
+    [ true ↦ λ h. inr h | false ↦ λ h. elim h [ inl e ↦ inl e | inr k ↦ inr (less_has m z xs k) ] ] h
 
 less_apart : (m : ℕ) (xs : List ℕ) → AreApart xs → AreApart (without_one m xs)
 unfolding without_one
 less_apart m [] h = h
-less_apart m (x ∷ xs) h = elim (x == m) as (λ b. AreApart (cond b xs (x ∷ without_one m xs))) [ true ↦ h.1 | false ↦ (λ k. h.0 (less_has m x xs k), less_apart m xs h.1) ]
+less_apart m (x ∷ xs) h = elim (x == m) as (λ b. AreApart (cond b xs (x ∷ without_one m xs)))
+    [ true ↦ h.1 | false ↦ (λ k. h.0 (less_has m x xs k), less_apart m xs h.1) ]
 
 less_none : (m : ℕ) (xs : List ℕ) → AreApart xs → Has (without_one m xs) m → ⊥
 unfolding without_one
@@ -39,7 +42,8 @@ less_none m (x ∷ xs) h k =
 less_length : (m : ℕ) (xs : List ℕ) → length xs ≤ length (without_one m xs) + 1
 unfolding without_one
 less_length m [] = omega arith
-less_length m (x ∷ xs) = elim (x == m) as (λ b. length (x ∷ xs) ≤ length (cond b xs (x ∷ without_one m xs)) + 1) [ true ↦ omega arith | false ↦ omega (arith, less_length m xs) ]
+less_length m (x ∷ xs) = elim (x == m) as (λ b. length (x ∷ xs) ≤ length (cond b xs (x ∷ without_one m xs)) + 1)
+    [ true ↦ omega arith | false ↦ omega (arith, less_length m xs) ]
 
 few_apart : (m : ℕ) (xs : List ℕ) → AreApart xs → ((z : ℕ) → Has xs z → z < m) → length xs ≤ m
 few_apart zero [] h below = omega arith
@@ -97,7 +101,10 @@ differ_first x y spelled h there same =
 
 apart_ids : (spelled : List Line) → Differ spelled → AreApart (ids spelled)
 apart_ids [] h = tt
-apart_ids (x ∷ spelled) h = (λ k. let (y, there, same) = has_id spelled x.id k in differ_first x y spelled h there (sym same), apart_ids spelled (differ_rest x spelled h))
+apart_ids (x ∷ spelled) h = (
+  λ k. let (y, there, same) = has_id spelled x.id k in differ_first x y spelled h there (sym same),
+  apart_ids spelled (differ_rest x spelled h),
+)
 
 -- one line for each identifier
 pub one_line : (spelled : List Line) (x y : Line) → Differ spelled → Has spelled x → Has spelled y → x.id ≡ y.id → x ≡ y
@@ -112,12 +119,18 @@ below_from n spelled within z h = let (x, there, is) = has_id spelled z h in ome
 
 -- lines with different identifiers up to n are no more than n + 1
 pub few_lines : (n : ℕ) (spelled : List Line) → Differ spelled → ((x : Line) → Has spelled x → x.id ≤ n) → length spelled ≤ n + 1
-few_lines n spelled h within = omega (arith, length-map spelled (λ (x : Line). x.id), few_apart (n + 1) (ids spelled) (apart_ids spelled h) (below_from n spelled within))
+few_lines n spelled h within = omega (
+  arith,
+  length-map spelled (λ (x : Line). x.id),
+  few_apart (n + 1) (ids spelled) (apart_ids spelled h) (below_from n spelled within),
+)
 
 -- where there are so many, each identifier has a line
-pub each_there : (n v : ℕ) (spelled : List Line) → Differ spelled → ((x : Line) → Has spelled x → x.id ≤ n) → length spelled ≡ n + 1 → v ≤ n → (x : Line) × Has spelled x × (x.id ≡ v)
+pub each_there : (n v : ℕ) (spelled : List Line) → Differ spelled → ((x : Line) → Has spelled x → x.id ≤ n) → length spelled ≡ n + 1 → v ≤ n → (x : Line)
+    × Has spelled x × (x.id ≡ v)
 each_there n v spelled h within count inside =
-    has_id spelled v (all_there (n + 1) v (ids spelled) (apart_ids spelled h) (below_from n spelled within) (length-map spelled (λ (x : Line). x.id) ∙ count) (omega arith))
+    has_id spelled v (all_there (n + 1) v (ids spelled) (apart_ids spelled h) (below_from n spelled within) (length-map spelled (λ (x : Line). x.id) ∙ count)
+    (omega arith))
 
 -- ---- an element by its place
 

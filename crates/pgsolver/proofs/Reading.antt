@@ -1,5 +1,6 @@
 -- What is known while the vertex lines are read.
-use Rattle.std.proofs.Common.{◌≡◌, ◌≢◌, ℕ, ◌+◌, ◌<◌, ◌≤◌, inl, inr, true, false, ◌==◌, List, [], ◌∷◌, ◌++◌, length, map, get_or, Option, Some, None, slice_index_or, slice_set, refl, sym, ap, ◌∙◌, subst, append_assoc, append-nil, arith}
+use Rattle.std.proofs.Common.{◌≡◌, ◌≢◌, ℕ, ◌+◌, ◌<◌, ◌≤◌, inl, inr, true, false, ◌==◌, List, [], ◌∷◌, ◌++◌, length, map, get_or, Option, Some, None}
+use Rattle.std.proofs.Common.{slice_index_or, slice_set, refl, sym, ap, ◌∙◌, subst, append_assoc, append-nil, arith}
 use Rattle.std.specs.Prelude.{IfSome, slice_get}
 use Rattle.std.specs.List.{AllZip, AllByRecursion}
 use Rattle.std.proofs.lemmas.Bool.{eqb-true, eqb-false, cases_lt}
@@ -28,7 +29,8 @@ use Rattle.pgsolver.proofs.Judging.{bad_line}
 use Rattle.pgsolver.proofs.Placing.{has_at, has_end, at_left, at_end, each_there}
 use Rattle.pgsolver.proofs.Sets.{set_up, set_all, set_some, up_few, ascending_up}
 
-cut_more : (old mid new : Option (List ℕ)) (done : List (List ℕ)) (line : List ℕ) → IfKnown old mid (IsCut done) → TakesLine mid new true line → IfKnown old new (IsCut (done ++ line ∷ []))
+cut_more : (old mid new : Option (List ℕ)) (done : List (List ℕ)) (line : List ℕ) → IfKnown old mid (IsCut done) → TakesLine mid new true line
+    → IfKnown old new (IsCut (done ++ line ∷ []))
 cut_more None mid new done line cut taken = tt
 cut_more (Some text) None new done line cut taken = absurd cut
 cut_more (Some text) (Some left) None done line cut taken = absurd taken
@@ -36,7 +38,8 @@ cut_more (Some text) (Some left) (Some rest) done line cut taken = cut ∙ ap (�
 
 -- ---- no line yet
 
-pub nothing_yet : (n : ℕ) (old : Option (List ℕ)) (vertices : List Vertex) (places : List (Option ℕ)) → vertices ≡ [] → length places ≡ n + 1 → ((v : ℕ) → slice_index_or places v None ≡ None) → SoFar n 0 old old vertices places
+pub nothing_yet : (n : ℕ) (old : Option (List ℕ)) (vertices : List Vertex) (places : List (Option ℕ)) → vertices ≡ [] → length places ≡ n + 1
+    → ((v : ℕ) → slice_index_or places v None ≡ None) → SoFar n 0 old old vertices places
 nothing_yet n old vertices places none count empty = record {
   done = [];
   spelled = [];
@@ -53,7 +56,8 @@ nothing_yet n old vertices places none count empty = record {
 
 -- ---- one more line
 
-zip_more : (done : List (List ℕ)) (spelled : List Line) (line : List ℕ) (x : Line) → AllZip IsLine done spelled → IsLine line x → AllZip IsLine (done ++ line ∷ []) (spelled ++ x ∷ [])
+zip_more : (done : List (List ℕ)) (spelled : List Line) (line : List ℕ) (x : Line) → AllZip IsLine done spelled → IsLine line x
+    → AllZip IsLine (done ++ line ∷ []) (spelled ++ x ∷ [])
 zip_more [] [] line x each one = (one, tt)
 zip_more [] (y ∷ spelled) line x each one = absurd each
 zip_more (l ∷ done) [] line x each one = absurd each
@@ -67,16 +71,20 @@ zip_length (l ∷ done) (y ∷ spelled) each = omega (arith, zip_length done spe
 
 place_more : (spelled : List Line) (x : Line) (v : ℕ) (o : Option ℕ) → IsPlace spelled v o → (x.id ≡ v → ⊥) → IsPlace (spelled ++ x ∷ []) v o
 place_more spelled x v None none other = λ y there same.
-    elim (has_end spelled x y (Has-from_Contains (spelled ++ x ∷ []) y there)) [ inl h ↦ none y (Contains-from_Has spelled y h) same | inr e ↦ other (ap (λ (l : Line). l.id) e ∙ same) ]
+    elim (has_end spelled x y (Has-from_Contains (spelled ++ x ∷ []) y there))
+    [ inl h ↦ none y (Contains-from_Has spelled y h) same | inr e ↦ other (ap (λ (l : Line). l.id) e ∙ same) ]
 place_more spelled x v (Some k) (y, at, same) other = (y, at_left spelled x y k at, same)
 
 -- the identifier is that of no line before
-no_line_before : (spelled : List Line) (x : Line) (o : Option ℕ) → o ≡ None → IsPlace spelled x.id o → (k : ℕ) (d : Line) → k < length spelled → (get_or spelled k d).id ≢ x.id
+no_line_before : (spelled : List Line) (x : Line) (o : Option ℕ) → o ≡ None → IsPlace spelled x.id o → (k : ℕ) (d : Line) → k < length spelled
+    → (get_or spelled k d).id ≢ x.id
 no_line_before spelled x o none at k d below same =
     let empty : IsPlace spelled x.id None = subst (IsPlace spelled x.id) none at in
-    empty (get_or spelled k d) (Contains-from_Has spelled (get_or spelled k d) (has_at spelled k (get_or spelled k d) (slice_get-get_or spelled k d below))) same
+    empty (get_or spelled k d) (Contains-from_Has spelled (get_or spelled k d)
+    (has_at spelled k (get_or spelled k d) (slice_get-get_or spelled k d below))) same
 
-places_more : (n good : ℕ) (spelled : List Line) (places new : List (Option ℕ)) (x : Line) (id : ℕ) → ArePlaces n spelled places → length spelled ≡ good → id ≡ x.id → x.id ≤ n → new ≡ slice_set places id (Some good) → ArePlaces n (spelled ++ x ∷ []) new
+places_more : (n good : ℕ) (spelled : List Line) (places new : List (Option ℕ)) (x : Line) (id : ℕ) → ArePlaces n spelled places → length spelled ≡ good
+    → id ≡ x.id → x.id ≤ n → new ≡ slice_set places id (Some good) → ArePlaces n (spelled ++ x ∷ []) new
 places_more n good spelled places new x id are count same low made = record {
   count = ap length made ∙ length-set places id (Some good) ∙ are.count;
   each = λ v inside.
@@ -85,28 +93,35 @@ places_more n good spelled places new x id are count same low made = record {
       (elim (x.id == v) as (λ b. (x.id == v) ≡ b → IsPlace (spelled ++ x ∷ []) v (slice_index_or (slice_set places id (Some good)) v None)) [
         | true ↦ λ e.
             let at : id ≡ v = same ∙ eqb-true x.id v e in
-            let put : slice_index_or (slice_set places id (Some good)) v None ≡ Some good = ap (λ k. slice_index_or (slice_set places id (Some good)) k None) (sym at) ∙ get_or-set_same places id (Some good) None (omega (arith, are.count, same, low)) in
+            let put : slice_index_or (slice_set places id (Some good)) v None
+            ≡ Some good = ap (λ k. slice_index_or (slice_set places id (Some good)) k None) (sym at)
+            ∙ get_or-set_same places id (Some good) None (omega (arith, are.count, same, low)) in
             subst (IsPlace (spelled ++ x ∷ []) v) (sym put) (x, ap (slice_get (spelled ++ x ∷ [])) (sym count) ∙ at_end spelled x, eqb-true x.id v e)
         | false ↦ λ e.
             let other : x.id ≡ v → ⊥ = eqb-false x.id v e in
-            let kept : slice_index_or (slice_set places id (Some good)) v None ≡ slice_index_or places v None = get_or-set_other places id v (Some good) None (λ k. other (sym same ∙ sym k)) in
+            let kept : slice_index_or (slice_set places id (Some good)) v None
+            ≡ slice_index_or places v None = get_or-set_other places id v (Some good) None (λ k. other (sym same ∙ sym k)) in
             subst (IsPlace (spelled ++ x ∷ []) v) (sym kept) (place_more spelled x v (slice_index_or places v None) (are.each v inside) other)
       ] refl);
 }
 
-pub row_more : (n good : ℕ) (old mid new : Option (List ℕ)) (vertices vertices' : List Vertex) (places places' : List (Option ℕ)) (line : List ℕ) (head : Head) (targets : List ℕ) → SoFar n good old mid vertices places → TakesLine mid new true line
-    → Says n places line head targets → vertices' ≡ vertices ++ record { owner = head.owner; priority = head.priority; successors = targets } ∷ [] → places' ≡ slice_set places head.id (Some good) → SoFar n (good + 1) old new vertices' places'
+pub row_more : (n good : ℕ) (old mid new : Option (List ℕ)) (vertices vertices' : List Vertex) (places places' : List (Option ℕ)) (line : List ℕ)
+    (head : Head) (targets : List ℕ) → SoFar n good old mid vertices places → TakesLine mid new true line
+    → Says n places line head targets → vertices' ≡ vertices ++ record { owner = head.owner; priority = head.priority; successors = targets } ∷ []
+    → places' ≡ slice_set places head.id (Some good) → SoFar n (good + 1) old new vertices' places'
 row_more n good old mid new vertices vertices' places places' line head targets so taken says added put =
     let x = says.x in
     let many : length so.spelled ≡ good = zip_length so.done so.spelled so.good_lines.each ∙ so.count in
-    let made : record { owner = head.owner; priority = head.priority; successors = targets } ≡ vertex_of x = λ i. record { owner = says.owner i; priority = says.priority i; successors = says.set i } in
+    let made : record { owner = head.owner; priority = head.priority; successors = targets }
+    ≡ vertex_of x = λ i. record { owner = says.owner i; priority = says.priority i; successors = says.set i } in
     record {
       done = so.done ++ line ∷ [];
       spelled = so.spelled ++ x ∷ [];
       good_lines = record {
         each = zip_more so.done so.spelled line x so.good_lines.each says.is;
         within = all_append (IsWithin n) so.spelled (x ∷ []) so.good_lines.within (says.within, tt);
-        once = all_pairs_push (λ x y. x.id ≢ y.id) so.spelled x so.good_lines.once (no_line_before so.spelled x (slice_index_or places x.id None) says.new (so.placed.each x.id says.within.id));
+        once = all_pairs_push (λ x y. x.id ≢ y.id) so.spelled x so.good_lines.once
+            (no_line_before so.spelled x (slice_index_or places x.id None) says.new (so.placed.each x.id says.within.id));
       };
       count = omega (arith, length-append so.done (line ∷ []), so.count);
       cut = cut_more old mid new so.done line so.cut taken;
@@ -115,14 +130,21 @@ row_more n good old mid new vertices vertices' places places' line head targets 
     }
 
 -- successors up to n are no more than there are vertices
-pub few_targets : (n : ℕ) (places : List (Option ℕ)) (line : List ℕ) (head : Head) (targets : List ℕ) → n < MOST_VERTICES → Says n places line head targets → length targets ≤ MOST_VERTICES
+pub few_targets : (n : ℕ) (places : List (Option ℕ)) (line : List ℕ) (head : Head) (targets : List ℕ) → n < MOST_VERTICES → Says n places line head targets
+    → length targets ≤ MOST_VERTICES
 few_targets n places line head targets small says =
-    omega (arith, ap length says.set, up_few n 0 (set_of says.x.successors) (omega arith) (set_up says.x.successors) (set_all (λ t. t ≤ n) says.x.successors says.within.successors))
+    omega (
+      arith,
+      ap length says.set,
+      up_few n 0 (set_of says.x.successors) (omega arith) (set_up says.x.successors)
+          (set_all (λ t. t ≤ n) says.x.successors says.within.successors),
+    )
 
 -- ---- a fault
 
 -- the lines end too soon
-pub too_few : (n good p : ℕ) → p ≡ good → (old mid new : Option (List ℕ)) (vertices : List Vertex) (places : List (Option ℕ)) (line : List ℕ) → SoFar n good old mid vertices places → TakesLine mid new false line → good ≤ n
+pub too_few : (n good p : ℕ) → p ≡ good → (old mid new : Option (List ℕ)) (vertices : List Vertex) (places : List (Option ℕ)) (line : List ℕ)
+    → SoFar n good old mid vertices places → TakesLine mid new false line → good ≤ n
     → IfSome old (λ text. HasRestFault n text BadIdentifier (p + 2))
 too_few n good p at None mid new vertices places line so none few = tt
 too_few n good p at (Some text) None new vertices places line so none few = absurd so.cut
@@ -141,15 +163,43 @@ too_few n good p at (Some text) (Some left) (Some rest) vertices places line so 
       ap (λ k. k + 2) at,
     )
 
-bad_text : (n good p : ℕ) → p ≡ good + 2 → (text left rest : List ℕ) (vertices : List Vertex) (places : List (Option ℕ)) (line : List ℕ) (fault : PgFault) (so : SoFar n good (Some text) (Some left) vertices places) → TakesLine (Some left) (Some rest) true line
+bad_text : (n good p : ℕ) → p ≡ good + 2 → (text left rest : List ℕ) (vertices : List Vertex) (places : List (Option ℕ)) (line : List ℕ) (fault : PgFault)
+    (so : SoFar n good (Some text) (Some left) vertices places) → TakesLine (Some left) (Some rest) true line
     → LineFault n so.spelled line fault → HasRestFault n text fault p
-bad_text n good p at text left rest vertices places line BadIdentifier so more wrong =
-    (good, inl (record { front = so.done; line = line; back = lines rest; before = so.spelled; cut = so.cut ∙ ap (λ l. so.done ++ l) more; good_lines = so.good_lines; count = so.count; wrong = wrong }), at)
-bad_text n good p at text left rest vertices places line _ so more wrong =
-    (good, record { front = so.done; line = line; back = lines rest; before = so.spelled; cut = so.cut ∙ ap (λ l. so.done ++ l) more; good_lines = so.good_lines; count = so.count; wrong = wrong }, at)
+bad_text n good p at text left rest vertices places line BadIdentifier so more wrong = (
+  good,
+  inl (record {
+    front = so.done;
+    line = line;
+    back = lines rest;
+    before = so.spelled;
+    cut = so.cut
+        ∙ ap (λ l. so.done ++ l) more;
+    good_lines = so.good_lines;
+    count = so.count;
+    wrong = wrong;
+  }),
+  at,
+)
+bad_text n good p at text left rest vertices places line _ so more wrong = (
+  good,
+  record {
+    front = so.done;
+    line = line;
+    back = lines rest;
+    before = so.spelled;
+    cut = so.cut
+        ∙ ap (λ l. so.done ++ l) more;
+    good_lines = so.good_lines;
+    count = so.count;
+    wrong = wrong;
+  },
+  at,
+)
 
 -- the line is faulty
-pub bad_row : (n good p : ℕ) → p ≡ good + 2 → (old mid new : Option (List ℕ)) (vertices : List Vertex) (places : List (Option ℕ)) (line : List ℕ) (e : PgError) → SoFar n good old mid vertices places → TakesLine mid new true line
+pub bad_row : (n good p : ℕ) → p ≡ good + 2 → (old mid new : Option (List ℕ)) (vertices : List Vertex) (places : List (Option ℕ)) (line : List ℕ)
+    (e : PgError) → SoFar n good old mid vertices places → TakesLine mid new true line
     → ((before : List Line) → ArePlaces n before places → TellsFault n before line p e) → Refuses old (HasRestFault n) e
 bad_row n good p at None mid new vertices places line e so more tells = tt
 bad_row n good p at (Some text) None new vertices places line e so more tells = absurd so.cut
@@ -164,7 +214,8 @@ within_id : (n : ℕ) (spelled : List Line) → AllByRecursion (IsWithin n) spel
 within_id n spelled within x there = (all_has (IsWithin n) spelled x within there).id
 
 -- a line after as many as were announced
-past_shape : (n : ℕ) (old now : Option (List ℕ)) (vertices : List Vertex) (places : List (Option ℕ)) (line : List ℕ) (x : Line) → (so : SoFar n (n + 1) old now vertices places) → IsLine line x → LineFault n so.spelled line BadIdentifier
+past_shape : (n : ℕ) (old now : Option (List ℕ)) (vertices : List Vertex) (places : List (Option ℕ)) (line : List ℕ) (x : Line)
+    → (so : SoFar n (n + 1) old now vertices places) → IsLine line x → LineFault n so.spelled line BadIdentifier
 past_shape n old now vertices places line x so is =
     let count : length so.spelled ≡ n + 1 = zip_length so.done so.spelled so.good_lines.each ∙ so.count in
     elim (cases_lt n x.id) [
@@ -174,18 +225,22 @@ past_shape n old now vertices places line x so is =
           (x, is, inr (y, Contains-from_Has so.spelled y there, same))
     ]
 
-pub past_end : (n p : ℕ) → p ≡ n + 3 → (old mid new : Option (List ℕ)) (vertices : List Vertex) (places : List (Option ℕ)) (line : List ℕ) (fault : PgFault) → SoFar n (n + 1) old mid vertices places → TakesLine mid new true line
+pub past_end : (n p : ℕ) → p ≡ n + 3 → (old mid new : Option (List ℕ)) (vertices : List Vertex) (places : List (Option ℕ)) (line : List ℕ) (fault : PgFault)
+    → SoFar n (n + 1) old mid vertices places → TakesLine mid new true line
     → ((so : SoFar n (n + 1) old mid vertices places) → LineFault n so.spelled line fault) → IfSome old (λ text. HasRestFault n text fault p)
 past_end n p at None mid new vertices places line fault so more wrong = tt
 past_end n p at (Some text) None new vertices places line fault so more wrong = absurd so.cut
 past_end n p at (Some text) (Some left) None vertices places line fault so more wrong = absurd more
-past_end n p at (Some text) (Some left) (Some rest) vertices places line fault so more wrong = bad_text n (n + 1) p (omega arith) text left rest vertices places line fault so more (wrong so)
+past_end n p at (Some text) (Some left) (Some rest) vertices places line fault so more wrong = bad_text n (n + 1) p
+    (omega arith) text left rest vertices places line fault so more (wrong so)
 
-pub past_bad : (n p : ℕ) → p ≡ n + 3 → (old mid new : Option (List ℕ)) (vertices : List Vertex) (places : List (Option ℕ)) (line : List ℕ) → SoFar n (n + 1) old mid vertices places → TakesLine mid new true line → line_at line ≡ None
+pub past_bad : (n p : ℕ) → p ≡ n + 3 → (old mid new : Option (List ℕ)) (vertices : List Vertex) (places : List (Option ℕ)) (line : List ℕ)
+    → SoFar n (n + 1) old mid vertices places → TakesLine mid new true line → line_at line ≡ None
     → IfSome old (λ text. HasRestFault n text BadLine p)
 past_bad n p at old mid new vertices places line so more none = past_end n p at old mid new vertices places line BadLine so more (λ _. bad_line line none)
 
-pub past_all : (n p : ℕ) → p ≡ n + 3 → (old mid new : Option (List ℕ)) (vertices : List Vertex) (places : List (Option ℕ)) (line : List ℕ) (a : Line) → SoFar n (n + 1) old mid vertices places → TakesLine mid new true line → line_at line ≡ Some a
+pub past_all : (n p : ℕ) → p ≡ n + 3 → (old mid new : Option (List ℕ)) (vertices : List Vertex) (places : List (Option ℕ)) (line : List ℕ) (a : Line)
+    → SoFar n (n + 1) old mid vertices places → TakesLine mid new true line → line_at line ≡ Some a
     → IfSome old (λ text. HasRestFault n text BadIdentifier p)
 past_all n p at old mid new vertices places line a so more found =
     let (x, is, same) = line_gives line a found in
@@ -193,7 +248,8 @@ past_all n p at old mid new vertices places line a so more found =
 
 -- ---- all lines
 
-pub all_rows : (n good : ℕ) → good ≡ n + 1 → (old mid new : Option (List ℕ)) (vertices : List Vertex) (places : List (Option ℕ)) → SoFar n good old mid vertices places → IfKnown mid new HasNoLine → IfKnown old new (AreAll n vertices places)
+pub all_rows : (n good : ℕ) → good ≡ n + 1 → (old mid new : Option (List ℕ)) (vertices : List Vertex) (places : List (Option ℕ))
+    → SoFar n good old mid vertices places → IfKnown mid new HasNoLine → IfKnown old new (AreAll n vertices places)
 all_rows n good all None mid new vertices places so none = tt
 all_rows n good all (Some text) None new vertices places so none = absurd so.cut
 all_rows n good all (Some text) (Some left) None vertices places so none = absurd none
@@ -207,7 +263,8 @@ all_rows n good all (Some text) (Some left) (Some rest) vertices places so none 
       placed = so.placed;
     }
 
-pub row_count : (n good : ℕ) (old now : Option (List ℕ)) (vertices : List Vertex) (places : List (Option ℕ)) → SoFar n good old now vertices places → length vertices ≡ good
+pub row_count : (n good : ℕ) (old now : Option (List ℕ)) (vertices : List Vertex) (places : List (Option ℕ)) → SoFar n good old now vertices places
+    → length vertices ≡ good
 row_count n good old now vertices places so = ap length so.kept ∙ length-map so.spelled vertex_of ∙ zip_length so.done so.spelled so.good_lines.each ∙ so.count
 
 fit : (n m : ℕ) (x : Line) → m ≡ n + 1 → IsWithin n x → IsVertex m (vertex_of x)
@@ -231,7 +288,8 @@ fits n m [] is h = tt
 fits n m (x ∷ spelled) is h = (fit n m x is h.0, fits n m spelled is h.1)
 
 -- the vertices make a game, in whatever order they stand
-pub read_game_is : (n good : ℕ) → good ≡ n + 1 → n < MOST_VERTICES → (old now : Option (List ℕ)) (vertices : List Vertex) (places : List (Option ℕ)) → SoFar n good old now vertices places → IsGame (record { vertices = vertices; named = None })
+pub read_game_is : (n good : ℕ) → good ≡ n + 1 → n < MOST_VERTICES → (old now : Option (List ℕ)) (vertices : List Vertex) (places : List (Option ℕ))
+    → SoFar n good old now vertices places → IsGame (record { vertices = vertices; named = None })
 read_game_is n good all small old now vertices places so =
     let count = row_count n good old now vertices places so in
     record {
@@ -242,7 +300,8 @@ read_game_is n good all small old now vertices places so =
     }
 
 -- each identifier has its line
-pub all_filled : (n good : ℕ) → good ≡ n + 1 → (old now : Option (List ℕ)) (vertices : List Vertex) (places : List (Option ℕ)) → SoFar n good old now vertices places → AreFilled (length vertices) places
+pub all_filled : (n good : ℕ) → good ≡ n + 1 → (old now : Option (List ℕ)) (vertices : List Vertex) (places : List (Option ℕ))
+    → SoFar n good old now vertices places → AreFilled (length vertices) places
 all_filled n good all old now vertices places so v below =
     let count : length so.spelled ≡ n + 1 = zip_length so.done so.spelled so.good_lines.each ∙ so.count ∙ all in
     let low : v ≤ n = omega (arith, so.placed.count) in

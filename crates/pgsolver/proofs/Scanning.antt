@@ -1,5 +1,6 @@
 -- What the tests on a whole line say of the line.
-use Rattle.std.proofs.Common.{◌≡◌, ℕ, zero, suc, ◌+◌, ◌-◌, ◌*◌, ◌<◌, ◌≤◌, Bool, true, false, cond, ◌==◌, nat_eq, List, [], ◌∷◌, ◌++◌, length, map, Option, Some, None, refl, sym, ap, ◌∙◌, subst, append_assoc, arith}
+use Rattle.std.proofs.Common.{◌≡◌, ℕ, zero, suc, ◌+◌, ◌-◌, ◌*◌, ◌<◌, ◌≤◌, Bool, true, false, cond, ◌==◌, nat_eq, List, [], ◌∷◌, ◌++◌, length, map, Option}
+use Rattle.std.proofs.Common.{Some, None, refl, sym, ap, ◌∙◌, subst, append_assoc, arith}
 use Rattle.std.specs.Prelude.{codes, nat_le}
 use Rattle.std.specs.List.{list_all, prefix_len, fold, AllZip}
 use Rattle.std.proofs.lemmas.Bool.{and_parts, eqb-true, leb-true}
@@ -8,7 +9,8 @@ use Rattle.std.proofs.lemmas.List.Folds.{list_all-append}
 use Rattle.text.specs.Text.{is_blank, is_digit, is_numeral, value_of, IsNumeral, IsSpaced}
 use Rattle.text.specs.Tokens.{capped, past_blanks, sign_at, number_at, number_before, quoted_at, end_at, ◌>>=◌}
 use Rattle.text.proofs.Spaced.{blank_no_digit}
-use Rattle.text.proofs.Scanning.{bind_some, if_some, sign_gives, sign_finds, number_gives, number_finds, number_before_gives, number_before_finds, quoted_gives, quoted_finds, end_gives, end_finds, past_gap, run_none}
+use Rattle.text.proofs.Scanning.{bind_some, if_some, sign_gives, sign_finds, number_gives, number_finds, number_before_gives, number_before_finds}
+use Rattle.text.proofs.Scanning.{quoted_gives, quoted_finds, end_gives, end_finds, past_gap, run_none}
 use Rattle.systems.specs.Label.{is_label_byte}
 use Rattle.lts.proofs.Canonical.{label_bytes}
 use Rattle.game.specs.declared.player.Player.{Player}
@@ -16,7 +18,8 @@ use Rattle.game.specs.declared.player.Player.TheVariants.{Even, Odd}
 use Rattle.pgsolver.specs.declared.scan.Head.{Head}
 use Rattle.pgsolver.specs.Canon.{owner_digit}
 use Rattle.pgsolver.specs.Spelling.{Line, IsHeader, IsGap, IsLine, IsName, is_name, name_tokens, successor_tokens, with_commas}
-use Rattle.pgsolver.specs.Scan.{capped_line, line_of, header_at, gap_at, number_gap, owner_at, head_at, first_at, more_at, more_behind, targets_at, targets_behind, name_at, name_behind, tail_at, line_at}
+use Rattle.pgsolver.specs.Scan.{capped_line, line_of, header_at, gap_at, number_gap, owner_at, head_at, first_at, more_at, more_behind, targets_at}
+use Rattle.pgsolver.specs.Scan.{targets_behind, name_at, name_behind, tail_at, line_at}
 
 abbrev Tokens : Type 0
 Tokens = List (List ℕ)
@@ -55,9 +58,17 @@ gap_gives (b ∷ bs) rest e = let h = if_some (is_blank b) bs rest e in (b ∷ [
 -- more blanks in front
 spaced_after : (gap : List ℕ) (ts : Tokens) (rest : List ℕ) → list_all is_blank gap ≡ true → IsSpaced ts rest → IsSpaced ts (gap ++ rest)
 spaced_after gap [] rest blank more = list_all-append is_blank gap rest ∙ rw (blank, more) refl
-spaced_after gap (t ∷ ts) rest blank (g, r, b, e, more) = (gap ++ g, r, list_all-append is_blank gap g ∙ rw (blank, b) refl, ap (λ l. gap ++ l) e ∙ sym (append_assoc gap g (t ++ r)), more)
+spaced_after gap (t ∷ ts) rest blank (g, r, b, e, more) = (
+  gap ++ g,
+  r,
+  list_all-append is_blank gap g ∙ rw (blank, b) refl,
+  ap (λ l. gap ++ l) e
+      ∙ sym (append_assoc gap g (t ++ r)),
+  more,
+)
 
-gap_finds : (b : ℕ) (ts : Tokens) (line : List ℕ) → is_blank b ≡ true → IsSpaced ((b ∷ []) ∷ ts) line → (rest : List ℕ) × (gap_at line ≡ Some rest) × IsSpaced ts rest
+gap_finds : (b : ℕ) (ts : Tokens) (line : List ℕ) → is_blank b ≡ true → IsSpaced ((b ∷ []) ∷ ts) line → (rest : List ℕ) × (gap_at line ≡ Some rest)
+    × IsSpaced ts rest
 unfolding gap_at
 gap_finds b ts line h ([], r, blank, e, more) = (r, ap gap_at e ∙ rw h refl, more)
 gap_finds b ts line h (g ∷ gs, r, blank, e, more) =
@@ -66,20 +77,23 @@ gap_finds b ts line h (g ∷ gs, r, blank, e, more) =
 
 -- ---- signs and numbers that are not there
 
-number_none : (c : ℕ) (cs : List ℕ) (ts : Tokens) (line : List ℕ) → is_blank c ≡ false → is_digit c ≡ false → IsSpaced ((c ∷ cs) ∷ ts) line → number_at line ≡ None
+number_none : (c : ℕ) (cs : List ℕ) (ts : Tokens) (line : List ℕ) → is_blank c ≡ false → is_digit c ≡ false → IsSpaced ((c ∷ cs) ∷ ts) line
+    → number_at line ≡ None
 unfolding number_at
 number_none c cs ts line h k (gap, rest, blank, e, more) =
     let start : past_blanks line ≡ c ∷ (cs ++ rest) = ap past_blanks e ∙ past_gap gap (c ∷ (cs ++ rest)) blank h in
     let none : prefix_len is_digit (c ∷ (cs ++ rest)) ≡ 0 = run_none is_digit (c ∷ (cs ++ rest)) k in
     rw (start, none) refl
 
-sign_none : (c : ℕ) (cs : List ℕ) (ts : Tokens) (line : List ℕ) (d : ℕ) (ds : List ℕ) → is_blank c ≡ false → nat_eq c d ≡ false → IsSpaced ((c ∷ cs) ∷ ts) line → sign_at (d ∷ ds) line ≡ None
+sign_none : (c : ℕ) (cs : List ℕ) (ts : Tokens) (line : List ℕ) (d : ℕ) (ds : List ℕ) → is_blank c ≡ false → nat_eq c d ≡ false
+    → IsSpaced ((c ∷ cs) ∷ ts) line → sign_at (d ∷ ds) line ≡ None
 unfolding sign_at
 sign_none c cs ts line d ds h k (gap, rest, blank, e, more) =
     let start : past_blanks line ≡ c ∷ (cs ++ rest) = ap past_blanks e ∙ past_gap gap (c ∷ (cs ++ rest)) blank h in
     rw (start, k) refl
 
-first_none : (c : ℕ) (cs : List ℕ) (ts : Tokens) (line : List ℕ) → is_blank c ≡ false → is_digit c ≡ false → IsSpaced ((c ∷ cs) ∷ ts) line → first_at line ≡ None
+first_none : (c : ℕ) (cs : List ℕ) (ts : Tokens) (line : List ℕ) → is_blank c ≡ false → is_digit c ≡ false → IsSpaced ((c ∷ cs) ∷ ts) line
+    → first_at line ≡ None
 unfolding first_at gap_at
 first_none c cs ts line h k ([], rest, blank, e, more) = ap first_at e ∙ rw h refl
 first_none c cs ts line h k (g ∷ gs, rest, blank, e, more) =
@@ -99,7 +113,8 @@ number_gap_gives line v rest e =
     let (v-is, rest-is) = some_same n.0 v after rest e3 in
     (x, gap, numeral, is, sym v-is ∙ value, λ ts m. spaced (gap ∷ ts) (more ts (subst (IsSpaced ts) (sym rest-is) m)))
 
-number_gap_finds : (x gap : List ℕ) (ts : Tokens) (line : List ℕ) → is_numeral x ≡ true → IsGap gap → IsSpaced (x ∷ gap ∷ ts) line → (rest : List ℕ) × (number_gap line ≡ Some (capped (value_of x), rest)) × IsSpaced ts rest
+number_gap_finds : (x gap : List ℕ) (ts : Tokens) (line : List ℕ) → is_numeral x ≡ true → IsGap gap → IsSpaced (x ∷ gap ∷ ts) line → (rest : List ℕ)
+    × (number_gap line ≡ Some (capped (value_of x), rest)) × IsSpaced ts rest
 unfolding number_gap
 number_gap_finds x gap ts line hx (b, blank, is) spaced =
     let (after, found, more) = number_finds x b [] line ts hx (blank_no_digit b blank) (subst (λ l. IsSpaced (x ∷ l ∷ ts) line) is spaced) in
@@ -134,12 +149,14 @@ small_digit Even = omega arith
 small_digit Odd = omega arith
 
 -- the owner of the number
-owner_split : (a b : Bool) (n : ℕ) (r : List ℕ) (o : Player) (rest : List ℕ) → (n == 0) ≡ a → (n == 1) ≡ b → cond a (Some (both Even r)) (cond b (Some (both Odd r)) None) ≡ Some (both o rest) → (n ≡ digit_of o) × (r ≡ rest)
+owner_split : (a b : Bool) (n : ℕ) (r : List ℕ) (o : Player) (rest : List ℕ) → (n == 0) ≡ a → (n == 1) ≡ b
+    → cond a (Some (both Even r)) (cond b (Some (both Odd r)) None) ≡ Some (both o rest) → (n ≡ digit_of o) × (r ≡ rest)
 owner_split true b n r o rest p q e = let same = some_same Even o r rest e in (eqb-true n 0 p ∙ ap digit_of same.0, same.1)
 owner_split false true n r o rest p q e = let same = some_same Odd o r rest e in (eqb-true n 1 q ∙ ap digit_of same.0, same.1)
 owner_split false false n r o rest p q e = absurd cc
 
-owner_gives : (line : List ℕ) (o : Player) (rest : List ℕ) → owner_at line ≡ Some (o, rest) → (ts : Tokens) → IsSpaced ts rest → IsSpaced (owner_digit o ∷ ts) line
+owner_gives : (line : List ℕ) (o : Player) (rest : List ℕ) → owner_at line ≡ Some (o, rest) → (ts : Tokens) → IsSpaced ts rest
+    → IsSpaced (owner_digit o ∷ ts) line
 unfolding owner_at
 owner_gives line o rest e ts more =
     let (n, found, e2) = bind_some (number_at line) (λ n. cond (n.0 == 0) (Some (Even, n.1)) (cond (n.0 == 1) (Some (Odd, n.1)) None)) (o, rest) e in
@@ -191,11 +208,14 @@ front_gives line head rest e =
       second = hf;
       id_is = sym (ap (λ (h : Head). h.id) same) ∙ vx;
       priority_is = sym (ap (λ (h : Head). h.priority) same) ∙ vy;
-      spaced = λ ts more. subst (λ (h : Head). IsSpaced (x ∷ g ∷ y ∷ f ∷ owner_digit h.owner ∷ ts) line) same (gx (y ∷ f ∷ owner_digit o.0 ∷ ts) (gy (owner_digit o.0 ∷ ts) (owner_gives p.1 o.0 o.1 s3 ts (subst (IsSpaced ts) (sym rest-is) more))));
+      spaced = λ ts more. subst (λ (h : Head). IsSpaced (x ∷ g ∷ y ∷ f ∷ owner_digit h.owner ∷ ts) line) same
+          (gx (y ∷ f ∷ owner_digit o.0 ∷ ts) (gy (owner_digit o.0 ∷ ts) (owner_gives p.1 o.0 o.1 s3 ts (subst (IsSpaced ts) (sym rest-is) more))));
     }
 
-front_finds : (i g p f : List ℕ) (o : Player) (c : ℕ) (cs : List ℕ) (ts : Tokens) (line : List ℕ) → is_numeral i ≡ true → is_numeral p ≡ true → IsGap g → IsGap f → is_digit c ≡ false
-    → IsSpaced (i ∷ g ∷ p ∷ f ∷ owner_digit o ∷ (c ∷ cs) ∷ ts) line → (rest : List ℕ) × (head_at line ≡ Some (head_with (capped (value_of i)) (capped (value_of p)) o, rest)) × IsSpaced ((c ∷ cs) ∷ ts) rest
+front_finds : (i g p f : List ℕ) (o : Player) (c : ℕ) (cs : List ℕ) (ts : Tokens) (line : List ℕ) → is_numeral i ≡ true → is_numeral p ≡ true → IsGap g
+    → IsGap f → is_digit c ≡ false
+    → IsSpaced (i ∷ g ∷ p ∷ f ∷ owner_digit o ∷ (c ∷ cs) ∷ ts) line → (rest : List ℕ)
+    × (head_at line ≡ Some (head_with (capped (value_of i)) (capped (value_of p)) o, rest)) × IsSpaced ((c ∷ cs) ∷ ts) rest
 unfolding head_at
 front_finds i g p f o c cs ts line hi hp hg hf h spaced =
     let (r1, s1, m1) = number_gap_finds i g (p ∷ f ∷ owner_digit o ∷ (c ∷ cs) ∷ ts) line hi hg spaced in
@@ -214,7 +234,8 @@ first_gives line v rest e =
     let (x, numeral, value, spaced) = number_gives after v rest found in
     (gap, x, is, numeral, value, λ ts m. more (x ∷ ts) (spaced ts m))
 
-first_finds : (gap x : List ℕ) (c : ℕ) (cs : List ℕ) (ts : Tokens) (line : List ℕ) → IsGap gap → is_numeral x ≡ true → is_digit c ≡ false → IsSpaced (gap ∷ x ∷ (c ∷ cs) ∷ ts) line
+first_finds : (gap x : List ℕ) (c : ℕ) (cs : List ℕ) (ts : Tokens) (line : List ℕ) → IsGap gap → is_numeral x ≡ true → is_digit c ≡ false
+    → IsSpaced (gap ∷ x ∷ (c ∷ cs) ∷ ts) line
     → (rest : List ℕ) × (first_at line ≡ Some (capped (value_of x), rest)) × IsSpaced ((c ∷ cs) ∷ ts) rest
 unfolding first_at
 first_finds gap x c cs ts line (b, blank, is) hx h spaced =
@@ -233,7 +254,8 @@ record HasMore (line numbers rest : List ℕ) : Type 0 where
 abbrev Gives : ℕ → Type 0
 Gives most = (line numbers rest : List ℕ) → more_at most line ≡ Some (both numbers rest) → HasMore line numbers rest
 
-more_behind_gives : (most : ℕ) → Gives most → (line numbers rest : List ℕ) (o : Option (List ℕ)) → sign_at (codes ",") line ≡ o → more_behind (more_at most) line o ≡ Some (both numbers rest) → HasMore line numbers rest
+more_behind_gives : (most : ℕ) → Gives most → (line numbers rest : List ℕ) (o : Option (List ℕ)) → sign_at (codes ",") line ≡ o
+    → more_behind (more_at most) line o ≡ Some (both numbers rest) → HasMore line numbers rest
 more_behind_gives most less line numbers rest None s e =
     let (none, same) = some_same [] numbers line rest e in
     record { xs = []; vs = []; each = tt; numbers_are = sym none; spaced = λ ts more. subst (IsSpaced ts) (sym same) more }
@@ -248,7 +270,8 @@ more_behind_gives most less line numbers rest (Some after) s e =
       vs = value_of x ∷ h.vs;
       each = ((numeral, refl), h.each);
       numbers_are = sym same ∙ (λ i. value i ∷ h.numbers_are i);
-      spaced = λ ts more. sign_gives (codes ",") line after (x ∷ with_commas h.xs ++ ts) s (spaced (with_commas h.xs ++ ts) (h.spaced ts (subst (IsSpaced ts) (sym rest-is) more)));
+      spaced = λ ts more. sign_gives (codes ",") line after (x ∷ with_commas h.xs ++ ts) s
+          (spaced (with_commas h.xs ++ ts) (h.spaced ts (subst (IsSpaced ts) (sym rest-is) more)));
     }
 
 more_gives : (most : ℕ) → Gives most
@@ -267,11 +290,13 @@ record BeginsOther (tokens : Tokens) : Type 0 where
   is : tokens ≡ (c ∷ cs) ∷ ts
 
 -- what follows a number among successors
-after_number : (xs : Tokens) (tail : Tokens) → BeginsOther tail → (c : ℕ) × (cs : List ℕ) × (ts : Tokens) × (is_digit c ≡ false) × (with_commas xs ++ tail ≡ (c ∷ cs) ∷ ts)
+after_number : (xs : Tokens) (tail : Tokens) → BeginsOther tail → (c : ℕ) × (cs : List ℕ) × (ts : Tokens) × (is_digit c ≡ false)
+    × (with_commas xs ++ tail ≡ (c ∷ cs) ∷ ts)
 after_number [] tail h = (h.c, h.cs, h.ts, h.no_digit, h.is)
 after_number (x ∷ xs) tail h = (44, [], x ∷ with_commas xs ++ tail, refl, refl)
 
-more_finds : (xs : Tokens) (vs : List ℕ) (tail : Tokens) (line : List ℕ) (most : ℕ) → AllZip IsNumeral xs vs → BeginsOther tail → length xs < most → IsSpaced (with_commas xs ++ tail) line
+more_finds : (xs : Tokens) (vs : List ℕ) (tail : Tokens) (line : List ℕ) (most : ℕ) → AllZip IsNumeral xs vs → BeginsOther tail → length xs < most
+    → IsSpaced (with_commas xs ++ tail) line
     → (rest : List ℕ) × (more_at most line ≡ Some (map capped vs, rest)) × IsSpaced tail rest
 unfolding more_at
 more_finds xs vs tail line zero each other room spaced = absurd (omega arith)
@@ -308,10 +333,19 @@ record HasTargets (line numbers rest : List ℕ) : Type 0 where
   numbers_are : numbers ≡ map capped vs
   spaced : (ts : Tokens) → IsSpaced ts rest → IsSpaced (successor_tokens gap xs ++ ts) line
 
-targets_behind_gives : (line numbers rest : List ℕ) (o : Option (ℕ × List ℕ)) → first_at line ≡ o → targets_behind line o ≡ Some (numbers, rest) → HasTargets line numbers rest
+targets_behind_gives : (line numbers rest : List ℕ) (o : Option (ℕ × List ℕ)) → first_at line ≡ o → targets_behind line o ≡ Some (numbers, rest)
+    → HasTargets line numbers rest
 targets_behind_gives line numbers rest None s e =
     let (none, same) = some_same [] numbers line rest e in
-    record { gap = 32 ∷ []; xs = []; vs = []; parts = (32, refl, refl); each = tt; numbers_are = sym none; spaced = λ ts more. subst (IsSpaced ts) (sym same) more }
+    record {
+      gap = 32 ∷ [];
+      xs = [];
+      vs = [];
+      parts = (32, refl, refl);
+      each = tt;
+      numbers_are = sym none;
+      spaced = λ ts more. subst (IsSpaced ts) (sym same) more;
+    }
 targets_behind_gives line numbers rest (Some (v, after)) s e =
     let (m, others, e2) = bind_some (more_at (length after + 1) after) (λ m. Some (v ∷ m.0, m.1)) (numbers, rest) e in
     let (same, rest-is) = some_same (v ∷ m.0) numbers m.1 rest e2 in
@@ -331,7 +365,8 @@ targets_gives : (line numbers rest : List ℕ) → targets_at line ≡ Some (num
 unfolding targets_at
 targets_gives line numbers rest e = targets_behind_gives line numbers rest (first_at line) refl e
 
-targets_finds : (gap : List ℕ) (xs : Tokens) (vs : List ℕ) (tail : Tokens) (line : List ℕ) → IsGap gap → AllZip IsNumeral xs vs → BeginsOther tail → IsSpaced (successor_tokens gap xs ++ tail) line
+targets_finds : (gap : List ℕ) (xs : Tokens) (vs : List ℕ) (tail : Tokens) (line : List ℕ) → IsGap gap → AllZip IsNumeral xs vs → BeginsOther tail
+    → IsSpaced (successor_tokens gap xs ++ tail) line
     → (rest : List ℕ) × (targets_at line ≡ Some (map capped vs, rest)) × IsSpaced tail rest
 unfolding targets_at
 targets_finds gap [] [] tail line parts each other spaced =
@@ -355,7 +390,8 @@ tail_other : (name : Option (List ℕ)) → BeginsOther (tail_tokens name)
 tail_other None = record { c = 59; cs = []; ts = []; no_blank = refl; no_digit = refl; no_comma = refl; is = refl }
 tail_other (Some bytes) = record { c = 34; cs = bytes ++ 34 ∷ []; ts = codes ";" ∷ []; no_blank = refl; no_digit = refl; no_comma = refl; is = refl }
 
-name_behind_gives : (line rest : List ℕ) (o : Option (List ℕ × List ℕ)) → quoted_at line ≡ o → name_behind line o ≡ Some rest → (name : Option (List ℕ)) × IsName name × ((ts : Tokens) → IsSpaced ts rest → IsSpaced (name_tokens name ++ ts) line)
+name_behind_gives : (line rest : List ℕ) (o : Option (List ℕ × List ℕ)) → quoted_at line ≡ o → name_behind line o ≡ Some rest → (name : Option (List ℕ))
+    × IsName name × ((ts : Tokens) → IsSpaced ts rest → IsSpaced (name_tokens name ++ ts) line)
 name_behind_gives line rest None q e = let same : line ≡ rest = cc in (None, tt, λ ts more. subst (IsSpaced ts) (sym same) more)
 name_behind_gives line rest (Some (name, after)) q e =
     let h = if_some (is_name name) after rest e in
@@ -374,11 +410,13 @@ quoted_none : (line : List ℕ) (ts : Tokens) → IsSpaced (codes ";" ∷ ts) li
 unfolding quoted_at
 quoted_none line ts spaced = rw (sign_none 59 [] ts line 34 [] refl refl spaced) refl
 
-name_finds : (name : Option (List ℕ)) (line : List ℕ) → IsName name → IsSpaced (tail_tokens name) line → (rest : List ℕ) × (name_at line ≡ Some rest) × IsSpaced (codes ";" ∷ []) rest
+name_finds : (name : Option (List ℕ)) (line : List ℕ) → IsName name → IsSpaced (tail_tokens name) line → (rest : List ℕ) × (name_at line ≡ Some rest)
+    × IsSpaced (codes ";" ∷ []) rest
 unfolding name_at
 name_finds None line is spaced = (line, ap (name_behind line) (quoted_none line [] spaced), spaced)
 name_finds (Some bytes) line is spaced =
-    let (rest, found, more) = quoted_finds line bytes (codes ";" ∷ []) (label_bytes bytes (and_parts (nat_le (length bytes) 4096) (list_all is_label_byte bytes) is).1).1 spaced in
+    let (rest, found, more) = quoted_finds line bytes (codes ";" ∷ [])
+    (label_bytes bytes (and_parts (nat_le (length bytes) 4096) (list_all is_label_byte bytes) is).1).1 spaced in
     (rest, ap (name_behind line) found ∙ rw is refl, more)
 
 tail_finds : (name : Option (List ℕ)) (line : List ℕ) → IsName name → IsSpaced (tail_tokens name) line → tail_at line ≡ Some tt
@@ -421,7 +459,8 @@ line_gives line a e =
     )
 
 -- what follows the owner
-after_owner : (gap : List ℕ) (xs : Tokens) (tail : Tokens) → IsGap gap → BeginsOther tail → (c : ℕ) × (cs : List ℕ) × (ts : Tokens) × (is_digit c ≡ false) × (successor_tokens gap xs ++ tail ≡ (c ∷ cs) ∷ ts)
+after_owner : (gap : List ℕ) (xs : Tokens) (tail : Tokens) → IsGap gap → BeginsOther tail → (c : ℕ) × (cs : List ℕ) × (ts : Tokens) × (is_digit c ≡ false)
+    × (successor_tokens gap xs ++ tail ≡ (c ∷ cs) ∷ ts)
 after_owner gap [] tail parts h = (h.c, h.cs, h.ts, h.no_digit, h.is)
 after_owner gap (x ∷ xs) tail (b, blank, is) h = (b, [], x ∷ with_commas xs ++ tail, blank_no_digit b blank, ap (λ g. g ∷ x ∷ with_commas xs ++ tail) is)
 
@@ -432,6 +471,7 @@ line_finds line x h =
     let tail = tail_tokens h.name in
     let other = tail_other h.name in
     let (c, cs, ts, no_digit, next) = after_owner h.third_gap h.targets tail h.gaps.2 other in
-    let (r1, s1, m1) = front_finds h.i h.first_gap h.p h.second_gap x.owner c cs ts line h.id.0 h.priority.0 h.gaps.0 h.gaps.1 no_digit (subst (λ l. IsSpaced (h.i ∷ h.first_gap ∷ h.p ∷ h.second_gap ∷ owner_digit x.owner ∷ l) line) next h.spaced) in
+    let (r1, s1, m1) = front_finds h.i h.first_gap h.p h.second_gap x.owner c cs ts line h.id.0 h.priority.0 h.gaps.0 h.gaps.1 no_digit
+    (subst (λ l. IsSpaced (h.i ∷ h.first_gap ∷ h.p ∷ h.second_gap ∷ owner_digit x.owner ∷ l) line) next h.spaced) in
     let (r2, s2, m2) = targets_finds h.third_gap h.targets x.successors tail r1 h.gaps.2 h.successors other (subst (λ l. IsSpaced l r1) (sym next) m1) in
     rw (s1, s2, tail_finds h.name r2 h.named m2, h.id.1, h.priority.1) refl

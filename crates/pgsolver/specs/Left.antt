@@ -1,5 +1,6 @@
 -- Why a call refused what a reader had left, and what stands there.
-use Rattle.std.specs.Prelude.{◌≡◌, ◌≢◌, ℕ, ◌+◌, ◌<◌, ◌≤◌, ◌⊎◌, Bool, true, false, List, [], ◌∷◌, ◌++◌, length, map, Option, Some, None, IfSome, slice_index_or, slice_get, nat_lt, is_some, Contains}
+use Rattle.std.specs.Prelude.{◌≡◌, ◌≢◌, ℕ, ◌+◌, ◌<◌, ◌≤◌, ◌⊎◌, Bool, true, false, List, [], ◌∷◌, ◌++◌, length, map, Option, Some, None, IfSome}
+use Rattle.std.specs.Prelude.{slice_index_or, slice_get, nat_lt, is_some, Contains}
 use Rattle.std.specs.List.{list_any}
 use Rattle.text.specs.Text.{lines}
 use Rattle.text.specs.Lines.{IfKnown}
@@ -81,7 +82,8 @@ pub record IsSound (n : ℕ) (places : List (Option ℕ)) (x : Line) : Type 0 wh
 abbrev pub IsFirstFault : ℕ → List (Option ℕ) → Line → PgFault → Type 0
 IsFirstFault n places x BadIdentifier = (n < x.id) ⊎ ((x.id ≤ n) × (is_some (slice_index_or places x.id None) ≡ true))
 IsFirstFault n places x BadSuccessor = (x.id ≤ n) × (slice_index_or places x.id None ≡ None) × ((x.successors ≡ []) ⊎ (has_far n x.successors ≡ true))
-IsFirstFault n places x PriorityTooGreat = (x.id ≤ n) × (slice_index_or places x.id None ≡ None) × (x.successors ≢ []) × (has_far n x.successors ≡ false) × (GREATEST_PRIORITY < x.priority)
+IsFirstFault n places x PriorityTooGreat = (x.id ≤ n) × (slice_index_or places x.id None ≡ None) × (x.successors ≢ []) × (has_far n x.successors ≡ false)
+    × (GREATEST_PRIORITY < x.priority)
 IsFirstFault n places x _ = ⊥
 
 -- the fault of a line that stands after these, and its place

@@ -1,5 +1,6 @@
 -- The game that a text spells.
-use Rattle.std.specs.Prelude.{◌≡◌, ◌≢◌, ℕ, ◌+◌, ◌<◌, ◌≤◌, List, [], ◌∷◌, ◌++◌, length, IsTrue, Contains, AllPairs, Bool, Option, Some, None, MatchOption, nat_le, ◌&&◌, codes}
+use Rattle.std.specs.Prelude.{◌≡◌, ◌≢◌, ℕ, ◌+◌, ◌<◌, ◌≤◌, List, [], ◌∷◌, ◌++◌, length, IsTrue, Contains, AllPairs, Bool, Option, Some, None, MatchOption}
+use Rattle.std.specs.Prelude.{nat_le, ◌&&◌, codes}
 use Rattle.std.specs.List.{AllZip, AllByRecursion, list_all}
 use Rattle.text.specs.Text.{lines, is_blank, IsNumeral, IsSpaced}
 use Rattle.systems.specs.Label.{is_label_byte}

@@ -24,7 +24,7 @@ use Rattle.evidence.specs.declared.error.EvidenceError.TheVariants as evidence
 use Rattle.evidence.specs.Evidence.{Evidence}
 use Rattle.evidence.specs.Best.{IsEvenOf, IsOddOf}
 use Rattle.evidence.specs.Canon.{evidence_text}
-use Rattle.witness.specs.Witness.{IsWitness}
+use Rattle.witness.specs.Witness.{IsShown}
 use Rattle.witness.specs.Drawing.{drawing}
 use Rattle.requests.specs.declared.error.MuError.{MuError}
 use Rattle.requests.specs.declared.error.MuError.TheVariants as error
@@ -33,7 +33,8 @@ use Rattle.workers.specs.declared.team.BoardKind.{BoardKind}
 use Rattle.requests.specs.Report.{report}
 use Rattle.requests.specs.Roots.{WinsRoot}
 use Rattle.requests.specs.Solver.{IsFitting, IsUnsolved}
-use Rattle.requests.specs.Writers.{Kind, GameText, EvenText, OddText, WitnessText, DrawingText, ReportText, Unasked, Lent, NeedsEvidence, AreWhole, AreKept, AreWrittenUpTo}
+use Rattle.requests.specs.Writers.{Kind, GameText, EvenText, OddText, WitnessText, DrawingText, ReportText, Unasked, Lent, NeedsEvidence, AreWhole, AreKept}
+use Rattle.requests.specs.Writers.{AreWrittenUpTo}
 
 -- how the states are found: by sets of states, or by the game with the priorities of a rule, solved over the board that is asked for, if one is
 pub data Way : Type 0 where
@@ -104,8 +105,8 @@ IsTextOf BySets l f marks Unasked text = text ≡ []
 IsTextOf (ByGame rule board) l f marks GameText text = text ≡ game_text (game_of rule l f)
 IsTextOf (ByGame rule board) l f marks EvenText text = (e : Evidence) × IsEvenOf (game_of rule l f) e × (text ≡ evidence_text e)
 IsTextOf (ByGame rule board) l f marks OddText text = (e : Evidence) × IsOddOf (game_of rule l f) e × (text ≡ evidence_text e)
-IsTextOf (ByGame rule board) l f marks WitnessText text = (part : System) × IsWitness l f part × (text ≡ aut_text part)
-IsTextOf (ByGame rule board) l f marks DrawingText text = (part : System) × IsWitness l f part × (text ≡ drawing part)
+IsTextOf (ByGame rule board) l f marks WitnessText text = (part : System) × IsShown l f (nodes_with rule f) part × (text ≡ aut_text part)
+IsTextOf (ByGame rule board) l f marks DrawingText text = (part : System) × IsShown l f (nodes_with rule f) part × (text ≡ drawing part)
 IsTextOf (ByGame rule board) l f marks ReportText text = text ≡ report l f marks
 IsTextOf (ByGame rule board) l f marks Unasked text = text ≡ []
 

@@ -35,7 +35,7 @@ pub fn solve_with<G: Gate + Sync, R: Threads + Wait + Clone + Copy + Drop + Send
     solve_seen(rt, alloc, game, options, gate, &Silent, &NoGuess)
 }
 
-/// The same with the help of a guess, told to an observer: that the search begins, and lifts now and then.
+/// Solves as `solve_with` does, with the help of a guess, and tells an observer that the search begins, and of lifts now and then.
 ///
 /// # Errors
 /// Those of `solve_with`.

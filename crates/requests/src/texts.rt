@@ -45,7 +45,7 @@ pub fn read_both<R: Read + Drop, S: Read + Drop>(
     read_both_seen(alloc, aut, formula, &Silent)
 }
 
-/// The same, told to a watcher: that the system is read, that the formula is, and what both are.
+/// Reads both as `read_both` does, and tells a watcher that the system is read, that the formula is, and what both are.
 ///
 /// # Errors
 /// Those of `read_both`.

@@ -301,7 +301,7 @@ fn help_shows_what_is_served(rt: HostRuntime) {
 fn version_tells_the_toolchain(rt: HostRuntime) {
     let line = words(rt.alloc(), "mucheck --version").expect(&rt, "memory");
     let text = help(rt.alloc(), line.as_slice()).expect(&rt, "memory");
-    let wanted = "mucheck 0.9.0\nproved with rattle-kit-13b logic dac8208d650f15bf\n";
+    let wanted = "mucheck 0.9.0\nproved with rattle-kit-13f logic dac8208d650f15bf\n";
     same(&rt, "version", text.as_str(), wanted);
 }
 

@@ -1,5 +1,6 @@
 -- The parts of a label, and what they are read as.
-use Rattle.std.proofs.Common.{◌≡◌, ℕ, suc, ◌+◌, ◌<◌, ◌≤◌, Bool, true, false, cond, ◌&&◌, ◌||◌, ◌==◌, List, [], ◌∷◌, ◌++◌, length, drop, get_or, Option, Some, None, refl, sym, ap, ◌∙◌, append_assoc, append-nil, arith, Ordering, Less, Equal, Greater}
+use Rattle.std.proofs.Common.{◌≡◌, ℕ, suc, ◌+◌, ◌<◌, ◌≤◌, Bool, true, false, cond, ◌&&◌, ◌||◌, ◌==◌, List, [], ◌∷◌, ◌++◌, length, drop, get_or, Option, Some}
+use Rattle.std.proofs.Common.{None, refl, sym, ap, ◌∙◌, append_assoc, append-nil, arith, Ordering, Less, Equal, Greater}
 use Rattle.std.specs.List.{list_all, list_any, AllByRecursion}
 use Rattle.std.specs.List.Sorted.{IsSorted, IsPermutation}
 use Rattle.std.specs.Ordering.{is_lt, is_gt, is_eq}
@@ -40,25 +41,31 @@ glued_bar front b rest e = rw (eq-eqb b 124 e, append-nil front, glued_none rest
 glued_byte : (front : List ℕ) (b : ℕ) (rest : List ℕ) → (b ≡ 124 → ⊥) → glued front (parts_of (b ∷ rest)) ≡ glued (front ++ b ∷ []) (parts_of rest)
 glued_byte front b rest ne =
     let (part, parts, e) = parts_some rest in
-    rw (ne_eqb b 124 ne) (ap (λ p. glued front (with_first b p)) e ∙ ap (λ l. l ∷ parts) (sym (append_assoc front (b ∷ []) part)) ∙ ap (glued (front ++ b ∷ [])) (sym e))
+    rw (ne_eqb b 124 ne) (ap (λ p. glued front (with_first b p)) e ∙ ap (λ l. l ∷ parts) (sym (append_assoc front (b ∷ []) part))
+    ∙ ap (glued (front ++ b ∷ [])) (sym e))
 
 -- a bar ends a part
-pub part_ends : (bytes : List ℕ) (i : ℕ) (done : List (List ℕ)) (part : List ℕ) → i < length bytes → get_or bytes i 0 ≡ 124 → parts_of bytes ≡ done ++ glued part (parts_of (drop i bytes))
+pub part_ends : (bytes : List ℕ) (i : ℕ) (done : List (List ℕ)) (part : List ℕ) → i < length bytes → get_or bytes i 0 ≡ 124
+    → parts_of bytes ≡ done ++ glued part (parts_of (drop i bytes))
     → parts_of bytes ≡ (done ++ part ∷ []) ++ glued [] (parts_of (drop (i + 1) bytes))
 part_ends bytes i done part below bar so =
     let next : i + 1 ≡ suc i = omega arith in
-    rw next (so ∙ ap (λ l. done ++ glued part (parts_of l)) (drop-cons bytes i 0 below) ∙ ap (λ l. done ++ l) (glued_bar part (get_or bytes i 0) (drop (suc i) bytes) bar)
+    rw next (so ∙ ap (λ l. done ++ glued part (parts_of l)) (drop-cons bytes i 0 below)
+    ∙ ap (λ l. done ++ l) (glued_bar part (get_or bytes i 0) (drop (suc i) bytes) bar)
     ∙ sym (append_assoc done (part ∷ []) (glued [] (parts_of (drop (suc i) bytes)))))
 
 -- any other byte goes on with it
-pub part_grows : (bytes : List ℕ) (i : ℕ) (done : List (List ℕ)) (part : List ℕ) → i < length bytes → (get_or bytes i 0 ≡ 124 → ⊥) → parts_of bytes ≡ done ++ glued part (parts_of (drop i bytes))
+pub part_grows : (bytes : List ℕ) (i : ℕ) (done : List (List ℕ)) (part : List ℕ) → i < length bytes → (get_or bytes i 0 ≡ 124 → ⊥)
+    → parts_of bytes ≡ done ++ glued part (parts_of (drop i bytes))
     → parts_of bytes ≡ done ++ glued (part ++ get_or bytes i 0 ∷ []) (parts_of (drop (i + 1) bytes))
 part_grows bytes i done part below other so =
     let next : i + 1 ≡ suc i = omega arith in
-    rw next (so ∙ ap (λ l. done ++ glued part (parts_of l)) (drop-cons bytes i 0 below) ∙ ap (λ l. done ++ l) (glued_byte part (get_or bytes i 0) (drop (suc i) bytes) other))
+    rw next (so ∙ ap (λ l. done ++ glued part (parts_of l)) (drop-cons bytes i 0 below)
+    ∙ ap (λ l. done ++ l) (glued_byte part (get_or bytes i 0) (drop (suc i) bytes) other))
 
 -- the last part ends with the bytes
-pub parts_end : (bytes : List ℕ) (i : ℕ) (parts new : List (Vec ℕ)) (part : Vec ℕ) → length bytes ≤ i → parts_of bytes ≡ texts parts ++ glued part.items (parts_of (drop i bytes)) → new ≡ parts ++ part ∷ [] → texts new ≡ parts_of bytes
+pub parts_end : (bytes : List ℕ) (i : ℕ) (parts new : List (Vec ℕ)) (part : Vec ℕ) → length bytes ≤ i
+    → parts_of bytes ≡ texts parts ++ glued part.items (parts_of (drop i bytes)) → new ≡ parts ++ part ∷ [] → texts new ≡ parts_of bytes
 parts_end bytes i parts new part past so pushed =
     ap texts pushed ∙ map-append (λ (v : Vec ℕ). v.items) parts (part ∷ [])
     ∙ sym (so ∙ ap (λ l. texts parts ++ glued part.items (parts_of l)) (drop_of_length-le bytes past) ∙ ap (λ l. texts parts ++ l ∷ []) (append-nil part.items))
@@ -73,15 +80,19 @@ all_with P name (other ∷ names) one all =
       | false ↦ (one, (all.0, all.1))
     ]
 
-all_past : (name other : List ℕ) (names : List (List ℕ)) → is_gt (bytes_cmp name other) ≡ false → AllByRecursion (λ y. is_lt (bytes_cmp y other) ≡ false) names → AllByRecursion (λ y. is_lt (bytes_cmp y name) ≡ false) names
+all_past : (name other : List ℕ) (names : List (List ℕ)) → is_gt (bytes_cmp name other) ≡ false
+    → AllByRecursion (λ y. is_lt (bytes_cmp y other) ≡ false) names → AllByRecursion (λ y. is_lt (bytes_cmp y name) ≡ false) names
 all_past name other [] low all = tt
-all_past name other (y ∷ names) low all =
-    (turned_test nat_list_cmp_total name y ∙ upto nat_list_cmp_total name other y low (sym (turned_test nat_list_cmp_total other y) ∙ all.0), all_past name other names low all.1)
+all_past name other (y ∷ names) low all = (
+  turned_test nat_list_cmp_total name y ∙ upto nat_list_cmp_total name other y low (sym (turned_test nat_list_cmp_total other y) ∙ all.0),
+  all_past name other names low all.1,
+)
 
 rising_with : (name : List ℕ) (names : List (List ℕ)) → IsRising bytes_cmp names → IsRising bytes_cmp (with_name name names)
 rising_with name [] up = (tt, tt)
 rising_with name (other ∷ names) up =
-    elim (is_gt (bytes_cmp name other)) as (λ t. is_gt (bytes_cmp name other) ≡ t → IsRising bytes_cmp (cond t (other ∷ with_name name names) (name ∷ other ∷ names))) [
+    elim (is_gt (bytes_cmp name other)) as (λ t. is_gt (bytes_cmp name other) ≡ t
+    → IsRising bytes_cmp (cond t (other ∷ with_name name names) (name ∷ other ∷ names))) [
       | true ↦ λ e. (all_with (λ y. is_lt (bytes_cmp y other) ≡ false) name names (above_not_below (bytes_cmp name other) e) up.0, rising_with name names up.1)
       | false ↦ λ e. ((turned_test nat_list_cmp_total name other ∙ e, all_past name other names e up.0), up)
     ] refl
@@ -94,7 +105,8 @@ rising_with name (other ∷ names) up =
 times_with : (z name : List ℕ) (names : List (List ℕ)) → times bytes_cmp z (with_name name names) ≡ times bytes_cmp z (name ∷ names)
 times_with z name [] = refl
 times_with z name (other ∷ names) =
-    elim (is_gt (bytes_cmp name other)) as (λ t. times bytes_cmp z (cond t (other ∷ with_name name names) (name ∷ other ∷ names)) ≡ times bytes_cmp z (name ∷ other ∷ names)) [
+    elim (is_gt (bytes_cmp name other)) as (λ t. times bytes_cmp z (cond t (other ∷ with_name name names) (name ∷ other ∷ names))
+    ≡ times bytes_cmp z (name ∷ other ∷ names)) [
       | true ↦ omega (arith, times_with z name names)
       | false ↦ refl
     ]
@@ -111,7 +123,8 @@ times_multiset z (name ∷ names) = times_with z name (multiset names) ∙ (omeg
 pub sorted_multiset : (old new : List (List ℕ)) → IsPermutation old new → IsSorted bytes_cmp new → new ≡ multiset old
 sorted_multiset old new moved up =
     rising_unique nat_list_cmp_total exact_bytes new (multiset old) (rising_from_sorted nat_list_cmp_total new up) (rising_multiset old)
-    (λ z. times_is_sum bytes_cmp z new ∙ sum_by-IsPermutation (λ y. cond (is_eq (bytes_cmp z y)) 1 0) old new moved ∙ sym (times_is_sum bytes_cmp z old) ∙ sym (times_multiset z old))
+    (λ z. times_is_sum bytes_cmp z new ∙ sum_by-IsPermutation (λ y. cond (is_eq (bytes_cmp z y)) 1 0) old new moved ∙ sym (times_is_sum bytes_cmp z old)
+    ∙ sym (times_multiset z old))
 
 -- ---- what parts are read as
 
@@ -145,7 +158,8 @@ more_than_tau (name ∷ []) t more = absurd (more refl)
 more_than_tau (name ∷ other ∷ names) t more = rw (t, and-false (list_all is_name (name ∷ other ∷ names))) refl
 
 -- only names, and none of them `tau`
-all_names : (parts : List (List ℕ)) → 0 < length parts → list_all is_name parts ≡ true → list_any (bytes_eq tau) parts ≡ false → reading_of_parts parts ≡ Some (multiset parts)
+all_names : (parts : List (List ℕ)) → 0 < length parts → list_all is_name parts ≡ true → list_any (bytes_eq tau) parts ≡ false
+    → reading_of_parts parts ≡ Some (multiset parts)
 all_names [] some h t = absurd (omega arith)
 all_names (name ∷ []) some h t =
     let named : is_name name ≡ true = sym (and-true (is_name name)) ∙ h in
@@ -170,23 +184,30 @@ sorted_texts (part ∷ parts) up = λ k d low high.
     rw (first, second) (up k part low inside)
 
 -- the four ways in which parts are read
-pub read_no_names : (bytes : List ℕ) (parts : List (Vec ℕ)) (r : Bool) → texts parts ≡ parts_of bytes → r ≡ list_all (λ part. is_name part.items) parts → r ≡ false → nothing ≡ reading bytes
+pub read_no_names : (bytes : List ℕ) (parts : List (Vec ℕ)) (r : Bool) → texts parts ≡ parts_of bytes → r ≡ list_all (λ part. is_name part.items) parts
+    → r ≡ false → nothing ≡ reading bytes
 read_no_names bytes parts r cut is none = sym (ap reading_of_parts (sym cut) ∙ no_names (texts parts) (sym (all_texts is_name parts) ∙ sym is ∙ none))
 
-pub read_only_tau : (bytes : List ℕ) (parts : List (Vec ℕ)) (r t : Bool) → texts parts ≡ parts_of bytes → r ≡ list_all (λ part. is_name part.items) parts → r ≡ true → t ≡ list_any (λ part. bytes_eq tau part.items) parts → t ≡ true
+pub read_only_tau : (bytes : List ℕ) (parts : List (Vec ℕ)) (r t : Bool) → texts parts ≡ parts_of bytes → r ≡ list_all (λ part. is_name part.items) parts
+    → r ≡ true → t ≡ list_any (λ part. bytes_eq tau part.items) parts → t ≡ true
     → length parts ≡ 1 → the_names [] ≡ reading bytes
 read_only_tau bytes parts r t cut is all has found one =
-    sym (ap reading_of_parts (sym cut) ∙ only_tau (texts parts) (sym (all_texts is_name parts) ∙ sym is ∙ all) (sym (any_texts (bytes_eq tau) parts) ∙ sym has ∙ found) (length-map parts (λ (v : Vec ℕ). v.items) ∙ one))
+    sym (ap reading_of_parts (sym cut) ∙ only_tau (texts parts) (sym (all_texts is_name parts) ∙ sym is ∙ all)
+    (sym (any_texts (bytes_eq tau) parts) ∙ sym has ∙ found) (length-map parts (λ (v : Vec ℕ). v.items) ∙ one))
 
-pub read_more_than_tau : (bytes : List ℕ) (parts : List (Vec ℕ)) (t : Bool) → texts parts ≡ parts_of bytes → t ≡ list_any (λ part. bytes_eq tau part.items) parts → t ≡ true → (length parts ≡ 1 → ⊥) → nothing ≡ reading bytes
+pub read_more_than_tau : (bytes : List ℕ) (parts : List (Vec ℕ)) (t : Bool) → texts parts ≡ parts_of bytes
+    → t ≡ list_any (λ part. bytes_eq tau part.items) parts → t ≡ true → (length parts ≡ 1 → ⊥) → nothing ≡ reading bytes
 read_more_than_tau bytes parts t cut has found more =
-    sym (ap reading_of_parts (sym cut) ∙ more_than_tau (texts parts) (sym (any_texts (bytes_eq tau) parts) ∙ sym has ∙ found) (λ e. more (sym (length-map parts (λ (v : Vec ℕ). v.items)) ∙ e)))
+    sym (ap reading_of_parts (sym cut) ∙ more_than_tau (texts parts) (sym (any_texts (bytes_eq tau) parts) ∙ sym has ∙ found)
+    (λ e. more (sym (length-map parts (λ (v : Vec ℕ). v.items)) ∙ e)))
 
-pub read_all_names : (bytes : List ℕ) (parts sorted : List (Vec ℕ)) (r t : Bool) → texts parts ≡ parts_of bytes → r ≡ list_all (λ part. is_name part.items) parts → r ≡ true → t ≡ list_any (λ part. bytes_eq tau part.items) parts → t ≡ false
+pub read_all_names : (bytes : List ℕ) (parts sorted : List (Vec ℕ)) (r t : Bool) → texts parts ≡ parts_of bytes
+    → r ≡ list_all (λ part. is_name part.items) parts → r ≡ true → t ≡ list_any (λ part. bytes_eq tau part.items) parts → t ≡ false
     → IsPermutation parts sorted → IsSorted (λ (x y : Vec ℕ). bytes_cmp x.items y.items) sorted → the_names (texts sorted) ≡ reading bytes
 read_all_names bytes parts sorted r t cut is all has none moved up =
     let (part, more, e) = parts_some bytes in
     let some : 0 < length (texts parts) = omega (arith, ap length cut, ap length e) in
     let names = all_names (texts parts) some (sym (all_texts is_name parts) ∙ sym is ∙ all) (sym (any_texts (bytes_eq tau) parts) ∙ sym has ∙ none) in
-    let same : texts sorted ≡ multiset (texts parts) = sorted_multiset (texts parts) (texts sorted) (IsPermutation-map (λ (v : Vec ℕ). v.items) parts sorted moved) (sorted_texts sorted up) in
+    let same : texts sorted ≡ multiset (texts parts) = sorted_multiset (texts parts) (texts sorted)
+    (IsPermutation-map (λ (v : Vec ℕ). v.items) parts sorted moved) (sorted_texts sorted up) in
     ap the_names same ∙ sym (ap reading_of_parts (sym cut) ∙ names)

@@ -1,5 +1,7 @@
 -- Shards, filled place by place and raised.
-use Rattle.progress.proofs.Common.{◌≡◌, ℕ, ◌+◌, ◌*◌, ◌/◌, ◌%◌, ◌<◌, ◌≤◌, true, false, length, replicate, refl, sym, ap, subst, ◌∙◌, inl, inr, arith, lt_of_lt_of_le, slice_set, eqb_tells, length-set, length-replicate, get_or-replicate, Game, IsGame, Measure, Top, Counts, opening, value_at, zeros, bounds, components, IsOpening, LiesBelow, Rows}
+use Rattle.progress.proofs.Common.{◌≡◌, ℕ, ◌+◌, ◌*◌, ◌/◌, ◌%◌, ◌<◌, ◌≤◌, true, false, length, replicate, refl, sym, ap, subst, ◌∙◌, inl, inr, arith}
+use Rattle.progress.proofs.Common.{lt_of_lt_of_le, slice_set, eqb_tells, length-set, length-replicate, get_or-replicate, Game, IsGame, Measure, Top, Counts}
+use Rattle.progress.proofs.Common.{opening, value_at, zeros, bounds, components, IsOpening, LiesBelow, Rows}
 use Rattle.std.specs.Int.{div_ceil}
 use Rattle.std.proofs.lemmas.Grind.{div_ceil_times}
 use Rattle.std.proofs.lemmas.Nat.{div-add-mod', div-mul-add}
@@ -30,7 +32,8 @@ filled_first g index shards n w r some many wide width values = record {
   width = width ∙ is;
   long = λ v h. let m = place_less v n shards some (omega (arith, h, many)) in omega (arith, m, long);
   done = λ v h here l. absurd (omega arith);
-  rest = λ k l h. ap (λ ms. value_at ms k) values ∙ (get_or-replicate (div_ceil n shards) k (Counts (replicate w 0)) Top (omega (arith, h, long)) ∙ zeros_are g w is);
+  rest = λ k l h. ap (λ ms. value_at ms k) values ∙ (get_or-replicate (div_ceil n shards) k (Counts (replicate w 0)) Top (omega (arith, h, long))
+      ∙ zeros_are g w is);
 }
   where
     is : w ≡ length (bounds g)
@@ -39,7 +42,8 @@ filled_first g index shards n w r some many wide width values = record {
     long : length r.values ≡ div_ceil n shards
     long = ap length values ∙ length-replicate (div_ceil n shards) (Counts (replicate w 0))
 
-pub filled_inside : (g : Game) (index shards place v : ℕ) (r : Rows) → IsFilled g index shards place r → index < shards → v ≡ place * shards + index → v < length g.vertices → place < length r.values
+pub filled_inside : (g : Game) (index shards place v : ℕ) (r : Rows) → IsFilled g index shards place r → index < shards → v ≡ place * shards + index
+    → v < length g.vertices → place < length r.values
 filled_inside g index shards place v r is less at h =
     let place_of : v / shards ≡ place = ap (λ k. k / shards) at ∙ div-mul-add place shards index less in
     let i = is.long v h in
@@ -59,13 +63,15 @@ filled_left g index shards place r is zero = record {
 }
 
 -- a place whose vertex has top
-pub filled_top : (g : Game) (index shards place v : ℕ) (r new : Rows) (m : Measure) → IsFilled g index shards place r → index < shards → v ≡ place * shards + index → v < length g.vertices
+pub filled_top : (g : Game) (index shards place v : ℕ) (r new : Rows) (m : Measure) → IsFilled g index shards place r → index < shards
+    → v ≡ place * shards + index → v < length g.vertices
     → IsOpening g v true → m ≡ Top → new ≡ record { width = r.width; values = slice_set r.values place m } → IsFilled g index shards (place + 1) new
 filled_top g index shards place v r new m is less at h top e set = record {
   width = ap (λ (s : Rows). s.width) set ∙ is.width;
   long = λ u l. let i = is.long u l in omega (arith, i, long);
   done = λ u l here k. ap (λ (s : Rows). value_at s.values (u / shards)) set ∙ done u l here k;
-  rest = λ k l i. ap (λ (s : Rows). value_at s.values k) set ∙ (value_set_other r.values place k m (λ q. omega arith) ∙ is.rest k (omega arith) (omega (arith, i, long)));
+  rest = λ k l i. ap (λ (s : Rows). value_at s.values k) set
+      ∙ (value_set_other r.values place k m (λ q. omega arith) ∙ is.rest k (omega arith) (omega (arith, i, long)));
 }
   where
     long : length new.values ≡ length r.values
@@ -74,16 +80,19 @@ filled_top g index shards place v r new m is less at h top e set = record {
     inside : place < length r.values
     inside = filled_inside g index shards place v r is less at h
 
-    done : (u : ℕ) → u < length g.vertices → u % shards ≡ index → u / shards < place + 1 → value_at (slice_set r.values place m) (u / shards) ≡ value_at (opening g) u
+    done : (u : ℕ) → u < length g.vertices → u % shards ≡ index → u / shards < place + 1
+        → value_at (slice_set r.values place m) (u / shards) ≡ value_at (opening g) u
     done u l here k = elim (eqb_tells (u / shards) place) [
       | inl w ↦ subst (λ q. value_at (slice_set r.values place m) q ≡ value_at (opening g) u) (sym w.1)
-          (value_set_same r.values place m inside ∙ (e ∙ (sym (opening_is g v true top) ∙ ap (value_at (opening g)) (at ∙ sym (vertex_is u shards index place here w.1)))))
+          (value_set_same r.values place m inside ∙ (e ∙ (sym (opening_is g v true top)
+          ∙ ap (value_at (opening g)) (at ∙ sym (vertex_is u shards index place here w.1)))))
       | inr w ↦ (let n = w.1 in value_set_other r.values place (u / shards) m n ∙ is.done u l here (omega arith))
     ]
 
 -- ------------------------------------------------------------------ what is stored
 
-pub filled_part : (g : Game) (index shards place : ℕ) (r : Rows) → IsGame g → 0 < shards → IsFilled g index shards place r → ((v : ℕ) → v < length g.vertices → v / shards < place)
+pub filled_part : (g : Game) (index shards place : ℕ) (r : Rows) → IsGame g → 0 < shards → IsFilled g index shards place r
+    → ((v : ℕ) → v < length g.vertices → v / shards < place)
     → IsStoredPart g (record { index = index; shards = shards; values = r.values }) r.width
 filled_part g index shards place r game some is all = record {
   part = record {
@@ -96,7 +105,8 @@ filled_part g index shards place r game some is all = record {
 }
 
 -- a raised part
-pub set_part : (g : Game) (p : Part) (r new : Rows) (v : ℕ) (m : Measure) → IsStoredPart g (record { index = p.index; shards = p.shards; values = r.values }) r.width → v < length g.vertices
+pub set_part : (g : Game) (p : Part) (r new : Rows) (v : ℕ) (m : Measure)
+    → IsStoredPart g (record { index = p.index; shards = p.shards; values = r.values }) r.width → v < length g.vertices
     → v % p.shards ≡ p.index → LiesBelow g v m → new ≡ record { width = r.width; values = slice_set r.values (v / p.shards) m }
     → IsStoredPart g (record { index = p.index; shards = p.shards; values = new.values }) new.width
 set_part g p r new v m is h here below set = record {

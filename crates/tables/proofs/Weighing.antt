@@ -1,5 +1,8 @@
 -- What is asked for at a vertex, by ranks and weights: the counts that are kept are a rank's quotient by a weight.
-use Rattle.progress.proofs.Common.{◌≡◌, ℕ, zero, suc, ◌+◌, ◌-◌, ◌*◌, ◌/◌, ◌%◌, ◌<◌, ◌≤◌, true, false, List, [], ◌∷◌, length, take, drop, refl, sym, ap, subst, ◌∙◌, inl, inr, arith, true≢false, mul-le-mul_right, leb_tells, eqb_tells, if◌then◌else◌, Game, count, greatest, Measure, Top, Counts, components, IsMeasure, IsAtMost, IsProg, Reaches, kept, is_odd, odd_down, Some, option_map, slice_index, vertex, priority_at, IsProgAt, code, decode, height, size}
+use Rattle.progress.proofs.Common.{◌≡◌, ℕ, zero, suc, ◌+◌, ◌-◌, ◌*◌, ◌/◌, ◌%◌, ◌<◌, ◌≤◌, true, false, List, [], ◌∷◌, length, take, drop, refl, sym, ap, subst}
+use Rattle.progress.proofs.Common.{◌∙◌, inl, inr, arith, true≢false, mul-le-mul_right, leb_tells, eqb_tells, if◌then◌else◌, Game, count, greatest, Measure}
+use Rattle.progress.proofs.Common.{Top, Counts, components, IsMeasure, IsAtMost, IsProg, Reaches, kept, is_odd, odd_down, Some, option_map, slice_index}
+use Rattle.progress.proofs.Common.{vertex, priority_at, IsProgAt, code, decode, height, size}
 use Rattle.std.specs.Prelude.{min}
 use Rattle.std.proofs.lemmas.Nat.{div-add-mod', div-mul-add}
 use Rattle.progress.specs.Lifting.{of_rank}
@@ -101,7 +104,8 @@ over_rises f k ps c d h i l = elim (over_either k c d) [
 code_front : (f : ℕ → ℕ) (k : ℕ) (ps c : List ℕ) (n w : ℕ) → Bounded f ps c → code f ps c ≡ n → w ≡ size f (drop k ps) → front f k ps c ≡ n / w
 code_front f k ps c n w h e is =
     let low = code_bounded f (drop k ps) (drop k c) (drop_bounded f k ps c h) in
-    sym (div-mul-add (front f k ps c) (size f (drop k ps)) (back f k ps c) low) ∙ (ap (λ m. m / size f (drop k ps)) (sym (code_split f k ps c h) ∙ e) ∙ ap (λ v. n / v) (sym is))
+    sym (div-mul-add (front f k ps c) (size f (drop k ps)) (back f k ps c) low)
+    ∙ (ap (λ m. m / size f (drop k ps)) (sym (code_split f k ps c h) ∙ e) ∙ ap (λ v. n / v) (sym is))
 
 front_decode : (f : ℕ → ℕ) (k : ℕ) (ps : List ℕ) (n w : ℕ) → n < size f ps → w ≡ size f (drop k ps) → front f k ps (decode f ps n) ≡ n / w
 front_decode f k ps n w h is = code_front f k ps (decode f ps n) n w (decode_bounded f ps n h) (code_decode f ps n h) is
@@ -164,7 +168,8 @@ module _ (g : Game) (p n w : ℕ) (is : w ≡ size (count g) (drop (kept g p) (c
 
   of_top : (r : ℕ) → height g ≤ n → height g ≤ r → IsProg g p (of_rank g n) (of_rank g r)
   of_top r h i =
-      subst (λ (m : Measure). IsProg g p m (of_rank g r)) (sym (of_rank_top g n h)) (subst (λ (m : Measure). IsProg g p Top m) (sym (of_rank_top g r i)) (top_prog g p))
+      subst (λ (m : Measure). IsProg g p m (of_rank g r)) (sym (of_rank_top g n h))
+      (subst (λ (m : Measure). IsProg g p Top m) (sym (of_rank_top g r i)) (top_prog g p))
 
   -- top's rank has no rest
   whole : height g ≡ size f (take k ps) * w
@@ -189,13 +194,15 @@ module _ (g : Game) (p n w : ℕ) (is : w ≡ size (count g) (drop (kept g p) (c
         let to : front f k ps (decode f ps r) ≡ n / w = front_decode f k ps r w less is ∙ quotient (n / w) in
         subst (λ (m : ℕ). IsProg g p (of_rank g n) (of_rank g m)) (sym floor_is)
         (lower_prog r l less
-        (subst (λ s. Over s k (decode f ps n) (decode f ps r)) (sym even) (over_more f k ps (decode f ps n) (decode f ps r) (decode_bounded f ps n l) (decode_bounded f ps r less) (omega (arith, from, to))))
+        (subst (λ s. Over s k (decode f ps n) (decode f ps r)) (sym even)
+        (over_more f k ps (decode f ps n) (decode f ps r) (decode_bounded f ps n l) (decode_bounded f ps r less) (omega (arith, from, to))))
         (λ e b o.
         let more = front_more f k ps (decode f ps n) e (decode_bounded f ps n l) b (subst (λ s. Over s k (decode f ps n) e) even o) in
         code_least f k ps e (n / w) w b is (omega (arith, more, from)))))
   ]
 
-  pub odd_prog : (r : ℕ) → is_odd p ≡ true → n ≤ height g → r ≡ n - n % w + w → ((height g ≤ r) → IsProg g p (of_rank g n) (of_rank g (height g))) × (r < height g → IsProg g p (of_rank g n) (of_rank g r))
+  pub odd_prog : (r : ℕ) → is_odd p ≡ true → n ≤ height g → r ≡ n - n % w + w → ((height g ≤ r) → IsProg g p (of_rank g n) (of_rank g (height g)))
+      × (r < height g → IsProg g p (of_rank g n) (of_rank g r))
   odd_prog r odd h at = (past, within)
     where
       next : r ≡ suc (n / w) * w
@@ -220,7 +227,8 @@ module _ (g : Game) (p n w : ℕ) (is : w ≡ size (count g) (drop (kept g p) (c
           let from : front f k ps (decode f ps n) ≡ n / w = front_decode f k ps n w l is in
           let to : front f k ps (decode f ps r) ≡ suc (n / w) = front_decode f k ps r w less is ∙ (ap (λ m. m / w) next ∙ quotient (suc (n / w))) in
           lower_prog r l less
-          (subst (λ s. Over s k (decode f ps n) (decode f ps r)) (sym odd) (over_rises f k ps (decode f ps n) (decode f ps r) (decode_bounded f ps n l) (decode_bounded f ps r less) (omega (arith, from, to))))
+          (subst (λ s. Over s k (decode f ps n) (decode f ps r)) (sym odd)
+          (over_rises f k ps (decode f ps n) (decode f ps r) (decode_bounded f ps n l) (decode_bounded f ps r less) (omega (arith, from, to))))
           (least l)
 
 -- ------------------------------------------------------------------ the weights
@@ -278,7 +286,8 @@ weight_low g half h =
     let same : (2 * half) / 2 ≡ half = omega arith in
     let e : weight g half ≡ size (count g) (drop (kept g (2 * half)) (components g)) = ap (weight g) (sym same) ∙ w in
     let all = size_split (count g) (kept g (2 * half)) (components g) in
-    let m : 1 * size (count g) (drop (kept g (2 * half)) (components g)) ≤ size (count g) (take (kept g (2 * half)) (components g)) * size (count g) (drop (kept g (2 * half)) (components g))
+    let m : 1 * size (count g) (drop (kept g (2 * half)) (components g)) ≤ size (count g) (take (kept g (2 * half)) (components g)) * size (count g)
+    (drop (kept g (2 * half)) (components g))
     = mul-le-mul_right (size (count g) (drop (kept g (2 * half)) (components g))) (size_some (count g) (take (kept g (2 * half)) (components g))) in
     omega (arith, e, all, m)
 
@@ -290,7 +299,8 @@ is_even p even = elim (odd_or_even p) [ inl o ↦ (let odd = o.1 in absurd (omeg
 is_not_even : (p : ℕ) → (p % 2 ≡ 0 → ⊥) → is_odd p ≡ true
 is_not_even p odd = elim (odd_or_even p) [ inl o ↦ o.0 | inr o ↦ absurd (odd o.1) ]
 
-pub weight_here : (g : Game) (ws : List ℕ) (v p half : ℕ) → AreWeights g ws → v < length g.vertices → option_map (λ x. x.priority) (vertex g v) ≡ Some p → half ≡ p / 2
+pub weight_here : (g : Game) (ws : List ℕ) (v p half : ℕ) → AreWeights g ws → v < length g.vertices → option_map (λ x. x.priority) (vertex g v) ≡ Some p
+    → half ≡ p / 2
     → (half < length ws) × (slice_index ws half ≡ size (count g) (drop (kept g p) (components g)))
 weight_here g ws v p half are h told at = (found.0, found.1 ∙ (ap (weight g) at ∙ weight_kept g p low))
   where
@@ -305,7 +315,8 @@ weight_here g ws v p half are h told at = (found.0, found.1 ∙ (ap (weight g) a
     found : (half < length ws) × (slice_index ws half ≡ weight g half)
     found = are half (omega (arith, at, low))
 
-pub asked_even : (g : Game) (ws : List ℕ) (v p half n : ℕ) → AreWeights g ws → v < length g.vertices → option_map (λ x. x.priority) (vertex g v) ≡ Some p → half ≡ p / 2
+pub asked_even : (g : Game) (ws : List ℕ) (v p half n : ℕ) → AreWeights g ws → v < length g.vertices → option_map (λ x. x.priority) (vertex g v) ≡ Some p
+    → half ≡ p / 2
     → p % 2 ≡ 0 → n ≤ height g → IsProgAt g v (of_rank g n) (of_rank g (n - n % slice_index ws half))
 asked_even g ws v p half n are h told at even low =
     let x = vertex_here g v h in
@@ -316,7 +327,8 @@ asked_even g ws v p half n are h told at even low =
       subst (λ q. IsProg g q (of_rank g n) (of_rank g (n - n % slice_index ws half))) same (even_prog g p n (slice_index ws half) is (is_even p even) low),
     )
 
-pub asked_odd : (g : Game) (ws : List ℕ) (v p half n r : ℕ) → AreWeights g ws → v < length g.vertices → option_map (λ x. x.priority) (vertex g v) ≡ Some p → half ≡ p / 2
+pub asked_odd : (g : Game) (ws : List ℕ) (v p half n r : ℕ) → AreWeights g ws → v < length g.vertices → option_map (λ x. x.priority) (vertex g v) ≡ Some p
+    → half ≡ p / 2
     → (p % 2 ≡ 0 → ⊥) → n ≤ height g → r ≡ min (height g) (n - n % slice_index ws half + slice_index ws half) → IsProgAt g v (of_rank g n) (of_rank g r)
 asked_odd g ws v p half n r are h told at odd low e =
     let x = vertex_here g v h in

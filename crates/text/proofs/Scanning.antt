@@ -1,5 +1,6 @@
 -- What the tests on the front of a line say of the line.
-use Rattle.std.proofs.Common.{◌≡◌, ℕ, suc, ◌+◌, ◌-◌, ◌*◌, ◌<◌, ◌≤◌, Bool, true, false, cond, not, ◌&&◌, ◌||◌, nat_eq, nat_lt, ◌==◌, min, List, [], ◌∷◌, ◌++◌, length, get_or, take, drop, Option, Some, None, refl, sym, ap, ◌∙◌, subst, append_assoc, arith}
+use Rattle.std.proofs.Common.{◌≡◌, ℕ, suc, ◌+◌, ◌-◌, ◌*◌, ◌<◌, ◌≤◌, Bool, true, false, cond, not, ◌&&◌, ◌||◌, nat_eq, nat_lt, ◌==◌, min, List, [], ◌∷◌, ◌++◌}
+use Rattle.std.proofs.Common.{length, get_or, take, drop, Option, Some, None, refl, sym, ap, ◌∙◌, subst, append_assoc, arith}
 use Rattle.std.specs.List.{list_all, list_any, prefix_len}
 use Rattle.std.specs.Cmp.Lexicographic.{pointwise}
 use Rattle.std.proofs.Math.Seq.{take-append_seam, drop-append-add}
@@ -19,10 +20,12 @@ long_numeral r (d ∷ []) long first e = absurd (omega (arith))
 long_numeral r (d ∷ f ∷ ds) long first e = rw (le-leb 49 d first) e
 
 -- the number of the digits, with one more
-pub value_more : (digits : List ℕ) (i v m d w : ℕ) → i < length digits → v ≡ capped (value_of (take i digits)) → m ≡ min (v * 10) 4294967295 → d ≡ get_or digits i 0 - 48 → w ≡ min (m + d) 4294967295
+pub value_more : (digits : List ℕ) (i v m d w : ℕ) → i < length digits → v ≡ capped (value_of (take i digits)) → m ≡ min (v * 10) 4294967295
+    → d ≡ get_or digits i 0 - 48 → w ≡ min (m + d) 4294967295
     → w ≡ capped (value_of (take (i + 1) digits))
 value_more digits i v m d w below so_far by_ten digit added =
-    let step : value_of (take (i + 1) digits) ≡ 10 * value_of (take i digits) + (get_or digits i 0 - 48) = fold_more (λ n d. 10 * n + (d - 48)) 0 digits i 0 below in
+    let step : value_of (take (i + 1) digits) ≡ 10 * value_of (take i digits)
+    + (get_or digits i 0 - 48) = fold_more (λ n d. 10 * n + (d - 48)) 0 digits i 0 below in
     rw step (omega arith)
 
 -- ---- the run of bytes that pass, at the front
@@ -75,7 +78,8 @@ sign_cuts token line rest e =
     let start = past_blanks line in
     let h = if_some (pointwise nat_eq (take (length token) start) token) (drop (length token) start) rest e in
     let front : take (length token) start ≡ token = (bytes_eq-Decides (take (length token) start) token).0 h.0 in
-    let split : start ≡ token ++ rest = sym (take-append-drop (length token) start) ∙ ap (λ l. l ++ drop (length token) start) front ∙ ap (λ l. token ++ l) h.1 in
+    let split : start ≡ token ++ rest = sym (take-append-drop (length token) start) ∙ ap (λ l. l ++ drop (length token) start) front
+    ∙ ap (λ l. token ++ l) h.1 in
     (take (prefix_len is_blank line) line, run_passes is_blank line, past line ∙ ap (λ l. take (prefix_len is_blank line) line ++ l) split)
 
 pub sign_gives : (token line rest : List ℕ) (ts : List (List ℕ)) → sign_at token line ≡ Some rest → IsSpaced ts rest → IsSpaced (token ∷ ts) line
@@ -89,7 +93,8 @@ sign_here token line rest start =
     let same : pointwise nat_eq token token ≡ true = (bytes_eq-Decides token token).1 refl in
     rw (start, front, same, back) refl
 
-pub sign_finds : (c : ℕ) (cs line : List ℕ) (ts : List (List ℕ)) → is_blank c ≡ false → IsSpaced ((c ∷ cs) ∷ ts) line → (rest : List ℕ) × (sign_at (c ∷ cs) line ≡ Some rest) × IsSpaced ts rest
+pub sign_finds : (c : ℕ) (cs line : List ℕ) (ts : List (List ℕ)) → is_blank c ≡ false → IsSpaced ((c ∷ cs) ∷ ts) line → (rest : List ℕ)
+    × (sign_at (c ∷ cs) line ≡ Some rest) × IsSpaced ts rest
 sign_finds c cs line ts h (gap, rest, blank, e, more) = (rest, sign_here (c ∷ cs) line rest (ap past_blanks e ∙ past_gap gap ((c ∷ cs) ++ rest) blank h), more)
 
 -- ---- numbers
@@ -107,7 +112,8 @@ number_gives line v rest e =
     let h = if_some (is_numeral (take n start)) (capped (value_of (take n start)), drop n start) (v, rest) e in
     let v-is : capped (value_of (take n start)) ≡ v = ap (λ (p : ℕ × List ℕ). p.0) h.1 in
     let rest-is : drop n start ≡ rest = ap (λ (p : ℕ × List ℕ). p.1) h.1 in
-    let split : line ≡ take (prefix_len is_blank line) line ++ (take n start ++ rest) = past line ∙ ap (λ l. take (prefix_len is_blank line) line ++ l) (sym (take-append-drop n start) ∙ ap (λ l. take n start ++ l) rest-is) in
+    let split : line ≡ take (prefix_len is_blank line) line ++ (take n start ++ rest) = past line
+    ∙ ap (λ l. take (prefix_len is_blank line) line ++ l) (sym (take-append-drop n start) ∙ ap (λ l. take n start ++ l) rest-is) in
     (take n start, h.0, sym v-is, λ ts more. (take (prefix_len is_blank line) line, rest, run_passes is_blank line, split, more))
 
 pub number_finds : (x : List ℕ) (c : ℕ) (cs line : List ℕ) (ts : List (List ℕ)) → is_numeral x ≡ true → is_digit c ≡ false → IsSpaced (x ∷ (c ∷ cs) ∷ ts) line
@@ -116,7 +122,8 @@ unfolding number_at
 number_finds x c cs line ts hx h (gap, rest, blank, e, more) =
     let digits = numeral_digits x hx in
     let (d, ds, x-is) = digits_numeral x hx in
-    let no_blank : begins is_blank (x ++ rest) ≡ false = rw x-is (digit_no_blank d (and_parts (is_digit d) (list_all is_digit ds) (subst (λ l. list_all is_digit l ≡ true) x-is digits)).0) in
+    let no_blank : begins is_blank (x ++ rest) ≡ false = rw x-is
+    (digit_no_blank d (and_parts (is_digit d) (list_all is_digit ds) (subst (λ l. list_all is_digit l ≡ true) x-is digits)).0) in
     let start : past_blanks line ≡ x ++ rest = ap past_blanks e ∙ past_gap gap (x ++ rest) blank no_blank in
     let count : prefix_len is_digit (x ++ rest) ≡ length x = run_is is_digit x rest digits (no_digit c cs ts rest h more) in
     let front : take (length x) (x ++ rest) ≡ x = take-append_seam x rest in
@@ -143,7 +150,8 @@ number_before_gives token line v rest e =
     let rest-is : after ≡ rest = ap (λ (p : ℕ × List ℕ). p.1) same in
     (x, numeral, sym v-is ∙ value, λ ts more. spaced (token ∷ ts) (sign_gives token n.1 after ts signed (subst (IsSpaced ts) (sym rest-is) more)))
 
-pub number_before_finds : (x : List ℕ) (c : ℕ) (cs line : List ℕ) (ts : List (List ℕ)) → is_numeral x ≡ true → is_digit c ≡ false → is_blank c ≡ false → IsSpaced (x ∷ (c ∷ cs) ∷ ts) line
+pub number_before_finds : (x : List ℕ) (c : ℕ) (cs line : List ℕ) (ts : List (List ℕ)) → is_numeral x ≡ true → is_digit c ≡ false → is_blank c ≡ false
+    → IsSpaced (x ∷ (c ∷ cs) ∷ ts) line
     → (rest : List ℕ) × (number_before (c ∷ cs) line ≡ Some (capped (value_of x), rest)) × IsSpaced ts rest
 unfolding number_before
 number_before_finds x c cs line ts hx h hb spaced =
@@ -157,14 +165,17 @@ number_before_finds x c cs line ts hx h hb spaced =
 pub none_other : (byte : ℕ) (label : List ℕ) → list_all (is_other byte) label ≡ true → list_any (λ b. b == byte) label ≡ false
 none_other byte [] h = refl
 none_other byte (b ∷ label) h =
-    elim (b == byte) as (λ c. (not c && list_all (is_other byte) label) ≡ true → (c || list_any (λ b. b == byte) label) ≡ false) [ true ↦ λ e. cc | false ↦ λ e. none_other byte label e ] h
+    elim (b == byte) as (λ c. (not c && list_all (is_other byte) label) ≡ true → (c || list_any (λ b. b == byte) label) ≡ false)
+    [ true ↦ λ e. cc | false ↦ λ e. none_other byte label e ] h
 
 -- what stops the run of the others is such a byte
-stops_other : (byte : ℕ) (line : List ℕ) → prefix_len (is_other byte) line < length line → line ≡ take (prefix_len (is_other byte) line) line ++ (byte ∷ drop (prefix_len (is_other byte) line + 1) line)
+stops_other : (byte : ℕ) (line : List ℕ) → prefix_len (is_other byte) line < length line
+    → line ≡ take (prefix_len (is_other byte) line) line ++ (byte ∷ drop (prefix_len (is_other byte) line + 1) line)
 stops_other byte [] h = absurd (omega arith)
 stops_other byte (b ∷ line) h =
     elim (b == byte) as (λ c. (b == byte) ≡ c → cond (not c) (1 + prefix_len (is_other byte) line) 0 < length (b ∷ line)
-    → b ∷ line ≡ take (cond (not c) (1 + prefix_len (is_other byte) line) 0) (b ∷ line) ++ (byte ∷ drop (cond (not c) (1 + prefix_len (is_other byte) line) 0 + 1) (b ∷ line))) [
+    → b ∷ line ≡ take (cond (not c) (1 + prefix_len (is_other byte) line) 0) (b ∷ line)
+    ++ (byte ∷ drop (cond (not c) (1 + prefix_len (is_other byte) line) 0 + 1) (b ∷ line))) [
       | true ↦ λ e k. ap (λ q. q ∷ line) (eqb-true b byte e)
       | false ↦ λ e k.
           let one : 1 + prefix_len (is_other byte) line ≡ suc (prefix_len (is_other byte) line) = omega arith in
@@ -172,14 +183,17 @@ stops_other byte (b ∷ line) h =
           rw (one, two) (ap (λ l. b ∷ l) (stops_other byte line (omega (arith, k))))
     ] refl h
 
-pub cut_gives : (byte : ℕ) (line front rest : List ℕ) → cut_at byte line ≡ Some (front, rest) → (list_any (λ b. b == byte) front ≡ false) × (line ≡ front ++ (byte ∷ rest))
+pub cut_gives : (byte : ℕ) (line front rest : List ℕ) → cut_at byte line ≡ Some (front, rest) → (list_any (λ b. b == byte) front ≡ false)
+    × (line ≡ front ++ (byte ∷ rest))
 unfolding cut_at
 cut_gives byte line front rest e =
     let n = prefix_len (is_other byte) line in
     let h = if_some (nat_lt n (length line)) (take n line, drop (n + 1) line) (front, rest) e in
     let front-is : take n line ≡ front = ap (λ (p : List ℕ × List ℕ). p.0) h.1 in
-    let rest-is : drop (n + 1) line ≡ rest = ap (λ (p : List ℕ × List ℕ). p.1) h.1 in
-    (rw (← front-is) (none_other byte (take n line) (run_passes (is_other byte) line)), rw (← front-is, ← rest-is) (stops_other byte line (ltb-true n (length line) h.0)))
+    let rest-is : drop (n + 1) line ≡ rest = ap (λ (p : List ℕ × List ℕ). p.1) h.1 in (
+      rw (← front-is) (none_other byte (take n line) (run_passes (is_other byte) line)),
+      rw (← front-is, ← rest-is) (stops_other byte line (ltb-true n (length line) h.0)),
+    )
 
 pub cut_finds : (byte : ℕ) (front rest : List ℕ) → list_any (λ b. b == byte) front ≡ false → cut_at byte (front ++ (byte ∷ rest)) ≡ Some (front, rest)
 unfolding cut_at
@@ -208,7 +222,8 @@ pub quoted_finds : (line label : List ℕ) (ts : List (List ℕ)) → list_any (
     → (rest : List ℕ) × (quoted_at line ≡ Some (label, rest)) × IsSpaced ts rest
 unfolding quoted_at
 quoted_finds line label ts plain (gap, rest, blank, e, more) =
-    let start : past_blanks line ≡ (34 ∷ []) ++ (label ++ (34 ∷ rest)) = ap past_blanks e ∙ past_gap gap ((34 ∷ label ++ 34 ∷ []) ++ rest) blank refl ∙ around label rest in
+    let start : past_blanks line ≡ (34 ∷ []) ++ (label ++ (34 ∷ rest)) = ap past_blanks e ∙ past_gap gap ((34 ∷ label ++ 34 ∷ []) ++ rest) blank refl
+    ∙ around label rest in
     (rest, rw (sign_here (34 ∷ []) line (label ++ (34 ∷ rest)) start, cut_finds 34 label rest plain) refl, more)
 
 -- ---- the end of the line

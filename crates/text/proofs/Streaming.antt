@@ -1,5 +1,7 @@
 -- What is read token by token says of the first line of the text.
-use Rattle.std.proofs.Common.{◌≡◌, ◌≢◌, ℕ, zero, suc, ◌+◌, ◌-◌, ◌*◌, ◌<◌, ◌≤◌, Bool, true, false, cond, not, ◌&&◌, ◌==◌, nat_eq, nat_lt, nat_le, List, [], ◌∷◌, ◌++◌, length, take, drop, Option, Some, None, is_some, is_none, inl, inr, map, refl, sym, ap, ◌∙◌, subst, append_assoc, append-nil, arith, true≢false, min, ◌||◌, eqb}
+use Rattle.std.proofs.Common.{◌≡◌, ◌≢◌, ℕ, zero, suc, ◌+◌, ◌-◌, ◌*◌, ◌<◌, ◌≤◌, Bool, true, false, cond, not, ◌&&◌, ◌==◌, nat_eq, nat_lt, nat_le, List, []}
+use Rattle.std.proofs.Common.{◌∷◌, ◌++◌, length, take, drop, Option, Some, None, is_some, is_none, inl, inr, map, refl, sym, ap, ◌∙◌, subst, append_assoc}
+use Rattle.std.proofs.Common.{append-nil, arith, true≢false, min, ◌||◌, eqb}
 use Rattle.std.specs.Prelude.{slice_get, IfSome, MatchBool}
 use Rattle.std.specs.Option.{option_eq}
 use Rattle.std.specs.List.{list_all, prefix_len, fold}
@@ -16,13 +18,15 @@ use Rattle.std.proofs.lemmas.Slice.Eq.{bytes_eq-Decides}
 use Rattle.text.specs.Text.{is_blank, is_digit, is_numeral, value_of, without_end, without_cr, with_first, pieces_of, lines}
 use Rattle.text.specs.Lines.{IfKnown}
 use Rattle.text.specs.Tokens.{capped, past_blanks, sign_at, number_at, cut_at, quoted_at, whole_number, number_before, end_at, is_other, ◌>>=◌}
-use Rattle.text.specs.Stream.{first_piece, line_of, below, next_of, is_of, is_inside, TakesAll, Shows, Runs, RunsOn, RunsTo, HasLine, Passes, PassesSign, PassesKept, PassesLine, Ends}
+use Rattle.text.specs.Stream.{first_piece, line_of, below, next_of, is_of, is_inside, TakesAll, Shows, Runs, RunsOn, RunsTo, HasLine, Passes, PassesSign}
+use Rattle.text.specs.Stream.{PassesKept, PassesLine, Ends}
 use Rattle.text.specs.declared.stream.Class.{Class}
 use Rattle.text.specs.declared.stream.Class.TheVariants.{Blank, Digit, Inner}
 use Rattle.text.proofs.Spaced.{begins}
 use Rattle.text.proofs.Scanning.{past_gap, run_is, run_passes, cut_finds, sign_here, none_other, whole_gives}
 
-pub known_then : {P Q R : List ℕ → List ℕ → Type 0} (old mid new : Option (List ℕ)) → IfKnown old mid P → IfKnown mid new Q → ((text left rest : List ℕ) → P text left → Q left rest → R text rest) → IfKnown old new R
+pub known_then : {P Q R : List ℕ → List ℕ → Type 0} (old mid new : Option (List ℕ)) → IfKnown old mid P → IfKnown mid new Q
+    → ((text left rest : List ℕ) → P text left → Q left rest → R text rest) → IfKnown old new R
 known_then None mid new p q both = tt
 known_then (Some text) None new p q both = absurd p
 known_then (Some text) (Some left) None p q both = absurd q
@@ -34,7 +38,8 @@ Then P Q text rest = (left : List ℕ) × P text left × Q left rest
 pub known_both : (P Q : List ℕ → List ℕ → Type 0) (old mid new : Option (List ℕ)) → IfKnown old mid P → IfKnown mid new Q → IfKnown old new (Then P Q)
 known_both P Q old mid new p q = known_then old mid new p q (λ text left rest a b. (left, a, b))
 
-pub known_only : {P Q : List ℕ → List ℕ → Type 0} (old new : Option (List ℕ)) → IfKnown old new P → ((text left : List ℕ) → P text left → Q text left) → IfKnown old new Q
+pub known_only : {P Q : List ℕ → List ℕ → Type 0} (old new : Option (List ℕ)) → IfKnown old new P → ((text left : List ℕ) → P text left → Q text left)
+    → IfKnown old new Q
 known_only None new p so = tt
 known_only (Some text) None p so = absurd p
 known_only (Some text) (Some left) p so = so text left p
@@ -46,13 +51,15 @@ first_is text [] front end = ap next_of (end refl)
 first_is [] (b ∷ block) front end = cc
 first_is (c ∷ text) (b ∷ block) front end = cc
 
-pub shown : (old mid new : Option (List ℕ)) (block : List ℕ) (next : Option ℕ) → Keeps old mid → IfSome mid (λ xs. StartsWith xs block) → IfSome mid (λ xs. length block ≡ 0 → xs ≡ []) → Keeps mid new → next ≡ slice_get block 0 → Shows old new next
+pub shown : (old mid new : Option (List ℕ)) (block : List ℕ) (next : Option ℕ) → Keeps old mid → IfSome mid (λ xs. StartsWith xs block)
+    → IfSome mid (λ xs. length block ≡ 0 → xs ≡ []) → Keeps mid new → next ≡ slice_get block 0 → Shows old new next
 shown None mid new block next kept front end same is = tt
 shown (Some text) None new block next kept front end same is = absurd kept
 shown (Some text) (Some left) None block next kept front end same is = absurd same
 shown (Some text) (Some left) (Some rest) block next kept front end same is = (same ∙ kept, ap next_of (sym kept) ∙ first_is left block front end ∙ sym is)
 
-pub room : (old mid : Option (List ℕ)) (limit : Option ℕ) (block : List ℕ) (next : Option ℕ) → Keeps old mid → IfSome mid (λ _. IfSome limit (λ n. length block ≤ n)) → next ≡ slice_get block 0 → IfSome next (λ _. IfSome old (λ _. IfSome limit (λ n. 1 ≤ n)))
+pub room : (old mid : Option (List ℕ)) (limit : Option ℕ) (block : List ℕ) (next : Option ℕ) → Keeps old mid
+    → IfSome mid (λ _. IfSome limit (λ n. length block ≤ n)) → next ≡ slice_get block 0 → IfSome next (λ _. IfSome old (λ _. IfSome limit (λ n. 1 ≤ n)))
 room old mid limit block None kept fits is = tt
 room None mid limit block (Some b) kept fits is = tt
 room (Some text) None limit block (Some b) kept fits is = absurd kept
@@ -68,7 +75,8 @@ next_cons [] b e = absurd cc
 next_cons (c ∷ text) b e = let same : c ≡ b = cc in ap (λ x. x ∷ text) same
 
 -- the byte that was shown is taken
-pub taken : (old mid new : Option (List ℕ)) (limit : Option ℕ) (byte : ℕ) (next : Option ℕ) → Shows old mid next → next ≡ Some byte → IfSome next (λ _. IfSome old (λ _. IfSome limit (λ n. 1 ≤ n))) → DropsConsumable mid new limit 1 → IfKnown old new (One byte)
+pub taken : (old mid new : Option (List ℕ)) (limit : Option ℕ) (byte : ℕ) (next : Option ℕ) → Shows old mid next → next ≡ Some byte
+    → IfSome next (λ _. IfSome old (λ _. IfSome limit (λ n. 1 ≤ n))) → DropsConsumable mid new limit 1 → IfKnown old new (One byte)
 taken None mid new limit byte next shows is fits drops = tt
 taken (Some text) None new limit byte next shows is fits drops = absurd shows
 taken (Some text) (Some left) new limit byte next shows is fits drops =
@@ -92,7 +100,8 @@ front_all : (p : ℕ → Bool) (run rest : List ℕ) → list_all p run ≡ true
 front_all p run rest all = list_all-append p run rest ∙ ap (λ b. b && list_all p rest) all
 
 -- it goes on
-pub run_more : (class : Class) (most : ℕ) (ended : Bool) (old mid new : Option (List ℕ)) (kept kept' : List ℕ) → IfKnown old mid (RunsSo class most kept) → IfKnown mid new (RunsOn class most kept kept' ended) → IfKnown old new (RunsSo class most kept')
+pub run_more : (class : Class) (most : ℕ) (ended : Bool) (old mid new : Option (List ℕ)) (kept kept' : List ℕ) → IfKnown old mid (RunsSo class most kept)
+    → IfKnown mid new (RunsOn class most kept kept' ended) → IfKnown old new (RunsSo class most kept')
 run_more class most ended old mid new kept kept' so on =
     known_then {P = RunsSo class most kept} {Q = RunsOn class most kept kept' ended} {R = RunsSo class most kept'} old mid new so on
     (λ text between left a b. record {
@@ -103,7 +112,8 @@ run_more class most ended old mid new kept kept' so on =
     })
 
 -- it ends
-pub run_ends : (class : Class) (most : ℕ) (old mid new : Option (List ℕ)) (kept kept' : List ℕ) → IfKnown old mid (RunsSo class most kept) → IfKnown mid new (RunsOn class most kept kept' true) → IfKnown old new (Runs class most kept')
+pub run_ends : (class : Class) (most : ℕ) (old mid new : Option (List ℕ)) (kept kept' : List ℕ) → IfKnown old mid (RunsSo class most kept)
+    → IfKnown mid new (RunsOn class most kept kept' true) → IfKnown old new (Runs class most kept')
 run_ends class most old mid new kept kept' so on =
     known_then {P = RunsSo class most kept} {Q = RunsOn class most kept kept' true} {R = Runs class most kept'} old mid new so on
     (λ text between left a b. record {
@@ -115,31 +125,44 @@ run_ends class most old mid new kept kept' so on =
     })
 
 -- one blank more
-pub blank_more : (old mid new : Option (List ℕ)) (b : ℕ) → IfKnown old mid (RunsSo Blank 0 []) → IfKnown mid new (One b) → is_blank b ≡ true → IfKnown old new (RunsSo Blank 0 [])
+pub blank_more : (old mid new : Option (List ℕ)) (b : ℕ) → IfKnown old mid (RunsSo Blank 0 []) → IfKnown mid new (One b) → is_blank b ≡ true
+    → IfKnown old new (RunsSo Blank 0 [])
 blank_more old mid new b so one blank =
     known_then {P = RunsSo Blank 0 []} {Q = One b} {R = RunsSo Blank 0 []} old mid new so one
-    (λ text between left a e. record { run = a.run ++ b ∷ []; cut = a.cut ∙ ap (λ l. a.run ++ l) e ∙ sym (append_assoc a.run (b ∷ []) left); all = front_all is_blank a.run (b ∷ []) a.all ∙ rw blank refl; front = refl })
+    (λ text between left a e. record {
+      run = a.run ++ b ∷ [];
+      cut = a.cut ∙ ap (λ l. a.run ++ l) e
+          ∙ sym (append_assoc a.run (b ∷ []) left);
+      all = front_all is_blank a.run (b ∷ []) a.all ∙ rw blank refl;
+      front = refl;
+    })
 
 take_both : (most : ℕ) (front run : List ℕ) → take most (front ++ run) ≡ take most front ++ take (most - length (take most front)) run
 take_both zero front run = refl
 take_both (suc m) [] run = let none : suc m - 0 ≡ suc m = omega arith in rw none refl
-take_both (suc m) (b ∷ front) run = let e : suc m - suc (length (take m front)) ≡ m - length (take m front) = omega arith in rw e (ap (λ l. b ∷ l) (take_both m front run))
+take_both (suc m) (b ∷ front) run = let e : suc m - suc (length (take m front)) ≡ m - length (take m front) = omega arith
+    in rw e (ap (λ l. b ∷ l) (take_both m front run))
 
-pub keeps : (most : ℕ) (old new run front : List ℕ) → new ≡ old ++ take (min (most - length old) (length run)) run → old ≡ take most front → new ≡ take most (front ++ run)
+pub keeps : (most : ℕ) (old new run front : List ℕ) → new ≡ old ++ take (min (most - length old) (length run)) run → old ≡ take most front
+    → new ≡ take most (front ++ run)
 keeps most old new run front grown is =
     grown ∙ ap (λ l. old ++ l) (take_min (most - length old) run) ∙ ap (λ l. l ++ take (most - length l) run) is ∙ sym (take_both most front run)
 
-stop_at : (p : ℕ → Bool) (block rest : List ℕ) → prefix_len p block < length block → IfSome (next_of (drop (prefix_len p block) (block ++ rest))) (λ b. p b ≡ false)
+stop_at : (p : ℕ → Bool) (block rest : List ℕ) → prefix_len p block < length block
+    → IfSome (next_of (drop (prefix_len p block) (block ++ rest))) (λ b. p b ≡ false)
 stop_at p [] rest h = absurd (omega arith)
 stop_at p (b ∷ block) rest h =
-    elim (p b) as (λ c. p b ≡ c → cond c (1 + prefix_len p block) 0 < length (b ∷ block) → IfSome (next_of (drop (cond c (1 + prefix_len p block) 0) (b ∷ block ++ rest))) (λ b. p b ≡ false)) [
+    elim (p b) as (λ c. p b ≡ c → cond c (1 + prefix_len p block) 0 < length (b ∷ block)
+    → IfSome (next_of (drop (cond c (1 + prefix_len p block) 0) (b ∷ block ++ rest))) (λ b. p b ≡ false)) [
       | true ↦ λ e k. let one : 1 + prefix_len p block ≡ suc (prefix_len p block) = omega arith in rw one (stop_at p block rest (omega (arith, k)))
       | false ↦ λ e k. e
     ] refl h
 
 -- the bytes of the class at the front of a block were taken
-pub ran : (class : Class) (most count : ℕ) (before after block : List ℕ) (ended : Bool) (old mid new : Option (List ℕ)) (limit : Option ℕ) → IfSome old (λ xs. StartsWith xs block) → IfSome old (λ xs. length block ≡ 0 → xs ≡ []) → Keeps old mid
-    → IfSome old (λ _. IfSome limit (λ n. length block ≤ n)) → DropsConsumable mid new limit count → count ≡ prefix_len (is_of class) block → count ≤ length block → ended ≡ (nat_lt count (length block) || nat_eq (length block) 0)
+pub ran : (class : Class) (most count : ℕ) (before after block : List ℕ) (ended : Bool) (old mid new : Option (List ℕ)) (limit : Option ℕ)
+    → IfSome old (λ xs. StartsWith xs block) → IfSome old (λ xs. length block ≡ 0 → xs ≡ []) → Keeps old mid
+    → IfSome old (λ _. IfSome limit (λ n. length block ≤ n)) → DropsConsumable mid new limit count → count ≡ prefix_len (is_of class) block
+    → count ≤ length block → ended ≡ (nat_lt count (length block) || nat_eq (length block) 0)
     → ((front : List ℕ) → before ≡ take most front → after ≡ take most (front ++ take count block)) → IfKnown old new (RunsOn class most before after ended)
 ran class most count before after block ended None mid new limit front end kept fits drops is within test more = tt
 ran class most count before after block ended (Some text) None new limit front end kept fits drops is within test more = absurd kept
@@ -221,7 +244,11 @@ record PastBlanks (text left : List ℕ) : Type 0 where
 past_of : (text left : List ℕ) → Runs Blank 0 [] text left → PastBlanks text left
 past_of text left runs =
     let (line, under) = line_run runs.run left (all_of is_blank is_inside (inside_of is_blank refl refl) runs.run runs.all) in
-    record { past = ap (λ t. past_blanks (line_of t)) runs.cut ∙ ap past_blanks line ∙ past_gap runs.run (line_of left) runs.all (line_stops is_blank left runs.stop); under = ap below runs.cut ∙ under }
+    record {
+      past = ap (λ t. past_blanks (line_of t)) runs.cut ∙ ap past_blanks line
+          ∙ past_gap runs.run (line_of left) runs.all (line_stops is_blank left runs.stop);
+      under = ap below runs.cut ∙ under;
+    }
 
 -- ---- signs
 
@@ -229,7 +256,8 @@ piece_front : (text : List ℕ) → (rest : List ℕ) × (text ≡ first_piece t
 piece_front [] = ([], refl)
 piece_front (b ∷ text) =
     let (rest, cut) = piece_front text in
-    elim (b == 10) as (λ c. (rest : List ℕ) × (b ∷ text ≡ cond c [] (b ∷ first_piece text) ++ rest)) [ true ↦ (b ∷ text, refl) | false ↦ (rest, ap (λ l. b ∷ l) cut) ]
+    elim (b == 10) as (λ c. (rest : List ℕ) × (b ∷ text ≡ cond c [] (b ∷ first_piece text) ++ rest))
+    [ true ↦ (b ∷ text, refl) | false ↦ (rest, ap (λ l. b ∷ l) cut) ]
 
 end_front : (end : ℕ) (piece : List ℕ) → (rest : List ℕ) × (piece ≡ without_end end piece ++ rest)
 end_front end [] = ([], refl)
@@ -249,11 +277,13 @@ sign_none token line other =
     let start = past_blanks line in
     let test = pointwise nat_eq (take (length token) start) token in
     elim test as (λ b. test ≡ b → cond b (Some (drop (length token) start)) None ≡ None) [
-      | true ↦ λ e. absurd (other (drop (length token) start) (sym (take-append-drop (length token) start) ∙ ap (λ l. l ++ drop (length token) start) ((bytes_eq-Decides (take (length token) start) token).0 e)))
+      | true ↦ λ e. absurd (other (drop (length token) start)
+          (sym (take-append-drop (length token) start) ∙ ap (λ l. l ++ drop (length token) start) ((bytes_eq-Decides (take (length token) start) token).0 e)))
       | false ↦ λ e. refl
     ] refl
 
-pub sign_passes : (token text mid left : List ℕ) (found : Bool) → list_all is_inside token ≡ true → Runs Blank 0 [] text mid → TakesAll token found mid left → PassesSign (sign_at token) found text left
+pub sign_passes : (token text mid left : List ℕ) (found : Bool) → list_all is_inside token ≡ true → Runs Blank 0 [] text mid → TakesAll token found mid left
+    → PassesSign (sign_at token) found text left
 sign_passes token text mid left true inside runs all =
     let blanks = past_of text mid runs in
     let (line, under) = line_run token left inside in
@@ -276,7 +306,8 @@ next_is_not (Some a) b r test on e = absurd (true≢false (sym on ∙ test ∙ a
     some_same a b e = cc
 
 -- the sign is there
-pub sign_taken : (token : ℕ) (next : Option ℕ) (old mid new : Option (List ℕ)) (limit : Option ℕ) → is_inside token ≡ true → IfKnown old mid (RunsTo Blank next) → next ≡ Some token → IfSome next (λ _. IfSome old (λ _. IfSome limit (λ n. 1 ≤ n)))
+pub sign_taken : (token : ℕ) (next : Option ℕ) (old mid new : Option (List ℕ)) (limit : Option ℕ) → is_inside token ≡ true
+    → IfKnown old mid (RunsTo Blank next) → next ≡ Some token → IfSome next (λ _. IfSome old (λ _. IfSome limit (λ n. 1 ≤ n)))
     → DropsConsumable mid new limit 1 → IfKnown old new (PassesSign (sign_at (token ∷ [])) true)
 sign_taken token next None mid new limit inside runs is fits drops = tt
 sign_taken token next (Some text) None new limit inside runs is fits drops = absurd runs
@@ -285,7 +316,8 @@ sign_taken token next (Some text) (Some left) new limit inside (runs, at) is fit
     rw new-is (sign_passes (token ∷ []) text left (drop 1 left) true (rw inside refl) runs (next_cons left token (at ∙ is)))
 
 -- it isn't
-pub sign_missing : (token : ℕ) (next : Option ℕ) (old mid : Option (List ℕ)) → IfKnown old mid (RunsTo Blank next) → next ≢ Some token → IfKnown old mid (PassesSign (sign_at (token ∷ [])) false)
+pub sign_missing : (token : ℕ) (next : Option ℕ) (old mid : Option (List ℕ)) → IfKnown old mid (RunsTo Blank next) → next ≢ Some token
+    → IfKnown old mid (PassesSign (sign_at (token ∷ [])) false)
 sign_missing token next None mid runs other = tt
 sign_missing token next (Some text) None runs other = absurd runs
 sign_missing token next (Some text) (Some left) (runs, at) other =
@@ -316,7 +348,8 @@ many : (d : ℕ) (digits : List ℕ) → 49 ≤ d → 10 ≤ length digits → c
 many d digits first long = let low : 10000000000 ≤ value_of (d ∷ digits) = high 10 digits 1 (digit_more 0 d) long (omega (arith, first)) in omega (arith, low)
 
 all_front : (p : ℕ → Bool) (n : ℕ) (run : List ℕ) → list_all p run ≡ true → list_all p (take n run) ≡ true
-all_front p n run all = (and_parts (list_all p (take n run)) (list_all p (drop n run)) (sym (list_all-append p (take n run) (drop n run)) ∙ ap (list_all p) (take-append-drop n run) ∙ all)).0
+all_front p n run all = (and_parts (list_all p (take n run)) (list_all p (drop n run))
+    (sym (list_all-append p (take n run) (drop n run)) ∙ ap (list_all p) (take-append-drop n run) ∙ all)).0
 
 -- whether digits are a numeral their first two tell
 numeral_front : (n : ℕ) (run : List ℕ) → list_all is_digit run ≡ true → is_numeral (take (suc (suc n)) run) ≡ is_numeral run
@@ -351,7 +384,8 @@ number_front run all =
           | false ↦ λ e f. rw f refl
         ] refl same
 
-number_is : (line run rest : List ℕ) → past_blanks line ≡ run ++ rest → list_all is_digit run ≡ true → begins is_digit rest ≡ false → number_at line ≡ cond (is_numeral run) (Some (capped (value_of run), rest)) None
+number_is : (line run rest : List ℕ) → past_blanks line ≡ run ++ rest → list_all is_digit run ≡ true → begins is_digit rest ≡ false
+    → number_at line ≡ cond (is_numeral run) (Some (capped (value_of run), rest)) None
 unfolding number_at
 number_is line run rest past all stop =
     let count : prefix_len is_digit (run ++ rest) ≡ length run = run_is is_digit run rest all stop in
@@ -361,9 +395,11 @@ number_is line run rest past all stop =
 
 whole_none : (digits : List ℕ) → whole_number digits ≡ None → is_numeral digits ≡ false
 unfolding whole_number
-whole_none digits e = elim (is_numeral digits) as (λ b. cond b (Some (capped (value_of digits))) None ≡ None → b ≡ false) [ true ↦ λ e. absurd cc | false ↦ λ e. refl ] e
+whole_none digits e = elim (is_numeral digits) as (λ b. cond b (Some (capped (value_of digits))) None ≡ None → b ≡ false)
+    [ true ↦ λ e. absurd cc | false ↦ λ e. refl ] e
 
-pub number_passes : (digits text mid left : List ℕ) (r : Option ℕ) → Runs Blank 0 [] text mid → Runs Digit 11 digits mid left → whole_number digits ≡ r → Passes number_at r text left
+pub number_passes : (digits text mid left : List ℕ) (r : Option ℕ) → Runs Blank 0 [] text mid → Runs Digit 11 digits mid left → whole_number digits ≡ r
+    → Passes number_at r text left
 number_passes digits text mid left r blanks runs is =
     let past = past_of text mid blanks in
     let (line, under) = line_run runs.run left (all_of is_digit is_inside (inside_of is_digit refl refl) runs.run runs.all) in
@@ -371,7 +407,9 @@ number_passes digits text mid left r blanks runs is =
     let whole : whole_number runs.run ≡ r = sym (number_front runs.run runs.all) ∙ ap whole_number (sym runs.front) ∙ is in
     answer r runs.run whole found (past.under ∙ ap below runs.cut ∙ under)
   where
-    answer : (r : Option ℕ) (run : List ℕ) → whole_number run ≡ r → number_at (line_of text) ≡ cond (is_numeral run) (Some (capped (value_of run), line_of left)) None → below text ≡ below left → Passes number_at r text left
+    answer : (r : Option ℕ) (run : List ℕ) → whole_number run ≡ r
+        → number_at (line_of text) ≡ cond (is_numeral run) (Some (capped (value_of run), line_of left)) None → below text ≡ below left
+        → Passes number_at r text left
     answer None run none found under = found ∙ ap (λ b. cond b (Some (capped (value_of run), line_of left)) None) (whole_none run none)
     answer (Some v) run some found under =
         let (numeral, value) = whole_gives run v some in
@@ -381,11 +419,13 @@ pub before_none : (token text left : List ℕ) → Passes number_at None text le
 unfolding number_before
 before_none token text left none = rw none refl
 
-pub before_no_sign : (token text mid left : List ℕ) (v : ℕ) → Passes number_at (Some v) text mid → PassesSign (sign_at token) false mid left → Passes (number_before token) None text left
+pub before_no_sign : (token text mid left : List ℕ) (v : ℕ) → Passes number_at (Some v) text mid → PassesSign (sign_at token) false mid left
+    → Passes (number_before token) None text left
 unfolding number_before
 before_no_sign token text mid left v some none = rw (some.0, none) refl
 
-pub before_passes : (token text mid left : List ℕ) (v : ℕ) → Passes number_at (Some v) text mid → PassesSign (sign_at token) true mid left → Passes (number_before token) (Some v) text left
+pub before_passes : (token text mid left : List ℕ) (v : ℕ) → Passes number_at (Some v) text mid → PassesSign (sign_at token) true mid left
+    → Passes (number_before token) (Some v) text left
 unfolding number_before
 before_passes token text mid left v some signed = (rw (some.0, signed.0) refl, some.1 ∙ signed.1)
 
@@ -396,7 +436,8 @@ piece_run [] text all = (refl, refl)
 piece_run (b ∷ run) text all =
     let h = and_parts (is_other 10 b) (list_all (is_other 10) run) all in
     let (piece, under) = piece_run run text h.1 in
-    elim (b == 10) as (λ c. not c ≡ true → (cond c [] (b ∷ first_piece (run ++ text)) ≡ b ∷ run ++ first_piece text) × (cond c (run ++ text) (below (run ++ text)) ≡ below text)) [
+    elim (b == 10) as (λ c. not c ≡ true → (cond c [] (b ∷ first_piece (run ++ text)) ≡ b ∷ run ++ first_piece text)
+    × (cond c (run ++ text) (below (run ++ text)) ≡ below text)) [
       | true ↦ λ e. absurd cc
       | false ↦ λ e. (ap (λ l. b ∷ l) piece, under)
     ] h.0
@@ -416,11 +457,14 @@ prefix_all p line all = ap (prefix_len p) (sym (append-nil line)) ∙ run_is p l
 
 cut_none : (byte : ℕ) (line : List ℕ) → list_all (is_other byte) line ≡ true → cut_at byte line ≡ None
 unfolding cut_at
-cut_none byte line all = let e = prefix_all (is_other byte) line all in let no : nat_lt (length line) (length line) ≡ false = le-ltb (length line) (length line) (omega arith) in rw (e, no) refl
+cut_none byte line all = let e = prefix_all (is_other byte) line all
+    in let no : nat_lt (length line) (length line) ≡ false = le-ltb (length line) (length line) (omega arith) in rw (e, no) refl
 
 inner_parts : (run : List ℕ) → list_all (is_of Inner) run ≡ true → (list_all (is_other 34) run ≡ true) × (list_all (is_other 10) run ≡ true)
-inner_parts run all =
-    (all_of (is_of Inner) (is_other 34) (λ b h. (and_parts (not (b == 34)) (not (b == 10)) h).0) run all, all_of (is_of Inner) (is_other 10) (λ b h. (and_parts (not (b == 34)) (not (b == 10)) h).1) run all)
+inner_parts run all = (
+  all_of (is_of Inner) (is_other 34) (λ b h. (and_parts (not (b == 34)) (not (b == 10)) h).0) run all,
+  all_of (is_of Inner) (is_other 10) (λ b h. (and_parts (not (b == 34)) (not (b == 10)) h).1) run all,
+)
 
 -- what stops what quotes may stand around, where it is no quote
 stop_ten : (left : List ℕ) → IfSome (next_of left) (λ b. is_of Inner b ≡ false) → next_of left ≢ Some 34 → first_piece left ≡ []
@@ -435,14 +479,17 @@ pub quote_none : (most : ℕ) (kept text left : List ℕ) → PassesSign (sign_a
 unfolding quoted_at
 quote_none most kept text left none = rw none refl
 
-pub quote_passes : (most : ℕ) (kept text mid last left : List ℕ) (found : Bool) → PassesSign (sign_at (34 ∷ [])) true text mid → Runs Inner most kept mid last → MatchBool found (last ≡ 34 ∷ left) ((left ≡ last) × (next_of last ≢ Some 34)) → PassesKept quoted_at most kept found text left
+pub quote_passes : (most : ℕ) (kept text mid last left : List ℕ) (found : Bool) → PassesSign (sign_at (34 ∷ [])) true text mid
+    → Runs Inner most kept mid last → MatchBool found (last ≡ 34 ∷ left) ((left ≡ last) × (next_of last ≢ Some 34))
+    → PassesKept quoted_at most kept found text left
 unfolding quoted_at
 quote_passes most kept text mid last left true signed runs shut =
     let (plain, one) = inner_parts runs.run runs.all in
     let cut : mid ≡ runs.run ++ 34 ∷ left = runs.cut ∙ ap (λ l. runs.run ++ l) shut in
     let (piece, under) = piece_run runs.run (34 ∷ left) one in
     let (next, down) = line_cons 34 left refl in
-    let line : line_of mid ≡ runs.run ++ 34 ∷ line_of left = ap line_of cut ∙ ap (without_end 13) piece ∙ end_run 13 runs.run 34 (first_piece left) ∙ ap (λ l. runs.run ++ l) next in
+    let line : line_of mid ≡ runs.run ++ 34 ∷ line_of left = ap line_of cut ∙ ap (without_end 13) piece ∙ end_run 13 runs.run 34 (first_piece left)
+    ∙ ap (λ l. runs.run ++ l) next in
     (runs.run, rw (signed.0, line) (cut_finds 34 runs.run (line_of left) (none_other 34 runs.run plain)), signed.1 ∙ ap below cut ∙ under ∙ down, runs.front)
 quote_passes most kept text mid last left false signed runs (same, other) =
     let (plain, one) = inner_parts runs.run runs.all in
@@ -455,7 +502,8 @@ quote_passes most kept text mid last left false signed runs (same, other) =
 pieces_cons : (b : ℕ) (text : List ℕ) → pieces_of (b ∷ text) ≡ first_piece (b ∷ text) ∷ pieces_of (below (b ∷ text))
 pieces_cons b [] = elim (b == 10) as (λ c. cond c ([] ∷ []) ((b ∷ []) ∷ []) ≡ cond c [] (b ∷ []) ∷ pieces_of (cond c [] [])) [ true ↦ refl | false ↦ refl ]
 pieces_cons b (d ∷ text) =
-    elim (b == 10) as (λ c. cond c ([] ∷ pieces_of (d ∷ text)) (with_first b (pieces_of (d ∷ text))) ≡ cond c [] (b ∷ first_piece (d ∷ text)) ∷ pieces_of (cond c (d ∷ text) (below (d ∷ text)))) [
+    elim (b == 10) as (λ c. cond c ([] ∷ pieces_of (d ∷ text)) (with_first b (pieces_of (d ∷ text)))
+    ≡ cond c [] (b ∷ first_piece (d ∷ text)) ∷ pieces_of (cond c (d ∷ text) (below (d ∷ text)))) [
       | true ↦ refl
       | false ↦ ap (with_first b) (pieces_cons d text)
     ]
@@ -478,7 +526,11 @@ record LeftBlank (text left : List ℕ) : Type 0 where
 left_blank : (text left : List ℕ) → Runs Blank 0 [] text left → LeftBlank text left
 left_blank text left runs =
     let (line, under) = line_run runs.run left (all_of is_blank is_inside (inside_of is_blank refl refl) runs.run runs.all) in
-    record { same = ap (λ t. list_all is_blank (line_of t)) runs.cut ∙ ap (list_all is_blank) line ∙ front_all is_blank runs.run (line_of left) runs.all; under = ap below runs.cut ∙ under }
+    record {
+      same = ap (λ t. list_all is_blank (line_of t)) runs.cut ∙ ap (list_all is_blank) line
+          ∙ front_all is_blank runs.run (line_of left) runs.all;
+      under = ap below runs.cut ∙ under;
+    }
 
 -- a CR was next, or was not
 abbrev pub Maybe : Bool → List ℕ → List ℕ → Type 0
@@ -508,7 +560,8 @@ none_is None false e = cc
 none_is (Some b) true e = cc
 none_is (Some b) false e = refl
 
-pub ends_or_not : (text mid last left : List ℕ) (cr : Bool) (next : Option ℕ) → Runs Blank 0 [] text mid → Maybe cr mid last → next_of last ≢ Some 10 → left ≡ last → next_of last ≡ next → Ends (is_none next) text left
+pub ends_or_not : (text mid last left : List ℕ) (cr : Bool) (next : Option ℕ) → Runs Blank 0 [] text mid → Maybe cr mid last → next_of last ≢ Some 10
+    → left ≡ last → next_of last ≡ next → Ends (is_none next) text left
 ends_or_not text mid last left true None runs cr other same end =
     let blank = left_blank text mid runs in
     let cut : mid ≡ 13 ∷ [] = cr ∙ ap (λ l. 13 ∷ l) (no_next last end) in
@@ -536,29 +589,40 @@ NoLf text left = (left ≡ text) × (next_of text ≢ Some 10)
 abbrev Shown : Option ℕ → List ℕ → List ℕ → Type 0
 Shown next text left = (left ≡ text) × (next_of text ≡ next)
 
-pub ends_known : (old a b c d : Option (List ℕ)) (first : Option ℕ) (cr : Bool) (next : Option ℕ) → IfKnown old a (RunsTo Blank first) → IfKnown a b (Maybe cr) → IfKnown b c NoLf → IfKnown c d (Shown next) → IfKnown old d (Ends (is_none next))
+pub ends_known : (old a b c d : Option (List ℕ)) (first : Option ℕ) (cr : Bool) (next : Option ℕ) → IfKnown old a (RunsTo Blank first)
+    → IfKnown a b (Maybe cr) → IfKnown b c NoLf → IfKnown c d (Shown next) → IfKnown old d (Ends (is_none next))
 ends_known old a b c d first cr next blanks maybe other shows =
-    known_then {Q = Then (Maybe cr) (Then NoLf (Shown next))} old a d blanks (known_both (Maybe cr) (Then NoLf (Shown next)) a b d maybe (known_both NoLf (Shown next) b c d other shows))
-    (λ text mid left to rest. let (runs, at) = to in let (last, is_cr, after) = rest in let (kept, no_lf, shown) = after in ends_or_not text mid last left cr next runs is_cr no_lf.1 (shown.0 ∙ no_lf.0) (ap next_of (sym no_lf.0) ∙ shown.1))
+    known_then {Q = Then (Maybe cr) (Then NoLf (Shown next))} old a d blanks
+    (known_both (Maybe cr) (Then NoLf (Shown next)) a b d maybe (known_both NoLf (Shown next) b c d other shows))
+    (λ text mid left to rest. let (runs, at) = to in let (last, is_cr, after) = rest in let (kept, no_lf, shown) = after
+    in ends_or_not text mid last left cr next runs is_cr no_lf.1 (shown.0 ∙ no_lf.0) (ap next_of (sym no_lf.0) ∙ shown.1))
 
 -- ---- the tokens of a line, one after the other
 
-pub sign_stops : {A : Type 0} (f : List ℕ → Option (List ℕ)) (g : List ℕ → Option A) (old new : Option (List ℕ)) → IfKnown old new (PassesSign f false) → IfKnown old new (PassesLine (λ l. f l >>= g) None)
+pub sign_stops : {A : Type 0} (f : List ℕ → Option (List ℕ)) (g : List ℕ → Option A) (old new : Option (List ℕ)) → IfKnown old new (PassesSign f false)
+    → IfKnown old new (PassesLine (λ l. f l >>= g) None)
 sign_stops f g old new none = known_only {P = PassesSign f false} {Q = PassesLine (λ l. f l >>= g) None} old new none (λ text left e. rw e refl)
 
-pub sign_goes_on : {A : Type 0} (f : List ℕ → Option (List ℕ)) (g : List ℕ → Option A) (r : Option A) (old mid new : Option (List ℕ)) → IfKnown old mid (PassesSign f true) → IfKnown mid new (PassesLine g r) → IfKnown old new (PassesLine (λ l. f l >>= g) r)
-sign_goes_on f g None old mid new some rest = known_then {P = PassesSign f true} {Q = PassesLine g None} {R = PassesLine (λ l. f l >>= g) None} old mid new some rest (λ text between left e h. rw e.0 h)
+pub sign_goes_on : {A : Type 0} (f : List ℕ → Option (List ℕ)) (g : List ℕ → Option A) (r : Option A) (old mid new : Option (List ℕ))
+    → IfKnown old mid (PassesSign f true) → IfKnown mid new (PassesLine g r) → IfKnown old new (PassesLine (λ l. f l >>= g) r)
+sign_goes_on f g None old mid new some rest = known_then {P = PassesSign f true} {Q = PassesLine g None} {R = PassesLine
+    (λ l. f l >>= g) None} old mid new some rest (λ text between left e h. rw e.0 h)
 sign_goes_on f g (Some a) old mid new some rest =
-    known_then {P = PassesSign f true} {Q = PassesLine g (Some a)} {R = PassesLine (λ l. f l >>= g) (Some a)} old mid new some rest (λ text between left e h. (rw e.0 h.0, h.1 ∙ sym e.1))
+    known_then {P = PassesSign f true} {Q = PassesLine g (Some a)} {R = PassesLine (λ l. f l >>= g) (Some a)} old mid new some rest
+    (λ text between left e h. (rw e.0 h.0, h.1 ∙ sym e.1))
 
-pub token_stops : {A X : Type 0} (f : List ℕ → Option (X × List ℕ)) (g : X → List ℕ → Option A) (old new : Option (List ℕ)) → IfKnown old new (Passes f None) → IfKnown old new (PassesLine (λ l. f l >>= λ x. g x.0 x.1) None)
+pub token_stops : {A X : Type 0} (f : List ℕ → Option (X × List ℕ)) (g : X → List ℕ → Option A) (old new : Option (List ℕ)) → IfKnown old new (Passes f None)
+    → IfKnown old new (PassesLine (λ l. f l >>= λ x. g x.0 x.1) None)
 token_stops f g old new none = known_only {P = Passes f None} {Q = PassesLine (λ l. f l >>= λ x. g x.0 x.1) None} old new none (λ text left e. rw e refl)
 
-pub token_goes_on : {A X : Type 0} (f : List ℕ → Option (X × List ℕ)) (g : X → List ℕ → Option A) (x : X) (r : Option A) (old mid new : Option (List ℕ)) → IfKnown old mid (Passes f (Some x)) → IfKnown mid new (PassesLine (g x) r)
+pub token_goes_on : {A X : Type 0} (f : List ℕ → Option (X × List ℕ)) (g : X → List ℕ → Option A) (x : X) (r : Option A) (old mid new : Option (List ℕ))
+    → IfKnown old mid (Passes f (Some x)) → IfKnown mid new (PassesLine (g x) r)
     → IfKnown old new (PassesLine (λ l. f l >>= λ x. g x.0 x.1) r)
-token_goes_on f g x None old mid new some rest = known_then {P = Passes f (Some x)} {Q = PassesLine (g x) None} {R = PassesLine (λ l. f l >>= λ x. g x.0 x.1) None} old mid new some rest (λ text between left e h. rw e.0 h)
+token_goes_on f g x None old mid new some rest = known_then {P = Passes f (Some x)} {Q = PassesLine (g x) None} {R = PassesLine
+    (λ l. f l >>= λ x. g x.0 x.1) None} old mid new some rest (λ text between left e h. rw e.0 h)
 token_goes_on f g x (Some a) old mid new some rest =
-    known_then {P = Passes f (Some x)} {Q = PassesLine (g x) (Some a)} {R = PassesLine (λ l. f l >>= λ x. g x.0 x.1) (Some a)} old mid new some rest (λ text between left e h. (rw e.0 h.0, h.1 ∙ sym e.1))
+    known_then {P = Passes f (Some x)} {Q = PassesLine (g x) (Some a)} {R = PassesLine (λ l. f l >>= λ x. g x.0 x.1) (Some a)} old mid new some rest
+    (λ text between left e h. (rw e.0 h.0, h.1 ∙ sym e.1))
 
 pub end_stops : {A : Type 0} (a : A) (old new : Option (List ℕ)) → IfKnown old new (Ends false) → IfKnown old new (PassesLine (end_at a) None)
 unfolding end_at

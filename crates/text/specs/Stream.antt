@@ -1,5 +1,6 @@
 -- The first line of what a reader has left, as it is read token by token.
-use Rattle.std.specs.Prelude.{◌≡◌, ◌≢◌, ℕ, Bool, not, ◌&&◌, ◌==◌, List, [], ◌∷◌, ◌++◌, take, Option, Some, None, if◌then◌else◌, IsTrue, IsFalse, IfSome, MatchBool}
+use Rattle.std.specs.Prelude.{◌≡◌, ◌≢◌, ℕ, Bool, not, ◌&&◌, ◌==◌, List, [], ◌∷◌, ◌++◌, take, Option, Some, None, if◌then◌else◌, IsTrue, IsFalse, IfSome}
+use Rattle.std.specs.Prelude.{MatchBool}
 use Rattle.std.specs.List.{list_all}
 use Rattle.std.specs.Io.BufRead.{drop_through}
 use Rattle.text.specs.Text.{is_blank, is_digit, without_cr, lines}
@@ -83,7 +84,8 @@ PassesSign at found text left = MatchBool found ((at (line_of text) ≡ Some (li
 -- the same where the first bytes of what is found are kept
 abbrev pub PassesKept : (List ℕ → Option (List ℕ × List ℕ)) → ℕ → List ℕ → Bool → List ℕ → List ℕ → Type 0
 PassesKept at most kept found text left =
-    MatchBool found ((whole : List ℕ) × (at (line_of text) ≡ Some (whole, line_of left)) × (below text ≡ below left) × (kept ≡ take most whole)) (at (line_of text) ≡ None)
+    MatchBool found ((whole : List ℕ) × (at (line_of text) ≡ Some (whole, line_of left)) × (below text ≡ below left) × (kept ≡ take most whole))
+    (at (line_of text) ≡ None)
 
 -- nothing but blanks was left of the line, and it is taken with its end; or something was
 abbrev pub Ends : Bool → List ℕ → List ℕ → Type 0

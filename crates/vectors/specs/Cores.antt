@@ -39,7 +39,8 @@ two_of_two = (2, 2)
 -- <a>true on the two-state system
 abbrev pub one : Game
 one = record {
-  vertices = vertex_at 0 Even (0 ∷ []) ∷ vertex_at 1 Even (1 ∷ []) ∷ vertex_at 0 Even (5 ∷ []) ∷ vertex_at 0 Even (0 ∷ []) ∷ vertex_at 0 Even (1 ∷ []) ∷ vertex_at 0 Even (0 ∷ []) ∷ [];
+  vertices = vertex_at 0 Even (0 ∷ []) ∷ vertex_at 1 Even (1 ∷ []) ∷ vertex_at 0 Even (5 ∷ []) ∷ vertex_at 0 Even (0 ∷ []) ∷ vertex_at 0 Even
+      (1 ∷ []) ∷ vertex_at 0 Even (0 ∷ []) ∷ [];
   named = Some two_of_two;
 }
 
@@ -52,7 +53,8 @@ two_of_three = (2, 3)
 -- <a><a>true on it
 abbrev pub two : Game
 two = record {
-  vertices = vertex_at 0 Even (0 ∷ []) ∷ vertex_at 1 Even (1 ∷ []) ∷ vertex_at 0 Even (6 ∷ []) ∷ vertex_at 0 Even (7 ∷ []) ∷ vertex_at 0 Even (0 ∷ []) ∷ vertex_at 0 Even (1 ∷ [])
+  vertices = vertex_at 0 Even (0 ∷ []) ∷ vertex_at 1 Even (1 ∷ []) ∷ vertex_at 0 Even (6 ∷ []) ∷ vertex_at 0 Even (7 ∷ []) ∷ vertex_at 0 Even
+      (0 ∷ []) ∷ vertex_at 0 Even (1 ∷ [])
       ∷ vertex_at 0 Even (1 ∷ []) ∷ vertex_at 0 Even (0 ∷ []) ∷ [];
   named = Some two_of_three;
 }
@@ -96,14 +98,34 @@ abbrev first_2 : Core
 first_2 = core_of one (number 0 ∷ Top ∷ number 0 ∷ number 0 ∷ number 0 ∷ number 0 ∷ []) (0 ∷ 1 ∷ 2 ∷ 3 ∷ 5 ∷ []) (Holding 4 (note 1 (Top) ∷ []) ∷ Idle ∷ [])
 
 first_step_2 : Reads first_1 0 1 first_2
-first_step_2 = record { u = 4; notes = []; x = vertex_at 0 Even (1 ∷ []); holds = refl; held = refl; successor = (0, omega arith, refl); unread = refl; effect = refl }
+first_step_2 = record {
+  u = 4;
+  notes = [];
+  x = vertex_at 0 Even (1 ∷ []);
+  holds = refl;
+  held = refl;
+  successor = (0, omega arith, refl);
+  unread = refl;
+  effect = refl;
+}
 
 abbrev first_3 : Core
 first_3 = core_of one (number 0 ∷ Top ∷ number 0 ∷ number 0 ∷ Top ∷ number 0 ∷ []) (0 ∷ 1 ∷ 2 ∷ 3 ∷ 5 ∷ []) (Idle ∷ Idle ∷ [])
 
 first_step_3 : Raises first_2 0 first_3
 unfolding predecessors
-first_step_3 = record { u = 4; notes = note 1 (Top) ∷ []; x = vertex_at 0 Even (1 ∷ []); values = (Top) ∷ []; lifted = Top; holds = refl; held = refl; read = (refl, tt); lift = ((Top) ∷ [], Top, (top_prog one 0, tt), best_single Even (Top), refl); effect = refl }
+first_step_3 = record {
+  u = 4;
+  notes = note 1 (Top) ∷ [];
+  x = vertex_at 0 Even (1 ∷ []);
+  values = (Top) ∷ [];
+  lifted = Top;
+  holds = refl;
+  held = refl;
+  read = (refl, tt);
+  lift = ((Top) ∷ [], Top, (top_prog one 0, tt), best_single Even (Top), refl);
+  effect = refl;
+}
 
 abbrev first_events : List Event
 first_events = Take 0 4 ∷ Read 0 1 ∷ Raise 0 ∷ []
@@ -119,42 +141,88 @@ abbrev late_0 : Core
 late_0 = start two 2
 
 abbrev late_1 : Core
-late_1 = core_of two (number 0 ∷ Top ∷ number 0 ∷ number 0 ∷ number 0 ∷ number 0 ∷ number 0 ∷ number 0 ∷ []) (0 ∷ 1 ∷ 3 ∷ 4 ∷ 5 ∷ 6 ∷ 7 ∷ []) (Holding 2 ([]) ∷ Idle ∷ [])
+late_1 = core_of two (number 0 ∷ Top ∷ number 0 ∷ number 0 ∷ number 0 ∷ number 0 ∷ number 0 ∷ number 0 ∷ []) (0 ∷ 1 ∷ 3 ∷ 4 ∷ 5 ∷ 6 ∷ 7 ∷ [])
+    (Holding 2 ([]) ∷ Idle ∷ [])
 
 late_step_1 : Takes late_0 0 2 late_1
 late_step_1 = record { idle = refl; pending = (2, omega arith, refl); effect = refl }
 
 abbrev late_2 : Core
-late_2 = core_of two (number 0 ∷ Top ∷ number 0 ∷ number 0 ∷ number 0 ∷ number 0 ∷ number 0 ∷ number 0 ∷ []) (0 ∷ 1 ∷ 3 ∷ 4 ∷ 5 ∷ 6 ∷ 7 ∷ []) (Holding 2 (note 6 (number 0) ∷ []) ∷ Idle ∷ [])
+late_2 = core_of two (number 0 ∷ Top ∷ number 0 ∷ number 0 ∷ number 0 ∷ number 0 ∷ number 0 ∷ number 0 ∷ []) (0 ∷ 1 ∷ 3 ∷ 4 ∷ 5 ∷ 6 ∷ 7 ∷ [])
+    (Holding 2 (note 6 (number 0) ∷ []) ∷ Idle ∷ [])
 
 late_step_2 : Reads late_1 0 6 late_2
-late_step_2 = record { u = 2; notes = []; x = vertex_at 0 Even (6 ∷ []); holds = refl; held = refl; successor = (0, omega arith, refl); unread = refl; effect = refl }
+late_step_2 = record {
+  u = 2;
+  notes = [];
+  x = vertex_at 0 Even (6 ∷ []);
+  holds = refl;
+  held = refl;
+  successor = (0, omega arith, refl);
+  unread = refl;
+  effect = refl;
+}
 
 abbrev late_3 : Core
-late_3 = core_of two (number 0 ∷ Top ∷ number 0 ∷ number 0 ∷ number 0 ∷ number 0 ∷ number 0 ∷ number 0 ∷ []) (0 ∷ 1 ∷ 3 ∷ 4 ∷ 5 ∷ 7 ∷ []) (Holding 2 (note 6 (number 0) ∷ []) ∷ Holding 6 ([]) ∷ [])
+late_3 = core_of two (number 0 ∷ Top ∷ number 0 ∷ number 0 ∷ number 0 ∷ number 0 ∷ number 0 ∷ number 0 ∷ []) (0 ∷ 1 ∷ 3 ∷ 4 ∷ 5 ∷ 7 ∷ [])
+    (Holding 2 (note 6 (number 0) ∷ []) ∷ Holding 6 ([]) ∷ [])
 
 late_step_3 : Takes late_2 1 6 late_3
 late_step_3 = record { idle = refl; pending = (5, omega arith, refl); effect = refl }
 
 abbrev late_4 : Core
-late_4 = core_of two (number 0 ∷ Top ∷ number 0 ∷ number 0 ∷ number 0 ∷ number 0 ∷ number 0 ∷ number 0 ∷ []) (0 ∷ 1 ∷ 3 ∷ 4 ∷ 5 ∷ 7 ∷ []) (Holding 2 (note 6 (number 0) ∷ []) ∷ Holding 6 (note 1 (Top) ∷ []) ∷ [])
+late_4 = core_of two (number 0 ∷ Top ∷ number 0 ∷ number 0 ∷ number 0 ∷ number 0 ∷ number 0 ∷ number 0 ∷ []) (0 ∷ 1 ∷ 3 ∷ 4 ∷ 5 ∷ 7 ∷ [])
+    (Holding 2 (note 6 (number 0) ∷ []) ∷ Holding 6 (note 1 (Top) ∷ []) ∷ [])
 
 late_step_4 : Reads late_3 1 1 late_4
-late_step_4 = record { u = 6; notes = []; x = vertex_at 0 Even (1 ∷ []); holds = refl; held = refl; successor = (0, omega arith, refl); unread = refl; effect = refl }
+late_step_4 = record {
+  u = 6;
+  notes = [];
+  x = vertex_at 0 Even (1 ∷ []);
+  holds = refl;
+  held = refl;
+  successor = (0, omega arith, refl);
+  unread = refl;
+  effect = refl;
+}
 
 abbrev late_5 : Core
-late_5 = core_of two (number 0 ∷ Top ∷ number 0 ∷ number 0 ∷ number 0 ∷ number 0 ∷ Top ∷ number 0 ∷ []) (0 ∷ 1 ∷ 3 ∷ 4 ∷ 5 ∷ 7 ∷ []) (Holding 2 (note 6 (number 0) ∷ []) ∷ Owing (2 ∷ []) ∷ [])
+late_5 = core_of two (number 0 ∷ Top ∷ number 0 ∷ number 0 ∷ number 0 ∷ number 0 ∷ Top ∷ number 0 ∷ []) (0 ∷ 1 ∷ 3 ∷ 4 ∷ 5 ∷ 7 ∷ [])
+    (Holding 2 (note 6 (number 0) ∷ []) ∷ Owing (2 ∷ []) ∷ [])
 
 late_step_5 : Raises late_4 1 late_5
 unfolding predecessors
-late_step_5 = record { u = 6; notes = note 1 (Top) ∷ []; x = vertex_at 0 Even (1 ∷ []); values = (Top) ∷ []; lifted = Top; holds = refl; held = refl; read = (refl, tt); lift = ((Top) ∷ [], Top, (top_prog two 0, tt), best_single Even (Top), refl); effect = refl }
+late_step_5 = record {
+  u = 6;
+  notes = note 1 (Top) ∷ [];
+  x = vertex_at 0 Even (1 ∷ []);
+  values = (Top) ∷ [];
+  lifted = Top;
+  holds = refl;
+  held = refl;
+  read = (refl, tt);
+  lift = ((Top) ∷ [], Top, (top_prog two 0, tt), best_single Even (Top), refl);
+  effect = refl;
+}
 
 abbrev late_6 : Core
-late_6 = core_of two (number 0 ∷ Top ∷ number 0 ∷ number 0 ∷ number 0 ∷ number 0 ∷ Top ∷ number 0 ∷ []) (0 ∷ 1 ∷ 3 ∷ 4 ∷ 5 ∷ 7 ∷ []) (Idle ∷ Owing (2 ∷ []) ∷ [])
+late_6 = core_of two (number 0 ∷ Top ∷ number 0 ∷ number 0 ∷ number 0 ∷ number 0 ∷ Top ∷ number 0 ∷ []) (0 ∷ 1 ∷ 3 ∷ 4 ∷ 5 ∷ 7 ∷ [])
+    (Idle ∷ Owing (2 ∷ []) ∷ [])
 
 late_step_6 : Raises late_5 0 late_6
 unfolding predecessors
-late_step_6 = record { u = 2; notes = note 6 (number 0) ∷ []; x = vertex_at 0 Even (6 ∷ []); values = (number 0) ∷ []; lifted = number 0; holds = refl; held = refl; read = (refl, tt); lift = ((number 0) ∷ [], number 0, (zero_two, tt), best_single Even (number 0), refl); effect = refl }
+late_step_6 = record {
+  u = 2;
+  notes = note 6 (number 0) ∷ [];
+  x = vertex_at 0 Even (6 ∷ []);
+  values = (number 0) ∷ [];
+  lifted = number 0;
+  holds = refl;
+  held = refl;
+  read = (refl, tt);
+  lift = ((number 0) ∷ [], number 0, (zero_two, tt), best_single Even (number 0), refl);
+  effect = refl;
+}
 
 abbrev late_7 : Core
 late_7 = core_of two (number 0 ∷ Top ∷ number 0 ∷ number 0 ∷ number 0 ∷ number 0 ∷ Top ∷ number 0 ∷ []) (0 ∷ 1 ∷ 2 ∷ 3 ∷ 4 ∷ 5 ∷ 7 ∷ []) (Idle ∷ Idle ∷ [])
@@ -163,23 +231,45 @@ late_step_7 : Pushes late_6 1 2 late_7
 late_step_7 = record { owed = 2 ∷ []; owes = refl; among = (0, omega arith, refl); effect = refl }
 
 abbrev late_8 : Core
-late_8 = core_of two (number 0 ∷ Top ∷ number 0 ∷ number 0 ∷ number 0 ∷ number 0 ∷ Top ∷ number 0 ∷ []) (0 ∷ 1 ∷ 3 ∷ 4 ∷ 5 ∷ 7 ∷ []) (Holding 2 ([]) ∷ Idle ∷ [])
+late_8 = core_of two (number 0 ∷ Top ∷ number 0 ∷ number 0 ∷ number 0 ∷ number 0 ∷ Top ∷ number 0 ∷ []) (0 ∷ 1 ∷ 3 ∷ 4 ∷ 5 ∷ 7 ∷ [])
+    (Holding 2 ([]) ∷ Idle ∷ [])
 
 late_step_8 : Takes late_7 0 2 late_8
 late_step_8 = record { idle = refl; pending = (2, omega arith, refl); effect = refl }
 
 abbrev late_9 : Core
-late_9 = core_of two (number 0 ∷ Top ∷ number 0 ∷ number 0 ∷ number 0 ∷ number 0 ∷ Top ∷ number 0 ∷ []) (0 ∷ 1 ∷ 3 ∷ 4 ∷ 5 ∷ 7 ∷ []) (Holding 2 (note 6 (Top) ∷ []) ∷ Idle ∷ [])
+late_9 = core_of two (number 0 ∷ Top ∷ number 0 ∷ number 0 ∷ number 0 ∷ number 0 ∷ Top ∷ number 0 ∷ []) (0 ∷ 1 ∷ 3 ∷ 4 ∷ 5 ∷ 7 ∷ [])
+    (Holding 2 (note 6 (Top) ∷ []) ∷ Idle ∷ [])
 
 late_step_9 : Reads late_8 0 6 late_9
-late_step_9 = record { u = 2; notes = []; x = vertex_at 0 Even (6 ∷ []); holds = refl; held = refl; successor = (0, omega arith, refl); unread = refl; effect = refl }
+late_step_9 = record {
+  u = 2;
+  notes = [];
+  x = vertex_at 0 Even (6 ∷ []);
+  holds = refl;
+  held = refl;
+  successor = (0, omega arith, refl);
+  unread = refl;
+  effect = refl;
+}
 
 abbrev late_10 : Core
 late_10 = core_of two (number 0 ∷ Top ∷ Top ∷ number 0 ∷ number 0 ∷ number 0 ∷ Top ∷ number 0 ∷ []) (0 ∷ 1 ∷ 3 ∷ 4 ∷ 5 ∷ 7 ∷ []) (Idle ∷ Idle ∷ [])
 
 late_step_10 : Raises late_9 0 late_10
 unfolding predecessors
-late_step_10 = record { u = 2; notes = note 6 (Top) ∷ []; x = vertex_at 0 Even (6 ∷ []); values = (Top) ∷ []; lifted = Top; holds = refl; held = refl; read = (refl, tt); lift = ((Top) ∷ [], Top, (top_prog two 0, tt), best_single Even (Top), refl); effect = refl }
+late_step_10 = record {
+  u = 2;
+  notes = note 6 (Top) ∷ [];
+  x = vertex_at 0 Even (6 ∷ []);
+  values = (Top) ∷ [];
+  lifted = Top;
+  holds = refl;
+  held = refl;
+  read = (refl, tt);
+  lift = ((Top) ∷ [], Top, (top_prog two 0, tt), best_single Even (Top), refl);
+  effect = refl;
+}
 
 abbrev late_11 : Core
 late_11 = core_of two (number 0 ∷ Top ∷ Top ∷ number 0 ∷ number 0 ∷ number 0 ∷ Top ∷ number 0 ∷ []) (0 ∷ 1 ∷ 3 ∷ 4 ∷ 7 ∷ []) (Idle ∷ Holding 5 ([]) ∷ [])
@@ -188,17 +278,38 @@ late_step_11 : Takes late_10 1 5 late_11
 late_step_11 = record { idle = refl; pending = (4, omega arith, refl); effect = refl }
 
 abbrev late_12 : Core
-late_12 = core_of two (number 0 ∷ Top ∷ Top ∷ number 0 ∷ number 0 ∷ number 0 ∷ Top ∷ number 0 ∷ []) (0 ∷ 1 ∷ 3 ∷ 4 ∷ 7 ∷ []) (Idle ∷ Holding 5 (note 1 (Top) ∷ []) ∷ [])
+late_12 = core_of two (number 0 ∷ Top ∷ Top ∷ number 0 ∷ number 0 ∷ number 0 ∷ Top ∷ number 0 ∷ []) (0 ∷ 1 ∷ 3 ∷ 4 ∷ 7 ∷ [])
+    (Idle ∷ Holding 5 (note 1 (Top) ∷ []) ∷ [])
 
 late_step_12 : Reads late_11 1 1 late_12
-late_step_12 = record { u = 5; notes = []; x = vertex_at 0 Even (1 ∷ []); holds = refl; held = refl; successor = (0, omega arith, refl); unread = refl; effect = refl }
+late_step_12 = record {
+  u = 5;
+  notes = [];
+  x = vertex_at 0 Even (1 ∷ []);
+  holds = refl;
+  held = refl;
+  successor = (0, omega arith, refl);
+  unread = refl;
+  effect = refl;
+}
 
 abbrev late_13 : Core
 late_13 = core_of two (number 0 ∷ Top ∷ Top ∷ number 0 ∷ number 0 ∷ Top ∷ Top ∷ number 0 ∷ []) (0 ∷ 1 ∷ 3 ∷ 4 ∷ 7 ∷ []) (Idle ∷ Idle ∷ [])
 
 late_step_13 : Raises late_12 1 late_13
 unfolding predecessors
-late_step_13 = record { u = 5; notes = note 1 (Top) ∷ []; x = vertex_at 0 Even (1 ∷ []); values = (Top) ∷ []; lifted = Top; holds = refl; held = refl; read = (refl, tt); lift = ((Top) ∷ [], Top, (top_prog two 0, tt), best_single Even (Top), refl); effect = refl }
+late_step_13 = record {
+  u = 5;
+  notes = note 1 (Top) ∷ [];
+  x = vertex_at 0 Even (1 ∷ []);
+  values = (Top) ∷ [];
+  lifted = Top;
+  holds = refl;
+  held = refl;
+  read = (refl, tt);
+  lift = ((Top) ∷ [], Top, (top_prog two 0, tt), best_single Even (Top), refl);
+  effect = refl;
+}
 
 abbrev late_events : List Event
 late_events = Take 0 2 ∷ Read 0 6 ∷ Take 1 6 ∷ Read 1 1 ∷ Raise 1 ∷ Raise 0 ∷ Push 1 2 ∷ Take 0 2 ∷ Read 0 6 ∷ Raise 0 ∷ Take 1 5 ∷ Read 1 1 ∷ Raise 1 ∷ []
@@ -207,7 +318,43 @@ abbrev late_dones : List Bool
 late_dones = true ∷ true ∷ true ∷ true ∷ true ∷ true ∷ true ∷ true ∷ true ∷ true ∷ true ∷ true ∷ true ∷ []
 
 pub late_steps : Steps (late_0) late_events late_dones late_13
-late_steps = (late_1, late_step_1, (late_2, late_step_2, (late_3, late_step_3, (late_4, late_step_4, (late_5, late_step_5, (late_6, late_step_6, (late_7, late_step_7, (late_8, late_step_8, (late_9, late_step_9, (late_10, late_step_10, (late_11, late_step_11, (late_12, late_step_12, (late_13, late_step_13, refl)))))))))))))
+late_steps = (
+  late_1,
+  late_step_1,
+  (
+    late_2,
+    late_step_2,
+    (
+      late_3,
+      late_step_3,
+      (
+        late_4,
+        late_step_4,
+        (
+          late_5,
+          late_step_5,
+          (
+            late_6,
+            late_step_6,
+            (
+              late_7,
+              late_step_7,
+              (
+                late_8,
+                late_step_8,
+                (
+                  late_9,
+                  late_step_9,
+                  (late_10, late_step_10, (late_11, late_step_11, (late_12, late_step_12, (late_13, late_step_13, refl)))),
+                ),
+              ),
+            ),
+          ),
+        ),
+      ),
+    ),
+  ),
+)
 
 -- each vertex is taken, read for and raised once
 abbrev each_0 : Core
@@ -223,14 +370,34 @@ abbrev each_2 : Core
 each_2 = core_of one (number 0 ∷ Top ∷ number 0 ∷ number 0 ∷ number 0 ∷ number 0 ∷ []) (1 ∷ 2 ∷ 3 ∷ 4 ∷ 5 ∷ []) (Holding 0 (note 0 (number 0) ∷ []) ∷ Idle ∷ [])
 
 each_step_2 : Reads each_1 0 0 each_2
-each_step_2 = record { u = 0; notes = []; x = vertex_at 0 Even (0 ∷ []); holds = refl; held = refl; successor = (0, omega arith, refl); unread = refl; effect = refl }
+each_step_2 = record {
+  u = 0;
+  notes = [];
+  x = vertex_at 0 Even (0 ∷ []);
+  holds = refl;
+  held = refl;
+  successor = (0, omega arith, refl);
+  unread = refl;
+  effect = refl;
+}
 
 abbrev each_3 : Core
 each_3 = core_of one (number 0 ∷ Top ∷ number 0 ∷ number 0 ∷ number 0 ∷ number 0 ∷ []) (1 ∷ 2 ∷ 3 ∷ 4 ∷ 5 ∷ []) (Idle ∷ Idle ∷ [])
 
 each_step_3 : Raises each_2 0 each_3
 unfolding predecessors
-each_step_3 = record { u = 0; notes = note 0 (number 0) ∷ []; x = vertex_at 0 Even (0 ∷ []); values = (number 0) ∷ []; lifted = number 0; holds = refl; held = refl; read = (refl, tt); lift = ((number 0) ∷ [], number 0, (zero_one, tt), best_single Even (number 0), refl); effect = refl }
+each_step_3 = record {
+  u = 0;
+  notes = note 0 (number 0) ∷ [];
+  x = vertex_at 0 Even (0 ∷ []);
+  values = (number 0) ∷ [];
+  lifted = number 0;
+  holds = refl;
+  held = refl;
+  read = (refl, tt);
+  lift = ((number 0) ∷ [], number 0, (zero_one, tt), best_single Even (number 0), refl);
+  effect = refl;
+}
 
 abbrev each_4 : Core
 each_4 = core_of one (number 0 ∷ Top ∷ number 0 ∷ number 0 ∷ number 0 ∷ number 0 ∷ []) (2 ∷ 3 ∷ 4 ∷ 5 ∷ []) (Holding 1 ([]) ∷ Idle ∷ [])
@@ -242,14 +409,34 @@ abbrev each_5 : Core
 each_5 = core_of one (number 0 ∷ Top ∷ number 0 ∷ number 0 ∷ number 0 ∷ number 0 ∷ []) (2 ∷ 3 ∷ 4 ∷ 5 ∷ []) (Holding 1 (note 1 (Top) ∷ []) ∷ Idle ∷ [])
 
 each_step_5 : Reads each_4 0 1 each_5
-each_step_5 = record { u = 1; notes = []; x = vertex_at 1 Even (1 ∷ []); holds = refl; held = refl; successor = (0, omega arith, refl); unread = refl; effect = refl }
+each_step_5 = record {
+  u = 1;
+  notes = [];
+  x = vertex_at 1 Even (1 ∷ []);
+  holds = refl;
+  held = refl;
+  successor = (0, omega arith, refl);
+  unread = refl;
+  effect = refl;
+}
 
 abbrev each_6 : Core
 each_6 = core_of one (number 0 ∷ Top ∷ number 0 ∷ number 0 ∷ number 0 ∷ number 0 ∷ []) (2 ∷ 3 ∷ 4 ∷ 5 ∷ []) (Idle ∷ Idle ∷ [])
 
 each_step_6 : Raises each_5 0 each_6
 unfolding predecessors
-each_step_6 = record { u = 1; notes = note 1 (Top) ∷ []; x = vertex_at 1 Even (1 ∷ []); values = (Top) ∷ []; lifted = Top; holds = refl; held = refl; read = (refl, tt); lift = ((Top) ∷ [], Top, (top_prog one 1, tt), best_single Even (Top), refl); effect = refl }
+each_step_6 = record {
+  u = 1;
+  notes = note 1 (Top) ∷ [];
+  x = vertex_at 1 Even (1 ∷ []);
+  values = (Top) ∷ [];
+  lifted = Top;
+  holds = refl;
+  held = refl;
+  read = (refl, tt);
+  lift = ((Top) ∷ [], Top, (top_prog one 1, tt), best_single Even (Top), refl);
+  effect = refl;
+}
 
 abbrev each_7 : Core
 each_7 = core_of one (number 0 ∷ Top ∷ number 0 ∷ number 0 ∷ number 0 ∷ number 0 ∷ []) (3 ∷ 4 ∷ 5 ∷ []) (Holding 2 ([]) ∷ Idle ∷ [])
@@ -261,14 +448,34 @@ abbrev each_8 : Core
 each_8 = core_of one (number 0 ∷ Top ∷ number 0 ∷ number 0 ∷ number 0 ∷ number 0 ∷ []) (3 ∷ 4 ∷ 5 ∷ []) (Holding 2 (note 5 (number 0) ∷ []) ∷ Idle ∷ [])
 
 each_step_8 : Reads each_7 0 5 each_8
-each_step_8 = record { u = 2; notes = []; x = vertex_at 0 Even (5 ∷ []); holds = refl; held = refl; successor = (0, omega arith, refl); unread = refl; effect = refl }
+each_step_8 = record {
+  u = 2;
+  notes = [];
+  x = vertex_at 0 Even (5 ∷ []);
+  holds = refl;
+  held = refl;
+  successor = (0, omega arith, refl);
+  unread = refl;
+  effect = refl;
+}
 
 abbrev each_9 : Core
 each_9 = core_of one (number 0 ∷ Top ∷ number 0 ∷ number 0 ∷ number 0 ∷ number 0 ∷ []) (3 ∷ 4 ∷ 5 ∷ []) (Idle ∷ Idle ∷ [])
 
 each_step_9 : Raises each_8 0 each_9
 unfolding predecessors
-each_step_9 = record { u = 2; notes = note 5 (number 0) ∷ []; x = vertex_at 0 Even (5 ∷ []); values = (number 0) ∷ []; lifted = number 0; holds = refl; held = refl; read = (refl, tt); lift = ((number 0) ∷ [], number 0, (zero_one, tt), best_single Even (number 0), refl); effect = refl }
+each_step_9 = record {
+  u = 2;
+  notes = note 5 (number 0) ∷ [];
+  x = vertex_at 0 Even (5 ∷ []);
+  values = (number 0) ∷ [];
+  lifted = number 0;
+  holds = refl;
+  held = refl;
+  read = (refl, tt);
+  lift = ((number 0) ∷ [], number 0, (zero_one, tt), best_single Even (number 0), refl);
+  effect = refl;
+}
 
 abbrev each_10 : Core
 each_10 = core_of one (number 0 ∷ Top ∷ number 0 ∷ number 0 ∷ number 0 ∷ number 0 ∷ []) (4 ∷ 5 ∷ []) (Holding 3 ([]) ∷ Idle ∷ [])
@@ -280,14 +487,34 @@ abbrev each_11 : Core
 each_11 = core_of one (number 0 ∷ Top ∷ number 0 ∷ number 0 ∷ number 0 ∷ number 0 ∷ []) (4 ∷ 5 ∷ []) (Holding 3 (note 0 (number 0) ∷ []) ∷ Idle ∷ [])
 
 each_step_11 : Reads each_10 0 0 each_11
-each_step_11 = record { u = 3; notes = []; x = vertex_at 0 Even (0 ∷ []); holds = refl; held = refl; successor = (0, omega arith, refl); unread = refl; effect = refl }
+each_step_11 = record {
+  u = 3;
+  notes = [];
+  x = vertex_at 0 Even (0 ∷ []);
+  holds = refl;
+  held = refl;
+  successor = (0, omega arith, refl);
+  unread = refl;
+  effect = refl;
+}
 
 abbrev each_12 : Core
 each_12 = core_of one (number 0 ∷ Top ∷ number 0 ∷ number 0 ∷ number 0 ∷ number 0 ∷ []) (4 ∷ 5 ∷ []) (Idle ∷ Idle ∷ [])
 
 each_step_12 : Raises each_11 0 each_12
 unfolding predecessors
-each_step_12 = record { u = 3; notes = note 0 (number 0) ∷ []; x = vertex_at 0 Even (0 ∷ []); values = (number 0) ∷ []; lifted = number 0; holds = refl; held = refl; read = (refl, tt); lift = ((number 0) ∷ [], number 0, (zero_one, tt), best_single Even (number 0), refl); effect = refl }
+each_step_12 = record {
+  u = 3;
+  notes = note 0 (number 0) ∷ [];
+  x = vertex_at 0 Even (0 ∷ []);
+  values = (number 0) ∷ [];
+  lifted = number 0;
+  holds = refl;
+  held = refl;
+  read = (refl, tt);
+  lift = ((number 0) ∷ [], number 0, (zero_one, tt), best_single Even (number 0), refl);
+  effect = refl;
+}
 
 abbrev each_13 : Core
 each_13 = core_of one (number 0 ∷ Top ∷ number 0 ∷ number 0 ∷ number 0 ∷ number 0 ∷ []) (5 ∷ []) (Holding 4 ([]) ∷ Idle ∷ [])
@@ -299,14 +526,34 @@ abbrev each_14 : Core
 each_14 = core_of one (number 0 ∷ Top ∷ number 0 ∷ number 0 ∷ number 0 ∷ number 0 ∷ []) (5 ∷ []) (Holding 4 (note 1 (Top) ∷ []) ∷ Idle ∷ [])
 
 each_step_14 : Reads each_13 0 1 each_14
-each_step_14 = record { u = 4; notes = []; x = vertex_at 0 Even (1 ∷ []); holds = refl; held = refl; successor = (0, omega arith, refl); unread = refl; effect = refl }
+each_step_14 = record {
+  u = 4;
+  notes = [];
+  x = vertex_at 0 Even (1 ∷ []);
+  holds = refl;
+  held = refl;
+  successor = (0, omega arith, refl);
+  unread = refl;
+  effect = refl;
+}
 
 abbrev each_15 : Core
 each_15 = core_of one (number 0 ∷ Top ∷ number 0 ∷ number 0 ∷ Top ∷ number 0 ∷ []) (5 ∷ []) (Idle ∷ Idle ∷ [])
 
 each_step_15 : Raises each_14 0 each_15
 unfolding predecessors
-each_step_15 = record { u = 4; notes = note 1 (Top) ∷ []; x = vertex_at 0 Even (1 ∷ []); values = (Top) ∷ []; lifted = Top; holds = refl; held = refl; read = (refl, tt); lift = ((Top) ∷ [], Top, (top_prog one 0, tt), best_single Even (Top), refl); effect = refl }
+each_step_15 = record {
+  u = 4;
+  notes = note 1 (Top) ∷ [];
+  x = vertex_at 0 Even (1 ∷ []);
+  values = (Top) ∷ [];
+  lifted = Top;
+  holds = refl;
+  held = refl;
+  read = (refl, tt);
+  lift = ((Top) ∷ [], Top, (top_prog one 0, tt), best_single Even (Top), refl);
+  effect = refl;
+}
 
 abbrev each_16 : Core
 each_16 = core_of one (number 0 ∷ Top ∷ number 0 ∷ number 0 ∷ Top ∷ number 0 ∷ []) ([]) (Holding 5 ([]) ∷ Idle ∷ [])
@@ -318,23 +565,104 @@ abbrev each_17 : Core
 each_17 = core_of one (number 0 ∷ Top ∷ number 0 ∷ number 0 ∷ Top ∷ number 0 ∷ []) ([]) (Holding 5 (note 0 (number 0) ∷ []) ∷ Idle ∷ [])
 
 each_step_17 : Reads each_16 0 0 each_17
-each_step_17 = record { u = 5; notes = []; x = vertex_at 0 Even (0 ∷ []); holds = refl; held = refl; successor = (0, omega arith, refl); unread = refl; effect = refl }
+each_step_17 = record {
+  u = 5;
+  notes = [];
+  x = vertex_at 0 Even (0 ∷ []);
+  holds = refl;
+  held = refl;
+  successor = (0, omega arith, refl);
+  unread = refl;
+  effect = refl;
+}
 
 abbrev each_18 : Core
 each_18 = core_of one (number 0 ∷ Top ∷ number 0 ∷ number 0 ∷ Top ∷ number 0 ∷ []) ([]) (Idle ∷ Idle ∷ [])
 
 each_step_18 : Raises each_17 0 each_18
 unfolding predecessors
-each_step_18 = record { u = 5; notes = note 0 (number 0) ∷ []; x = vertex_at 0 Even (0 ∷ []); values = (number 0) ∷ []; lifted = number 0; holds = refl; held = refl; read = (refl, tt); lift = ((number 0) ∷ [], number 0, (zero_one, tt), best_single Even (number 0), refl); effect = refl }
+each_step_18 = record {
+  u = 5;
+  notes = note 0 (number 0) ∷ [];
+  x = vertex_at 0 Even (0 ∷ []);
+  values = (number 0) ∷ [];
+  lifted = number 0;
+  holds = refl;
+  held = refl;
+  read = (refl, tt);
+  lift = ((number 0) ∷ [], number 0, (zero_one, tt), best_single Even (number 0), refl);
+  effect = refl;
+}
 
 abbrev each_events : List Event
-each_events = Take 0 0 ∷ Read 0 0 ∷ Raise 0 ∷ Take 0 1 ∷ Read 0 1 ∷ Raise 0 ∷ Take 0 2 ∷ Read 0 5 ∷ Raise 0 ∷ Take 0 3 ∷ Read 0 0 ∷ Raise 0 ∷ Take 0 4 ∷ Read 0 1 ∷ Raise 0 ∷ Take 0 5 ∷ Read 0 0 ∷ Raise 0 ∷ []
+each_events = Take 0 0 ∷ Read 0 0 ∷ Raise 0 ∷ Take 0 1 ∷ Read 0 1 ∷ Raise 0 ∷ Take 0 2 ∷ Read 0 5 ∷ Raise 0 ∷ Take 0 3 ∷ Read 0 0 ∷ Raise 0 ∷ Take 0 4 ∷ Read
+    0 1 ∷ Raise 0 ∷ Take 0 5 ∷ Read 0 0 ∷ Raise 0 ∷ []
 
 abbrev each_dones : List Bool
 each_dones = true ∷ true ∷ true ∷ true ∷ true ∷ true ∷ true ∷ true ∷ true ∷ true ∷ true ∷ true ∷ true ∷ true ∷ true ∷ true ∷ true ∷ true ∷ []
 
 pub each_steps : Steps (each_0) each_events each_dones each_18
-each_steps = (each_1, each_step_1, (each_2, each_step_2, (each_3, each_step_3, (each_4, each_step_4, (each_5, each_step_5, (each_6, each_step_6, (each_7, each_step_7, (each_8, each_step_8, (each_9, each_step_9, (each_10, each_step_10, (each_11, each_step_11, (each_12, each_step_12, (each_13, each_step_13, (each_14, each_step_14, (each_15, each_step_15, (each_16, each_step_16, (each_17, each_step_17, (each_18, each_step_18, refl))))))))))))))))))
+each_steps = (
+  each_1,
+  each_step_1,
+  (
+    each_2,
+    each_step_2,
+    (
+      each_3,
+      each_step_3,
+      (
+        each_4,
+        each_step_4,
+        (
+          each_5,
+          each_step_5,
+          (
+            each_6,
+            each_step_6,
+            (
+              each_7,
+              each_step_7,
+              (
+                each_8,
+                each_step_8,
+                (
+                  each_9,
+                  each_step_9,
+                  (
+                    each_10,
+                    each_step_10,
+                    (
+                      each_11,
+                      each_step_11,
+                      (
+                        each_12,
+                        each_step_12,
+                        (
+                          each_13,
+                          each_step_13,
+                          (
+                            each_14,
+                            each_step_14,
+                            (
+                              each_15,
+                              each_step_15,
+                              (each_16, each_step_16, (each_17, each_step_17, (each_18, each_step_18, refl))),
+                            ),
+                          ),
+                        ),
+                      ),
+                    ),
+                  ),
+                ),
+              ),
+            ),
+          ),
+        ),
+      ),
+    ),
+  ),
+)
 
 -- P holds of the n numbers from i on
 abbrev HoldsFrom : (ℕ → Type 0) → ℕ → ℕ → Type 0
@@ -349,7 +677,8 @@ holds_from P i (suc n) h v l k = elim (eqb_tells v i) [
 ]
 
 -- the lift at a vertex with one successor
-pub single : (g : Game) (table : List Measure) (v p t : ℕ) (o : Player) (r : Measure) → vertex g v ≡ Some (vertex_at p o (t ∷ [])) → IsProg g p (value_at table t) r
+pub single : (g : Game) (table : List Measure) (v p t : ℕ) (o : Player) (r : Measure) → vertex g v ≡ Some (vertex_at p o (t ∷ []))
+    → IsProg g p (value_at table t) r
     → IsLiftAt g table v (greater_of (value_at table v) r)
 single g table v p t o r at is = (vertex_at p o (t ∷ []), at, (r ∷ [], r, (is, tt), best_single o r, refl))
 
@@ -359,8 +688,19 @@ first_table = number 0 ∷ Top ∷ number 0 ∷ number 0 ∷ Top ∷ number 0 �
 pub first_settled : IsProgress one first_table
 first_settled = (
   (refl, ((omega arith, tt), (tt, ((omega arith, tt), ((omega arith, tt), (tt, ((omega arith, tt), tt))))))),
-  λ v r lift. lift_one one first_table v r (value_at first_table v) lift (holds_from (λ u. IsLiftAt one first_table u (value_at first_table u)) 0 6
-      (single one first_table 0 0 0 Even (number 0) refl (zero_one), (single one first_table 1 1 1 Even (Top) refl (top_prog one 1), (single one first_table 2 0 5 Even (number 0) refl (zero_one), (single one first_table 3 0 0 Even (number 0) refl (zero_one), (single one first_table 4 0 1 Even (Top) refl (top_prog one 0), (single one first_table 5 0 0 Even (number 0) refl (zero_one), tt))))))
+  λ v r lift. lift_one one first_table v r (value_at first_table v) lift (holds_from (λ u. IsLiftAt one first_table u (value_at first_table u)) 0 6 (
+    single one first_table 0 0 0 Even (number 0) refl (zero_one),
+    (
+      single one first_table 1 1 1 Even (Top) refl (top_prog one 1),
+      (
+        single one first_table 2 0 5 Even (number 0) refl (zero_one),
+        (
+          single one first_table 3 0 0 Even (number 0) refl (zero_one),
+          (single one first_table 4 0 1 Even (Top) refl (top_prog one 0), (single one first_table 5 0 0 Even (number 0) refl (zero_one), tt)),
+        ),
+      ),
+    ),
+  )
       v (omega arith) (slice_get_within one.vertices v lift.0 lift.1)),
 )
 
@@ -370,8 +710,25 @@ late_table = number 0 ∷ Top ∷ Top ∷ number 0 ∷ number 0 ∷ Top ∷ Top 
 pub late_settled : IsProgress two late_table
 late_settled = (
   (refl, ((omega arith, tt), (tt, (tt, ((omega arith, tt), ((omega arith, tt), (tt, (tt, ((omega arith, tt), tt))))))))),
-  λ v r lift. lift_one two late_table v r (value_at late_table v) lift (holds_from (λ u. IsLiftAt two late_table u (value_at late_table u)) 0 8
-      (single two late_table 0 0 0 Even (number 0) refl (zero_two), (single two late_table 1 1 1 Even (Top) refl (top_prog two 1), (single two late_table 2 0 6 Even (Top) refl (top_prog two 0), (single two late_table 3 0 7 Even (number 0) refl (zero_two), (single two late_table 4 0 0 Even (number 0) refl (zero_two), (single two late_table 5 0 1 Even (Top) refl (top_prog two 0), (single two late_table 6 0 1 Even (Top) refl (top_prog two 0), (single two late_table 7 0 0 Even (number 0) refl (zero_two), tt))))))))
+  λ v r lift. lift_one two late_table v r (value_at late_table v) lift (holds_from (λ u. IsLiftAt two late_table u (value_at late_table u)) 0 8 (
+    single two late_table 0 0 0 Even (number 0) refl (zero_two),
+    (
+      single two late_table 1 1 1 Even (Top) refl (top_prog two 1),
+      (
+        single two late_table 2 0 6 Even (Top) refl (top_prog two 0),
+        (
+          single two late_table 3 0 7 Even (number 0) refl (zero_two),
+          (
+            single two late_table 4 0 0 Even (number 0) refl (zero_two),
+            (
+              single two late_table 5 0 1 Even (Top) refl (top_prog two 0),
+              (single two late_table 6 0 1 Even (Top) refl (top_prog two 0), (single two late_table 7 0 0 Even (number 0) refl (zero_two), tt)),
+            ),
+          ),
+        ),
+      ),
+    ),
+  )
       v (omega arith) (slice_get_within two.vertices v lift.0 lift.1)),
 )
 

@@ -25,7 +25,8 @@ lined [] = []
 lined (line ∷ lines) = line ++ 10 ∷ lined lines
 
 written_even : evidence_text evens
-    ≡ lined (codes "evidence even" ∷ codes "0 0 (0)" ∷ codes "2 3 (0)" ∷ codes "3 4 (1)" ∷ codes "4 5 (0)" ∷ codes "5 13 (0)" ∷ codes "6 2 (0)" ∷ codes "8 3 (1)" ∷ codes "9 10 (0)"
+    ≡ lined (codes "evidence even" ∷ codes "0 0 (0)" ∷ codes "2 3 (0)" ∷ codes "3 4 (1)" ∷ codes "4 5 (0)" ∷ codes "5 13 (0)" ∷ codes "6 2 (0)"
+    ∷ codes "8 3 (1)" ∷ codes "9 10 (0)"
     ∷ codes "10 11 (2)" ∷ codes "11 14 (1)" ∷ codes "13 9 (0)" ∷ codes "14 8 (1)" ∷ codes "15 10 (2)" ∷ [])
 unfolding digits
 written_even = refl
@@ -74,7 +75,15 @@ of_second = record { player = Odd; entries = None ∷ Some (record { move = None
 -- 1 - (0)
 line_1 : IsShaped 1 (codes "1 - (0)") (spelled_row 1 None (0 ∷ []))
 line_1 = record {
-  spelled = record { v = codes "1"; m = codes "-"; r = codes "(0)"; vertex = (refl, refl); move = refl; rank = (codes "0" ∷ [], ((refl, refl), tt), refl); joined = refl };
+  spelled = record {
+    v = codes "1";
+    m = codes "-";
+    r = codes "(0)";
+    vertex = (refl, refl);
+    move = refl;
+    rank = (codes "0" ∷ [], ((refl, refl), tt), refl);
+    joined = refl;
+  };
   count = refl;
   small = (omega arith, tt);
 }
@@ -97,7 +106,8 @@ spelled_odd = record {
     to (suc zero) x e = let same : record { move = None; rank = 0 ∷ [] } ≡ x = cc in (0, omega arith, λ i. record { vertex = 1; entry = same i })
     to (suc (suc v)) x e = absurd cc
 
-    from : (v : ℕ) (x : Entry) → Contains (spelled_row 1 None (0 ∷ []) ∷ []) (record { vertex = v; entry = x }) → slice_index_or of_second.entries v None ≡ Some x
+    from : (v : ℕ) (x : Entry) → Contains (spelled_row 1 None (0 ∷ []) ∷ []) (record { vertex = v; entry = x })
+        → slice_index_or of_second.entries v None ≡ Some x
     from v x (zero, h, is) = subst (λ (r : Row). slice_index_or of_second.entries r.vertex None ≡ Some r.entry) is refl
     from v x (suc k, h, is) = absurd (omega (arith, h))
 
@@ -133,7 +143,15 @@ nothing_before = record { each = tt; inside = tt; once = λ i j d l k. absurd (o
 -- 16 0 (0): there are vertices 0 to 15
 line_16 : IsShaped 1 (codes "16 0 (0)") (spelled_row 16 (Some 0) (0 ∷ []))
 line_16 = record {
-  spelled = record { v = codes "16"; m = codes "0"; r = codes "(0)"; vertex = (refl, refl); move = (refl, refl); rank = (codes "0" ∷ [], ((refl, refl), tt), refl); joined = refl };
+  spelled = record {
+    v = codes "16";
+    m = codes "0";
+    r = codes "(0)";
+    vertex = (refl, refl);
+    move = (refl, refl);
+    rank = (codes "0" ∷ [], ((refl, refl), tt), refl);
+    joined = refl;
+  };
   count = refl;
   small = (omega arith, tt);
 }
@@ -144,7 +162,16 @@ no_vertex = (
   codes "16 0 (0)" ∷ [],
   0,
   refl,
-  record { front = []; line = codes "16 0 (0)"; back = []; before = []; cut = refl; fine = nothing_before; count = refl; wrong = (spelled_row 16 (Some 0) (0 ∷ []), line_16, inl (omega arith)) },
+  record {
+    front = [];
+    line = codes "16 0 (0)";
+    back = [];
+    before = [];
+    cut = refl;
+    fine = nothing_before;
+    count = refl;
+    wrong = (spelled_row 16 (Some 0) (0 ∷ []), line_16, inl (omega arith));
+  },
   refl,
 )
 

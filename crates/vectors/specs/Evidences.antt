@@ -43,12 +43,16 @@ abbrev even_with : Option Entry → Option Entry → Option Entry → Option Ent
 even_with at_1 at_5 at_10 at_14 = record {
   player = Even;
   entries =
-      goes 0 0 ∷ at_1 ∷ goes 3 0 ∷ goes 4 1 ∷ goes 5 0 ∷ at_5 ∷ goes 2 0 ∷ None ∷ goes 3 1 ∷ goes 10 0 ∷ at_10 ∷ goes 14 1 ∷ None ∷ goes 9 0 ∷ at_14 ∷ goes 10 2 ∷ [];
+      goes 0 0 ∷ at_1 ∷ goes 3 0 ∷ goes 4 1 ∷ goes 5 0 ∷ at_5 ∷ goes 2 0 ∷ None ∷ goes 3 1 ∷ goes 10 0 ∷ at_10 ∷ goes 14 1 ∷ None ∷ goes 9 0 ∷ at_14 ∷ goes
+      10 2 ∷ [];
 }
 
 -- Odd's with these at 1 and 7
 abbrev odd_with : Option Entry → Option Entry → Evidence
-odd_with at_1 at_7 = record { player = Odd; entries = None ∷ at_1 ∷ None ∷ None ∷ None ∷ None ∷ None ∷ at_7 ∷ None ∷ None ∷ None ∷ None ∷ lost 0 1 ∷ None ∷ None ∷ None ∷ [] }
+odd_with at_1 at_7 = record {
+  player = Odd;
+  entries = None ∷ at_1 ∷ None ∷ None ∷ None ∷ None ∷ None ∷ at_7 ∷ None ∷ None ∷ None ∷ None ∷ lost 0 1 ∷ None ∷ None ∷ None ∷ [];
+}
 
 abbrev pub evens : Evidence
 evens = even_with None (goes 13 0) (goes 11 2) (goes 8 1)
@@ -83,7 +87,10 @@ to_itself = verdict (even_with (goes 1 0) (goes 13 0) (goes 11 2) (goes 8 1)) (F
 
 -- a count may be greater than the number of vertices of its priority
 abbrev sink_alone : Evidence
-sink_alone = record { player = Even; entries = goes 0 1000 ∷ None ∷ None ∷ None ∷ None ∷ None ∷ None ∷ None ∷ None ∷ None ∷ None ∷ None ∷ None ∷ None ∷ None ∷ None ∷ [] }
+sink_alone = record {
+  player = Even;
+  entries = goes 0 1000 ∷ None ∷ None ∷ None ∷ None ∷ None ∷ None ∷ None ∷ None ∷ None ∷ None ∷ None ∷ None ∷ None ∷ None ∷ None ∷ [];
+}
 
 great_count : IsVerdict often_a_game sink_alone Good
 great_count = verdict sink_alone Good refl
@@ -100,7 +107,8 @@ differ : Even ≢ Odd
 differ e = cc
 
 in_one : (e f : Evidence) → list_all (λ v. has e v || has f v) (range_with_len 0 16) ≡ true → (v : ℕ) → v < 16 → IsTrue (has e v) ⊎ IsTrue (has f v)
-in_one e f all v h = either (has e v) (has f v) (all_gives (λ u. has e u || has f u) (range_with_len 0 16) v all (gives_range 0 16 v (omega arith) (omega arith)))
+in_one e f all v h = either (has e v) (has f v) (all_gives (λ u. has e u || has f u) (range_with_len 0 16) v all
+    (gives_range 0 16 v (omega arith) (omega arith)))
 
 both_yes : IsBoth often_a_game evens odds Yes
 both_yes = ((good_even, good_odd, differ), in_one evens odds refl)
@@ -132,13 +140,19 @@ abbrev Best : Vertex → Option ℕ → Type 0
 Best = IsBestMove often_a_game least_often_a
 
 -- a lesser value has a lesser prog
-lesser : (x : Vertex) (t : ℕ) → Contains x.successors t → ((u : ℕ) → Contains x.successors u → IsAtMost (value_at least_often_a t) (value_at least_often_a u)) → IsLeastSuccessor often_a_game least_often_a x t
-lesser x t c low = record { successor = c; least = λ u d m r i j. prog_more often_a_game x.priority (value_at least_often_a t) (value_at least_often_a u) m r (low u d) i j }
+lesser : (x : Vertex) (t : ℕ) → Contains x.successors t → ((u : ℕ) → Contains x.successors u
+    → IsAtMost (value_at least_often_a t) (value_at least_often_a u)) → IsLeastSuccessor often_a_game least_often_a x t
+lesser x t c low = record {
+  successor = c;
+  least = λ u d m r i j. prog_more often_a_game x.priority (value_at least_often_a t) (value_at least_often_a u) m r
+      (low u d) i j;
+}
 
 best_one : (p t : ℕ) → Best (vertex_at p Even (t ∷ [])) (Some t)
 best_one p t = (
   refl,
-  lesser (vertex_at p Even (t ∷ [])) t (contains_first t []) (λ u d. subst (λ w. IsAtMost (value_at least_often_a t) (value_at least_often_a w)) (sym (only_in t u d)) (at_most_itself (value_at least_often_a t))),
+  lesser (vertex_at p Even (t ∷ [])) t (contains_first t [])
+      (λ u d. subst (λ w. IsAtMost (value_at least_often_a t) (value_at least_often_a w)) (sym (only_in t u d)) (at_most_itself (value_at least_often_a t))),
   λ u is. (let e = only_in t u is.successor in omega arith),
 )
 
@@ -161,7 +175,11 @@ best_11 = (
     | inl e ↦ subst (λ w. IsAtMost (value_at least_often_a 14) (value_at least_often_a w)) (sym e) refl
     | inr e ↦ subst (λ w. IsAtMost (value_at least_often_a 14) (value_at least_often_a w)) (sym e) refl
   ]),
-  λ u is. elim (of_two 12 14 u is.successor) [ inl e ↦ absurd (never (subst (λ w. IsLeastSuccessor often_a_game least_often_a (vertex_at 0 Even (12 ∷ 14 ∷ [])) w) e is)) | inr e ↦ omega arith ],
+  λ u is. elim (of_two 12 14 u is.successor) [
+    | inl e ↦ absurd
+        (never (subst (λ w. IsLeastSuccessor often_a_game least_often_a (vertex_at 0 Even (12 ∷ 14 ∷ [])) w) e is))
+    | inr e ↦ omega arith
+  ],
 )
   where
     one : Measure
@@ -180,8 +198,14 @@ best_11 = (
 abbrev Inside : ℕ → List ℕ → Type 0
 Inside v c = (x : Entry) × (entry_at evens v ≡ Some x) × (x.rank ≡ c) × ((w : Vertex) → vertex often_a_game v ≡ Some w → Best w x.move)
 
-here : (v : ℕ) (w : Vertex) (t k : ℕ) (c : List ℕ) → vertex often_a_game v ≡ Some w → entry_at evens v ≡ goes t k → Counts (k ∷ []) ≡ Counts c → Best w (Some t) → Inside v c
-here v w t k c at entry is best = (record { move = Some t; rank = k ∷ [] }, entry, counts (k ∷ []) c is, λ y there. subst (λ z. Best z (Some t)) (same w y (sym at ∙ there)) best)
+here : (v : ℕ) (w : Vertex) (t k : ℕ) (c : List ℕ) → vertex often_a_game v ≡ Some w → entry_at evens v ≡ goes t k → Counts (k ∷ []) ≡ Counts c
+    → Best w (Some t) → Inside v c
+here v w t k c at entry is best = (
+  record { move = Some t; rank = k ∷ [] },
+  entry,
+  counts (k ∷ []) c is,
+  λ y there. subst (λ z. Best z (Some t)) (same w y (sym at ∙ there)) best,
+)
   where
     counts : (c d : List ℕ) → Counts c ≡ Counts d → c ≡ d
     counts c d e = cc
@@ -189,7 +213,8 @@ here v w t k c at entry is best = (record { move = Some t; rank = k ∷ [] }, en
     same : (a b : Vertex) → Some a ≡ Some b → a ≡ b
     same a b e = cc
 
-at_one : (v p t k : ℕ) (c : List ℕ) → vertex often_a_game v ≡ Some (vertex_at p Even (t ∷ [])) → entry_at evens v ≡ goes t k → Counts (k ∷ []) ≡ Counts c → Inside v c
+at_one : (v p t k : ℕ) (c : List ℕ) → vertex often_a_game v ≡ Some (vertex_at p Even (t ∷ [])) → entry_at evens v ≡ goes t k → Counts (k ∷ []) ≡ Counts c
+    → Inside v c
 at_one v p t k c at entry is = here v (vertex_at p Even (t ∷ [])) t k c at entry is (best_one p t)
 
 inside : (v : ℕ) (c : List ℕ) → value_at least_often_a v ≡ Counts c → Inside v c

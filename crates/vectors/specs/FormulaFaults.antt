@@ -4,8 +4,12 @@ use Rattle.std.specs.List.{list_any}
 use Rattle.std.specs.Str.{bytes_eq}
 use Rattle.std.proofs.Common.{arith, inl, inr, sym, ap, subst, ◌∙◌, append_assoc, true≢false}
 use Rattle.std.proofs.lemmas.Bool.Decides.{nat_tests}
-use Rattle.formula.specs.Token.{Token, Name, Reserved, Atom, Dot, Less, Greater, OpenBox, CloseBox, Open, Close, Bar, AndSign, OrSign, ImpliesSign, ChoiceSign, PlusSign, StarSign, NotSign, TrueWord, FalseWord, MuWord, NuWord, TauWord, Piece, Blank, Comment, Word, IsPiece, Cuts, is_free_name, reserved_words}
-use Rattle.formula.specs.Syntax.{Syntax, RegSyntax, Anything', Nothing', Tau', Names', Quoted', Parens', Not', And', Or', Implies', Star', Plus', Then', Either', reg_tokens, Dia', True', Var', Mu', Neg', False', Group', Both', OneOf', If', Box', Nu', tokens, nesting, is_within_limits}
+use Rattle.formula.specs.Token.{Token, Name, Reserved, Atom, Dot, Less, Greater, OpenBox, CloseBox, Open, Close, Bar, AndSign, OrSign, ImpliesSign}
+use Rattle.formula.specs.Token.{ChoiceSign, PlusSign, StarSign, NotSign, TrueWord, FalseWord, MuWord, NuWord, TauWord, Piece, Blank, Comment, Word, IsPiece}
+use Rattle.formula.specs.Token.{Cuts, is_free_name, reserved_words}
+use Rattle.formula.specs.Syntax.{Syntax, RegSyntax, Anything', Nothing', Tau', Names', Quoted', Parens', Not', And', Or', Implies', Star', Plus', Then'}
+use Rattle.formula.specs.Syntax.{Either', reg_tokens, Dia', True', Var', Mu', Neg', False', Group', Both', OneOf', If', Box', Nu', tokens, nesting}
+use Rattle.formula.specs.Syntax.{is_within_limits}
 use Rattle.formula.specs.Fault.{HasFault, NothingBegins}
 use Rattle.formula.specs.declared.error.FormulaFault.TheVariants.{NoToken, Unexpected, Unfinished, ReservedWord, Unbound, OddNegations, NotAnAction, TooLarge}
 
@@ -18,7 +22,13 @@ odd = inr (
     Mu' (codes "X") (Neg' (Var' (codes "X"))),
     4,
     [],
-    record { joined = refl; cut = (tt, refl, (refl, refl, (refl, refl, (tt, refl, (refl, refl, (tt, refl, (refl, refl, tt))))))); decided = refl; spelled = refl; grammatical = refl },
+    record {
+      joined = refl;
+      cut = (tt, refl, (refl, refl, (refl, refl, (tt, refl, (refl, refl, (tt, refl, (refl, refl, tt)))))));
+      decided = refl;
+      spelled = refl;
+      grammatical = refl;
+    },
     refl,
     refl,
     refl,
@@ -35,7 +45,13 @@ unbound = inr (
     Mu' (codes "X") (Var' (codes "Y")),
     3,
     [],
-    record { joined = refl; cut = (tt, refl, (refl, refl, (refl, refl, (tt, refl, (refl, refl, (refl, refl, tt)))))); decided = refl; spelled = refl; grammatical = refl },
+    record {
+      joined = refl;
+      cut = (tt, refl, (refl, refl, (refl, refl, (tt, refl, (refl, refl, (refl, refl, tt))))));
+      decided = refl;
+      spelled = refl;
+      grammatical = refl;
+    },
     refl,
     refl,
     refl,
@@ -48,13 +64,34 @@ no_action : HasFault (codes "<(a.b) && c>true") NotAnAction 1
 no_action = inr (
   omega arith,
   inr (inr (
-    Word Less ∷ Word Open ∷ Word (Name (codes "a")) ∷ Word Dot ∷ Word (Name (codes "b")) ∷ Word Close ∷ Blank 32 ∷ Word AndSign ∷ Blank 32 ∷ Word (Name (codes "c")) ∷ Word Greater ∷ Word TrueWord ∷ [],
+    Word Less ∷ Word Open ∷ Word (Name (codes "a")) ∷ Word Dot ∷ Word (Name (codes "b")) ∷ Word Close ∷ Blank 32 ∷ Word AndSign ∷ Blank 32 ∷ Word
+        (Name (codes "c")) ∷ Word Greater ∷ Word TrueWord ∷ [],
     Dia' (And' (Parens' (Then' (Names' (codes "a") []) (Names' (codes "b") []))) (Names' (codes "c") [])) True',
     1,
     [],
     record {
       joined = refl;
-      cut = (tt, refl, (tt, refl, (refl, refl, (tt, refl, (refl, refl, (tt, refl, (refl, refl, (tt, refl, (refl, refl, (refl, refl, (tt, refl, (tt, refl, tt))))))))))));
+      cut = (
+        tt,
+        refl,
+        (
+          tt,
+          refl,
+          (
+            refl,
+            refl,
+            (
+              tt,
+              refl,
+              (
+                refl,
+                refl,
+                (tt, refl, (refl, refl, (tt, refl, (refl, refl, (refl, refl, (tt, refl, (tt, refl, tt))))))),
+              ),
+            ),
+          ),
+        ),
+      );
       decided = refl;
       spelled = refl;
       grammatical = refl;
@@ -131,7 +168,8 @@ no_less_plus (Neg' f) ts more e = cc
 no_less_plus (Both' f g) ts more e = no_less_plus f (AndSign ∷ (tokens g ++ ts)) more (sym (append_assoc (tokens f) (AndSign ∷ tokens g) ts) ∙ e)
 no_less_plus (OneOf' f g) ts more e = no_less_plus f (OrSign ∷ (tokens g ++ ts)) more (sym (append_assoc (tokens f) (OrSign ∷ tokens g) ts) ∙ e)
 no_less_plus (If' f g) ts more e = no_less_plus f (ImpliesSign ∷ (tokens g ++ ts)) more (sym (append_assoc (tokens f) (ImpliesSign ∷ tokens g) ts) ∙ e)
-no_less_plus (Dia' r f) ts more e = let q : (reg_tokens r ++ Greater ∷ tokens f) ++ ts ≡ PlusSign ∷ more = cc in no_plus r (Greater ∷ (tokens f ++ ts)) more (sym (append_assoc (reg_tokens r) (Greater ∷ tokens f) ts) ∙ q)
+no_less_plus (Dia' r f) ts more e = let q : (reg_tokens r ++ Greater ∷ tokens f) ++ ts ≡ PlusSign ∷ more = cc
+    in no_plus r (Greater ∷ (tokens f ++ ts)) more (sym (append_assoc (reg_tokens r) (Greater ∷ tokens f) ts) ∙ q)
 no_less_plus (Box' r f) ts more e = cc
 no_less_plus (Mu' name f) ts more e = cc
 no_less_plus (Nu' name f) ts more e = cc

@@ -35,7 +35,8 @@ canon_plus_or_b = refl
 pub spells_plus_or_b : Spells (codes "<a + + b>true") plus_or_b
 spells_plus_or_b =
     record {
-      pieces = Word Less ∷ Word (Name (codes "a")) ∷ Blank 32 ∷ Word PlusSign ∷ Blank 32 ∷ Word ChoiceSign ∷ Blank 32 ∷ Word (Name (codes "b")) ∷ Word Greater ∷ Word TrueWord ∷ [];
+      pieces = Word Less ∷ Word (Name (codes "a")) ∷ Blank 32 ∷ Word PlusSign ∷ Blank 32 ∷ Word ChoiceSign ∷ Blank 32 ∷ Word
+          (Name (codes "b")) ∷ Word Greater ∷ Word TrueWord ∷ [];
       syntax = Dia' (Either' (Plus' (Names' (codes "a") [])) (Names' (codes "b") [])) True';
       written = record {
         joined = refl;
@@ -50,7 +51,14 @@ spells_plus_or_b =
 spells_within_plus_or_b : SpellsWithin (codes "<a + + b>true") plus_or_b
 unfolding spells_plus_or_b
 spells_within_plus_or_b =
-    record { pieces = spells_plus_or_b.pieces; syntax = spells_plus_or_b.syntax; written = spells_plus_or_b.written; stands_for = spells_plus_or_b.stands_for; within = refl; short = omega arith }
+    record {
+      pieces = spells_plus_or_b.pieces;
+      syntax = spells_plus_or_b.syntax;
+      written = spells_plus_or_b.written;
+      stands_for = spells_plus_or_b.stands_for;
+      within = refl;
+      short = omega arith;
+    }
 
 -- of `+ +` before `b` the first is the postfix sign
 signs : (is_decided (PlusSign ∷ ChoiceSign ∷ Name (codes "b") ∷ []) ≡ true) × (is_decided (ChoiceSign ∷ ChoiceSign ∷ Name (codes "b") ∷ []) ≡ false)
@@ -91,7 +99,8 @@ multi = refl
 turned : holds (Names (codes "b" ∷ codes "a" ∷ [])) (codes "a|b") ≡ true
 turned = refl
 
-twice : (holds (Names (codes "b" ∷ codes "a" ∷ codes "b" ∷ [])) (codes "b|b|a") ≡ true) × (holds (Names (codes "a" ∷ codes "a" ∷ codes "b" ∷ [])) (codes "b|b|a") ≡ false)
+twice : (holds (Names (codes "b" ∷ codes "a" ∷ codes "b" ∷ [])) (codes "b|b|a") ≡ true)
+    × (holds (Names (codes "a" ∷ codes "a" ∷ codes "b" ∷ [])) (codes "b|b|a") ≡ false)
 twice = (refl, refl)
 
 one_of_two : holds name_a (codes "b|a") ≡ false

@@ -144,13 +144,28 @@ stays_at u x is even h t (v, at, inl (o, q)) = subst (λ y. IsTrue (in_three y))
 stays_at u x is even h t (v, at, inr (o, c)) = let e : v ≡ x = cc (at, is) in absurd (o (ap (λ (y : Vertex). y.owner) e ∙ even))
 
 fine_0 : Fine 0
-fine_0 = record { priority = refl; own = λ v e. (let q : v ≡ vertex_at 0 Even (0 ∷ []) = cc in subst (λ (x : Vertex). Contains x.successors 0) (sym q) (0, omega arith, refl)); stays = stays_at 0 (vertex_at 0 Even (0 ∷ [])) refl refl refl }
+fine_0 = record {
+  priority = refl;
+  own = λ v e. (let q : v ≡ vertex_at 0 Even (0 ∷ []) = cc
+      in subst (λ (x : Vertex). Contains x.successors 0) (sym q) (0, omega arith, refl));
+  stays = stays_at 0 (vertex_at 0 Even (0 ∷ [])) refl refl refl;
+}
 
 fine_2 : Fine 2
-fine_2 = record { priority = refl; own = λ v e. (let q : v ≡ vertex_at 0 Even (5 ∷ []) = cc in subst (λ (x : Vertex). Contains x.successors 5) (sym q) (0, omega arith, refl)); stays = stays_at 2 (vertex_at 0 Even (5 ∷ [])) refl refl refl }
+fine_2 = record {
+  priority = refl;
+  own = λ v e. (let q : v ≡ vertex_at 0 Even (5 ∷ []) = cc
+      in subst (λ (x : Vertex). Contains x.successors 5) (sym q) (0, omega arith, refl));
+  stays = stays_at 2 (vertex_at 0 Even (5 ∷ [])) refl refl refl;
+}
 
 fine_5 : Fine 5
-fine_5 = record { priority = refl; own = λ v e. (let q : v ≡ vertex_at 0 Even (0 ∷ []) = cc in subst (λ (x : Vertex). Contains x.successors 0) (sym q) (0, omega arith, refl)); stays = stays_at 5 (vertex_at 0 Even (0 ∷ [])) refl refl refl }
+fine_5 = record {
+  priority = refl;
+  own = λ v e. (let q : v ≡ vertex_at 0 Even (0 ∷ []) = cc
+      in subst (λ (x : Vertex). Contains x.successors 0) (sym q) (0, omega arith, refl));
+  stays = stays_at 5 (vertex_at 0 Even (0 ∷ [])) refl refl refl;
+}
 
 fine : (u : ℕ) → IsTrue (in_three u) → Fine u
 fine u h = elim (three u h) [ inl e ↦ subst Fine (sym e) fine_0 | inr w ↦ elim w [ inl e ↦ subst Fine (sym e) fine_2 | inr e ↦ subst Fine (sym e) fine_5 ] ]

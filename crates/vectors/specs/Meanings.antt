@@ -20,12 +20,22 @@ in_often_a : Satisfies two_states often_a 0
 in_often_a = inl (1, (codes "a", first_arrow, refl), inr (0, (codes "b", second_arrow, refl), inl (1, (codes "a", first_arrow, refl), tt)))
 
 in_often_a_too : Satisfies two_states often_a 1
-in_often_a_too = inr (0, (codes "b", second_arrow, refl), inl (1, (codes "a", first_arrow, refl), inr (0, (codes "b", second_arrow, refl), inl (1, (codes "a", first_arrow, refl), tt))))
+in_often_a_too = inr (
+  0,
+  (codes "b", second_arrow, refl),
+  inl
+      (1, (codes "a", first_arrow, refl), inr (0, (codes "b", second_arrow, refl), inl (1, (codes "a", first_arrow, refl), tt))),
+)
 
 -- the two-state system has no other arrows
-two_states_arrows : (s : ℕ) (label : List ℕ) (t : ℕ) → HasArrow two_states s label t → ((s ≡ 0) × (label ≡ codes "a") × (t ≡ 1)) ⊎ ((s ≡ 1) × (label ≡ codes "b") × (t ≡ 0))
+two_states_arrows : (s : ℕ) (label : List ℕ) (t : ℕ) → HasArrow two_states s label t → ((s ≡ 0) × (label ≡ codes "a") × (t ≡ 1))
+    ⊎ ((s ≡ 1) × (label ≡ codes "b") × (t ≡ 0))
 two_states_arrows s label t (zero, h, e) = inl (sym (ap (λ (a : Arrow). a.source) e), sym (ap (λ (a : Arrow). a.label) e), sym (ap (λ (a : Arrow). a.target) e))
-two_states_arrows s label t (suc zero, h, e) = inr (sym (ap (λ (a : Arrow). a.source) e), sym (ap (λ (a : Arrow). a.label) e), sym (ap (λ (a : Arrow). a.target) e))
+two_states_arrows s label t (suc zero, h, e) = inr (
+  sym (ap (λ (a : Arrow). a.source) e),
+  sym (ap (λ (a : Arrow). a.label) e),
+  sym (ap (λ (a : Arrow). a.target) e),
+)
 two_states_arrows s label t (suc (suc k), h, e) = absurd (omega arith)
 
 a_only : (s t : ℕ) → Leads two_states (Step name_a) s t → (s ≡ 0) × (t ≡ 1)

@@ -5,7 +5,8 @@ use Rattle.std.specs.Fmt.{digits}
 use Rattle.std.proofs.Common.{arith, lit<, lit≤}
 use Rattle.calculus.specs.Tree.{Anything, Regular, Step, Then, Either, Star, Plus, Formula, True, False, Var, Not, And, Or, Dia, Box, Mu, Nu}
 use Rattle.vectors.specs.Formulas.{often_a, plus_or_b, name_a, name_b}
-use Rattle.normal.specs.Tree.{normal_form, Shape, ConstantNode, JunctionNode, ModalityNode, FixpointNode, VariableNode, depth, size, chain, count, modal_count, formula_from}
+use Rattle.normal.specs.Tree.{normal_form, Shape, ConstantNode, JunctionNode, ModalityNode, FixpointNode, VariableNode, depth, size, chain, count}
+use Rattle.normal.specs.Tree.{modal_count, formula_from}
 use Rattle.normal.specs.Nodes.{nodes, Node, greatest, greatest_priority}
 use Rattle.normal.specs.Rules.{nodes_with}
 use Rattle.normal.specs.declared.priorities.Priorities.TheVariants.{Nested, Dependent}
@@ -16,11 +17,13 @@ use Rattle.normal.specs.declared.error.NormalError.TheVariants.{TooManyNodes, Pr
 abbrev node : Shape → ℕ → Node
 node shape p = record { shape = shape; priority = p }
 
-nodes_plus_or_b : nodes plus_or_b ≡ node (JunctionNode true 1 7) 0 ∷ node (ModalityNode true name_a 2) 0 ∷ node (FixpointNode true 3) 1 ∷ node (JunctionNode true 4 5) 0 ∷ node (ConstantNode true) 0
+nodes_plus_or_b : nodes plus_or_b ≡ node (JunctionNode true 1 7) 0 ∷ node (ModalityNode true name_a 2) 0 ∷ node (FixpointNode true 3) 1 ∷ node
+    (JunctionNode true 4 5) 0 ∷ node (ConstantNode true) 0
     ∷ node (ModalityNode true name_a 6) 0 ∷ node (VariableNode 2) 0 ∷ node (ModalityNode true name_b 8) 0 ∷ node (ConstantNode true) 0 ∷ []
 nodes_plus_or_b = refl
 
-nodes_often_a : nodes often_a ≡ node (FixpointNode false 1) 2 ∷ node (FixpointNode true 2) 1 ∷ node (JunctionNode true 3 5) 0 ∷ node (ModalityNode true name_a 4) 0 ∷ node (VariableNode 0) 0
+nodes_often_a : nodes often_a ≡ node (FixpointNode false 1) 2 ∷ node (FixpointNode true 2) 1 ∷ node (JunctionNode true 3 5) 0 ∷ node
+    (ModalityNode true name_a 4) 0 ∷ node (VariableNode 0) 0
     ∷ node (ModalityNode true name_b 6) 0 ∷ node (VariableNode 1) 0 ∷ []
 nodes_often_a = refl
 
@@ -32,7 +35,8 @@ abbrev negated : Formula
 negated = Not (And (Dia (Step name_a) True) (Mu (codes "X") (Box (Step name_b) (Var (codes "X")))))
 
 negated_nodes : nodes negated
-    ≡ node (JunctionNode true 1 3) 0 ∷ node (ModalityNode false name_a 2) 0 ∷ node (ConstantNode false) 0 ∷ node (FixpointNode false 4) 0 ∷ node (ModalityNode true name_b 5) 0 ∷ node (VariableNode 3) 0 ∷ []
+    ≡ node (JunctionNode true 1 3) 0 ∷ node (ModalityNode false name_a 2) 0 ∷ node (ConstantNode false) 0 ∷ node (FixpointNode false 4) 0 ∷ node
+    (ModalityNode true name_b 5) 0 ∷ node (VariableNode 3) 0 ∷ []
 negated_nodes = refl
 
 -- each of these as a line
@@ -40,23 +44,27 @@ abbrev lined : List (List ℕ) → List ℕ
 lined = flat_map (λ line. line ++ line_end)
 
 plus_or_b_text : normal_text (nodes plus_or_b) (depth (normal_form plus_or_b))
-    ≡ lined (codes "nodes 9 priority 1 depth 1" ∷ codes "0 or 0 1 7" ∷ codes "1 dia 0 2 a" ∷ codes "2 mu 1 3" ∷ codes "3 or 0 4 5" ∷ codes "4 true 0" ∷ codes "5 dia 0 6 a"
+    ≡ lined (codes "nodes 9 priority 1 depth 1" ∷ codes "0 or 0 1 7" ∷ codes "1 dia 0 2 a" ∷ codes "2 mu 1 3" ∷ codes "3 or 0 4 5" ∷ codes "4 true 0"
+    ∷ codes "5 dia 0 6 a"
     ∷ codes "6 var 0 2" ∷ codes "7 dia 0 8 b" ∷ codes "8 true 0" ∷ [])
 unfolding digits
 plus_or_b_text = refl
 
 negated_text : normal_text (nodes negated) (depth (normal_form negated))
-    ≡ lined (codes "nodes 6 priority 0 depth 1" ∷ codes "0 or 0 1 3" ∷ codes "1 box 0 2 a" ∷ codes "2 false 0" ∷ codes "3 nu 0 4" ∷ codes "4 dia 0 5 b" ∷ codes "5 var 0 3" ∷ [])
+    ≡ lined (codes "nodes 6 priority 0 depth 1" ∷ codes "0 or 0 1 3" ∷ codes "1 box 0 2 a" ∷ codes "2 false 0" ∷ codes "3 nu 0 4" ∷ codes "4 dia 0 5 b"
+    ∷ codes "5 var 0 3" ∷ [])
 unfolding digits
 negated_text = refl
 
 -- the child's number stands before the action
-action_last : bytes_eq (normal_text (nodes (Dia (Step name_a) True)) 0) (lined (codes "nodes 2 priority 0 depth 0" ∷ codes "0 dia 0 a 1" ∷ codes "1 true 0" ∷ [])) ≡ false
+action_last : bytes_eq (normal_text (nodes (Dia (Step name_a) True)) 0)
+    (lined (codes "nodes 2 priority 0 depth 0" ∷ codes "0 dia 0 a 1" ∷ codes "1 true 0" ∷ [])) ≡ false
 unfolding digits
 action_last = refl
 
 -- the nodes spell formulas without regular ones, each of whose binders is named by its number
-spelled_often_a : formula_from 0 (normal_form often_a) ≡ Nu (codes "Z") (Mu (codes "Z_") (Or (Dia (Step name_a) (Var (codes "Z"))) (Dia (Step name_b) (Var (codes "Z_")))))
+spelled_often_a : formula_from 0 (normal_form often_a) ≡ Nu (codes "Z")
+    (Mu (codes "Z_") (Or (Dia (Step name_a) (Var (codes "Z"))) (Dia (Step name_b) (Var (codes "Z_")))))
 spelled_often_a = refl
 
 spelled_plus_or_b : formula_from 0 (normal_form plus_or_b)

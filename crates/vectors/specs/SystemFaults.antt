@@ -95,7 +95,19 @@ line_far = (
       codes "," ++ 34 ∷ codes "a" ++ 34 ∷ codes ",2)",
       refl,
       refl,
-      ([], 34 ∷ codes "a" ++ 34 ∷ codes ",2)", refl, refl, ([], codes ",2)", refl, refl, ([], codes "2)", refl, refl, ([], codes ")", refl, refl, ([], [], refl, refl, refl))))),
+      (
+        [],
+        34 ∷ codes "a" ++ 34 ∷ codes ",2)",
+        refl,
+        refl,
+        (
+          [],
+          codes ",2)",
+          refl,
+          refl,
+          ([], codes "2)", refl, refl, ([], codes ")", refl, refl, ([], [], refl, refl, refl))),
+        ),
+      ),
     ),
   ),
 )
@@ -227,7 +239,19 @@ line_without_label = (
       codes "," ++ 34 ∷ 34 ∷ codes ",2)",
       refl,
       refl,
-      ([], 34 ∷ 34 ∷ codes ",2)", refl, refl, ([], codes ",2)", refl, refl, ([], codes "2)", refl, refl, ([], codes ")", refl, refl, ([], [], refl, refl, refl))))),
+      (
+        [],
+        34 ∷ 34 ∷ codes ",2)",
+        refl,
+        refl,
+        (
+          [],
+          codes ",2)",
+          refl,
+          refl,
+          ([], codes "2)", refl, refl, ([], codes ")", refl, refl, ([], [], refl, refl, refl))),
+        ),
+      ),
     ),
   ),
 )

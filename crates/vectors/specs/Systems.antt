@@ -41,7 +41,8 @@ v_twice = refl
 
 -- the two-state system: des (0,2,2), (0,"a",1), (1,"b",0)
 abbrev pub two_states_text : List ℕ
-two_states_text = codes "des (0,2,2)" ++ 10 ∷ (codes "(0," ++ 34 ∷ codes "a" ++ 34 ∷ codes ",1)" ++ 10 ∷ (codes "(1," ++ 34 ∷ codes "b" ++ 34 ∷ codes ",0)" ++ 10 ∷ []))
+two_states_text = codes "des (0,2,2)" ++ 10 ∷ (codes "(0," ++ 34 ∷ codes "a" ++ 34 ∷ codes ",1)"
+    ++ 10 ∷ (codes "(1," ++ 34 ∷ codes "b" ++ 34 ∷ codes ",0)" ++ 10 ∷ []))
 
 abbrev pub two_states : System
 two_states = record { states = 2; initial = 0; arrows = arrow 0 (codes "a") 1 ∷ arrow 1 (codes "b") 0 ∷ [] }
@@ -114,7 +115,19 @@ line_a = (
       codes "," ++ 34 ∷ codes "a" ++ 34 ∷ codes ",1)",
       refl,
       refl,
-      ([], 34 ∷ codes "a" ++ 34 ∷ codes ",1)", refl, refl, ([], codes ",1)", refl, refl, ([], codes "1)", refl, refl, ([], codes ")", refl, refl, ([], [], refl, refl, refl))))),
+      (
+        [],
+        34 ∷ codes "a" ++ 34 ∷ codes ",1)",
+        refl,
+        refl,
+        (
+          [],
+          codes ",1)",
+          refl,
+          refl,
+          ([], codes "1)", refl, refl, ([], codes ")", refl, refl, ([], [], refl, refl, refl))),
+        ),
+      ),
     ),
   ),
 )
@@ -136,7 +149,19 @@ line_b = (
       codes "," ++ 34 ∷ codes "b" ++ 34 ∷ codes ",0)",
       refl,
       refl,
-      ([], 34 ∷ codes "b" ++ 34 ∷ codes ",0)", refl, refl, ([], codes ",0)", refl, refl, ([], codes "0)", refl, refl, ([], codes ")", refl, refl, ([], [], refl, refl, refl))))),
+      (
+        [],
+        34 ∷ codes "b" ++ 34 ∷ codes ",0)",
+        refl,
+        refl,
+        (
+          [],
+          codes ",0)",
+          refl,
+          refl,
+          ([], codes "0)", refl, refl, ([], codes ")", refl, refl, ([], [], refl, refl, refl))),
+        ),
+      ),
     ),
   ),
 )

@@ -21,7 +21,8 @@ abbrev number : ℕ → Measure
 number k = Counts (k ∷ [])
 
 opening_often_a : opening often_a_game
-    ≡ number 0 ∷ Top ∷ number 0 ∷ number 0 ∷ number 0 ∷ number 0 ∷ number 0 ∷ number 0 ∷ number 0 ∷ number 0 ∷ number 0 ∷ number 0 ∷ number 0 ∷ number 0 ∷ number 0 ∷ number 0 ∷ []
+    ≡ number 0 ∷ Top ∷ number 0 ∷ number 0 ∷ number 0 ∷ number 0 ∷ number 0 ∷ number 0 ∷ number 0 ∷ number 0 ∷ number 0 ∷ number 0 ∷ number 0 ∷ number
+    0 ∷ number 0 ∷ number 0 ∷ []
 opening_often_a = refl
 
 -- at priority 0 a measure reaches itself
@@ -94,7 +95,13 @@ prog_2 k = record { measure = (omega arith, tt); reaches = refl; least = least }
 
 -- Even takes the least of the successors' values, Odd the greatest, and no vertex falls below its own
 lift_even : IsLift often_a_game (vertex_at 0 Even (5 ∷ 7 ∷ [])) (number 0) (number 0 ∷ Top ∷ []) (number 0)
-lift_even = (number 0 ∷ Top ∷ [], number 0, (prog_0 (number 0) (omega arith, tt), (top_prog often_a_game 0, tt)), ((0, omega arith, refl), (refl, (refl, tt))), refl)
+lift_even = (
+  number 0 ∷ Top ∷ [],
+  number 0,
+  (prog_0 (number 0) (omega arith, tt), (top_prog often_a_game 0, tt)),
+  ((0, omega arith, refl), (refl, (refl, tt))),
+  refl,
+)
 
 lift_odd : IsLift often_a_game (vertex_at 0 Odd (5 ∷ 7 ∷ [])) (number 0) (number 0 ∷ Top ∷ []) Top
 lift_odd = (number 0 ∷ Top ∷ [], Top, (prog_0 (number 0) (omega arith, tt), (top_prog often_a_game 0, tt)), ((1, omega arith, refl), (refl, (refl, tt))), refl)
@@ -125,7 +132,8 @@ single g table v p t o r at is = (vertex_at p o (t ∷ []), at, (r ∷ [], r, (i
 -- the least progress table: top where Even loses, and elsewhere how many of the vertices of priority 1 are met before one of priority 2
 abbrev pub least_often_a : List Measure
 least_often_a =
-    number 0 ∷ Top ∷ number 0 ∷ number 1 ∷ number 0 ∷ number 0 ∷ number 0 ∷ Top ∷ number 1 ∷ number 0 ∷ number 2 ∷ number 1 ∷ Top ∷ number 0 ∷ number 1 ∷ number 2 ∷ []
+    number 0 ∷ Top ∷ number 0 ∷ number 1 ∷ number 0 ∷ number 0 ∷ number 0 ∷ Top ∷ number 1 ∷ number 0 ∷ number 2 ∷ number 1 ∷ Top ∷ number 0 ∷ number
+    1 ∷ number 2 ∷ []
 
 zero_measure : IsMeasure often_a_game (number 0)
 zero_measure = (omega arith, tt)
@@ -214,7 +222,11 @@ table_often_a = (refl, (z, (tt, (z, (o, (z, (z, (z, (tt, (o, (z, (w, (o, (tt, (z
     w = two_measure
 
 pub progress_often_a : IsProgress often_a_game least_often_a
-progress_often_a = (table_often_a, λ v r lift. lift_one often_a_game least_often_a v r (value_at least_often_a v) lift (settled v (slice_get_within often_a_game.vertices v lift.0 lift.1)))
+progress_often_a = (
+  table_often_a,
+  λ v r lift. lift_one often_a_game least_often_a v r (value_at least_often_a v) lift
+      (settled v (slice_get_within often_a_game.vertices v lift.0 lift.1)),
+)
 
 -- one vertex lifted
 lifted : (table : List Measure) (v : ℕ) (m : Measure) → v < length table → IsLiftAt often_a_game table v m → IsLifted often_a_game table (slice_set table v m)
@@ -282,7 +294,8 @@ lifts_often_a = (lift_7, (lift_12, (lift_3, (lift_8, (lift_14, (lift_11, (lift_1
 
 -- eight lifts from the opening table come to it
 pub least_table_often_a : IsLeastTable often_a_game least_often_a
-least_table_often_a = lifting_least often_a_game is_game_often_a (table_1 ∷ table_2 ∷ table_3 ∷ table_4 ∷ table_5 ∷ table_6 ∷ table_7 ∷ table_8 ∷ []) least_often_a lifts_often_a progress_often_a
+least_table_often_a = lifting_least often_a_game is_game_often_a
+    (table_1 ∷ table_2 ∷ table_3 ∷ table_4 ∷ table_5 ∷ table_6 ∷ table_7 ∷ table_8 ∷ []) least_often_a lifts_often_a progress_often_a
 
 -- at vertex 10 a count of 1 is below, and 2 too; 3 is not, as the least progress table shows
 under_one : IsUnder often_a_game 10 (number 1)
@@ -303,7 +316,8 @@ top_is_no_number k e = cc
 
 -- the opening table isn't a progress table
 opening_not_settled : IsProgress often_a_game (opening often_a_game) → ⊥
-opening_not_settled is = let e : Top ≡ number 0 = is.1 7 Top (single often_a_game (opening often_a_game) 7 0 1 Even Top refl (top_prog often_a_game 0)) in top_is_no_number 0 e
+opening_not_settled is = let e : Top ≡ number 0 = is.1 7 Top (single often_a_game (opening often_a_game) 7 0 1 Even Top refl (top_prog often_a_game 0))
+    in top_is_no_number 0 e
 
 -- the table of tops is one, though not the least
 abbrev tops : List Measure

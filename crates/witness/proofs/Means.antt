@@ -54,6 +54,11 @@ is_witness l f nodes e part system admitted forms evidence good root taken =
 
 -- ------------------------------------------------------------------ by what the program has at hand
 
-pub has_taken : (l : System) (nodes : List Node) (e : Evidence) (g : Game) (root : ℕ) (set : ℕ → Bool) (part : System) → g ≡ arena l nodes → root ≡ root_of l nodes
+pub has_taken : (l : System) (nodes : List Node) (e : Evidence) (g : Game) (root : ℕ) (set : ℕ → Bool) (part : System) → g ≡ arena l nodes
+    → root ≡ root_of l nodes
     → IsReached g e root set → part ≡ witness l nodes e set → HasTaken l nodes e part
-has_taken l nodes e g root set part same at reached is = (set, subst (λ r. IsReached (arena l nodes) e r set) at (subst (λ h. IsReached h e root set) same reached), is)
+has_taken l nodes e g root set part same at reached is = (
+  set,
+  subst (λ r. IsReached (arena l nodes) e r set) at (subst (λ h. IsReached h e root set) same reached),
+  is,
+)

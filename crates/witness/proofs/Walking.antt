@@ -1,5 +1,6 @@
 -- A walk goes on until nothing waits.
-use Rattle.std.proofs.Common.{◌≡◌, ◌≢◌, ℕ, zero, suc, ◌<◌, ◌⊎◌, Bool, true, false, List, [], ◌∷◌, ◌++◌, length, refl, sym, ap, subst, ◌∙◌, inl, inr, arith, IsTrue, Contains, Option, Some, None, length-append, replicate, true≢false}
+use Rattle.std.proofs.Common.{◌≡◌, ◌≢◌, ℕ, zero, suc, ◌<◌, ◌⊎◌, Bool, true, false, List, [], ◌∷◌, ◌++◌, length, refl, sym, ap, subst, ◌∙◌, inl, inr, arith}
+use Rattle.std.proofs.Common.{IsTrue, Contains, Option, Some, None, length-append, replicate, true≢false}
 use Rattle.std.specs.Prelude.{MatchOption, option_map, slice_get, slice_set}
 use Rattle.std.proofs.Math.ListN.{length-set}
 use Rattle.std.proofs.lemmas.List.{length-replicate}
@@ -32,7 +33,8 @@ visits_marked marks waiting u h = record {
 }
 
 -- a vertex that was not
-pub visits_new : (marks : List Bool) (waiting : List ℕ) (u : ℕ) → u < length marks → is_marked marks u ≡ false → Visits marks waiting (u ∷ []) (slice_set marks u true) (waiting ++ u ∷ [])
+pub visits_new : (marks : List Bool) (waiting : List ℕ) (u : ℕ) → u < length marks → is_marked marks u ≡ false
+    → Visits marks waiting (u ∷ []) (slice_set marks u true) (waiting ++ u ∷ [])
 visits_new marks waiting u h fresh = record {
   long = length-set marks u true;
   kept = λ t k. set_keeps marks u t k;
@@ -59,7 +61,8 @@ visits_none marks waiting = record {
 }
 
 -- some vertices, and one more
-pub visits_more : (first second third : List Bool) (a b c targets : List ℕ) (u : ℕ) → Visits first a targets second b → Visits second b (u ∷ []) third c → Visits first a (targets ++ u ∷ []) third c
+pub visits_more : (first second third : List Bool) (a b c targets : List ℕ) (u : ℕ) → Visits first a targets second b → Visits second b (u ∷ []) third c
+    → Visits first a (targets ++ u ∷ []) third c
 visits_more first second third a b c targets u v w = record {
   long = w.long ∙ v.long;
   kept = λ t k. w.kept t (v.kept t k);
@@ -151,7 +154,8 @@ some_vertex g u h = got g.vertices u h
     got (x ∷ xs) (suc k) h = got xs k (omega arith)
 
 -- the vertex of which these are the successors
-pub read_vertex : (g : Game) (u : ℕ) (ts : List ℕ) → option_map (λ x. x.successors) (vertex g u) ≡ Some ts → (v : Vertex) × (vertex g u ≡ Some v) × (v.successors ≡ ts)
+pub read_vertex : (g : Game) (u : ℕ) (ts : List ℕ) → option_map (λ x. x.successors) (vertex g u) ≡ Some ts → (v : Vertex) × (vertex g u ≡ Some v)
+    × (v.successors ≡ ts)
 read_vertex g u ts = by (vertex g u) refl
   where
     by : (o : Option Vertex) → vertex g u ≡ o → option_map (λ x. x.successors) o ≡ Some ts → (v : Vertex) × (vertex g u ≡ Some v) × (v.successors ≡ ts)
@@ -176,7 +180,8 @@ module _ (g : Game) (e : Evidence) (root : ℕ) where
   no_mark (suc n) zero h = true≢false (sym h)
   no_mark (suc n) (suc t) h = no_mark n t h
 
-  pub walk_begins : (n : ℕ) (marks : List Bool) (waiting : List ℕ) → n ≡ length g.vertices → Visits (replicate n false) [] (root ∷ []) marks waiting → IsWalk g e root marks waiting
+  pub walk_begins : (n : ℕ) (marks : List Bool) (waiting : List ℕ) → n ≡ length g.vertices → Visits (replicate n false) [] (root ∷ []) marks waiting
+      → IsWalk g e root marks waiting
   walk_begins n marks waiting long v = record {
     long = v.long ∙ (length-replicate n false ∙ long);
     begins = v.all root (contains_first root []);
@@ -186,7 +191,8 @@ module _ (g : Game) (e : Evidence) (root : ℕ) where
   }
 
   -- one vertex waits no more
-  pub walk_on : (u : ℕ) (marks new : List Bool) (before after now targets : List ℕ) → before ≡ after ++ u ∷ [] → IsWalk g e root marks before → AreGoals g e u targets → Visits marks after targets new now
+  pub walk_on : (u : ℕ) (marks new : List Bool) (before after now targets : List ℕ) → before ≡ after ++ u ∷ [] → IsWalk g e root marks before
+      → AreGoals g e u targets → Visits marks after targets new now
       → IsWalk g e root new now
   walk_on u marks new before after now targets is w goals v = record {
     long = v.long ∙ w.long;

@@ -1,11 +1,12 @@
 -- The part of a system on which the answer for its initial state rests.
-use Rattle.std.specs.Prelude.{◌≡◌, ℕ, ◌↔◌, Bool, List, length}
+use Rattle.std.specs.Prelude.{◌≡◌, ℕ, ◌↔◌, ◌⊎◌, Bool, List, length, IsTrue}
 use Rattle.systems.specs.System.{System, IsSystem}
 use Rattle.calculus.specs.Tree.{Formula}
 use Rattle.calculus.specs.Meaning.{Satisfies}
 use Rattle.normal.specs.Nodes.{Node}
 use Rattle.game.specs.Arena.{arena, place}
-use Rattle.evidence.specs.Evidence.{Evidence}
+use Rattle.evidence.specs.Best.{IsEvenOf, IsOddOf}
+use Rattle.evidence.specs.Evidence.{Evidence, has}
 use Rattle.evidence.specs.Witness.{IsPart, IsReached, witness}
 
 -- All states of the system and some of its arrows: where the formula holds at the initial state, these make it hold, and where it doesn't, these refute it.
@@ -21,3 +22,16 @@ root_of l nodes = place (length nodes) l.initial 0
 -- The part has the arrows that the play takes from the root, and no others.
 abbrev pub HasTaken : System → List Node → Evidence → System → Type 0
 HasTaken l nodes e part = (set : ℕ → Bool) × IsReached (arena l nodes) e (root_of l nodes) set × (part ≡ witness l nodes e set)
+
+-- Evidence of the least progress tables, Even's or Odd's, which has the vertex of the initial state with the root: its player has the answer there, and
+-- there is one such evidence.
+pub record IsWinners (l : System) (nodes : List Node) (e : Evidence) : Type 0 where
+  pub best : IsEvenOf (arena l nodes) e ⊎ IsOddOf (arena l nodes) e
+  pub root : IsTrue (has e (root_of l nodes))
+
+-- The part has just the arrows that the play takes from the initial state by the winner's evidence, and it is a witness.
+pub record IsShown (l : System) (f : Formula) (nodes : List Node) (part : System) : Type 0 where
+  pub evidence : Evidence
+  pub winners : IsWinners l nodes evidence
+  pub taken : HasTaken l nodes evidence part
+  pub witness : IsWitness l f part

@@ -1,5 +1,6 @@
 -- What is noted one after the other is the first of what is asked for.
-use Rattle.std.proofs.Common.{◌≡◌, ◌+◌, ◌<◌, ◌≤◌, ℕ, Bool, true, false, cond, not, ltb, ◌&&◌, ◌||◌, List, [], ◌∷◌, ◌++◌, length, filter, fold, take, refl, sym, ap, ◌∙◌, arith}
+use Rattle.std.proofs.Common.{◌≡◌, ◌+◌, ◌<◌, ◌≤◌, ℕ, Bool, true, false, cond, not, ltb, ◌&&◌, ◌||◌, List, [], ◌∷◌, ◌++◌, length, filter, fold, take, refl}
+use Rattle.std.proofs.Common.{sym, ap, ◌∙◌, arith}
 use Rattle.std.proofs.lemmas.Bool.{false≢true, ltb-false, ltb-true}
 use Rattle.std.proofs.lemmas.List.{append-nil, append_assoc, length-append, take_all, take_at}
 use Rattle.std.proofs.lemmas.List.Elements.{filter_agree}
@@ -20,7 +21,8 @@ filter_every (t ∷ ts) = ap (λ us. t ∷ us) (filter_every ts)
 
 filter_twice : (p q : Term → Bool) (ts : List Term) → filter p (filter q ts) ≡ filter (λ t. p t && q t) ts
 filter_twice p q [] = refl
-filter_twice p q (t ∷ ts) = outer (q t) (filter q ts) ∙ ap (λ us. cond (q t) (cond (p t) (t ∷ us) us) us) (filter_twice p q ts) ∙ both (q t) (p t) (filter (λ u. p u && q u) ts)
+filter_twice p q (t ∷ ts) = outer (q t) (filter q ts) ∙ ap (λ us. cond (q t) (cond (p t) (t ∷ us) us) us) (filter_twice p q ts)
+    ∙ both (q t) (p t) (filter (λ u. p u && q u) ts)
   where
     outer : (b : Bool) (us : List Term) → filter p (cond b (t ∷ us) us) ≡ cond b (cond (p t) (t ∷ filter p us) (filter p us)) (filter p us)
     outer true us = refl
@@ -106,14 +108,16 @@ noted_one known found t ts within rest true true true room new strange =
     ap (λ old. fold (with_term known) old ts) (after known found t true true true room new strange)
     ∙ rest (found ++ t ∷ []) (omega (arith, length-append found (t ∷ []), ltb-true (length found) MOST_NOTES room))
     ∙ ap (take MOST_NOTES) (append_assoc found (t ∷ []) (filter (is_new (found ++ t ∷ [])) us)
-    ∙ ap (λ others. found ++ t ∷ others) (filter_agree (is_new (found ++ t ∷ [])) (λ other. is_new found other && not (same_term other t)) (new_beside found t) us
+    ∙ ap (λ others. found ++ t ∷ others) (filter_agree (is_new (found ++ t ∷ [])) (λ other. is_new found other && not (same_term other t))
+    (new_beside found t) us
     ∙ sym (filter_twice (is_new found) (λ other. not (same_term other t)) us)))
     ∙ ap (λ others. take MOST_NOTES (found ++ others)) (sym (unknown_first known found t ts true strange new))
 noted_one known found t ts within rest true false true room new strange =
     let us = distinct (unknown_of known ts) in
     ap (λ old. fold (with_term known) old ts) (after known found t true false true room new strange)
     ∙ rest found within
-    ∙ ap (λ others. take MOST_NOTES (found ++ others)) (filter_agree (is_new found) (λ other. is_new found other && not (same_term other t)) (λ other. new_beside_old found t other new) us
+    ∙ ap (λ others. take MOST_NOTES (found ++ others)) (filter_agree (is_new found) (λ other. is_new found other && not (same_term other t))
+    (λ other. new_beside_old found t other new) us
     ∙ sym (filter_twice (is_new found) (λ other. not (same_term other t)) us) ∙ sym (unknown_first known found t ts false strange new))
 noted_one known found t ts within rest true true false room new strange =
     ap (λ old. fold (with_term known) old ts) (after known found t true true false room new strange)

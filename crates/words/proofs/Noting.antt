@@ -1,5 +1,6 @@
 -- Noting the words of a formula that no label has.
-use Rattle.std.proofs.Common.{◌≡◌, ◌+◌, ◌<◌, ℕ, suc, Bool, true, false, not, cond, ◌&&◌, ◌||◌, List, [], ◌∷◌, ◌++◌, Option, Some, None, length, map, fold, option_map, take, get_or, nat_lt, Vec, Global, Bor, refl, sym, ap, ap₂, ◌∙◌, arith}
+use Rattle.std.proofs.Common.{◌≡◌, ◌+◌, ◌<◌, ℕ, suc, Bool, true, false, not, cond, ◌&&◌, ◌||◌, List, [], ◌∷◌, ◌++◌, Option, Some, None, length, map, fold}
+use Rattle.std.proofs.Common.{option_map, take, get_or, nat_lt, Vec, Global, Bor, refl, sym, ap, ap₂, ◌∙◌, arith}
 use Rattle.std.proofs.Math.Seq.{take-suc}
 use Rattle.std.proofs.lemmas.List.{length-map, map-append}
 use Rattle.std.proofs.lemmas.List.Folds.{list_any-append}
@@ -22,7 +23,8 @@ any_map f p (x ∷ xs) = ap (λ b. p (f x) || b) (any_map f p xs)
 take_one : {X : Type 0} (xs : List X) (i : ℕ) (d : X) → i < length xs → take (i + 1) xs ≡ take i xs ++ get_or xs i d ∷ []
 take_one xs i d below = let next : i + 1 ≡ suc i = omega arith in rw next (take-suc xs i d below)
 
-texts_more : (names : List (Vec ℕ Global)) (i : ℕ) (name : Vec ℕ Global) (bytes : List ℕ) → i < length names → name ≡ get_or names i name → bytes ≡ name.items → texts (take (i + 1) names) ≡ texts (take i names) ++ bytes ∷ []
+texts_more : (names : List (Vec ℕ Global)) (i : ℕ) (name : Vec ℕ Global) (bytes : List ℕ) → i < length names → name ≡ get_or names i name
+    → bytes ≡ name.items → texts (take (i + 1) names) ≡ texts (take i names) ++ bytes ∷ []
 texts_more names i name bytes below at same =
     ap texts (take_one names i name below) ∙ map-append (λ (v : Vec ℕ Global). v.items) (take i names) (get_or names i name ∷ [])
     ∙ ap (λ b. texts (take i names) ++ b ∷ []) (sym (same ∙ ap (λ (v : Vec ℕ Global). v.items) at))
@@ -35,7 +37,8 @@ or_false false = refl
 
 -- a word is to be noted
 abbrev pub is_noted : (Term → Bool) → List Word → Word → Bool
-is_noted known found word = nat_lt (length found) MOST_NOTES && not (list_any (λ other. same_term (term_of word) (term_of other)) found) && not (known (term_of word))
+is_noted known found word = nat_lt (length found) MOST_NOTES && not (list_any (λ other. same_term (term_of word) (term_of other)) found)
+    && not (known (term_of word))
 
 with_word : (known : Term → Bool) (found : List Word) (word : Word)
     → with_term known (map term_of found) (term_of word) ≡ cond (is_noted known found word) (map term_of found ++ term_of word ∷ []) (map term_of found)
@@ -45,12 +48,15 @@ with_word known found word =
     rw (length-map found term_of, any_map term_of (same_term t) found) refl in
     ap (λ b. cond b (map term_of found ++ t ∷ []) (map term_of found)) e
 
-pub word_noted : (known : Term → Bool) (found new : List Word) (word : Word) (b : Bool) → b ≡ is_noted known found word → b ≡ true → new ≡ found ++ word ∷ [] → map term_of new ≡ with_term known (map term_of found) (term_of word)
+pub word_noted : (known : Term → Bool) (found new : List Word) (word : Word) (b : Bool) → b ≡ is_noted known found word → b ≡ true → new ≡ found ++ word ∷ []
+    → map term_of new ≡ with_term known (map term_of found) (term_of word)
 word_noted known found new word b is holds pushed =
     let e : is_noted known found word ≡ true = sym is ∙ holds in
-    ap (map term_of) pushed ∙ map-append term_of found (word ∷ []) ∙ sym (with_word known found word ∙ ap (λ b. cond b (map term_of found ++ term_of word ∷ []) (map term_of found)) e)
+    ap (map term_of) pushed ∙ map-append term_of found (word ∷ [])
+    ∙ sym (with_word known found word ∙ ap (λ b. cond b (map term_of found ++ term_of word ∷ []) (map term_of found)) e)
 
-pub word_left : (known : Term → Bool) (found : List Word) (word : Word) (b : Bool) → b ≡ is_noted known found word → b ≡ false → map term_of found ≡ with_term known (map term_of found) (term_of word)
+pub word_left : (known : Term → Bool) (found : List Word) (word : Word) (b : Bool) → b ≡ is_noted known found word → b ≡ false
+    → map term_of found ≡ with_term known (map term_of found) (term_of word)
 word_left known found word b is fails =
     let e : is_noted known found word ≡ false = sym is ∙ fails in
     sym (with_word known found word ∙ ap (λ b. cond b (map term_of found ++ term_of word ∷ []) (map term_of found)) e)
@@ -107,8 +113,10 @@ pub no_names_read : (old : Bool) (bytes label : List ℕ) (names : Option (Bor (
 no_names_read old bytes label names read none =
     sym (or_false old) ∙ ap (λ o. old || is_among bytes o) (sym (ap (option_map (λ (n : Bor (List (Vec ℕ Global))). texts n.now)) none) ∙ read)
 
-pub known_more : (labels : List (List ℕ)) (i : ℕ) (t : Term) (old new : Bool) (label : List ℕ) → i < length labels → label ≡ label_at labels i → old ≡ is_known (take i labels) t
+pub known_more : (labels : List (List ℕ)) (i : ℕ) (t : Term) (old new : Bool) (label : List ℕ) → i < length labels → label ≡ label_at labels i
+    → old ≡ is_known (take i labels) t
     → new ≡ (old || has_term t label) → new ≡ is_known (take (i + 1) labels) t
 known_more labels i t old new label below at so one =
     one ∙ ap₂ (λ a b. a || has_term t b) so at
-    ∙ sym (ap (list_any (has_term t)) (take_one labels i [] below) ∙ list_any-append (has_term t) (take i labels) (label_at labels i ∷ []) ∙ ap (λ b. is_known (take i labels) t || b) (or_false (has_term t (label_at labels i))))
+    ∙ sym (ap (list_any (has_term t)) (take_one labels i [] below) ∙ list_any-append (has_term t) (take i labels) (label_at labels i ∷ [])
+    ∙ ap (λ b. is_known (take i labels) t || b) (or_false (has_term t (label_at labels i))))

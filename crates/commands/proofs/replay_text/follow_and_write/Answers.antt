@@ -20,7 +20,10 @@ returns-in-Ok g c = λ first second third l f workers spelled game begins schedu
         spelled = spelled;
         game = game;
         schedule = schedule;
-        replay = record { comes = subst (λ (x : Core). Comes x c.args.events.now tally.done tally.skipped core) begins c.follow-tally.ensures.comes; exact = told.1 };
+        replay = record {
+          comes = subst (λ (x : Core). Comes x c.args.events.now tally.done tally.skipped core) begins c.follow-tally.ensures.comes;
+          exact = told.1;
+        };
       };
       written = told.2;
       answered = refl;
@@ -43,7 +46,10 @@ returns-in-Err g c = λ first second third l f workers spelled game begins sched
         spelled = spelled;
         game = game;
         schedule = schedule;
-        replay = record { comes = subst (λ (x : Core). Comes x c.args.events.now tally.done tally.skipped core) begins c.follow-tally.ensures.comes; exact = told.1 };
+        replay = record {
+          comes = subst (λ (x : Core). Comes x c.args.events.now tally.done tally.skipped core) begins c.follow-tally.ensures.comes;
+          exact = told.1;
+        };
       };
       begun = told.2;
     }

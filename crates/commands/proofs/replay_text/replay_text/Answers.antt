@@ -7,4 +7,7 @@ pub returns-in-Ok : goal.returns-in-Ok
 returns-in-Ok g c = record { replays = λ first second third a b d. c.replay_of.ensures first second third (c.in-Ok.ensures.spelled first second a b) d }
 
 pub returns-in-Err : goal.returns-in-Err
-returns-in-Err g c = record { replays = λ first second third a b d. refused_before c.args.workers first second third _ _ (c.in-Err.ensures.refusal first second a b way [] tt) }
+returns-in-Err g c = record {
+  replays = λ first second third a b d. refused_before c.args.workers first second third _ _
+      (c.in-Err.ensures.refusal first second a b way [] tt);
+}

@@ -7,10 +7,11 @@ pub part_by-requires-clause-winning : goal.part_by-requires-clause-winning
 part_by-requires-clause-winning c =
     let pair = c.requires.pair in
     even_winning c.args.found.now c.args.pair.now.even c.requires.found c.initial_mark.ensures.inside (sym c.initial_mark.ensures.mark ∙ c.if-initial_mark.true)
-    pair.even_game pair.even_good pair.even_exact
+    pair.even_game pair.even pair.even_good pair.even_exact
 
 pub part_by-requires-else-initial_mark-clause-winning : goal.part_by-requires-else-initial_mark-clause-winning
 part_by-requires-else-initial_mark-clause-winning c =
     let pair = c.requires.pair in
-    odd_winning c.args.found.now c.args.pair.now.odd c.requires.found c.initial_mark.ensures.inside c.one_wins.ensures (subst IsGame c.deref.ensures c.known.ensures)
-    (sym c.initial_mark.ensures.mark ∙ c.if-initial_mark.false) pair.odd_game pair.odd_good pair.odd_exact
+    odd_winning c.args.found.now c.args.pair.now.odd c.requires.found c.initial_mark.ensures.inside c.one_wins.ensures
+    (subst IsGame c.deref.ensures c.known.ensures)
+    (sym c.initial_mark.ensures.mark ∙ c.if-initial_mark.false) pair.odd_game pair.odd pair.odd_good pair.odd_exact

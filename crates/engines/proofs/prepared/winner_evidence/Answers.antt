@@ -5,5 +5,8 @@ use Rattle.engines.proofs.prepared.winner_evidence.Goals as goal
 
 pub returns-else-initial_mark-clause-winning : goal.returns-else-initial_mark-clause-winning
 returns-else-initial_mark-clause-winning c =
-    odd_found c.args.found.now _ c.odd_evidence.result c.requires c.initial_mark.ensures.inside c.one_wins.ensures (subst IsGame c.deref.ensures c.known.ensures)
-    (sym c.initial_mark.ensures.mark ∙ c.if-initial_mark.false) c.deref-else-initial_mark.ensures c.odd_evidence.ensures.game c.odd_evidence.ensures.good c.odd_evidence.ensures.exact
+    odd_found c.args.found.now _ c.odd_evidence.result c.requires c.initial_mark.ensures.inside c.one_wins.ensures
+    (subst IsGame c.deref.ensures c.known.ensures)
+    (sym c.initial_mark.ensures.mark
+    ∙ c.if-initial_mark.false) c.deref-else-initial_mark.ensures c.odd_evidence.ensures.game c.odd_evidence.ensures.odd
+    c.odd_evidence.ensures.good c.odd_evidence.ensures.exact

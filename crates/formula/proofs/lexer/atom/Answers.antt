@@ -8,7 +8,9 @@ use Rattle.formula.specs.Token.{Atom}
 use Rattle.formula.specs.Cutting.{IsFirst}
 use Rattle.formula.proofs.Cuts.{atom-front, run-of, Run}
 use Rattle.formula.proofs.Tokenless.{IsQuoted, atom-stands}
-use Rattle.formula.proofs.lexer.atom.Goals.{then-len-eq0-via-then-len-eq0, then-len-eq0-via-else-len-eq0+then-len-gt-LONGEST_LABEL, then-len-eq0-via-else-len-eq0+else-len-gt-LONGEST_LABEL+then-len-inside, then-len-eq0-via-else-len-eq0+else-len-gt-LONGEST_LABEL+else-len-inside+then-inside-len-ne34}
+use Rattle.formula.proofs.lexer.atom.Goals.{then-len-eq0-via-then-len-eq0, then-len-eq0-via-else-len-eq0+then-len-gt-LONGEST_LABEL}
+use Rattle.formula.proofs.lexer.atom.Goals.{then-len-eq0-via-else-len-eq0+else-len-gt-LONGEST_LABEL+then-len-inside}
+use Rattle.formula.proofs.lexer.atom.Goals.{then-len-eq0-via-else-len-eq0+else-len-gt-LONGEST_LABEL+else-len-inside+then-inside-len-ne34}
 use Rattle.formula.proofs.lexer.atom.Goals as goal
 
 pub returns : goal.returns
@@ -19,7 +21,8 @@ returns c =
     let P : List ℕ → Type 0 = λ inside. IsFirst (Atom (take n inside)) (n + 2) text in
     let Q : List ℕ → Type 0 = λ inside. n < length inside in
     let R : List ℕ → Type 0 = λ inside. get_or inside n 0 ≡ 34 in
-    let run : Run is_label_byte (drop 1 text) n = subst (λ (k : ℕ). Run is_label_byte (drop 1 text) k) (sym (c.label_len-len.ensures ∙ ap (λ t. length (take_while is_label_byte t)) e)) (run-of is_label_byte (drop 1 text)) in
+    let run : Run is_label_byte (drop 1 text) n = subst (λ (k : ℕ). Run is_label_byte (drop 1 text) k)
+    (sym (c.label_len-len.ensures ∙ ap (λ t. length (take_while is_label_byte t)) e)) (run-of is_label_byte (drop 1 text)) in
     let inside : n < length (drop 1 text) = subst Q e (omega arith) in
     let closed : get_or (drop 1 text) n 0 ≡ 34 = subst R e (search rules) in
     subst P (sym e) (atom-front text n c.requires.some c.requires.quoted run (omega arith) (omega arith) inside closed)
@@ -39,7 +42,8 @@ returns-then-len-eq0 c = (
       let n = c.label_len-len.result in
       let e : take (length text - 1) (drop 1 text) ≡ drop 1 text = take_rest text 1 in
       let inside = take (length text - 1) (drop 1 text) in
-      let there : IsQuoted (length (take_while is_label_byte inside)) inside = subst (λ (t : List ℕ). IsQuoted (length (take_while is_label_byte t)) t) (sym e) (atom-stands text bytes stands) in
+      let there : IsQuoted (length (take_while is_label_byte inside)) inside = subst (λ (t : List ℕ). IsQuoted (length (take_while is_label_byte t)) t)
+      (sym e) (atom-stands text bytes stands) in
       let q : IsQuoted n inside = subst (λ (k : ℕ). IsQuoted k inside) (sym c.label_len-len.ensures) there in
       unquoted n inside q (elim c.then-len-eq0.branch [
         | then-len-eq0-via-then-len-eq0 w ↦ inl w.if-len-eq0.true

@@ -12,14 +12,24 @@ pub into_named-requires : goal.into_named-requires
 into_named-requires g c =
     let l = c.args.lts.now.system in
     let nodes = normal_nodes c.args.form.now in
-    let few = within c.states-states.result c.count-nodes.result l.states (length nodes) c.states-states.ensures.count c.count-nodes.ensures.count (omega (arith, c.if-states-nodes.false)) in
-    let all : c.if-ranges-eq1.builder ≡ (arena l nodes).vertices = elim c.if-ranges-eq1.branch [ then-ranges-eq1+in_ok-builder w ↦ w.builder-is ∙ w.in_ok-builder.ensures | else-ranges-eq1+in_ok-builder-2 w ↦ w.builder-is ∙ w.in_ok-builder-2.ensures ] in
-    subst IsGame (λ i. record { vertices = sym all i; named = Some (sym c.states-states.ensures.count i, sym c.count-nodes.ensures.count i) }) (arena_is_game l nodes c.known.ensures few)
+    let few = within c.states-states.result c.count-nodes.result l.states (length nodes) c.states-states.ensures.count c.count-nodes.ensures.count
+    (omega (arith, c.if-states-nodes.false)) in
+    let all : c.if-ranges-eq1.builder ≡ (arena l nodes).vertices = elim c.if-ranges-eq1.branch [
+      | then-ranges-eq1+in_ok-builder w ↦ w.builder-is ∙ w.in_ok-builder.ensures
+      | else-ranges-eq1+in_ok-builder-2 w ↦ w.builder-is
+          ∙ w.in_ok-builder-2.ensures
+    ] in
+    subst IsGame (λ i. record { vertices = sym all i; named = Some (sym c.states-states.ensures.count i, sym c.count-nodes.ensures.count i) })
+    (arena_is_game l nodes c.known.ensures few)
 
 pub returns-clause-low : goal.returns-clause-low
 returns-clause-low g c =
     let l = c.args.lts.now.system in
     let nodes = normal_nodes c.args.form.now in
-    let all : c.if-ranges-eq1.builder ≡ (arena l nodes).vertices = elim c.if-ranges-eq1.branch [ then-ranges-eq1+in_ok-builder w ↦ w.builder-is ∙ w.in_ok-builder.ensures | else-ranges-eq1+in_ok-builder-2 w ↦ w.builder-is ∙ w.in_ok-builder-2.ensures ] in
+    let all : c.if-ranges-eq1.builder ≡ (arena l nodes).vertices = elim c.if-ranges-eq1.branch [
+      | then-ranges-eq1+in_ok-builder w ↦ w.builder-is ∙ w.in_ok-builder.ensures
+      | else-ranges-eq1+in_ok-builder-2 w ↦ w.builder-is
+          ∙ w.in_ok-builder-2.ensures
+    ] in
     let is = c.into_named.ensures ∙ (λ i. record { vertices = all i; named = Some (c.states-states.ensures.count i, c.count-nodes.ensures.count i) }) in
     subst (λ g. greatest g ≤ 31) (sym is) (arena_low l nodes c.known.ensures)

@@ -1,4 +1,5 @@
-use Rattle.game.proofs.Common.{◌≡◌, ◌+◌, ◌<◌, ◌∷◌, [], ◌++◌, ℕ, Bool, List, Some, Vec, Global, length, map, slice_index_or, subst, sym, ap, ◌∙◌, arith, rules, slice_get, length-map, map-append, slice_get_within, Node, node_of, normal_nodes, IsSetFor}
+use Rattle.game.proofs.Common.{◌≡◌, ◌+◌, ◌<◌, ◌∷◌, [], ◌++◌, ℕ, Bool, List, Some, Vec, Global, length, map, slice_index_or, subst, sym, ap, ◌∙◌, arith, rules}
+use Rattle.game.proofs.Common.{slice_get, length-map, map-append, slice_get_within, Node, node_of, normal_nodes, IsSetFor}
 use Rattle.game.proofs.Steps.{sets_more}
 use Rattle.game.proofs.Arenas.{read_node}
 use Rattle.game.proofs.build.label_sets.Goals as goal
@@ -14,18 +15,24 @@ loop-node-preserved c =
     let number : length old ≡ i = search rules in
     let set = c.in_ok-set_for.field-0 in
     let items : c.push.new.self.items ≡ old ++ set ∷ [] = c.in_ok-push.ensures.items in
-    let same : items_of c.push.new.self.items ≡ items_of old ++ set.items ∷ [] = ap items_of items ∙ map-append (λ (s : Vec Bool Global). s.items) old (set ∷ []) in
+    let same : items_of c.push.new.self.items ≡ items_of old ++ set.items ∷ [] = ap items_of items
+    ∙ map-append (λ (s : Vec Bool Global). s.items) old (set ∷ []) in
     let count : length (items_of old) ≡ i = length-map old (λ (s : Vec Bool Global). s.items) ∙ number in
     let here : (node : Node) → slice_get nodes i ≡ Some node → IsSetFor c.args.lts.now.labels node.shape set.items =
-    λ node is. subst (λ (n : Node). IsSetFor c.args.lts.now.labels n.shape set.items) (sym (read_node c.nodes-node-items.result.now nodes i c.node-item.result node c.nodes-node-items.ensures c.loop-node-test.true c.node-item.is is)) c.in_ok-set_for.ensures
+    λ node is. subst (λ (n : Node). IsSetFor c.args.lts.now.labels n.shape set.items)
+    (sym (read_node c.nodes-node-items.result.now nodes i c.node-item.result node c.nodes-node-items.ensures c.loop-node-test.true c.node-item.is is))
+    c.in_ok-set_for.ensures
     in
     record {
       count = search rules;
-      each = subst (λ (xs : List (List Bool)). (k : ℕ) (node : Node) → k < i + 1 → slice_get nodes k ≡ Some node → IsSetFor c.args.lts.now.labels node.shape (slice_index_or xs k [])) (sym same) (sets_more c.args.lts.now.labels nodes (items_of old) set.items i count c.loop-node.invariant.each here);
+      each = subst (λ (xs : List (List Bool)). (k : ℕ) (node : Node) → k < i + 1 → slice_get nodes k ≡ Some node
+          → IsSetFor c.args.lts.now.labels node.shape (slice_index_or xs k [])) (sym same)
+          (sets_more c.args.lts.now.labels nodes (items_of old) set.items i count c.loop-node.invariant.each here);
     }
 
 pub returns-clause-sets : goal.returns-clause-sets
 returns-clause-sets c =
     λ k node is.
-    let all : length (normal_nodes c.args.form.now) ≡ length c.nodes-node-items.result.now = ap length (sym c.nodes-node-items.ensures) ∙ length-map c.nodes-node-items.result.now node_of in
+    let all : length (normal_nodes c.args.form.now) ≡ length c.nodes-node-items.result.now = ap length (sym c.nodes-node-items.ensures)
+    ∙ length-map c.nodes-node-items.result.now node_of in
     c.loop-node.invariant.each k node (omega (arith, slice_get_within (normal_nodes c.args.form.now) k node is, all, c.loop-node-test.false)) is

@@ -10,15 +10,21 @@ returns-clause-rows g c =
 
 pub returns-clause-within : goal.returns-clause-within
 returns-clause-within g c =
-    IfOk-weaker c.read_end.result _ _ (λ _ _. omega (arith, row_count _ _ _ _ _ _ c.loop-good.invariant.so_far, c.requires.admitted.transitions)) c.read_end.ensures.end
+    IfOk-weaker c.read_end.result _ _ (λ _ _. omega (
+      arith,
+      row_count _ _ _ _ _ _ c.loop-good.invariant.so_far,
+      c.requires.admitted.transitions,
+    )) c.read_end.ensures.end
 
 pub returns-clause-fault : goal.returns-clause-fault
 returns-clause-fault g c =
     let all : c.loop-good.good ≡ c.args.found.transitions = omega arith in
-    IfErr-weaker c.read_end.result _ _ (λ e told. told (g.B.Read.remaining c.args.reader.now) _ _ (rw all at c.loop-good.invariant.so_far)) c.read_end.ensures.fault
+    IfErr-weaker c.read_end.result _ _ (λ e told. told (g.B.Read.remaining c.args.reader.now) _ _
+    (rw all at c.loop-good.invariant.so_far)) c.read_end.ensures.fault
 
 pub returns-clause-labels : goal.returns-clause-labels
-returns-clause-labels g c = IfOk-weaker c.read_end.result _ _ (λ _ _. omega (arith, c.loop-good.invariant.labels, c.requires.admitted.transitions)) c.read_end.ensures.end
+returns-clause-labels g c = IfOk-weaker c.read_end.result _ _
+    (λ _ _. omega (arith, c.loop-good.invariant.labels, c.requires.admitted.transitions)) c.read_end.ensures.end
 
 pub loop-good-preserved : goal.loop-good-preserved
 loop-good-preserved g c = record { so_far = c.in_ok-read_row.ensures.row _ c.loop-good.invariant.so_far; labels = c.in_ok-read_row.ensures.labels }

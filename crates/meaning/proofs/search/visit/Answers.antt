@@ -12,14 +12,16 @@ use Rattle.meaning.proofs.Setting.{set_keeps, set_there, set_adds, one_fewer}
 use Rattle.meaning.proofs.search.visit.Goals as goal
 
 -- the step of this number, plus 1
-one_step : (all : List Arrival) (next s : ℕ) (a : Arrival) → a ≡ slice_index_or all (next - 1) a → 1 ≤ next → next ≤ length all → IsOneOf all next s → (a.source ≡ s) ⊎ IsOneOf all a.earlier s
+one_step : (all : List Arrival) (next s : ℕ) (a : Arrival) → a ≡ slice_index_or all (next - 1) a → 1 ≤ next → next ≤ length all → IsOneOf all next s
+    → (a.source ≡ s) ⊎ IsOneOf all a.earlier s
 one_step all next s a is some le h =
     let k : ℕ = next - 1 in
     let there : next ≡ suc k = omega arith in
     let e : a ≡ arrival_at all k = is ∙ get_or_default all k a nowhere (omega arith) in
     subst (λ (b : Arrival). (b.source ≡ s) ⊎ IsOneOf all b.earlier s) (sym e) (first_or_earlier all k s (subst (λ n. IsOneOf all n s) there h))
 
-from_step : (all : List Arrival) (next s : ℕ) (a : Arrival) → a ≡ slice_index_or all (next - 1) a → 1 ≤ next → next ≤ length all → (a.source ≡ s) ⊎ IsOneOf all a.earlier s → IsOneOf all next s
+from_step : (all : List Arrival) (next s : ℕ) (a : Arrival) → a ≡ slice_index_or all (next - 1) a → 1 ≤ next → next ≤ length all → (a.source ≡ s)
+    ⊎ IsOneOf all a.earlier s → IsOneOf all next s
 from_step all next s a is some le h =
     let k : ℕ = next - 1 in
     let there : next ≡ suc k = omega arith in
@@ -42,14 +44,16 @@ loop-next-preserved-in_ok-push c =
     let within : k < length all = omega (arith, now.next) in
     let is : a ≡ arrival_at all k = c.index.ensures ∙ get_or_default all k a nowhere within in
     let back : a.earlier ≤ k = subst (λ (b : Arrival). b.earlier ≤ k) (sym is) (c.requires.room.earlier k within) in
-    let room : a.source < length c.args.found.now.items = subst (λ (b : Arrival). b.source < length c.args.found.now.items) (sym is) (c.requires.room.source k within) in
+    let room : a.source < length c.args.found.now.items = subst (λ (b : Arrival). b.source < length c.args.found.now.items) (sym is)
+    (c.requires.room.source k within) in
     let pushed : c.push.new.self.items ≡ waiting ++ a.source ∷ [] = c.in_ok-push.ensures.items in
     let source : (s : ℕ) → (a.source ≡ s) ⊎ IsOneOf all a.earlier s → IsSource c.args.arrivals.now c.args.state s =
     λ s h. now.origin s (from_step all c.loop-next.next s a c.index.ensures some now.next h) in
     record {
       next = omega arith;
       count = simp length-set now.count;
-      inside = subst (All (λ t. t < length c.args.found.now.items)) (sym pushed) (All-push (λ t. t < length c.args.found.now.items) waiting a.source now.inside room);
+      inside = subst (All (λ t. t < length c.args.found.now.items)) (sym pushed)
+          (All-push (λ t. t < length c.args.found.now.items) waiting a.source now.inside room);
       known = λ s h. elim (Contains-push_cases waiting a.source s (subst (λ ws. Contains ws s) pushed h)) [
         | inl old ↦ set_keeps found a.source s (now.known s old)
         | inr new ↦ subst (marked (slice_set found a.source true)) new (set_there found a.source (omega (arith, now.count)))
@@ -65,12 +69,20 @@ loop-next-preserved-in_ok-push c =
       ];
       origin = λ s h. source s (inr h);
       fresh = λ s h. elim (set_adds found a.source s h) [
-        | inl m ↦ elim (now.fresh s m) [ inl old ↦ inl old | inr w ↦ inr (subst (λ ws. Contains ws s) (sym pushed) (Contains-append_left waiting (a.source ∷ []) s w.0), w.1) ]
-        | inr e ↦ inr (subst (λ ws. Contains ws s) (sym pushed) (subst (Contains (waiting ++ a.source ∷ [])) e (Contains-push waiting a.source)), source s (inl e))
+        | inl m ↦ elim (now.fresh s m) [
+          | inl old ↦ inl old
+          | inr w ↦ inr
+              (subst (λ ws. Contains ws s) (sym pushed) (Contains-append_left waiting (a.source ∷ []) s w.0), w.1)
+        ]
+        | inr e ↦ inr (
+          subst (λ ws. Contains ws s) (sym pushed) (subst (Contains (waiting ++ a.source ∷ [])) e (Contains-push waiting a.source)),
+          source s (inl e),
+        )
       ];
       fewer =
           let fits : a.source < length found = omega (arith, now.count) in
-          let was : at found a.source ≡ false = get_or_default found a.source false c.index-in-loop-next.result.now fits ∙ (sym c.index-in-loop-next.ensures ∙ c.if-not-index.true) in
+          let was : at found a.source ≡ false = get_or_default found a.source false c.index-in-loop-next.result.now fits
+          ∙ (sym c.index-in-loop-next.ensures ∙ c.if-not-index.true) in
           omega (arith, one_fewer found a.source fits was, now.fewer, ap length pushed, length-append waiting (a.source ∷ []));
     }
 
@@ -85,7 +97,8 @@ loop-next-preserved c =
     let within : k < length all = omega (arith, now.next) in
     let is : a ≡ arrival_at all k = c.index.ensures ∙ get_or_default all k a nowhere within in
     let back : a.earlier ≤ k = subst (λ (b : Arrival). b.earlier ≤ k) (sym is) (c.requires.room.earlier k within) in
-    let room : a.source < length c.args.found.now.items = subst (λ (b : Arrival). b.source < length c.args.found.now.items) (sym is) (c.requires.room.source k within) in
+    let room : a.source < length c.args.found.now.items = subst (λ (b : Arrival). b.source < length c.args.found.now.items) (sym is)
+    (c.requires.room.source k within) in
     record {
       next = omega arith;
       count = now.count;
@@ -96,7 +109,8 @@ loop-next-preserved c =
       sources = λ s h. elim (now.sources s h) [
         | inl m ↦ inl m
         | inr m ↦ elim (one_step all c.loop-next.next s a c.index.ensures some now.next m) [
-          | inl e ↦ inl (subst (marked found) e (get_or_default found a.source false c.index-in-loop-next.result.now (omega (arith, now.count)) ∙ (sym c.index-in-loop-next.ensures ∙ c.if-not-index.false)))
+          | inl e ↦ inl (subst (marked found) e (get_or_default found a.source false c.index-in-loop-next.result.now (omega (arith, now.count))
+              ∙ (sym c.index-in-loop-next.ensures ∙ c.if-not-index.false)))
           | inr rest ↦ inr rest
         ]
       ];
@@ -108,5 +122,6 @@ loop-next-preserved c =
 pub returns-clause-sources : goal.returns-clause-sources
 returns-clause-sources c = λ s h. elim (c.loop-next.invariant.sources s h) [
   | inl m ↦ m
-  | inr rest ↦ absurd (none_there c.args.arrivals.now.all.items s (subst (λ n. IsOneOf c.args.arrivals.now.all.items n s) (let t : c.loop-next.next ≡ 0 = omega arith in t) rest))
+  | inr rest ↦ absurd (none_there c.args.arrivals.now.all.items s
+      (subst (λ n. IsOneOf c.args.arrivals.now.all.items n s) (let t : c.loop-next.next ≡ 0 = omega arith in t) rest))
 ]

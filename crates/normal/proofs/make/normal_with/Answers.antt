@@ -29,20 +29,31 @@ pub part-requires : goal.part-requires
 part-requires c =
     let f = formula_of c.tree-tree.result.now in
     let old = c.new-preorder.result.nodes in
-    omega (arith, norm_size true (λ _. 0) f (vec_len old), few c.count.result (count f) c.if-is_none.ensures c.count.ensures, old.ok.0, ap length c.new-preorder.ensures.nodes)
+    omega (
+      arith,
+      norm_size true (λ _. 0) f (vec_len old),
+      few c.count.result (count f) c.if-is_none.ensures c.count.ensures,
+      old.ok.0,
+      ap length c.new-preorder.ensures.nodes,
+    )
 
 -- what is written after no nodes is the normal form's
-written : (rule priorities : Priorities) (f : Formula) (table : List ℕ) (old new : Preorder) → rule ≡ priorities → old.nodes.items ≡ [] → old.priorities.now ≡ table → Writes old new (norm true (λ _. 0) f (vec_len old.nodes))
+written : (rule priorities : Priorities) (f : Formula) (table : List ℕ) (old new : Preorder) → rule ≡ priorities → old.nodes.items ≡ []
+    → old.priorities.now ≡ table → Writes old new (norm true (λ _. 0) f (vec_len old.nodes))
     → nodes_by (noted table) 0 (normal_form f) ≡ nodes_by (rule_of rule) 0 (normal_form f) → nodes_of new.nodes.items ≡ nodes_with priorities f
 written rule priorities f table old new chosen none same w found =
     let first : vec_len old.nodes ≡ 0 = omega (arith, old.nodes.ok.0, ap length none) in
-    let at : nodes_of new.nodes.items ≡ nodes_of old.nodes.items ++ nodes_by (noted table) 0 (norm true (λ _. 0) f 0) = w.nodes ∙ (λ j. nodes_of old.nodes.items ++ nodes_by (noted (same j)) (first j) (norm true (λ _. 0) f (first j))) in
-    at ∙ (ap (λ (xs : List declared.Node.Node). nodes_of xs ++ nodes_by (noted table) 0 (normal_form f)) none ∙ (found ∙ ap (λ r. nodes_by (rule_of r) 0 (normal_form f)) chosen))
+    let at : nodes_of new.nodes.items ≡ nodes_of old.nodes.items ++ nodes_by (noted table) 0 (norm true (λ _. 0) f 0) = w.nodes
+    ∙ (λ j. nodes_of old.nodes.items ++ nodes_by (noted (same j)) (first j) (norm true (λ _. 0) f (first j))) in
+    at ∙ (ap (λ (xs : List declared.Node.Node). nodes_of xs ++ nodes_by (noted table) 0 (normal_form f)) none
+    ∙ (found ∙ ap (λ r. nodes_by (rule_of r) 0 (normal_form f)) chosen))
 
 pub of-requires : goal.of-requires
 of-requires c =
     let f = formula_of c.tree-tree.result.now in
     let is = written c.new-survey.result.rule c.args.priorities f c.part-summary.new.self.priorities c.new-preorder.result c.part.new.self
     c.new-survey.ensures c.new-preorder.ensures.nodes c.new-preorder.ensures.priorities c.in_ok-part.ensures c.part-summary.ensures.priorities in
-    let greatest : c.part-summary.result.greatest ≡ greatest_priority (nodes_with c.args.priorities f) = c.part-summary.ensures.summary.greatest ∙ ap (λ r. greatest_priority (nodes_by (rule_of r) 0 (normal_form f))) c.new-survey.ensures in
-    subst IsForm (sym is) (is_form c.args.priorities f (few c.count.result (count f) c.if-is_none.ensures c.count.ensures) (omega (arith, greatest, c.if-summary-gt-GREATEST_PRIORITY.false)))
+    let greatest : c.part-summary.result.greatest ≡ greatest_priority (nodes_with c.args.priorities f) = c.part-summary.ensures.summary.greatest
+    ∙ ap (λ r. greatest_priority (nodes_by (rule_of r) 0 (normal_form f))) c.new-survey.ensures in
+    subst IsForm (sym is) (is_form c.args.priorities f (few c.count.result (count f) c.if-is_none.ensures c.count.ensures)
+    (omega (arith, greatest, c.if-summary-gt-GREATEST_PRIORITY.false)))

@@ -13,6 +13,11 @@ writes-preserved g c =
     let rest = c.writes.rest.now in
     let so_far = c.writes.invariant in
     elim c.match-write.branch [
-      | in-Ok w ↦ rw w.rest-is (HasWritten-more _ _ _ _ (take w.in-Ok.taken rest) _ (subst (HasWritten _ _ _) (taken_first rest w.in-Ok.taken) so_far) w.in-Ok.ensures.bytes)
-      | in-Err+else-ne w ↦ rw w.rest-is (record { done = so_far.done; appended = Appends-kept _ _ _ _ so_far.appended w.in-Err.ensures.bytes; split = so_far.split })
+      | in-Ok w ↦ rw w.rest-is (HasWritten-more _ _ _ _ (take w.in-Ok.taken rest) _
+          (subst (HasWritten _ _ _) (taken_first rest w.in-Ok.taken) so_far) w.in-Ok.ensures.bytes)
+      | in-Err+else-ne w ↦ rw w.rest-is (record {
+        done = so_far.done;
+        appended = Appends-kept _ _ _ _ so_far.appended w.in-Err.ensures.bytes;
+        split = so_far.split;
+      })
     ]

@@ -1,7 +1,9 @@
 use Rattle.game.proofs.Common.{◌≡◌, true, false, length, drop, sym, ◌∙◌, arith, rules, true≢false, common_steps, list_all}
 use Rattle.game.proofs.Tests.{is_fit, tested, vertices_from, vertices_to}
 use Rattle.game.proofs.graph.GameBuilder.are_vertices.Goals as goal
-use Rattle.game.proofs.graph.GameBuilder.are_vertices.Goals.{then-from-ge-PRIORITIES-via-then-from-ge-PRIORITIES, then-from-ge-PRIORITIES-via-else-from-ge-PRIORITIES+then-is_empty, then-from-ge-PRIORITIES-via-else-from-ge-PRIORITIES+else-is_empty+then-not-is_ascending}
+use Rattle.game.proofs.graph.GameBuilder.are_vertices.Goals.{then-from-ge-PRIORITIES-via-then-from-ge-PRIORITIES}
+use Rattle.game.proofs.graph.GameBuilder.are_vertices.Goals.{then-from-ge-PRIORITIES-via-else-from-ge-PRIORITIES+then-is_empty}
+use Rattle.game.proofs.graph.GameBuilder.are_vertices.Goals.{then-from-ge-PRIORITIES-via-else-from-ge-PRIORITIES+else-is_empty+then-not-is_ascending}
 
 pub returns-then-from-ge-PRIORITIES : goal.returns-then-from-ge-PRIORITIES
 returns-then-from-ge-PRIORITIES c =

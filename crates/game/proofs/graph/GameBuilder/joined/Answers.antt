@@ -12,8 +12,17 @@ invariant_of-self c =
     let before = sym (length-map i.rows.items (vertex_of_row i.successors.items)) ∙ ap length c.self.view_is in
     let more = sym (length-map o.rows.items (vertex_of_row o.successors.items)) ∙ ap length c.other.view_is in
     record {
-      limit = rw rows (omega (arith, before, more, c.requires, length-append i.rows.items (map (moved (length i.successors.items)) o.rows.items), length-map o.rows.items (moved (length i.successors.items))));
-      stored = rw (rows, longer) (stored_joined i.rows.items o.rows.items i.successors.items o.successors.items i.counts o.counts c.add_counts.new.counts c.self.invariant.stored c.other.invariant.stored c.add_counts.ensures);
+      limit = rw rows (omega (
+        arith,
+        before,
+        more,
+        c.requires,
+        length-append i.rows.items (map (moved (length i.successors.items)) o.rows.items),
+        length-map o.rows.items (moved (length i.successors.items)),
+      ));
+      stored = rw (rows, longer)
+          (stored_joined i.rows.items o.rows.items i.successors.items o.successors.items i.counts o.counts c.add_counts.new.counts c.self.invariant.stored
+          c.other.invariant.stored c.add_counts.ensures);
     }
 
 pub returns : goal.returns
@@ -22,4 +31,5 @@ returns c =
     let o = c.other.inside in
     let longer : c.extend_from_slice.new.self.items ≡ i.successors.items ++ o.successors.items = search rules in
     let rows : c.push_moved.new.rows.items ≡ i.rows.items ++ map (moved (length i.successors.items)) o.rows.items = search rules in
-    (λ j. vertices_of (rows j) (longer j)) ∙ (vertices_joined i.rows.items o.rows.items i.successors.items o.successors.items c.self.invariant.stored.within ∙ (λ j. c.self.view_is j ++ c.other.view_is j))
+    (λ j. vertices_of (rows j) (longer j)) ∙ (vertices_joined i.rows.items o.rows.items i.successors.items o.successors.items c.self.invariant.stored.within
+    ∙ (λ j. c.self.view_is j ++ c.other.view_is j))

@@ -1,4 +1,5 @@
-use Rattle.game.proofs.Common.{◌≡◌, ◌∷◌, [], ◌++◌, List, ℕ, length, subst, sym, ap, ◌∙◌, refl, arith, rules, length-append, length-map, Vertex, AreStored, vertices_of, vertex_of_row, Row}
+use Rattle.game.proofs.Common.{◌≡◌, ◌∷◌, [], ◌++◌, List, ℕ, length, subst, sym, ap, ◌∙◌, refl, arith, rules, length-append, length-map, Vertex, AreStored}
+use Rattle.game.proofs.Common.{vertices_of, vertex_of_row, Row}
 use Rattle.std.proofs.lemmas.Result.{err_from_is_err_and}
 use Rattle.game.proofs.Rows.{stored_longer, stored_more, vertices_more, rows_same}
 use Rattle.game.proofs.graph.GameBuilder.push.Goals as goal
@@ -8,7 +9,8 @@ invariant_of-self-in_err-push c =
     let i = c.self.inside in
     record {
       limit = rw c.in_err-push.ensures.items c.self.invariant.limit;
-      stored = rw (c.in_err-push.ensures.items, c.in_ok-extend_from_slice.ensures.items) (stored_longer i.rows.items i.successors.items c.args.successors.now i.counts c.self.invariant.stored);
+      stored = rw (c.in_err-push.ensures.items, c.in_ok-extend_from_slice.ensures.items)
+          (stored_longer i.rows.items i.successors.items c.args.successors.now i.counts c.self.invariant.stored);
     }
 
 pub returns-in_err-push-clause-err : goal.returns-in_err-push-clause-err
@@ -33,7 +35,8 @@ invariant_of-self-2 c =
           subst
           (λ (rs : List Row). AreStored rs c.extend_from_slice.new.self.items c.count_one.new.counts)
           (sym rows)
-          (subst (λ (xs : List ℕ). AreStored (i.rows.items ++ row ∷ []) xs c.count_one.new.counts) (sym longer) (stored_more i.rows.items row i.successors.items ys i.counts c.count_one.new.counts c.self.invariant.stored start refl c.count_one.ensures));
+          (subst (λ (xs : List ℕ). AreStored (i.rows.items ++ row ∷ []) xs c.count_one.new.counts) (sym longer)
+          (stored_more i.rows.items row i.successors.items ys i.counts c.count_one.new.counts c.self.invariant.stored start refl c.count_one.ensures));
     }
 
 pub returns-clause-ok : goal.returns-clause-ok
@@ -44,4 +47,5 @@ returns-clause-ok c =
     let rows : c.push.new.self.items ≡ i.rows.items ++ row ∷ [] = c.in_ok-push.ensures.items in
     let longer : c.extend_from_slice.new.self.items ≡ i.successors.items ++ ys = c.in_ok-extend_from_slice.ensures.items in
     let start : c.len-start.result ≡ length i.successors.items = search rules in
-    (λ j. vertices_of (rows j) (longer j)) ∙ (vertices_more i.rows.items row i.successors.items ys c.self.invariant.stored.within start refl ∙ ap (λ (vs : List Vertex). vs ++ record { owner = c.args.owner; priority = c.args.priority; successors = ys } ∷ []) c.self.view_is)
+    (λ j. vertices_of (rows j) (longer j)) ∙ (vertices_more i.rows.items row i.successors.items ys c.self.invariant.stored.within start refl
+    ∙ ap (λ (vs : List Vertex). vs ++ record { owner = c.args.owner; priority = c.args.priority; successors = ys } ∷ []) c.self.view_is)

@@ -33,7 +33,8 @@ pub junction-overflow_cast-middle : goal.junction-overflow_cast-middle
 junction-overflow_cast-middle t c =
     let count : c.len-middle.result ≡ vec_len c.part.new.self.nodes = search rules in
     let left = tree_of c.args.left.now in
-    let begins = right_begins (vec_len c.args.self.now.nodes) _ _ left c.in_ok-leaf.ensures.count (writes_length c.leaf.new.self c.part.new.self _ c.in_ok-part.ensures) in
+    let begins = right_begins (vec_len c.args.self.now.nodes) _ _ left c.in_ok-leaf.ensures.count
+    (writes_length c.leaf.new.self c.part.new.self _ c.in_ok-part.ensures) in
     omega (arith, count, begins, c.requires)
 
 pub junction-part-requires-2 : goal.junction-part-requires-2
@@ -46,13 +47,22 @@ junction-part-requires-2 t c =
 pub junction-index_mut-requires : goal.junction-index_mut-requires
 junction-index_mut-requires t c =
     let count : c.len-at.result ≡ vec_len c.args.self.now.nodes = search rules in
-    omega (arith, count, c.in_ok-leaf.ensures.count, writes_length c.leaf.new.self c.part.new.self _ c.in_ok-part.ensures, writes_length c.part.new.self c.part-2.new.self _ c.in_ok-part-2.ensures)
+    omega (
+      arith,
+      count,
+      c.in_ok-leaf.ensures.count,
+      writes_length c.leaf.new.self c.part.new.self _ c.in_ok-part.ensures,
+      writes_length c.part.new.self c.part-2.new.self _ c.in_ok-part-2.ensures,
+    )
 
 pub junction-returns : goal.junction-returns
 junction-returns t c =
     let a = c.args.self.now in
     let count : c.len-at.result ≡ vec_len a.nodes = search rules in
     let second : c.len-middle.result ≡ vec_len c.part.new.self.nodes = search rules in
-    let kind : shape_of c.junction_of.result ≡ JunctionNode c.args.flag (vec_len a.nodes + 1) (vec_len c.part.new.self.nodes) = c.junction_of.ensures ∙ (λ j. JunctionNode c.args.flag (count j + 1) (second j)) in
-    junction_writes a c.leaf.new.self c.part.new.self c.part-2.new.self c.len-at.result c.index_mut.result.now c.junction_of.result _ c.args.flag (tree_of c.args.left.now) (tree_of c.args.right.now)
-    count c.in_ok-leaf.ensures.nodes c.in_ok-leaf.ensures.count c.leaf.ensures.priorities c.in_ok-part.ensures c.in_ok-part-2.ensures c.index_mut.ensures.value kind
+    let kind : shape_of c.junction_of.result ≡ JunctionNode c.args.flag (vec_len a.nodes + 1) (vec_len c.part.new.self.nodes) = c.junction_of.ensures
+    ∙ (λ j. JunctionNode c.args.flag (count j + 1) (second j)) in
+    junction_writes a c.leaf.new.self c.part.new.self c.part-2.new.self c.len-at.result c.index_mut.result.now c.junction_of.result _ c.args.flag
+    (tree_of c.args.left.now) (tree_of c.args.right.now)
+    count c.in_ok-leaf.ensures.nodes c.in_ok-leaf.ensures.count c.leaf.ensures.priorities c.in_ok-part.ensures c.in_ok-part-2.ensures
+    c.index_mut.ensures.value kind

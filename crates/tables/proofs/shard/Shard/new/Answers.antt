@@ -1,13 +1,16 @@
-use Rattle.progress.proofs.Common.{◌≡◌, ℕ, ◌<◌, ◌/◌, ◌%◌, ◌+◌, ◌*◌, ◌∙◌, ap, arith, length, replicate, subst, sym, Counts, Game, IsOpening, false, opening, value_at}
+use Rattle.progress.proofs.Common.{◌≡◌, ℕ, ◌<◌, ◌/◌, ◌%◌, ◌+◌, ◌*◌, ◌∙◌, ap, arith, length, replicate, subst, sym, Counts, Game, IsOpening, false, opening}
+use Rattle.progress.proofs.Common.{value_at}
 use Rattle.tables.specs.Part.{IsStoredPart}
 use Rattle.tables.proofs.Parts.{IsFilled, filled_first, filled_inside, filled_left, filled_part, filled_top, place_less}
 use Rattle.tables.proofs.shard.Shard.new.Goals as goal
-use Rattle.tables.proofs.shard.Shard.new.Goals.{then-v-from+then-turns_odd, else-v-from, else-v-from-via-then-v-from+else-turns_odd, else-v-from-via-else-v-from}
+use Rattle.tables.proofs.shard.Shard.new.Goals.{then-v-from+then-turns_odd, else-v-from, else-v-from-via-then-v-from+else-turns_odd}
+use Rattle.tables.proofs.shard.Shard.new.Goals.{else-v-from-via-else-v-from}
 
 pub loop-place-init : goal.loop-place-init
 loop-place-init g c =
     let some : 0 < c.args.shards = omega (arith, c.requires.index) in
-    filled_first c.args.game.now c.args.index c.args.shards c.vertices-vertices.result c.width.result c.in_ok-rows.rows some c.vertices-vertices.ensures c.width.ensures.value
+    filled_first c.args.game.now c.args.index c.args.shards c.vertices-vertices.result c.width.result c.in_ok-rows.rows some c.vertices-vertices.ensures
+    c.width.ensures.value
     c.in_ok-rows.ensures.width (c.in_ok-rows.ensures.zeros ∙ ap (λ k. replicate k (Counts (replicate c.width.result 0))) c.div_ceil-places.ensures)
 
 pub set-requires-clause-vertex : goal.set-requires-clause-vertex
@@ -35,7 +38,8 @@ loop-place-preserved g c =
             (λ u e l. subst (λ k. IsOpening game k false) (at ∙ sym e) (rw w'.if-turns_odd.false at w'.turns_odd.ensures))
         | else-v-from-via-else-v-from w' ↦
             filled_left game c.args.index c.args.shards place c.loop-place.rows c.loop-place.invariant
-            (λ u e l. let same : u ≡ v = e ∙ sym at in absurd (omega (arith, w'.if-v-from.false, c.from-in-loop-place-3.ensures, c.vertices-vertices.ensures, same, l)))
+            (λ u e l. let same : u ≡ v = e ∙ sym at in absurd
+            (omega (arith, w'.if-v-from.false, c.from-in-loop-place-3.ensures, c.vertices-vertices.ensures, same, l)))
       ])
     ]
 
@@ -43,14 +47,20 @@ pub invariant_of-result : goal.invariant_of-result
 invariant_of-result g c =
     let game = c.args.game.now in
     let some : 0 < c.args.shards = omega (arith, c.requires.index) in
-    subst (λ (h : Game). IsStoredPart h (record { index = c.args.index; shards = c.args.shards; values = c.loop-place.rows.values }) c.loop-place.rows.width) c.requires.game
+    subst (λ (h : Game). IsStoredPart h (record {
+      index = c.args.index;
+      shards = c.args.shards;
+      values = c.loop-place.rows.values;
+    }) c.loop-place.rows.width) c.requires.game
     (filled_part game c.args.index c.args.shards c.loop-place.place c.loop-place.rows c.known.ensures some c.loop-place.invariant
-    (λ v h. let m = place_less v c.vertices-vertices.result c.args.shards some (omega (arith, h, c.vertices-vertices.ensures)) in omega (arith, m, c.div_ceil-places.ensures, c.loop-place-test.false)))
+    (λ v h. let m = place_less v c.vertices-vertices.result c.args.shards some (omega (arith, h, c.vertices-vertices.ensures))
+    in omega (arith, m, c.div_ceil-places.ensures, c.loop-place-test.false)))
 
 pub returns-clause-values : goal.returns-clause-values
 returns-clause-values g c =
     let some : 0 < c.args.shards = omega (arith, c.requires.index) in
-    subst (λ (k : Game). (v : ℕ) → v < length k.vertices → v % c.args.shards ≡ c.args.index → value_at c.loop-place.rows.values (v / c.args.shards) ≡ value_at (opening k) v) c.requires.game
+    subst (λ (k : Game). (v : ℕ) → v < length k.vertices → v % c.args.shards ≡ c.args.index
+    → value_at c.loop-place.rows.values (v / c.args.shards) ≡ value_at (opening k) v) c.requires.game
     (λ v h here.
     let m = place_less v c.vertices-vertices.result c.args.shards some (omega (arith, h, c.vertices-vertices.ensures)) in
     c.loop-place.invariant.done v h here (omega (arith, m, c.div_ceil-places.ensures, c.loop-place-test.false)))
