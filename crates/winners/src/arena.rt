@@ -4,6 +4,9 @@ use game::graph::Game;
 use game::player::Player;
 use game::predecessors::Predecessors;
 
+// One more than the greatest priority of a game.
+const PRIORITIES: u8 = 33;
+
 /// A game with its edges in both directions. A number that is no vertex has no edges.
 #[derive(Clone, Copy)]
 pub(crate) struct Arena<'g> {
@@ -30,6 +33,11 @@ impl<'g> Arena<'g> {
 
     pub(crate) fn predecessors(self, v: u32) -> &'g [u32] {
         self.before.get(v)
+    }
+
+    /// The greatest priority of a vertex.
+    pub(crate) fn greatest(self) -> u8 {
+        greatest(self.game)
     }
 
     /// How many vertices and edges there are.
@@ -80,4 +88,26 @@ pub(crate) fn opponent(player: Player) -> Player {
         Player::Even => Player::Odd,
         Player::Odd => Player::Even,
     }
+}
+
+/// The greatest priority of a vertex.
+pub(crate) fn greatest(game: &Game) -> u8 {
+    let mut greatest = 0;
+    for priority in 0..PRIORITIES {
+        if game.count(u32::from(priority)) > 0 {
+            greatest = priority;
+        }
+    }
+    greatest
+}
+
+/// How many priorities there are.
+pub(crate) fn priorities(game: &Game) -> usize {
+    let mut count = 0_usize;
+    for priority in 0..PRIORITIES {
+        if game.count(u32::from(priority)) > 0 {
+            count = count.saturating_add(1);
+        }
+    }
+    count
 }

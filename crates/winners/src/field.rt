@@ -36,12 +36,12 @@ pub(crate) struct Field<'g> {
 }
 
 impl<'g> Field<'g> {
-    pub(crate) fn new(alloc: Global, arena: Arena<'g>) -> Result<Self, AllocError> {
+    pub(crate) fn new(alloc: Global, arena: Arena<'g>, meter: Meter) -> Result<Self, AllocError> {
         Ok(Field {
             alloc,
             arena,
             cells: Cells::new(alloc, arena.vertices())?,
-            meter: Meter::new(arena.size()),
+            meter,
             times: Numbers::filled(alloc, arena.vertices() as usize, 0)?,
             clock: 0,
             todo: Numbers::none(alloc),

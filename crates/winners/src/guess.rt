@@ -1,16 +1,21 @@
 // A guess of who wins each vertex, with reasons.
 
-use crate::arena::{Arena, priority};
-use crate::cells::NONE;
+use crate::arena::{Arena, greatest, priorities};
+use crate::justify::Justification;
+use crate::meter::Meter;
 use crate::order::order_of;
 use crate::ranks::Ranks;
-use crate::recursion::{Recursion, Winners};
+use crate::recursion::Recursion;
 use crate::strong::Strong;
+use crate::winning::Winners;
 use game::graph::Game;
 use game::player::Player;
 use game::predecessors::Predecessors;
 use std::alloc::{AllocError, Global};
 use text::Memory;
+
+// With so few priorities justifications are tried first: they are fast then.
+const FEW: usize = 4;
 
 /// Who wins each vertex, the winner's moves, and ranks that fall along them, as they are guessed. Nothing is promised of them.
 #[derive(Drop)]
@@ -27,14 +32,11 @@ impl Guessed {
 
     /// Where the winner goes on from a vertex of its own.
     pub fn next(&self, v: u32) -> Option<u32> {
-        match self.winners.moves.only(v) {
-            [next] if *next != NONE => Some(*next),
-            _ => None,
-        }
+        self.winners.next(v)
     }
 
-    /// Writes the rank of the vertex: one count for each priority of the other parity than the winner's, the greatest first. What
-    /// has no place is left, and places past the last count are left as they are.
+    /// Writes the rank of the vertex: one count for each priority of the other parity than the winner's, the greatest first.
+    /// Counts that find no place are left out, and places past the last count as they are.
     pub fn put_rank(&self, v: u32, rank: &mut [u32]) {
         self.ranks.put(v, self.winner(v), rank);
     }
@@ -60,7 +62,21 @@ fn find_winners(alloc: Global, game: &Game) -> Result<Option<Winners>, AllocErro
         game,
         before: &before,
     };
-    Recursion::new(alloc, arena)?.find()
+    if let Some(winners) = find_first(alloc, arena)? {
+        return Ok(Some(winners));
+    }
+    match Recursion::new(alloc, arena, Meter::new(arena.size()))?.find()? {
+        Some(winners) => Ok(Some(winners)),
+        None => Justification::new(alloc, arena, Meter::new(arena.size()))?.find(),
+    }
+}
+
+// A first try with few priorities.
+fn find_first(alloc: Global, arena: Arena) -> Result<Option<Winners>, AllocError> {
+    if priorities(arena.game) > FEW {
+        return Ok(None);
+    }
+    Justification::new(alloc, arena, Meter::first(arena.size()))?.find()
 }
 
 // Ranks of both players. `None` where the moves of one don't win.
@@ -74,12 +90,4 @@ fn find_ranks(alloc: Global, game: &Game, winners: &Winners) -> Result<Option<Ra
         }
     }
     Ok(Some(ranks))
-}
-
-fn greatest(game: &Game) -> u8 {
-    let mut greatest = 0;
-    for v in 0..game.vertices() {
-        greatest = priority(game, v).max(greatest);
-    }
-    greatest
 }

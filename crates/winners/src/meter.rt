@@ -5,6 +5,9 @@ const LEAST_BUDGET: u64 = 67_108_864;
 
 const TIMES: u64 = 300;
 
+// The same for a first try.
+const FIRST_TIMES: u64 = 6;
+
 /// How many vertices and edges have been looked at, and how many may be.
 #[derive(Drop)]
 pub(crate) struct Meter {
@@ -18,6 +21,14 @@ impl Meter {
         Meter {
             looks: 0,
             budget: size.saturating_mul(TIMES).saturating_add(LEAST_BUDGET),
+        }
+    }
+
+    /// The same for a first try, which has to end soon.
+    pub(crate) fn first(size: u64) -> Self {
+        Meter {
+            looks: 0,
+            budget: size.saturating_mul(FIRST_TIMES),
         }
     }
 

@@ -7,8 +7,8 @@
 
 use crate::arena::{owner, priority, successors, winner_by};
 use crate::numbers::{Numbers, Span};
-use crate::recursion::Winners;
 use crate::strong::{Edges, Strong};
+use crate::winning::Winners;
 use game::graph::Game;
 use game::player::Player;
 use std::alloc::{AllocError, Global};
@@ -24,7 +24,7 @@ struct Chosen<'a> {
 impl Edges for Chosen<'_> {
     fn after(&self, v: u32) -> &[u32] {
         if owner(self.game, v) == self.player {
-            self.winners.moves.only(v)
+            self.winners.chosen(v)
         } else {
             successors(self.game, v)
         }

@@ -2,13 +2,14 @@
 // where the layers of a part fall one by one. What it still has to do stands in a list.
 
 use crate::arena::Arena;
-use crate::cells::{NONE, Region, Regions};
+use crate::cells::{Region, Regions};
 use crate::claim::Core;
 use crate::field::Field;
+use crate::meter::Meter;
 use crate::numbers::{Numbers, Span};
 use crate::parts::Parts;
 use crate::strong::{Edges, Strong};
-use game::player::Player;
+use crate::winning::Winners;
 use std::alloc::{AllocError, Global};
 
 impl Edges for Arena<'_> {
@@ -26,23 +27,6 @@ enum Task {
     Rest(Core),
 }
 
-/// Who wins each vertex, and the winners' moves.
-#[derive(Drop)]
-pub(crate) struct Winners {
-    pub(crate) players: Vec<Player>,
-    /// The winner's move at a vertex of its own, and `NONE` elsewhere.
-    pub(crate) moves: Numbers,
-}
-
-impl Winners {
-    pub(crate) fn player(&self, v: u32) -> Player {
-        self.players
-            .get(v as usize)
-            .copied()
-            .unwrap_or(Player::Even)
-    }
-}
-
 /// The recursion.
 #[derive(Drop)]
 pub(crate) struct Recursion<'g> {
@@ -52,9 +36,9 @@ pub(crate) struct Recursion<'g> {
 }
 
 impl<'g> Recursion<'g> {
-    pub(crate) fn new(alloc: Global, arena: Arena<'g>) -> Result<Self, AllocError> {
+    pub(crate) fn new(alloc: Global, arena: Arena<'g>, meter: Meter) -> Result<Self, AllocError> {
         Ok(Recursion {
-            field: Field::new(alloc, arena)?,
+            field: Field::new(alloc, arena, meter)?,
             strong: Strong::new(alloc, arena.vertices())?,
             tasks: Vec::new(alloc),
         })
@@ -190,16 +174,13 @@ impl<'g> Recursion<'g> {
         self.push(Task::Components(parts))
     }
 
-    fn winners(self, won: Regions) -> Result<Winners, AllocError> {
-        let field = self.field;
-        let mut players = Vec::new(field.alloc);
-        let mut moves = Numbers::none(field.alloc);
+    fn winners(&self, won: Regions) -> Result<Winners, AllocError> {
+        let field = &self.field;
+        let mut winners = Winners::none(field.alloc);
         for v in 0..field.arena.vertices() {
             let player = won.player(field.cells.region(v));
-            players.push(player)?;
-            let owns = field.arena.owner(v) == player;
-            moves.push(if owns { field.cells.next(v) } else { NONE })?;
+            winners.add(field.arena, v, player, field.cells.next(v))?;
         }
-        Ok(Winners { players, moves })
+        Ok(winners)
     }
 }

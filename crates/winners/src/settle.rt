@@ -4,7 +4,6 @@ use crate::arena::{opponent, winner_by};
 use crate::cells::{NONE, Region, Regions};
 use crate::field::{Field, Spread};
 use crate::numbers::Numbers;
-use game::player::Player;
 use std::alloc::AllocError;
 
 // The successors of a vertex, as its owner sees them.
@@ -156,7 +155,7 @@ impl Field<'_> {
     // Gives vertices with marks to those whose marks they have.
     fn give(&mut self, vertices: &[u32], marks: Regions, won: Regions) {
         for v in vertices {
-            let winner: Player = marks.player(self.cells.region(*v));
+            let winner = marks.player(self.cells.region(*v));
             self.cells.set_region(*v, won.of(winner));
         }
     }
