@@ -190,7 +190,10 @@ const LARGE: [(u8, u32); 3] = [(4, 100), (4, 20_000), (15, 1_000)];
 fn large_climbs_are_won_by_good_evidence(rt: HostRuntime) {
     for (rows, width) in LARGE {
         let even = climb(&rt, rows, width, Player::Even).expect(&rt, "a climb");
-        assert!(rt; is_certified(&rt, &even, EvenWins::All), "Even, {rows} rows");
+        assert!(rt;
+            is_certified(&rt, &even, EvenWins::All),
+            "Even, {rows} rows"
+        );
         let odd = climb(&rt, rows, width, Player::Odd).expect(&rt, "a climb");
         assert!(rt; is_certified(&rt, &odd, EvenWins::None), "Odd, {rows} rows");
     }
