@@ -1,11 +1,12 @@
 // Who wins each vertex of a game, and the text of it.
 
-ghost use Rattle.std.specs.Prelude.{◌≡◌, ◌++◌, length, count_by, decimal, IfErr, IfOk};
+ghost use Rattle.std.specs.Prelude.{◌≡◌, ◌++◌, length, count_by, decimal, IfErr, IfOk, IfSome};
 ghost use Rattle.text.specs.Wrote.{Wrote};
 ghost use Rattle.calculus.specs.Meaning.{Marks};
 ghost use Rattle.game.specs.Wins.{Wins};
 ghost use Rattle.commands.specs.Winners.{AreWinners, even_or_odd, sizes_text, winner_lines, winners_text as text_of};
 
+use certify::winners::certified_winners;
 use game::graph::Game;
 use laws::games::{not_both_win, one_wins};
 use lts::{Piece, WriteFault, put_pieces};
@@ -31,6 +32,16 @@ pub(crate) fn winners(alloc: Global, game: &Game, settled: &Settled) -> Result<V
         Ok(marks) => Ok(marks),
         Err(AllocError) => Err(MuError::Memory),
     }
+}
+
+/// A mark for each vertex, true where Even wins it, by evidence of both players that was guessed. There is none where none is found.
+pub(crate) fn guessed_winners(alloc: Global, game: &Game) -> Option<Vec<bool>>
+    ensures { IfSome result (λ marks. AreWinners game.now marks.items) }
+{
+    game.known();
+    not_both_win();
+    one_wins();
+    certified_winners(alloc, game)
 }
 
 /// A mark for each vertex, true where Even wins it.

@@ -2,11 +2,12 @@
 
 ghost use Rattle.std.specs.Prelude.{◌≡◌, ◌∷◌, ◌++◌, [], ℕ, List, None, Some, IfErr, MatchResult};
 ghost use Rattle.calculus.specs.Closed.{closed_formula};
-ghost use Rattle.requests.specs.Check.{BySets, ByGame, AreMarks, AreSpelled, Answers, Checks, IsBeyond, IsErrorOf};
+ghost use Rattle.requests.specs.Check.{Way, BySets, ByGame, AreMarks, AreSpelled, Answers, Checks, IsBeyond, IsErrorOf};
 ghost use Rattle.requests.specs.Command.{wanted_in, way_of};
 ghost use Rattle.engines.specs.Findings.{AreFindings, formula_of, system_of, way_in};
 ghost use Rattle.requests.specs.Writers.{all_writers, evidence_writers, game_writer, no_writer, report_writer};
 
+use crate::alone::check_report;
 use crate::findings::{Findings, find_alone, find_seen, find_with};
 use crate::no_writer::NoWriter;
 use crate::outputs::{answer, put_wanted};
@@ -155,19 +156,20 @@ fn plain_marks(alloc: Global, texts: &Texts) -> Result<Vec<bool>, MuError>
     }
 }
 
-/// Writes the report with these marks, and answers the initial state's mark.
-fn report<W: Write>(
+/// Writes the report with these marks, whichever way they were found, and answers the initial state's mark.
+pub(crate) fn report<W: Write>(
     alloc: Global,
     texts: &Texts,
     marks: Result<Vec<bool>, MuError>,
     out: &mut W,
 ) -> Result<bool, MuError>
     requires { let l = texts.now.system.system in let f = closed_formula texts.now.formula in
-        MatchResult marks (λ marks. AreMarks BySets l f marks.items) (IsBeyond BySets l f) }
+        (way : Way) × MatchResult marks (λ marks. AreMarks way l f marks.items) (IsBeyond way l f) }
     ensures answers { let l = texts.now.system.system in let f = closed_formula texts.now.formula in
-        (first second : List ℕ) → AreSpelled first second l f
-        → Answers BySets first second (report_writer (W.contents out.old) (W.contents out.new)) result }
-    ensures errors { IfErr result (IsErrorOf BySets) }
+        (way : Way) (first second : List ℕ) → MatchResult marks (λ marks. AreMarks way l f marks.items) (IsBeyond way l f)
+        → AreSpelled first second l f → Answers way first second (report_writer (W.contents out.old) (W.contents out.new)) result }
+    ensures errors { let l = texts.now.system.system in let f = closed_formula texts.now.formula in
+        (way : Way) → MatchResult marks (λ marks. AreMarks way l f marks.items) (IsBeyond way l f) → IfErr result (IsErrorOf way) }
 {
     let marks = marks?;
     let initial = texts.system.initial() as usize;
@@ -326,7 +328,10 @@ pub fn check_all<
         (all_writers wanted (G.contents game.old) (G.contents game.new) (E.contents even.old) (E.contents even.new) (O.contents odd.old) (O.contents odd.new)
         (V.contents witness.old) (V.contents witness.new) (W.contents out.old) (W.contents out.new)) result }
 {
-    match find_seen(rt, alloc, aut, formula, options, &NoGate, watcher) {
+    if wanted.is_nothing() && options.workers == 1 {
+        return check_report(rt, alloc, aut, formula, options, out, watcher);
+    }
+    match find_seen(rt, alloc, aut, formula, options, watcher) {
         Ok(found) => {
             watcher.sees(Stage::Writing);
             answer_wanted(alloc, &found, wanted, game, even, odd, witness, out)

@@ -1,6 +1,7 @@
 // The engines of `check`, over readers and writers: from both texts to the report; and the exit status.
 #![tactic(auto)]
 
+mod alone;
 pub mod engine;
 mod findings;
 mod guessing;

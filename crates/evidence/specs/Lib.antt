@@ -10,4 +10,5 @@ pub mod Verdict
 pub mod Witness
 pub mod Laws
 pub mod View
+pub mod Draft
 pub mod Checking

@@ -43,6 +43,18 @@ impl Evidence {
         }
     }
 
+    // Evidence with these entries, of a game that is known.
+    pub(crate) fn of_snapshot(player: Player, entries: Entries, of: Snapshot<Game>) -> Self
+        requires { IsEvidence of.value record { player = player; entries = entries.entries } }
+        ensures { result ≡ record { game = of.value; evidence = record { player = player; entries = entries.entries } } }
+    {
+        Evidence {
+            player,
+            entries,
+            of,
+        }
+    }
+
     /// What holds of all evidence.
     pub fn known(&self)
         ensures { IsEvidence self.now.game self.now.evidence }

@@ -1,6 +1,7 @@
 // Evidence that a player wins, and what it proves.
 #![tactic(auto)]
 
+pub mod draft;
 pub mod entries;
 pub mod error;
 pub mod evidence;

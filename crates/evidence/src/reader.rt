@@ -97,7 +97,7 @@ fn read_lines<B: BufRead>(
 }
 
 // How many counts a rank of the player's has.
-fn width(player: Player, game: &Game) -> usize
+pub(crate) fn width(player: Player, game: &Game) -> usize
     ensures width { result ≡ length (counted player game.now) }
     ensures few { result ≤ MOST_COUNTS }
 {

@@ -143,11 +143,15 @@ pub fn jump_to_guess<G: Guess>(
     Ok(jump_to_parts(game, table, &mut claim, guess))
 }
 
-// The table that is proposed as a whole, where the proposal is good. Want of memory is no proposal.
-fn proposed<G: Guess>(alloc: Global, game: &Game, guess: &G) -> Option<Settled>
+/// The least progress table, where it is guessed as a whole and the guess is good. One pass over the edges tests it, and nothing is
+/// lifted. Where nothing is guessed it takes no time. Want of memory is no guess.
+pub fn settled_by_guess<G: Guess>(alloc: Global, game: &Game, guess: &G) -> Option<Settled>
     ensures game { IfSome result (λ s. s.game ≡ game.now) }
     ensures least { IfSome result (λ s. IsLeastTable game.now s.values) }
 {
+    if guess.parts() == 0 {
+        return None;
+    }
     match Proposal::new(alloc, game) {
         Ok(mut proposal) => {
             if guess.propose(game, &mut proposal) {
@@ -204,8 +208,8 @@ fn solve_by_parts<G: Guess, O: Observer>(
     }
 }
 
-/// The least progress table of a game, on one thread, with the help of a guess. Where that is the whole table, one pass over the edges
-/// tests it, and nothing is lifted. An observer is told what it is of `solve_one_seen`.
+/// The least progress table of a game, on one thread, with the help of a guess: of the whole table first, and else part by part. An
+/// observer is told what it is of `solve_one_seen`.
 ///
 /// # Errors
 /// Want of memory for the table itself.
@@ -224,7 +228,7 @@ pub fn solve_one_by<G: Guess, O: Observer>(
     observer.sees(Stage::Searching {
         vertices: game.vertices(),
     });
-    match proposed(alloc, game, guess) {
+    match settled_by_guess(alloc, game, guess) {
         Some(settled) => Ok(settled),
         None => solve_by_parts(alloc, game, guess, observer),
     }

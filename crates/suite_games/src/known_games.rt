@@ -1,9 +1,10 @@
 // Families of games whose winners are known, and are argued beside each. Ladders and cliques are those that Friedmann and
 // Lange compared solvers by in 2009; in climbs lifting alone goes through each measure, as in Jurdzinski's bound of 2000.
 
-ghost use Rattle.std.specs.Prelude.{◌≡◌, ◌<◌, ◌≤◌};
+ghost use Rattle.std.specs.Prelude.{◌≡◌, ◌<◌, ◌≤◌, length};
 
 use crate::random_games::{is_same, lifted_alone};
+use certify::winners::certified_winners;
 use game::graph::{Game, GameBuilder};
 use game::player::Player;
 use measures::settle::{even_wins, solve_one};
@@ -19,17 +20,36 @@ enum EvenWins {
     Own,
 }
 
+impl EvenWins {
+    // Whether a vertex is among them.
+    fn has(self, game: &Game, v: u32) -> bool
+        requires { v < length game.now.vertices }
+    {
+        match self {
+            EvenWins::All => true,
+            EvenWins::None => false,
+            EvenWins::Own => matches!(game.owner(v), Player::Even),
+        }
+    }
+}
+
 // Whether Even wins just those.
 fn are_won(game: &Game, settled: &Settled, wins: EvenWins) -> bool
     requires { settled.now.game ≡ game.now }
 {
     for v in 0..game.vertices() {
-        let wanted = match wins {
-            EvenWins::All => true,
-            EvenWins::None => false,
-            EvenWins::Own => matches!(game.owner(v), Player::Even),
-        };
-        if even_wins(settled, v) != wanted {
+        if even_wins(settled, v) != wins.has(game, v) {
+            return false;
+        }
+    }
+    true
+}
+
+// Whether evidence of just those is guessed, and the checker accepts it.
+fn is_certified(rt: &(impl Abort + AllocGlobal), game: &Game, wins: EvenWins) -> bool {
+    let marks = certified_winners(rt.alloc(), game).expect(rt, "good evidence");
+    for v in 0..game.vertices() {
+        if marks.get(v as usize) != Some(&wins.has(game, v)) {
             return false;
         }
     }
@@ -45,7 +65,9 @@ fn is_solved(rt: &(impl Abort + AllocGlobal), game: &Game, wins: EvenWins) -> bo
 fn is_lifted(rt: &(impl Abort + AllocGlobal), game: &Game, wins: EvenWins) -> bool {
     let settled = solve_one(rt.alloc(), game).expect(rt, "memory");
     let lifted = lifted_alone(rt.alloc(), game).expect(rt, "memory");
-    are_won(game, &settled, wins) && is_same(game, &settled, &lifted)
+    are_won(game, &settled, wins)
+        && is_same(game, &settled, &lifted)
+        && is_certified(rt, game, wins)
 }
 
 // Even has the even vertices, and Odd the odd ones.
@@ -80,7 +102,7 @@ fn on_a_ladder_each_wins_the_own_vertices(rt: HostRuntime) {
         assert!(rt; is_lifted(&rt, &game, EvenWins::Own), "{rungs}");
     }
     let game = ladder(&rt, 50_000).expect(&rt, "a ladder");
-    assert!(rt; is_solved(&rt, &game, EvenWins::Own));
+    assert!(rt; is_solved(&rt, &game, EvenWins::Own) && is_certified(&rt, &game, EvenWins::Own));
 }
 
 // Each vertex has its number as priority, and leads to all others.
@@ -158,5 +180,18 @@ fn who_wins_at_the_end_of_a_way_wins_the_climb(rt: HostRuntime) {
         assert!(rt; is_lifted(&rt, &even, EvenWins::All), "Even, {rows} rows");
         let odd = climb(&rt, rows, width, Player::Odd).expect(&rt, "a climb");
         assert!(rt; is_lifted(&rt, &odd, EvenWins::None), "Odd, {rows} rows");
+    }
+}
+
+// Climbs on which lifting would take years.
+const LARGE: [(u8, u32); 3] = [(4, 100), (4, 20_000), (15, 1_000)];
+
+#[test]
+fn large_climbs_are_won_by_good_evidence(rt: HostRuntime) {
+    for (rows, width) in LARGE {
+        let even = climb(&rt, rows, width, Player::Even).expect(&rt, "a climb");
+        assert!(rt; is_certified(&rt, &even, EvenWins::All), "Even, {rows} rows");
+        let odd = climb(&rt, rows, width, Player::Odd).expect(&rt, "a climb");
+        assert!(rt; is_certified(&rt, &odd, EvenWins::None), "Odd, {rows} rows");
     }
 }

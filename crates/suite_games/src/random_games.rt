@@ -3,6 +3,7 @@
 
 ghost use Rattle.std.specs.Prelude.{◌≡◌, ◌<◌, ◌≤◌, IfOk};
 
+use certify::winners::certified_winners;
 use game::graph::Game;
 use lts::error::Memory;
 use measures::settle::{first_table, settle, solve_one};
@@ -51,12 +52,25 @@ fn are_claimed(game: &Game, first: &PlainTable, solved: &Settled) -> bool
     true
 }
 
+// Whether evidence was guessed that the checker accepts, and says that Even wins where the table isn't top.
+fn is_certified(rt: &(impl Abort + AllocGlobal), game: &Game, solved: &Settled) -> bool
+    requires { solved.now.game ≡ game.now }
+{
+    let marks = certified_winners(rt.alloc(), game).expect(rt, "good evidence");
+    for v in 0..game.vertices() {
+        if marks.get(v as usize) != Some(&!solved.is_top(v)) {
+            return false;
+        }
+    }
+    true
+}
+
 fn ends_alike(rt: &(impl Abort + AllocGlobal), game: &Game) -> bool {
     let first = first_table(rt.alloc(), game).expect(rt, "memory");
     let solved = solve_one(rt.alloc(), game).expect(rt, "memory");
     let lifted = lifted_alone(rt.alloc(), game).expect(rt, "memory");
     let is_found = !can_climb(game) || are_claimed(game, &first, &solved);
-    is_found && is_same(game, &solved, &lifted)
+    is_found && is_same(game, &solved, &lifted) && is_certified(rt, game, &solved)
 }
 
 #[test]

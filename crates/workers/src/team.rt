@@ -13,7 +13,7 @@ use crate::locked::solve_locked;
 use crate::solving::solve;
 use crate::watch::Watched;
 use game::graph::Game;
-use measures::guess::{Guess, solve_one_by};
+use measures::guess::{Guess, settled_by_guess, solve_one_by};
 use measures::observer::{Observer, Stage};
 use measures::rank::top_rank;
 use measures::table::Settled;
@@ -45,8 +45,8 @@ pub struct Team {
     pub ghost some_shards: { 0 < shards },
 }
 
-/// The least progress table of a game, by a team, with the help of a guess where there is one worker alone. An observer is told
-/// that the search begins, that lifting does, and then every 4,096th
+/// The least progress table of a game, by a team, with the help of a guess. Where that is the whole table, no worker lifts; where it is
+/// a part of it, one worker alone begins with that. An observer is told that the search begins, that lifting does, and then every 4,096th
 /// lift of a worker. One worker alone needs no board, no gate, and no thread beside the caller's.
 ///
 /// # Errors
@@ -75,12 +75,19 @@ pub fn solve_by<
     }
     let vertices = game.vertices();
     observer.sees(Stage::Searching { vertices });
+    let fits = fits_words(game, team.board)?;
+    if let Some(settled) = settled_by_guess(alloc, game, guess) {
+        return Ok(settled);
+    }
     let watched = Watched::new(gate, observer, vertices);
-    solve_together(rt, alloc, game, team, &watched)
+    solve_together(rt, alloc, game, team, fits, &watched)
 }
 
-// Whether ranks fit a word. Where they don't, the packed board is refused.
-fn fits_words(game: &Game, board: BoardKind) -> Result<bool, TeamError>
+/// Whether ranks fit a word, so that the board can be packed.
+///
+/// # Errors
+/// T1 where they don't and the packed board is asked for, and only there.
+pub fn fits_words(game: &Game, board: BoardKind) -> Result<bool, TeamError>
     ensures fits { IfOk result (λ fits. IsTrue fits → height game.now < RANK_LIMIT) }
     ensures board { IfOk result (λ fits. IsTooGreat board game.now → ⊥) }
     ensures refused { IfErr result (IsRefusal board game.now) }
@@ -119,13 +126,14 @@ fn solve_together<G: Gate + Sync, R: Threads + Wait + Clone + Copy + Drop + Send
     alloc: Global,
     game: &Arc<Game, Global>,
     team: &Team,
+    fits: bool,
     gate: &G,
 ) -> Result<Settled, TeamError>
+    requires fits { IsTrue fits → height (arc_value game.now) < RANK_LIMIT }
     ensures game { IfOk result (λ s. s.game ≡ arc_value game.now) }
     ensures least { IfOk result (λ s. IsLeastTable (arc_value game.now) s.values) }
-    ensures refused { MatchResult result (λ s. IsTooGreat team.now.board (arc_value game.now) → ⊥) (IsRefusal team.now.board (arc_value game.now)) }
+    ensures refused { IfErr result IsMemory }
 {
-    let fits = fits_words(game, team.board)?;
     let workers = team.workers as usize;
     if team.board == BoardKind::Locked || !fits {
         solve_locked(rt, alloc, game, team.shards, workers, gate)
