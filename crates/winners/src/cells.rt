@@ -1,0 +1,195 @@
+// What is known of each vertex.
+
+use crate::numbers::Numbers;
+use game::player::Player;
+use std::alloc::{AllocError, Global};
+
+/// No vertex.
+pub(crate) const NONE: u32 = u32::MAX;
+
+/// To what a vertex belongs: a part that is not decided yet, or what a player was found to win.
+#[derive(Clone, Copy, PartialEq, Eq)]
+pub(crate) struct Region(u32);
+
+impl Region {
+    /// That of vertices that were not looked at yet.
+    pub(crate) const UNSEEN: Region = Region(0);
+
+    /// That of no vertex.
+    pub(crate) const NOWHERE: Region = Region(u32::MAX);
+}
+
+/// A region for each player.
+#[derive(Clone, Copy)]
+pub(crate) struct Regions {
+    pub(crate) even: Region,
+    pub(crate) odd: Region,
+}
+
+impl Regions {
+    /// One region for both.
+    pub(crate) fn same(region: Region) -> Self {
+        Regions {
+            even: region,
+            odd: region,
+        }
+    }
+
+    /// This region for a player, and none for the other.
+    pub(crate) fn only(player: Player, region: Region) -> Self {
+        match player {
+            Player::Even => Regions {
+                even: region,
+                odd: Region::NOWHERE,
+            },
+            Player::Odd => Regions {
+                even: Region::NOWHERE,
+                odd: region,
+            },
+        }
+    }
+
+    pub(crate) fn of(self, player: Player) -> Region {
+        match player {
+            Player::Even => self.even,
+            Player::Odd => self.odd,
+        }
+    }
+
+    pub(crate) fn has(self, region: Region) -> bool {
+        region == self.even || region == self.odd
+    }
+
+    /// Odd where the region is Odd's, and else Even.
+    pub(crate) fn player(self, region: Region) -> Player {
+        if region == self.odd {
+            Player::Odd
+        } else {
+            Player::Even
+        }
+    }
+}
+
+/// A time when successors began to be counted: counts of other times are void.
+#[derive(Clone, Copy, PartialEq, Eq)]
+pub(crate) struct Stamp(u32);
+
+// What stands at a vertex: together, since one look-up then fetches all.
+#[derive(Clone, Copy)]
+struct Cell {
+    region: Region,
+    next: u32,
+    // How many successors keep the vertex from the other player, if they were counted at the time of the stamp.
+    left: u32,
+    stamp: Stamp,
+}
+
+// What is known of a vertex that was not looked at.
+const BLANK: Cell = Cell {
+    region: Region::UNSEEN,
+    next: NONE,
+    left: 0,
+    stamp: Stamp(0),
+};
+
+/// What is known of each vertex.
+#[derive(Drop)]
+pub(crate) struct Cells {
+    cells: Vec<Cell>,
+    last: u32,
+}
+
+impl Cells {
+    pub(crate) fn new(alloc: Global, vertices: u32) -> Result<Self, AllocError> {
+        Ok(Cells {
+            cells: vec![in alloc; BLANK; vertices as usize]?,
+            last: 0,
+        })
+    }
+
+    fn fresh(&mut self) -> u32 {
+        self.last = self.last.wrapping_add(1);
+        self.last
+    }
+
+    /// A region that has no vertex yet.
+    pub(crate) fn fresh_region(&mut self) -> Region {
+        Region(self.fresh())
+    }
+
+    pub(crate) fn fresh_regions(&mut self) -> Regions {
+        Regions {
+            even: self.fresh_region(),
+            odd: self.fresh_region(),
+        }
+    }
+
+    /// A time at which nothing has been counted.
+    pub(crate) fn fresh_stamp(&mut self) -> Stamp {
+        Stamp(self.fresh())
+    }
+
+    fn get(&self, v: u32) -> Cell {
+        self.cells.get(v as usize).copied().unwrap_or(BLANK)
+    }
+
+    pub(crate) fn region(&self, v: u32) -> Region {
+        self.get(v).region
+    }
+
+    pub(crate) fn set_region(&mut self, v: u32, region: Region) {
+        if let Some(cell) = self.cells.get_mut(v as usize) {
+            cell.region = region;
+        }
+    }
+
+    /// The move at a vertex, or `NONE`.
+    pub(crate) fn next(&self, v: u32) -> u32 {
+        self.get(v).next
+    }
+
+    pub(crate) fn set_next(&mut self, v: u32, next: u32) {
+        if let Some(cell) = self.cells.get_mut(v as usize) {
+            cell.next = next;
+        }
+    }
+
+    /// How many successors are left, where they were counted at this time.
+    pub(crate) fn left(&self, v: u32, stamp: Stamp) -> Option<u32> {
+        let cell = self.get(v);
+        if cell.stamp == stamp {
+            Some(cell.left)
+        } else {
+            None
+        }
+    }
+
+    pub(crate) fn set_left(&mut self, v: u32, stamp: Stamp, left: u32) {
+        if let Some(cell) = self.cells.get_mut(v as usize) {
+            cell.left = left;
+            cell.stamp = stamp;
+        }
+    }
+
+    pub(crate) fn mark_all(&mut self, vertices: &[u32], region: Region) {
+        for v in vertices {
+            self.set_region(*v, region);
+        }
+    }
+
+    /// Those of these vertices that are in the region.
+    pub(crate) fn those_in(
+        &self,
+        alloc: Global,
+        vertices: &[u32],
+        region: Region,
+    ) -> Result<Numbers, AllocError> {
+        let mut found = Numbers::none(alloc);
+        for v in vertices {
+            if self.region(*v) == region {
+                found.push(*v)?;
+            }
+        }
+        Ok(found)
+    }
+}

@@ -1,0 +1,231 @@
+// What the player of a part's greatest priorities claims: what can be forced to them is its own as long as the rest is.
+
+use crate::arena::{opponent, winner_by};
+use crate::cells::{NONE, Region, Regions, Stamp};
+use crate::field::{Field, Spread};
+use crate::numbers::Numbers;
+use game::player::Player;
+use std::alloc::AllocError;
+
+/// The greatest priorities of a part, which are all of one player's parity.
+#[derive(Clone, Copy)]
+pub(crate) struct Tops {
+    pub(crate) player: Player,
+    least: u8,
+}
+
+impl Tops {
+    pub(crate) fn has(self, priority: u8) -> bool {
+        priority >= self.least
+    }
+}
+
+/// A player's claim on a part.
+#[derive(Clone, Copy)]
+pub(crate) struct Claim {
+    pub(crate) tops: Tops,
+    /// What the player can force to the greatest priorities.
+    pub(crate) near: Region,
+    /// What each wins of the rest.
+    pub(crate) inner: Regions,
+    since: Stamp,
+}
+
+impl Claim {
+    pub(crate) fn player(self) -> Player {
+        self.tops.player
+    }
+
+    /// What the player wins of the rest.
+    pub(crate) fn calm(self) -> Region {
+        self.inner.of(self.tops.player)
+    }
+
+    // Whether a region is the player's.
+    fn holds(self, region: Region) -> bool {
+        region == self.near || region == self.calm()
+    }
+}
+
+/// A part that is being decided.
+#[derive(Drop)]
+pub(crate) struct Core {
+    part: Numbers,
+    tops: Numbers,
+    /// What has still to be decided of it as a game of its own.
+    pub(crate) rest: Numbers,
+    pub(crate) claim: Claim,
+    gone: usize,
+    pub(crate) won: Regions,
+}
+
+impl Core {
+    /// Whether half of the part has gone to the other player.
+    pub(crate) fn is_halved(&self) -> bool {
+        self.part.len().saturating_sub(self.gone) <= self.gone
+    }
+}
+
+impl Field<'_> {
+    fn tops_of(&self, part: &[u32]) -> Tops {
+        let (mut even, mut odd) = (0_u8, 0_u8);
+        for v in part {
+            let priority = self.arena.priority(*v);
+            let above = priority.saturating_add(1);
+            match winner_by(priority) {
+                Player::Even => even = above.max(even),
+                Player::Odd => odd = above.max(odd),
+            }
+        }
+        if odd > even {
+            Tops {
+                player: Player::Odd,
+                least: even,
+            }
+        } else {
+            Tops {
+                player: Player::Even,
+                least: odd,
+            }
+        }
+    }
+
+    /// Draws what the player of the greatest priorities can force to them. The rest has to be decided.
+    pub(crate) fn begin(
+        &mut self,
+        part: Numbers,
+        region: Region,
+        won: Regions,
+    ) -> Result<Core, AllocError> {
+        self.meter.count_all(part.len());
+        let tops = self.tops_of(part.as_slice());
+        let near = self.cells.fresh_region();
+        let top = self.mark_tops(part.as_slice(), tops, near)?;
+        let rest = self.draw_to(&part, &top, tops.player, near, region)?;
+        let claim = Claim {
+            tops,
+            near,
+            inner: self.cells.fresh_regions(),
+            since: self.cells.fresh_stamp(),
+        };
+        Ok(Core {
+            part,
+            tops: top,
+            rest,
+            claim,
+            gone: 0,
+            won,
+        })
+    }
+
+    // The vertices of the greatest priorities. They are marked, and have no move as yet.
+    fn mark_tops(&mut self, part: &[u32], tops: Tops, near: Region) -> Result<Numbers, AllocError> {
+        let mut found = Numbers::none(self.alloc);
+        for v in part {
+            if tops.has(self.arena.priority(*v)) {
+                self.cells.set_region(*v, near);
+                self.cells.set_next(*v, NONE);
+                found.push(*v)?;
+            }
+        }
+        Ok(found)
+    }
+
+    // Marks what can be forced to these. The answer is the rest of the part.
+    fn draw_to(
+        &mut self,
+        part: &Numbers,
+        tops: &Numbers,
+        player: Player,
+        near: Region,
+        region: Region,
+    ) -> Result<Numbers, AllocError> {
+        let mut queue = Numbers::copied(self.alloc, tops.as_slice())?;
+        let spread = Spread {
+            over: Regions::same(region),
+            marks: Regions::only(player, near),
+            since: self.cells.fresh_stamp(),
+        };
+        self.spread(&mut queue, spread)?;
+        self.draw_all(queue.as_slice());
+        if queue.len() < part.len() {
+            self.those_in(part.as_slice(), region)
+        } else {
+            Ok(Numbers::none(self.alloc))
+        }
+    }
+
+    /// What the other player wins of the rest.
+    pub(crate) fn lost(&self, core: &Core) -> Result<Numbers, AllocError> {
+        let claim = core.claim;
+        let theirs = claim.inner.of(opponent(claim.player()));
+        self.those_in(core.rest.as_slice(), theirs)
+    }
+
+    /// Gives to the other player what it wins, with all that it can force there, which is added.
+    pub(crate) fn take_lost(
+        &mut self,
+        core: &mut Core,
+        lost: &mut Numbers,
+    ) -> Result<(), AllocError> {
+        let claim = core.claim;
+        let other = opponent(claim.player());
+        let theirs = self.cells.fresh_region();
+        self.cells.mark_all(lost.as_slice(), theirs);
+        let over = Regions {
+            even: claim.near,
+            odd: claim.calm(),
+        };
+        let spread = Spread {
+            over,
+            marks: Regions::only(other, theirs),
+            since: claim.since,
+        };
+        self.spread(lost, spread)?;
+        self.cells.mark_all(lost.as_slice(), core.won.of(other));
+        core.gone = core.gone.saturating_add(lost.len());
+        Ok(())
+    }
+
+    /// What is left of the part.
+    pub(crate) fn left(&self, core: &Core) -> Result<Numbers, AllocError> {
+        let mut found = Numbers::none(self.alloc);
+        for v in core.part.as_slice() {
+            if core.claim.holds(self.cells.region(*v)) {
+                found.push(*v)?;
+            }
+        }
+        Ok(found)
+    }
+
+    /// Gives the player what it claims.
+    pub(crate) fn grant(&mut self, core: &Core) {
+        self.choose_at_tops(core);
+        let won = core.won.of(core.claim.player());
+        for v in core.part.as_slice() {
+            if core.claim.holds(self.cells.region(*v)) {
+                self.cells.set_region(*v, won);
+            }
+        }
+    }
+
+    // From the greatest priorities the player may go on anywhere within what it has.
+    fn choose_at_tops(&mut self, core: &Core) {
+        let claim = core.claim;
+        for v in core.tops.as_slice() {
+            if self.arena.owner(*v) == claim.player() && self.cells.region(*v) == claim.near {
+                let next = self.held_next(*v, claim);
+                self.cells.set_next(*v, next);
+            }
+        }
+    }
+
+    fn held_next(&self, v: u32, claim: Claim) -> u32 {
+        for t in self.arena.successors(v) {
+            if claim.holds(self.cells.region(*t)) {
+                return *t;
+            }
+        }
+        NONE
+    }
+}

@@ -1,0 +1,19 @@
+// Who wins each vertex of a parity game, as it is guessed. Nothing rests on it but time: what is guessed has to be tested.
+#![tactic(auto)]
+
+mod arena;
+mod cells;
+mod claim;
+mod field;
+pub mod guess;
+mod justify;
+mod meter;
+mod numbers;
+mod order;
+mod parts;
+mod ranks;
+mod recursion;
+mod repair;
+mod settle;
+mod strong;
+mod winning;

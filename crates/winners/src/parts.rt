@@ -1,0 +1,73 @@
+// Components that wait to be decided.
+
+use crate::cells::Regions;
+use crate::numbers::{Numbers, Span};
+use std::alloc::{AllocError, Global};
+use std::mem;
+
+/// Components of a game, each after those to which it leads.
+#[derive(Drop)]
+pub(crate) struct Parts {
+    alloc: Global,
+    list: Numbers,
+    ends: Numbers,
+    next: usize,
+    /// Where what each player wins of them belongs.
+    pub(crate) won: Regions,
+}
+
+impl Parts {
+    pub(crate) fn new(alloc: Global, list: Numbers, ends: Numbers, won: Regions) -> Self {
+        Parts {
+            alloc,
+            list,
+            ends,
+            next: 0,
+            won,
+        }
+    }
+
+    /// A part as if it were one component.
+    pub(crate) fn one(alloc: Global, part: Numbers, won: Regions) -> Result<Self, AllocError> {
+        let end = u32::try_from(part.len()).unwrap_or(u32::MAX);
+        let ends = Numbers::copied(alloc, &[end])?;
+        Ok(Parts::new(alloc, part, ends, won))
+    }
+
+    /// How many components there are.
+    pub(crate) fn len(&self) -> usize {
+        self.ends.len()
+    }
+
+    /// All vertices.
+    pub(crate) fn into_list(self) -> Numbers {
+        self.list
+    }
+
+    /// Goes on to the next component, and tells where it stands.
+    pub(crate) fn advance(&mut self) -> Option<Span> {
+        if self.next >= self.ends.len() {
+            return None;
+        }
+        let from = match self.next.checked_sub(1) {
+            Some(previous) => self.ends.get(previous) as usize,
+            None => 0,
+        };
+        let to = self.ends.get(self.next) as usize;
+        self.next = self.next.saturating_add(1);
+        Some(Span { from, to })
+    }
+
+    pub(crate) fn slice(&self, span: Span) -> &[u32] {
+        self.list.slice(span)
+    }
+
+    /// The vertices of a component. If it is the only one they are taken away.
+    pub(crate) fn take(&mut self, span: Span) -> Result<Numbers, AllocError> {
+        if span.len() == self.list.len() {
+            Ok(mem::replace(&mut self.list, Numbers::none(self.alloc)))
+        } else {
+            Numbers::copied(self.alloc, self.list.slice(span))
+        }
+    }
+}

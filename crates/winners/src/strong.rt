@@ -1,0 +1,177 @@
+// Strong components (Tarjan 1972), with one number a vertex (as Pearce 2016), without recursion.
+
+use crate::numbers::{Numbers, Span};
+use std::alloc::{AllocError, Global};
+
+// The number of a vertex that is not in the part, or whose component is known. Between two sorts all have it, so what is not in
+// the part takes no other look-up.
+const CLOSED: u32 = u32::MAX;
+
+// The number of a vertex of the part that has not been met.
+const UNMET: u32 = 0;
+
+/// The edges of a graph.
+pub(crate) trait Edges {
+    fn after(&self, v: u32) -> &[u32];
+}
+
+// A vertex on the walk's path: the number that it was met with, and how many successors have been seen.
+#[derive(Clone, Copy)]
+struct Call {
+    v: u32,
+    number: u32,
+    seen: usize,
+}
+
+/// The memory to find strong components.
+#[derive(Drop)]
+pub(crate) struct Strong {
+    // The least number of a vertex without a component that is known to be reached.
+    low: Numbers,
+    path: Vec<Call>,
+    // What was left without a component.
+    waiting: Numbers,
+    found: Numbers,
+    last: u32,
+}
+
+impl Strong {
+    pub(crate) fn new(alloc: Global, vertices: u32) -> Result<Self, AllocError> {
+        Ok(Strong {
+            low: Numbers::filled(alloc, vertices as usize, CLOSED)?,
+            path: Vec::new(alloc),
+            waiting: Numbers::none(alloc),
+            found: Numbers::none(alloc),
+            last: 0,
+        })
+    }
+
+    /// Sorts the vertices between two places of a list by components, each after those to which it leads. The answer is where they
+    /// end, counted from the first place on.
+    pub(crate) fn sort<E: Edges>(
+        &mut self,
+        alloc: Global,
+        edges: &E,
+        list: &mut Numbers,
+        span: Span,
+    ) -> Result<Numbers, AllocError> {
+        let mut ends = Numbers::none(alloc);
+        self.open(list.slice(span));
+        for root in list.slice(span) {
+            self.walk(edges, *root, &mut ends)?;
+        }
+        list.write(span.from, self.found.as_slice());
+        Ok(ends)
+    }
+
+    fn open(&mut self, part: &[u32]) {
+        for v in part {
+            self.low.set(*v as usize, UNMET);
+        }
+        self.last = UNMET;
+        self.found.clear();
+    }
+
+    // Walks from a vertex, unless it has been met.
+    fn walk<E: Edges>(
+        &mut self,
+        edges: &E,
+        root: u32,
+        ends: &mut Numbers,
+    ) -> Result<(), AllocError> {
+        if self.low.get(root as usize) != UNMET {
+            return Ok(());
+        }
+        self.enter(root)?;
+        for _ in 0..u64::MAX {
+            match self.path.pop() {
+                Some(call) => self.go_on(edges, call, ends)?,
+                None => break,
+            }
+        }
+        Ok(())
+    }
+
+    fn enter(&mut self, v: u32) -> Result<(), AllocError> {
+        self.last = self.last.saturating_add(1);
+        self.low.set(v as usize, self.last);
+        self.path.push(Call {
+            v,
+            number: self.last,
+            seen: 0,
+        })?;
+        Ok(())
+    }
+
+    // Goes on to the next successor that has not been met, or leaves the vertex.
+    fn go_on<E: Edges>(
+        &mut self,
+        edges: &E,
+        call: Call,
+        ends: &mut Numbers,
+    ) -> Result<(), AllocError> {
+        match self.look(edges.after(call.v), call) {
+            Some((place, next)) => {
+                let seen = place.saturating_add(1);
+                self.path.push(Call { seen, ..call })?;
+                self.enter(next)
+            }
+            None => self.leave(call, ends),
+        }
+    }
+
+    // The first successor that has not been met, after those that have been seen, and its place.
+    fn look(&mut self, successors: &[u32], call: Call) -> Option<(usize, u32)> {
+        let mut low = self.low.get(call.v as usize);
+        let mut unmet = None;
+        for place in call.seen..successors.len() {
+            let next = successors[place];
+            let number = self.low.get(next as usize);
+            if number == UNMET {
+                unmet = Some((place, next));
+                break;
+            }
+            low = low.min(number);
+        }
+        self.low.set(call.v as usize, low);
+        unmet
+    }
+
+    fn leave(&mut self, call: Call, ends: &mut Numbers) -> Result<(), AllocError> {
+        let low = self.low.get(call.v as usize);
+        if low < call.number {
+            self.lower_parent(low);
+            self.waiting.push(call.v)
+        } else {
+            self.close(call, ends)
+        }
+    }
+
+    fn lower_parent(&mut self, low: u32) {
+        if let Some(parent) = self.path.last() {
+            let place = parent.v as usize;
+            self.low.set(place, low.min(self.low.get(place)));
+        }
+    }
+
+    // All that wait since this vertex was met are its component.
+    fn close(&mut self, call: Call, ends: &mut Numbers) -> Result<(), AllocError> {
+        self.put(call.v)?;
+        for _ in 0..u32::MAX {
+            match self.waiting.pop() {
+                Some(v) if self.low.get(v as usize) >= call.number => self.put(v)?,
+                Some(v) => {
+                    self.waiting.push(v)?;
+                    break;
+                }
+                None => break,
+            }
+        }
+        ends.push(u32::try_from(self.found.len()).unwrap_or(u32::MAX))
+    }
+
+    fn put(&mut self, v: u32) -> Result<(), AllocError> {
+        self.low.set(v as usize, CLOSED);
+        self.found.push(v)
+    }
+}
