@@ -23,3 +23,4 @@ pub mod Judged
 pub mod Gathered
 pub mod Alone
 pub mod Whole
+pub mod Drafted

@@ -8,7 +8,7 @@ use Rattle.evidence.specs.View.{Piece}
 -- evidence for its game, with room for the counts that the player's ranks have
 pub record IsDraft (piece : Piece) (width : ℕ) : Type 0 where
   pub evidence : IsEvidence piece.game piece.evidence
-  pub width : width ≡ length (counted piece.evidence.player piece.game)
+  pub room : width ≡ length (counted piece.evidence.player piece.game)
 
 -- that a player wins nothing
 abbrev pub empty : Game → Player → Piece

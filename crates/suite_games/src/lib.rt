@@ -16,6 +16,8 @@ mod games;
 #[cfg(test)]
 mod good_evidence;
 #[cfg(test)]
+mod guessed_winners;
+#[cfg(test)]
 mod guesses;
 #[cfg(test)]
 mod known_games;

@@ -205,10 +205,10 @@ impl<'g> Justification<'g> {
     fn next_of(&mut self, v: u32, player: Player) -> Option<u32> {
         self.meter.count_all(1);
         for t in self.arena.successors(v) {
-            self.meter.count_all(1);
             if self.player(*t) == player {
                 return Some(*t);
             }
+            self.meter.count_all(1);
         }
         None
     }

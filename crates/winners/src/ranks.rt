@@ -1,4 +1,11 @@
-// Ranks, by an order of the vertices.
+// Ranks, by an order of the vertices: of a priority that is counted the count at a vertex is how many vertices have it up to
+// this one, and zero where the vertex's own priority is greater.
+//
+// Why they fall: let an edge lead from v to t, and q be a priority that is counted and not less than v's. Take the least segment of
+// the order with both. If it was refined by less than q, or by nothing, no vertex of priority q is in it, so the counts of q are the
+// same, or that of t is zero. Else v was sorted. If t has a greater priority than what was sorted, its count is zero, and that of v
+// is not if v has priority q. Else t stands in a component before that of v: its count is no greater, and less if v has priority q.
+// In one component they would be v itself, with a loop, and then v doesn't have a priority that is counted.
 
 use crate::arena::{priority, winner_by};
 use crate::numbers::{Numbers, Span};

@@ -1,0 +1,343 @@
+// Guesses of who wins: their moves and ranks are tested at each vertex, by the definition of evidence. Where they are good, each
+// player wins what the guess gives it.
+
+ghost use Rattle.std.specs.Prelude.{◌<◌, ◌≤◌, length};
+
+use game::graph::{Game, GameBuilder};
+use game::player::Player;
+use samples::dice::{Dice, roll_game};
+use samples::games::push;
+use std::alloc::Global;
+use std::process::Abort;
+use winners::guess::{Guessed, guess_winners};
+
+// One more than the greatest priority of a game.
+const PRIORITIES: u8 = 33;
+
+// A rank has no more counts.
+const COUNTS: usize = 17;
+
+// A guess that is tested.
+#[derive(Clone, Copy)]
+struct Tested<'g> {
+    game: &'g Game,
+    guessed: &'g Guessed,
+    greatest: u8,
+}
+
+fn greatest(game: &Game) -> u8 {
+    let mut greatest = 0;
+    for priority in 0..PRIORITIES {
+        if game.count(u32::from(priority)) > 0 {
+            greatest = priority;
+        }
+    }
+    greatest
+}
+
+fn is_of(player: Player, priority: u8) -> bool {
+    match player {
+        Player::Even => priority % 2 == 0,
+        Player::Odd => priority % 2 == 1,
+    }
+}
+
+impl Tested<'_> {
+    // How many priorities from this one up to the greatest are not of the player's parity: so many counts are looked at.
+    fn kept(&self, player: Player, priority: u8) -> usize {
+        let mut count = 0_usize;
+        for q in priority..PRIORITIES {
+            if q <= self.greatest && !is_of(player, q) {
+                count = count.saturating_add(1);
+            }
+        }
+        count
+    }
+
+    // Whether the rank of a vertex descends to that of a successor, which the same player wins.
+    fn descends(&self, v: u32, t: u32) -> bool
+        requires { v < length self.now.game.now.vertices }
+    {
+        let player = self.guessed.winner(v);
+        let priority = self.game.priority(v);
+        let kept = self.kept(player, priority);
+        let (mut rank, mut next) = ([0_u32; COUNTS], [0_u32; COUNTS]);
+        self.guessed.put_rank(v, &mut rank);
+        self.guessed.put_rank(t, &mut next);
+        if self.guessed.winner(t) != player || kept > COUNTS {
+            return false;
+        }
+        let order = next[..kept].cmp(&rank[..kept]);
+        if is_of(player, priority) {
+            order.is_le()
+        } else {
+            order.is_lt()
+        }
+    }
+
+    fn all_descend(&self, v: u32, targets: &[u32]) -> bool
+        requires { v < length self.now.game.now.vertices }
+    {
+        for t in targets {
+            if !self.descends(v, *t) {
+                return false;
+            }
+        }
+        true
+    }
+
+    // Whether the play descends from a vertex, by the winner's move at its own vertices, and else wherever it goes on.
+    fn is_good_at(&self, v: u32) -> bool
+        requires { v < length self.now.game.now.vertices }
+    {
+        let successors = self.game.successors(v);
+        let owns = self.game.owner(v) == self.guessed.winner(v);
+        match self.guessed.next(v) {
+            Some(next) => owns && successors.contains(&next) && self.descends(v, next),
+            None => !owns && self.all_descend(v, successors),
+        }
+    }
+}
+
+// How many vertices Even wins by a guess. `None` where the guess isn't good.
+fn evens(rt: &(impl Abort + AllocGlobal), game: &Game) -> Option<u32> {
+    let guessed = guess_winners(rt.alloc(), game)
+        .expect(rt, "memory")
+        .expect(rt, "a guess");
+    let tested = Tested {
+        game,
+        guessed: &guessed,
+        greatest: greatest(game),
+    };
+    let mut count = 0_u32;
+    for v in 0..game.vertices() {
+        if !tested.is_good_at(v) {
+            return None;
+        }
+        if guessed.winner(v) == Player::Even {
+            count = count.saturating_add(1);
+        }
+    }
+    Some(count)
+}
+
+#[test]
+fn games_at_random_are_guessed(rt: HostRuntime) {
+    let mut dice = Dice::new(7);
+    for number in 0..2_000 {
+        let vertices = 1 + dice.roll(40);
+        let priorities = 2 + dice.roll(11);
+        let game = roll_game(&rt, &mut dice, vertices, priorities)
+            .expect(&rt, "memory")
+            .expect(&rt, "a game");
+        assert!(rt; evens(&rt, &game).is_some(), "{number}");
+    }
+}
+
+// A game that is made row by row, with successors in any order and more than once.
+#[derive(Drop)]
+struct Rows {
+    alloc: Global,
+    builder: GameBuilder,
+}
+
+impl Rows {
+    fn new(alloc: Global) -> Self {
+        Rows {
+            alloc,
+            builder: GameBuilder::new(alloc),
+        }
+    }
+
+    fn add(&mut self, rt: &impl Abort, owner: Player, priority: u8, successors: &[u32]) {
+        let mut row = Vec::from_slice(self.alloc, successors).expect(rt, "memory");
+        row.sort_unstable();
+        row.dedup();
+        push(&mut self.builder, owner, priority, row.as_slice()).expect(rt, "memory");
+    }
+
+    fn finish(self, rt: &impl Abort) -> Game {
+        self.builder.finish().expect(rt, "a game")
+    }
+}
+
+// Even has the even vertices, and Odd the odd ones.
+fn owner_of(v: u32) -> Player {
+    if v % 2 == 0 {
+        Player::Even
+    } else {
+        Player::Odd
+    }
+}
+
+// A ring of rungs: a vertex of Even with priority 0, and one of Odd with priority 1. From each the play goes on to one of the
+// two after it. So each player can stay at the own vertices.
+#[test]
+fn on_a_ladder_each_wins_the_own_vertices(rt: HostRuntime) {
+    let mut rows = Rows::new(rt.alloc());
+    for v in 0..100_000_u32 {
+        let next = [(v + 1) % 100_000, (v + 2) % 100_000];
+        rows.add(&rt, owner_of(v), (v % 2) as u8, &next);
+    }
+    let game = rows.finish(&rt);
+    assert_eq!(rt; evens(&rt, &game), Some(50_000));
+}
+
+// Each vertex has its number as priority, and leads to all others. Each player goes between two of the own.
+#[test]
+fn in_a_clique_each_wins_the_own_vertices(rt: HostRuntime) {
+    let mut rows = Rows::new(rt.alloc());
+    let mut others = Vec::new(rt.alloc());
+    for v in 0..32_u8 {
+        others.clear();
+        for t in 0..32_u8 {
+            if t != v {
+                others.push(u32::from(t)).expect(&rt, "memory");
+            }
+        }
+        rows.add(&rt, owner_of(u32::from(v)), v, others.as_slice());
+    }
+    let game = rows.finish(&rt);
+    assert_eq!(rt; evens(&rt, &game), Some(16));
+}
+
+// A way of rows and a round. The way ends at a vertex that leads to itself. Before it come so many vertices of the greatest odd
+// priority, before those as many of the next, and so on. From the round Even has to go to the way at some time, so the
+// winner at the way's end wins everywhere.
+fn climb(rt: &(impl Abort + AllocGlobal), levels: u8, width: u32, winner: Player) -> Game
+    requires { levels < 16 }
+{
+    let end = match winner {
+        Player::Even => 2 * levels,
+        Player::Odd => 2 * levels + 1,
+    };
+    let mut rows = Rows::new(rt.alloc());
+    rows.add(rt, Player::Odd, end, &[0]);
+    let mut last = 0_u32;
+    for level in (0..levels).rev() {
+        for _ in 0..width {
+            rows.add(rt, owner_of(last), 2 * level + 1, &[last]);
+            last = last.wrapping_add(1);
+        }
+    }
+    let round = last.wrapping_add(1);
+    rows.add(rt, Player::Even, 0, &[last, round.wrapping_add(1)]);
+    rows.add(rt, Player::Odd, 1, &[round]);
+    rows.finish(rt)
+}
+
+#[test]
+fn who_wins_at_the_end_of_a_way_wins_the_climb(rt: HostRuntime) {
+    for (levels, width) in [(1, 5), (4, 100), (15, 2_000)] {
+        let game = climb(&rt, levels, width, Player::Even);
+        assert_eq!(rt; evens(&rt, &game), Some(game.vertices()));
+        let game = climb(&rt, levels, width, Player::Odd);
+        assert_eq!(rt; evens(&rt, &game), Some(0));
+    }
+}
+
+// How many vertices a stair has on its way, and how many there are with the three after it.
+const WAY: u32 = 10;
+
+const STAIR: u32 = WAY + 3;
+
+const STAIRS: u32 = 3_000;
+
+// One stair: a way, a vertex of Odd where it ends, and two of Even, from which the play goes to the next stair or back.
+fn add_stair(rt: &impl Abort, rows: &mut Rows, stair: u32)
+    requires { stair < 3000 }
+{
+    let first = STAIR * stair;
+    let end = first + WAY;
+    for place in 0..WAY {
+        rows.add(rt, owner_of(place), 1, &[first + place + 1, end]);
+    }
+    rows.add(rt, Player::Odd, 2, &[first, end, end + 1]);
+    rows.add(rt, Player::Even, 3, &[end + 2]);
+    if stair == 0 {
+        rows.add(rt, Player::Even, 0, &[end + 2]);
+    } else {
+        let back = first.saturating_sub(STAIR);
+        let on = (first + STAIR).min(STAIR * (STAIRS - 1));
+        rows.add(rt, Player::Even, 0, &[back, on]);
+    }
+}
+
+// Even stays at the last vertex of the first stair.
+#[test]
+fn stairs_fall_one_by_one(rt: HostRuntime) {
+    let mut rows = Rows::new(rt.alloc());
+    for stair in 0..STAIRS {
+        add_stair(&rt, &mut rows, stair);
+    }
+    let game = rows.finish(&rt);
+    assert!(rt; evens(&rt, &game).is_some());
+}
+
+// A hub leads to each of so many vertices of priority 1. These lead to each other in turn, through vertices where the play may
+// stay, and back to the hub. All are Odd's, who can't come through a priority of 1 again and again.
+#[test]
+fn a_hub_of_many_ways_is_evens(rt: HostRuntime) {
+    let mut rows = Rows::new(rt.alloc());
+    let mut ways = Vec::new(rt.alloc());
+    for way in 0..20_000_u32 {
+        ways.push(way).expect(&rt, "memory");
+        rows.add(&rt, Player::Odd, 1, &[20_000 + way]);
+    }
+    for way in 0..20_000_u32 {
+        let before = if way > 0 { way - 1 } else { 20_000 };
+        rows.add(&rt, Player::Odd, 0, &[20_000 + way, before]);
+    }
+    rows.add(&rt, Player::Odd, 0, ways.as_slice());
+    for way in 40_000..60_000_u32 {
+        rows.add(&rt, Player::Odd, 0, &[way, way + 1]);
+    }
+    let game = rows.finish(&rt);
+    assert_eq!(rt; evens(&rt, &game), Some(60_001));
+}
+
+const LEVELS: u8 = 29;
+
+// The number of a vertex on a level of a recursive ladder.
+fn on_level(level: u8, vertex: u32) -> u32
+    requires { vertex < 5 }
+{
+    5 * u32::from(level) + vertex
+}
+
+// A vertex of a recursive ladder, with those of its successors whose levels there are.
+fn add_rung(rt: &impl Abort, rows: &mut Rows, owner: Player, priority: u8, to: &[(u8, u32)]) {
+    let mut successors = Vec::new(rows.alloc);
+    for (level, vertex) in to {
+        if *level < LEVELS && *vertex < 5 {
+            successors
+                .push(on_level(*level, *vertex))
+                .expect(rt, "memory");
+        }
+    }
+    rows.add(rt, owner, priority, successors.as_slice());
+}
+
+// A level: five vertices, whose owners and priorities change with it, and which lead to the levels beside it.
+fn add_level(rt: &impl Abort, rows: &mut Rows, level: u8)
+    requires { level < 29 }
+{
+    let (owner, other) = (owner_of(u32::from(level)), owner_of(u32::from(level) + 1));
+    let (own, next) = (level % 2, (level + 1) % 2);
+    let (above, below) = (level + 1, level.wrapping_sub(1));
+    add_rung(rt, rows, owner, level + 2, &[(level, 1), (level, 3)]);
+    add_rung(rt, rows, other, own, &[(level, 0), (level, 2), (above, 1)]);
+    add_rung(rt, rows, owner, next, &[(level, 1), (above, 0)]);
+    add_rung(rt, rows, owner, next, &[(below, 1), (level, 4), (above, 3)]);
+    add_rung(rt, rows, other, own, &[(below, 0), (level, 2), (level, 3)]);
+}
+
+#[test]
+fn a_recursive_ladder_is_guessed(rt: HostRuntime) {
+    let mut rows = Rows::new(rt.alloc());
+    for level in 0..LEVELS {
+        add_level(&rt, &mut rows, level);
+    }
+    let game = rows.finish(&rt);
+    assert!(rt; evens(&rt, &game).is_some());
+}
