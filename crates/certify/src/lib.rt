@@ -1,4 +1,4 @@
 // Winners of a parity game that were guessed, and are answered only where evidence of both players was made of them and found good.
 #![tactic(auto)]
 
-pub mod winners;
+pub mod decide;

@@ -6,7 +6,7 @@ ghost use Rattle.calculus.specs.Meaning.{Marks};
 ghost use Rattle.game.specs.Wins.{Wins};
 ghost use Rattle.commands.specs.Winners.{AreWinners, even_or_odd, sizes_text, winner_lines, winners_text as text_of};
 
-use certify::winners::certified_winners;
+use certify::decide::certified_winners;
 use game::graph::Game;
 use laws::games::{not_both_win, one_wins};
 use lts::{Piece, WriteFault, put_pieces};

@@ -10,7 +10,7 @@ use crate::engine::report;
 use crate::findings::{Posed, read_and_build};
 use crate::guessing::guess_of;
 use crate::lifting::{Winners, state_marks};
-use certify::winners::certified_winners;
+use certify::decide::certified_winners;
 use measures::guess::settled_by_guess;
 use measures::observer::{Observer, Stage};
 use requests::error::MuError;

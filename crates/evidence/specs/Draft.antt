@@ -1,5 +1,5 @@
 -- Evidence that is being made.
-use Rattle.std.specs.Prelude.{◌≡◌, ℕ, Option, Some, None, length, replicate, slice_set}
+use Rattle.std.specs.Prelude.{◌≡◌, ℕ, Some, None, length, replicate, slice_set}
 use Rattle.game.specs.Game.{Game}
 use Rattle.game.specs.declared.player.Player.{Player}
 use Rattle.evidence.specs.Evidence.{Entry, IsEvidence, counted}

@@ -4,7 +4,7 @@
 ghost use Rattle.std.specs.Prelude.{◌≡◌, ◌<◌, ◌≤◌, length};
 
 use crate::random_games::{is_same, lifted_alone};
-use certify::winners::certified_winners;
+use certify::decide::certified_winners;
 use game::graph::{Game, GameBuilder};
 use game::player::Player;
 use measures::settle::{even_wins, solve_one};

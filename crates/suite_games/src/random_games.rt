@@ -3,7 +3,7 @@
 
 ghost use Rattle.std.specs.Prelude.{◌≡◌, ◌<◌, ◌≤◌, IfOk};
 
-use certify::winners::certified_winners;
+use certify::decide::certified_winners;
 use game::graph::Game;
 use lts::error::Memory;
 use measures::settle::{first_table, settle, solve_one};

@@ -13,8 +13,7 @@ invariant_of-self c =
     let vertex = subst (λ (p : Piece). c.args.v < length p.game.vertices) view c.requires.vertex in
     let next = subst (λ (p : Piece). IfSome c.args.next (λ t. t < length p.game.vertices)) view c.requires.next in
     let rank = subst (λ (p : Piece). length c.args.rank.now ≡ length (counted p.evidence.player p.game)) view c.requires.rank in
-    let is = put_is inside.of.value inside.player inside.entries.entries c.args.v c.args.next c.args.rank.now was.0.evidence vertex next rank in
-    (
+    let is = put_is inside.of.value inside.player inside.entries.entries c.args.v c.args.next c.args.rank.now was.0.evidence vertex next rank in (
       record {
         evidence = subst (λ (e : Entries). IsEvidence inside.of.value (record { player = inside.player; entries = e.entries })) (sym c.set.ensures) is;
         room = was.0.room;

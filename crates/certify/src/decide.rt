@@ -63,6 +63,22 @@ fn marks_of(alloc: Global, game: &Game, even: &Evidence) -> Result<Vec<bool>, Al
     Ok(marks)
 }
 
+// The marks of the vertices that Even's evidence has, where the checker accepts it beside Odd's, and no vertex is left out.
+fn checked_marks(alloc: Global, game: &Game, even: &Evidence, odd: &Evidence) -> Option<Vec<bool>>
+    requires same { even.now.game ≡ game.now }
+    requires other { odd.now.game ≡ game.now }
+    requires player { even.now.evidence.player ≡ Player.Even }
+    ensures { IfSome result (λ marks. Marks (length game.now.vertices) marks.items (Wins game.now)) }
+{
+    match check_both(game, even, odd) {
+        Both::Yes => match marks_of(alloc, game, even) {
+            Ok(marks) => Some(marks),
+            Err(AllocError) => None,
+        },
+        _ => None,
+    }
+}
+
 /// A mark for each vertex, true where Even wins it, by a guess of winners, moves and ranks. There is none where the checker
 /// refuses the evidence that is made of the guess, where the guess took too long, or for want of memory.
 pub fn certified_winners(alloc: Global, game: &Game) -> Option<Vec<bool>>
@@ -71,8 +87,5 @@ pub fn certified_winners(alloc: Global, game: &Game) -> Option<Vec<bool>>
     let guessed = guess_winners(alloc, game).ok()??;
     let even = evidence_of(alloc, game, &guessed, Player::Even).ok()?;
     let odd = evidence_of(alloc, game, &guessed, Player::Odd).ok()?;
-    match check_both(game, &even, &odd) {
-        Both::Yes => marks_of(alloc, game, &even).ok(),
-        _ => None,
-    }
+    checked_marks(alloc, game, &even, &odd)
 }
