@@ -8,12 +8,12 @@ ghost use Rattle.engines.specs.Findings.{AreFindings, formula_of, system_of, way
 ghost use Rattle.requests.specs.Writers.{all_writers, evidence_writers, game_writer, no_writer, report_writer};
 
 use crate::findings::{Findings, find_alone, find_seen, find_with};
+use crate::marks::plain_marks;
 use crate::no_writer::NoWriter;
 use crate::outputs::{answer, put_wanted};
 use crate::prepared::prepare;
 use crate::report::report_text;
-use lts::{Memory, put};
-use meaning::plain::plain_states;
+use lts::put;
 use measures::observer::{Observer, Silent, Stage};
 use requests::error::MuError;
 use requests::request::{Check, Options, Wanted};
@@ -136,22 +136,11 @@ pub fn check_plain_seen<R: Read + Drop, S: Read + Drop, W: Write, U: Watcher>(
             watcher.sees(Stage::Evaluating {
                 states: texts.system.states(),
             });
-            let marks = plain_marks(alloc, &texts);
+            let marks = plain_marks(alloc, &texts.system, &texts.formula);
             watcher.sees(Stage::Writing);
             report(alloc, &texts, marks, out)
         }
         Err(error) => Err(error),
-    }
-}
-
-/// A mark for each state, true where it satisfies the formula, by sets of states.
-fn plain_marks(alloc: Global, texts: &Texts) -> Result<Vec<bool>, MuError>
-    ensures { let l = texts.now.system.system in let f = closed_formula texts.now.formula in
-        MatchResult result (λ marks. AreMarks BySets l f marks.items) (IsBeyond BySets l f) }
-{
-    match plain_states(alloc, &texts.system, &texts.formula) {
-        Ok(marks) => Ok(marks),
-        Err(Memory) => Err(MuError::Memory),
     }
 }
 

@@ -11,6 +11,7 @@ ghost use Rattle.requests.specs.Writers.{AreKept, Lent};
 
 use crate::guessing::guess_of;
 use crate::lifting::{SolvedGame, state_marks};
+use crate::marks::solve_guessed;
 use crate::report::report_text;
 use evidence::error::EvidenceError;
 use evidence::evidence::Evidence;
@@ -23,7 +24,6 @@ use normal::priorities::Priorities;
 use requests::arena::game_of;
 use requests::error::MuError;
 use requests::request::Options;
-use requests::solver::solve_seen;
 use requests::texts::{Texts, read_both_seen};
 use requests::watch::Watcher;
 use std::alloc::Global;
@@ -220,32 +220,6 @@ fn solve_posed(alloc: Global, posed: &Posed) -> Result<Settled, Memory>
     solve_one_by(alloc, &posed.game, &guess, &Silent)
 }
 
-/// The least progress table, by workers, of which one alone is helped by a guess.
-fn solve_by_workers<
-    T: Gate + Sync,
-    O: Observer + Sync,
-    H: Threads + Wait + Clone + Copy + Drop + Send + Sync,
->(
-    rt: &H,
-    alloc: Global,
-    posed: &Posed,
-    options: &Options,
-    gate: &T,
-    observer: &O,
-) -> Result<Settled, MuError>
-    ensures game { IfOk result (λ s. s.game ≡ arc_value posed.now.game) }
-    ensures board { IfOk result (λ _. IsFitting (Some options.now.board) (arc_value posed.now.game)) }
-    ensures refusal { IfErr result (IsUnsolved (Some options.now.board) (arc_value posed.now.game)) }
-{
-    let Texts { system, formula } = &*posed.texts;
-    let guess = if options.workers == 1 {
-        guess_of(alloc, system, formula, posed.priorities, &posed.game)
-    } else {
-        None
-    };
-    solve_seen(rt, alloc, &posed.game, options, gate, observer, &guess)
-}
-
 /// What is found out of these texts by workers.
 fn find_by_workers<
     T: Gate + Sync,
@@ -265,7 +239,17 @@ fn find_by_workers<
     ensures texts { IfOk result (λ found. found.texts.value ≡ posed.texts.value) }
     ensures refusal { IfErr result (IsUnsolved (Some options.now.board) (arc_value posed.game)) }
 {
-    match solve_by_workers(rt, alloc, &posed, options, gate, observer) {
+    let Texts { system, formula } = &*posed.texts;
+    match solve_guessed(
+        rt,
+        alloc,
+        system,
+        formula,
+        &posed.game,
+        options,
+        gate,
+        observer,
+    ) {
         Ok(settled) => find_solved(alloc, posed, Some(options.board), settled),
         Err(error) => Err(error),
     }
