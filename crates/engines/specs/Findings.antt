@@ -28,6 +28,8 @@ use Rattle.engines.specs.declared.prepared.Shown.{Shown}
 use Rattle.engines.specs.declared.lifting.SolvedGame.{SolvedGame}
 use Rattle.engines.specs.declared.lifting.Winners.{Winners}
 use Rattle.engines.specs.declared.lifting.Winners.TheVariants.{Table, Marks as ByMarks}
+use Rattle.engines.specs.declared.lifting.Solution.{Solution}
+use Rattle.engines.specs.declared.lifting.Solution.TheVariants.{Table as HasTable, Marks as HasMarks}
 use Rattle.engines.specs.declared.findings.Findings.{Findings}
 use Rattle.engines.specs.declared.findings.Posed.{Posed}
 use Rattle.engines.specs.declared.findings.EvidencePair.{EvidencePair}
@@ -46,6 +48,11 @@ pub record IsSolvedGame (l : System) (f : Formula) (s : SolvedGame) : Type 0 whe
 abbrev pub AreWinnersOf : Game → Winners → Type 0
 AreWinnersOf g (Table settled) = settled.now.game ≡ g
 AreWinnersOf g (ByMarks marks) = Marks (length g.vertices) marks.now (Wins g)
+
+-- The same of what says so.
+abbrev pub IsSolutionOf : Game → Solution → Type 0
+IsSolutionOf g (HasTable settled) = settled.game ≡ g
+IsSolutionOf g (HasMarks marks) = Marks (length g.vertices) marks.items (Wins g)
 
 -- The game that is to be solved is that of the texts.
 abbrev pub ArePosed : Posed → Type 0

@@ -179,7 +179,7 @@ fn find_by_texts<
 }
 
 /// Reads both texts, and makes their game.
-pub(crate) fn read_and_build<R: Read + Drop, S: Read + Drop, O: Watcher, H: Threads + Sync>(
+fn read_and_build<R: Read + Drop, S: Read + Drop, O: Watcher, H: Threads + Sync>(
     rt: &H,
     alloc: Global,
     aut: R,
@@ -323,13 +323,15 @@ fn find_solved(
     ensures texts { IfOk result (λ found. found.texts.value ≡ posed.texts.value) }
     ensures refusal { IfErr result (λ e. e ≡ MuError.Memory) }
 {
-    let marks = state_marks(alloc, &posed, Winners::Table(&settled))?;
-    let report = report_text(alloc, &posed.texts.system, &posed.texts.formula, &marks)?;
     let Posed {
         texts,
         priorities,
         game,
     } = posed;
+    let Texts { system, formula } = &*texts;
+    let winners = Winners::Table(&settled);
+    let marks = state_marks(alloc, system, formula, priorities, &game, winners)?;
+    let report = report_text(alloc, system, formula, &marks)?;
     Ok(Findings {
         texts,
         solution: SolvedGame {

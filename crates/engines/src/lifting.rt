@@ -4,16 +4,18 @@ ghost use Rattle.std.specs.Prelude.{◌≡◌, ◌≤◌, ◌<◌, ◌↔◌, If
 ghost use Rattle.std.specs.Arc.{arc_value};
 ghost use Rattle.calculus.specs.Closed.{closed_formula};
 ghost use Rattle.calculus.specs.Meaning.{Marks};
+ghost use Rattle.game.specs.Game.{Game};
 ghost use Rattle.game.specs.Wins.{Wins};
-ghost use Rattle.requests.specs.Check.{ByGame, AreMarks};
+ghost use Rattle.requests.specs.Check.{ByGame, AreMarks, IsArenaOf};
 ghost use Rattle.requests.specs.Roots.{HasRoots, WinsRoot};
 ghost use Rattle.requests.specs.Solver.{IsFitting};
 ghost use Rattle.workers.specs.declared.team.BoardKind.{BoardKind};
-ghost use Rattle.engines.specs.Findings.{ArePosed, AreWinnersOf};
+ghost use Rattle.engines.specs.Findings.{AreWinnersOf, IsSolutionOf};
 
-use crate::findings::Posed;
+use calculus::closed::Closed;
 use game::graph::Game;
 use laws::{chosen_is_admissible, even_wins_where_meant};
+use lts::system::Lts;
 use measures::settle::even_wins;
 use measures::table::Settled;
 use normal::priorities::Priorities;
@@ -40,6 +42,27 @@ pub enum Winners<'a> {
     Marks(&'a [bool]),
 }
 
+/// Who wins a game, as it was found out.
+#[derive(Drop)]
+pub enum Solution {
+    /// Its least progress table.
+    Table(Settled),
+    /// A mark for each vertex, true where Even wins it.
+    Marks(Vec<bool>),
+}
+
+impl Solution {
+    /// The winners, lent.
+    pub fn winners(&self) -> Winners<'_>
+        ensures { (g : Game) → IsSolutionOf g self.now → AreWinnersOf g result }
+    {
+        match self {
+            Solution::Table(settled) => Winners::Table(settled),
+            Solution::Marks(marks) => Winners::Marks(marks),
+        }
+    }
+}
+
 /// Whether Even wins a vertex.
 fn even_wins_by(winners: Winners<'_>, game: &Game, v: u32) -> bool
     requires winners { AreWinnersOf game.now winners }
@@ -58,19 +81,23 @@ fn even_wins_by(winners: Winners<'_>, game: &Game, v: u32) -> bool
 /// U4.
 pub fn state_marks(
     alloc: Global,
-    posed: &Posed,
+    system: &Lts,
+    formula: &Closed,
+    priorities: Priorities,
+    game: &Arc<Game, Global>,
     winners: Winners<'_>,
 ) -> Result<Vec<bool>, MuError>
-    requires posed { ArePosed posed.now }
-    requires winners { AreWinnersOf (arc_value posed.now.game) winners }
-    ensures marks { IfOk result (λ marks. (board : Option BoardKind) → IsFitting board (arc_value posed.now.game)
-        → AreMarks (ByGame posed.now.priorities board) posed.now.texts.value.system.system (closed_formula posed.now.texts.value.formula) marks.items) }
+    requires arena { IsArenaOf priorities system.now.system (closed_formula formula.now) (arc_value game.now) }
+    requires winners { AreWinnersOf (arc_value game.now) winners }
+    ensures marks { IfOk result (λ marks. (board : Option BoardKind) → IsFitting board (arc_value game.now)
+        → AreMarks (ByGame priorities board) system.now.system (closed_formula formula.now) marks.items) }
     ensures refusal { IfErr result (λ e. e ≡ MuError.Memory) }
 {
+    let _ = priorities;
     chosen_is_admissible();
     even_wins_where_meant();
-    let states = posed.texts.system.states();
-    match root_marks(alloc, states, &posed.game, winners) {
+    let states = system.states();
+    match root_marks(alloc, states, game, winners) {
         Ok(marks) => Ok(marks),
         Err(AllocError) => Err(MuError::Memory),
     }
