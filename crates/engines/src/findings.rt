@@ -117,7 +117,16 @@ pub fn find_with<
     ensures refusal { (first second : List ℕ) → R.remaining aut ≡ Some first → S.remaining formula ≡ Some second
         → (writers : List Lent) → AreKept writers → IfErr result (HasRefused (ByGame options.now.priorities (Some options.now.board)) first second writers) }
 {
-    find_by_texts(rt, alloc, aut, formula, options, Helped::OneWorker, gate, &Silent)
+    find_by_texts(
+        rt,
+        alloc,
+        aut,
+        formula,
+        options,
+        Helped::OneWorker,
+        gate,
+        &Silent,
+    )
 }
 
 /// Finds what `find_with` does, and tells a watcher what is being read, built, searched and lifted. Where a guess of the whole table is good, no
@@ -145,7 +154,16 @@ pub fn find_seen<
     ensures refusal { (first second : List ℕ) → R.remaining aut ≡ Some first → S.remaining formula ≡ Some second
         → (writers : List Lent) → AreKept writers → IfErr result (HasRefused (ByGame options.now.priorities (Some options.now.board)) first second writers) }
 {
-    find_by_texts(rt, alloc, aut, formula, options, Helped::EveryTeam, &NoGate, observer)
+    find_by_texts(
+        rt,
+        alloc,
+        aut,
+        formula,
+        options,
+        Helped::EveryTeam,
+        &NoGate,
+        observer,
+    )
 }
 
 /// Reads both texts, and finds out by the workers which states satisfy the formula.

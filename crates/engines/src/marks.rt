@@ -32,10 +32,7 @@ use workers::gate::NoGate;
 ///
 /// # Errors
 /// Those of `plain_marks`, or of `game_marks`.
-pub(crate) fn marks_by<
-    O: Observer + Sync,
-    H: Threads + Wait + Clone + Copy + Drop + Send + Sync,
->(
+pub(crate) fn marks_by<O: Observer + Sync, H: Threads + Wait + Clone + Copy + Drop + Send + Sync>(
     rt: &H,
     alloc: Global,
     system: &Lts,
@@ -76,10 +73,7 @@ pub(crate) fn plain_marks(
 ///
 /// # Errors
 /// Those of the normal form, of the game, of its board and of its workers, unchanged; U4.
-pub(crate) fn game_marks<
-    O: Observer + Sync,
-    H: Threads + Wait + Clone + Copy + Drop + Send + Sync,
->(
+pub(crate) fn game_marks<O: Observer + Sync, H: Threads + Wait + Clone + Copy + Drop + Send + Sync>(
     rt: &H,
     alloc: Global,
     system: &Lts,
