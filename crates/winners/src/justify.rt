@@ -9,35 +9,13 @@ use crate::arena::{Arena, opponent, winner_by};
 use crate::cells::NONE;
 use crate::meter::Meter;
 use crate::numbers::Numbers;
+use crate::standings::{Standings, State};
 use crate::winning::Winners;
 use game::player::Player;
 use std::alloc::{AllocError, Global};
 
 // How many vertices turn at once: few enough to lie near still when their predecessors are looked at.
 const TURNED_AT_ONCE: usize = 256;
-
-// How far a vertex has come.
-#[derive(Clone, Copy, PartialEq, Eq)]
-enum State {
-    // It is to be looked at.
-    Open,
-    // The successors say what the priority does.
-    Calm,
-    Justified,
-}
-
-#[derive(Clone, Copy)]
-struct Standing {
-    player: Player,
-    state: State,
-}
-
-// The vertices of a priority that are open and calm, and others.
-#[derive(Drop)]
-struct Layer {
-    open: Numbers,
-    calm: Numbers,
-}
 
 // A vertex that turned or lost its reason, and whether the player is another one now.
 #[derive(Clone, Copy)]
@@ -51,43 +29,20 @@ struct Shaken {
 pub(crate) struct Justification<'g> {
     alloc: Global,
     arena: Arena<'g>,
-    standings: Vec<Standing>,
+    standings: Standings,
     moves: Numbers,
-    layers: Vec<Layer>,
     meter: Meter,
 }
 
 impl<'g> Justification<'g> {
     pub(crate) fn new(alloc: Global, arena: Arena<'g>, meter: Meter) -> Result<Self, AllocError> {
-        let mut layers = Vec::new(alloc);
-        for _ in 0..=usize::from(arena.greatest()) {
-            layers.push(Layer {
-                open: Numbers::none(alloc),
-                calm: Numbers::none(alloc),
-            })?;
-        }
-        let mut found = Justification {
+        Ok(Justification {
             alloc,
             arena,
-            standings: Vec::new(alloc),
+            standings: Standings::new(alloc, arena)?,
             moves: Numbers::filled(alloc, arena.vertices() as usize, NONE)?,
-            layers,
             meter,
-        };
-        found.open_all()?;
-        Ok(found)
-    }
-
-    fn open_all(&mut self) -> Result<(), AllocError> {
-        for v in 0..self.arena.vertices() {
-            let priority = self.arena.priority(v);
-            self.standings.push(Standing {
-                player: winner_by(priority),
-                state: State::Open,
-            })?;
-            self.open(v, priority)?;
-        }
-        Ok(())
+        })
     }
 
     /// Decides who wins. `None` where the budget was spent.
@@ -97,7 +52,7 @@ impl<'g> Justification<'g> {
             if self.meter.is_spent() {
                 return Ok(None);
             }
-            if usize::from(priority) >= self.layers.len() {
+            if priority > self.arena.greatest() {
                 break;
             }
             let turned = self.look(priority)?;
@@ -115,57 +70,9 @@ impl<'g> Justification<'g> {
         let mut winners = Winners::none(self.alloc);
         for v in 0..self.arena.vertices() {
             let next = self.moves.get(v as usize);
-            winners.add(self.arena, v, self.player(v), next)?;
+            winners.add(self.arena, v, self.standings.player(v), next)?;
         }
         Ok(winners)
-    }
-
-    fn standing(&self, v: u32) -> Standing {
-        let none = Standing {
-            player: Player::Even,
-            state: State::Justified,
-        };
-        self.standings.get(v as usize).copied().unwrap_or(none)
-    }
-
-    fn player(&self, v: u32) -> Player {
-        self.standing(v).player
-    }
-
-    fn set_player(&mut self, v: u32, player: Player) {
-        if let Some(standing) = self.standings.get_mut(v as usize) {
-            standing.player = player;
-        }
-    }
-
-    fn set_state(&mut self, v: u32, state: State) {
-        if let Some(standing) = self.standings.get_mut(v as usize) {
-            standing.state = state;
-        }
-    }
-
-    fn open(&mut self, v: u32, priority: u8) -> Result<(), AllocError> {
-        self.set_state(v, State::Open);
-        match self.layers.get_mut(usize::from(priority)) {
-            Some(layer) => layer.open.push(v),
-            None => Ok(()),
-        }
-    }
-
-    fn pop_open(&mut self, priority: u8) -> Option<u32> {
-        self.layers.get_mut(usize::from(priority))?.open.pop()
-    }
-
-    fn push_calm(&mut self, v: u32, priority: u8) -> Result<(), AllocError> {
-        self.set_state(v, State::Calm);
-        match self.layers.get_mut(usize::from(priority)) {
-            Some(layer) => layer.calm.push(v),
-            None => Ok(()),
-        }
-    }
-
-    fn pop_calm(&mut self, priority: u8) -> Option<u32> {
-        self.layers.get_mut(usize::from(priority))?.calm.pop()
     }
 
     // Looks at open vertices of a priority, the last first. The answer is which turn.
@@ -175,7 +82,7 @@ impl<'g> Justification<'g> {
             if turned.len() >= TURNED_AT_ONCE {
                 break;
             }
-            match self.pop_open(priority) {
+            match self.standings.pop_open(priority) {
                 Some(v) => self.look_at(v, priority, &mut turned)?,
                 None => break,
             }
@@ -184,7 +91,7 @@ impl<'g> Justification<'g> {
     }
 
     fn look_at(&mut self, v: u32, priority: u8, turned: &mut Numbers) -> Result<(), AllocError> {
-        if self.standing(v).state != State::Open {
+        if self.standings.state(v) != State::Open {
             return Ok(());
         }
         let owner = self.arena.owner(v);
@@ -195,7 +102,7 @@ impl<'g> Justification<'g> {
             None => opponent(owner),
         };
         if player == winner_by(priority) {
-            self.push_calm(v, priority)
+            self.standings.push_calm(v, priority)
         } else {
             turned.push(v)
         }
@@ -205,7 +112,7 @@ impl<'g> Justification<'g> {
     fn next_of(&mut self, v: u32, player: Player) -> Option<u32> {
         self.meter.count_all(1);
         for t in self.arena.successors(v) {
-            if self.player(*t) == player {
+            if self.standings.player(*t) == player {
                 return Some(*t);
             }
             self.meter.count_all(1);
@@ -215,9 +122,9 @@ impl<'g> Justification<'g> {
 
     fn justify(&mut self, priority: u8) {
         for _ in 0..u32::MAX {
-            match self.pop_calm(priority) {
-                Some(v) if self.standing(v).state == State::Calm => {
-                    self.set_state(v, State::Justified);
+            match self.standings.pop_calm(priority) {
+                Some(v) if self.standings.state(v) == State::Calm => {
+                    self.standings.set_state(v, State::Justified);
                     self.meter.count_all(1);
                 }
                 Some(_) => {}
@@ -230,8 +137,8 @@ impl<'g> Justification<'g> {
     fn turn(&mut self, priority: u8, turned: &[u32]) -> Result<u8, AllocError> {
         let mut list = Vec::new(self.alloc);
         for v in turned {
-            self.set_state(*v, State::Justified);
-            self.set_player(*v, opponent(winner_by(priority)));
+            self.standings.set_state(*v, State::Justified);
+            self.standings.set_player(*v, opponent(winner_by(priority)));
             list.push(Shaken {
                 v: *v,
                 is_other: true,
@@ -254,13 +161,13 @@ impl<'g> Justification<'g> {
         self.meter.count(before.len());
         for u in before {
             let priority = self.arena.priority(*u);
-            let state = self.standing(*u).state;
+            let state = self.standings.state(*u);
             if state == State::Justified && self.rests(*u, shaken.v) {
                 list.push(self.favour(*u, priority))?;
             } else if state != State::Calm || !shaken.is_other {
                 continue;
             }
-            self.open(*u, priority)?;
+            self.standings.open(*u, priority)?;
             least = priority.min(least);
         }
         Ok(least)
@@ -268,14 +175,14 @@ impl<'g> Justification<'g> {
 
     // Whether a justified vertex has its reason by this successor.
     fn rests(&self, u: u32, v: u32) -> bool {
-        self.player(u) != self.arena.owner(u) || self.moves.get(u as usize) == v
+        self.standings.player(u) != self.arena.owner(u) || self.moves.get(u as usize) == v
     }
 
     // Gives a vertex back to the player that its priority favours.
     fn favour(&mut self, v: u32, priority: u8) -> Shaken {
         let favoured = winner_by(priority);
-        let is_other = self.player(v) != favoured;
-        self.set_player(v, favoured);
+        let is_other = self.standings.player(v) != favoured;
+        self.standings.set_player(v, favoured);
         Shaken { v, is_other }
     }
 }

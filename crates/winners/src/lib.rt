@@ -15,5 +15,6 @@ mod ranks;
 mod recursion;
 mod repair;
 mod settle;
+mod standings;
 mod strong;
 mod winning;
