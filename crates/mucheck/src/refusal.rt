@@ -122,16 +122,25 @@ pub fn tell(rt: &HostRuntime, sources: &Sources<'_>, refusal: &Refusal) -> io::R
 }
 
 fn tell_more(rt: &HostRuntime, sources: &Sources<'_>, error: &MuError) -> io::Result<()> {
-    // Where there is no memory, the line with the code stands alone.
-    let Ok(text) = error.to_string(rt.alloc()) else {
-        return Ok(());
-    };
-    let (code, place) = match text.split_once(" at ") {
-        Some((code, place)) => (code, Some(place)),
-        None => (text.as_str(), None),
-    };
-    tell_source(rt, sources.refused(error), place)?;
-    tell_remedy(rt, code)
+    match error.to_string(rt.alloc()) {
+        Ok(text) => tell_rest(rt, sources.refused(error), text.as_str()),
+        // Where there is no memory, the line with the code stands alone.
+        Err(_) => Ok(()),
+    }
+}
+
+/// What follows the line of this text.
+fn tell_rest(rt: &HostRuntime, files: (Option<&str>, Option<&str>), text: &str) -> io::Result<()> {
+    match text.split_once(" at ") {
+        Some((code, place)) => {
+            tell_source(rt, files, Some(place))?;
+            tell_remedy(rt, code)
+        }
+        None => {
+            tell_source(rt, files, None)?;
+            tell_remedy(rt, text)
+        }
+    }
 }
 
 fn tell_source(

@@ -35,11 +35,11 @@ struct Place<'a> {
 ///
 /// # Errors
 /// U1, with both files.
-pub fn keep_apart(
+pub fn keep_apart<'a>(
     rt: &HostRuntime,
-    check: &Check<'_>,
-    outputs: &Outputs<'_>,
-    evidence: Option<&EvidenceNames>,
+    check: &Check<'a>,
+    outputs: &Outputs<'a>,
+    evidence: Option<&'a EvidenceNames>,
 ) -> Result<(), ArgumentError> {
     let even = evidence.map(|names| names.even.as_str());
     let odd = evidence.map(|names| names.odd.as_str());

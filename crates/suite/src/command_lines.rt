@@ -153,8 +153,8 @@ const TAKEN: [(&str, &str); 32] = [
         "check f f nested 1 16 auto false - - - report",
     ),
     (
-        "mucheck check e o --evidence e --game o",
-        "check e o nested 1 16 auto false o e - report",
+        "mucheck check e f --evidence e --game o",
+        "check e f nested 1 16 auto false o e - report",
     ),
     (
         "mucheck check s f --game /dev/stdout --witness /dev/stdout",
