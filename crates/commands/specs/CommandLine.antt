@@ -19,7 +19,7 @@ use Rattle.requests.specs.declared.error.MuError.TheVariants as error
 use Rattle.requests.specs.declared.request.Check.{Check as CheckRequest}
 use Rattle.requests.specs.declared.request.Options.{Options}
 use Rattle.commands.specs.declared.request.Command.{Command}
-use Rattle.commands.specs.declared.request.Command.TheVariants.{Check, Normal, Replay, Solve, Verify}
+use Rattle.commands.specs.declared.request.Command.TheVariants.{Check, Explain, Help, Normal, Replay, Solve, Verify, Version}
 use Rattle.commands.specs.declared.request.Normal.{Normal as NormalRequest}
 use Rattle.commands.specs.declared.request.Outputs.{Outputs}
 use Rattle.commands.specs.declared.request.Replay.{Replay as ReplayRequest}
@@ -52,9 +52,9 @@ Choice = Bor (List (Bor Text))
 abbrev pub choice_rule : Text → Choice → Rule
 choice_rule name choice = record (value_rule name) { parser = Some (value_parser.Names choice) }
 
--- its value is a file, and it doesn't stand beside another option
-abbrev pub output_rule : Text → Rule
-output_rule name = record (value_rule name) { is_free = false }
+-- `--quiet`, or `-q`
+abbrev pub quiet_rule : Rule
+quiet_rule = record (flag_rule (codes "quiet")) { short = Some 113 }
 
 -- how many workers lift, how many locks their board has, and which board it is
 abbrev pub workers_rule : Rule
@@ -71,7 +71,7 @@ lifting_rules boards = workers_rule ∷ shards_rule ∷ board_rule boards ∷ []
 
 -- where the game, the evidence and the witness go
 abbrev pub output_rules : List Rule
-output_rules = output_rule (codes "game") ∷ output_rule (codes "evidence") ∷ output_rule (codes "witness") ∷ []
+output_rules = value_rule (codes "game") ∷ value_rule (codes "evidence") ∷ value_rule (codes "witness") ∷ []
 
 -- the rule of priorities
 abbrev pub priorities_rule : (rules : Choice) → Rule
@@ -79,7 +79,7 @@ priorities_rule rules = choice_rule (codes "priorities") rules
 
 abbrev pub check_rules : (rules boards : Choice) → List Rule
 check_rules rules boards =
-    file_rule (codes "SYSTEM") ∷ file_rule (codes "FORMULA") ∷ flag_rule (codes "plain") ∷ flag_rule (codes "quiet")
+    file_rule (codes "SYSTEM") ∷ file_rule (codes "FORMULA") ∷ flag_rule (codes "plain") ∷ quiet_rule
     ∷ priorities_rule rules ∷ (lifting_rules boards ++ output_rules)
 
 abbrev pub normal_rules : (rules : Choice) → List Rule
@@ -93,6 +93,12 @@ verify_rules = file_rule (codes "GAME") ∷ file_rule (codes "EVIDENCE") ∷ new
 
 abbrev pub replay_rules : List Rule
 replay_rules = file_rule (codes "SYSTEM") ∷ file_rule (codes "FORMULA") ∷ file_rule (codes "SCHEDULE") ∷ workers_rule ∷ []
+
+abbrev pub explain_rules : List Rule
+explain_rules = file_rule (codes "CODE") ∷ []
+
+abbrev pub help_rules : List Rule
+help_rules = new_rule (codes "COMMAND") ∷ []
 
 -- a command with its arguments
 abbrev pub command_shape : (name : Text) → List Rule → Shape
@@ -111,6 +117,9 @@ mucheck_app rules boards = record {
       ∷ command_shape (codes "solve") (solve_rules boards)
       ∷ command_shape (codes "verify") verify_rules
       ∷ command_shape (codes "replay") replay_rules
+      ∷ command_shape (codes "explain") explain_rules
+      ∷ command_shape (codes "help") help_rules
+      ∷ command_shape (codes "version") []
       ∷ [];
 }
 
@@ -155,7 +164,7 @@ board_in rows =
     if has_value rows (codes "board") (codes "locked") then board.Locked
     else (if has_value rows (codes "board") (codes "packed") then board.Packed else board.Auto)
 
--- the argument names this file
+-- the argument names this file, or gives this word
 abbrev pub IsFile : List Row → (id : Text) → Bor Text → Type 0
 IsFile rows id file = first_of id rows ≡ Some file.now
 
@@ -208,6 +217,9 @@ IsCommand name rows (Normal form) = (name ≡ codes "normal") × IsNormal rows f
 IsCommand name rows (Solve solve) = (name ≡ codes "solve") × IsSolve rows solve
 IsCommand name rows (Verify verify) = (name ≡ codes "verify") × IsVerify rows verify
 IsCommand name rows (Replay replay) = (name ≡ codes "replay") × IsReplay rows replay
+IsCommand name rows (Explain code) = (name ≡ codes "explain") × IsFile rows (codes "CODE") code
+IsCommand name rows (Help topic) = (name ≡ codes "help") × IsFileIfAny rows (codes "COMMAND") topic
+IsCommand name rows Version = name ≡ codes "version"
 
 -- the command that was read, of which there is one
 abbrev pub IsRead : Option (Text × List Row) → Command → Type 0

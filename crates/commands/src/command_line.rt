@@ -3,7 +3,7 @@
 ghost use Rattle.std.specs.Prelude.{◌≡◌, ◌≤◌, ◌≢◌, [], Bool, IfErr, IfOk, IfSome, Some, codes, map};
 ghost use Rattle.std.specs.String.{string_bytes};
 ghost use Rattle.clap.specs.Words.{first_of, found_of, rows_of, subcommand_rows_of};
-ghost use Rattle.commands.specs.Command.{AreNamed, AreWithin, IsComplete};
+ghost use Rattle.commands.specs.Command.{AreNamed, AreWithin, IsComplete, IsPlainAlone};
 ghost use Rattle.commands.specs.CommandLine.{
   AreMatchesOf,
   AreOptions,
@@ -20,10 +20,12 @@ ghost use Rattle.commands.specs.CommandLine.{
   number_in,
   priorities_in,
 };
+ghost use Rattle.commands.specs.Names.{KeepsFiles};
 
+use crate::names::keep_files;
 use crate::parser::{
-    BOARD, EVIDENCE, EVIDENCE_FILES, FORMULA, GAME, GAME_FILE, OTHER, PLAIN, PRIORITIES, QUIET,
-    SCHEDULE, SHARDS, SYSTEM, WITNESS_FILE, WORKERS, parser,
+    BOARD, CODE, COMMAND, EVIDENCE, EVIDENCE_FILES, FORMULA, GAME, GAME_FILE, OTHER, PLAIN,
+    PRIORITIES, QUIET, SCHEDULE, SHARDS, SYSTEM, WITNESS_FILE, WORKERS, parser,
 };
 use crate::request::{Command, Normal, Outputs, Replay, Solve, Verify};
 use clap::error::ErrorKind;
@@ -36,15 +38,21 @@ use std::alloc::Global;
 /// The command that the words ask for; the first word is the program's own name.
 ///
 /// # Errors
-/// U1 where the words are no command, with what is wrong with them, or the help or version that was asked for; U4.
+/// U1 where the words are no command, or one that would destroy a file, with what is wrong with them, or the help or version that was asked
+/// for; U4.
 pub fn command<'a>(alloc: Global, words: &'a [String]) -> Result<Command<'a>, MuError>
     ensures asked { IfOk result (IsAskedFor (map (λ word. string_bytes word) words.now)) }
     ensures complete { IfOk result IsComplete }
+    ensures plain { IfOk result IsPlainAlone }
+    ensures kept { IfOk result KeepsFiles }
     ensures refused { IfErr result IsLineError }
 {
     let matches = matches_of(alloc, words)?;
     match request_of(&matches) {
-        Ok(command) => Ok(command),
+        Ok(command) => {
+            keep_files(alloc, &command)?;
+            Ok(command)
+        }
         Err(error) => Err(MuError::Arguments(error)),
     }
 }
@@ -63,7 +71,7 @@ fn matches_of<'a>(alloc: Global, words: &'a [String]) -> Result<ArgMatches<'a>, 
 }
 
 /// The refusal for what `clap` answers in place of matches; want of memory is the engine's.
-fn refusal(alloc: Global, error: &ClapError) -> MuError
+pub(crate) fn refusal(alloc: Global, error: &ClapError) -> MuError
     ensures { IsLineError result }
 {
     match error.kind() {
@@ -79,6 +87,7 @@ fn refusal(alloc: Global, error: &ClapError) -> MuError
 fn request_of<'a>(matches: &ArgMatches<'a>) -> Result<Command<'a>, ArgumentError>
     ensures asked { IfOk result (IsRead (subcommand_rows_of matches.now)) }
     ensures complete { IfOk result IsComplete }
+    ensures plain { IfOk result IsPlainAlone }
 {
     let Some((name, found)) = matches.subcommand() else {
         return Err(ArgumentError::NoCommand);
@@ -89,6 +98,9 @@ fn request_of<'a>(matches: &ArgMatches<'a>) -> Result<Command<'a>, ArgumentError
         "solve" => solve_of(found),
         "verify" => verify_of(found),
         "replay" => replay_of(found),
+        "explain" => explain_of(found),
+        "help" => help_of(found),
+        "version" => Ok(Command::Version),
         _ => Err(ArgumentError::NoCommand),
     }
 }
@@ -97,6 +109,7 @@ fn request_of<'a>(matches: &ArgMatches<'a>) -> Result<Command<'a>, ArgumentError
 fn check_of<'a>(matches: &ArgMatches<'a>) -> Result<Command<'a>, ArgumentError>
     ensures asked { IfOk result (IsCommand (codes "check") (rows_of (found_of matches.now))) }
     ensures complete { IfOk result IsComplete }
+    ensures plain { IfOk result IsPlainAlone }
 {
     let system = file_name(matches, SYSTEM)?;
     let formula = file_name(matches, FORMULA)?;
@@ -106,7 +119,11 @@ fn check_of<'a>(matches: &ArgMatches<'a>) -> Result<Command<'a>, ArgumentError>
         options: options(matches)?,
         plain: has_value(matches, PLAIN, "true"),
     };
-    Ok(Command::Check(check, outputs(matches)?))
+    let outputs = outputs(matches)?;
+    if check.plain && !outputs.is_report_alone() {
+        return Err(ArgumentError::PlainOutput);
+    }
+    Ok(Command::Check(check, outputs))
 }
 
 /// Where a check's texts go.
@@ -126,6 +143,7 @@ fn outputs<'a>(matches: &ArgMatches<'a>) -> Result<Outputs<'a>, ArgumentError>
 fn normal_of<'a>(matches: &ArgMatches<'a>) -> Result<Command<'a>, ArgumentError>
     ensures asked { IfOk result (IsCommand (codes "normal") (rows_of (found_of matches.now))) }
     ensures complete { IfOk result IsComplete }
+    ensures plain { IfOk result IsPlainAlone }
 {
     Ok(Command::Normal(Normal {
         formula: file_name(matches, FORMULA)?,
@@ -137,6 +155,7 @@ fn normal_of<'a>(matches: &ArgMatches<'a>) -> Result<Command<'a>, ArgumentError>
 fn solve_of<'a>(matches: &ArgMatches<'a>) -> Result<Command<'a>, ArgumentError>
     ensures asked { IfOk result (IsCommand (codes "solve") (rows_of (found_of matches.now))) }
     ensures complete { IfOk result IsComplete }
+    ensures plain { IfOk result IsPlainAlone }
 {
     Ok(Command::Solve(Solve {
         game: file_name(matches, GAME)?,
@@ -148,6 +167,7 @@ fn solve_of<'a>(matches: &ArgMatches<'a>) -> Result<Command<'a>, ArgumentError>
 fn verify_of<'a>(matches: &ArgMatches<'a>) -> Result<Command<'a>, ArgumentError>
     ensures asked { IfOk result (IsCommand (codes "verify") (rows_of (found_of matches.now))) }
     ensures complete { IfOk result IsComplete }
+    ensures plain { IfOk result IsPlainAlone }
 {
     Ok(Command::Verify(Verify {
         game: file_name(matches, GAME)?,
@@ -160,6 +180,7 @@ fn verify_of<'a>(matches: &ArgMatches<'a>) -> Result<Command<'a>, ArgumentError>
 fn replay_of<'a>(matches: &ArgMatches<'a>) -> Result<Command<'a>, ArgumentError>
     ensures asked { IfOk result (IsCommand (codes "replay") (rows_of (found_of matches.now))) }
     ensures complete { IfOk result IsComplete }
+    ensures plain { IfOk result IsPlainAlone }
 {
     Ok(Command::Replay(Replay {
         system: file_name(matches, SYSTEM)?,
@@ -167,6 +188,24 @@ fn replay_of<'a>(matches: &ArgMatches<'a>) -> Result<Command<'a>, ArgumentError>
         schedule: file_name(matches, SCHEDULE)?,
         workers: number(matches, WORKERS, 2, 64)?,
     }))
+}
+
+/// The code that is to be explained.
+fn explain_of<'a>(matches: &ArgMatches<'a>) -> Result<Command<'a>, ArgumentError>
+    ensures asked { IfOk result (IsCommand (codes "explain") (rows_of (found_of matches.now))) }
+    ensures complete { IfOk result IsComplete }
+    ensures plain { IfOk result IsPlainAlone }
+{
+    Ok(Command::Explain(file_name(matches, CODE)?))
+}
+
+/// The command whose help is asked for.
+fn help_of<'a>(matches: &ArgMatches<'a>) -> Result<Command<'a>, ArgumentError>
+    ensures asked { IfOk result (IsCommand (codes "help") (rows_of (found_of matches.now))) }
+    ensures complete { IfOk result IsComplete }
+    ensures plain { IfOk result IsPlainAlone }
+{
+    Ok(Command::Help(optional_name(matches, COMMAND)?))
 }
 
 /// The options of a command that makes a game or solves one.

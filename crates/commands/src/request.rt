@@ -1,5 +1,8 @@
 // What the program can be asked to do. The files are named as on the command line.
 
+ghost use Rattle.std.specs.Prelude.{◌↔◌, IsTrue};
+ghost use Rattle.commands.specs.Command.{IsReportAlone};
+
 use normal::priorities::Priorities;
 use requests::request::{Check, Options};
 
@@ -12,6 +15,11 @@ pub enum Command<'a> {
     Solve(Solve<'a>),
     Verify(Verify<'a>),
     Replay(Replay<'a>),
+    /// The entry of a code.
+    Explain(&'a str),
+    /// The help of a command, or of the program.
+    Help(Option<&'a str>),
+    Version,
 }
 
 /// Where a check's texts go.
@@ -25,6 +33,15 @@ pub struct Outputs<'a> {
     pub witness: Option<&'a str>,
     /// Whether the report is written.
     pub report: bool,
+}
+
+impl Outputs<'_> {
+    /// Whether none of the files is asked for.
+    pub fn is_report_alone(&self) -> bool
+        ensures { IsTrue result ↔ IsReportAlone self.now }
+    {
+        self.game.is_none() && self.evidence.is_none() && self.witness.is_none()
+    }
 }
 
 /// The normal form of a formula, with the priorities of a rule.

@@ -1,4 +1,4 @@
-use Rattle.std.proofs.Common.{subst, sym}
+use Rattle.std.proofs.Common.{subst}
 use Rattle.commands.specs.CommandLine.{IsRead}
 use Rattle.commands.proofs.command_line.command.Goals as goal
 
