@@ -1,5 +1,6 @@
 -- What an argument more, and a command more, make of a table.
-use Rattle.std.proofs.Common.{◌≡◌, ◌∙◌, ap, ap₂, refl, sym, Bool, true, false, true≢false, not, ◌&&◌, ◌==◌, inl, inr, List, [], ◌∷◌, ◌++◌, length, Some, arith}
+use Rattle.std.proofs.Common.{◌≡◌, ◌∙◌, ap, ap₂, refl, sym, Bool, true, false, true≢false, not, ◌&&◌, ◌==◌, inl, inr, List, [], ◌∷◌, ◌++◌, length, Some, None, arith}
+use Rattle.std.specs.Prelude.{IsSomeAnd, Option}
 use Rattle.std.proofs.lemmas.Bool.Decides.{eqb_tells}
 use Rattle.std.proofs.lemmas.List.{length-append}
 use Rattle.std.specs.Borrow.{Bor}
@@ -8,6 +9,7 @@ use Rattle.clap.specs.Walk.{Text, is_empty, is_free_arg}
 use Rattle.clap.specs.Words.{AddsArg, AddsConflicts, AddsSubcommand, App, Rule, app_of, rule_of, with_rule, with_subcommand}
 use Rattle.clap.specs.declared.builder.arg.Arg.{Arg}
 use Rattle.clap.specs.declared.builder.command.Command.{Command as Parser}
+use Rattle.clap.specs.declared.builder.range.ValueRange.{ValueRange}
 use Rattle.clap.specs.declared.builder.value_parser.ValueParser.{ValueParser}
 use Rattle.commands.specs.CommandLine.{IsTable, mucheck_app}
 use Rattle.commands.specs.Parsers.{AddsRules, HasRule, ReadsBy, with_rules}
@@ -27,6 +29,19 @@ pub parses : (old new : Arg) (parser : ValueParser) (rule : Rule) → new ≡ re
     → HasRule (record rule { parser = Some parser }) new
 parses old new parser rule is given has = record {
   same = ap rule_of is ∙ ap₂ (λ (r : Rule) p. record r { parser = p }) has.same given;
+  local = ap (λ (a : Arg). a.global) is ∙ has.local;
+}
+
+some_and : {X : Type 0} (o : Option X) (x : X) → IsSomeAnd o (λ y. y ≡ x) → o ≡ Some x
+some_and None x h = absurd h
+some_and (Some y) x h = ap Some h
+
+-- how many values an argument has changes the rule's range alone
+pub ranged : (old new : Arg) (range : ValueRange) (rule : Rule) → new ≡ record old { num_vals = new.num_vals } → IsSomeAnd new.num_vals (λ r. r ≡ range)
+    → HasRule rule old
+    → HasRule (record rule { range = Some range }) new
+ranged old new range rule is given has = record {
+  same = ap rule_of is ∙ ap₂ (λ (r : Rule) p. record r { range = p }) has.same (some_and new.num_vals range given);
   local = ap (λ (a : Arg). a.global) is ∙ has.local;
 }
 

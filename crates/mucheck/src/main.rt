@@ -4,9 +4,11 @@
 
 mod files;
 mod line;
+mod table;
 
 use crate::files::{EvidenceNames, Files};
 use crate::line::{Line, Output};
+use crate::table::run_table;
 use commands::command_line::command;
 use commands::normal_text::normal_text;
 use commands::replay_text::replay_text;
@@ -16,7 +18,7 @@ use commands::verify_text::{verify_both_text, verify_text};
 use engines::engine::check_asked;
 use engines::error::{ArgumentError, MuError};
 use engines::request::Check;
-use engines::status::status;
+use engines::status::{error_status, status};
 use std::fs::File;
 use std::io::ErrorKind;
 use std::process::ExitCode;
@@ -31,21 +33,29 @@ fn main(rt: HostRuntime) -> ExitCode {
         // Where standard error fails too, the status alone tells.
         let _ = tell(&rt, error);
     }
-    ExitCode::from(status(&answer))
+    ExitCode::from(match &answer {
+        Ok(status) => *status,
+        Err(error) => error_status(error),
+    })
 }
 
-// Threads are handed on apart, since `main` alone has them.
+// The status with which the program ends. Threads are handed on apart, since `main` alone has them.
 fn run<T: Threads + Wait + Clock + Clone + Copy + Drop + Send + Sync + 'static>(
     rt: &HostRuntime,
     threads: &T,
-) -> Result<bool, MuError> {
+) -> Result<u8, MuError> {
     let words = words(rt)?;
-    match command(rt.alloc(), &words)? {
+    let answer = match command(rt.alloc(), &words)? {
+        Command::Table(request) => return run_table(rt, threads, &request),
         Command::Check(request, outputs) => run_check(rt, threads, &request, &outputs),
         Command::Normal(request) => run_normal(rt, &request),
         Command::Solve(request) => run_solve(rt, threads, &request),
         Command::Verify(request) => run_verify(rt, &request),
         Command::Replay(request) => run_replay(rt, threads, &request),
+    };
+    match answer {
+        Ok(_) => Ok(status(&answer)),
+        Err(error) => Err(error),
     }
 }
 
