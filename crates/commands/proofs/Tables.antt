@@ -1,10 +1,12 @@
 -- What an argument more, and a command more, make of a table.
-use Rattle.std.proofs.Common.{◌≡◌, ◌∙◌, ap, ap₂, refl, sym, ℕ, Bool, true, false, true≢false, not, ◌&&◌, List, Some}
+use Rattle.std.proofs.Common.{◌≡◌, ◌∙◌, ap, ap₂, refl, sym, ℕ, Bool, true, false, true≢false, not, ◌&&◌, List, Some, None}
+use Rattle.std.specs.Prelude.{IsSomeAnd, Option}
 use Rattle.std.specs.Borrow.{Bor}
 use Rattle.clap.specs.Words.{is_simple}
 use Rattle.clap.specs.Words.{AddsArg, AddsSubcommand, App, Rule, Text, rule_of, with_rule, with_subcommand}
 use Rattle.clap.specs.declared.builder.arg.Arg.{Arg}
 use Rattle.clap.specs.declared.builder.command.Command.{Command as Parser}
+use Rattle.clap.specs.declared.builder.range.ValueRange.{ValueRange}
 use Rattle.clap.specs.declared.builder.value_parser.ValueParser.{ValueParser}
 use Rattle.commands.specs.CommandLine.{IsTable}
 use Rattle.commands.specs.Parsers.{AddsRules, HasRule, ReadsBy, with_rules}
@@ -32,6 +34,19 @@ pub lettered : (old new : Arg) (letter : ℕ) (rule : Rule) → new ≡ record o
     → HasRule (record rule { short = Some letter }) new
 lettered old new letter rule is has = record {
   same = ap rule_of is ∙ ap (λ (r : Rule). record r { short = Some letter }) has.same;
+  local = ap (λ (a : Arg). a.global) is ∙ has.local;
+}
+
+some_and : {X : Type 0} (o : Option X) (x : X) → IsSomeAnd o (λ y. y ≡ x) → o ≡ Some x
+some_and None x h = absurd h
+some_and (Some y) x h = ap Some h
+
+-- how many values an argument has changes the rule's range alone
+pub ranged : (old new : Arg) (range : ValueRange) (rule : Rule) → new ≡ record old { num_vals = new.num_vals } → IsSomeAnd new.num_vals (λ r. r ≡ range)
+    → HasRule rule old
+    → HasRule (record rule { range = Some range }) new
+ranged old new range rule is given has = record {
+  same = ap rule_of is ∙ ap₂ (λ (r : Rule) p. record r { range = p }) has.same (some_and new.num_vals range given);
   local = ap (λ (a : Arg). a.global) is ∙ has.local;
 }
 

@@ -1,10 +1,12 @@
 // The command line.
 
 ghost use Rattle.std.specs.Prelude.{◌≡◌, ◌≤◌, ◌≢◌, [], Bool, IfErr, IfOk, IfSome, Some, codes, map};
+ghost use Rattle.std.specs.List.{list_all};
 ghost use Rattle.std.specs.String.{string_bytes};
 ghost use Rattle.clap.specs.Words.{first_of, found_of, rows_of, subcommand_rows_of};
-ghost use Rattle.commands.specs.Command.{AreNamed, AreWithin, IsComplete, IsPlainAlone};
+ghost use Rattle.commands.specs.Command.{AreAllNamed, AreNamed, AreWithin, IsComplete, IsPlainAlone, is_named};
 ghost use Rattle.commands.specs.CommandLine.{
+  AreFiles,
   AreMatchesOf,
   AreOptions,
   AreOutputs,
@@ -27,7 +29,7 @@ use crate::parser::{
     BOARD, CODE, COMMAND, EVIDENCE, EVIDENCE_FILES, FORMULA, GAME, GAME_FILE, OTHER, PLAIN,
     PRIORITIES, QUIET, SCHEDULE, SHARDS, SYSTEM, WITNESS_FILE, WORKERS, parser,
 };
-use crate::request::{Command, Normal, Outputs, Replay, Solve, Verify};
+use crate::request::{Command, Normal, Outputs, Replay, Solve, Table, Verify};
 use clap::error::ErrorKind;
 use clap::{ArgMatches, Error as ClapError};
 use normal::priorities::Priorities;
@@ -48,13 +50,9 @@ pub fn command<'a>(alloc: Global, words: &'a [String]) -> Result<Command<'a>, Mu
     ensures refused { IfErr result IsLineError }
 {
     let matches = matches_of(alloc, words)?;
-    match request_of(&matches) {
-        Ok(command) => {
-            keep_files(alloc, &command)?;
-            Ok(command)
-        }
-        Err(error) => Err(MuError::Arguments(error)),
-    }
+    let command = request_of(alloc, &matches)?;
+    keep_files(alloc, &command)?;
+    Ok(command)
 }
 
 fn matches_of<'a>(alloc: Global, words: &'a [String]) -> Result<ArgMatches<'a>, MuError>
@@ -84,14 +82,30 @@ pub(crate) fn refusal(alloc: Global, error: &ClapError) -> MuError
 }
 
 /// The command that the matches ask for.
-fn request_of<'a>(matches: &ArgMatches<'a>) -> Result<Command<'a>, ArgumentError>
+fn request_of<'a>(alloc: Global, matches: &ArgMatches<'a>) -> Result<Command<'a>, MuError>
     ensures asked { IfOk result (IsRead (subcommand_rows_of matches.now)) }
     ensures complete { IfOk result IsComplete }
     ensures plain { IfOk result IsPlainAlone }
+    ensures refused { IfErr result IsLineError }
 {
     let Some((name, found)) = matches.subcommand() else {
-        return Err(ArgumentError::NoCommand);
+        return Err(MuError::Arguments(ArgumentError::NoCommand));
     };
+    if name == "table" {
+        return table_of(alloc, found);
+    }
+    match other_of(name, found) {
+        Ok(command) => Ok(command),
+        Err(error) => Err(MuError::Arguments(error)),
+    }
+}
+
+/// The command of this name, which isn't `table`.
+fn other_of<'a>(name: &str, found: &ArgMatches<'a>) -> Result<Command<'a>, ArgumentError>
+    ensures asked { IfOk result (IsCommand name.now (rows_of (found_of found.now))) }
+    ensures complete { IfOk result IsComplete }
+    ensures plain { IfOk result IsPlainAlone }
+{
     match name {
         "check" => check_of(found),
         "normal" => normal_of(found),
@@ -103,6 +117,24 @@ fn request_of<'a>(matches: &ArgMatches<'a>) -> Result<Command<'a>, ArgumentError
         "version" => Ok(Command::Version),
         _ => Err(ArgumentError::NoCommand),
     }
+}
+
+/// The table that the matches of its command ask for.
+fn table_of<'a>(alloc: Global, matches: &ArgMatches<'a>) -> Result<Command<'a>, MuError>
+    ensures asked { IfOk result (IsCommand (codes "table") (rows_of (found_of matches.now))) }
+    ensures complete { IfOk result IsComplete }
+    ensures plain { IfOk result IsPlainAlone }
+    ensures refused { IfErr result IsLineError }
+{
+    let system = file_name(matches, SYSTEM).map_err(MuError::Arguments)?;
+    let options = options(matches).map_err(MuError::Arguments)?;
+    let formulas = file_names(alloc, matches, FORMULA)?;
+    Ok(Command::Table(Table {
+        system,
+        formulas,
+        options,
+        plain: has_value(matches, PLAIN, "true"),
+    }))
 }
 
 /// The check that the matches of its command ask for.
@@ -262,6 +294,40 @@ fn file_name<'a>(matches: &ArgMatches<'a>, id: &str) -> Result<&'a str, Argument
     match matches.get_str(id) {
         Some(name) if !name.is_empty() => Ok(name),
         _ => Err(ArgumentError::EmptyName),
+    }
+}
+
+/// The files that an argument names.
+fn file_names<'a>(
+    alloc: Global,
+    matches: &ArgMatches<'a>,
+    id: &str,
+) -> Result<Vec<&'a str>, MuError>
+    ensures asked { IfOk result (λ names. AreFiles (rows_of (found_of matches.now)) id.now names.items) }
+    ensures named { IfOk result (λ names. AreAllNamed names.items) }
+    ensures refused { IfErr result IsLineError }
+{
+    match matches.get_strs(id) {
+        Some(names) if are_named(names) => copied(alloc, names),
+        _ => Err(MuError::Arguments(ArgumentError::EmptyName)),
+    }
+}
+
+/// Whether none of these is empty.
+fn are_named(names: &[&str]) -> bool
+    ensures { result ≡ list_all is_named names.now }
+{
+    names.iter().all(|name| !name.is_empty())
+}
+
+/// These names, in a vector of their own.
+fn copied<'a>(alloc: Global, names: &[&'a str]) -> Result<Vec<&'a str>, MuError>
+    ensures items { IfOk result (λ copy. copy.items ≡ names.now) }
+    ensures refused { IfErr result IsLineError }
+{
+    match names.iter().copied().collect(alloc) {
+        Ok(copy) => Ok(copy),
+        Err(_) => Err(MuError::Memory),
     }
 }
 

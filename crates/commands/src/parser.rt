@@ -8,6 +8,7 @@ ghost use Rattle.commands.specs.CommandLine.{
   check_rules,
   explain_rules,
   file_rule,
+  files_rule,
   flag_rule,
   help_rules,
   lifting_rules,
@@ -18,6 +19,7 @@ ghost use Rattle.commands.specs.CommandLine.{
   replay_rules,
   shards_rule,
   solve_rules,
+  table_rules,
   value_rule,
   verify_rules,
   workers_rule,
@@ -87,6 +89,18 @@ the formula, 1 where it does not, 2 where an argument or a text is refused, and 
 memory, a file, a read or a write failed.\n\n\
 Example:\n  mucheck check examples/first/system.aut examples/first/formula.mcf";
 
+const TABLE_ABOUT: &str = "Reports for each of many formulas whether a system satisfies it";
+
+const TABLE_AFTER: &str =
+    "The system is read once. For each formula a line goes to the standard output as soon as it is\n\
+known: the initial state's answer, how many states of how many satisfy it, and its file; or\n\
+the refusal, and its file. Where the first line of a file is\n\n\
+\x20 % expect yes\n\n\
+or % expect no, its line ends in `as expected` or UNEXPECTED. The status is 0 where each answer\n\
+is as expected (yes where nothing is said), else 1, or 2 or 3 as of check where a formula was\n\
+refused: the greatest of them.\n\n\
+Example:\n  mucheck table examples/first/system.aut examples/first/formula.mcf";
+
 const NORMAL_ABOUT: &str = "Writes the normal form of a formula, a line for each node";
 
 const NORMAL_AFTER: &str =
@@ -140,6 +154,8 @@ const SYSTEM_HELP: &str = "The system's file, in the Aldebaran format (.aut)";
 
 const FORMULA_HELP: &str = "The formula's file, in the mu-calculus format (.mcf)";
 
+const FORMULAS_HELP: &str = "The formulas' files, in the mu-calculus format (.mcf)";
+
 const GAME_HELP: &str = "The game's file, in the format of PGSolver";
 
 const EVIDENCE_HELP: &str = "The file of the evidence";
@@ -187,6 +203,7 @@ pub(crate) fn parser<'a>(alloc: Global) -> Result<Parser<'a>, AllocError>
         .subcommand_required(true)
         .disable_help_subcommand(true);
     let parser = parser.subcommand(check_parser(alloc, rules, boards)?)?;
+    let parser = parser.subcommand(table_parser(alloc, rules, boards)?)?;
     let parser = parser.subcommand(normal_parser(alloc, rules)?)?;
     let parser = parser.subcommand(solve_parser(alloc, boards)?)?;
     let parser = parser.subcommand(verify_parser(alloc)?)?;
@@ -217,6 +234,21 @@ fn check_parser<'a>(
         .arg(quiet(alloc))?
         .arg(rule(alloc, rules))?;
     with_outputs(alloc, with_workers(alloc, parser, boards)?)
+}
+
+fn table_parser<'a>(
+    alloc: Global,
+    rules: &'a [&'a str],
+    boards: &'a [&'a str],
+) -> Result<Parser<'a>, AllocError>
+    ensures { IfOk result (ReadsBy (command_app (codes "table") (table_rules rules.entry boards.entry))) }
+{
+    let parser = described(alloc, "table", TABLE_ABOUT, TABLE_AFTER)
+        .arg(file(alloc, SYSTEM, SYSTEM_HELP))?
+        .arg(files(alloc, FORMULA, FORMULAS_HELP))?
+        .arg(flag(alloc, PLAIN, PLAIN_HELP))?
+        .arg(rule(alloc, rules))?;
+    with_workers(alloc, parser, boards)
 }
 
 fn normal_parser<'a>(alloc: Global, rules: &'a [&'a str]) -> Result<Parser<'a>, AllocError>
@@ -274,6 +306,13 @@ fn file<'a>(alloc: Global, id: &'a str, help: &'a str) -> Arg<'a>
     ensures { HasRule (file_rule id.now) result }
 {
     Arg::new(alloc, id).required(true).help(help)
+}
+
+/// Files, by their place among the words: one at least.
+fn files<'a>(alloc: Global, id: &'a str, help: &'a str) -> Arg<'a>
+    ensures { HasRule (files_rule id.now) result }
+{
+    file(alloc, id, help).num_args(1..)
 }
 
 /// An option without a value.

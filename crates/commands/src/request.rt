@@ -7,10 +7,11 @@ use normal::priorities::Priorities;
 use requests::request::{Check, Options};
 
 /// What the program is asked to do.
-#[derive(Clone, Copy)]
+#[derive(Drop)]
 pub enum Command<'a> {
     /// A check, and where its texts go.
     Check(Check<'a>, Outputs<'a>),
+    Table(Table<'a>),
     Normal(Normal<'a>),
     Solve(Solve<'a>),
     Verify(Verify<'a>),
@@ -42,6 +43,16 @@ impl Outputs<'_> {
     {
         self.game.is_none() && self.evidence.is_none() && self.witness.is_none()
     }
+}
+
+/// The answers of one system to many formulas, a line for each.
+#[derive(Drop)]
+pub struct Table<'a> {
+    pub system: &'a str,
+    pub formulas: Vec<&'a str>,
+    pub options: Options,
+    /// By sets of states, without a game.
+    pub plain: bool,
 }
 
 /// The normal form of a formula, with the priorities of a rule.

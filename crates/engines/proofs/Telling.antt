@@ -1,5 +1,5 @@
 -- What a table finds of a formula, and the line that tells it.
-use Rattle.std.proofs.Common.{◌≡◌, ◌∙◌, ℕ, List, Bool, Some, Ok, Err, inl, inr, refl, ap, subst, sym, arith, length, take}
+use Rattle.std.proofs.Common.{◌≡◌, ◌∙◌, ℕ, List, Bool, Some, Ok, Err, inl, inr, refl, ap, subst, sym, arith, take}
 use Rattle.std.proofs.lemmas.List.{take_all}
 use Rattle.std.specs.Prelude.{IfOk, Option, Result, MatchResult, if◌then◌else◌}
 use Rattle.std.specs.Io.KnownBytes.{Appends}
@@ -7,7 +7,6 @@ use Rattle.text.specs.Wrote.{Wrote, WroteFront}
 use Rattle.text.specs.declared.write_loop.WriteFault.{WriteFault}
 use Rattle.systems.specs.System.{System}
 use Rattle.calculus.specs.Tree.{Formula}
-use Rattle.normal.specs.declared.priorities.Priorities.{Priorities}
 use Rattle.requests.specs.declared.error.MuError.{MuError}
 use Rattle.requests.specs.declared.error.MuError.TheVariants as error
 use Rattle.requests.specs.Check.{Way, BySets, ByGame, IsBeyond}
@@ -76,9 +75,11 @@ beyond way l text f (error.Write e) is h = (f, is, h)
 same_line : (name : List ℕ) (a b : Option Bool) (c d : Bool) (m n s t : ℕ) → a ≡ b → c ≡ d → m ≡ n → s ≡ t
     → answer_line name a c m s ≡ answer_line name b d n t
 same_line name a b c d m n s t e f g h =
-    ap (λ x. answer_line name x c m s) e ∙ (ap (λ x. answer_line name b x m s) f ∙ (ap (λ x. answer_line name b d x s) g ∙ ap (λ x. answer_line name b d n x) h))
+    ap (λ x. answer_line name x c m s) e
+    ∙ (ap (λ x. answer_line name b x m s) f ∙ (ap (λ x. answer_line name b d x s) g ∙ ap (λ x. answer_line name b d n x) h))
 
-same_status : (a b : Option Bool) (c d : Bool) (m : ℕ) → a ≡ b → c ≡ d → m ≡ (if is_as_expected a c then 0 else 1) → m ≡ (if is_as_expected b d then 0 else 1)
+same_status : (a b : Option Bool) (c d : Bool) (m : ℕ) → a ≡ b → c ≡ d → m ≡ (if is_as_expected a c then 0 else 1)
+    → m ≡ (if is_as_expected b d then 0 else 1)
 same_status a b c d m e f h =
     h ∙ (ap (λ x. if is_as_expected x c then 0 else 1) e ∙ ap (λ x. if is_as_expected b x then 0 else 1) f)
 

@@ -1,6 +1,6 @@
 -- What a table tells of each formula: a line, and the status that it comes to.
-use Rattle.std.specs.Prelude.{◌≡◌, ℕ, ◌+◌, ◌||◌, ◌&&◌, ◌==◌, nat_eq, Bool, true, false, not, List, [], ◌∷◌, ◌++◌, ◌⊎◌, length, drop, count_by, codes, decimal}
-use Rattle.std.specs.Prelude.{Option, Some, None, Result, MatchResult, if◌then◌else◌}
+use Rattle.std.specs.Prelude.{◌≡◌, ℕ, ◌||◌, ◌&&◌, ◌==◌, nat_eq, Bool, true, false, not, List, [], ◌∷◌, ◌++◌, ◌⊎◌, length, drop, count_by, codes}
+use Rattle.std.specs.Prelude.{decimal, Option, Some, None, Result, MatchResult, if◌then◌else◌}
 use Rattle.std.specs.List.{slice_index_or, starts_with}
 use Rattle.std.specs.Io.KnownBytes.{Appends}
 use Rattle.text.specs.Tokens.{past_blanks}

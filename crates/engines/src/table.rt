@@ -93,9 +93,7 @@ fn find_in<H: Threads + Wait + Clone + Copy + Drop + Send + Sync>(
 {
     match formula_of(alloc, front) {
         Ok(formula) => {
-            let marks = marks_by(
-                rt, alloc, system, &formula, options, plain, &NoGate, &Silent,
-            );
+            let marks = marks_by(rt, alloc, system, &formula, options, plain, &Silent);
             match marks {
                 Ok(marks) => Ok(found_of(system, &marks, expectation(front))),
                 Err(error) => Err(error),

@@ -6,11 +6,13 @@ mod files;
 mod line;
 mod refusal;
 mod same;
+mod table;
 
 use crate::files::Files;
 use crate::line::{Line, Output};
 use crate::refusal::{NO_SOURCES, Refusal, Sources, tell};
 use crate::same::keep_apart;
+use crate::table::run_table;
 use commands::command_line::command;
 use commands::information::{explanation, help_text, version_text};
 use commands::names::EvidenceNames;
@@ -22,7 +24,7 @@ use commands::verify_text::{verify_both_text, verify_text};
 use engines::engine::check_asked;
 use engines::error::{ArgumentError, MuError};
 use engines::request::Check;
-use engines::status::status;
+use engines::status::{error_status, status};
 use lts::put;
 use std::fs::File;
 use std::io::ErrorKind;
@@ -33,40 +35,36 @@ use std::time::Clock;
 use std::{env, io};
 
 fn main(rt: HostRuntime) -> ExitCode {
-    let answer = match words(&rt) {
+    let status = match words(&rt) {
         Ok(words) => run(&rt, &rt, &words),
-        Err(error) => answer(&rt, &NO_SOURCES, Err(Refusal::Told(error))),
+        Err(error) => ended(&rt, &NO_SOURCES, Err(Refusal::Told(error))),
     };
-    ExitCode::from(status(&answer))
+    ExitCode::from(status)
 }
 
-// Threads are handed on apart, since `main` alone has them.
+// The status with which the program ends. Threads are handed on apart, since `main` alone has them.
 fn run<T: Threads + Wait + Clock + Clone + Copy + Drop + Send + Sync + 'static>(
     rt: &HostRuntime,
     threads: &T,
     words: &[String],
-) -> Result<bool, MuError> {
+) -> u8 {
     match command(rt.alloc(), words) {
         Ok(command) => {
             let sources = Sources::of(&command);
-            answer(rt, &sources, run_command(rt, threads, &command))
+            ended(rt, &sources, run_command(rt, threads, &command))
         }
-        Err(error) => answer(rt, &NO_SOURCES, Err(Refusal::Told(error))),
+        Err(error) => ended(rt, &NO_SOURCES, Err(Refusal::Told(error))),
     }
 }
 
-/// The answer. A refusal is told.
-fn answer(
-    rt: &HostRuntime,
-    sources: &Sources<'_>,
-    found: Result<bool, Refusal>,
-) -> Result<bool, MuError> {
+/// The status. A refusal is told.
+fn ended(rt: &HostRuntime, sources: &Sources<'_>, found: Result<u8, Refusal>) -> u8 {
     match found {
-        Ok(yes) => Ok(yes),
+        Ok(status) => status,
         Err(refusal) => {
             // Where standard error fails too, the status alone tells.
             let _ = tell(rt, sources, &refusal);
-            Err(refusal.into_error())
+            error_status(&refusal.into_error())
         }
     }
 }
@@ -75,9 +73,10 @@ fn run_command<T: Threads + Wait + Clock + Clone + Copy + Drop + Send + Sync + '
     rt: &HostRuntime,
     threads: &T,
     command: &Command<'_>,
-) -> Result<bool, Refusal> {
-    match command {
+) -> Result<u8, Refusal> {
+    let answer = match command {
         Command::Check(request, outputs) => run_check(rt, threads, request, outputs),
+        Command::Table(request) => return run_table(rt, threads, request),
         Command::Normal(request) => run_normal(rt, request),
         Command::Solve(request) => run_solve(rt, threads, request),
         Command::Verify(request) => run_verify(rt, request),
@@ -85,7 +84,8 @@ fn run_command<T: Threads + Wait + Clock + Clone + Copy + Drop + Send + Sync + '
         Command::Explain(code) => show(rt, explanation(rt.alloc(), code)),
         Command::Help(command) => show(rt, help_text(rt.alloc(), *command)),
         Command::Version => show(rt, version_text(rt.alloc())),
-    }
+    };
+    Ok(status(&Ok(answer?)))
 }
 
 /// Writes a text that was asked for.

@@ -67,6 +67,10 @@ impl<'a> Sources<'a> {
                 formula: Some(check.formula),
                 ..NO_SOURCES
             },
+            Command::Table(table) => Sources {
+                system: Some(table.system),
+                ..NO_SOURCES
+            },
             Command::Normal(normal) => Sources {
                 formula: Some(normal.formula),
                 ..NO_SOURCES

@@ -61,6 +61,12 @@ fn request_of(alloc: Global, words: &[String]) -> Result<String, AllocError> {
                 "check {system} {formula} {options} {plain} {game} {evidence} {witness} {report}"
             )
         }
+        Ok(Command::Table(table)) => {
+            let options = options_of(alloc, &table.options)?;
+            let (system, plain) = (table.system, table.plain);
+            let files = table.formulas.join(alloc, ",")?;
+            format!(in alloc; "table {system} {files} {options} {plain}")
+        }
         Ok(Command::Normal(form)) => {
             let (formula, rule) = (form.formula, rule_of(form.priorities));
             format!(in alloc; "normal {formula} {rule}")
@@ -91,7 +97,19 @@ fn request_of(alloc: Global, words: &[String]) -> Result<String, AllocError> {
 }
 
 /// Lines and what they ask for, with the defaults of the program's description.
-const TAKEN: [(&str, &str); 32] = [
+const TAKEN: [(&str, &str); 35] = [
+    (
+        "mucheck table s f",
+        "table s f nested 1 16 auto false",
+    ),
+    (
+        "mucheck table s f g --plain h",
+        "table s f,g,h nested 1 16 auto true",
+    ),
+    (
+        "mucheck table --board locked s f --workers 2 g --priorities dependent --shards 3",
+        "table s f,g dependent 2 3 locked false",
+    ),
     (
         "mucheck check s f --workers 8",
         "check s f nested 8 16 auto false - - - report",
@@ -201,7 +219,13 @@ fn takes_command_lines(rt: HostRuntime) {
     }
 }
 
-const REFUSED: [&str; 49] = [
+const REFUSED: [&str; 55] = [
+    "mucheck table",
+    "mucheck table s",
+    "mucheck table  f",
+    "mucheck table s f ",
+    "mucheck table s f --quiet",
+    "mucheck table s f --witness w",
     "mucheck",
     "mucheck --help",
     "mucheck --version",
@@ -363,7 +387,7 @@ fn codes_are_explained(rt: HostRuntime) {
 #[test]
 fn texts_are_those_of_the_options(rt: HostRuntime) {
     for command in &[
-        "check", "normal", "solve", "verify", "replay", "explain", "help", "version",
+        "check", "table", "normal", "solve", "verify", "replay", "explain", "help", "version",
     ] {
         let line = format!(in rt.alloc(); "mucheck {command} --help").expect(&rt, "memory");
         let words = words(rt.alloc(), line.as_str()).expect(&rt, "memory");
@@ -391,7 +415,16 @@ fn help(alloc: Global, words: &[String]) -> Result<String, AllocError> {
 }
 
 /// A command, and parts of its help.
-const SHOWN: [(&str, [&str; 4]); 5] = [
+const SHOWN: [(&str, [&str; 4]); 6] = [
+    (
+        "mucheck table --help",
+        [
+            "FORMULA",
+            "--plain",
+            "% expect yes",
+            "Example:\n  mucheck table ",
+        ],
+    ),
     (
         "mucheck check --help",
         [

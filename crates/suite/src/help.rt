@@ -8,6 +8,7 @@ Usage: mucheck <COMMAND>
 
 Commands:
   check    Reports for each state of a system whether it satisfies a formula
+  table    Reports for each of many formulas whether a system satisfies it
   normal   Writes the normal form of a formula, a line for each node
   solve    Writes for each vertex of a parity game who wins it
   verify   Checks evidence that a player wins vertices of a parity game
