@@ -12,4 +12,4 @@ pub mod request;
 pub mod solve_text;
 pub mod verify_text;
 pub mod version;
-mod winners;
+mod winner_text;

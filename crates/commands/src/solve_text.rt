@@ -8,7 +8,7 @@ ghost use Rattle.commands.specs.Spelled.{IsGameOf};
 ghost use Rattle.commands.specs.Solves.{Answers, Solves};
 ghost use Rattle.commands.specs.Winners.{AreWinners};
 
-use crate::winners::{guessed_winners, winners, winners_text};
+use crate::winner_text::{guessed_winners, winners, winners_text};
 use game::graph::Game;
 use lts::put;
 use pgsolver::read_game;

@@ -1,7 +1,7 @@
 use Rattle.std.specs.Prelude.{count_by, length}
 use Rattle.text.proofs.Writing.{Wrote-err, Wrote-after, WroteFront-more}
 use Rattle.commands.specs.Winners.{sizes_text}
-use Rattle.commands.proofs.winners.write_winners.Goals as goal
+use Rattle.commands.proofs.winner_text.write_winners.Goals as goal
 
 pub returns-in_err-write_sizes : goal.returns-in_err-write_sizes
 returns-in_err-write_sizes g c =

@@ -1,7 +1,7 @@
 use Rattle.std.proofs.Common.{subst}
 use Rattle.text.proofs.Writing.{HasWritten, HasWritten-none, HasWritten-more, HasWritten-stops, HasWritten-all, Wrote-err}
 use Rattle.commands.proofs.Lines.{next_line, no_lines}
-use Rattle.commands.proofs.winners.write_lines.Goals as goal
+use Rattle.commands.proofs.winner_text.write_lines.Goals as goal
 
 pub loop-v-init : goal.loop-v-init
 loop-v-init g c = HasWritten-none _ _
