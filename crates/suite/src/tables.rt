@@ -85,5 +85,5 @@ fn failed_writes_are_told(rt: HostRuntime) {
         &mut out,
     );
     assert!(rt; answer.is_err());
-    assert!(rt; out.taken.as_slice() == b"yes 1 of 2");
+    assert!(rt; out.taken.as_slice() == b"yes 1 of 2".as_slice());
 }
