@@ -16,8 +16,7 @@ enum Target {
     ErrorOutput,
 }
 
-/// The files that a check writes beside its report. None of them is there before the first byte of any is written; then all are
-/// made.
+/// The files that a check writes beside its report. Each is made when its own first byte is written.
 #[derive(Drop)]
 pub struct Files<'a> {
     rt: &'a HostRuntime,
@@ -35,6 +34,7 @@ pub struct Files<'a> {
 #[derive(Drop)]
 pub struct FileWriter<'a> {
     all: &'a Files<'a>,
+    name: Option<&'a str>,
     own: &'a OnceCell<Target>,
 }
 
@@ -76,6 +76,7 @@ impl<'a> Files<'a> {
     pub fn game(&'a self) -> FileWriter<'a> {
         FileWriter {
             all: self,
+            name: self.game_name,
             own: &self.game,
         }
     }
@@ -84,6 +85,7 @@ impl<'a> Files<'a> {
     pub fn even(&'a self) -> FileWriter<'a> {
         FileWriter {
             all: self,
+            name: self.evidence_names.as_ref().map(|names| names.even.as_str()),
             own: &self.even,
         }
     }
@@ -92,6 +94,7 @@ impl<'a> Files<'a> {
     pub fn odd(&'a self) -> FileWriter<'a> {
         FileWriter {
             all: self,
+            name: self.evidence_names.as_ref().map(|names| names.odd.as_str()),
             own: &self.odd,
         }
     }
@@ -100,6 +103,7 @@ impl<'a> Files<'a> {
     pub fn witness(&'a self) -> FileWriter<'a> {
         FileWriter {
             all: self,
+            name: self.witness_name,
             own: &self.witness,
         }
     }
@@ -109,22 +113,7 @@ impl<'a> Files<'a> {
         self.refusal.into_inner()
     }
 
-    /// Makes those that have a name.
-    fn make(&self) -> io::Result<()> {
-        if let Some(name) = self.game_name {
-            self.make_one(&self.game, name)?;
-        }
-        if let Some(names) = &self.evidence_names {
-            self.make_one(&self.even, names.even.as_str())?;
-            self.make_one(&self.odd, names.odd.as_str())?;
-        }
-        if let Some(name) = self.witness_name {
-            self.make_one(&self.witness, name)?;
-        }
-        Ok(())
-    }
-
-    fn make_one(&self, place: &OnceCell<Target>, name: &str) -> io::Result<()> {
+    fn make(&self, place: &OnceCell<Target>, name: &str) -> io::Result<()> {
         match self.target(name) {
             Ok(target) => {
                 // One that is made already stays.
@@ -150,8 +139,10 @@ impl<'a> Files<'a> {
 
 impl Write for FileWriter<'_> {
     fn write(&mut self, bytes: &[u8]) -> io::Result<usize> {
-        if self.own.get().is_none() {
-            self.all.make()?;
+        if let Some(name) = self.name
+            && self.own.get().is_none()
+        {
+            self.all.make(self.own, name)?;
         }
         match self.own.get() {
             Some(Target::File(file)) => {
