@@ -98,10 +98,7 @@ fn request_of(alloc: Global, words: &[String]) -> Result<String, AllocError> {
 
 /// Lines and what they ask for, with the defaults of the program's description.
 const TAKEN: [(&str, &str); 35] = [
-    (
-        "mucheck table s f",
-        "table s f nested 1 16 auto false",
-    ),
+    ("mucheck table s f", "table s f nested 1 16 auto false"),
     (
         "mucheck table s f g --plain h",
         "table s f,g,h nested 1 16 auto true",

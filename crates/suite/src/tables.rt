@@ -2,8 +2,7 @@
 
 use engines::request::{BoardKind, Options};
 use engines::table::table_line;
-use lts::Lts;
-use lts::read_aut;
+use lts::{Lts, read_aut};
 use normal::priorities::Priorities;
 use samples::texts::RING;
 use samples::writers::{AtEnd, Narrow};
@@ -25,7 +24,11 @@ const LINES: [(&str, &str, u8); 12] = [
     ("nu X. <true>X", "yes 2 of 2 f.mcf\n", 0),
     ("% expect yes\n<a>true", "yes 1 of 2 f.mcf as expected\n", 0),
     ("% expect no\n<a>true", "yes 1 of 2 f.mcf UNEXPECTED\n", 1),
-    ("% expect no \t\r\n<b>true", "no 1 of 2 f.mcf as expected\n", 0),
+    (
+        "% expect no \t\r\n<b>true",
+        "no 1 of 2 f.mcf as expected\n",
+        0,
+    ),
     ("% expect yes\r\n<b>true", "no 1 of 2 f.mcf UNEXPECTED\n", 1),
     // Three that are no such line, or not the first.
     ("% expect no.\n<b>true", "no 1 of 2 f.mcf\n", 1),
