@@ -1,8 +1,8 @@
-use Rattle.std.proofs.Common.{◌≡◌, ◌∙◌, ap, subst, sym, List, Some, ℕ}
-use Rattle.std.specs.Prelude.{map, option_map, IfOk}
+use Rattle.std.proofs.Common.{◌∙◌, ap, sym, List, Some}
+use Rattle.std.specs.Prelude.{map, option_map}
 use Rattle.std.proofs.lemmas.Result.{IfOk-weaker}
 use Rattle.std.specs.Borrow.{Bor}
-use Rattle.clap.specs.Words.{Text, all_of, found_of, rows_of}
+use Rattle.clap.specs.Words.{Text, found_of}
 use Rattle.clap.proofs.WalkLemmas.{raw_values-rows}
 use Rattle.commands.proofs.command_line.file_names.Goals as goal
 
