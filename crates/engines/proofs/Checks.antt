@@ -1,5 +1,5 @@
 -- What a check has found out.
-use Rattle.std.proofs.Common.{◌≡◌, ℕ, List, Bool, false, Some, None, Ok, Err, [], inl, inr, refl, subst, sym, ap, true≢false, slice_index_or}
+use Rattle.std.proofs.Common.{arith, ◌≡◌, ℕ, List, Bool, false, Some, None, Ok, Err, [], inl, inr, refl, subst, sym, ap, true≢false, slice_index_or}
 use Rattle.std.specs.Option.{is_some}
 use Rattle.std.specs.Prelude.{◌⊎◌, IsTrue, IfSome, IfOk, IfErr, IsErrAnd, MatchResult, Option, Result}
 use Rattle.std.proofs.KnownBytes.{Appends-nil, Keeps-refl}
@@ -20,7 +20,7 @@ use Rattle.requests.specs.Writers.{lent_for, report_writer, witness_kind}
 use Rattle.requests.specs.Texts.{IsFormulaOf, IsReadRefusal}
 use Rattle.requests.specs.declared.request.Wanted.{Wanted}
 use Rattle.engines.specs.Findings.{AreFindings, IsTextFound, IsUnprepared, IsUnshown, formula_of, system_of, way_in}
-use Rattle.requests.specs.Solver.{IsUnsolved}
+use Rattle.requests.specs.Solver.{IsFitting, IsUnsolved}
 use Rattle.game.specs.Game.{Game}
 use Rattle.workers.specs.declared.team.BoardKind.{BoardKind}
 use Rattle.engines.specs.declared.findings.Findings.{Findings}
@@ -192,7 +192,7 @@ nothing_written : (way : Way) (l : System) (f : Formula) (marks : List Bool) (by
 nothing_written way l f marks bytes = ([], nothing_asked way l f marks, Appends-nil bytes)
 
 no_evidence_needed : (old new : Option (List ℕ)) → NeedsEvidence (report_writer old new) → ⊥
-no_evidence_needed old new needed = grind
+no_evidence_needed old new needed = grind arith
 
 -- Where nothing is wanted before the report, it alone is written.
 pub alone_of : (way : Way) (first second : List ℕ) (game even odd witness old new : Option (List ℕ)) (r : Result Bool MuError)
@@ -233,3 +233,11 @@ alone_of way first second game even odd witness old new (Err (error.Evidence e))
 alone_of way first second game even odd witness old new (Err (error.Table e)) h = (h.0, alone_kept game even odd witness old new h.1)
 alone_of way first second game even odd witness old new (Err (error.Solve e)) h = (h.0, alone_kept game even odd witness old new h.1)
 alone_of way first second game even odd witness old new (Err (error.Schedule e)) h = absurd h
+
+-- Marks that were found for each board that can be had are those of the one that is asked for; memory may be wanting anyway.
+pub marks_or_memory : {A : Type 0} (items : A → List Bool) (rule : Priorities) (board : BoardKind) (l : System) (f : Formula) (g : Game) (r : Result A MuError)
+    → IsFitting (Some board) g → IfOk r (λ marks. (b : Option BoardKind) → IsFitting b g → AreMarks (ByGame rule b) l f (items marks))
+    → IfErr r (λ e. e ≡ error.Memory)
+    → MatchResult r (λ marks. AreMarks (ByGame rule (Some board)) l f (items marks)) (IsBeyond (ByGame rule (Some board)) l f)
+marks_or_memory items rule board l f g (Ok marks) fits found memory = found (Some board) fits
+marks_or_memory items rule board l f g (Err e) fits found memory = subst (IsBeyond (ByGame rule (Some board)) l f) (sym memory) tt

@@ -7,7 +7,7 @@ use Rattle.engines.proofs.engine.check_report.Goals as goal
 pub returns-in-Ok : goal.returns-in-Ok
 returns-in-Ok g c = λ first second known also.
     let options = c.args.options.now in
-    c.report.ensures.answers (ByGame options.priorities (Some options.board)) first second c.game_marks.ensures
+    c.report.ensures.answers (ByGame options.priorities (Some options.board)) first second c.game_marks-marks.ensures
     (c.in-Ok.ensures.spelled first second known also)
 
 pub returns-in-Err : goal.returns-in-Err
