@@ -1,15 +1,14 @@
 -- What an argument more, and a command more, make of a table.
-use Rattle.std.proofs.Common.{◌≡◌, ◌∙◌, ap, ap₂, refl, sym, Bool, true, false, true≢false, not, ◌&&◌, ◌==◌, inl, inr, List, [], ◌∷◌, ◌++◌, length, Some, arith}
-use Rattle.std.proofs.lemmas.Bool.Decides.{eqb_tells}
-use Rattle.std.proofs.lemmas.List.{length-append}
+use Rattle.std.proofs.Common.{◌≡◌, ◌∙◌, ap, ap₂, refl, sym, ℕ, Bool, true, false, true≢false, not, ◌&&◌, List, Some, None}
+use Rattle.std.specs.Prelude.{IsSomeAnd, Option}
 use Rattle.std.specs.Borrow.{Bor}
 use Rattle.clap.specs.Words.{is_simple}
-use Rattle.clap.specs.Walk.{Text, is_empty, is_free_arg}
-use Rattle.clap.specs.Words.{AddsArg, AddsConflicts, AddsSubcommand, App, Rule, app_of, rule_of, with_rule, with_subcommand}
+use Rattle.clap.specs.Words.{AddsArg, AddsSubcommand, App, Rule, Text, rule_of, with_rule, with_subcommand}
 use Rattle.clap.specs.declared.builder.arg.Arg.{Arg}
 use Rattle.clap.specs.declared.builder.command.Command.{Command as Parser}
+use Rattle.clap.specs.declared.builder.range.ValueRange.{ValueRange}
 use Rattle.clap.specs.declared.builder.value_parser.ValueParser.{ValueParser}
-use Rattle.commands.specs.CommandLine.{IsTable, mucheck_app}
+use Rattle.commands.specs.CommandLine.{IsTable}
 use Rattle.commands.specs.Parsers.{AddsRules, HasRule, ReadsBy, with_rules}
 
 -- ------------------------------------------------------------------ arguments
@@ -30,22 +29,25 @@ parses old new parser rule is given has = record {
   local = ap (λ (a : Arg). a.global) is ∙ has.local;
 }
 
-and_false : (b : Bool) → (b && false) ≡ false
-and_false true = refl
-and_false false = refl
+-- a letter changes the rule's letter alone
+pub lettered : (old new : Arg) (letter : ℕ) (rule : Rule) → new ≡ record old { short = Some letter } → HasRule rule old
+    → HasRule (record rule { short = Some letter }) new
+lettered old new letter rule is has = record {
+  same = ap rule_of is ∙ ap (λ (r : Rule). record r { short = Some letter }) has.same;
+  local = ap (λ (a : Arg). a.global) is ∙ has.local;
+}
 
-not_empty : {X : Type 0} (xs : List X) (x : X) → is_empty (xs ++ x ∷ []) ≡ false
-not_empty xs x = elim (eqb_tells (length (xs ++ x ∷ [])) 0) [ inl w ↦ absurd (omega (arith, length-append xs (x ∷ []), w.1)) | inr w ↦ w.0 ]
+some_and : {X : Type 0} (o : Option X) (x : X) → IsSomeAnd o (λ y. y ≡ x) → o ≡ Some x
+some_and None x h = absurd h
+some_and (Some y) x h = ap Some h
 
-not_free : (old new : Arg) (id : Bor Text) → AddsConflicts old new (id ∷ []) → is_free_arg (record old { conflicts = new.conflicts }) ≡ false
-not_free old new id adds = rw (adds.1, not_empty) (and_false (not old.exclusive))
-
--- what is in conflict is no longer free
-pub conflicts : (old new : Arg) (id : Bor Text) (rule : Rule) → AddsConflicts old new (id ∷ []) → HasRule rule old
-    → HasRule (record rule { is_free = false }) new
-conflicts old new id rule adds has = record {
-  same = ap rule_of adds.0 ∙ ap₂ (λ (r : Rule) b. record r { is_free = b }) has.same (not_free old new id adds);
-  local = ap (λ (a : Arg). a.global) adds.0 ∙ has.local;
+-- how many values an argument has changes the rule's range alone
+pub ranged : (old new : Arg) (range : ValueRange) (rule : Rule) → new ≡ record old { num_vals = new.num_vals } → IsSomeAnd new.num_vals (λ r. r ≡ range)
+    → HasRule rule old
+    → HasRule (record rule { range = Some range }) new
+ranged old new range rule is given has = record {
+  same = ap rule_of is ∙ ap₂ (λ (r : Rule) p. record r { range = p }) has.same (some_and new.num_vals range given);
+  local = ap (λ (a : Arg). a.global) is ∙ has.local;
 }
 
 -- ------------------------------------------------------------------ commands

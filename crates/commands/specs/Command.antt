@@ -1,9 +1,11 @@
 -- What a command has.
-use Rattle.std.specs.Prelude.{◌≢◌, ◌≤◌, [], IfSome}
+use Rattle.std.specs.Prelude.{◌≡◌, ◌≢◌, ◌≤◌, ◌==◌, ℕ, Bool, not, List, [], length, None, IfSome, IsTrue}
+use Rattle.std.specs.List.{list_all}
+use Rattle.std.specs.Borrow.{Bor}
 use Rattle.requests.specs.declared.request.Options.{Options}
 use Rattle.commands.specs.declared.request.Outputs.{Outputs}
 use Rattle.commands.specs.declared.request.Command.{Command}
-use Rattle.commands.specs.declared.request.Command.TheVariants.{Check, Normal, Replay, Solve, Verify}
+use Rattle.commands.specs.declared.request.Command.TheVariants.{Check, Explain, Help, Normal, Replay, Solve, Table, Verify, Version}
 
 -- the numbers of workers and of shards are within the limits
 abbrev pub AreWithin : Options → Type 0
@@ -16,10 +18,30 @@ AreNamed outputs =
     × IfSome outputs.evidence (λ name. name.now ≢ [])
     × IfSome outputs.witness (λ name. name.now ≢ [])
 
+abbrev pub is_named : Bor (List ℕ) → Bool
+is_named file = not (length file.now == 0)
+
+-- every one of these files is named
+abbrev pub AreAllNamed : List (Bor (List ℕ)) → Type 0
+AreAllNamed files = IsTrue (list_all is_named files)
+
 -- Every file that the command needs is named, and its numbers are within the limits.
 abbrev pub IsComplete : Command → Type 0
 IsComplete (Check check outputs) = (check.system.now ≢ []) × (check.formula.now ≢ []) × AreWithin check.options × AreNamed outputs
+IsComplete (Table table) = (table.system.now ≢ []) × AreAllNamed table.formulas.items × AreWithin table.options
 IsComplete (Normal form) = form.formula.now ≢ []
 IsComplete (Solve solve) = (solve.game.now ≢ []) × AreWithin solve.options
 IsComplete (Verify verify) = (verify.game.now ≢ []) × (verify.evidence.now ≢ []) × IfSome verify.other (λ name. name.now ≢ [])
 IsComplete (Replay replay) = (replay.system.now ≢ []) × (replay.formula.now ≢ []) × (replay.schedule.now ≢ []) × (1 ≤ replay.workers) × (replay.workers ≤ 64)
+IsComplete (Explain code) = code.now ≢ []
+IsComplete (Help topic) = IfSome topic (λ name. name.now ≢ [])
+IsComplete Version = Unit {0}
+
+-- no file is written
+abbrev pub IsReportAlone : Outputs → Type 0
+IsReportAlone outputs = (outputs.game ≡ None) × (outputs.evidence ≡ None) × (outputs.witness ≡ None)
+
+-- Without a game no file is written: the report stands alone.
+abbrev pub IsPlainAlone : Command → Type 0
+IsPlainAlone (Check check outputs) = IsTrue check.plain → IsReportAlone outputs
+IsPlainAlone _ = Unit {0}

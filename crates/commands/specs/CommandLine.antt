@@ -1,12 +1,13 @@
 -- What the words of a command line ask for: the table of commands by which they are read, and what is read of them.
-use Rattle.std.specs.Prelude.{◌≡◌, ℕ, Bool, false, true, not, List, [], ◌∷◌, ◌++◌, Option, None, Some, codes, if◌then◌else◌, option_map, pos}
+use Rattle.std.specs.Prelude.{◌≡◌, ℕ, Bool, false, true, not, List, [], ◌∷◌, ◌++◌, Option, None, Some, codes, if◌then◌else◌, map, option_map, pos}
 use Rattle.std.specs.Borrow.{Bor}
 use Rattle.std.specs.Option.{option_map_or}
 use Rattle.std.specs.Str.{bytes_eq}
 use Rattle.std.specs.Str.Parse.{digits_value, without_leading_plus}
 use Rattle.clap.specs.Simple.{new_shape}
 use Rattle.clap.specs.Walk.{texts}
-use Rattle.clap.specs.Words.{App, Row, Rule, Shape, Text, first_of, new_rule, one_of, subcommand_of, subcommand_rows_of}
+use Rattle.clap.specs.Lexer.{usize_max}
+use Rattle.clap.specs.Words.{App, Row, Rule, Shape, Text, all_of, first_of, new_rule, one_of, subcommand_of, subcommand_rows_of}
 use Rattle.clap.specs.declared.builder.action.ArgAction.TheVariants as action
 use Rattle.clap.specs.declared.builder.value_parser.ValueParser.TheVariants as value_parser
 use Rattle.clap.specs.declared.parser.matches.ArgMatches.{ArgMatches}
@@ -19,11 +20,12 @@ use Rattle.requests.specs.declared.error.MuError.TheVariants as error
 use Rattle.requests.specs.declared.request.Check.{Check as CheckRequest}
 use Rattle.requests.specs.declared.request.Options.{Options}
 use Rattle.commands.specs.declared.request.Command.{Command}
-use Rattle.commands.specs.declared.request.Command.TheVariants.{Check, Normal, Replay, Solve, Verify}
+use Rattle.commands.specs.declared.request.Command.TheVariants.{Check, Explain, Help, Normal, Replay, Solve, Table, Verify, Version}
 use Rattle.commands.specs.declared.request.Normal.{Normal as NormalRequest}
 use Rattle.commands.specs.declared.request.Outputs.{Outputs}
 use Rattle.commands.specs.declared.request.Replay.{Replay as ReplayRequest}
 use Rattle.commands.specs.declared.request.Solve.{Solve as SolveRequest}
+use Rattle.commands.specs.declared.request.Table.{Table as TableRequest}
 use Rattle.commands.specs.declared.request.Verify.{Verify as VerifyRequest}
 
 -- ------------------------------------------------------------------ the table
@@ -31,6 +33,10 @@ use Rattle.commands.specs.declared.request.Verify.{Verify as VerifyRequest}
 -- a file, by its place among the words
 abbrev pub file_rule : Text → Rule
 file_rule id = record (new_rule id) { required = true }
+
+-- files, by their place among the words: one at least
+abbrev pub files_rule : Text → Rule
+files_rule id = record (file_rule id) { range = Some (record { start_inclusive = 1; end_inclusive = usize_max }) }
 
 -- `--name`
 abbrev pub flag_rule : Text → Rule
@@ -52,9 +58,9 @@ Choice = Bor (List (Bor Text))
 abbrev pub choice_rule : Text → Choice → Rule
 choice_rule name choice = record (value_rule name) { parser = Some (value_parser.Names choice) }
 
--- its value is a file, and it doesn't stand beside another option
-abbrev pub output_rule : Text → Rule
-output_rule name = record (value_rule name) { is_free = false }
+-- `--quiet`, or `-q`
+abbrev pub quiet_rule : Rule
+quiet_rule = record (flag_rule (codes "quiet")) { short = Some 113 }
 
 -- how many workers lift, how many locks their board has, and which board it is
 abbrev pub workers_rule : Rule
@@ -71,7 +77,7 @@ lifting_rules boards = workers_rule ∷ shards_rule ∷ board_rule boards ∷ []
 
 -- where the game, the evidence and the witness go
 abbrev pub output_rules : List Rule
-output_rules = output_rule (codes "game") ∷ output_rule (codes "evidence") ∷ output_rule (codes "witness") ∷ []
+output_rules = value_rule (codes "game") ∷ value_rule (codes "evidence") ∷ value_rule (codes "witness") ∷ []
 
 -- the rule of priorities
 abbrev pub priorities_rule : (rules : Choice) → Rule
@@ -79,8 +85,12 @@ priorities_rule rules = choice_rule (codes "priorities") rules
 
 abbrev pub check_rules : (rules boards : Choice) → List Rule
 check_rules rules boards =
-    file_rule (codes "SYSTEM") ∷ file_rule (codes "FORMULA") ∷ flag_rule (codes "plain") ∷ flag_rule (codes "quiet")
+    file_rule (codes "SYSTEM") ∷ file_rule (codes "FORMULA") ∷ flag_rule (codes "plain") ∷ quiet_rule
     ∷ priorities_rule rules ∷ (lifting_rules boards ++ output_rules)
+
+abbrev pub table_rules : (rules boards : Choice) → List Rule
+table_rules rules boards =
+    file_rule (codes "SYSTEM") ∷ files_rule (codes "FORMULA") ∷ flag_rule (codes "plain") ∷ priorities_rule rules ∷ lifting_rules boards
 
 abbrev pub normal_rules : (rules : Choice) → List Rule
 normal_rules rules = file_rule (codes "FORMULA") ∷ priorities_rule rules ∷ []
@@ -93,6 +103,12 @@ verify_rules = file_rule (codes "GAME") ∷ file_rule (codes "EVIDENCE") ∷ new
 
 abbrev pub replay_rules : List Rule
 replay_rules = file_rule (codes "SYSTEM") ∷ file_rule (codes "FORMULA") ∷ file_rule (codes "SCHEDULE") ∷ workers_rule ∷ []
+
+abbrev pub explain_rules : List Rule
+explain_rules = file_rule (codes "CODE") ∷ []
+
+abbrev pub help_rules : List Rule
+help_rules = new_rule (codes "COMMAND") ∷ []
 
 -- a command with its arguments
 abbrev pub command_shape : (name : Text) → List Rule → Shape
@@ -107,10 +123,14 @@ abbrev pub mucheck_app : (rules boards : Choice) → App
 mucheck_app rules boards = record {
   top = top_shape;
   subs = command_shape (codes "check") (check_rules rules boards)
+      ∷ command_shape (codes "table") (table_rules rules boards)
       ∷ command_shape (codes "normal") (normal_rules rules)
       ∷ command_shape (codes "solve") (solve_rules boards)
       ∷ command_shape (codes "verify") verify_rules
       ∷ command_shape (codes "replay") replay_rules
+      ∷ command_shape (codes "explain") explain_rules
+      ∷ command_shape (codes "help") help_rules
+      ∷ command_shape (codes "version") []
       ∷ [];
 }
 
@@ -155,9 +175,13 @@ board_in rows =
     if has_value rows (codes "board") (codes "locked") then board.Locked
     else (if has_value rows (codes "board") (codes "packed") then board.Packed else board.Auto)
 
--- the argument names this file
+-- the argument names this file, or gives this word
 abbrev pub IsFile : List Row → (id : Text) → Bor Text → Type 0
 IsFile rows id file = first_of id rows ≡ Some file.now
+
+-- it names these files, in their order
+abbrev pub AreFiles : List Row → (id : Text) → List (Bor Text) → Type 0
+AreFiles rows id files = all_of id rows ≡ Some (map (λ f. f.now) files)
 
 -- it names this file, or stands nowhere where there is none
 abbrev pub IsFileIfAny : List Row → (id : Text) → Option (Bor Text) → Type 0
@@ -175,6 +199,12 @@ pub record IsCheck (rows : List Row) (check : CheckRequest) : Type 0 where
   pub formula : IsFile rows (codes "FORMULA") check.formula
   pub options : AreOptions rows check.options
   pub plain : check.plain ≡ stands rows (codes "plain")
+
+pub record IsTableRequest (rows : List Row) (table : TableRequest) : Type 0 where
+  pub system : IsFile rows (codes "SYSTEM") table.system
+  pub formulas : AreFiles rows (codes "FORMULA") table.formulas.items
+  pub options : AreOptions rows table.options
+  pub plain : table.plain ≡ stands rows (codes "plain")
 
 pub record AreOutputs (rows : List Row) (outputs : Outputs) : Type 0 where
   pub game : IsFileIfAny rows (codes "game") outputs.game
@@ -204,10 +234,14 @@ pub record IsReplay (rows : List Row) (replay : ReplayRequest) : Type 0 where
 -- the command of this name, as its arguments ask
 abbrev pub IsCommand : (name : Text) → List Row → Command → Type 0
 IsCommand name rows (Check check outputs) = (name ≡ codes "check") × IsCheck rows check × AreOutputs rows outputs
+IsCommand name rows (Table table) = (name ≡ codes "table") × IsTableRequest rows table
 IsCommand name rows (Normal form) = (name ≡ codes "normal") × IsNormal rows form
 IsCommand name rows (Solve solve) = (name ≡ codes "solve") × IsSolve rows solve
 IsCommand name rows (Verify verify) = (name ≡ codes "verify") × IsVerify rows verify
 IsCommand name rows (Replay replay) = (name ≡ codes "replay") × IsReplay rows replay
+IsCommand name rows (Explain code) = (name ≡ codes "explain") × IsFile rows (codes "CODE") code
+IsCommand name rows (Help topic) = (name ≡ codes "help") × IsFileIfAny rows (codes "COMMAND") topic
+IsCommand name rows Version = name ≡ codes "version"
 
 -- the command that was read, of which there is one
 abbrev pub IsRead : Option (Text × List Row) → Command → Type 0

@@ -1,5 +1,7 @@
 pub mod Command
 pub mod CommandLine
+pub mod Names
+pub mod Named
 pub mod Parsers
 pub mod Spelled
 pub mod Prints

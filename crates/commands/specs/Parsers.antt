@@ -1,5 +1,5 @@
 -- What the makers of parsers make.
-use Rattle.std.specs.Prelude.{◌≡◌, Bool, false, List, fold}
+use Rattle.std.specs.Prelude.{◌≡◌, false, List, fold}
 use Rattle.clap.specs.Words.{App, Rule, Text, app_of, new_app, rule_of, with_rule}
 use Rattle.clap.specs.declared.builder.arg.Arg.{Arg}
 use Rattle.clap.specs.declared.builder.command.Command.{Command as Parser}

@@ -1,10 +1,12 @@
 // The command line.
 
 ghost use Rattle.std.specs.Prelude.{◌≡◌, ◌≤◌, ◌≢◌, [], Bool, IfErr, IfOk, IfSome, Some, codes, map};
+ghost use Rattle.std.specs.List.{list_all};
 ghost use Rattle.std.specs.String.{string_bytes};
 ghost use Rattle.clap.specs.Words.{first_of, found_of, rows_of, subcommand_rows_of};
-ghost use Rattle.commands.specs.Command.{AreNamed, AreWithin, IsComplete};
+ghost use Rattle.commands.specs.Command.{AreAllNamed, AreNamed, AreWithin, IsComplete, IsPlainAlone, is_named};
 ghost use Rattle.commands.specs.CommandLine.{
+  AreFiles,
   AreMatchesOf,
   AreOptions,
   AreOutputs,
@@ -20,12 +22,14 @@ ghost use Rattle.commands.specs.CommandLine.{
   number_in,
   priorities_in,
 };
+ghost use Rattle.commands.specs.Names.{KeepsFiles};
 
+use crate::names::keep_files;
 use crate::parser::{
-    BOARD, EVIDENCE, EVIDENCE_FILES, FORMULA, GAME, GAME_FILE, OTHER, PLAIN, PRIORITIES, QUIET,
-    SCHEDULE, SHARDS, SYSTEM, WITNESS_FILE, WORKERS, parser,
+    BOARD, CODE, COMMAND, EVIDENCE, EVIDENCE_FILES, FORMULA, GAME, GAME_FILE, OTHER, PLAIN,
+    PRIORITIES, QUIET, SCHEDULE, SHARDS, SYSTEM, WITNESS_FILE, WORKERS, parser,
 };
-use crate::request::{Command, Normal, Outputs, Replay, Solve, Verify};
+use crate::request::{Command, Normal, Outputs, Replay, Solve, Table, Verify};
 use clap::error::ErrorKind;
 use clap::{ArgMatches, Error as ClapError};
 use normal::priorities::Priorities;
@@ -36,17 +40,19 @@ use std::alloc::Global;
 /// The command that the words ask for; the first word is the program's own name.
 ///
 /// # Errors
-/// U1 where the words are no command, with what is wrong with them, or the help or version that was asked for; U4.
+/// U1 where the words are no command, or one that would destroy a file, with what is wrong with them, or the help or version that was asked
+/// for; U4.
 pub fn command<'a>(alloc: Global, words: &'a [String]) -> Result<Command<'a>, MuError>
     ensures asked { IfOk result (IsAskedFor (map (λ word. string_bytes word) words.now)) }
     ensures complete { IfOk result IsComplete }
+    ensures plain { IfOk result IsPlainAlone }
+    ensures kept { IfOk result KeepsFiles }
     ensures refused { IfErr result IsLineError }
 {
     let matches = matches_of(alloc, words)?;
-    match request_of(&matches) {
-        Ok(command) => Ok(command),
-        Err(error) => Err(MuError::Arguments(error)),
-    }
+    let command = request_of(alloc, &matches)?;
+    keep_files(alloc, &command)?;
+    Ok(command)
 }
 
 fn matches_of<'a>(alloc: Global, words: &'a [String]) -> Result<ArgMatches<'a>, MuError>
@@ -63,7 +69,7 @@ fn matches_of<'a>(alloc: Global, words: &'a [String]) -> Result<ArgMatches<'a>, 
 }
 
 /// The refusal for what `clap` answers in place of matches; want of memory is the engine's.
-fn refusal(alloc: Global, error: &ClapError) -> MuError
+pub(crate) fn refusal(alloc: Global, error: &ClapError) -> MuError
     ensures { IsLineError result }
 {
     match error.kind() {
@@ -76,27 +82,66 @@ fn refusal(alloc: Global, error: &ClapError) -> MuError
 }
 
 /// The command that the matches ask for.
-fn request_of<'a>(matches: &ArgMatches<'a>) -> Result<Command<'a>, ArgumentError>
+fn request_of<'a>(alloc: Global, matches: &ArgMatches<'a>) -> Result<Command<'a>, MuError>
     ensures asked { IfOk result (IsRead (subcommand_rows_of matches.now)) }
     ensures complete { IfOk result IsComplete }
+    ensures plain { IfOk result IsPlainAlone }
+    ensures refused { IfErr result IsLineError }
 {
     let Some((name, found)) = matches.subcommand() else {
-        return Err(ArgumentError::NoCommand);
+        return Err(MuError::Arguments(ArgumentError::NoCommand));
     };
+    if name == "table" {
+        return table_of(alloc, found);
+    }
+    match other_of(name, found) {
+        Ok(command) => Ok(command),
+        Err(error) => Err(MuError::Arguments(error)),
+    }
+}
+
+/// The command of this name, which isn't `table`.
+fn other_of<'a>(name: &str, found: &ArgMatches<'a>) -> Result<Command<'a>, ArgumentError>
+    ensures asked { IfOk result (IsCommand name.now (rows_of (found_of found.now))) }
+    ensures complete { IfOk result IsComplete }
+    ensures plain { IfOk result IsPlainAlone }
+{
     match name {
         "check" => check_of(found),
         "normal" => normal_of(found),
         "solve" => solve_of(found),
         "verify" => verify_of(found),
         "replay" => replay_of(found),
+        "explain" => explain_of(found),
+        "help" => help_of(found),
+        "version" => Ok(Command::Version),
         _ => Err(ArgumentError::NoCommand),
     }
+}
+
+/// The table that the matches of its command ask for.
+fn table_of<'a>(alloc: Global, matches: &ArgMatches<'a>) -> Result<Command<'a>, MuError>
+    ensures asked { IfOk result (IsCommand (codes "table") (rows_of (found_of matches.now))) }
+    ensures complete { IfOk result IsComplete }
+    ensures plain { IfOk result IsPlainAlone }
+    ensures refused { IfErr result IsLineError }
+{
+    let system = file_name(matches, SYSTEM).map_err(MuError::Arguments)?;
+    let options = options(matches).map_err(MuError::Arguments)?;
+    let formulas = file_names(alloc, matches, FORMULA)?;
+    Ok(Command::Table(Table {
+        system,
+        formulas,
+        options,
+        plain: has_value(matches, PLAIN, "true"),
+    }))
 }
 
 /// The check that the matches of its command ask for.
 fn check_of<'a>(matches: &ArgMatches<'a>) -> Result<Command<'a>, ArgumentError>
     ensures asked { IfOk result (IsCommand (codes "check") (rows_of (found_of matches.now))) }
     ensures complete { IfOk result IsComplete }
+    ensures plain { IfOk result IsPlainAlone }
 {
     let system = file_name(matches, SYSTEM)?;
     let formula = file_name(matches, FORMULA)?;
@@ -106,7 +151,11 @@ fn check_of<'a>(matches: &ArgMatches<'a>) -> Result<Command<'a>, ArgumentError>
         options: options(matches)?,
         plain: has_value(matches, PLAIN, "true"),
     };
-    Ok(Command::Check(check, outputs(matches)?))
+    let outputs = outputs(matches)?;
+    if check.plain && !outputs.is_report_alone() {
+        return Err(ArgumentError::PlainOutput);
+    }
+    Ok(Command::Check(check, outputs))
 }
 
 /// Where a check's texts go.
@@ -126,6 +175,7 @@ fn outputs<'a>(matches: &ArgMatches<'a>) -> Result<Outputs<'a>, ArgumentError>
 fn normal_of<'a>(matches: &ArgMatches<'a>) -> Result<Command<'a>, ArgumentError>
     ensures asked { IfOk result (IsCommand (codes "normal") (rows_of (found_of matches.now))) }
     ensures complete { IfOk result IsComplete }
+    ensures plain { IfOk result IsPlainAlone }
 {
     Ok(Command::Normal(Normal {
         formula: file_name(matches, FORMULA)?,
@@ -137,6 +187,7 @@ fn normal_of<'a>(matches: &ArgMatches<'a>) -> Result<Command<'a>, ArgumentError>
 fn solve_of<'a>(matches: &ArgMatches<'a>) -> Result<Command<'a>, ArgumentError>
     ensures asked { IfOk result (IsCommand (codes "solve") (rows_of (found_of matches.now))) }
     ensures complete { IfOk result IsComplete }
+    ensures plain { IfOk result IsPlainAlone }
 {
     Ok(Command::Solve(Solve {
         game: file_name(matches, GAME)?,
@@ -148,6 +199,7 @@ fn solve_of<'a>(matches: &ArgMatches<'a>) -> Result<Command<'a>, ArgumentError>
 fn verify_of<'a>(matches: &ArgMatches<'a>) -> Result<Command<'a>, ArgumentError>
     ensures asked { IfOk result (IsCommand (codes "verify") (rows_of (found_of matches.now))) }
     ensures complete { IfOk result IsComplete }
+    ensures plain { IfOk result IsPlainAlone }
 {
     Ok(Command::Verify(Verify {
         game: file_name(matches, GAME)?,
@@ -160,6 +212,7 @@ fn verify_of<'a>(matches: &ArgMatches<'a>) -> Result<Command<'a>, ArgumentError>
 fn replay_of<'a>(matches: &ArgMatches<'a>) -> Result<Command<'a>, ArgumentError>
     ensures asked { IfOk result (IsCommand (codes "replay") (rows_of (found_of matches.now))) }
     ensures complete { IfOk result IsComplete }
+    ensures plain { IfOk result IsPlainAlone }
 {
     Ok(Command::Replay(Replay {
         system: file_name(matches, SYSTEM)?,
@@ -167,6 +220,24 @@ fn replay_of<'a>(matches: &ArgMatches<'a>) -> Result<Command<'a>, ArgumentError>
         schedule: file_name(matches, SCHEDULE)?,
         workers: number(matches, WORKERS, 2, 64)?,
     }))
+}
+
+/// The code that is to be explained.
+fn explain_of<'a>(matches: &ArgMatches<'a>) -> Result<Command<'a>, ArgumentError>
+    ensures asked { IfOk result (IsCommand (codes "explain") (rows_of (found_of matches.now))) }
+    ensures complete { IfOk result IsComplete }
+    ensures plain { IfOk result IsPlainAlone }
+{
+    Ok(Command::Explain(file_name(matches, CODE)?))
+}
+
+/// The command whose help is asked for.
+fn help_of<'a>(matches: &ArgMatches<'a>) -> Result<Command<'a>, ArgumentError>
+    ensures asked { IfOk result (IsCommand (codes "help") (rows_of (found_of matches.now))) }
+    ensures complete { IfOk result IsComplete }
+    ensures plain { IfOk result IsPlainAlone }
+{
+    Ok(Command::Help(optional_name(matches, COMMAND)?))
 }
 
 /// The options of a command that makes a game or solves one.
@@ -223,6 +294,40 @@ fn file_name<'a>(matches: &ArgMatches<'a>, id: &str) -> Result<&'a str, Argument
     match matches.get_str(id) {
         Some(name) if !name.is_empty() => Ok(name),
         _ => Err(ArgumentError::EmptyName),
+    }
+}
+
+/// The files that an argument names.
+fn file_names<'a>(
+    alloc: Global,
+    matches: &ArgMatches<'a>,
+    id: &str,
+) -> Result<Vec<&'a str>, MuError>
+    ensures asked { IfOk result (λ names. AreFiles (rows_of (found_of matches.now)) id.now names.items) }
+    ensures named { IfOk result (λ names. AreAllNamed names.items) }
+    ensures refused { IfErr result IsLineError }
+{
+    match matches.get_strs(id) {
+        Some(names) if are_named(names) => copied(alloc, names),
+        _ => Err(MuError::Arguments(ArgumentError::EmptyName)),
+    }
+}
+
+/// Whether none of these is empty.
+fn are_named(names: &[&str]) -> bool
+    ensures { result ≡ list_all is_named names.now }
+{
+    names.iter().all(|name| !name.is_empty())
+}
+
+/// These names, in a vector of their own.
+fn copied<'a>(alloc: Global, names: &[&'a str]) -> Result<Vec<&'a str>, MuError>
+    ensures items { IfOk result (λ copy. copy.items ≡ names.now) }
+    ensures refused { IfErr result IsLineError }
+{
+    match names.iter().copied().collect(alloc) {
+        Ok(copy) => Ok(copy),
+        Err(_) => Err(MuError::Memory),
     }
 }
 

@@ -1,7 +1,10 @@
 // The engines of the commands beside `check`, over readers and writers, and the command line.
 #![tactic(auto)]
 
+pub mod codes;
 pub mod command_line;
+pub mod information;
+pub mod names;
 pub mod normal_text;
 mod parser;
 pub mod replay_text;
@@ -9,4 +12,4 @@ pub mod request;
 pub mod solve_text;
 pub mod verify_text;
 pub mod version;
-mod winners;
+mod winner_text;

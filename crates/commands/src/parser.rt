@@ -6,16 +6,20 @@ ghost use Rattle.commands.specs.CommandLine.{
   IsTable,
   board_rule,
   check_rules,
+  explain_rules,
   file_rule,
+  files_rule,
   flag_rule,
+  help_rules,
   lifting_rules,
   normal_rules,
-  output_rule,
   output_rules,
+  quiet_rule,
   priorities_rule,
   replay_rules,
   shards_rule,
   solve_rules,
+  table_rules,
   value_rule,
   verify_rules,
   workers_rule,
@@ -38,6 +42,10 @@ pub(crate) const EVIDENCE: &str = "EVIDENCE";
 pub(crate) const OTHER: &str = "OTHER";
 
 pub(crate) const SCHEDULE: &str = "SCHEDULE";
+
+pub(crate) const CODE: &str = "CODE";
+
+pub(crate) const COMMAND: &str = "COMMAND";
 
 pub(crate) const PLAIN: &str = "plain";
 
@@ -64,9 +72,9 @@ static RULES: [&str; 2] = ["nested", "dependent"];
 const ABOUT: &str =
     "Checks formulas of the modal mu-calculus at the states of labelled transition systems";
 
-const AFTER: &str = "mucheck COMMAND --help says more of a command.\n\n\
-A refusal is one line on standard error, mucheck: CODE, with its place. docs/CODES.md says\n\
-what each code means and how to mend it. The most frequent:\n\
+const AFTER: &str = "mucheck help COMMAND says more of a command.\n\n\
+A refusal begins with a line on standard error, mucheck: CODE, with its place. The command\n\
+mucheck explain CODE says what it means and how to mend it. The most frequent:\n\
 \x20 A1      mostly both files in the wrong order, or a byte order mark\n\
 \x20 A2      mostly a label without quotes\n\
 \x20 F1, F2  in a modality mostly a label with parameters, which wants quotes: <\"send(1)\">true\n\
@@ -80,6 +88,18 @@ const CHECK_AFTER: &str =
 the formula, 1 where it does not, 2 where an argument or a text is refused, and 3 where\n\
 memory, a file, a read or a write failed.\n\n\
 Example:\n  mucheck check examples/first/system.aut examples/first/formula.mcf";
+
+const TABLE_ABOUT: &str = "Reports for each of many formulas whether a system satisfies it";
+
+const TABLE_AFTER: &str =
+    "The system is read once. For each formula a line goes to the standard output as soon as it is\n\
+known: the initial state's answer, how many states of how many satisfy it, and its file; or\n\
+the refusal, and its file. Where the first line of a file is\n\n\
+\x20 % expect yes\n\n\
+or % expect no, its line ends in `as expected` or UNEXPECTED. The status is 0 where each answer\n\
+is as expected (yes where nothing is said), else 1, or 2 or 3 as of check where a formula was\n\
+refused: the greatest of them.\n\n\
+Example:\n  mucheck table examples/first/system.aut examples/first/formula.mcf";
 
 const NORMAL_ABOUT: &str = "Writes the normal form of a formula, a line for each node";
 
@@ -116,9 +136,25 @@ where an argument or a text is refused, and 3 where memory, a file, a read or a 
 failed.\n\n\
 Example:\n  mucheck replay examples/two-states/system.aut examples/two-states/a-then-a.mcf examples/two-states/late-read.schedule";
 
+const EXPLAIN_ABOUT: &str = "Tells what a code of a refusal means, and how to mend it";
+
+const EXPLAIN_AFTER: &str =
+    "The status is 0, or 2 where there is no such code.\n\nExample:\n  mucheck explain A2";
+
+const HELP_ABOUT: &str = "Tells what a command does, or which commands there are";
+
+const HELP_AFTER: &str = "The help goes to the standard output, and the status is 0.\n\n\
+Example:\n  mucheck help check";
+
+const VERSION_ABOUT: &str = "Tells the version, and what proved it";
+
+const VERSION_AFTER: &str = "The version goes to the standard output, and the status is 0.";
+
 const SYSTEM_HELP: &str = "The system's file, in the Aldebaran format (.aut)";
 
 const FORMULA_HELP: &str = "The formula's file, in the mu-calculus format (.mcf)";
+
+const FORMULAS_HELP: &str = "The formulas' files, in the mu-calculus format (.mcf)";
 
 const GAME_HELP: &str = "The game's file, in the format of PGSolver";
 
@@ -127,6 +163,10 @@ const EVIDENCE_HELP: &str = "The file of the evidence";
 const SCHEDULE_HELP: &str = "The schedule's file, with an event on each line";
 
 const OTHER_HELP: &str = "The file of the other player's evidence";
+
+const CODE_HELP: &str = "A code, such as A2: the word after mucheck: in a refusal";
+
+const COMMAND_HELP: &str = "The command whose help is told";
 
 const PLAIN_HELP: &str = "Evaluate the formula over sets of states, without a game";
 
@@ -139,7 +179,7 @@ const EVIDENCE_FILES_HELP: &str =
 
 const WITNESS_FILE_HELP: &str =
     "Write the transitions that the answer for the initial state rests on to FILE, as a system (.aut), \
-or as a picture where FILE ends in .dot (a counterexample where the answer is no)";
+or as a picture where FILE ends in .dot or .gv (a counterexample where the answer is no)";
 
 const QUIET_HELP: &str = "Write no report: the status alone tells";
 
@@ -163,10 +203,14 @@ pub(crate) fn parser<'a>(alloc: Global) -> Result<Parser<'a>, AllocError>
         .subcommand_required(true)
         .disable_help_subcommand(true);
     let parser = parser.subcommand(check_parser(alloc, rules, boards)?)?;
+    let parser = parser.subcommand(table_parser(alloc, rules, boards)?)?;
     let parser = parser.subcommand(normal_parser(alloc, rules)?)?;
     let parser = parser.subcommand(solve_parser(alloc, boards)?)?;
     let parser = parser.subcommand(verify_parser(alloc)?)?;
-    parser.subcommand(replay_parser(alloc)?)
+    let parser = parser.subcommand(replay_parser(alloc)?)?;
+    let parser = parser.subcommand(explain_parser(alloc)?)?;
+    let parser = parser.subcommand(help_parser(alloc)?)?;
+    parser.subcommand(described(alloc, "version", VERSION_ABOUT, VERSION_AFTER))
 }
 
 /// A command without arguments yet.
@@ -187,9 +231,24 @@ fn check_parser<'a>(
         .arg(file(alloc, SYSTEM, SYSTEM_HELP))?
         .arg(file(alloc, FORMULA, FORMULA_HELP))?
         .arg(flag(alloc, PLAIN, PLAIN_HELP))?
-        .arg(flag(alloc, QUIET, QUIET_HELP))?
+        .arg(quiet(alloc))?
         .arg(rule(alloc, rules))?;
     with_outputs(alloc, with_workers(alloc, parser, boards)?)
+}
+
+fn table_parser<'a>(
+    alloc: Global,
+    rules: &'a [&'a str],
+    boards: &'a [&'a str],
+) -> Result<Parser<'a>, AllocError>
+    ensures { IfOk result (ReadsBy (command_app (codes "table") (table_rules rules.entry boards.entry))) }
+{
+    let parser = described(alloc, "table", TABLE_ABOUT, TABLE_AFTER)
+        .arg(file(alloc, SYSTEM, SYSTEM_HELP))?
+        .arg(files(alloc, FORMULA, FORMULAS_HELP))?
+        .arg(flag(alloc, PLAIN, PLAIN_HELP))?
+        .arg(rule(alloc, rules))?;
+    with_workers(alloc, parser, boards)
 }
 
 fn normal_parser<'a>(alloc: Global, rules: &'a [&'a str]) -> Result<Parser<'a>, AllocError>
@@ -228,11 +287,32 @@ fn replay_parser<'a>(alloc: Global) -> Result<Parser<'a>, AllocError>
         .arg(workers(alloc, SEATS_HELP))
 }
 
-/// A file, by its place among the words.
+fn explain_parser<'a>(alloc: Global) -> Result<Parser<'a>, AllocError>
+    ensures { IfOk result (ReadsBy (command_app (codes "explain") explain_rules)) }
+{
+    described(alloc, "explain", EXPLAIN_ABOUT, EXPLAIN_AFTER).arg(file(alloc, CODE, CODE_HELP))
+}
+
+fn help_parser<'a>(alloc: Global) -> Result<Parser<'a>, AllocError>
+    ensures { IfOk result (ReadsBy (command_app (codes "help") help_rules)) }
+{
+    described(alloc, "help", HELP_ABOUT, HELP_AFTER).arg(Arg::new(alloc, COMMAND).help(
+        COMMAND_HELP,
+    ))
+}
+
+/// A file, or another word that has to stand, by its place among the words.
 fn file<'a>(alloc: Global, id: &'a str, help: &'a str) -> Arg<'a>
     ensures { HasRule (file_rule id.now) result }
 {
     Arg::new(alloc, id).required(true).help(help)
+}
+
+/// Files, by their place among the words: one at least.
+fn files<'a>(alloc: Global, id: &'a str, help: &'a str) -> Arg<'a>
+    ensures { HasRule (files_rule id.now) result }
+{
+    file(alloc, id, help).num_args(1..)
 }
 
 /// An option without a value.
@@ -243,6 +323,13 @@ fn flag<'a>(alloc: Global, name: &'a str, help: &'a str) -> Arg<'a>
         .long(name)
         .action(ArgAction::SetTrue)
         .help(help)
+}
+
+/// `--quiet`, or `-q`.
+fn quiet<'a>(alloc: Global) -> Arg<'a>
+    ensures { HasRule quiet_rule result }
+{
+    flag(alloc, QUIET, QUIET_HELP).short('q')
 }
 
 /// An option that has a value.
@@ -303,26 +390,12 @@ fn with_workers<'a>(
         .arg(board(alloc, boards))
 }
 
-/// Where the game, the evidence and the witness go, which are made of a game alone.
+/// Where the game, the evidence and the witness go.
 fn with_outputs<'a>(alloc: Global, parser: Parser<'a>) -> Result<Parser<'a>, AllocError>
     ensures { IfOk result (AddsRules parser.entry output_rules) }
 {
-    let game = output(alloc, GAME_FILE, "FILE", GAME_FILE_HELP)?;
-    let parser = parser.arg(game)?;
-    let evidence = output(alloc, EVIDENCE_FILES, "PATH", EVIDENCE_FILES_HELP)?;
-    let parser = parser.arg(evidence)?;
-    parser.arg(output(alloc, WITNESS_FILE, "FILE", WITNESS_FILE_HELP)?)
-}
-
-fn output<'a>(
-    alloc: Global,
-    name: &'a str,
-    value: &'a str,
-    help: &'a str,
-) -> Result<Arg<'a>, AllocError>
-    ensures { IfOk result (HasRule (output_rule name.now)) }
-{
-    option_with_value(alloc, name, value)
-        .help(help)
-        .conflicts_with(PLAIN)
+    parser
+        .arg(option_with_value(alloc, GAME_FILE, "FILE").help(GAME_FILE_HELP))?
+        .arg(option_with_value(alloc, EVIDENCE_FILES, "PATH").help(EVIDENCE_FILES_HELP))?
+        .arg(option_with_value(alloc, WITNESS_FILE, "FILE").help(WITNESS_FILE_HELP))
 }

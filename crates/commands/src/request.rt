@@ -1,17 +1,26 @@
 // What the program can be asked to do. The files are named as on the command line.
 
+ghost use Rattle.std.specs.Prelude.{◌↔◌, IsTrue};
+ghost use Rattle.commands.specs.Command.{IsReportAlone};
+
 use normal::priorities::Priorities;
 use requests::request::{Check, Options};
 
 /// What the program is asked to do.
-#[derive(Clone, Copy)]
+#[derive(Drop)]
 pub enum Command<'a> {
     /// A check, and where its texts go.
     Check(Check<'a>, Outputs<'a>),
+    Table(Table<'a>),
     Normal(Normal<'a>),
     Solve(Solve<'a>),
     Verify(Verify<'a>),
     Replay(Replay<'a>),
+    /// The entry of a code.
+    Explain(&'a str),
+    /// The help of a command, or of the program.
+    Help(Option<&'a str>),
+    Version,
 }
 
 /// Where a check's texts go.
@@ -25,6 +34,25 @@ pub struct Outputs<'a> {
     pub witness: Option<&'a str>,
     /// Whether the report is written.
     pub report: bool,
+}
+
+impl Outputs<'_> {
+    /// Whether none of the files is asked for.
+    pub fn is_report_alone(&self) -> bool
+        ensures { IsTrue result ↔ IsReportAlone self.now }
+    {
+        self.game.is_none() && self.evidence.is_none() && self.witness.is_none()
+    }
+}
+
+/// The answers of one system to many formulas, a line for each.
+#[derive(Drop)]
+pub struct Table<'a> {
+    pub system: &'a str,
+    pub formulas: Vec<&'a str>,
+    pub options: Options,
+    /// By sets of states, without a game.
+    pub plain: bool,
 }
 
 /// The normal form of a formula, with the priorities of a rule.

@@ -1,19 +1,20 @@
 // The engine of the command `solve`.
 
-ghost use Rattle.std.specs.Prelude.{◌≡◌, ℕ, List, Some};
+ghost use Rattle.std.specs.Prelude.{ℕ, IfErr, IfOk, List, Some};
+ghost use Rattle.std.specs.Arc.{arc_value};
 ghost use Rattle.workers.specs.declared.team.BoardKind.{BoardKind};
-ghost use Rattle.requests.specs.Solver.{IsFitting};
+ghost use Rattle.requests.specs.Solver.{IsFitting, IsUnsolved};
 ghost use Rattle.commands.specs.Spelled.{IsGameOf};
 ghost use Rattle.commands.specs.Solves.{Answers, Solves};
+ghost use Rattle.commands.specs.Winners.{AreWinners};
 
-use crate::winners::{winners, winners_text};
+use crate::winner_text::{guessed_winners, winners, winners_text};
 use game::graph::Game;
 use lts::put;
-use measures::table::Settled;
 use pgsolver::read_game;
 use requests::error::MuError;
 use requests::request::Options;
-use requests::solver::solve_with;
+use requests::solver::{require_board, solve_with};
 use std::alloc::Global;
 use std::io::{Read, Write};
 use std::sync::{Arc, Wait};
@@ -54,8 +55,31 @@ fn solve_and_write<W: Write, H: Threads + Wait + Clone + Copy + Drop + Send + Sy
     let Ok(game) = Arc::new(alloc, game) else {
         return Err(MuError::Memory);
     };
-    match solve_with(rt, alloc, &game, options, &NoGate) {
-        Ok(settled) => write_winners(alloc, &game, &settled, out),
+    match winners_by(rt, alloc, &game, options) {
+        Ok(marks) => write_winners(alloc, &game, &marks, out),
+        Err(error) => Err(error),
+    }
+}
+
+/// Who wins each vertex: by evidence that is guessed and found good, where one worker alone is asked for and there is some; else by lifting.
+fn winners_by<H: Threads + Wait + Clone + Copy + Drop + Send + Sync>(
+    rt: &H,
+    alloc: Global,
+    game: &Arc<Game, Global>,
+    options: &Options,
+) -> Result<Vec<bool>, MuError>
+    ensures exact { IfOk result (λ marks. AreWinners (arc_value game.now) marks.items) }
+    ensures board { IfOk result (λ _. IsFitting (Some options.now.board) (arc_value game.now)) }
+    ensures refusal { IfErr result (IsUnsolved (Some options.now.board) (arc_value game.now)) }
+{
+    require_board(game, options.board)?;
+    if options.workers == 1 {
+        if let Some(marks) = guessed_winners(alloc, game) {
+            return Ok(marks);
+        }
+    }
+    match solve_with(rt, alloc, game, options, &NoGate) {
+        Ok(settled) => winners(alloc, game, &settled),
         Err(error) => Err(error),
     }
 }
@@ -64,15 +88,14 @@ fn solve_and_write<W: Write, H: Threads + Wait + Clone + Copy + Drop + Send + Sy
 fn write_winners<W: Write>(
     alloc: Global,
     game: &Game,
-    settled: &Settled,
+    marks: &[bool],
     out: &mut W,
 ) -> Result<bool, MuError>
-    requires { settled.now.game ≡ game.now }
+    requires { AreWinners game.now marks.now }
     ensures { (board : BoardKind) (text : List ℕ) → IsGameOf text game.now → IsFitting (Some board) game.now
         → Answers board text (W.contents out.old) (W.contents out.new) result }
 {
-    let marks = winners(alloc, game, settled)?;
-    let text = winners_text(alloc, &marks)?;
+    let text = winners_text(alloc, marks)?;
     match put(out, &text) {
         Ok(()) => Ok(true),
         Err(fault) => Err(MuError::Write(fault)),

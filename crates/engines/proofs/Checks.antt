@@ -1,5 +1,5 @@
 -- What a check has found out.
-use Rattle.std.proofs.Common.{◌≡◌, ℕ, List, Bool, false, Some, None, Ok, Err, [], inl, inr, refl, subst, sym, ap, true≢false, slice_index_or}
+use Rattle.std.proofs.Common.{arith, ◌≡◌, ℕ, List, Bool, false, Some, None, Ok, Err, [], inl, inr, refl, subst, sym, ap, true≢false, slice_index_or}
 use Rattle.std.specs.Option.{is_some}
 use Rattle.std.specs.Prelude.{◌⊎◌, IsTrue, IfSome, IfOk, IfErr, IsErrAnd, MatchResult, Option, Result}
 use Rattle.std.proofs.KnownBytes.{Appends-nil, Keeps-refl}
@@ -15,12 +15,12 @@ use Rattle.requests.specs.Check.{IsArenaOf, Way, BySets, ByGame, IsErrorOf, Answ
 use Rattle.requests.specs.Check.{HasRefused}
 use Rattle.requests.specs.declared.request.WitnessForm.{WitnessForm}
 use Rattle.requests.specs.declared.request.WitnessForm.TheVariants.{System as AsSystem, Drawing}
-use Rattle.requests.specs.Writers.{EvenText, WitnessText, DrawingText, Lent, IsLentFor, Unasked, AreKept, AreWritten, IsWhole, all_writers, kind_where}
+use Rattle.requests.specs.Writers.{EvenText, WitnessText, DrawingText, Lent, IsLentFor, NeedsEvidence, Unasked, AreKept, AreWritten, IsWhole, all_writers, kind_where}
 use Rattle.requests.specs.Writers.{lent_for, report_writer, witness_kind}
 use Rattle.requests.specs.Texts.{IsFormulaOf, IsReadRefusal}
 use Rattle.requests.specs.declared.request.Wanted.{Wanted}
 use Rattle.engines.specs.Findings.{AreFindings, IsTextFound, IsUnprepared, IsUnshown, formula_of, system_of, way_in}
-use Rattle.requests.specs.Solver.{IsUnsolved}
+use Rattle.requests.specs.Solver.{IsFitting, IsUnsolved}
 use Rattle.game.specs.Game.{Game}
 use Rattle.workers.specs.declared.team.BoardKind.{BoardKind}
 use Rattle.engines.specs.declared.findings.Findings.{Findings}
@@ -179,15 +179,25 @@ alone_kept : (game even odd witness old new : Option (List ℕ)) → AreKept (re
     → AreKept (all_writers (record { game = false; evidence = false; witness = None }) game game even even odd odd witness witness old new)
 alone_kept game even odd witness old new h = (Keeps-refl game, (Keeps-refl even, (Keeps-refl odd, (Keeps-refl witness, h))))
 
--- By sets of states the report alone is written.
-pub alone_of : (first second : List ℕ) (game even odd witness old new : Option (List ℕ)) (r : Result Bool MuError)
-    → Answers BySets first second (report_writer old new) r → IfErr r (IsErrorOf BySets)
-    → Answers BySets first second (all_writers (record {
-      game = false;
-      evidence = false;
-      witness = None;
-    }) game game even even odd odd witness witness old new) r
-alone_of first second game even odd witness old new (Ok a) h plain = record {
+-- the writers to which nothing is written, and the report's
+abbrev pub report_alone : (game even odd witness old new : Option (List ℕ)) → List Lent
+report_alone game even odd witness old new =
+    all_writers (record { game = false; evidence = false; witness = None }) game game even even odd odd witness witness old new
+
+nothing_asked : (way : Way) (l : System) (f : Formula) (marks : List Bool) → IsTextOf way l f marks Unasked []
+nothing_asked BySets l f marks = refl
+nothing_asked (ByGame rule board) l f marks = refl
+
+nothing_written : (way : Way) (l : System) (f : Formula) (marks : List Bool) (bytes : Option (List ℕ)) → IsWhole (IsTextOf way l f marks) (lent_for Unasked bytes bytes)
+nothing_written way l f marks bytes = ([], nothing_asked way l f marks, Appends-nil bytes)
+
+no_evidence_needed : (old new : Option (List ℕ)) → NeedsEvidence (report_writer old new) → ⊥
+no_evidence_needed old new needed = grind arith
+
+-- Where nothing is wanted before the report, it alone is written.
+pub alone_of : (way : Way) (first second : List ℕ) (game even odd witness old new : Option (List ℕ)) (r : Result Bool MuError)
+    → Answers way first second (report_writer old new) r → Answers way first second (report_alone game even odd witness old new) r
+alone_of way first second game even odd witness old new (Ok a) h = record {
   l = h.l;
   f = h.f;
   marks = h.marks;
@@ -197,13 +207,13 @@ alone_of first second game even odd witness old new (Ok a) h plain = record {
   answered = h.answered;
 }
   where
-    nothing : (bytes : Option (List ℕ)) → IsWhole (IsTextOf BySets h.l h.f h.marks) (lent_for Unasked bytes bytes)
-    nothing bytes = ([], refl, Appends-nil bytes)
-alone_of first second game even odd witness old new (Err error.Read) h plain = (h.0, alone_kept game even odd witness old new h.1)
-alone_of first second game even odd witness old new (Err error.Memory) h plain = (h.0, alone_kept game even odd witness old new h.1)
-alone_of first second game even odd witness old new (Err (error.System e)) h plain = (h.0, alone_kept game even odd witness old new h.1)
-alone_of first second game even odd witness old new (Err (error.Formula e)) h plain = (h.0, h.1, alone_kept game even odd witness old new h.2)
-alone_of first second game even odd witness old new (Err (error.Write e)) h plain = record {
+    nothing : (bytes : Option (List ℕ)) → IsWhole (IsTextOf way h.l h.f h.marks) (lent_for Unasked bytes bytes)
+    nothing bytes = nothing_written way h.l h.f h.marks bytes
+alone_of way first second game even odd witness old new (Err error.Read) h = (h.0, alone_kept game even odd witness old new h.1)
+alone_of way first second game even odd witness old new (Err error.Memory) h = (h.0, alone_kept game even odd witness old new h.1)
+alone_of way first second game even odd witness old new (Err (error.System e)) h = (h.0, alone_kept game even odd witness old new h.1)
+alone_of way first second game even odd witness old new (Err (error.Formula e)) h = (h.0, h.1, alone_kept game even odd witness old new h.2)
+alone_of way first second game even odd witness old new (Err (error.Write e)) h = record {
   l = h.l;
   f = h.f;
   marks = h.marks;
@@ -212,14 +222,22 @@ alone_of first second game even odd witness old new (Err (error.Write e)) h plai
   begun = inr (nothing game, inr (nothing even, inr (nothing odd, inr (nothing witness, h.begun))));
 }
   where
-    nothing : (bytes : Option (List ℕ)) → IsWhole (IsTextOf BySets h.l h.f h.marks) (lent_for Unasked bytes bytes)
-    nothing bytes = ([], refl, Appends-nil bytes)
-alone_of first second game even odd witness old new (Err (error.Arguments e)) h plain = absurd h
-alone_of first second game even odd witness old new (Err error.File) h plain = absurd h
-alone_of first second game even odd witness old new (Err (error.Normal e)) h plain = absurd plain
-alone_of first second game even odd witness old new (Err (error.Build e)) h plain = absurd plain
-alone_of first second game even odd witness old new (Err (error.Game e)) h plain = absurd h
-alone_of first second game even odd witness old new (Err (error.Evidence e)) h plain = absurd plain
-alone_of first second game even odd witness old new (Err (error.Table e)) h plain = absurd plain
-alone_of first second game even odd witness old new (Err (error.Solve e)) h plain = absurd plain
-alone_of first second game even odd witness old new (Err (error.Schedule e)) h plain = absurd h
+    nothing : (bytes : Option (List ℕ)) → IsWhole (IsTextOf way h.l h.f h.marks) (lent_for Unasked bytes bytes)
+    nothing bytes = nothing_written way h.l h.f h.marks bytes
+alone_of way first second game even odd witness old new (Err (error.Arguments e)) h = absurd h
+alone_of way first second game even odd witness old new (Err error.File) h = absurd h
+alone_of way first second game even odd witness old new (Err (error.Normal e)) h = (h.0, alone_kept game even odd witness old new h.1)
+alone_of way first second game even odd witness old new (Err (error.Build e)) h = (h.0, alone_kept game even odd witness old new h.1)
+alone_of way first second game even odd witness old new (Err (error.Game e)) h = absurd h
+alone_of way first second game even odd witness old new (Err (error.Evidence e)) h = absurd (no_evidence_needed old new h.0.needed)
+alone_of way first second game even odd witness old new (Err (error.Table e)) h = (h.0, alone_kept game even odd witness old new h.1)
+alone_of way first second game even odd witness old new (Err (error.Solve e)) h = (h.0, alone_kept game even odd witness old new h.1)
+alone_of way first second game even odd witness old new (Err (error.Schedule e)) h = absurd h
+
+-- Marks that were found for each board that can be had are those of the one that is asked for; memory may be wanting anyway.
+pub marks_or_memory : {A : Type 0} (items : A → List Bool) (rule : Priorities) (board : BoardKind) (l : System) (f : Formula) (g : Game) (r : Result A MuError)
+    → IsFitting (Some board) g → IfOk r (λ marks. (b : Option BoardKind) → IsFitting b g → AreMarks (ByGame rule b) l f (items marks))
+    → IfErr r (λ e. e ≡ error.Memory)
+    → MatchResult r (λ marks. AreMarks (ByGame rule (Some board)) l f (items marks)) (IsBeyond (ByGame rule (Some board)) l f)
+marks_or_memory items rule board l f g (Ok marks) fits found memory = found (Some board) fits
+marks_or_memory items rule board l f g (Err e) fits found memory = subst (IsBeyond (ByGame rule (Some board)) l f) (sym memory) tt

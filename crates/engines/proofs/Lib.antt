@@ -6,3 +6,4 @@ mod Orders
 mod Lendings
 mod Winning
 mod Putting
+mod Telling

@@ -1,5 +1,5 @@
 -- What a check by a game finds out, and what it makes of that.
-use Rattle.std.specs.Prelude.{◌≡◌, ℕ, ◌≤◌, ◌⊎◌, ◌↔◌, List, Some, IfSome, IsTrue, option_map}
+use Rattle.std.specs.Prelude.{◌≡◌, ℕ, ◌≤◌, ◌⊎◌, ◌↔◌, List, Some, IfSome, IsTrue, length, option_map}
 use Rattle.std.specs.Arc.{arc_value}
 use Rattle.std.specs.Option.{is_some}
 use Rattle.systems.specs.System.{System}
@@ -7,6 +7,7 @@ use Rattle.systems.specs.Numbered.{IsInside, system_with}
 use Rattle.systems.specs.declared.system.Transition.{Transition}
 use Rattle.calculus.specs.Tree.{Formula}
 use Rattle.calculus.specs.Closed.{closed_formula}
+use Rattle.calculus.specs.Meaning.{Marks}
 use Rattle.normal.specs.declared.limits.TheConstants.{GREATEST_PRIORITY}
 use Rattle.normal.specs.declared.priorities.Priorities.{Priorities}
 use Rattle.normal.specs.Refused.{HasRefusalWith}
@@ -25,6 +26,10 @@ use Rattle.requests.specs.declared.request.Wanted.{Wanted}
 use Rattle.engines.specs.declared.prepared.Prepared.{Prepared}
 use Rattle.engines.specs.declared.prepared.Shown.{Shown}
 use Rattle.engines.specs.declared.lifting.SolvedGame.{SolvedGame}
+use Rattle.engines.specs.declared.lifting.Winners.{Winners}
+use Rattle.engines.specs.declared.lifting.Winners.TheVariants.{Table, Marks as ByMarks}
+use Rattle.engines.specs.declared.lifting.Solution.{Solution}
+use Rattle.engines.specs.declared.lifting.Solution.TheVariants.{Table as HasTable, Marks as HasMarks}
 use Rattle.engines.specs.declared.findings.Findings.{Findings}
 use Rattle.engines.specs.declared.findings.Posed.{Posed}
 use Rattle.engines.specs.declared.findings.EvidencePair.{EvidencePair}
@@ -38,6 +43,16 @@ pub record IsSolvedGame (l : System) (f : Formula) (s : SolvedGame) : Type 0 whe
   pub game : IsArenaOf s.priorities l f (arc_value s.game)
   pub board : IsFitting s.board (arc_value s.game)
   pub settled : s.settled.game ≡ arc_value s.game
+
+-- They are the winners of the game.
+abbrev pub AreWinnersOf : Game → Winners → Type 0
+AreWinnersOf g (Table settled) = settled.now.game ≡ g
+AreWinnersOf g (ByMarks marks) = Marks (length g.vertices) marks.now (Wins g)
+
+-- The same of what says so.
+abbrev pub IsSolutionOf : Game → Solution → Type 0
+IsSolutionOf g (HasTable settled) = settled.game ≡ g
+IsSolutionOf g (HasMarks marks) = Marks (length g.vertices) marks.items (Wins g)
 
 -- The game that is to be solved is that of the texts.
 abbrev pub ArePosed : Posed → Type 0

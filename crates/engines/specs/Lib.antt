@@ -1,2 +1,4 @@
 pub mod Findings
+pub mod Found
 pub mod Status
+pub mod Table

@@ -2,18 +2,18 @@
 
 ghost use Rattle.std.specs.Prelude.{◌≡◌, ◌∷◌, ◌++◌, [], ℕ, List, None, Some, IfErr, MatchResult};
 ghost use Rattle.calculus.specs.Closed.{closed_formula};
-ghost use Rattle.requests.specs.Check.{BySets, ByGame, AreMarks, AreSpelled, Answers, Checks, IsBeyond, IsErrorOf};
+ghost use Rattle.requests.specs.Check.{Way, BySets, ByGame, AreMarks, AreSpelled, Answers, Checks, IsBeyond, IsErrorOf};
 ghost use Rattle.requests.specs.Command.{wanted_in, way_of};
 ghost use Rattle.engines.specs.Findings.{AreFindings, formula_of, system_of, way_in};
 ghost use Rattle.requests.specs.Writers.{all_writers, evidence_writers, game_writer, no_writer, report_writer};
 
 use crate::findings::{Findings, find_alone, find_seen, find_with};
+use crate::marks::{game_marks, plain_marks};
 use crate::no_writer::NoWriter;
 use crate::outputs::{answer, put_wanted};
 use crate::prepared::prepare;
 use crate::report::report_text;
-use lts::{Memory, put};
-use meaning::plain::plain_states;
+use lts::put;
 use measures::observer::{Observer, Silent, Stage};
 use requests::error::MuError;
 use requests::request::{Check, Options, Wanted};
@@ -136,7 +136,7 @@ pub fn check_plain_seen<R: Read + Drop, S: Read + Drop, W: Write, U: Watcher>(
             watcher.sees(Stage::Evaluating {
                 states: texts.system.states(),
             });
-            let marks = plain_marks(alloc, &texts);
+            let marks = plain_marks(alloc, &texts.system, &texts.formula);
             watcher.sees(Stage::Writing);
             report(alloc, &texts, marks, out)
         }
@@ -144,18 +144,7 @@ pub fn check_plain_seen<R: Read + Drop, S: Read + Drop, W: Write, U: Watcher>(
     }
 }
 
-/// A mark for each state, true where it satisfies the formula, by sets of states.
-fn plain_marks(alloc: Global, texts: &Texts) -> Result<Vec<bool>, MuError>
-    ensures { let l = texts.now.system.system in let f = closed_formula texts.now.formula in
-        MatchResult result (λ marks. AreMarks BySets l f marks.items) (IsBeyond BySets l f) }
-{
-    match plain_states(alloc, &texts.system, &texts.formula) {
-        Ok(marks) => Ok(marks),
-        Err(Memory) => Err(MuError::Memory),
-    }
-}
-
-/// Writes the report with these marks, and answers the initial state's mark.
+/// Writes the report with these marks, whichever way they were found, and answers the initial state's mark.
 fn report<W: Write>(
     alloc: Global,
     texts: &Texts,
@@ -163,11 +152,12 @@ fn report<W: Write>(
     out: &mut W,
 ) -> Result<bool, MuError>
     requires { let l = texts.now.system.system in let f = closed_formula texts.now.formula in
-        MatchResult marks (λ marks. AreMarks BySets l f marks.items) (IsBeyond BySets l f) }
+        (way : Way) × MatchResult marks (λ marks. AreMarks way l f marks.items) (IsBeyond way l f) }
     ensures answers { let l = texts.now.system.system in let f = closed_formula texts.now.formula in
-        (first second : List ℕ) → AreSpelled first second l f
-        → Answers BySets first second (report_writer (W.contents out.old) (W.contents out.new)) result }
-    ensures errors { IfErr result (IsErrorOf BySets) }
+        (way : Way) (first second : List ℕ) → MatchResult marks (λ marks. AreMarks way l f marks.items) (IsBeyond way l f)
+        → AreSpelled first second l f → Answers way first second (report_writer (W.contents out.old) (W.contents out.new)) result }
+    ensures errors { let l = texts.now.system.system in let f = closed_formula texts.now.formula in
+        (way : Way) → MatchResult marks (λ marks. AreMarks way l f marks.items) (IsBeyond way l f) → IfErr result (IsErrorOf way) }
 {
     let marks = marks?;
     let initial = texts.system.initial() as usize;
@@ -326,10 +316,42 @@ pub fn check_all<
         (all_writers wanted (G.contents game.old) (G.contents game.new) (E.contents even.old) (E.contents even.new) (O.contents odd.old) (O.contents odd.new)
         (V.contents witness.old) (V.contents witness.new) (W.contents out.old) (W.contents out.new)) result }
 {
-    match find_seen(rt, alloc, aut, formula, options, &NoGate, watcher) {
+    if wanted.is_nothing() {
+        return check_report(rt, alloc, aut, formula, options, out, watcher);
+    }
+    match find_seen(rt, alloc, aut, formula, options, watcher) {
         Ok(found) => {
             watcher.sees(Stage::Writing);
             answer_wanted(alloc, &found, wanted, game, even, odd, witness, out)
+        }
+        Err(error) => Err(error),
+    }
+}
+
+/// Checks as `check` does, and writes the report alone, for which it is enough to know who wins. Where a guess says it, and is good, no worker lifts.
+fn check_report<
+    R: Read + Drop,
+    S: Read + Drop,
+    W: Write,
+    U: Watcher + Sync,
+    H: Threads + Wait + Clone + Copy + Drop + Send + Sync,
+>(
+    rt: &H,
+    alloc: Global,
+    aut: R,
+    formula: S,
+    options: &Options,
+    out: &mut W,
+    watcher: &U,
+) -> Result<bool, MuError>
+    ensures { Checks (ByGame options.now.priorities (Some options.now.board)) (R.remaining aut) (S.remaining formula)
+        (report_writer (W.contents out.old) (W.contents out.new)) result }
+{
+    match read_both_seen(alloc, aut, formula, watcher) {
+        Ok(texts) => {
+            let marks = game_marks(rt, alloc, &texts.system, &texts.formula, options, watcher);
+            watcher.sees(Stage::Writing);
+            report(alloc, &texts, marks, out)
         }
         Err(error) => Err(error),
     }

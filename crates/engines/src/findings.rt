@@ -10,7 +10,7 @@ ghost use Rattle.requests.specs.Solver.{IsFitting, IsUnsolved};
 ghost use Rattle.requests.specs.Writers.{AreKept, Lent};
 
 use crate::guessing::guess_of;
-use crate::lifting::{SolvedGame, state_marks};
+use crate::lifting::{SolvedGame, Winners, state_marks};
 use crate::report::report_text;
 use evidence::error::EvidenceError;
 use evidence::evidence::Evidence;
@@ -31,8 +31,17 @@ use std::io::Read;
 use std::sync::{Arc, Wait};
 use std::thread::Threads;
 use text::Memory;
-use workers::gate::Gate;
+use workers::gate::{Gate, NoGate};
 use workers::team::BoardKind;
+
+/// Which teams a guess helps.
+#[derive(Clone, Copy, PartialEq, Eq)]
+enum Helped {
+    /// One worker alone, so that several lift.
+    OneWorker,
+    /// Every team, so that none lifts where the guess is good.
+    EveryTeam,
+}
 
 /// What a check by a game finds out, with all that its texts need but evidence.
 #[derive(Drop)]
@@ -83,8 +92,8 @@ pub fn find_alone<R: Read + Drop, S: Read + Drop, H: Threads + Sync>(
     }
 }
 
-/// Reads both texts, and finds out by the workers, over the board that the options ask for, which states satisfy the formula. The gate is told
-/// of each turn.
+/// Reads both texts, and finds out by the workers, over the board that the options ask for, which states satisfy the formula. Several workers
+/// lift, without the help of a guess, and the gate is told of each turn.
 ///
 /// # Errors
 /// Those of `find_alone`, and those of the board and of the workers' table: T1 where the packed board can't be had, and only there.
@@ -108,14 +117,57 @@ pub fn find_with<
     ensures refusal { (first second : List ℕ) → R.remaining aut ≡ Some first → S.remaining formula ≡ Some second
         → (writers : List Lent) → AreKept writers → IfErr result (HasRefused (ByGame options.now.priorities (Some options.now.board)) first second writers) }
 {
-    find_seen(rt, alloc, aut, formula, options, gate, &Silent)
+    find_by_texts(
+        rt,
+        alloc,
+        aut,
+        formula,
+        options,
+        Helped::OneWorker,
+        gate,
+        &Silent,
+    )
 }
 
-/// Finds what `find_with` does, and tells a watcher what is being read, built, searched and lifted.
+/// Finds what `find_with` does, and tells a watcher what is being read, built, searched and lifted. Where a guess of the whole table is good, no
+/// worker lifts, however many there are.
 ///
 /// # Errors
 /// Those of `find_with`.
 pub fn find_seen<
+    R: Read + Drop,
+    S: Read + Drop,
+    O: Watcher + Sync,
+    H: Threads + Wait + Clone + Copy + Drop + Send + Sync,
+>(
+    rt: &H,
+    alloc: Global,
+    aut: R,
+    formula: S,
+    options: &Options,
+    observer: &O,
+) -> Result<Findings, MuError>
+    ensures found { IfOk result AreFindings }
+    ensures way { IfOk result (λ found. way_in found ≡ ByGame options.now.priorities (Some options.now.board)) }
+    ensures spelled { (first second : List ℕ) → R.remaining aut ≡ Some first → S.remaining formula ≡ Some second
+        → IfOk result (λ found. AreSpelled first second (system_of found) (formula_of found)) }
+    ensures refusal { (first second : List ℕ) → R.remaining aut ≡ Some first → S.remaining formula ≡ Some second
+        → (writers : List Lent) → AreKept writers → IfErr result (HasRefused (ByGame options.now.priorities (Some options.now.board)) first second writers) }
+{
+    find_by_texts(
+        rt,
+        alloc,
+        aut,
+        formula,
+        options,
+        Helped::EveryTeam,
+        &NoGate,
+        observer,
+    )
+}
+
+/// Reads both texts, and finds out by the workers which states satisfy the formula.
+fn find_by_texts<
     R: Read + Drop,
     S: Read + Drop,
     T: Gate + Sync,
@@ -127,6 +179,7 @@ pub fn find_seen<
     aut: R,
     formula: S,
     options: &Options,
+    helped: Helped,
     gate: &T,
     observer: &O,
 ) -> Result<Findings, MuError>
@@ -138,7 +191,7 @@ pub fn find_seen<
         → (writers : List Lent) → AreKept writers → IfErr result (HasRefused (ByGame options.now.priorities (Some options.now.board)) first second writers) }
 {
     match read_and_build(rt, alloc, aut, formula, options.priorities, observer) {
-        Ok(posed) => find_by_workers(rt, alloc, posed, options, gate, observer),
+        Ok(posed) => find_by_workers(rt, alloc, posed, options, helped, gate, observer),
         Err(error) => Err(error),
     }
 }
@@ -220,7 +273,7 @@ fn solve_posed(alloc: Global, posed: &Posed) -> Result<Settled, Memory>
     solve_one_by(alloc, &posed.game, &guess, &Silent)
 }
 
-/// The least progress table, by workers, of which one alone is helped by a guess.
+/// The least progress table, by workers, which a guess helps or not.
 fn solve_by_workers<
     T: Gate + Sync,
     O: Observer + Sync,
@@ -230,6 +283,7 @@ fn solve_by_workers<
     alloc: Global,
     posed: &Posed,
     options: &Options,
+    helped: Helped,
     gate: &T,
     observer: &O,
 ) -> Result<Settled, MuError>
@@ -238,7 +292,7 @@ fn solve_by_workers<
     ensures refusal { IfErr result (IsUnsolved (Some options.now.board) (arc_value posed.now.game)) }
 {
     let Texts { system, formula } = &*posed.texts;
-    let guess = if options.workers == 1 {
+    let guess = if helped == Helped::EveryTeam || options.workers == 1 {
         guess_of(alloc, system, formula, posed.priorities, &posed.game)
     } else {
         None
@@ -256,6 +310,7 @@ fn find_by_workers<
     alloc: Global,
     posed: Posed,
     options: &Options,
+    helped: Helped,
     gate: &T,
     observer: &O,
 ) -> Result<Findings, MuError>
@@ -265,7 +320,7 @@ fn find_by_workers<
     ensures texts { IfOk result (λ found. found.texts.value ≡ posed.texts.value) }
     ensures refusal { IfErr result (IsUnsolved (Some options.now.board) (arc_value posed.game)) }
 {
-    match solve_by_workers(rt, alloc, &posed, options, gate, observer) {
+    match solve_by_workers(rt, alloc, &posed, options, helped, gate, observer) {
         Ok(settled) => find_solved(alloc, posed, Some(options.board), settled),
         Err(error) => Err(error),
     }
@@ -291,17 +346,18 @@ fn find_solved(
         priorities,
         game,
     } = posed;
-    let solution = SolvedGame {
-        priorities,
-        board,
-        game,
-        settled,
-    };
-    let marks = state_marks(alloc, &texts.system, &texts.formula, &solution)?;
-    let report = report_text(alloc, &texts.system, &texts.formula, &marks)?;
+    let Texts { system, formula } = &*texts;
+    let winners = Winners::Table(&settled);
+    let marks = state_marks(alloc, system, formula, priorities, &game, winners)?;
+    let report = report_text(alloc, system, formula, &marks)?;
     Ok(Findings {
         texts,
-        solution,
+        solution: SolvedGame {
+            priorities,
+            board,
+            game,
+            settled,
+        },
         marks,
         report,
     })

@@ -1,11 +1,16 @@
 // The states that satisfy a formula, by lifting the progress measures of its parity game.
 
-ghost use Rattle.std.specs.Prelude.{◌≡◌, ◌≤◌, IfOk, IfErr};
+ghost use Rattle.std.specs.Prelude.{◌≡◌, ◌≤◌, ◌<◌, ◌↔◌, IfOk, IfErr, IsTrue, Option, length};
+ghost use Rattle.std.specs.Arc.{arc_value};
 ghost use Rattle.calculus.specs.Closed.{closed_formula};
 ghost use Rattle.calculus.specs.Meaning.{Marks};
-ghost use Rattle.requests.specs.Check.{ByGame, AreMarks};
-ghost use Rattle.engines.specs.Findings.{IsSolvedGame};
+ghost use Rattle.game.specs.Game.{Game};
+ghost use Rattle.game.specs.Wins.{Wins};
+ghost use Rattle.requests.specs.Check.{ByGame, AreMarks, IsArenaOf};
 ghost use Rattle.requests.specs.Roots.{HasRoots, WinsRoot};
+ghost use Rattle.requests.specs.Solver.{IsFitting};
+ghost use Rattle.workers.specs.declared.team.BoardKind.{BoardKind};
+ghost use Rattle.engines.specs.Findings.{AreWinnersOf, IsSolutionOf};
 
 use calculus::closed::Closed;
 use game::graph::Game;
@@ -28,6 +33,48 @@ pub struct SolvedGame {
     pub settled: Settled,
 }
 
+/// Who wins the vertices of a game.
+#[derive(Clone, Copy)]
+pub enum Winners<'a> {
+    /// By its least progress table.
+    Table(&'a Settled),
+    /// By a mark for each vertex, true where Even wins it.
+    Marks(&'a [bool]),
+}
+
+/// Who wins a game, as it was found out.
+#[derive(Drop)]
+pub enum Solution {
+    /// Its least progress table.
+    Table(Settled),
+    /// A mark for each vertex, true where Even wins it.
+    Marks(Vec<bool>),
+}
+
+impl Solution {
+    /// The winners, lent.
+    pub fn winners(&self) -> Winners<'_>
+        ensures { (g : Game) → IsSolutionOf g self.now → AreWinnersOf g result }
+    {
+        match self {
+            Solution::Table(settled) => Winners::Table(settled),
+            Solution::Marks(marks) => Winners::Marks(marks),
+        }
+    }
+}
+
+/// Whether Even wins a vertex.
+fn even_wins_by(winners: Winners<'_>, game: &Game, v: u32) -> bool
+    requires winners { AreWinnersOf game.now winners }
+    requires vertex { v < length game.now.vertices }
+    ensures { IsTrue result ↔ Wins game.now v }
+{
+    match winners {
+        Winners::Table(settled) => even_wins(settled, v),
+        Winners::Marks(marks) => marks[v as usize],
+    }
+}
+
 /// A mark for each state, true where it satisfies the formula: where Even wins its vertex with the root node.
 ///
 /// # Errors
@@ -36,17 +83,21 @@ pub fn state_marks(
     alloc: Global,
     system: &Lts,
     formula: &Closed,
-    solution: &SolvedGame,
+    priorities: Priorities,
+    game: &Arc<Game, Global>,
+    winners: Winners<'_>,
 ) -> Result<Vec<bool>, MuError>
-    requires { IsSolvedGame system.now.system (closed_formula formula.now) solution.now }
-    ensures marks { IfOk result (λ marks. AreMarks (ByGame solution.now.priorities solution.now.board) system.now.system
-        (closed_formula formula.now) marks.items) }
+    requires arena { IsArenaOf priorities system.now.system (closed_formula formula.now) (arc_value game.now) }
+    requires winners { AreWinnersOf (arc_value game.now) winners }
+    ensures marks { IfOk result (λ marks. (board : Option BoardKind) → IsFitting board (arc_value game.now)
+        → AreMarks (ByGame priorities board) system.now.system (closed_formula formula.now) marks.items) }
     ensures refusal { IfErr result (λ e. e ≡ MuError.Memory) }
 {
+    let _ = priorities;
     chosen_is_admissible();
     even_wins_where_meant();
     let states = system.states();
-    match root_marks(alloc, states, &solution.game, &solution.settled) {
+    match root_marks(alloc, states, game, winners) {
         Ok(marks) => Ok(marks),
         Err(AllocError) => Err(MuError::Memory),
     }
@@ -57,16 +108,16 @@ fn root_marks(
     alloc: Global,
     states: u32,
     game: &Game,
-    settled: &Settled,
+    winners: Winners<'_>,
 ) -> Result<Vec<bool>, AllocError>
-    requires same { settled.now.game ≡ game.now }
+    requires winners { AreWinnersOf game.now winners }
     requires named { HasRoots states game.now }
     ensures { IfOk result (λ marks. Marks states marks.items (WinsRoot game.now)) }
 {
     game.known();
     let mut marks = Vec::with_capacity(alloc, states as usize)?;
     for state in 0..states {
-        marks.push(even_wins(settled, game.vertex_of(state, 0)))?;
+        marks.push(even_wins_by(winners, game, game.vertex_of(state, 0)))?;
     }
     Ok(marks)
 }

@@ -126,7 +126,7 @@ fn write_state_line<W: Write>(state: usize, mark: bool, out: &mut W) -> Result<(
 }
 
 /// How many are marked.
-fn marked(marks: &[bool]) -> usize
+pub(crate) fn marked(marks: &[bool]) -> usize
     ensures { result ≡ count_by (λ mark. mark) marks.now }
 {
     marks.iter().filter(|mark| **mark).count()

@@ -24,7 +24,8 @@ pub fn status(answer: &Result<bool, MuError>) -> u8
     }
 }
 
-fn error_status(error: &MuError) -> u8
+/// 2 where the input is at fault, and 3 where memory, a file, a read or a write failed.
+pub fn error_status(error: &MuError) -> u8
     ensures { result ≡ status_of_error error.now }
 {
     match error {

@@ -1,49 +1,41 @@
 // The files that a check writes beside its report.
 
+use crate::refusal::Refusal;
+use commands::names::{EvidenceNames, is_drawing};
 use engines::request::{Wanted, WitnessForm};
-use std::alloc::{AllocError, Global};
-use std::cell::{Cell, OnceCell};
+use std::cell::OnceCell;
 use std::fs::File;
 use std::io;
 use std::io::{Error, ErrorKind, Write};
 
-/// The names of both files of evidence.
+/// Where a text goes. What is written to the program's own output is put behind what stands there.
 #[derive(Drop)]
-pub struct EvidenceNames {
-    even: String,
-    odd: String,
+enum Target {
+    File(File),
+    Output,
+    ErrorOutput,
 }
 
-impl EvidenceNames {
-    /// `PATH.even` and `PATH.odd`.
-    pub fn of(alloc: Global, path: &str) -> Result<EvidenceNames, AllocError> {
-        Ok(EvidenceNames {
-            even: format!(in alloc; "{path}.even")?,
-            odd: format!(in alloc; "{path}.odd")?,
-        })
-    }
-}
-
-/// The files that a check writes beside its report. None of them is there before the first byte of any is written; then all are
-/// made.
+/// The files that a check writes beside its report. Each is made when its own first byte is written.
 #[derive(Drop)]
 pub struct Files<'a> {
     rt: &'a HostRuntime,
     game_name: Option<&'a str>,
     evidence_names: Option<EvidenceNames>,
     witness_name: Option<&'a str>,
-    game: OnceCell<File>,
-    even: OnceCell<File>,
-    odd: OnceCell<File>,
-    witness: OnceCell<File>,
-    refused: Cell<bool>,
+    game: OnceCell<Target>,
+    even: OnceCell<Target>,
+    odd: OnceCell<Target>,
+    witness: OnceCell<Target>,
+    refusal: OnceCell<Refusal>,
 }
 
 /// One of them, as a writer.
 #[derive(Drop)]
 pub struct FileWriter<'a> {
     all: &'a Files<'a>,
-    own: &'a OnceCell<File>,
+    name: Option<&'a str>,
+    own: &'a OnceCell<Target>,
 }
 
 impl<'a> Files<'a> {
@@ -63,17 +55,17 @@ impl<'a> Files<'a> {
             even: OnceCell::new(),
             odd: OnceCell::new(),
             witness: OnceCell::new(),
-            refused: Cell::new(false),
+            refusal: OnceCell::new(),
         }
     }
 
-    /// Which texts are written to them: a drawing of the witness where its file's name ends in `.dot`.
+    /// Which texts are written to them: a drawing of the witness where its file's name asks for one.
     pub fn wanted(&self) -> Wanted {
         Wanted {
             game: self.game_name.is_some(),
             evidence: self.evidence_names.is_some(),
             witness: match self.witness_name {
-                Some(name) if name.ends_with(".dot") => Some(WitnessForm::Drawing),
+                Some(name) if is_drawing(name) => Some(WitnessForm::Drawing),
                 Some(_) => Some(WitnessForm::System),
                 None => None,
             },
@@ -84,6 +76,7 @@ impl<'a> Files<'a> {
     pub fn game(&'a self) -> FileWriter<'a> {
         FileWriter {
             all: self,
+            name: self.game_name,
             own: &self.game,
         }
     }
@@ -92,6 +85,7 @@ impl<'a> Files<'a> {
     pub fn even(&'a self) -> FileWriter<'a> {
         FileWriter {
             all: self,
+            name: self.evidence_names.as_ref().map(|names| names.even.as_str()),
             own: &self.even,
         }
     }
@@ -100,6 +94,7 @@ impl<'a> Files<'a> {
     pub fn odd(&'a self) -> FileWriter<'a> {
         FileWriter {
             all: self,
+            name: self.evidence_names.as_ref().map(|names| names.odd.as_str()),
             own: &self.odd,
         }
     }
@@ -108,52 +103,54 @@ impl<'a> Files<'a> {
     pub fn witness(&'a self) -> FileWriter<'a> {
         FileWriter {
             all: self,
+            name: self.witness_name,
             own: &self.witness,
         }
     }
 
-    /// Whether one of them could not be made.
-    pub fn is_refused(&self) -> bool {
-        self.refused.get()
+    /// Why one of them could not be made.
+    pub fn into_refusal(self) -> Option<Refusal> {
+        self.refusal.into_inner()
     }
 
-    /// Makes those that have a name.
-    fn make(&self) -> io::Result<()> {
-        if let Some(name) = self.game_name {
-            self.make_one(&self.game, name)?;
-        }
-        if let Some(names) = &self.evidence_names {
-            self.make_one(&self.even, names.even.as_str())?;
-            self.make_one(&self.odd, names.odd.as_str())?;
-        }
-        if let Some(name) = self.witness_name {
-            self.make_one(&self.witness, name)?;
-        }
-        Ok(())
-    }
-
-    fn make_one(&self, place: &OnceCell<File>, name: &str) -> io::Result<()> {
-        match File::create(self.rt, name) {
-            Ok(file) => {
+    fn make(&self, place: &OnceCell<Target>, name: &str) -> io::Result<()> {
+        match self.target(name) {
+            Ok(target) => {
                 // One that is made already stays.
-                let _ = place.set(file);
+                let _ = place.set(target);
                 Ok(())
             }
             Err(error) => {
-                self.refused.set(true);
-                Err(error)
+                let kind = error.kind();
+                let _ = self.refusal.set(Refusal::of_file(self.rt, name, error));
+                Err(Error::from(kind))
             }
+        }
+    }
+
+    fn target(&self, name: &str) -> io::Result<Target> {
+        match name {
+            "/dev/stdout" => Ok(Target::Output),
+            "/dev/stderr" => Ok(Target::ErrorOutput),
+            _ => Ok(Target::File(File::create(self.rt, name)?)),
         }
     }
 }
 
 impl Write for FileWriter<'_> {
     fn write(&mut self, bytes: &[u8]) -> io::Result<usize> {
-        if self.own.get().is_none() {
-            self.all.make()?;
+        if let Some(name) = self.name
+            && self.own.get().is_none()
+        {
+            self.all.make(self.own, name)?;
         }
         match self.own.get() {
-            Some(mut file) => file.write(bytes),
+            Some(Target::File(file)) => {
+                let mut file = file;
+                file.write(bytes)
+            }
+            Some(Target::Output) => self.all.rt.stdout().write(bytes),
+            Some(Target::ErrorOutput) => self.all.rt.stderr().write(bytes),
             None => Err(Error::from(ErrorKind::NotFound)),
         }
     }

@@ -1,5 +1,4 @@
-// The line on standard error that says what a check is doing, and the notes on its formula. Both are for a person, so there is
-// neither where standard error is no terminal.
+// What a check tells on standard error while it runs: notes on its formula, and at a terminal a line that says what it is doing.
 
 use calculus::closed::Closed;
 use engines::watch::Watcher;
@@ -127,7 +126,7 @@ fn draw(rt: HostRuntime, place: &Place, seconds: u64) -> bool {
     }
 }
 
-/// What a check tells a person at a terminal while it runs.
+/// What a check tells while it runs.
 #[derive(Drop)]
 pub struct Line<'a, T> {
     rt: HostRuntime,
@@ -170,13 +169,22 @@ impl<T: Wait> Line<'_, T> {
         }
     }
 
-    // Writes notes where the line stood.
-    fn note(&self, place: &Place, words: &[Word<'_>]) -> io::Result<()> {
-        let mut screen = place.screen.lock(self.handle);
-        if screen.is_drawn {
-            screen.is_drawn = false;
-            self.rt.stderr().write_all(CLEAR)?;
+    // Writes notes, where the line stood if there is one.
+    fn note(&self, words: &[Word<'_>]) -> io::Result<()> {
+        match &self.place {
+            Some(place) => {
+                let mut screen = place.screen.lock(self.handle);
+                if screen.is_drawn {
+                    screen.is_drawn = false;
+                    self.rt.stderr().write_all(CLEAR)?;
+                }
+                self.note_all(words)
+            }
+            None => self.note_all(words),
         }
+    }
+
+    fn note_all(&self, words: &[Word<'_>]) -> io::Result<()> {
         for word in words {
             self.note_one(*word)?;
         }
@@ -210,11 +218,9 @@ impl<T> Observer for Line<'_, T> {
 
 impl<T: Wait> Watcher for Line<'_, T> {
     fn has_read(&self, system: &Lts, formula: &Closed) {
-        if let Some(place) = &self.place {
-            if let Ok(words) = strange_words(self.rt.alloc(), system, formula) {
-                // Where standard error fails, there is nobody to tell.
-                let _ = self.note(place, &words);
-            }
+        if let Ok(words) = strange_words(self.rt.alloc(), system, formula) {
+            // Where standard error fails, there is nobody to tell.
+            let _ = self.note(&words);
         }
     }
 }

@@ -4,10 +4,18 @@
 
 mod files;
 mod line;
+mod refusal;
+mod same;
+mod table;
 
-use crate::files::{EvidenceNames, Files};
+use crate::files::Files;
 use crate::line::{Line, Output};
+use crate::refusal::{NO_SOURCES, Refusal, Sources, tell};
+use crate::same::keep_apart;
+use crate::table::run_table;
 use commands::command_line::command;
+use commands::information::{explanation, help_text, version_text};
+use commands::names::EvidenceNames;
 use commands::normal_text::normal_text;
 use commands::replay_text::replay_text;
 use commands::request::{Command, Normal, Outputs, Replay, Solve, Verify};
@@ -16,7 +24,8 @@ use commands::verify_text::{verify_both_text, verify_text};
 use engines::engine::check_asked;
 use engines::error::{ArgumentError, MuError};
 use engines::request::Check;
-use engines::status::status;
+use engines::status::{error_status, status};
+use lts::put;
 use std::fs::File;
 use std::io::ErrorKind;
 use std::process::ExitCode;
@@ -26,27 +35,63 @@ use std::time::Clock;
 use std::{env, io};
 
 fn main(rt: HostRuntime) -> ExitCode {
-    let answer = run(&rt, &rt);
-    if let Err(error) = &answer {
-        // Where standard error fails too, the status alone tells.
-        let _ = tell(&rt, error);
-    }
-    ExitCode::from(status(&answer))
+    let status = match words(&rt) {
+        Ok(words) => run(&rt, &rt, &words),
+        Err(error) => ended(&rt, &NO_SOURCES, Err(Refusal::Told(error))),
+    };
+    ExitCode::from(status)
 }
 
-// Threads are handed on apart, since `main` alone has them.
+// The status with which the program ends. Threads are handed on apart, since `main` alone has them.
 fn run<T: Threads + Wait + Clock + Clone + Copy + Drop + Send + Sync + 'static>(
     rt: &HostRuntime,
     threads: &T,
-) -> Result<bool, MuError> {
-    let words = words(rt)?;
-    match command(rt.alloc(), &words)? {
-        Command::Check(request, outputs) => run_check(rt, threads, &request, &outputs),
-        Command::Normal(request) => run_normal(rt, &request),
-        Command::Solve(request) => run_solve(rt, threads, &request),
-        Command::Verify(request) => run_verify(rt, &request),
-        Command::Replay(request) => run_replay(rt, threads, &request),
+    words: &[String],
+) -> u8 {
+    match command(rt.alloc(), words) {
+        Ok(command) => {
+            let sources = Sources::of(&command);
+            ended(rt, &sources, run_command(rt, threads, &command))
+        }
+        Err(error) => ended(rt, &NO_SOURCES, Err(Refusal::Told(error))),
     }
+}
+
+/// The status. A refusal is told.
+fn ended(rt: &HostRuntime, sources: &Sources<'_>, found: Result<u8, Refusal>) -> u8 {
+    match found {
+        Ok(status) => status,
+        Err(refusal) => {
+            // Where standard error fails too, the status alone tells.
+            let _ = tell(rt, sources, &refusal);
+            error_status(&refusal.into_error())
+        }
+    }
+}
+
+fn run_command<T: Threads + Wait + Clock + Clone + Copy + Drop + Send + Sync + 'static>(
+    rt: &HostRuntime,
+    threads: &T,
+    command: &Command<'_>,
+) -> Result<u8, Refusal> {
+    let answer = match command {
+        Command::Check(request, outputs) => run_check(rt, threads, request, outputs),
+        Command::Table(request) => return run_table(rt, threads, request),
+        Command::Normal(request) => run_normal(rt, request),
+        Command::Solve(request) => run_solve(rt, threads, request),
+        Command::Verify(request) => run_verify(rt, request),
+        Command::Replay(request) => run_replay(rt, threads, request),
+        Command::Explain(code) => show(rt, explanation(rt.alloc(), code)),
+        Command::Help(command) => show(rt, help_text(rt.alloc(), *command)),
+        Command::Version => show(rt, version_text(rt.alloc())),
+    };
+    Ok(status(&Ok(answer?)))
+}
+
+/// Writes a text that was asked for.
+fn show(rt: &HostRuntime, text: Result<String, MuError>) -> Result<bool, Refusal> {
+    put(&mut io::writer(rt), text?.as_bytes()).map_err(MuError::Write)?;
+    Ok(true)
 }
 
 /// The words of the command line. Arguments that are no text are wrong arguments.
@@ -59,26 +104,28 @@ fn words(rt: &HostRuntime) -> Result<Vec<String>, MuError> {
     found.map_err(|_| MuError::Memory)
 }
 
-fn open(rt: &HostRuntime, name: &str) -> Result<File, MuError> {
-    File::open(rt, name).map_err(|_| MuError::File)
+fn open(rt: &HostRuntime, name: &str) -> Result<File, Refusal> {
+    File::open(rt, name).map_err(|error| Refusal::of_file(rt, name, error))
 }
 
-/// Both files are opened, in the order of the command line, before the first is read.
+/// That no file is destroyed is seen to before any is opened. Both files are opened, in the order of the command line, before the first is
+/// read.
 fn run_check<T: Threads + Wait + Clock + Clone + Copy + Drop + Send + Sync + 'static>(
     rt: &HostRuntime,
     threads: &T,
     request: &Check<'_>,
     outputs: &Outputs<'_>,
-) -> Result<bool, MuError> {
-    let system = open(rt, request.system)?;
-    let formula = open(rt, request.formula)?;
+) -> Result<bool, Refusal> {
     let names = match outputs.evidence {
         Some(path) => EvidenceNames::of(rt.alloc(), path).map(Some),
         None => Ok(None),
     };
     let Ok(names) = names else {
-        return Err(MuError::Memory);
+        return Err(Refusal::Told(MuError::Memory));
     };
+    keep_apart(rt, request, outputs, names.as_ref()).map_err(MuError::Arguments)?;
+    let system = open(rt, request.system)?;
+    let formula = open(rt, request.formula)?;
     let files = Files::new(rt, outputs.game, names, outputs.witness);
     let line = Line::new(*rt, threads);
     let ticker = line.start();
@@ -90,10 +137,10 @@ fn run_check<T: Threads + Wait + Clock + Clone + Copy + Drop + Send + Sync + 'st
     if let Some(ticker) = ticker {
         ticker.join(threads);
     }
-    if files.is_refused() {
-        return Err(MuError::File);
+    match files.into_refusal() {
+        Some(refusal) => Err(refusal),
+        None => Ok(answer?),
     }
-    answer
 }
 
 /// Writes what is asked for to the files, and then the report.
@@ -123,29 +170,34 @@ fn write_files<T: Threads + Wait + Clock + Clone + Copy + Drop + Send + Sync + '
     )
 }
 
-fn run_normal(rt: &HostRuntime, request: &Normal<'_>) -> Result<bool, MuError> {
+fn run_normal(rt: &HostRuntime, request: &Normal<'_>) -> Result<bool, Refusal> {
     let formula = open(rt, request.formula)?;
-    normal_text(rt.alloc(), formula, request.priorities, &mut io::writer(rt))
+    let out = &mut io::writer(rt);
+    Ok(normal_text(rt.alloc(), formula, request.priorities, out)?)
 }
 
 fn run_solve<T: Threads + Wait + Clone + Copy + Drop + Send + Sync>(
     rt: &HostRuntime,
     threads: &T,
     request: &Solve<'_>,
-) -> Result<bool, MuError> {
+) -> Result<bool, Refusal> {
     let game = open(rt, request.game)?;
     let options = &request.options;
-    solve_text(threads, rt.alloc(), game, options, &mut io::writer(rt))
+    let out = &mut io::writer(rt);
+    Ok(solve_text(threads, rt.alloc(), game, options, out)?)
 }
 
 /// All files are opened, in the order of the command line, before the first is read.
-fn run_verify(rt: &HostRuntime, request: &Verify<'_>) -> Result<bool, MuError> {
+fn run_verify(rt: &HostRuntime, request: &Verify<'_>) -> Result<bool, Refusal> {
     let game = open(rt, request.game)?;
     let evidence = open(rt, request.evidence)?;
     let out = &mut io::writer(rt);
     match request.other {
-        None => verify_text(rt.alloc(), game, evidence, out),
-        Some(other) => verify_both_text(rt.alloc(), game, evidence, open(rt, other)?, out),
+        None => Ok(verify_text(rt.alloc(), game, evidence, out)?),
+        Some(other) => {
+            let other = open(rt, other)?;
+            Ok(verify_both_text(rt.alloc(), game, evidence, other, out)?)
+        }
     }
 }
 
@@ -154,27 +206,11 @@ fn run_replay<T: Threads + Sync>(
     rt: &HostRuntime,
     threads: &T,
     request: &Replay<'_>,
-) -> Result<bool, MuError> {
+) -> Result<bool, Refusal> {
     let system = open(rt, request.system)?;
     let formula = open(rt, request.formula)?;
     let schedule = open(rt, request.schedule)?;
     let out = &mut io::writer(rt);
-    replay_text(
-        threads,
-        rt.alloc(),
-        system,
-        formula,
-        schedule,
-        request.workers,
-        out,
-    )
-}
-
-/// One line with the code and the place; after wrong arguments also what is wrong with them, or the help.
-fn tell(rt: &HostRuntime, error: &MuError) -> io::Result<()> {
-    eprintln!(rt; "mucheck: {error}")?;
-    match error {
-        MuError::Arguments(argument) => eprint!(rt; "{argument}"),
-        _ => Ok(()),
-    }
+    let workers = request.workers;
+    Ok(replay_text(threads, rt.alloc(), system, formula, schedule, workers, out)?)
 }

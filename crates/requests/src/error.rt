@@ -8,9 +8,37 @@ use lts::WriteFault;
 use lts::error::AutError;
 use normal::error::NormalError;
 use pgsolver::error::PgError;
+use std::fmt;
 use tables::error::TableError;
 use thiserror::Error;
 use workers::error::SolveError;
+
+/// A file that a check reads or writes. It is shown as the command line names it.
+#[derive(Clone, Copy, Debug, PartialEq, Eq)]
+pub enum CheckFile {
+    System,
+    Formula,
+    Game,
+    EvenEvidence,
+    OddEvidence,
+    Witness,
+    /// Standard output, where it is a file.
+    Report,
+}
+
+impl fmt::Display for CheckFile {
+    fn fmt<W: fmt::Write>(&self, f: &mut fmt::Formatter<W>) -> fmt::Result {
+        f.write_str(match self {
+            CheckFile::System => "SYSTEM",
+            CheckFile::Formula => "FORMULA",
+            CheckFile::Game => "the file of --game",
+            CheckFile::EvenEvidence => "PATH.even of --evidence",
+            CheckFile::OddEvidence => "PATH.odd of --evidence",
+            CheckFile::Witness => "the file of --witness",
+            CheckFile::Report => "standard output",
+        })
+    }
+}
 
 /// What is wrong with a command line, or with what an engine was asked for.
 #[derive(Debug, Drop, Error)]
@@ -30,6 +58,15 @@ pub enum ArgumentError {
     /// A number is outside of its limits.
     #[error("error: a number is outside of its limits\n")]
     OverLimit,
+    /// A text that is written without a game is the report alone.
+    #[error("error: --plain makes no game, so --game, --evidence and --witness can't stand beside it\n")]
+    PlainOutput,
+    /// What is written to the first one would destroy the other one.
+    #[error("error: {0} and {1} are the same file\n")]
+    SameFile(CheckFile, CheckFile),
+    /// What is to be explained is no code of the program.
+    #[error("error: there is no such code; docs/CODES.md has all of them\n")]
+    UnknownCode,
 }
 
 /// Why there is no answer. It is shown as its code, with the place where it has one.

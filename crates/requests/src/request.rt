@@ -1,6 +1,6 @@
 // What a check is asked for.
 
-ghost use Rattle.std.specs.Prelude.{◌≤◌};
+ghost use Rattle.std.specs.Prelude.{◌≡◌, ◌≤◌, ◌↔◌, None, IsTrue, false};
 
 use normal::priorities::Priorities;
 pub use workers::team::BoardKind;
@@ -44,4 +44,13 @@ pub struct Wanted {
     /// That of both players.
     pub evidence: bool,
     pub witness: Option<WitnessForm>,
+}
+
+impl Wanted {
+    /// Whether nothing is wanted before the report.
+    pub fn is_nothing(&self) -> bool
+        ensures { IsTrue result ↔ (self.now ≡ record { game = false; evidence = false; witness = None }) }
+    {
+        !self.game && !self.evidence && self.witness.is_none()
+    }
 }

@@ -2,6 +2,8 @@
 
 ghost use Rattle.std.specs.Prelude.{◌≡◌, IfErr, IfOk, Some};
 ghost use Rattle.std.specs.Arc.{arc_value};
+ghost use Rattle.game.specs.Game.{Game};
+ghost use Rattle.workers.specs.Team.{IsRefusal};
 ghost use Rattle.requests.specs.Solver.{IsFitting, IsUnsolved};
 
 use crate::error::MuError;
@@ -15,7 +17,31 @@ use std::sync::{Arc, Wait};
 use std::thread::Threads;
 use workers::error::TeamError;
 use workers::gate::Gate;
-use workers::team::{Team, solve_by};
+use workers::team::{BoardKind, Team, fits_words, solve_by};
+
+// The refusal of a team.
+fn refusal(error: TeamError) -> MuError
+    ensures { (board : BoardKind) (g : Game) → IsRefusal board g error → IsUnsolved (Some board) g result }
+{
+    match error {
+        TeamError::Board(error) => MuError::Table(error),
+        TeamError::Solve(error) => MuError::Solve(error),
+    }
+}
+
+/// Whether the board can be had for the game.
+///
+/// # Errors
+/// T1 where it can't.
+pub fn require_board(game: &Game, board: BoardKind) -> Result<(), MuError>
+    ensures board { IfOk result (λ _. IsFitting (Some board) game.now) }
+    ensures refusal { IfErr result (IsUnsolved (Some board) game.now) }
+{
+    match fits_words(game, board) {
+        Ok(_) => Ok(()),
+        Err(error) => Err(refusal(error)),
+    }
+}
 
 /// The least progress table of a game, by the workers over the board that the options ask for. The gate is told of each turn.
 ///
@@ -64,7 +90,6 @@ pub fn solve_seen<
     };
     match solve_by(rt, alloc, game, &team, gate, observer, guess) {
         Ok(settled) => Ok(settled),
-        Err(TeamError::Board(error)) => Err(MuError::Table(error)),
-        Err(TeamError::Solve(error)) => Err(MuError::Solve(error)),
+        Err(error) => Err(refusal(error)),
     }
 }

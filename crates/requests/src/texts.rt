@@ -18,7 +18,7 @@ use std::alloc::Global;
 use std::io::{ErrorKind, Read};
 
 /// One byte more than the longest text of a formula: nothing behind it is read.
-const FORMULA_BYTES: u64 = LONGEST_TEXT as u64 + 1;
+pub const FORMULA_BYTES: u64 = LONGEST_TEXT as u64 + 1;
 
 /// A system and a formula that were read.
 #[derive(Drop)]
@@ -78,12 +78,27 @@ pub fn read_formula<S: Read + Drop>(alloc: Global, formula: S) -> Result<Closed,
     ensures refusal { (text : List ℕ) → S.remaining formula ≡ Some text → IfErr result (IsReadRefusal text) }
     ensures fault { IfErr result IsReading }
 {
-    let text = read_front(alloc, formula)?;
-    parse(alloc, &text).map_err(MuError::Formula)
+    let front = read_front(alloc, formula)?;
+    formula_of(alloc, &front)
+}
+
+/// The formula that a text spells, of which this is all, or what `read_front` answers of it.
+///
+/// # Errors
+/// Those of `parse`.
+pub fn formula_of(alloc: Global, front: &[u8]) -> Result<Closed, MuError>
+    ensures spelled { (text : List ℕ) → front.now ≡ take FORMULA_BYTES text → IfOk result (λ f. IsFormulaOf text (closed_formula f)) }
+    ensures refusal { (text : List ℕ) → front.now ≡ take FORMULA_BYTES text → IfErr result (IsReadRefusal text) }
+    ensures fault { IfErr result IsReading }
+{
+    parse(alloc, front).map_err(MuError::Formula)
 }
 
 /// All bytes of the reader, or its first `FORMULA_BYTES`.
-fn read_front<S: Read + Drop>(alloc: Global, reader: S) -> Result<Vec<u8>, MuError>
+///
+/// # Errors
+/// U3 where a read failed, U4 for memory.
+pub fn read_front<S: Read + Drop>(alloc: Global, reader: S) -> Result<Vec<u8>, MuError>
     ensures front { IfOk result (λ text. IfSome (S.remaining reader) (λ all. text.items ≡ take FORMULA_BYTES all)) }
     ensures refusal { IfErr result IsReadFault }
 {

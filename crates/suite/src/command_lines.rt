@@ -3,6 +3,8 @@
 use crate::common::same;
 use crate::help::HELP;
 use commands::command_line::command;
+use commands::information::{explanation, help_text, version_text};
+use commands::names::is_drawing;
 use commands::request::Command;
 use engines::error::MuError;
 use engines::request::{BoardKind, Options};
@@ -59,6 +61,12 @@ fn request_of(alloc: Global, words: &[String]) -> Result<String, AllocError> {
                 "check {system} {formula} {options} {plain} {game} {evidence} {witness} {report}"
             )
         }
+        Ok(Command::Table(table)) => {
+            let options = options_of(alloc, &table.options)?;
+            let (system, plain) = (table.system, table.plain);
+            let files = table.formulas.join(alloc, ",")?;
+            format!(in alloc; "table {system} {files} {options} {plain}")
+        }
         Ok(Command::Normal(form)) => {
             let (formula, rule) = (form.formula, rule_of(form.priorities));
             format!(in alloc; "normal {formula} {rule}")
@@ -78,12 +86,27 @@ fn request_of(alloc: Global, words: &[String]) -> Result<String, AllocError> {
             let workers = replay.workers;
             format!(in alloc; "replay {system} {formula} {schedule} {workers}")
         }
+        Ok(Command::Explain(code)) => format!(in alloc; "explain {code}"),
+        Ok(Command::Help(topic)) => {
+            let topic = topic.unwrap_or("-");
+            format!(in alloc; "help {topic}")
+        }
+        Ok(Command::Version) => String::from_str(alloc, "version"),
         Err(error) => error.to_string(alloc),
     }
 }
 
 /// Lines and what they ask for, with the defaults of the program's description.
-const TAKEN: [(&str, &str); 23] = [
+const TAKEN: [(&str, &str); 35] = [
+    ("mucheck table s f", "table s f nested 1 16 auto false"),
+    (
+        "mucheck table s f g --plain h",
+        "table s f,g,h nested 1 16 auto true",
+    ),
+    (
+        "mucheck table --board locked s f --workers 2 g --priorities dependent --shards 3",
+        "table s f,g dependent 2 3 locked false",
+    ),
     (
         "mucheck check s f --workers 8",
         "check s f nested 8 16 auto false - - - report",
@@ -136,6 +159,30 @@ const TAKEN: [(&str, &str); 23] = [
         "mucheck check s f --witness w --evidence e --quiet --game g",
         "check s f nested 1 16 auto false g e w quiet",
     ),
+    (
+        "mucheck check -q s f",
+        "check s f nested 1 16 auto false - - - quiet",
+    ),
+    (
+        "mucheck check f f",
+        "check f f nested 1 16 auto false - - - report",
+    ),
+    (
+        "mucheck check e f --evidence e --game o",
+        "check e f nested 1 16 auto false o e - report",
+    ),
+    (
+        "mucheck check s f --game /dev/stdout --witness /dev/stdout",
+        "check s f nested 1 16 auto false /dev/stdout - /dev/stdout report",
+    ),
+    (
+        "mucheck check /dev/null f --game /dev/null --witness /dev/null",
+        "check /dev/null f nested 1 16 auto false /dev/null - /dev/null report",
+    ),
+    ("mucheck explain A2", "explain A2"),
+    ("mucheck help", "help -"),
+    ("mucheck help check", "help check"),
+    ("mucheck version", "version"),
     ("mucheck normal f", "normal f nested"),
     ("mucheck normal f --priorities nested", "normal f nested"),
     (
@@ -169,7 +216,13 @@ fn takes_command_lines(rt: HostRuntime) {
     }
 }
 
-const REFUSED: [&str; 43] = [
+const REFUSED: [&str; 55] = [
+    "mucheck table",
+    "mucheck table s",
+    "mucheck table  f",
+    "mucheck table s f ",
+    "mucheck table s f --quiet",
+    "mucheck table s f --witness w",
     "mucheck",
     "mucheck --help",
     "mucheck --version",
@@ -212,6 +265,12 @@ const REFUSED: [&str; 43] = [
     "mucheck replay s f t --workers 0",
     "mucheck replay s f t --workers 65",
     "mucheck replay s f t --priorities nested",
+    "mucheck explain",
+    "mucheck explain ",
+    "mucheck explain A2 A3",
+    "mucheck help check solve",
+    "mucheck version 2",
+    "mucheck solve g -q",
     "mucheck other",
 ];
 
@@ -224,6 +283,126 @@ fn refuses_command_lines(rt: HostRuntime) {
     }
 }
 
+/// Lines that would destroy a file, or write what there isn't, and what is said of them.
+const DESTRUCTIVE: [(&str, &str); 12] = [
+    (
+        "mucheck check s f --game s",
+        "the file of --game and SYSTEM are the same file",
+    ),
+    (
+        "mucheck check s f --game f",
+        "the file of --game and FORMULA are the same file",
+    ),
+    (
+        "mucheck check --witness s s f",
+        "the file of --witness and SYSTEM are the same file",
+    ),
+    (
+        "mucheck check s f --witness f",
+        "the file of --witness and FORMULA are the same file",
+    ),
+    (
+        "mucheck check s f --witness g --game g",
+        "the file of --game and the file of --witness are the same file",
+    ),
+    (
+        "mucheck check e.even f --evidence e",
+        "PATH.even of --evidence and SYSTEM are the same file",
+    ),
+    (
+        "mucheck check s e.odd --evidence e",
+        "PATH.odd of --evidence and FORMULA are the same file",
+    ),
+    (
+        "mucheck check s f --evidence e --game e.even",
+        "the file of --game and PATH.even of --evidence are the same file",
+    ),
+    (
+        "mucheck check s f --evidence e --witness e.odd",
+        "PATH.odd of --evidence and the file of --witness are the same file",
+    ),
+    (
+        "mucheck check s f --plain --game g",
+        "--plain makes no game, so --game, --evidence and --witness can't stand beside it",
+    ),
+    (
+        "mucheck check s f --plain --evidence e",
+        "--plain makes no game, so --game, --evidence and --witness can't stand beside it",
+    ),
+    (
+        "mucheck check --witness w --plain s f",
+        "--plain makes no game, so --game, --evidence and --witness can't stand beside it",
+    ),
+];
+
+#[test]
+fn says_what_would_be_destroyed(rt: HostRuntime) {
+    for (line, wanted) in &DESTRUCTIVE {
+        let words = words(rt.alloc(), line).expect(&rt, "memory");
+        let text = help(rt.alloc(), words.as_slice()).expect(&rt, "memory");
+        let wanted = format!(in rt.alloc(); "error: {wanted}\n").expect(&rt, "memory");
+        same(&rt, line, text.as_str(), wanted.as_str());
+    }
+}
+
+/// Names of a witness's file, and whether it is a drawing.
+const DRAWINGS: [(&str, bool); 10] = [
+    ("w.dot", true),
+    ("w.gv", true),
+    ("w.DOT", true),
+    ("w.Gv", true),
+    (".dot", true),
+    ("wdot", false),
+    ("w.dot.aut", false),
+    ("w.aut", false),
+    ("gv", false),
+    ("w.gv ", false),
+];
+
+#[test]
+fn drawings_go_by_their_names(rt: HostRuntime) {
+    for (name, wanted) in &DRAWINGS {
+        assert!(rt; is_drawing(name) == *wanted, "{name}");
+    }
+}
+
+/// (from docs/CODES.md, with which tests/codes compares all of them)
+#[test]
+fn codes_are_explained(rt: HostRuntime) {
+    let text = explanation(rt.alloc(), "A3").expect(&rt, "a code");
+    let wanted =
+        "A3 at line 1: more than 10,000,000 transitions or 1,000,000 states are announced\n\
+        What to do: reduce the system first, for example by branching bisimulation\n";
+    same(&rt, "A3", text.as_str(), wanted);
+    for code in &["", "A", "A0", "A33", "a3", "T3"] {
+        let answer = explanation(rt.alloc(), code);
+        assert!(rt; matches!(&answer, Err(MuError::Arguments(_))), "{code}");
+    }
+}
+
+/// What is told of help and version is what their options show.
+#[test]
+fn texts_are_those_of_the_options(rt: HostRuntime) {
+    for command in &[
+        "check", "table", "normal", "solve", "verify", "replay", "explain", "help", "version",
+    ] {
+        let line = format!(in rt.alloc(); "mucheck {command} --help").expect(&rt, "memory");
+        let words = words(rt.alloc(), line.as_str()).expect(&rt, "memory");
+        let shown = help(rt.alloc(), words.as_slice()).expect(&rt, "memory");
+        let told = help_text(rt.alloc(), Some(command)).expect(&rt, "a command");
+        same(&rt, command, told.as_str(), shown.as_str());
+    }
+    let told = help_text(rt.alloc(), None).expect(&rt, "help");
+    same(&rt, "help", told.as_str(), HELP);
+    let told = version_text(rt.alloc()).expect(&rt, "version");
+    same(&rt, "version", told.as_str(), TOLD_VERSION);
+    let other = help_text(rt.alloc(), Some("other"));
+    assert!(rt;
+        matches!(&other, Err(MuError::Arguments(_))),
+        "no such command"
+    );
+}
+
 /// What is written of the help that was asked for.
 fn help(alloc: Global, words: &[String]) -> Result<String, AllocError> {
     match command(alloc, words) {
@@ -233,7 +412,16 @@ fn help(alloc: Global, words: &[String]) -> Result<String, AllocError> {
 }
 
 /// A command, and parts of its help.
-const SHOWN: [(&str, [&str; 4]); 5] = [
+const SHOWN: [(&str, [&str; 4]); 6] = [
+    (
+        "mucheck table --help",
+        [
+            "FORMULA",
+            "--plain",
+            "% expect yes",
+            "Example:\n  mucheck table ",
+        ],
+    ),
     (
         "mucheck check --help",
         [
@@ -297,12 +485,13 @@ fn help_shows_what_is_served(rt: HostRuntime) {
 }
 
 /// The first line is the program's name with its version, the second one what `rt version` says of the toolchain.
+const TOLD_VERSION: &str = "mucheck 0.9.0\nproved with rattle-kit-13f logic dac8208d650f15bf\n";
+
 #[test]
 fn version_tells_the_toolchain(rt: HostRuntime) {
     let line = words(rt.alloc(), "mucheck --version").expect(&rt, "memory");
     let text = help(rt.alloc(), line.as_slice()).expect(&rt, "memory");
-    let wanted = "mucheck 0.9.0\nproved with rattle-kit-13f logic dac8208d650f15bf\n";
-    same(&rt, "version", text.as_str(), wanted);
+    same(&rt, "version", text.as_str(), TOLD_VERSION);
 }
 
 /// The text that the script `./mucheck` shows as long as the program isn't built is the program's own.

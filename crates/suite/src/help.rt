@@ -7,20 +7,24 @@ pub const HELP: &str =
 Usage: mucheck <COMMAND>
 
 Commands:
-  check   Reports for each state of a system whether it satisfies a formula
-  normal  Writes the normal form of a formula, a line for each node
-  solve   Writes for each vertex of a parity game who wins it
-  verify  Checks evidence that a player wins vertices of a parity game
-  replay  Writes what the events of a schedule come to in a parity game
+  check    Reports for each state of a system whether it satisfies a formula
+  table    Reports for each of many formulas whether a system satisfies it
+  normal   Writes the normal form of a formula, a line for each node
+  solve    Writes for each vertex of a parity game who wins it
+  verify   Checks evidence that a player wins vertices of a parity game
+  replay   Writes what the events of a schedule come to in a parity game
+  explain  Tells what a code of a refusal means, and how to mend it
+  help     Tells what a command does, or which commands there are
+  version  Tells the version, and what proved it
 
 Options:
   -h, --help     Print help
   -V, --version  Print version
 
-mucheck COMMAND --help says more of a command.
+mucheck help COMMAND says more of a command.
 
-A refusal is one line on standard error, mucheck: CODE, with its place. docs/CODES.md says
-what each code means and how to mend it. The most frequent:
+A refusal begins with a line on standard error, mucheck: CODE, with its place. The command
+mucheck explain CODE says what it means and how to mend it. The most frequent:
   A1      mostly both files in the wrong order, or a byte order mark
   A2      mostly a label without quotes
   F1, F2  in a modality mostly a label with parameters, which wants quotes: <"send(1)">true

@@ -26,4 +26,6 @@ mod shown_checks;
 #[cfg(test)]
 mod stages;
 #[cfg(test)]
+mod tables;
+#[cfg(test)]
 mod written_checks;

@@ -89,7 +89,8 @@ fn tells_of_a_game<R: Abort + AllocGlobal + Threads + Wait + Clone + Copy + Drop
         &told,
     );
     assert!(rt; answer.ok() == Some(true));
-    assert_eq!(rt; told.digits.load(Ordering::SeqCst), 1_011_111);
+    // A guess of the whole table is good, so that nothing is lifted.
+    assert_eq!(rt; told.digits.load(Ordering::SeqCst), 1_001_111);
     assert_eq!(rt; told.states.load(Ordering::SeqCst), 2);
 }
 

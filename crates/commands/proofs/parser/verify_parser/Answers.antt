@@ -1,4 +1,3 @@
-use Rattle.std.proofs.Common.{ap, ◌∙◌}
 use Rattle.std.proofs.lemmas.Result.{IfOk-weaker}
 use Rattle.commands.proofs.Tables.{adds_rule, helped}
 use Rattle.commands.proofs.parser.verify_parser.Goals as goal

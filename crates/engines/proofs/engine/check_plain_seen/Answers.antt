@@ -4,7 +4,8 @@ use Rattle.requests.specs.Writers.{report_writer}
 use Rattle.engines.proofs.engine.check_plain_seen.Goals as goal
 
 pub returns-in-Ok-clause-checks : goal.returns-in-Ok-clause-checks
-returns-in-Ok-clause-checks g c = λ first second known also. c.report.ensures.answers first second (c.in-Ok.ensures.spelled first second known also)
+returns-in-Ok-clause-checks g c = λ first second known also.
+    c.report.ensures.answers BySets first second c.plain_marks-marks.ensures (c.in-Ok.ensures.spelled first second known also)
 
 pub returns-in-Err-clause-checks : goal.returns-in-Err-clause-checks
 returns-in-Err-clause-checks g c = λ first second known also.

@@ -1,6 +1,0 @@
-use Rattle.calculus.specs.Meaning.{Marks}
-use Rattle.game.specs.Wins.{Wins}
-use Rattle.commands.proofs.winners.marks_of.Given as goal
-
-abbrev pub invariant-loop-v : goal.invariant-loop-v
-invariant-loop-v l = Marks l.v l.marks.items (Wins l.game)

@@ -1,0 +1,372 @@
+// The codes of refusals, what they mean and how they are mended. docs/CODES.md has the same entries, and tests/codes compares both.
+
+ghost use Rattle.std.specs.Prelude.{◌≡◌, IfSome};
+
+/// What a code means, and how it is mended.
+#[derive(Clone, Copy)]
+pub struct Entry {
+    /// A letter and a digit.
+    pub code: &'static str,
+    /// What stands behind it in the refusal's line, where something does.
+    pub place: &'static str,
+    pub wrong: &'static str,
+    pub remedy: &'static str,
+}
+
+/// The entry of a code.
+pub fn entry_of(code: &str) -> Option<&'static Entry>
+    ensures { IfSome result (λ entry. entry.now.code.now ≡ code.now) }
+{
+    ENTRIES.iter().find(|entry| entry.code == code)
+}
+
+static ENTRIES: [Entry; 53] = [
+    Entry {
+        code: "A1",
+        place: " at line 1",
+        wrong: "the first line isn't `des (initial,transitions,states)`",
+        remedy: "mostly both files stand in the wrong order on the command line (the system \
+        comes first), or the file begins with a byte order mark, which editors don't show (`head \
+        -c 3 FILE | od -c` does): save it without; else write that header",
+    },
+    Entry {
+        code: "A2",
+        place: " at line N",
+        wrong: "the line isn't `(source,\"label\",target)`",
+        remedy: "mostly the label has no quotes: mCRL2's `lps2lts` writes them, other tools may \
+        leave them out; else look for a missing comma or parenthesis, a number with a leading 0, \
+        or something after the `)`",
+    },
+    Entry {
+        code: "A3",
+        place: " at line 1",
+        wrong: "more than 10,000,000 transitions or 1,000,000 states are announced",
+        remedy: "reduce the system first, for example by branching bisimulation",
+    },
+    Entry {
+        code: "A4",
+        place: " at line N",
+        wrong: "a state isn't below the number of states",
+        remedy: "states are numbered from 0; raise the number of states in the header, or mend \
+        the line",
+    },
+    Entry {
+        code: "A5",
+        place: " at line N",
+        wrong: "there are fewer transition lines than announced (N is the line that is missing), \
+        or line N is one too many",
+        remedy: "mend the header's second number, or see whether the file was cut off",
+    },
+    Entry {
+        code: "A6",
+        place: " at line 1",
+        wrong: "there is no state, or the initial state isn't one",
+        remedy: "mend the header",
+    },
+    Entry {
+        code: "A7",
+        place: " at line N",
+        wrong: "the label is empty, longer than 4,096 bytes, or has a byte that isn't printable \
+        ASCII",
+        remedy: "rename the label",
+    },
+    Entry {
+        code: "A8",
+        place: "",
+        wrong: "the file can't be read, for example because it is a directory",
+        remedy: "look at the file",
+    },
+    Entry {
+        code: "A9",
+        place: "",
+        wrong: "want of memory while the system was read",
+        remedy: "use a machine with more memory, or reduce the system",
+    },
+    Entry {
+        code: "F1",
+        place: " at offset N",
+        wrong: "the byte there begins no token, or the quoted label there is empty, too long or \
+        not closed",
+        remedy: "at a digit or a comma mostly a label with parameters, which wants quotes: \
+        `<\"send(1)\">true`; `&&` and `||` are doubled",
+    },
+    Entry {
+        code: "F2",
+        place: " at offset N",
+        wrong: "no formula goes on with the token there",
+        remedy: "look at what stands right before it: often a missing `>` or `]`, a `.` after a \
+        binder's variable, or a word that is no name; at a `(` in a modality mostly a label with \
+        parameters, which wants quotes: `<\"enter(a)\">true`",
+    },
+    Entry {
+        code: "F3",
+        place: " at offset N",
+        wrong: "the text ends before the formula does",
+        remedy: "close what is open",
+    },
+    Entry {
+        code: "F4",
+        place: " at offset N",
+        wrong: "a reserved word of the full language: data, time and quantifiers aren't \
+        supported",
+        remedy: "write the formula without it",
+    },
+    Entry {
+        code: "F5",
+        place: " at offset N",
+        wrong: "the variable there has no binder",
+        remedy: "bind it by `mu` or `nu`, or mend its spelling; an action stands in `<..>` or \
+        `[..]` alone",
+    },
+    Entry {
+        code: "F6",
+        place: " at offset N",
+        wrong: "the variable there stands under an odd number of negations below its binder",
+        remedy: "push the negation inward: `!<a>X` is `[a]!X`, `!mu X. f` is a `nu`; the left \
+        side of `=>` counts as a negation",
+    },
+    Entry {
+        code: "F7",
+        place: " at offset N",
+        wrong: "inside a modality, `!`, `&&`, `||` and `=>` join steps, not paths",
+        remedy: "use `+` for a choice of paths, and `.` and `*` outside of the parentheses",
+    },
+    Entry {
+        code: "F8",
+        place: " at offset N",
+        wrong: "the formula is longer than 1,048,576 bytes, nests deeper than 256, or has more \
+        than 1,024 parentheses open at once",
+        remedy: "each sign nests, in a row too: `a && b && c` is `a && (b && c)`, so 300 \
+        operands in a row nest 299 deep; put parentheses around halves, as `(a && b) && (c && \
+        d)`, which nests 2 deep; else split the formula",
+    },
+    Entry {
+        code: "F9",
+        place: "",
+        wrong: "want of memory while the formula was read",
+        remedy: "use a machine with more memory",
+    },
+    Entry {
+        code: "N1",
+        place: "",
+        wrong: "without regular formulas the formula has more than 4,096 nodes: `R + S` copies \
+        what follows, and `R+` copies `R`",
+        remedy: "split the formula, or use `--plain`, for which there is no such limit",
+    },
+    Entry {
+        code: "N2",
+        place: "",
+        wrong: "a fixpoint's priority would be above 31: more than 31 fixpoints of alternating \
+        kinds stand in one another, or more than 32 where the innermost is a `nu`",
+        remedy: "try `--priorities dependent`, or use `--plain`",
+    },
+    Entry {
+        code: "B1",
+        place: "",
+        wrong: "states times nodes pass 16,777,216",
+        remedy: "use `--plain`, for which there is no such limit, or reduce the system",
+    },
+    Entry {
+        code: "N3",
+        place: "",
+        wrong: "want of memory for the normal form",
+        remedy: "use a machine with more memory",
+    },
+    Entry {
+        code: "B2",
+        place: "",
+        wrong: "want of memory for the game",
+        remedy: "use a machine with more memory, reduce the system, or use `--plain`",
+    },
+    Entry {
+        code: "T1",
+        place: "",
+        wrong: "`--board packed` was asked for, and a measure of this game doesn't fit a word of \
+        62 bits: too many vertices of too many odd priorities",
+        remedy: "leave `--board` away, or ask for `locked`",
+    },
+    Entry {
+        code: "T2",
+        place: "",
+        wrong: "want of memory for the board",
+        remedy: "use a machine with more memory, or fewer workers",
+    },
+    Entry {
+        code: "V1",
+        place: "",
+        wrong: "want of memory for the table of measures, one for each vertex",
+        remedy: "use a machine with more memory, or fewer workers",
+    },
+    Entry {
+        code: "G1",
+        place: " at line 1",
+        wrong: "the first line isn't `parity N;`",
+        remedy: "write that header, N being the greatest identifier",
+    },
+    Entry {
+        code: "G2",
+        place: " at line N",
+        wrong: "the line isn't `identifier priority owner successors \"name\";`",
+        remedy: "look for a missing `;`, an owner that is neither 0 nor 1, or a `start` line, \
+        which isn't read",
+    },
+    Entry {
+        code: "G3",
+        place: " at line N",
+        wrong: "the identifier is above the header's or stands twice; or, where N is one past \
+        the last line, one is missing",
+        remedy: "give each identifier from 0 to the header's one line",
+    },
+    Entry {
+        code: "G4",
+        place: " at line N",
+        wrong: "a successor is above the header's identifier, or there is none",
+        remedy: "where a player can't move, lead the vertex to itself, with a priority by which \
+        that player loses",
+    },
+    Entry {
+        code: "G5",
+        place: " at line N",
+        wrong: "a priority is above 31",
+        remedy: "close the gaps between priorities, keeping their order and parity",
+    },
+    Entry {
+        code: "G6",
+        place: " at line 1",
+        wrong: "the greatest identifier is 16,777,216 or more",
+        remedy: "reduce the game",
+    },
+    Entry {
+        code: "G7",
+        place: "",
+        wrong: "the game can't be read, for example because its file is a directory",
+        remedy: "look at the file",
+    },
+    Entry {
+        code: "G8",
+        place: "",
+        wrong: "want of memory while the game was read",
+        remedy: "use a machine with more memory, or reduce the game",
+    },
+    Entry {
+        code: "E1",
+        place: " at line 1",
+        wrong: "the first line is neither `evidence even` nor `evidence odd`",
+        remedy: "write that header, and end lines by LF alone",
+    },
+    Entry {
+        code: "E2",
+        place: " at line N",
+        wrong: "the line isn't `vertex move (counts)` with single spaces, or the rank hasn't as \
+        many counts as the player's ranks have in this game, or a count is above 16,777,216",
+        remedy: "look whether the evidence is of this game and of this player",
+    },
+    Entry {
+        code: "E3",
+        place: " at line N",
+        wrong: "the vertex or the move isn't a vertex of the game, or the vertex stands on a \
+        line before",
+        remedy: "look whether the evidence is of this game",
+    },
+    Entry {
+        code: "E4",
+        place: "",
+        wrong: "the evidence can't be read, for example because its file is a directory",
+        remedy: "look at the file",
+    },
+    Entry {
+        code: "E5",
+        place: "",
+        wrong: "want of memory for evidence",
+        remedy: "use a machine with more memory",
+    },
+    Entry {
+        code: "C1",
+        place: " at V",
+        wrong: "V is the player's, and its move is missing or leads to no successor; or V is the \
+        opponent's and has a move",
+        remedy: "mend the move",
+    },
+    Entry {
+        code: "C2",
+        place: " at V",
+        wrong: "the move, or a successor of the opponent's vertex V, isn't in the set",
+        remedy: "put that vertex into the set, or take V out",
+    },
+    Entry {
+        code: "C3",
+        place: " at V",
+        wrong: "along such an edge the rank rises, or doesn't fall where it has to",
+        remedy: "the ranks don't fit the moves: mend one or the other",
+    },
+    Entry {
+        code: "C4",
+        place: "",
+        wrong: "both pieces are good, and of one player",
+        remedy: "give one of each player",
+    },
+    Entry {
+        code: "C5",
+        place: " at V",
+        wrong: "both are good, and V is in neither",
+        remedy: "together they have to have every vertex of the game",
+    },
+    Entry {
+        code: "S1",
+        place: " at line N",
+        wrong: "the line isn't `take W V`, `read W V`, `raise W` or `push W V` with single \
+        spaces",
+        remedy: "look for an empty line, a number with a leading 0, or a line that ends by CR \
+        and LF",
+    },
+    Entry {
+        code: "S2",
+        place: " at line N",
+        wrong: "the worker isn't below the number of workers",
+        remedy: "workers are numbered from 0; raise `--workers`",
+    },
+    Entry {
+        code: "S3",
+        place: " at line N",
+        wrong: "the vertex isn't below the number of vertices",
+        remedy: "`check --game` writes the game with its vertices",
+    },
+    Entry {
+        code: "S4",
+        place: "",
+        wrong: "want of memory for the events or for the workers' state",
+        remedy: "use a machine with more memory, or fewer workers",
+    },
+    Entry {
+        code: "U1",
+        place: "",
+        wrong: "the command line is wrong, or would write to a file that is read or written \
+        beside it, or `--help` or `--version` stands in it; the text below the line says what",
+        remedy: "see `mucheck help`, `mucheck help check`",
+    },
+    Entry {
+        code: "U2",
+        place: "",
+        wrong: "a file can't be opened or made; the line below says which, and why",
+        remedy: "look at its name and rights",
+    },
+    Entry {
+        code: "U3",
+        place: "",
+        wrong: "a read of the formula or of the schedule failed",
+        remedy: "look at the file",
+    },
+    Entry {
+        code: "U4",
+        place: "",
+        wrong: "want of memory in the program itself",
+        remedy: "use a machine with more memory",
+    },
+    Entry {
+        code: "W1",
+        place: "",
+        wrong: "the report or another text can't be written, for example because a disk is full \
+        or a pipe was closed; what was written is a beginning of it",
+        remedy: "look at where the output goes",
+    },
+];

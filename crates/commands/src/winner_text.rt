@@ -1,0 +1,128 @@
+// Who wins each vertex of a game, and the text of it.
+
+ghost use Rattle.std.specs.Prelude.{◌≡◌, ◌++◌, length, count_by, decimal, IfErr, IfOk, IfSome};
+ghost use Rattle.text.specs.Wrote.{Wrote};
+ghost use Rattle.calculus.specs.Meaning.{Marks};
+ghost use Rattle.game.specs.Wins.{Wins};
+ghost use Rattle.commands.specs.Winners.{AreWinners, even_or_odd, sizes_text, winner_lines, winners_text as text_of};
+
+use certify::decide::certified_winners;
+use game::graph::Game;
+use laws::games::{not_both_win, one_wins};
+use lts::{Piece, WriteFault, put_pieces};
+use measures::settle::even_wins;
+use measures::table::Settled;
+use requests::error::MuError;
+use std::alloc::{AllocError, Global};
+use std::io::Write;
+
+/// A mark for each vertex of a solved game, true where Even wins it.
+///
+/// # Errors
+/// U4.
+pub(crate) fn winners(alloc: Global, game: &Game, settled: &Settled) -> Result<Vec<bool>, MuError>
+    requires { settled.now.game ≡ game.now }
+    ensures exact { IfOk result (λ marks. AreWinners game.now marks.items) }
+    ensures refusal { IfErr result (λ e. e ≡ MuError.Memory) }
+{
+    game.known();
+    not_both_win();
+    one_wins();
+    match marks_of(alloc, game, settled) {
+        Ok(marks) => Ok(marks),
+        Err(AllocError) => Err(MuError::Memory),
+    }
+}
+
+/// A mark for each vertex, true where Even wins it, by evidence of both players that was guessed. There is none where none is found.
+pub(crate) fn guessed_winners(alloc: Global, game: &Game) -> Option<Vec<bool>>
+    ensures { IfSome result (λ marks. AreWinners game.now marks.items) }
+{
+    game.known();
+    not_both_win();
+    one_wins();
+    certified_winners(alloc, game)
+}
+
+/// A mark for each vertex, true where Even wins it.
+fn marks_of(alloc: Global, game: &Game, settled: &Settled) -> Result<Vec<bool>, AllocError>
+    requires { settled.now.game ≡ game.now }
+    ensures { IfOk result (λ marks. Marks (length game.now.vertices) marks.items (Wins game.now)) }
+{
+    let vertices = game.vertices();
+    let mut marks = Vec::with_capacity(alloc, vertices as usize)?;
+    for v in 0..vertices {
+        marks.push(even_wins(settled, v))?;
+    }
+    Ok(marks)
+}
+
+/// The text of the marks: how many vertices there are, how many of them Even wins, and a line for each.
+///
+/// # Errors
+/// U4.
+pub(crate) fn winners_text(alloc: Global, marks: &[bool]) -> Result<Vec<u8>, MuError>
+    ensures text { IfOk result (λ text. text.items ≡ text_of marks.now) }
+    ensures refusal { IfErr result (λ e. e ≡ MuError.Memory) }
+{
+    let mut text = Vec::new(alloc);
+    // A vector refuses what there is no memory for, and nothing else.
+    match write_winners(marks, &mut text) {
+        Ok(()) => Ok(text),
+        Err(WriteFault) => Err(MuError::Memory),
+    }
+}
+
+fn write_winners<W: Write>(marks: &[bool], out: &mut W) -> Result<(), WriteFault>
+    ensures { Wrote (W.contents out.old) (W.contents out.new) result (text_of marks.now) }
+{
+    write_sizes(marks, out)?;
+    write_lines(marks, out)
+}
+
+fn write_sizes<W: Write>(marks: &[bool], out: &mut W) -> Result<(), WriteFault>
+    ensures { Wrote (W.contents out.old) (W.contents out.new) result (sizes_text (length marks.now) (count_by (λ mark. mark) marks.now)) }
+{
+    put_pieces(
+        out,
+        &[
+            Piece::Bytes(b"vertices "),
+            Piece::Number(marks.len() as u64),
+            Piece::Bytes(b"\neven "),
+            Piece::Number(count_marked(marks) as u64),
+            Piece::Bytes(b"\n"),
+        ],
+    )
+}
+
+fn write_lines<W: Write>(marks: &[bool], out: &mut W) -> Result<(), WriteFault>
+    ensures { Wrote (W.contents out.old) (W.contents out.new) result (winner_lines 0 marks.now) }
+{
+    for (v, mark) in marks.iter().enumerate() {
+        write_line(v, *mark, out)?;
+    }
+    Ok(())
+}
+
+fn write_line<W: Write>(v: usize, mark: bool, out: &mut W) -> Result<(), WriteFault>
+    ensures { Wrote (W.contents out.old) (W.contents out.new) result (decimal v ++ even_or_odd mark) }
+{
+    put_pieces(
+        out,
+        &[Piece::Number(v as u64), Piece::Bytes(winner_line(mark))],
+    )
+}
+
+/// How many are marked.
+fn count_marked(marks: &[bool]) -> usize
+    ensures { result ≡ count_by (λ mark. mark) marks.now }
+{
+    marks.iter().filter(|mark| **mark).count()
+}
+
+/// The end of a line that tells who wins.
+fn winner_line(mark: bool) -> &'static [u8]
+    ensures { result.now ≡ even_or_odd mark }
+{
+    if mark { b" even\n" } else { b" odd\n" }
+}

@@ -1,0 +1,152 @@
+// The states of a system that satisfy a formula, of texts that are lent.
+
+ghost use Rattle.std.specs.Prelude.{◌≡◌, IfOk, IfErr, MatchResult, Some};
+ghost use Rattle.std.specs.Arc.{arc_value};
+ghost use Rattle.calculus.specs.Closed.{closed_formula};
+ghost use Rattle.requests.specs.Check.{AreMarks, BySets, ByGame, IsArenaOf, IsBeyond};
+ghost use Rattle.requests.specs.Solver.{IsFitting, IsUnsolved};
+ghost use Rattle.engines.specs.Findings.{IsSolutionOf};
+ghost use Rattle.engines.specs.Table.{way_by};
+
+use crate::guessing::guess_of;
+use crate::lifting::{Solution, state_marks};
+use calculus::closed::Closed;
+use certify::decide::certified_winners;
+use game::graph::Game;
+use lts::Memory;
+use lts::system::Lts;
+use meaning::plain::plain_states;
+use measures::guess::settled_by_guess;
+use measures::observer::{Observer, Stage};
+use requests::arena::game_of;
+use requests::error::MuError;
+use requests::request::Options;
+use requests::solver::{require_board, solve_seen};
+use std::alloc::Global;
+use std::sync::{Arc, Wait};
+use std::thread::Threads;
+use workers::gate::NoGate;
+
+/// A mark for each state, true where it satisfies the formula: by sets of states where it is plain, else by the game, as the
+/// options ask for.
+///
+/// # Errors
+/// Those of `plain_marks`, or of `game_marks`.
+pub(crate) fn marks_by<O: Observer + Sync, H: Threads + Wait + Clone + Copy + Drop + Send + Sync>(
+    rt: &H,
+    alloc: Global,
+    system: &Lts,
+    formula: &Closed,
+    options: &Options,
+    plain: bool,
+    observer: &O,
+) -> Result<Vec<bool>, MuError>
+    ensures { let l = system.now.system in let f = closed_formula formula.now in let way = way_by options.now plain in
+        MatchResult result (λ marks. AreMarks way l f marks.items) (IsBeyond way l f) }
+{
+    if plain {
+        plain_marks(alloc, system, formula)
+    } else {
+        game_marks(rt, alloc, system, formula, options, observer)
+    }
+}
+
+/// A mark for each state, true where it satisfies the formula, by sets of states.
+///
+/// # Errors
+/// U4.
+pub(crate) fn plain_marks(
+    alloc: Global,
+    system: &Lts,
+    formula: &Closed,
+) -> Result<Vec<bool>, MuError>
+    ensures { let l = system.now.system in let f = closed_formula formula.now in
+        MatchResult result (λ marks. AreMarks BySets l f marks.items) (IsBeyond BySets l f) }
+{
+    match plain_states(alloc, system, formula) {
+        Ok(marks) => Ok(marks),
+        Err(Memory) => Err(MuError::Memory),
+    }
+}
+
+/// A mark for each state, true where it satisfies the formula, by the game.
+///
+/// # Errors
+/// Those of the normal form, of the game, of its board and of its workers, unchanged; U4.
+pub(crate) fn game_marks<O: Observer + Sync, H: Threads + Wait + Clone + Copy + Drop + Send + Sync>(
+    rt: &H,
+    alloc: Global,
+    system: &Lts,
+    formula: &Closed,
+    options: &Options,
+    observer: &O,
+) -> Result<Vec<bool>, MuError>
+    ensures { let l = system.now.system in let f = closed_formula formula.now in let way = ByGame options.now.priorities (Some options.now.board) in
+        MatchResult result (λ marks. AreMarks way l f marks.items) (IsBeyond way l f) }
+{
+    observer.sees(Stage::Building {
+        states: system.states(),
+    });
+    match game_of(rt, alloc, system, formula, options.priorities) {
+        Ok(game) => match Arc::new(alloc, game) {
+            Ok(game) => marks_in(rt, alloc, system, formula, &game, options, observer),
+            Err(_) => Err(MuError::Memory),
+        },
+        Err(error) => Err(error),
+    }
+}
+
+/// A mark for each state, true where it satisfies the formula, in the game of both: by a guess of the whole table, where it is good;
+/// else, with one worker, by evidence of both players that is guessed and found good, where there is some; else by lifting.
+fn marks_in<O: Observer + Sync, H: Threads + Wait + Clone + Copy + Drop + Send + Sync>(
+    rt: &H,
+    alloc: Global,
+    system: &Lts,
+    formula: &Closed,
+    game: &Arc<Game, Global>,
+    options: &Options,
+    observer: &O,
+) -> Result<Vec<bool>, MuError>
+    requires { IsArenaOf options.now.priorities system.now.system (closed_formula formula.now) (arc_value game.now) }
+    ensures { let l = system.now.system in let f = closed_formula formula.now in let way = ByGame options.now.priorities (Some options.now.board) in
+        MatchResult result (λ marks. AreMarks way l f marks.items) (IsBeyond way l f) }
+{
+    observer.sees(Stage::Searching {
+        vertices: game.vertices(),
+    });
+    match solution_of(rt, alloc, system, formula, game, options, observer) {
+        Ok(solution) => {
+            let priorities = options.priorities;
+            state_marks(alloc, system, formula, priorities, game, solution.winners())
+        }
+        Err(error) => Err(error),
+    }
+}
+
+/// Who wins the game of both.
+fn solution_of<O: Observer + Sync, H: Threads + Wait + Clone + Copy + Drop + Send + Sync>(
+    rt: &H,
+    alloc: Global,
+    system: &Lts,
+    formula: &Closed,
+    game: &Arc<Game, Global>,
+    options: &Options,
+    observer: &O,
+) -> Result<Solution, MuError>
+    ensures solution { IfOk result (IsSolutionOf (arc_value game.now)) }
+    ensures board { IfOk result (λ _. IsFitting (Some options.now.board) (arc_value game.now)) }
+    ensures refusal { IfErr result (IsUnsolved (Some options.now.board) (arc_value game.now)) }
+{
+    require_board(game, options.board)?;
+    let guess = guess_of(alloc, system, formula, options.priorities, game);
+    if let Some(settled) = settled_by_guess(alloc, game, &guess) {
+        return Ok(Solution::Table(settled));
+    }
+    if options.workers == 1 {
+        if let Some(marks) = certified_winners(alloc, game) {
+            return Ok(Solution::Marks(marks));
+        }
+    }
+    let settled = solve_seen(rt, alloc, game, options, &NoGate, observer, &guess)?;
+    Ok(Solution::Table(settled))
+}

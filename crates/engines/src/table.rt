@@ -1,0 +1,279 @@
+// A table: the answers of one system to many formulas, a line for each.
+
+ghost use Rattle.std.specs.Prelude.{◌≡◌, ℕ, List, take, length, count_by, slice_index_or, false, Some, IfOk, MatchResult, if◌then◌else◌};
+ghost use Rattle.text.specs.Wrote.{Wrote};
+ghost use Rattle.requests.specs.declared.texts.TheConstants.{FORMULA_BYTES};
+ghost use Rattle.engines.specs.Found.{IsFound};
+ghost use Rattle.engines.specs.Status.{error_status as status_of_error};
+ghost use Rattle.engines.specs.Table.{IsRefused, Tells, answer_line, code_of, fault_code, is_as_expected, name_end, place_of, refusal_line, remark, way_by};
+
+use crate::expectation::expectation;
+use crate::marks::marks_by;
+use crate::report::marked;
+use crate::status::error_status;
+use formula::error::{FormulaError, FormulaFault};
+use game::error::BuildError;
+use lts::system::Lts;
+use lts::{Piece, WriteFault, put, put_pieces};
+use measures::observer::Silent;
+use normal::error::NormalError;
+use requests::error::MuError;
+use requests::request::Options;
+use requests::texts::{formula_of, read_front};
+use std::alloc::Global;
+use std::io::{Read, Write};
+use std::sync::Wait;
+use std::thread::Threads;
+use tables::error::TableError;
+use text::put_number;
+
+/// What is found of a formula at the states of a system, and what its text says is expected.
+#[derive(Clone, Copy)]
+pub struct Found {
+    pub expected: Option<bool>,
+    /// Whether the initial state satisfies the formula.
+    pub answer: bool,
+    /// How many states do.
+    pub marked: usize,
+}
+
+/// Writes the line of a formula's text: the initial state's answer and how many states satisfy the formula, or why there is no
+/// answer; and the name. It answers the status that the line comes to: 0 where the answer is as expected, which is yes where the
+/// text says nothing, else 1, and of a refusal that of `status`.
+///
+/// # Errors
+/// W1.
+pub fn table_line<S: Read + Drop, W: Write, H: Threads + Wait + Clone + Copy + Drop + Send + Sync>(
+    rt: &H,
+    alloc: Global,
+    system: &Lts,
+    options: &Options,
+    plain: bool,
+    name: &str,
+    formula: S,
+    out: &mut W,
+) -> Result<u8, WriteFault>
+    ensures { Tells (way_by options.now plain) system.now.system name.now (S.remaining formula) (W.contents out.old) (W.contents out.new) result }
+{
+    match find(rt, alloc, system, options, plain, formula) {
+        Ok(found) => tell_answer(name, &found, system.states(), out),
+        Err(error) => tell_refusal(name, &error, out),
+    }
+}
+
+/// What is found of the formula that the reader's text spells.
+fn find<S: Read + Drop, H: Threads + Wait + Clone + Copy + Drop + Send + Sync>(
+    rt: &H,
+    alloc: Global,
+    system: &Lts,
+    options: &Options,
+    plain: bool,
+    formula: S,
+) -> Result<Found, MuError>
+    ensures { (text : List ℕ) → S.remaining formula ≡ Some text
+        → MatchResult result (IsFound (way_by options.now plain) system.now.system text) (IsRefused (way_by options.now plain) system.now.system text) }
+{
+    match read_front(alloc, formula) {
+        Ok(front) => find_in(rt, alloc, system, options, plain, &front),
+        Err(error) => Err(error),
+    }
+}
+
+/// What is found of the formula that a text spells, of which this is all, or the front that shows that it is too long.
+fn find_in<H: Threads + Wait + Clone + Copy + Drop + Send + Sync>(
+    rt: &H,
+    alloc: Global,
+    system: &Lts,
+    options: &Options,
+    plain: bool,
+    front: &[u8],
+) -> Result<Found, MuError>
+    ensures { (text : List ℕ) → front.now ≡ take FORMULA_BYTES text
+        → MatchResult result (IsFound (way_by options.now plain) system.now.system text) (IsRefused (way_by options.now plain) system.now.system text) }
+{
+    match formula_of(alloc, front) {
+        Ok(formula) => {
+            let marks = marks_by(rt, alloc, system, &formula, options, plain, &Silent);
+            match marks {
+                Ok(marks) => Ok(found_of(system, &marks, expectation(front))),
+                Err(error) => Err(error),
+            }
+        }
+        Err(error) => Err(error),
+    }
+}
+
+/// What is found where these states satisfy the formula.
+fn found_of(system: &Lts, marks: &[bool], expected: Option<bool>) -> Found
+    requires { length marks.now ≡ system.now.system.states }
+    ensures expected { result.expected ≡ expected }
+    ensures answer { result.answer ≡ slice_index_or marks.now system.now.system.initial false }
+    ensures marked { result.marked ≡ count_by (λ mark. mark) marks.now }
+{
+    Found {
+        expected,
+        answer: marks[system.initial() as usize],
+        marked: marked(marks),
+    }
+}
+
+/// Writes the line of an answer, and answers its status.
+fn tell_answer<W: Write>(
+    name: &str,
+    found: &Found,
+    states: u32,
+    out: &mut W,
+) -> Result<u8, WriteFault>
+    ensures wrote { Wrote (W.contents out.old) (W.contents out.new) result
+        (answer_line name.now found.now.expected found.now.answer found.now.marked states) }
+    ensures status { IfOk result (λ status. status ≡ (if is_as_expected found.now.expected found.now.answer then 0 else 1)) }
+{
+    match put_answer(name, found, states, out) {
+        Ok(()) => Ok(answer_status(found)),
+        Err(fault) => Err(fault),
+    }
+}
+
+/// Writes the line of a refusal, and answers its status.
+fn tell_refusal<W: Write>(name: &str, error: &MuError, out: &mut W) -> Result<u8, WriteFault>
+    ensures wrote { Wrote (W.contents out.old) (W.contents out.new) result (refusal_line name.now error.now) }
+    ensures status { IfOk result (λ status. status ≡ status_of_error error.now) }
+{
+    match put_refusal(name, error, out) {
+        Ok(()) => Ok(error_status(error)),
+        Err(fault) => Err(fault),
+    }
+}
+
+/// 0 where the answer is as expected, which is yes where nothing is said, and 1 where it isn't.
+fn answer_status(found: &Found) -> u8
+    ensures { result ≡ (if is_as_expected found.now.expected found.now.answer then 0 else 1) }
+{
+    if is_as_expected(found) { 0 } else { 1 }
+}
+
+fn is_as_expected(found: &Found) -> bool
+    ensures { result ≡ is_as_expected found.now.expected found.now.answer }
+{
+    match found.expected {
+        Some(false) => !found.answer,
+        Some(true) | None => found.answer,
+    }
+}
+
+/// Writes the line of an answer.
+fn put_answer<W: Write>(
+    name: &str,
+    found: &Found,
+    states: u32,
+    out: &mut W,
+) -> Result<(), WriteFault>
+    ensures { Wrote (W.contents out.old) (W.contents out.new) result
+        (answer_line name.now found.now.expected found.now.answer found.now.marked states) }
+{
+    let answer: &[u8] = if found.answer { b"yes " } else { b"no " };
+    put_pieces(
+        out,
+        &[
+            Piece::Bytes(answer),
+            Piece::Number(found.marked as u64),
+            Piece::Bytes(b" of "),
+            Piece::Number(u64::from(states)),
+            Piece::Bytes(b" "),
+            Piece::Bytes(name.as_bytes()),
+            Piece::Bytes(remark(found)),
+            Piece::Bytes(b"\n"),
+        ],
+    )
+}
+
+/// What is said of an answer where one is expected.
+fn remark(found: &Found) -> &'static [u8]
+    ensures { result.now ≡ remark found.now.expected found.now.answer }
+{
+    match found.expected {
+        None => b"",
+        Some(_) if is_as_expected(found) => b" as expected",
+        Some(_) => b" UNEXPECTED",
+    }
+}
+
+/// Writes the line of a refusal.
+fn put_refusal<W: Write>(name: &str, error: &MuError, out: &mut W) -> Result<(), WriteFault>
+    ensures { Wrote (W.contents out.old) (W.contents out.new) result (refusal_line name.now error.now) }
+{
+    put_code(error, out)?;
+    put_place(error, out)?;
+    put_name(name, out)
+}
+
+/// Writes the code of a refusal.
+fn put_code<W: Write>(error: &MuError, out: &mut W) -> Result<(), WriteFault>
+    ensures { Wrote (W.contents out.old) (W.contents out.new) result (code_of error.now) }
+{
+    put(out, code(error))
+}
+
+/// Writes a blank, the name, and the line's end.
+fn put_name<W: Write>(name: &str, out: &mut W) -> Result<(), WriteFault>
+    ensures { Wrote (W.contents out.old) (W.contents out.new) result (name_end name.now) }
+{
+    put_pieces(
+        out,
+        &[
+            Piece::Bytes(b" "),
+            Piece::Bytes(name.as_bytes()),
+            Piece::Bytes(b"\n"),
+        ],
+    )
+}
+
+/// Writes the place of a refusal in the formula's text, if it has one.
+fn put_place<W: Write>(error: &MuError, out: &mut W) -> Result<(), WriteFault>
+    ensures { Wrote (W.contents out.old) (W.contents out.new) result (place_of error.now) }
+{
+    match error {
+        MuError::Formula(FormulaError::Fault { fault: _, offset }) => {
+            put_number(out, b" at offset ", *offset)
+        }
+        _ => Ok(()),
+    }
+}
+
+/// The code of a refusal, as the program shows it.
+fn code(error: &MuError) -> &'static [u8]
+    ensures { result.now ≡ code_of error.now }
+{
+    match error {
+        MuError::Read => b"U3",
+        MuError::Memory => b"U4",
+        MuError::Formula(FormulaError::Fault { fault, offset: _ }) => fault_code(*fault),
+        MuError::Formula(FormulaError::Memory) => b"F9",
+        MuError::Normal(NormalError::TooManyNodes) => b"N1",
+        MuError::Normal(NormalError::PriorityTooGreat) => b"N2",
+        MuError::Normal(NormalError::Memory) => b"N3",
+        MuError::Build(BuildError::TooManyVertices) => b"B1",
+        MuError::Build(BuildError::Memory) => b"B2",
+        MuError::Table(TableError::TooManyRanks) => b"T1",
+        MuError::Table(TableError::Memory) => b"T2",
+        MuError::Table(TableError::NoSeat) => b"T3",
+        MuError::Solve(_) => b"V1",
+        // No formula is refused so.
+        _ => b"",
+    }
+}
+
+fn fault_code(fault: FormulaFault) -> &'static [u8]
+    ensures { result.now ≡ fault_code fault }
+{
+    match fault {
+        FormulaFault::NoToken => b"F1",
+        FormulaFault::Unexpected => b"F2",
+        FormulaFault::Unfinished => b"F3",
+        FormulaFault::ReservedWord => b"F4",
+        FormulaFault::Unbound => b"F5",
+        FormulaFault::OddNegations => b"F6",
+        FormulaFault::NotAnAction => b"F7",
+        FormulaFault::TooLarge => b"F8",
+    }
+}

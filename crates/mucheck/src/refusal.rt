@@ -1,0 +1,176 @@
+// What is told of a refusal on standard error.
+
+use commands::codes::entry_of;
+use commands::request::Command;
+use engines::error::MuError;
+use std::io;
+
+/// Why there is no answer.
+#[derive(Drop)]
+pub enum Refusal {
+    Told(MuError),
+    /// The file of this name could not be opened or made.
+    File(String, io::Error),
+}
+
+impl Refusal {
+    /// A file of this name could not be opened or made.
+    pub fn of_file(rt: &HostRuntime, name: &str, error: io::Error) -> Refusal {
+        match String::from_str(rt.alloc(), name) {
+            Ok(name) => Refusal::File(name, error),
+            Err(_) => Refusal::Told(MuError::File),
+        }
+    }
+
+    /// What the exit status goes by.
+    pub fn into_error(self) -> MuError {
+        match self {
+            Refusal::Told(error) => error,
+            Refusal::File(_, _) => MuError::File,
+        }
+    }
+}
+
+impl From<MuError> for Refusal {
+    fn from(error: MuError) -> Refusal {
+        Refusal::Told(error)
+    }
+}
+
+/// The files that a command reads, by what they hold.
+#[derive(Clone, Copy)]
+pub struct Sources<'a> {
+    system: Option<&'a str>,
+    formula: Option<&'a str>,
+    game: Option<&'a str>,
+    evidence: Option<&'a str>,
+    other: Option<&'a str>,
+    schedule: Option<&'a str>,
+}
+
+/// Those of a command that reads none.
+pub const NO_SOURCES: Sources<'static> = Sources {
+    system: None,
+    formula: None,
+    game: None,
+    evidence: None,
+    other: None,
+    schedule: None,
+};
+
+impl<'a> Sources<'a> {
+    /// Those of a command.
+    pub fn of(command: &Command<'a>) -> Sources<'a> {
+        match command {
+            Command::Check(check, _) => Sources {
+                system: Some(check.system),
+                formula: Some(check.formula),
+                ..NO_SOURCES
+            },
+            Command::Table(table) => Sources {
+                system: Some(table.system),
+                ..NO_SOURCES
+            },
+            Command::Normal(normal) => Sources {
+                formula: Some(normal.formula),
+                ..NO_SOURCES
+            },
+            Command::Solve(solve) => Sources {
+                game: Some(solve.game),
+                ..NO_SOURCES
+            },
+            Command::Verify(verify) => Sources {
+                game: Some(verify.game),
+                evidence: Some(verify.evidence),
+                other: verify.other,
+                ..NO_SOURCES
+            },
+            Command::Replay(replay) => Sources {
+                system: Some(replay.system),
+                formula: Some(replay.formula),
+                schedule: Some(replay.schedule),
+                ..NO_SOURCES
+            },
+            Command::Explain(_) | Command::Help(_) | Command::Version => NO_SOURCES,
+        }
+    }
+
+    /// The file that a refusal speaks of, or both where it is one of two.
+    fn refused(&self, error: &MuError) -> (Option<&'a str>, Option<&'a str>) {
+        match error {
+            MuError::System(_) => (self.system, None),
+            MuError::Formula(_) => (self.formula, None),
+            MuError::Read => (self.formula, self.schedule),
+            MuError::Game(_) => (self.game, None),
+            MuError::Evidence(_) => (self.evidence, self.other),
+            MuError::Schedule(_) => (self.schedule, None),
+            _ => (None, None),
+        }
+    }
+}
+
+/// Tells a refusal: a line with the code and the place; which file it speaks of; what is to be done. After wrong arguments, what is wrong with
+/// them, or the help.
+pub fn tell(rt: &HostRuntime, sources: &Sources<'_>, refusal: &Refusal) -> io::Result<()> {
+    match refusal {
+        Refusal::Told(MuError::Arguments(argument)) => eprint!(rt; "mucheck: U1\n{argument}"),
+        Refusal::Told(error) => {
+            eprintln!(rt; "mucheck: {error}")?;
+            tell_more(rt, sources, error)
+        }
+        Refusal::File(name, error) => {
+            eprintln!(rt; "mucheck: U2\nmucheck: {name}: {error}")?;
+            tell_remedy(rt, "U2")
+        }
+    }
+}
+
+fn tell_more(rt: &HostRuntime, sources: &Sources<'_>, error: &MuError) -> io::Result<()> {
+    match error.to_string(rt.alloc()) {
+        Ok(text) => tell_rest(rt, sources.refused(error), text.as_str()),
+        // Where there is no memory, the line with the code stands alone.
+        Err(_) => Ok(()),
+    }
+}
+
+/// What follows the line of this text.
+fn tell_rest(rt: &HostRuntime, files: (Option<&str>, Option<&str>), text: &str) -> io::Result<()> {
+    match text.split_once(" at ") {
+        Some((code, place)) => {
+            tell_source(rt, files, Some(place))?;
+            tell_remedy(rt, code)
+        }
+        None => {
+            tell_source(rt, files, None)?;
+            tell_remedy(rt, text)
+        }
+    }
+}
+
+fn tell_source(
+    rt: &HostRuntime,
+    files: (Option<&str>, Option<&str>),
+    place: Option<&str>,
+) -> io::Result<()> {
+    let (Some(first), second) = files else {
+        return Ok(());
+    };
+    eprint!(rt; "mucheck: in {first}")?;
+    if let Some(second) = second {
+        eprint!(rt; " or {second}")?;
+    }
+    match place {
+        Some(place) => eprintln!(rt; ", {place}"),
+        None => eprintln!(rt; ""),
+    }
+}
+
+fn tell_remedy(rt: &HostRuntime, code: &str) -> io::Result<()> {
+    match entry_of(code) {
+        Some(entry) => {
+            let remedy = entry.remedy;
+            eprintln!(rt; "mucheck: {remedy}")
+        }
+        None => Ok(()),
+    }
+}

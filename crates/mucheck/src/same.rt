@@ -1,0 +1,118 @@
+// The same file under two names: links, and names with other folders in front.
+
+use commands::names::{EvidenceNames, is_device};
+use commands::request::Outputs;
+use engines::error::{ArgumentError, CheckFile};
+use engines::request::Check;
+use std::fs;
+use std::io::ErrorKind;
+use std::os::unix::fs::MetadataExt;
+use std::path::Path;
+
+/// Where standard output goes.
+const STANDARD_OUTPUT: &str = "/dev/stdout";
+
+/// How many of a check's places are written to: they stand first.
+const WRITTEN: usize = 5;
+
+/// What tells a file from every other one: its device and number or, where it isn't there yet, those of its folder with its name.
+#[derive(Clone, Copy, PartialEq, Eq)]
+struct Identity<'a> {
+    device: u64,
+    number: u64,
+    name: &'a str,
+}
+
+/// A file of a check, with what it is, as far as the system tells.
+#[derive(Clone, Copy)]
+struct Place<'a> {
+    file: CheckFile,
+    identity: Option<Identity<'a>>,
+}
+
+/// Refuses a check that would write to a file twice, or to one that it reads, whatever their names are. What is no file, as a pipe or a
+/// terminal, has nothing that could be destroyed.
+///
+/// # Errors
+/// U1, with both files.
+pub fn keep_apart<'a>(
+    rt: &HostRuntime,
+    check: &Check<'a>,
+    outputs: &Outputs<'a>,
+    evidence: Option<&'a EvidenceNames>,
+) -> Result<(), ArgumentError> {
+    let even = evidence.map(|names| names.even.as_str());
+    let odd = evidence.map(|names| names.odd.as_str());
+    let report = if outputs.report {
+        identify(rt, STANDARD_OUTPUT)
+    } else {
+        None
+    };
+    let places = [
+        written(rt, CheckFile::Game, outputs.game),
+        written(rt, CheckFile::EvenEvidence, even),
+        written(rt, CheckFile::OddEvidence, odd),
+        written(rt, CheckFile::Witness, outputs.witness),
+        Place {
+            file: CheckFile::Report,
+            identity: report,
+        },
+        Place {
+            file: CheckFile::System,
+            identity: identify(rt, check.system),
+        },
+        Place {
+            file: CheckFile::Formula,
+            identity: identify(rt, check.formula),
+        },
+    ];
+    for at in 0..WRITTEN {
+        apart_from(&places[at], &places[at + 1..])?;
+    }
+    Ok(())
+}
+
+/// The place of a text that is written, where it is asked for. Any number of texts may go to a device.
+fn written<'a>(rt: &HostRuntime, file: CheckFile, name: Option<&'a str>) -> Place<'a> {
+    let identity = match name {
+        Some(name) if !is_device(name) => identify(rt, name),
+        _ => None,
+    };
+    Place { file, identity }
+}
+
+fn identify<'a>(rt: &HostRuntime, name: &'a str) -> Option<Identity<'a>> {
+    match fs::metadata(rt, name) {
+        Ok(found) if found.is_file() => Some(Identity {
+            device: found.dev(),
+            number: found.ino(),
+            name: "",
+        }),
+        Err(error) if error.kind() == ErrorKind::NotFound => identify_in_folder(rt, name),
+        _ => None,
+    }
+}
+
+fn identify_in_folder<'a>(rt: &HostRuntime, name: &'a str) -> Option<Identity<'a>> {
+    let path = Path::new(name);
+    let folder = match path.parent() {
+        Some(folder) if !folder.as_str().is_empty() => folder,
+        _ => Path::new("."),
+    };
+    let found = fs::metadata(rt, folder).ok()?;
+    Some(Identity {
+        device: found.dev(),
+        number: found.ino(),
+        name: path.file_name()?,
+    })
+}
+
+fn apart_from(one: &Place<'_>, others: &[Place<'_>]) -> Result<(), ArgumentError> {
+    let Some(own) = one.identity else {
+        return Ok(());
+    };
+    match others.iter().find(|other| other.identity == Some(own)) {
+        Some(other) => Err(ArgumentError::SameFile(one.file, other.file)),
+        None => Ok(()),
+    }
+}
