@@ -85,7 +85,10 @@ impl<'a> Files<'a> {
     pub fn even(&'a self) -> FileWriter<'a> {
         FileWriter {
             all: self,
-            name: self.evidence_names.as_ref().map(|names| names.even.as_str()),
+            name: self
+                .evidence_names
+                .as_ref()
+                .map(|names| names.even.as_str()),
             own: &self.even,
         }
     }
