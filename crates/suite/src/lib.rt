@@ -26,6 +26,6 @@ mod shown_checks;
 #[cfg(test)]
 mod stages;
 #[cfg(test)]
-mod tables;
+mod table_lines;
 #[cfg(test)]
 mod written_checks;
