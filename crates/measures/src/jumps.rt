@@ -28,8 +28,16 @@ fn claim_top(claim: &mut Claim, lost: &Lost, v: u32, rank: &mut [u32])
     }
 }
 
-// Claims the counts that Odd was found to force at a vertex.
-fn claim_counts(game: &Game, claim: &mut Claim, layers: &Layers, v: u32, rank: &mut [u32])
+// Claims the counts that Odd was found to force at a vertex, besides those of greater priorities that the table has.
+fn claim_counts(
+    game: &Game,
+    table: &PlainTable,
+    claim: &mut Claim,
+    layers: &Layers,
+    v: u32,
+    rank: &mut [u32],
+)
+    requires table { table.now.game ≡ game.now }
     requires same { claim.old.game ≡ game.now }
     requires vertex { v < length claim.old.game.vertices }
     requires rank { length rank.old ≡ length (components (dual claim.old.game)) }
@@ -38,12 +46,13 @@ fn claim_counts(game: &Game, claim: &mut Claim, layers: &Layers, v: u32, rank: &
     if !layers.has(v) {
         return;
     }
+    let above = table.value(v);
     let mut counts = bounds(game);
-    layers.value_into(v, counts.as_mut_slice());
+    layers.value_into(v, above.counts(), counts.as_mut_slice());
     let value = Measure::of_counts(counts.as_slice());
     if is_measure(game, &value) {
         layers.rank_into(v, rank);
-        claim.set(v, &value, layers.next(v), rank);
+        claim.set(v, &value, layers.next_of(v), rank);
     }
 }
 
@@ -59,13 +68,20 @@ fn claim_lost(game: &Game, claim: &mut Claim, lost: &Lost, rank: &mut [u32])
 }
 
 // Claims all counts that were found.
-fn claim_layers(game: &Game, claim: &mut Claim, layers: &Layers, rank: &mut [u32])
+fn claim_layers(
+    game: &Game,
+    table: &PlainTable,
+    claim: &mut Claim,
+    layers: &Layers,
+    rank: &mut [u32],
+)
+    requires table { table.now.game ≡ game.now }
     requires same { claim.old.game ≡ game.now }
     requires rank { length rank.old ≡ length (components (dual claim.old.game)) }
     ensures { claim.new.game ≡ game.now }
 {
     for v in 0..game.vertices() {
-        claim_counts(game, claim, layers, v, rank);
+        claim_counts(game, table, claim, layers, v, rank);
     }
 }
 
@@ -104,17 +120,14 @@ fn jump_to_counts(
     ensures claim { claim.new.game ≡ game.now }
 {
     claim.clear();
-    claim_layers(game, claim, layers, rank);
+    claim_layers(game, table, claim, layers, rank);
     table.jump(game, claim);
 }
 
-// Whether there are several vertices of this priority, and not all of them at top: else there is nothing to count.
+// Whether there are vertices of this priority, and not all of them at top: else there is nothing to count.
 fn are_left(game: &Game, table: &PlainTable, priority: u8) -> bool
     requires { table.now.game ≡ game.now }
 {
-    if game.count(u32::from(priority)) <= 1 {
-        return false;
-    }
     for v in 0..game.vertices() {
         if game.priority(v) == priority && !table.is_top(v) {
             return true;
@@ -123,7 +136,7 @@ fn are_left(game: &Game, table: &PlainTable, priority: u8) -> bool
     false
 }
 
-// The same of each odd priority that counts can climb.
+// The same of each odd priority, the greatest first: each is counted where the greater ones are equal.
 #[tactic(auto, using(progress::proofs::Rising::under_itself, progress::proofs::Rising::under_trans))]
 fn jump_to_all_counts(
     alloc: Global,
@@ -139,10 +152,11 @@ fn jump_to_all_counts(
     ensures table { table.new.game ≡ game.now }
     ensures kept { LiesUnder table.old.values table.new.values }
 {
+    let mut layers = Layers::none(alloc, game, lost)?;
     for back in 0..16u8 {
         let odd = 31 - 2 * back;
         if are_left(game, table, odd) {
-            let layers = Layers::of(alloc, game, table.predecessors(), lost, odd)?;
+            layers = layers.next(alloc, game, table.predecessors(), odd)?;
             jump_to_counts(game, table, claim, &layers, rank);
         }
     }
@@ -163,14 +177,20 @@ fn search(alloc: Global, game: &Game, table: &mut PlainTable) -> Result<(), Memo
     jump_to_all_counts(alloc, game, table, &mut claim, &lost, rank.as_mut_slice())
 }
 
-/// Raises the table as far as a search finds, where counts can climb: lifting takes no time where none can.
+// Whether there are so many measures that lifting may climb for long.
+fn can_climb(game: &Game) -> bool {
+    let bounds = bounds(game);
+    bounds.len() > 2 || bounds.iter().any(|bound| *bound > 1)
+}
+
+/// Raises the table as far as a search finds, where measures can climb: lifting takes no time where none can.
 #[tactic(auto, using(progress::proofs::Rising::under_itself))]
 pub(crate) fn jump_ahead(alloc: Global, game: &Game, table: &mut PlainTable)
     requires { table.old.game ≡ game.now }
     ensures table { table.new.game ≡ game.now }
     ensures kept { LiesUnder table.old.values table.new.values }
 {
-    if bounds(game).iter().any(|bound| *bound > 1) {
+    if can_climb(game) {
         let _ = search(alloc, game, table);
     }
 }

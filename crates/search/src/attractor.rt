@@ -15,6 +15,8 @@ pub(crate) struct Attractors<'p> {
     pub(crate) left: Numbers,
     /// The vertices of an attractor, in the order in which they came.
     pub(crate) queue: Queue,
+    /// Nothing is forced between vertices of different keys.
+    pub(crate) keys: Numbers,
     /// How many vertices and edges have been looked at.
     pub(crate) work: u64,
 }
@@ -24,11 +26,13 @@ impl<'p> Attractors<'p> {
         alloc: Global,
         game: &Game,
         predecessors: &'p Predecessors,
+        keys: Numbers,
     ) -> Result<Self, AllocError> {
         Ok(Attractors {
             predecessors,
             left: Numbers::zeros(alloc, game.vertices())?,
             queue: Queue::new(alloc, game.vertices())?,
+            keys,
             work: 0,
         })
     }
@@ -78,8 +82,8 @@ impl<'p> Attractors<'p> {
         }
     }
 
-    // The attractors of both players at once, from the queue on.
-    fn spread(&mut self, game: &Game, field: &mut Field, id: u32, won: Won) {
+    /// The attractors of both players at once, from the queue on.
+    pub(crate) fn spread(&mut self, game: &Game, field: &mut Field, id: u32, won: Won) {
         for place in 0..u32::MAX {
             if place >= self.queue.len() {
                 return;
@@ -91,18 +95,27 @@ impl<'p> Attractors<'p> {
 
     fn spread_from(&mut self, game: &Game, field: &mut Field, v: u32, id: u32, won: Won) {
         let odd = field.ids.get(v) == won.odd;
+        let key = self.keys.get(v);
         let before = self.predecessors.get(v);
         self.toil(before.len());
         for u in before {
-            if field.ids.get(*u) == id && self.falls(game, field, *u, v, odd) {
+            let is_open = field.ids.get(*u) == id && self.keys.get(*u) == key;
+            if is_open && self.falls(game, field, *u, v, odd) {
                 field.ids.set(*u, won.by(odd));
                 self.queue.push(*u);
             }
         }
     }
 
-    // Whether a vertex falls to the player that wins a successor of it.
-    fn falls(&mut self, game: &Game, field: &mut Field, u: u32, v: u32, odd: bool) -> bool {
+    /// Whether a vertex falls to the player that wins a successor of it.
+    pub(crate) fn falls(
+        &mut self,
+        game: &Game,
+        field: &mut Field,
+        u: u32,
+        v: u32,
+        odd: bool,
+    ) -> bool {
         if is_odds(game, u) == odd {
             field.moves.set(u, v);
             return true;
@@ -129,8 +142,8 @@ impl<'p> Attractors<'p> {
         span: Span,
         tops: Tops,
         id: u32,
+        near: Won,
     ) -> Span {
-        let near = field.fresh_won();
         self.count(game, field, span, id);
         self.mark_tops(game, field, span, tops, near.by(tops.odd));
         self.spread(game, field, id, near);
@@ -160,22 +173,10 @@ impl<'p> Attractors<'p> {
         self.queue.len() > 0
     }
 
-    /// Gives what stands in the queue to a player, with all that can be forced there. The answer is what is left.
-    pub(crate) fn give(
-        &mut self,
-        game: &Game,
-        field: &mut Field,
-        span: Span,
-        odd: bool,
-        id: u32,
-        won: Won,
-    ) -> Span {
-        field.mark(span, id);
-        self.count(game, field, span, id);
+    /// Gives the vertices in the queue a number.
+    pub(crate) fn mark_queue(&self, field: &mut Field, mark: u32) {
         for place in 0..self.queue.len() {
-            field.ids.set(self.queue.get(place), won.by(odd));
+            field.ids.set(self.queue.get(place), mark);
         }
-        self.spread(game, field, id, won);
-        field.gather(span, id)
     }
 }

@@ -37,15 +37,26 @@ pub(crate) struct Field {
     pub(crate) moves: Numbers,
     /// The vertices, those of a part together.
     pub(crate) list: Numbers,
+    /// Where a vertex stands in the list, as far as somebody keeps account.
+    pub(crate) places: Numbers,
+    /// The class of a vertex: how much Odd was found to force by priorities that have been counted.
+    pub(crate) classes: Numbers,
     last: u32,
 }
 
 impl Field {
-    pub(crate) fn new(alloc: Global, vertices: u32) -> Result<Self, AllocError> {
+    pub(crate) fn new(
+        alloc: Global,
+        vertices: u32,
+        moves: Numbers,
+        classes: Numbers,
+    ) -> Result<Self, AllocError> {
         Ok(Field {
             ids: Numbers::zeros(alloc, vertices)?,
-            moves: Numbers::zeros(alloc, vertices)?,
+            moves,
             list: Numbers::places(alloc, vertices)?,
+            places: Numbers::zeros(alloc, vertices)?,
+            classes,
             last: 0,
         })
     }
@@ -82,6 +93,30 @@ impl Field {
             from: span.from,
             to,
         }
+    }
+
+    /// The same of two numbers.
+    pub(crate) fn gather_both(&mut self, span: Span, first: u32, second: u32) -> Span {
+        let mut to = span.from;
+        for place in span.from..span.to {
+            let id = self.ids.get(self.list.get(place));
+            if id == first || id == second {
+                self.list.swap(to, place);
+                to = to.saturating_add(1);
+            }
+        }
+        Span {
+            from: span.from,
+            to,
+        }
+    }
+
+    /// Brings a vertex to a place, and the one that stands there to where it stood.
+    pub(crate) fn bring(&mut self, v: u32, to: u32) {
+        let from = self.places.get(v);
+        self.list.swap(to, from);
+        self.places.set(self.list.get(from), from);
+        self.places.set(v, to);
     }
 
     /// The greatest priorities of a part.

@@ -1,16 +1,13 @@
-// Layers of what Even wins: how many vertices of an odd priority it meets before a greater one, or before it comes to where it
-// might stay among lesser ones. That is never more than it has to meet.
+// Layers of what Even wins: how many vertices of an odd priority it meets before a greater one, before it comes to where it may
+// stay among lesser ones, or before it leaves its class. The counts come from below.
 
-use crate::attractor::Attractors;
-use crate::components::Components;
+use crate::classes::{Sorted, UNKNOWN, is_evens};
 use crate::edges::{is_odds, priority, successors};
-use crate::field::Field;
-use crate::lost::Lost;
+use crate::field::NONE;
 use crate::numbers::{Numbers, Queue, Span};
-use crate::part::Part;
-use crate::ways::Ways;
+use crate::rooms::{Rooms, Stay};
+use crate::winners::Winners;
 use game::graph::Game;
-use game::predecessors::Predecessors;
 use std::alloc::{AllocError, Global};
 
 // The count of a vertex that has none yet.
@@ -19,166 +16,211 @@ const OPEN: u32 = u32::MAX;
 /// Counts, with the memory to find them.
 #[derive(Drop)]
 pub(crate) struct Layering<'p> {
-    field: Field,
-    components: Components,
-    attractors: Attractors<'p>,
-    counts: Numbers,
+    pub(crate) winners: Winners<'p>,
+    pub(crate) counts: Numbers,
+    pub(crate) odd: u8,
+    rooms: Rooms,
     // The vertices that have the next count.
     later: Queue,
-    odd: u8,
 }
 
 impl<'p> Layering<'p> {
     pub(crate) fn new(
         alloc: Global,
         game: &Game,
-        predecessors: &'p Predecessors,
+        winners: Winners<'p>,
         odd: u8,
     ) -> Result<Self, AllocError> {
         let vertices = game.vertices();
         Ok(Layering {
-            field: Field::new(alloc, vertices)?,
-            components: Components::new(alloc, vertices)?,
-            attractors: Attractors::new(alloc, game, predecessors)?,
+            winners,
             counts: Numbers::zeros(alloc, vertices)?,
-            later: Queue::new(alloc, vertices)?,
             odd,
+            rooms: Rooms::new(alloc, vertices)?,
+            later: Queue::new(alloc, vertices)?,
         })
     }
 
-    /// Counts, and leaves the vertices whose counts are above zero.
-    pub(crate) fn find(mut self, game: &Game, lost: &Lost) -> (Ways, Numbers) {
-        let id = self.field.fresh();
-        self.begin(game, lost, id);
-        self.settle_rooms(game, id);
+    /// Counts anew. The answer is whether each vertex that Even wins got a count; then they stand in the queue in that order.
+    pub(crate) fn count(&mut self, game: &Game, stay: Stay) -> bool {
+        self.winners.attractors.queue.clear();
+        self.later.clear();
+        self.rooms.clear(stay);
+        self.winners.attractors.toil(game.vertices() as usize);
+        let evens = self.open_all(game);
+        if stay != Stay::Nowhere {
+            self.settle_shut_rooms(game);
+        }
         self.spread(game);
-        let counted = self.gather(game);
-        let attractors = self.attractors;
-        let ways = Ways {
-            span: counted,
-            field: self.field,
-            components: self.components,
-            counts: attractors.left,
-        };
-        (ways, self.counts)
+        self.winners.attractors.queue.len() == evens
     }
 
-    // No count for what Even wins, but zero above the odd priority. What is below gets this number.
-    fn begin(&mut self, game: &Game, lost: &Lost, id: u32) {
+    /// Sorts the vertices that Even wins by classes and counts, and numbers these as keys.
+    pub(crate) fn find_keys(&mut self, sorted: &mut Sorted) {
+        self.winners.find_keys(sorted, &self.counts);
+    }
+
+    // The answer is how many vertices Even wins.
+    fn open_all(&mut self, game: &Game) -> u32 {
+        let mut evens: u32 = 0;
         for v in 0..game.vertices() {
-            if lost.has(v) {
-                continue;
-            }
-            let left = successors(game, v).len();
-            self.attractors
-                .left
-                .set(v, u32::try_from(left).unwrap_or(OPEN));
-            if priority(game, v) > self.odd {
-                self.attractors.queue.push(v);
-            } else {
-                self.counts.set(v, OPEN);
-            }
-            if priority(game, v) < self.odd {
-                self.field.ids.set(v, id);
+            if is_evens(self.winners.field.classes.get(v)) {
+                evens = evens.saturating_add(1);
+                self.open(game, v);
             }
         }
+        evens
     }
 
-    // Zero wherever there is a cycle of lesser priorities.
-    fn settle_rooms(&mut self, game: &Game, id: u32) {
-        let low = self.field.gather(Span::all(game.vertices()), id);
-        let part = Part {
-            game,
-            ids: &self.field.ids,
-            id,
-            moves: &self.field.moves,
-            chosen: false,
-        };
-        self.components.sort(&part, &mut self.field.list, low);
-        let mut rest = low;
-        for _ in 0..low.len() {
-            if rest.len() == 0 {
-                break;
-            }
-            let first = self.components.order.first(rest);
-            self.settle_room(game, first);
-            rest.from = first.to;
-        }
-    }
-
-    fn settle_room(&mut self, game: &Game, room: Span) {
-        let v = self.field.list.get(room.from);
-        if room.len() < 2 && !successors(game, v).contains(&v) {
+    fn open(&mut self, game: &Game, v: u32) {
+        if priority(game, v) > self.odd || self.can_stay(game, v) {
+            self.settle(v, 0);
             return;
         }
-        for place in room.from..room.to {
-            let v = self.field.list.get(place);
-            self.counts.set(v, 0);
-            self.attractors.queue.push(v);
+        self.counts.set(v, OPEN);
+        if is_odds(game, v) {
+            let class = self.winners.field.classes.get(v);
+            let left = self.successors_of_class(game, v, class);
+            self.winners.attractors.left.set(v, left);
+        } else if self.successors_of_class(game, v, UNKNOWN) > 0 {
+            self.reach_count(game, v, 0);
+        }
+    }
+
+    // Whether a vertex is its own successor, so that Even stays.
+    fn can_stay(&self, game: &Game, v: u32) -> bool {
+        let priority = priority(game, v);
+        let next = successors(game, v);
+        priority < self.odd
+            && priority % 2 == 0
+            && next.contains(&v)
+            && (next.len() == 1 || !is_odds(game, v))
+    }
+
+    fn successors_of_class(&self, game: &Game, v: u32, class: u32) -> u32 {
+        let mut count: u32 = 0;
+        for t in successors(game, v) {
+            if self.winners.field.classes.get(*t) == class {
+                count = count.saturating_add(1);
+            }
+        }
+        count
+    }
+
+    fn settle(&mut self, v: u32, count: u32) {
+        self.counts.set(v, count);
+        self.winners.attractors.queue.push(v);
+    }
+
+    // The count of a vertex before one with this count.
+    fn reach_count(&mut self, game: &Game, v: u32, count: u32) {
+        if priority(game, v) == self.odd {
+            self.counts.set(v, count.saturating_add(1));
+            self.later.push(v);
+        } else {
+            self.settle(v, count);
+        }
+    }
+
+    // Zero wherever Even may stay from the outset.
+    fn settle_shut_rooms(&mut self, game: &Game) {
+        let id = self.winners.field.fresh();
+        let low = self.gather_low(game, id);
+        self.winners.find_rooms(game, &mut self.rooms, low, id);
+        for place in low.from..low.to {
+            if self
+                .rooms
+                .is_shut(self.winners.field.list.get(place), place)
+            {
+                self.settle_room(game, place, 0);
+            }
+        }
+    }
+
+    // The open vertices of lesser priorities.
+    fn gather_low(&mut self, game: &Game, id: u32) -> Span {
+        let mut low = Span { from: 0, to: 0 };
+        for v in 0..game.vertices() {
+            if self.counts.get(v) == OPEN && priority(game, v) < self.odd {
+                self.winners.field.ids.set(v, id);
+                self.winners.field.list.set(low.to, v);
+                low.to = low.to.saturating_add(1);
+            }
+        }
+        low
+    }
+
+    fn settle_room(&mut self, game: &Game, room: u32, count: u32) {
+        for place in room..self.winners.components.order.ends.get(room) {
+            let v = self.winners.field.list.get(place);
+            if self.counts.get(v) == OPEN {
+                self.settle(v, count);
+                self.stay_inside(game, v);
+            }
+        }
+    }
+
+    fn stay_inside(&mut self, game: &Game, v: u32) {
+        if self.rooms.stay == Stay::Anywhere && !is_odds(game, v) {
+            let next = self.rooms.inside(game, &self.winners.field, v);
+            if next != NONE {
+                self.winners.field.moves.set(v, next);
+            }
         }
     }
 
     // One count after another.
     fn spread(&mut self, game: &Game) {
         for place in 0..u32::MAX {
-            if place >= self.attractors.queue.len() {
+            if place >= self.winners.attractors.queue.len() {
                 self.go_up();
             }
-            if place >= self.attractors.queue.len() {
+            if place >= self.winners.attractors.queue.len() {
                 return;
             }
-            let v = self.attractors.queue.get(place);
+            let v = self.winners.attractors.queue.get(place);
             self.spread_from(game, v);
         }
     }
 
     fn go_up(&mut self) {
         for place in 0..self.later.len() {
-            self.attractors.queue.push(self.later.get(place));
+            self.winners.attractors.queue.push(self.later.get(place));
         }
         self.later.clear();
     }
 
     fn spread_from(&mut self, game: &Game, v: u32) {
         let count = self.counts.get(v);
-        let before = self.attractors.predecessors;
-        for u in before.get(v) {
-            if self.counts.get(*u) == OPEN && self.falls(game, *u, v) {
-                self.settle(game, *u, count);
+        let class = self.winners.field.classes.get(v);
+        let before = self.winners.attractors.predecessors.get(v);
+        self.winners.attractors.toil(before.len());
+        for u in before {
+            if self.counts.get(*u) == OPEN && self.winners.field.classes.get(*u) == class {
+                self.reach(game, *u, v, count);
             }
+        }
+    }
+
+    // An edge from u leads to a vertex with this count.
+    fn reach(&mut self, game: &Game, u: u32, v: u32, count: u32) {
+        let room = self.rooms.shut(game, &self.winners.field, u, v);
+        if self.falls(game, u, v) {
+            self.reach_count(game, u, count);
+        }
+        if room != NONE {
+            self.settle_room(game, room, count);
         }
     }
 
     // Whether Even comes to this successor, which is the last one where Odd chooses.
     fn falls(&mut self, game: &Game, u: u32, v: u32) -> bool {
         if !is_odds(game, u) {
+            self.winners.field.moves.set(u, v);
             return true;
         }
-        self.field.moves.set(u, v);
-        let left = self.attractors.left.get(u).saturating_sub(1);
-        self.attractors.left.set(u, left);
+        let left = self.winners.attractors.left.get(u).saturating_sub(1);
+        self.winners.attractors.left.set(u, left);
         left == 0
-    }
-
-    // The count of a vertex before one with this count.
-    fn settle(&mut self, game: &Game, v: u32, count: u32) {
-        if priority(game, v) == self.odd {
-            self.counts.set(v, count.saturating_add(1));
-            self.later.push(v);
-        } else {
-            self.counts.set(v, count);
-            self.attractors.queue.push(v);
-        }
-    }
-
-    fn gather(&mut self, game: &Game) -> Span {
-        let id = self.field.fresh();
-        for v in 0..game.vertices() {
-            let count = self.counts.get(v);
-            if count > 0 && count != OPEN {
-                self.field.ids.set(v, id);
-            }
-        }
-        self.field.gather(Span::all(game.vertices()), id)
     }
 }

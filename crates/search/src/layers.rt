@@ -1,42 +1,86 @@
 // What Odd can force where Even wins, with reasons.
 
+use crate::judging::Judging;
 use crate::layering::Layering;
 use crate::lost::Lost;
 use crate::numbers::Numbers;
 use crate::ranks::Ranks;
+use crate::rounds::{Counted, Rounds};
+use crate::winners::Winners;
 use game::graph::Game;
 use game::predecessors::Predecessors;
 use std::alloc::Global;
 use text::Memory;
 
-/// For vertices that Even wins how many vertices of an odd priority Odd was found to force, with its moves and
-/// ranks that fall along them. Nothing of it is sure before it is tested.
+/// For vertices that Even wins how many vertices of an odd priority Odd was found to force besides what it can force of greater
+/// ones, with its moves and ranks that fall along them. Nothing of it is sure before it is tested.
 #[derive(Drop)]
 pub struct Layers {
     odd: u8,
+    // Whether all greater odd priorities that were asked for have been counted.
+    is_whole: bool,
+    classes: Numbers,
     counts: Numbers,
     moves: Numbers,
     ranks: Ranks,
 }
 
 impl Layers {
-    /// Searches a game, with its predecessors, of which it is known what Odd wins. It may find less than there is.
+    /// Nothing has been counted yet.
     ///
     /// # Errors
     /// Want of memory, and nothing else.
-    pub fn of(
+    pub fn none(alloc: Global, game: &Game, lost: &Lost) -> Result<Self, Memory> {
+        Ok(Layers {
+            odd: 1,
+            is_whole: true,
+            classes: Numbers::copied(alloc, &lost.classes)?,
+            counts: Numbers::zeros(alloc, 0)?,
+            moves: Numbers::copied(alloc, &lost.moves)?,
+            ranks: Ranks::none(alloc, game)?,
+        })
+    }
+
+    /// Counts an odd priority, less than those that were counted before. It may find nothing, and then finds no more.
+    ///
+    /// # Errors
+    /// Want of memory, and nothing else.
+    pub fn next(
+        self,
         alloc: Global,
         game: &Game,
         predecessors: &Predecessors,
-        lost: &Lost,
         odd: u8,
     ) -> Result<Self, Memory> {
-        let (mut ways, counts) = Layering::new(alloc, game, predecessors, odd)?.find(game, lost);
+        if !self.is_whole {
+            return Ok(self);
+        }
+        let winners = Winners::of(alloc, game, predecessors, self.moves, self.classes)?;
+        let layering = Layering::new(alloc, game, winners, odd)?;
+        let judging = Judging::new(alloc, game, layering)?;
+        let mut rounds = Rounds::new(alloc, judging)?;
+        let is_whole = rounds.find(game);
+        let counted = rounds.into_counted(game);
+        Layers::of(alloc, game, odd, is_whole, counted)
+    }
+
+    fn of(
+        alloc: Global,
+        game: &Game,
+        odd: u8,
+        is_whole: bool,
+        counted: Counted,
+    ) -> Result<Self, Memory> {
+        let mut ways = counted.ways;
         let mut ranks = Ranks::none(alloc, game)?;
-        ranks.find(game, &mut ways);
+        if is_whole {
+            ranks.find(game, &mut ways);
+        }
         Ok(Layers {
             odd,
-            counts,
+            is_whole,
+            classes: counted.keys,
+            counts: counted.counts,
             moves: ways.field.moves,
             ranks,
         })
@@ -47,17 +91,25 @@ impl Layers {
         self.ranks.has(v)
     }
 
-    /// Writes the value of a vertex: for each odd number a count, that of one last.
-    pub fn value_into(&self, v: u32, value: &mut [u32]) {
+    /// Writes the value of a vertex, for each odd number a count, that of one last: for greater numbers the counts that it has,
+    /// and none for lesser ones.
+    pub fn value_into(&self, v: u32, above: &[u32], value: &mut [u32]) {
         let width = value.len();
+        let odd = usize::from(self.odd) / 2;
         for place in 0..width {
-            let is_odd = width - 1 - place == usize::from(self.odd) / 2;
-            value[place] = if is_odd { self.counts.get(v) } else { 0 };
+            let half = width - 1 - place;
+            value[place] = if half > odd {
+                above.get(place).copied().unwrap_or(0)
+            } else if half == odd {
+                self.counts.get(v)
+            } else {
+                0
+            };
         }
     }
 
     /// Where Odd goes on from a vertex of its own of which something was found.
-    pub fn next(&self, v: u32) -> u32 {
+    pub fn next_of(&self, v: u32) -> u32 {
         self.moves.get(v)
     }
 

@@ -2,9 +2,11 @@
 #![tactic(auto)]
 
 mod attractor;
+mod classes;
 mod components;
 mod edges;
 mod field;
+mod judging;
 mod layering;
 pub mod layers;
 pub mod lost;
@@ -12,6 +14,9 @@ mod numbers;
 mod order;
 mod part;
 mod ranks;
+mod repair;
+mod rooms;
+mod rounds;
 mod tasks;
 mod ways;
 mod winners;

@@ -11,7 +11,9 @@ use text::Memory;
 /// The vertices that Odd was found to win, with its moves and ranks that fall along them. Nothing of it is sure before it is tested.
 #[derive(Drop)]
 pub struct Lost {
-    moves: Numbers,
+    // The moves of both players.
+    pub(crate) moves: Numbers,
+    pub(crate) classes: Numbers,
     ranks: Ranks,
 }
 
@@ -22,11 +24,13 @@ impl Lost {
     /// # Errors
     /// Want of memory, and nothing else.
     pub fn of(alloc: Global, game: &Game, predecessors: &Predecessors) -> Result<Self, Memory> {
-        let mut ways = Winners::new(alloc, game, predecessors)?.find(game);
+        let mut classes = Numbers::zeros(alloc, game.vertices())?;
+        let mut ways = Winners::new(alloc, game, predecessors)?.find(game, &mut classes);
         let mut ranks = Ranks::none(alloc, game)?;
         ranks.find(game, &mut ways);
         Ok(Lost {
             moves: ways.field.moves,
+            classes,
             ranks,
         })
     }

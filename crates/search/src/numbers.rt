@@ -24,13 +24,24 @@ impl Numbers {
         Ok(numbers)
     }
 
-    pub(crate) fn len(&self) -> usize {
-        self.items.len()
+    /// The same numbers again.
+    pub(crate) fn copied(alloc: Global, other: &Numbers) -> Result<Self, AllocError> {
+        Ok(Numbers {
+            items: Vec::from_slice(alloc, other.items.as_slice())?,
+        })
     }
 
-    pub(crate) fn slice(&self, span: Span) -> &[u32] {
-        let places = span.from as usize..span.to as usize;
-        self.items.get(places).unwrap_or(&[])
+    /// Writes these numbers as far as there are places.
+    pub(crate) fn copy(&mut self, other: &Numbers) {
+        for (item, number) in self.items.iter_mut().zip(other.items.iter()) {
+            *item = *number;
+        }
+    }
+
+    pub(crate) fn fill(&mut self, length: u32, number: u32) {
+        for place in 0..length {
+            self.set(place, number);
+        }
     }
 
     pub(crate) fn get(&self, place: u32) -> u32 {
@@ -41,6 +52,11 @@ impl Numbers {
         if let Some(item) = self.items.get_mut(place as usize) {
             *item = number;
         }
+    }
+
+    pub(crate) fn add(&mut self, place: u32, more: u32) {
+        let number = self.get(place).saturating_add(more);
+        self.set(place, number);
     }
 
     pub(crate) fn swap(&mut self, place: u32, other: u32) {

@@ -4,6 +4,19 @@ use crate::edges::{is_odds, successors};
 use crate::numbers::Numbers;
 use game::graph::Game;
 
+/// Which edges are taken.
+#[derive(Clone, Copy)]
+pub(crate) enum Taken {
+    /// Each.
+    All,
+    /// Of Odd's the chosen moves alone.
+    OddsMoves,
+    /// Those within a class.
+    InClass,
+    /// Those within a class, of Even's the chosen moves alone.
+    EvensMoves,
+}
+
 /// The edges among the vertices that have this number.
 #[derive(Clone, Copy)]
 pub(crate) struct Part<'g, 'n> {
@@ -11,15 +24,30 @@ pub(crate) struct Part<'g, 'n> {
     pub(crate) ids: &'n Numbers,
     pub(crate) id: u32,
     pub(crate) moves: &'n Numbers,
-    /// Whether Odd goes on by these moves only.
-    pub(crate) chosen: bool,
+    pub(crate) classes: &'n Numbers,
+    pub(crate) taken: Taken,
 }
 
 impl Part<'_, '_> {
     /// Whether an edge leads to such a vertex.
     pub(crate) fn has(&self, v: u32, t: u32) -> bool {
-        self.ids.get(t) == self.id
-            && (!self.chosen || !is_odds(self.game, v) || self.moves.get(v) == t)
+        self.ids.get(t) == self.id && self.takes(v, t)
+    }
+
+    /// Whether an edge is taken, wherever it leads.
+    pub(crate) fn takes(&self, v: u32, t: u32) -> bool {
+        match self.taken {
+            Taken::All => true,
+            Taken::OddsMoves => !is_odds(self.game, v) || self.moves.get(v) == t,
+            Taken::InClass => self.is_in_class(v, t),
+            Taken::EvensMoves => {
+                self.is_in_class(v, t) && (is_odds(self.game, v) || self.moves.get(v) == t)
+            }
+        }
+    }
+
+    fn is_in_class(&self, v: u32, t: u32) -> bool {
+        self.classes.get(v) == self.classes.get(t)
     }
 
     /// Whether a vertex is its own successor so.

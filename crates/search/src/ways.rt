@@ -4,7 +4,7 @@ use crate::components::Components;
 use crate::edges::{priority, successors};
 use crate::field::Field;
 use crate::numbers::{Numbers, Span};
-use crate::part::Part;
+use crate::part::{Part, Taken};
 use game::graph::Game;
 
 /// Vertices among which Odd moves so that no cycle is Even's.
@@ -30,7 +30,8 @@ impl Ways {
             ids: &self.field.ids,
             id,
             moves: &self.field.moves,
-            chosen: true,
+            classes: &self.field.classes,
+            taken: Taken::OddsMoves,
         };
         self.components.sort(&part, &mut self.field.list, low);
         let list = &self.field.list;

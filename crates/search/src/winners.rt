@@ -1,12 +1,15 @@
 // Who wins each vertex: by recursion on the greatest priority (Zielonka 1998) in strong components.
 
 use crate::attractor::Attractors;
+use crate::classes::{Sorted, first_class};
 use crate::components::Components;
 use crate::edges::edges;
 use crate::field::{Field, Won};
-use crate::numbers::Span;
-use crate::part::Part;
-use crate::tasks::{Core, Task, Tasks};
+use crate::numbers::{Numbers, Span};
+use crate::part::{Part, Taken};
+use crate::repair::{Core, Repair};
+use crate::rooms::Rooms;
+use crate::tasks::{Task, Tasks};
 use crate::ways::Ways;
 use game::graph::Game;
 use game::predecessors::Predecessors;
@@ -20,10 +23,12 @@ const TIMES: u64 = 64;
 /// The recursion.
 #[derive(Drop)]
 pub(crate) struct Winners<'p> {
-    field: Field,
-    attractors: Attractors<'p>,
-    components: Components,
+    pub(crate) field: Field,
+    pub(crate) attractors: Attractors<'p>,
+    pub(crate) components: Components,
+    repair: Repair,
     tasks: Tasks,
+    budget: u64,
 }
 
 impl<'p> Winners<'p> {
@@ -32,24 +37,36 @@ impl<'p> Winners<'p> {
         game: &Game,
         predecessors: &'p Predecessors,
     ) -> Result<Self, AllocError> {
+        let moves = Numbers::zeros(alloc, game.vertices())?;
+        let classes = Numbers::zeros(alloc, 0)?;
+        Winners::of(alloc, game, predecessors, moves, classes)
+    }
+
+    /// Where these are the winners' moves, and the classes of vertices.
+    pub(crate) fn of(
+        alloc: Global,
+        game: &Game,
+        predecessors: &'p Predecessors,
+        moves: Numbers,
+        classes: Numbers,
+    ) -> Result<Self, AllocError> {
+        let keys = Numbers::copied(alloc, &classes)?;
         Ok(Winners {
-            field: Field::new(alloc, game.vertices())?,
-            attractors: Attractors::new(alloc, game, predecessors)?,
+            field: Field::new(alloc, game.vertices(), moves, classes)?,
+            attractors: Attractors::new(alloc, game, predecessors, keys)?,
             components: Components::new(alloc, game.vertices())?,
-            tasks: Tasks::new(alloc)?,
+            repair: Repair::new(alloc, game.vertices())?,
+            tasks: Tasks::new(alloc),
+            budget: budget(game),
         })
     }
 
-    /// Decides who wins, and leaves the vertices that Odd wins. Past a budget of vertices and edges to look at nothing new is
-    /// begun: this many, and so many times those of the game.
-    pub(crate) fn find(mut self, game: &Game) -> Ways {
-        let budget = self.budget(game);
+    /// Decides who wins the game, writes the class of each vertex, and leaves those that Odd wins.
+    pub(crate) fn find(mut self, game: &Game, classes: &mut Numbers) -> Ways {
         let won = self.begin(game);
-        for _ in 0..u64::MAX {
-            if self.tasks.spent || self.attractors.work > budget || !self.go_on(game) {
-                break;
-            }
-            self.attractors.toil(0);
+        self.go_through(game);
+        for v in 0..game.vertices() {
+            classes.set(v, first_class(self.field.ids.get(v), won));
         }
         let lost = self.field.gather(Span::all(game.vertices()), won.odd);
         Ways {
@@ -58,11 +75,6 @@ impl<'p> Winners<'p> {
             components: self.components,
             counts: self.attractors.left,
         }
-    }
-
-    fn budget(&self, game: &Game) -> u64 {
-        let size = u64::from(game.vertices()).saturating_add(edges(game));
-        size.saturating_mul(TIMES).saturating_add(LEAST_BUDGET)
     }
 
     fn begin(&mut self, game: &Game) -> Won {
@@ -75,11 +87,35 @@ impl<'p> Winners<'p> {
         won
     }
 
+    /// Decides a part that is its own game, and tells whether it came to the end.
+    pub(crate) fn find_in(&mut self, game: &Game, span: Span, won: Won) -> bool {
+        let id = self.field.fresh();
+        self.field.mark(span, id);
+        self.decide_in_components(game, span, id, won);
+        self.go_through(game);
+        !self.is_spent()
+    }
+
+    // Past a budget of vertices and edges to look at nothing new is begun.
+    fn go_through(&mut self, game: &Game) {
+        for _ in 0..u64::MAX {
+            if self.is_spent() || !self.go_on(game) {
+                break;
+            }
+            self.attractors.toil(0);
+        }
+    }
+
+    /// Whether too much has been looked at.
+    pub(crate) fn is_spent(&self) -> bool {
+        self.tasks.spent || self.attractors.work > self.budget
+    }
+
     // Does one task. The answer is whether there was one.
     fn go_on(&mut self, game: &Game) -> bool {
         match self.tasks.pop() {
             Some(Task::Components { span, won }) => self.decide_first(game, span, won),
-            Some(Task::Rest { rest, inner, core }) => self.conclude(game, rest, inner, core),
+            Some(Task::Rest { rest, core }) => self.conclude(game, rest, core),
             None => return false,
         }
         true
@@ -95,9 +131,30 @@ impl<'p> Winners<'p> {
             ids: &self.field.ids,
             id,
             moves: &self.field.moves,
-            chosen: false,
+            classes: &self.field.classes,
+            taken: Taken::All,
         };
         self.components.sort(&part, &mut self.field.list, span);
+    }
+
+    /// Finds rooms in a part.
+    pub(crate) fn find_rooms(&mut self, game: &Game, rooms: &mut Rooms, span: Span, id: u32) {
+        let part = Part {
+            game,
+            ids: &self.field.ids,
+            id,
+            moves: &self.field.moves,
+            classes: &self.field.classes,
+            taken: rooms.stay.taken(),
+        };
+        self.components.sort(&part, &mut self.field.list, span);
+        rooms.find(&part, &self.components.order, &self.field.list, span);
+    }
+
+    /// Sorts the vertices in the queue, which come in the order of their counts, by classes, and numbers classes and counts.
+    pub(crate) fn find_keys(&mut self, sorted: &mut Sorted, counts: &Numbers) {
+        sorted.sort(&self.attractors.queue, &self.field.classes);
+        sorted.number(&self.field.classes, counts, &mut self.attractors.keys);
     }
 
     fn decide_in_components(&mut self, game: &Game, span: Span, id: u32, won: Won) {
@@ -134,28 +191,67 @@ impl<'p> Winners<'p> {
     // Decides a part: what is drawn to the greatest priorities is theirs as long as the rest is.
     fn decide(&mut self, game: &Game, span: Span, id: u32, won: Won) {
         let tops = self.field.tops(game, span);
-        let rest = self.attractors.draw(game, &mut self.field, span, tops, id);
+        let near = self.field.fresh_won();
+        let rest = self
+            .attractors
+            .draw(game, &mut self.field, span, tops, id, near);
         if rest.len() == 0 {
             self.field.give(game, span, tops, won);
             return;
         }
-        let inner = self.field.fresh_won();
-        let core = Core { span, tops, won };
-        self.tasks.push(Task::Rest { rest, inner, core });
-        self.decide_in_components(game, rest, id, inner);
+        self.repair.renew(&mut self.field, span);
+        let core = Core {
+            span,
+            tops,
+            won,
+            inner: self.field.fresh_won(),
+            near: near.by(tops.odd),
+            call: self.field.fresh(),
+            gone: 0,
+        };
+        self.tasks.push(Task::Rest { rest, core });
+        self.decide_in_components(game, rest, id, core.inner);
     }
 
-    // Where the other player wins some of the rest, it wins what is drawn to it, and what is left is decided anew.
-    fn conclude(&mut self, game: &Game, rest: Span, inner: Won, core: Core) {
-        let other = !core.tops.odd;
-        if !self.attractors.find(&self.field, rest, inner.by(other)) {
-            self.field.give(game, core.span, core.tops, core.won);
+    // Where the other player wins some of the rest, it wins what is drawn to it.
+    fn conclude(&mut self, game: &Game, rest: Span, mut core: Core) {
+        if !self.attractors.find(&self.field, rest, core.lost()) {
+            let left = self.field.gather_both(core.span, core.near, core.calm());
+            self.field.give(game, left, core.tops, core.won);
             return;
         }
-        let id = self.field.fresh();
-        let left = self
-            .attractors
-            .give(game, &mut self.field, core.span, other, id, core.won);
-        self.decide_left(game, core.span, left, id, core.won);
+        self.repair.renew(&mut self.field, rest);
+        self.repair
+            .lose(game, &mut self.attractors, &mut self.field, &core);
+        core.gone = core.gone.saturating_add(self.attractors.queue.len());
+        if core.gone >= core.span.len() / 2 {
+            self.decide_kept(game, &core);
+        } else {
+            self.decide_loose(game, core);
+        }
     }
+
+    // Where half has fallen, what is left is decided anew.
+    fn decide_kept(&mut self, game: &Game, core: &Core) {
+        let left = self.field.gather_both(core.span, core.near, core.calm());
+        let id = self.field.fresh();
+        self.field.mark(left, id);
+        self.decide_in_components(game, left, id, core.won);
+    }
+
+    // Else the rest grows by what hung on that, and that is decided.
+    fn decide_loose(&mut self, game: &Game, core: Core) {
+        let limbo = self.field.fresh();
+        let rest = self
+            .repair
+            .shrink(game, &mut self.attractors, &mut self.field, &core, limbo);
+        self.tasks.push(Task::Rest { rest, core });
+        let left = self.settle(game, rest, limbo, core.inner);
+        self.decide_left(game, rest, left, limbo, core.inner);
+    }
+}
+
+fn budget(game: &Game) -> u64 {
+    let size = u64::from(game.vertices()).saturating_add(edges(game));
+    size.saturating_mul(TIMES).saturating_add(LEAST_BUDGET)
 }

@@ -1,6 +1,6 @@
 use Rattle.progress.proofs.Rising.{under_trans}
 use Rattle.measures.proofs.jumps.jump_to_all_counts.Goals as goal
-use Rattle.measures.proofs.jumps.jump_to_all_counts.Goals.{then-are_left+in_ok-layers, else-are_left}
+use Rattle.measures.proofs.jumps.jump_to_all_counts.Goals.{then-are_left+in_ok-layers-2, else-are_left}
 use Rattle.std.proofs.Common.{rules}
 use Rattle.progress.proofs.Common.{Table, subst, sym}
 use Rattle.progress.proofs.Monotone.{LiesUnder}
@@ -9,7 +9,7 @@ pub loop-back-preserved : goal.loop-back-preserved
 loop-back-preserved c =
     let inv = c.loop-back.invariant in
     elim c.if-are_left.branch [
-      | then-are_left+in_ok-layers w ↦ record {
+      | then-are_left+in_ok-layers-2 w ↦ record {
         table = search rules;
         claim = search rules;
         kept = subst (λ (t : Table). LiesUnder c.args.table.now.values t.values) (sym w.table-is)
