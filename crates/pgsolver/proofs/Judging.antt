@@ -5,15 +5,21 @@ use Rattle.std.specs.Prelude.{IfSome, nat_lt, is_some}
 use Rattle.std.specs.List.{AllByRecursion}
 use Rattle.std.proofs.lemmas.Bool.{ltb-true, ltb-false}
 use Rattle.text.specs.Text.{lines}
-use Rattle.text.specs.Tokens.{capped}
-use Rattle.text.specs.Lines.{IfKnown, TakesLine}
+use Rattle.text.specs.Tokens.{capped, sign_at}
+use Rattle.text.specs.Lines.{IfKnown}
+use Rattle.text.specs.Stream as stream
+use Rattle.text.specs.Stream.{below, PassesLine}
+use Rattle.text.proofs.Streaming.{lines_cons}
+use Rattle.lts.proofs.Unique.{lines_same}
 use Rattle.systems.proofs.Ordered.{Has, Has-from_Contains, Contains-from_Has, all_has}
 use Rattle.game.specs.declared.limits.TheConstants.{MOST_VERTICES}
 use Rattle.game.specs.NumberSet.{set_of}
 use Rattle.pgsolver.specs.declared.error.PgFault.{PgFault}
 use Rattle.pgsolver.specs.declared.error.PgFault.TheVariants.{BadHeader, BadLine, BadIdentifier, BadSuccessor, PriorityTooGreat, TooManyVertices}
 use Rattle.pgsolver.specs.declared.scan.Head.{Head}
-use Rattle.pgsolver.specs.Spelling.{Line, IsHeader, IsLine}
+use Rattle.pgsolver.specs.Spelling.{Line, IsHeader, IsLine, IsWithin}
+use Rattle.pgsolver.specs.Passes.{PassesVertex}
+use Rattle.pgsolver.proofs.Same.{set_none, far_set}
 use Rattle.pgsolver.specs.Fault.{IsBadId, HasBadSuccessor, LineFault, HasFault}
 use Rattle.pgsolver.specs.Scan.{capped_line, line_of, header_at, line_at}
 use Rattle.pgsolver.specs.Left.{BeginsWith, IsPlace, ArePlaces, Says, IsSound, IsFirstFault, has_far}
@@ -22,49 +28,68 @@ use Rattle.pgsolver.proofs.Placing.{has_at}
 
 -- ---- the header
 
--- there is no line
-pub no_first : (old new : Option (List ℕ)) (line : List ℕ) → TakesLine old new false line → IfSome old (λ text. HasFault text BadHeader 1)
-no_first None new line h = tt
-no_first (Some text) None line h = absurd h
-no_first (Some text) (Some left) line h = inl (λ first rest n e header. absurd cc, refl)
-
 -- the first line is no header
-pub bad_first : (old new : Option (List ℕ)) (line : List ℕ) → TakesLine old new true line → header_at line ≡ None
-    → IfSome old (λ text. HasFault text BadHeader 1)
-bad_first None new line h none = tt
-bad_first (Some text) None line h none = absurd h
-bad_first (Some text) (Some left) line h none =
+pub bad_first : (old new : Option (List ℕ)) → IfKnown old new (PassesLine header_at None) → IfSome old (λ text. HasFault text BadHeader 1)
+bad_first None new none = tt
+bad_first (Some text) None none = absurd none
+bad_first (Some []) (Some left) none = inl (λ first rest n e header. absurd cc, refl)
+bad_first (Some (b ∷ text)) (Some left) none =
     inl (
       λ first rest n e header.
-          let same : first ≡ line = cc in
-          let some = header_finds line n (subst (λ l. IsHeader l n) same header) in cc,
+          let same : first ≡ stream.line_of (b ∷ text) = (lines_same first (stream.line_of (b ∷ text)) rest (lines (below (b ∷ text)))
+          (sym e ∙ lines_cons b text)).0 in
+          let some = header_finds (stream.line_of (b ∷ text)) n (subst (λ l. IsHeader l n) same header) in cc,
       refl,
     )
 
+no_header : (v : ℕ) → header_at [] ≡ Some v → ⊥
+unfolding header_at sign_at
+no_header v e = cc
+
+-- the first line is this one
+first_line : (text : List ℕ) (v : ℕ) → header_at (stream.line_of text) ≡ Some v → lines text ≡ stream.line_of text ∷ lines (below text)
+first_line [] v e = absurd (no_header v e)
+first_line (b ∷ text) v e = lines_cons b text
+
 -- the header announces too many vertices
-pub over_first : (old new : Option (List ℕ)) (line : List ℕ) (v : ℕ) → TakesLine old new true line → header_at line ≡ Some v → MOST_VERTICES ≤ v
+pub over_first : (old new : Option (List ℕ)) (v : ℕ) → IfKnown old new (PassesLine header_at (Some v)) → MOST_VERTICES ≤ v
     → IfSome old (λ text. HasFault text TooManyVertices 1)
-over_first None new line v taken found over = tt
-over_first (Some text) None line v taken found over = absurd taken
-over_first (Some text) (Some left) line v taken found over =
-    let (n, header, is) = header_gives line v found in
-    inl ((line, lines left, n, taken, header, omega arith), refl)
+over_first None new v found over = tt
+over_first (Some text) None v found over = absurd found
+over_first (Some text) (Some left) v (found, after) over =
+    let (n, header, is) = header_gives (stream.line_of text) v found in
+    inl ((stream.line_of text, lines (below text), n, first_line text v found, header, omega arith), refl)
 
 -- the header announces what a game may have
-pub right_first : (old new : Option (List ℕ)) (line : List ℕ) (v : ℕ) → TakesLine old new true line → header_at line ≡ Some v → v < MOST_VERTICES
-    → IfKnown old new (BeginsWith v)
-right_first None new line v taken found within = tt
-right_first (Some text) None line v taken found within = absurd taken
-right_first (Some text) (Some left) line v taken found within =
-    let (n, header, is) = header_gives line v found in
+pub right_first : (old new : Option (List ℕ)) (v : ℕ) → IfKnown old new (PassesLine header_at (Some v)) → v < MOST_VERTICES → IfKnown old new (BeginsWith v)
+right_first None new v found within = tt
+right_first (Some text) None v found within = absurd found
+right_first (Some text) (Some left) v (found, after) within =
+    let (n, header, is) = header_gives (stream.line_of text) v found in
     let same : n ≡ v = omega arith in
-    record { first = line; cut = taken; header = subst (IsHeader line) same header }
+    record {
+      first = stream.line_of text;
+      cut = first_line text v found ∙ ap (λ t. stream.line_of text ∷ lines t) (sym after);
+      header = subst (IsHeader (stream.line_of text)) same header;
+    }
 
 -- ---- a vertex line
 
 -- no vertex line was found
 pub bad_line : (line : List ℕ) → line_at line ≡ None → (x : Line) → IsLine line x → ⊥
 bad_line line none x h = let some = line_finds line x h in cc
+
+-- the line that was next has no such shape
+pub no_shape : (n : ℕ) (before : List Line) (targets : List ℕ) (old new : Option (List ℕ)) → IfKnown old new (PassesVertex targets None)
+    → IfSome old (λ text. LineFault n before (stream.line_of text) BadLine)
+no_shape n before targets None new none = tt
+no_shape n before targets (Some text) None none = absurd none
+no_shape n before targets (Some text) (Some left) none = bad_line (stream.line_of text) none
+
+-- a fault with its place
+pub at_place : (old : Option (List ℕ)) (P : List ℕ → Type 0) (place : ℕ) → IfSome old P → IfSome old (λ text. P text × (place ≡ place))
+at_place None P place h = tt
+at_place (Some text) P place h = (h, refl)
 
 or_false : (a b : Bool) → (a || b) ≡ false → (a ≡ false) × (b ≡ false)
 or_false true b e = absurd cc
@@ -139,34 +164,77 @@ module _ (n : ℕ) (small : n < MOST_VERTICES) (before : List Line) (places : Li
   fault_of BadLine h = absurd h
   fault_of TooManyVertices h = absurd h
 
+-- what is wrong with what a line says of a set is wrong of the successors as they stand
+fault_set : (n : ℕ) (places : List (Option ℕ)) (head : Head) (numbers set : List ℕ) → set ≡ set_of numbers → (fault : PgFault)
+    → IsFirstFault n places (line_of head set) fault → IsFirstFault n places (line_of head numbers) fault
+fault_set n places head numbers set made BadIdentifier h = h
+fault_set n places head numbers set made BadSuccessor (low, none, inl empty) = (low, none, inl (set_none numbers (sym made ∙ empty)))
+fault_set n places head numbers set made BadSuccessor (low, none, inr far) = (low, none, inr (sym (far_set n numbers) ∙ ap (has_far n) (sym made) ∙ far))
+fault_set n places head numbers set made PriorityTooGreat (low, none, some, near, high) =
+    (low, none, λ e. some (made ∙ ap set_of e), sym (far_set n numbers) ∙ ap (has_far n) (sym made) ∙ near, high)
+fault_set n places head numbers set made BadHeader h = absurd h
+fault_set n places head numbers set made BadLine h = absurd h
+fault_set n places head numbers set made TooManyVertices h = absurd h
+
 -- what the line says is wrong
-pub faulty : (n : ℕ) (before : List Line) (places : List (Option ℕ)) (line : List ℕ) (a : Line) (fault : PgFault) → n < MOST_VERTICES
-    → ArePlaces n before places → line_at line ≡ Some a → IsFirstFault n places a fault → LineFault n before line fault
-faulty n before places line a fault small are found wrong = let (x, is, same) = line_gives line a found
-    in fault_of n small before places are line x is a same fault wrong
+pub faulty : (n : ℕ) (before : List Line) (places : List (Option ℕ)) (head : Head) (targets set : List ℕ) (fault : PgFault) (old new : Option (List ℕ))
+    → n < MOST_VERTICES → ArePlaces n before places → IfKnown old new (PassesVertex targets (Some head)) → set ≡ set_of targets
+    → IsFirstFault n places (line_of head set) fault → IfSome old (λ text. LineFault n before (stream.line_of text) fault)
+faulty n before places head targets set fault None new small are found made wrong = tt
+faulty n before places head targets set fault (Some text) None small are found made wrong = absurd found
+faulty n before places head targets set fault (Some text) (Some left) small are (numbers, found, same, after) made wrong =
+    let (x, is, e) = line_gives (stream.line_of text) (line_of head numbers) found in
+    fault_of n small before places are (stream.line_of text) x is (line_of head numbers) e fault
+    (fault_set n places head numbers set (made ∙ same) fault wrong)
+
+near_all : (n : ℕ) (ts : List ℕ) → has_far n ts ≡ false → AllByRecursion (λ t. t ≤ n) ts
+near_all n [] h = tt
+near_all n (t ∷ ts) h = let both = or_false (nat_lt n t) (has_far n ts) h in (ltb-false n t both.0, near_all n ts both.1)
+
+-- what is sound with a set is within the limits as it stands
+within_set : (n : ℕ) (places : List (Option ℕ)) (head : Head) (numbers set : List ℕ) → set ≡ set_of numbers → IsSound n places (line_of head set)
+    → IsWithin n (line_of head numbers)
+within_set n places head numbers set made h = record {
+  id = h.id;
+  some = λ e. h.some (made ∙ ap set_of e);
+  successors = near_all n numbers (sym (far_set n numbers) ∙ ap (has_far n) (sym made) ∙ h.near);
+  priority = h.priority;
+}
+
+-- what is found within the limits stands on the line as it was found
+uncapped : (n : ℕ) (line : List ℕ) (head : Head) (numbers : List ℕ) → n < MOST_VERTICES → line_at line ≡ Some (line_of head numbers)
+    → IsWithin n (line_of head numbers) → has_far n numbers ≡ false → IsLine line (line_of head numbers)
+uncapped n line head numbers small found within near =
+    let (x, is, e) = line_gives line (line_of head numbers) found in
+    let id : head.id ≡ capped x.id = ap (λ (l : Line). l.id) e in
+    let priority : head.priority ≡ capped x.priority = ap (λ (l : Line). l.priority) e in
+    let successors : numbers ≡ map capped x.successors = ap (λ (l : Line). l.successors) e in
+    let all = near_same n x.successors small (ap (has_far n) (sym successors) ∙ near) in
+    let id_same : x.id ≡ head.id = omega (arith, within.id) in
+    let priority_same : x.priority ≡ head.priority = omega (arith, within.priority) in
+    let owner_same : x.owner ≡ head.owner = ap (λ (l : Line). l.owner) (sym e) in
+    let successors_same : x.successors ≡ numbers = sym all.0 ∙ sym successors in
+    let same : x ≡ line_of head numbers = λ i. record { id = id_same i; priority = priority_same i; owner = owner_same i; successors = successors_same i } in
+    subst (IsLine line) same is
 
 -- what the line says is sound
-pub sound : (n : ℕ) (places : List (Option ℕ)) (line : List ℕ) (head : Head) (targets set : List ℕ) → n < MOST_VERTICES
-    → line_at line ≡ Some (line_of head targets) → IsSound n places (line_of head targets) → set ≡ set_of targets → Says n places line head set
-sound n places line head targets set small found h made =
-    let (x, is, same) = line_gives line (line_of head targets) found in
-    let id : head.id ≡ capped x.id = ap (λ (l : Line). l.id) same in
-    let priority : head.priority ≡ capped x.priority = ap (λ (l : Line). l.priority) same in
-    let successors : targets ≡ map capped x.successors = ap (λ (l : Line). l.successors) same in
-    let near = near_same n x.successors small (ap (has_far n) (sym successors) ∙ h.near) in
-    let id_same : head.id ≡ x.id = omega (arith, h.id) in
+pub sound : (n : ℕ) (places : List (Option ℕ)) (head : Head) (targets set : List ℕ) (old new : Option (List ℕ)) → n < MOST_VERTICES
+    → IfKnown old new (PassesVertex targets (Some head)) → set ≡ set_of targets → IsSound n places (line_of head set) → Says n places old new head set
+sound n places head targets set None new small found made h = record {
+  successors = targets;
+  within = within_set n places head targets set made h;
+  new_id = h.new;
+  set = made;
+  is = tt;
+}
+sound n places head targets set (Some text) None small found made h = absurd found
+sound n places head targets set (Some text) (Some left) small (numbers, found, same, after) made h =
+    let within = within_set n places head numbers set (made ∙ same) h in
+    let near : has_far n numbers ≡ false = sym (far_set n numbers) ∙ ap (has_far n) (sym (made ∙ same)) ∙ h.near in
     record {
-      x = x;
-      is = is;
-      within = record {
-        id = omega (arith, h.id);
-        some = λ e. h.some (successors ∙ ap (map capped) e);
-        successors = near.1;
-        priority = omega (arith, h.priority);
-      };
-      new = subst (λ v. slice_index_or places v None ≡ None) id_same h.new;
-      id = id_same;
-      priority = omega (arith, h.priority);
-      owner = ap (λ (l : Line). l.owner) same;
-      set = made ∙ ap set_of (successors ∙ near.0);
+      successors = numbers;
+      within = within;
+      new_id = h.new;
+      set = made ∙ same;
+      is = (uncapped n (stream.line_of text) head numbers small found within near, after);
     }

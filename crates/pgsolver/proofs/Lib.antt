@@ -2,6 +2,9 @@ pub mod Lines
 pub mod Adding
 pub mod Scanning
 pub mod Sets
+pub mod Same
+pub mod Passing
+pub mod AtHand
 pub mod Placing
 pub mod Judging
 pub mod Reading
@@ -10,3 +13,4 @@ pub mod Unique
 pub mod Canonical
 pub mod Faults
 pub mod Whole
+pub mod Decided

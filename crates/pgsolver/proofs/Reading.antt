@@ -8,7 +8,9 @@ use Rattle.std.proofs.lemmas.List.{length-append, length-map, length-set, map-ap
 use Rattle.std.proofs.lemmas.List.Quantifiers.{all_pairs_push}
 use Rattle.std.proofs.lemmas.Option.{slice_get_within, slice_get-get_or}
 use Rattle.text.specs.Text.{lines}
-use Rattle.text.specs.Lines.{IfKnown, TakesLine}
+use Rattle.text.specs.Lines.{IfKnown}
+use Rattle.text.specs.Stream as stream
+use Rattle.text.specs.Stream.{below, HasLine}
 use Rattle.lts.specs.Left.{HasNoLine}
 use Rattle.lts.proofs.Gathering.{all_append}
 use Rattle.systems.proofs.Ordered.{Has, Has-from_Contains, Contains-from_Has, all_has}
@@ -22,39 +24,13 @@ use Rattle.pgsolver.specs.declared.error.PgError.TheVariants.{Fault, Read, Memor
 use Rattle.pgsolver.specs.declared.scan.Head.{Head}
 use Rattle.pgsolver.specs.Spelling.{Line, IsLine, IsWithin, AreGood, vertex_of}
 use Rattle.pgsolver.specs.Fault.{LineFault}
-use Rattle.pgsolver.specs.Scan.{line_at}
-use Rattle.pgsolver.specs.Left.{HasRestFault, IsCut, IsPlace, ArePlaces, SoFar, AreAll, AreFilled, Says, TellsFault, Refuses}
+use Rattle.pgsolver.specs.Scan.{line_of}
+use Rattle.pgsolver.specs.Passes.{PassesVertex}
+use Rattle.pgsolver.specs.Left.{HasRestFault, BeginsWithLines, TakesRow, IsPlace, ArePlaces, SoFar, AreAll, AreFilled, Says, TellsFault, Refuses}
 use Rattle.pgsolver.proofs.Scanning.{line_gives}
-use Rattle.pgsolver.proofs.Judging.{bad_line}
+use Rattle.pgsolver.proofs.Judging.{no_shape}
 use Rattle.pgsolver.proofs.Placing.{has_at, has_end, at_left, at_end, each_there}
 use Rattle.pgsolver.proofs.Sets.{set_up, set_all, set_some, up_few, ascending_up}
-
-cut_more : (old mid new : Option (List ℕ)) (done : List (List ℕ)) (line : List ℕ) → IfKnown old mid (IsCut done) → TakesLine mid new true line
-    → IfKnown old new (IsCut (done ++ line ∷ []))
-cut_more None mid new done line cut taken = tt
-cut_more (Some text) None new done line cut taken = absurd cut
-cut_more (Some text) (Some left) None done line cut taken = absurd taken
-cut_more (Some text) (Some left) (Some rest) done line cut taken = cut ∙ ap (λ l. done ++ l) taken ∙ sym (append_assoc done (line ∷ []) (lines rest))
-
--- ---- no line yet
-
-pub nothing_yet : (n : ℕ) (old : Option (List ℕ)) (vertices : List Vertex) (places : List (Option ℕ)) → vertices ≡ [] → length places ≡ n + 1
-    → ((v : ℕ) → slice_index_or places v None ≡ None) → SoFar n 0 old old vertices places
-nothing_yet n old vertices places none count empty = record {
-  done = [];
-  spelled = [];
-  good_lines = record { each = tt; within = tt; once = λ i j d less below. absurd (omega arith) };
-  count = refl;
-  cut = start old;
-  kept = none;
-  placed = record { count = count; each = λ v low. subst (IsPlace [] v) (sym (empty v)) (λ x there _. Has-from_Contains [] x there) };
-}
-  where
-    start : (old : Option (List ℕ)) → IfKnown old old (IsCut [])
-    start None = tt
-    start (Some text) = refl
-
--- ---- one more line
 
 zip_more : (done : List (List ℕ)) (spelled : List Line) (line : List ℕ) (x : Line) → AllZip IsLine done spelled → IsLine line x
     → AllZip IsLine (done ++ line ∷ []) (spelled ++ x ∷ [])
@@ -68,6 +44,40 @@ zip_length [] [] each = refl
 zip_length [] (y ∷ spelled) each = absurd each
 zip_length (l ∷ done) [] each = absurd each
 zip_length (l ∷ done) (y ∷ spelled) each = omega (arith, zip_length done spelled each.1)
+
+-- the lines of a text begin with the one that is next
+cut_more : (old a mid new : Option (List ℕ)) (spelled : List Line) (x : Line) → IfKnown old a (BeginsWithLines spelled) → HasLine a mid true
+    → IfKnown mid new (TakesRow x) → IfKnown old new (BeginsWithLines (spelled ++ x ∷ []))
+cut_more None a mid new spelled x cut has taken = tt
+cut_more (Some text) None mid new spelled x cut has taken = absurd cut
+cut_more (Some text) (Some left) None new spelled x cut has taken = absurd has
+cut_more (Some text) (Some left) (Some same) None spelled x cut has taken = absurd taken
+cut_more (Some text) (Some left) (Some same) (Some rest) spelled x (done, cut, each) (kept, more) (is, after) = (
+  done ++ stream.line_of left ∷ [],
+  cut ∙ ap (λ l. done ++ l) (more ∙ ap (λ t. stream.line_of left ∷ lines t) (sym (after ∙ ap below kept)))
+      ∙ sym (append_assoc done (stream.line_of left ∷ []) (lines rest)),
+  zip_more done spelled (stream.line_of left) x each (subst (λ t. IsLine (stream.line_of t) x) kept is),
+)
+
+-- ---- no line yet
+
+pub nothing_yet : (n : ℕ) (old : Option (List ℕ)) (vertices : List Vertex) (places : List (Option ℕ)) → vertices ≡ [] → length places ≡ n + 1
+    → ((v : ℕ) → slice_index_or places v None ≡ None) → SoFar n 0 old old vertices places
+nothing_yet n old vertices places none count empty = record {
+  spelled = [];
+  within = tt;
+  once = λ i j d less below. absurd (omega arith);
+  count = refl;
+  cut = start old;
+  kept = none;
+  placed = record { count = count; each = λ v low. subst (IsPlace [] v) (sym (empty v)) (λ x there _. Has-from_Contains [] x there) };
+}
+  where
+    start : (old : Option (List ℕ)) → IfKnown old old (BeginsWithLines [])
+    start None = tt
+    start (Some text) = ([], refl, tt)
+
+-- ---- one more line
 
 place_more : (spelled : List Line) (x : Line) (v : ℕ) (o : Option ℕ) → IsPlace spelled v o → (x.id ≡ v → ⊥) → IsPlace (spelled ++ x ∷ []) v o
 place_more spelled x v None none other = λ y there same.
@@ -105,110 +115,116 @@ places_more n good spelled places new x id are count same low made = record {
       ] refl);
 }
 
-pub row_more : (n good : ℕ) (old mid new : Option (List ℕ)) (vertices vertices' : List Vertex) (places places' : List (Option ℕ)) (line : List ℕ)
-    (head : Head) (targets : List ℕ) → SoFar n good old mid vertices places → TakesLine mid new true line
-    → Says n places line head targets → vertices' ≡ vertices ++ record { owner = head.owner; priority = head.priority; successors = targets } ∷ []
+pub row_more : (n good : ℕ) (old a mid new : Option (List ℕ)) (vertices vertices' : List Vertex) (places places' : List (Option ℕ))
+    (head : Head) (targets : List ℕ) → SoFar n good old a vertices places → HasLine a mid true
+    → Says n places mid new head targets → vertices' ≡ vertices ++ record { owner = head.owner; priority = head.priority; successors = targets } ∷ []
     → places' ≡ slice_set places head.id (Some good) → SoFar n (good + 1) old new vertices' places'
-row_more n good old mid new vertices vertices' places places' line head targets so taken says added put =
-    let x = says.x in
-    let many : length so.spelled ≡ good = zip_length so.done so.spelled so.good_lines.each ∙ so.count in
+row_more n good old a mid new vertices vertices' places places' head targets so has says added put =
+    let x = line_of head says.successors in
     let made : record { owner = head.owner; priority = head.priority; successors = targets }
-    ≡ vertex_of x = λ i. record { owner = says.owner i; priority = says.priority i; successors = says.set i } in
+    ≡ vertex_of x = λ i. record { owner = head.owner; priority = head.priority; successors = says.set i } in
     record {
-      done = so.done ++ line ∷ [];
       spelled = so.spelled ++ x ∷ [];
-      good_lines = record {
-        each = zip_more so.done so.spelled line x so.good_lines.each says.is;
-        within = all_append (IsWithin n) so.spelled (x ∷ []) so.good_lines.within (says.within, tt);
-        once = all_pairs_push (λ x y. x.id ≢ y.id) so.spelled x so.good_lines.once
-            (no_line_before so.spelled x (slice_index_or places x.id None) says.new (so.placed.each x.id says.within.id));
-      };
-      count = omega (arith, length-append so.done (line ∷ []), so.count);
-      cut = cut_more old mid new so.done line so.cut taken;
+      within = all_append (IsWithin n) so.spelled (x ∷ []) so.within (says.within, tt);
+      once = all_pairs_push (λ x y. x.id ≢ y.id) so.spelled x so.once
+          (no_line_before so.spelled x (slice_index_or places x.id None) says.new_id (so.placed.each x.id says.within.id));
+      count = omega (arith, length-append so.spelled (x ∷ []), so.count);
+      cut = cut_more old a mid new so.spelled x so.cut has says.is;
       kept = added ∙ (λ i. so.kept i ++ made i ∷ []) ∙ sym (map-append vertex_of so.spelled (x ∷ []));
-      placed = places_more n good so.spelled places places' x head.id so.placed many says.id says.within.id put;
+      placed = places_more n good so.spelled places places' x head.id so.placed so.count refl says.within.id put;
     }
 
 -- successors up to n are no more than there are vertices
-pub few_targets : (n : ℕ) (places : List (Option ℕ)) (line : List ℕ) (head : Head) (targets : List ℕ) → n < MOST_VERTICES → Says n places line head targets
-    → length targets ≤ MOST_VERTICES
-few_targets n places line head targets small says =
+pub few_targets : (n : ℕ) (places : List (Option ℕ)) (old new : Option (List ℕ)) (head : Head) (targets : List ℕ) → n < MOST_VERTICES
+    → Says n places old new head targets → length targets ≤ MOST_VERTICES
+few_targets n places old new head targets small says =
     omega (
       arith,
       ap length says.set,
-      up_few n 0 (set_of says.x.successors) (omega arith) (set_up says.x.successors)
-          (set_all (λ t. t ≤ n) says.x.successors says.within.successors),
+      up_few n 0 (set_of says.successors) (omega arith) (set_up says.successors)
+          (set_all (λ t. t ≤ n) says.successors says.within.successors),
     )
 
 -- ---- a fault
 
+-- the good lines so far, and those that follow
+record Front (n good : ℕ) (text left : List ℕ) (spelled : List Line) : Type 0 where
+  done : List (List ℕ)
+  cut : lines text ≡ done ++ lines left
+  goods : AreGood n done spelled
+  count : length done ≡ good
+
+front_of : (n good : ℕ) (text left : List ℕ) (vertices : List Vertex) (places : List (Option ℕ)) (so : SoFar n good (Some text) (Some left) vertices places)
+    → Front n good text left so.spelled
+front_of n good text left vertices places so =
+    let (done, cut, each) = so.cut in
+    record { done = done; cut = cut; goods = record { each = each; within = so.within; once = so.once }; count = sym (zip_length done so.spelled each) ∙ so.count }
+
 -- the lines end too soon
-pub too_few : (n good p : ℕ) → p ≡ good → (old mid new : Option (List ℕ)) (vertices : List Vertex) (places : List (Option ℕ)) (line : List ℕ)
-    → SoFar n good old mid vertices places → TakesLine mid new false line → good ≤ n
-    → IfSome old (λ text. HasRestFault n text BadIdentifier (p + 2))
-too_few n good p at None mid new vertices places line so none few = tt
-too_few n good p at (Some text) None new vertices places line so none few = absurd so.cut
-too_few n good p at (Some text) (Some left) None vertices places line so none few = absurd none
-too_few n good p at (Some text) (Some left) (Some rest) vertices places line so none few =
-    let whole : lines text ≡ so.done = so.cut ∙ ap (λ l. so.done ++ l) none ∙ append-nil so.done in (
+pub too_few : (n good p : ℕ) → p ≡ good → (old mid new : Option (List ℕ)) (vertices : List Vertex) (places : List (Option ℕ))
+    → SoFar n good old mid vertices places → HasLine mid new false → good ≤ n → IfSome old (λ text. HasRestFault n text BadIdentifier (p + 2))
+too_few n good p at None mid new vertices places so none few = tt
+too_few n good p at (Some text) None new vertices places so none few = absurd so.cut
+too_few n good p at (Some text) (Some left) None vertices places so none few = absurd none
+too_few n good p at (Some text) (Some left) (Some rest) vertices places so none few =
+    let front = front_of n good text left vertices places so in
+    let whole : lines text ≡ front.done = front.cut ∙ ap (λ l. front.done ++ l) none.1 ∙ append-nil front.done in (
       good,
       inr (
           record {
             spelled = so.spelled;
-            good_lines = subst (λ l. AreGood n l so.spelled) (sym whole) so.good_lines;
-            few = omega (arith, ap length whole, so.count);
-            count = ap length whole ∙ so.count;
+            good_lines = subst (λ l. AreGood n l so.spelled) (sym whole) front.goods;
+            few = omega (arith, ap length whole, front.count);
+            count = ap length whole ∙ front.count;
           }
           ),
       ap (λ k. k + 2) at,
     )
 
-bad_text : (n good p : ℕ) → p ≡ good + 2 → (text left rest : List ℕ) (vertices : List Vertex) (places : List (Option ℕ)) (line : List ℕ) (fault : PgFault)
-    (so : SoFar n good (Some text) (Some left) vertices places) → TakesLine (Some left) (Some rest) true line
-    → LineFault n so.spelled line fault → HasRestFault n text fault p
-bad_text n good p at text left rest vertices places line BadIdentifier so more wrong = (
+bad_text : (n good p : ℕ) → p ≡ good + 2 → (text left line : List ℕ) (rest : List (List ℕ)) (spelled : List Line) (fault : PgFault)
+    → Front n good text left spelled → lines left ≡ line ∷ rest → LineFault n spelled line fault → HasRestFault n text fault p
+bad_text n good p at text left line rest spelled BadIdentifier front more wrong = (
   good,
   inl (record {
-    front = so.done;
+    front = front.done;
     line = line;
-    back = lines rest;
-    before = so.spelled;
-    cut = so.cut
-        ∙ ap (λ l. so.done ++ l) more;
-    good_lines = so.good_lines;
-    count = so.count;
+    back = rest;
+    before = spelled;
+    cut = front.cut ∙ ap (λ l. front.done ++ l) more;
+    good_lines = front.goods;
+    count = front.count;
     wrong = wrong;
   }),
   at,
 )
-bad_text n good p at text left rest vertices places line _ so more wrong = (
+bad_text n good p at text left line rest spelled _ front more wrong = (
   good,
   record {
-    front = so.done;
+    front = front.done;
     line = line;
-    back = lines rest;
-    before = so.spelled;
-    cut = so.cut
-        ∙ ap (λ l. so.done ++ l) more;
-    good_lines = so.good_lines;
-    count = so.count;
+    back = rest;
+    before = spelled;
+    cut = front.cut ∙ ap (λ l. front.done ++ l) more;
+    good_lines = front.goods;
+    count = front.count;
     wrong = wrong;
   },
   at,
 )
 
 -- the line is faulty
-pub bad_row : (n good p : ℕ) → p ≡ good + 2 → (old mid new : Option (List ℕ)) (vertices : List Vertex) (places : List (Option ℕ)) (line : List ℕ)
-    (e : PgError) → SoFar n good old mid vertices places → TakesLine mid new true line
-    → ((before : List Line) → ArePlaces n before places → TellsFault n before line p e) → Refuses old (HasRestFault n) e
-bad_row n good p at None mid new vertices places line e so more tells = tt
-bad_row n good p at (Some text) None new vertices places line e so more tells = absurd so.cut
-bad_row n good p at (Some text) (Some left) None vertices places line e so more tells = absurd more
-bad_row n good p at (Some text) (Some left) (Some rest) vertices places line Read so more tells = tt
-bad_row n good p at (Some text) (Some left) (Some rest) vertices places line Memory so more tells = tt
-bad_row n good p at (Some text) (Some left) (Some rest) vertices places line (Fault fault l) so more tells =
-    let (wrong, same) = tells so.spelled so.placed in
-    bad_text n good l (same ∙ at) text left rest vertices places line fault so more wrong
+pub bad_row : (n good p : ℕ) → p ≡ good + 2 → (old a mid : Option (List ℕ)) (vertices : List Vertex) (places : List (Option ℕ))
+    (e : PgError) → SoFar n good old a vertices places → HasLine a mid true
+    → ((before : List Line) → ArePlaces n before places → TellsFault n before mid p e) → Refuses old (HasRestFault n) e
+bad_row n good p at None a mid vertices places e so more tells = tt
+bad_row n good p at (Some text) None mid vertices places e so more tells = absurd so.cut
+bad_row n good p at (Some text) (Some left) None vertices places e so more tells = absurd more
+bad_row n good p at (Some text) (Some left) (Some same) vertices places Read so more tells = tt
+bad_row n good p at (Some text) (Some left) (Some same) vertices places Memory so more tells = tt
+bad_row n good p at (Some text) (Some left) (Some same) vertices places (Fault fault l) so (kept, more) tells =
+    let (wrong, here) = tells so.spelled so.placed in
+    bad_text n good l (here ∙ at) text left (stream.line_of left) (lines (below left)) so.spelled fault (front_of n good text left vertices places so) more
+    (subst (λ t. LineFault n so.spelled (stream.line_of t) fault) kept wrong)
 
 within_id : (n : ℕ) (spelled : List Line) → AllByRecursion (IsWithin n) spelled → (x : Line) → Has spelled x → x.id ≤ n
 within_id n spelled within x there = (all_has (IsWithin n) spelled x within there).id
@@ -217,34 +233,45 @@ within_id n spelled within x there = (all_has (IsWithin n) spelled x within ther
 past_shape : (n : ℕ) (old now : Option (List ℕ)) (vertices : List Vertex) (places : List (Option ℕ)) (line : List ℕ) (x : Line)
     → (so : SoFar n (n + 1) old now vertices places) → IsLine line x → LineFault n so.spelled line BadIdentifier
 past_shape n old now vertices places line x so is =
-    let count : length so.spelled ≡ n + 1 = zip_length so.done so.spelled so.good_lines.each ∙ so.count in
     elim (cases_lt n x.id) [
       | inl high ↦ (x, is, inl high)
       | inr low ↦
-          let (y, there, same) = each_there n x.id so.spelled so.good_lines.once (within_id n so.spelled so.good_lines.within) count low in
+          let (y, there, same) = each_there n x.id so.spelled so.once (within_id n so.spelled so.within) so.count low in
           (x, is, inr (y, Contains-from_Has so.spelled y there, same))
     ]
 
-pub past_end : (n p : ℕ) → p ≡ n + 3 → (old mid new : Option (List ℕ)) (vertices : List Vertex) (places : List (Option ℕ)) (line : List ℕ) (fault : PgFault)
-    → SoFar n (n + 1) old mid vertices places → TakesLine mid new true line
-    → ((so : SoFar n (n + 1) old mid vertices places) → LineFault n so.spelled line fault) → IfSome old (λ text. HasRestFault n text fault p)
-past_end n p at None mid new vertices places line fault so more wrong = tt
-past_end n p at (Some text) None new vertices places line fault so more wrong = absurd so.cut
-past_end n p at (Some text) (Some left) None vertices places line fault so more wrong = absurd more
-past_end n p at (Some text) (Some left) (Some rest) vertices places line fault so more wrong = bad_text n (n + 1) p
-    (omega arith) text left rest vertices places line fault so more (wrong so)
+past_end : (n p : ℕ) → p ≡ n + 3 → (old a mid : Option (List ℕ)) (vertices : List Vertex) (places : List (Option ℕ)) (fault : PgFault)
+    → SoFar n (n + 1) old a vertices places → HasLine a mid true
+    → ((so : SoFar n (n + 1) old a vertices places) → IfSome mid (λ text. LineFault n so.spelled (stream.line_of text) fault))
+    → IfSome old (λ text. HasRestFault n text fault p)
+past_end n p at None a mid vertices places fault so more wrong = tt
+past_end n p at (Some text) None mid vertices places fault so more wrong = absurd so.cut
+past_end n p at (Some text) (Some left) None vertices places fault so more wrong = absurd more
+past_end n p at (Some text) (Some left) (Some same) vertices places fault so (kept, more) wrong =
+    bad_text n (n + 1) p (omega arith) text left (stream.line_of left) (lines (below left)) so.spelled fault (front_of n (n + 1) text left vertices places so) more
+    (subst (λ t. LineFault n so.spelled (stream.line_of t) fault) kept (wrong so))
 
-pub past_bad : (n p : ℕ) → p ≡ n + 3 → (old mid new : Option (List ℕ)) (vertices : List Vertex) (places : List (Option ℕ)) (line : List ℕ)
-    → SoFar n (n + 1) old mid vertices places → TakesLine mid new true line → line_at line ≡ None
+pub past_bad : (n p : ℕ) → p ≡ n + 3 → (old a mid new : Option (List ℕ)) (vertices : List Vertex) (places : List (Option ℕ)) (targets : List ℕ)
+    → SoFar n (n + 1) old a vertices places → HasLine a mid true → IfKnown mid new (PassesVertex targets None)
     → IfSome old (λ text. HasRestFault n text BadLine p)
-past_bad n p at old mid new vertices places line so more none = past_end n p at old mid new vertices places line BadLine so more (λ _. bad_line line none)
+past_bad n p at old a mid new vertices places targets so more none =
+    past_end n p at old a mid vertices places BadLine so more (λ so. no_shape n so.spelled targets mid new none)
 
-pub past_all : (n p : ℕ) → p ≡ n + 3 → (old mid new : Option (List ℕ)) (vertices : List Vertex) (places : List (Option ℕ)) (line : List ℕ) (a : Line)
-    → SoFar n (n + 1) old mid vertices places → TakesLine mid new true line → line_at line ≡ Some a
+-- a vertex line is one too many
+one_more : (n : ℕ) (old a : Option (List ℕ)) (vertices : List Vertex) (places : List (Option ℕ)) (head : Head) (targets : List ℕ) (mid new : Option (List ℕ))
+    → IfKnown mid new (PassesVertex targets (Some head)) → (so : SoFar n (n + 1) old a vertices places)
+    → IfSome mid (λ text. LineFault n so.spelled (stream.line_of text) BadIdentifier)
+one_more n old a vertices places head targets None new found so = tt
+one_more n old a vertices places head targets (Some text) None found so = absurd found
+one_more n old a vertices places head targets (Some text) (Some left) (numbers, found, same, after) so =
+    let (x, is, e) = line_gives (stream.line_of text) (line_of head numbers) found in
+    past_shape n old a vertices places (stream.line_of text) x so is
+
+pub past_all : (n p : ℕ) → p ≡ n + 3 → (old a mid new : Option (List ℕ)) (vertices : List Vertex) (places : List (Option ℕ)) (head : Head)
+    (targets : List ℕ) → SoFar n (n + 1) old a vertices places → HasLine a mid true → IfKnown mid new (PassesVertex targets (Some head))
     → IfSome old (λ text. HasRestFault n text BadIdentifier p)
-past_all n p at old mid new vertices places line a so more found =
-    let (x, is, same) = line_gives line a found in
-    past_end n p at old mid new vertices places line BadIdentifier so more (λ so. past_shape n old mid vertices places line x so is)
+past_all n p at old a mid new vertices places head targets so more found =
+    past_end n p at old a mid vertices places BadIdentifier so more (one_more n old a vertices places head targets mid new found)
 
 -- ---- all lines
 
@@ -254,18 +281,19 @@ all_rows n good all None mid new vertices places so none = tt
 all_rows n good all (Some text) None new vertices places so none = absurd so.cut
 all_rows n good all (Some text) (Some left) None vertices places so none = absurd none
 all_rows n good all (Some text) (Some left) (Some rest) vertices places so none =
-    let whole : lines text ≡ so.done = so.cut ∙ ap (λ l. so.done ++ l) none ∙ append-nil so.done in
+    let front = front_of n good text left vertices places so in
+    let whole : lines text ≡ front.done = front.cut ∙ ap (λ l. front.done ++ l) none ∙ append-nil front.done in
     record {
       spelled = so.spelled;
-      good_lines = subst (λ l. AreGood n l so.spelled) (sym whole) so.good_lines;
-      count = ap length whole ∙ so.count ∙ all;
+      good_lines = subst (λ l. AreGood n l so.spelled) (sym whole) front.goods;
+      count = ap length whole ∙ front.count ∙ all;
       kept = so.kept;
       placed = so.placed;
     }
 
 pub row_count : (n good : ℕ) (old now : Option (List ℕ)) (vertices : List Vertex) (places : List (Option ℕ)) → SoFar n good old now vertices places
     → length vertices ≡ good
-row_count n good old now vertices places so = ap length so.kept ∙ length-map so.spelled vertex_of ∙ zip_length so.done so.spelled so.good_lines.each ∙ so.count
+row_count n good old now vertices places so = ap length so.kept ∙ length-map so.spelled vertex_of ∙ so.count
 
 fit : (n m : ℕ) (x : Line) → m ≡ n + 1 → IsWithin n x → IsVertex m (vertex_of x)
 fit n m x is h = record {
@@ -295,7 +323,7 @@ read_game_is n good all small old now vertices places so =
     record {
       some = omega (arith, count, all);
       limit = omega (arith, count);
-      vertices = subst (AllByRecursion (IsVertex (length vertices))) (sym so.kept) (fits n (length vertices) so.spelled (count ∙ all) so.good_lines.within);
+      vertices = subst (AllByRecursion (IsVertex (length vertices))) (sym so.kept) (fits n (length vertices) so.spelled (count ∙ all) so.within);
       named = λ states nodes e. cc;
     }
 
@@ -303,10 +331,10 @@ read_game_is n good all small old now vertices places so =
 pub all_filled : (n good : ℕ) → good ≡ n + 1 → (old now : Option (List ℕ)) (vertices : List Vertex) (places : List (Option ℕ))
     → SoFar n good old now vertices places → AreFilled (length vertices) places
 all_filled n good all old now vertices places so v below =
-    let count : length so.spelled ≡ n + 1 = zip_length so.done so.spelled so.good_lines.each ∙ so.count ∙ all in
+    let count : length so.spelled ≡ n + 1 = so.count ∙ all in
     let low : v ≤ n = omega (arith, so.placed.count) in
     let many : length vertices ≡ length so.spelled = ap length so.kept ∙ length-map so.spelled vertex_of in
-    let (x, there, same) = each_there n v so.spelled so.good_lines.once (within_id n so.spelled so.good_lines.within) count low in
+    let (x, there, same) = each_there n v so.spelled so.once (within_id n so.spelled so.within) count low in
     elim (slice_index_or places v None) as (λ o. IsPlace so.spelled v o → (k : ℕ) × (o ≡ Some k) × (k < length vertices)) [
       | None ↦ λ none. absurd (none x (Contains-from_Has so.spelled x there) same)
       | (Some k) ↦ λ at. let (y, is, e) = at in (k, refl, omega (arith, many, slice_get_within so.spelled k y is))

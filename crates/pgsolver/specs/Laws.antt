@@ -1,5 +1,5 @@
 -- What holds of all texts of games.
-use Rattle.std.specs.Prelude.{◌≡◌, ℕ, ◌≤◌, List, length, None}
+use Rattle.std.specs.Prelude.{◌≡◌, ℕ, ◌≤◌, ◌⊎◌, List, length, None}
 use Rattle.normal.specs.declared.limits.TheConstants.{GREATEST_PRIORITY}
 use Rattle.game.specs.Game.{Game, IsGame, greatest}
 use Rattle.pgsolver.specs.Canon.{game_text}
@@ -18,6 +18,10 @@ NoFault = (text : List ℕ) (g : Game) (fault : PgFault) (line : ℕ) → IsGame
 -- A text has at most one deciding fault, at one line.
 abbrev pub OneFault : Type 0
 OneFault = (text : List ℕ) (f g : PgFault) (i j : ℕ) → HasFault text f i → HasFault text g j → (f ≡ g) × (i ≡ j)
+
+-- A text spells a game, or a fault decides.
+abbrev pub Decided : Type 0
+Decided = (text : List ℕ) → ((g : Game) × IsGameText text g) ⊎ ((fault : PgFault) × (line : ℕ) × HasFault text fault line)
 
 -- The canonical text of a game with some vertex and without a priority above 31 spells that game without its names.
 abbrev pub CanonSpells : Type 0

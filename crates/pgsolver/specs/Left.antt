@@ -1,7 +1,7 @@
 -- Why a call refused what a reader had left, and what stands there.
 use Rattle.std.specs.Prelude.{◌≡◌, ◌≢◌, ℕ, ◌+◌, ◌<◌, ◌≤◌, ◌⊎◌, Bool, true, false, List, [], ◌∷◌, ◌++◌, length, map, Option, Some, None, IfSome}
-use Rattle.std.specs.Prelude.{slice_index_or, slice_get, nat_lt, is_some, Contains}
-use Rattle.std.specs.List.{list_any}
+use Rattle.std.specs.Prelude.{slice_index_or, slice_get, nat_lt, is_some, Contains, AllPairs}
+use Rattle.std.specs.List.{list_any, AllZip, AllByRecursion}
 use Rattle.text.specs.Text.{lines}
 use Rattle.text.specs.Lines.{IfKnown}
 use Rattle.text.specs.declared.error.ReadFault.{ReadFault}
@@ -12,6 +12,9 @@ use Rattle.pgsolver.specs.declared.error.PgFault.{PgFault}
 use Rattle.pgsolver.specs.declared.error.PgFault.TheVariants.{BadIdentifier, BadSuccessor, PriorityTooGreat}
 use Rattle.pgsolver.specs.declared.error.PgError.{PgError}
 use Rattle.pgsolver.specs.declared.error.PgError.TheVariants.{Fault, Read, Memory}
+use Rattle.text.specs.Stream as stream
+use Rattle.text.specs.Stream.{below}
+use Rattle.pgsolver.specs.Scan.{line_of}
 use Rattle.pgsolver.specs.Spelling.{Line, IsHeader, IsLine, IsWithin, AreGood, vertex_of}
 use Rattle.pgsolver.specs.declared.scan.Head.{Head}
 use Rattle.game.specs.NumberSet.{set_of}
@@ -52,17 +55,17 @@ pub record ArePlaces (n : ℕ) (spelled : List Line) (places : List (Option ℕ)
   pub count : length places ≡ n + 1
   pub each : (v : ℕ) → v ≤ n → IsPlace spelled v (slice_index_or places v None)
 
--- the first lines are these, and the others are left
-abbrev pub IsCut : List (List ℕ) → List ℕ → List ℕ → Type 0
-IsCut done text left = lines text ≡ done ++ lines left
+-- the first lines say these, and the others are left
+abbrev pub BeginsWithLines : List Line → List ℕ → List ℕ → Type 0
+BeginsWithLines spelled text left = (done : List (List ℕ)) × (lines text ≡ done ++ lines left) × AllZip IsLine done spelled
 
--- the vertex lines that were read so far, so many and all of them good, and what they spell
+-- what the vertex lines that were read so far say: so many and all of them good
 pub record SoFar (n good : ℕ) (old now : Option (List ℕ)) (vertices : List Vertex) (places : List (Option ℕ)) : Type 0 where
-  pub done : List (List ℕ)
   pub spelled : List Line
-  pub good_lines : AreGood n done spelled
-  pub count : length done ≡ good
-  pub cut : IfKnown old now (IsCut done)
+  pub within : AllByRecursion (IsWithin n) spelled
+  pub once : AllPairs (λ x y. x.id ≢ y.id) spelled
+  pub count : length spelled ≡ good
+  pub cut : IfKnown old now (BeginsWithLines spelled)
   pub kept : vertices ≡ map vertex_of spelled
   pub placed : ArePlaces n spelled places
 
@@ -86,20 +89,21 @@ IsFirstFault n places x PriorityTooGreat = (x.id ≤ n) × (slice_index_or place
     × (GREATEST_PRIORITY < x.priority)
 IsFirstFault n places x _ = ⊥
 
--- the fault of a line that stands after these, and its place
-abbrev pub TellsFault : ℕ → List Line → List ℕ → ℕ → PgError → Type 0
-TellsFault n before line place e = IfSome (named e) (λ told. LineFault n before line told.0 × (told.1 ≡ place))
+-- the fault of the line that was next, which stands after these, and its place
+abbrev pub TellsFault : ℕ → List Line → Option (List ℕ) → ℕ → PgError → Type 0
+TellsFault n before old place e = IfSome old (λ text. IfSome (named e) (λ told. LineFault n before (stream.line_of text) told.0 × (told.1 ≡ place)))
 
--- The line says this within a game with the greatest identifier n, with an identifier that has no line yet.
-pub record Says (n : ℕ) (places : List (Option ℕ)) (line : List ℕ) (head : Head) (targets : List ℕ) : Type 0 where
-  pub x : Line
-  pub is : IsLine line x
-  pub within : IsWithin n x
-  pub new : slice_index_or places x.id None ≡ None
-  pub id : head.id ≡ x.id
-  pub priority : head.priority ≡ x.priority
-  pub owner : head.owner ≡ x.owner
-  pub set : targets ≡ set_of x.successors
+-- the line that was next says this, and is taken
+abbrev pub TakesRow : Line → List ℕ → List ℕ → Type 0
+TakesRow x text left = IsLine (stream.line_of text) x × (left ≡ below text)
+
+-- The line that was next says this within a game with the greatest identifier n, with an identifier that has no line yet.
+pub record Says (n : ℕ) (places : List (Option ℕ)) (old new : Option (List ℕ)) (head : Head) (targets : List ℕ) : Type 0 where
+  pub successors : List ℕ
+  pub within : IsWithin n (line_of head successors)
+  pub new_id : slice_index_or places head.id None ≡ None
+  pub set : targets ≡ set_of successors
+  pub is : IfKnown old new (TakesRow (line_of head successors))
 
 -- The lines are all that were announced.
 pub record AreAll (n : ℕ) (vertices : List Vertex) (places : List (Option ℕ)) (text left : List ℕ) : Type 0 where

@@ -2,5 +2,6 @@ pub mod Canon
 pub mod Spelling
 pub mod Fault
 pub mod Scan
+pub mod Passes
 pub mod Left
 pub mod Laws

@@ -33,6 +33,10 @@ number_gap line = do
   rest ← gap_at n.1
   Some (n.0, rest)
 
+-- the owner of a digit
+abbrev pub owner_of : ℕ → Option Player
+owner_of n = if n == 0 then Some Even else (if n == 1 then Some Odd else None)
+
 unfoldable pub owner_at : List ℕ → Option (Player × List ℕ)
 owner_at line = do
   n ← number_at line

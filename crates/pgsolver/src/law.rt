@@ -1,6 +1,6 @@
 // What holds of all texts of games.
 
-ghost use Rattle.pgsolver.specs.Laws.{OneGame, NoFault, OneFault, CanonSpells};
+ghost use Rattle.pgsolver.specs.Laws.{OneGame, NoFault, OneFault, Decided, CanonSpells};
 
 /// A text spells at most one game.
 pub fn one_game()
@@ -15,6 +15,11 @@ pub fn no_fault()
 /// A text has at most one deciding fault, at one line.
 pub fn one_fault()
     ensures { OneFault }
+{}
+
+/// A text spells a game, or a fault decides: with the laws above, one of the two and just one of its kind.
+pub fn decided()
+    ensures { Decided }
 {}
 
 /// The canonical text of a game spells the game without its names, and by `one_game` no other: what is written is read again.

@@ -1,12 +1,15 @@
 // The PGSolver text of a parity game, both ways.
 #![tactic(auto)]
 
+mod ahead;
 pub mod error;
+mod intake;
 pub mod law;
 pub mod limits;
 pub mod reader;
 mod rows;
 mod scan;
+mod tokens;
 pub mod writer;
 
 pub use error::{PgError, PgFault};

@@ -13,26 +13,25 @@ ghost use Rattle.lts.specs.Left.{HasNoLine};
 ghost use Rattle.pgsolver.specs.Left.{AreFilled, Refuses, BeginsWith, ArePlaces, SoFar, AreAll, Says, IsSound, IsFirstFault, TellsFault, HasRestFault, named};
 
 use crate::error::{PgError, PgFault};
+use crate::intake::vertex;
 use crate::rows::{Rows, make_set, put_in_order};
-use crate::scan::{Head, header, vertex_line};
+use crate::scan::Head;
+use crate::tokens::header;
 use game::graph::Game;
 use game::limits::MOST_VERTICES;
 use normal::limits::GREATEST_PRIORITY;
 use std::alloc::Global;
 use std::io::{BufRead, BufReader, Read};
-use text::lines::next_line;
+use text::stream::has_line;
 
 // Reads the header, and answers the greatest identifier.
-fn read_first<B: BufRead>(reader: &mut B, line: &mut Vec<u8>) -> Result<u32, PgError>
+fn read_first<B: BufRead>(reader: &mut B, kept: &mut Vec<u8>) -> Result<u32, PgError>
     ensures first { IfOk result (λ n. IfKnown (B.remaining reader.old) (B.remaining reader.new) (BeginsWith n)) }
     ensures within { IfOk result (λ n. n < MOST_VERTICES) }
     ensures fault { IfErr result (Refuses (B.remaining reader.old) HasFault) }
 {
-    let fault = PgFault::BadHeader;
-    if !next_line(reader, line)? {
-        return Err(PgError::Fault { fault, line: 1 });
-    }
-    let Some(last) = header(line) else {
+    let Some(last) = header(reader, kept)? else {
+        let fault = PgFault::BadHeader;
         return Err(PgError::Fault { fault, line: 1 });
     };
     if last as usize >= MOST_VERTICES {
@@ -66,9 +65,10 @@ fn first_fault(head: Head, targets: &[u32], last: u32, places: &[Option<u32>]) -
     }
 }
 
-// What the line says before its successors, which are put into the list as a set.
-fn good_line(
-    line: &[u8],
+// Reads the line that is next, and answers what it says before its successors, which are put into the list as a set.
+fn good_line<B: BufRead>(
+    reader: &mut B,
+    kept: &mut Vec<u8>,
     last: u32,
     place: u64,
     places: &[Option<u32>],
@@ -76,25 +76,26 @@ fn good_line(
 ) -> Result<Head, PgError>
     requires limit { last < MOST_VERTICES }
     requires places { length places.now ≡ last + 1 }
-    ensures good { IfOk result (λ head. Says last places.now line.now head targets.new.items) }
+    ensures good { IfOk result (λ head. Says last places.now (B.remaining reader.old) (B.remaining reader.new) head targets.new.items) }
     ensures few { OnOk result (vec_len targets.new ≤ MOST_VERTICES) }
-    ensures fault { IfErr result (λ e. (before : List Line) → ArePlaces last before places.now → TellsFault last before line.now place e) }
+    ensures fault { IfErr result (λ e. (before : List Line) → ArePlaces last before places.now
+        → TellsFault last before (B.remaining reader.old) place e) }
 {
-    let Some(head) = vertex_line(line, targets)? else {
+    let Some(head) = vertex(reader, kept, targets)? else {
         let fault = PgFault::BadLine;
         return Err(PgError::Fault { fault, line: place });
     };
-    if let Some(fault) = first_fault(head, targets, last, places) {
-        return Err(PgError::Fault { fault, line: place });
-    }
     make_set(targets);
-    Ok(head)
+    match first_fault(head, targets, last, places) {
+        None => Ok(head),
+        Some(fault) => Err(PgError::Fault { fault, line: place }),
+    }
 }
 
 // Reads the vertex line that comes after so many of them.
 fn read_row<B: BufRead>(
     reader: &mut B,
-    line: &mut Vec<u8>,
+    kept: &mut Vec<u8>,
     last: u32,
     good: u32,
     rows: &mut Rows,
@@ -111,18 +112,18 @@ fn read_row<B: BufRead>(
         → Refuses old (HasRestFault last) e) }
 {
     let place = u64::from(good) + 2;
-    if !next_line(reader, line)? {
+    if !has_line(reader)? {
         let fault = PgFault::BadIdentifier;
         return Err(PgError::Fault { fault, line: place });
     }
-    let head = good_line(line, last, place, &rows.places, &mut rows.targets)?;
+    let head = good_line(reader, kept, last, place, &rows.places, &mut rows.targets)?;
     Ok(rows.add(head, good)?)
 }
 
 // Reads on to the end of the text, where no line may stand: each identifier has one.
 fn read_end<B: BufRead>(
     reader: &mut B,
-    line: &mut Vec<u8>,
+    kept: &mut Vec<u8>,
     last: u32,
     targets: &mut Vec<u32>,
 ) -> Result<(), PgError>
@@ -130,11 +131,11 @@ fn read_end<B: BufRead>(
     ensures fault { IfErr result (λ e. (old : Option (List ℕ)) (vertices : List Vertex) (places : List (Option ℕ))
         → SoFar last (last + 1) old (B.remaining reader.old) vertices places → Refuses old (HasRestFault last) e) }
 {
-    if !next_line(reader, line)? {
+    if !has_line(reader)? {
         return Ok(());
     }
     let place = u64::from(last) + 3;
-    let Some(_) = vertex_line(line, targets)? else {
+    let Some(_) = vertex(reader, kept, targets)? else {
         let fault = PgFault::BadLine;
         return Err(PgError::Fault { fault, line: place });
     };
@@ -145,7 +146,7 @@ fn read_end<B: BufRead>(
 // Reads the vertex lines into rows that have none yet.
 fn read_rows<B: BufRead>(
     reader: &mut B,
-    line: &mut Vec<u8>,
+    kept: &mut Vec<u8>,
     last: u32,
     rows: &mut Rows,
 ) -> Result<(), PgError>
@@ -160,9 +161,9 @@ fn read_rows<B: BufRead>(
     ensures fault { IfErr result (Refuses (B.remaining reader.old) (HasRestFault last)) }
 {
     for good in 0..last + 1 {
-        read_row(reader, line, last, good, rows)?;
+        read_row(reader, kept, last, good, rows)?;
     }
-    read_end(reader, line, last, &mut rows.targets)
+    read_end(reader, kept, last, &mut rows.targets)
 }
 
 // Reads the whole text.
@@ -170,17 +171,18 @@ fn read_text<B: BufRead>(alloc: Global, reader: &mut B) -> Result<Game, PgError>
     ensures spelled { IfOk result (λ g. IfSome (B.remaining reader.old) (λ text. IsGameText text g)) }
     ensures fault { IfErr result (Refuses (B.remaining reader.old) HasFault) }
 {
-    let mut line = Vec::new(alloc);
-    let last = read_first(reader, &mut line)?;
+    let mut kept = Vec::new(alloc);
+    let last = read_first(reader, &mut kept)?;
     let mut rows = Rows::new(alloc, last)?;
-    read_rows(reader, &mut line, last, &mut rows)?;
+    read_rows(reader, &mut kept, last, &mut rows)?;
     let game = rows.vertices.into_game();
     Ok(put_in_order(alloc, game, &rows.places)?)
 }
 
 /// Reads a game in the format of PGSolver: its profile with a header, at most 16,777,216 vertices and priorities up to 31. The
-/// vertices of the game have no names, whatever the text says. Beside the game it keeps the line that it reads, and a number
-/// for each vertex; where the lines don't stand in order, the vertices once more.
+/// vertices of the game have no names, whatever the text says. It keeps no line: of the text there is a block of 8,192 bytes, the bytes of a name up to
+/// one more than a name may have, and the successors of a line, those that stand again and again a few times, beside the game that grows and a number for
+/// each vertex; where the lines don't stand in order, the vertices once more.
 ///
 /// # Errors
 /// The first faulty line decides. A text is also refused where a read fails, or for want of memory.

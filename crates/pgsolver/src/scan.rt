@@ -1,4 +1,4 @@
-// The two shapes of lines.
+// A vertex line that is at hand as a whole.
 
 ghost use Rattle.std.specs.Prelude.{◌≡◌, ◌+◌, length, option_map, IfOk};
 ghost use Rattle.std.specs.List.{list_all};
@@ -12,7 +12,7 @@ use crate::limits::LONGEST_NAME;
 use game::player::Player;
 use std::alloc::AllocError;
 use text::bytes::is_blank;
-use text::scan::{is_end, number, number_before, quoted, sign};
+use text::scan::{is_end, number, quoted, sign};
 
 /// What a vertex line says before its successors. A number that is too great for its type is read as the greatest one.
 #[derive(Clone, Copy)]
@@ -20,19 +20,6 @@ pub(crate) struct Head {
     pub id: u32,
     pub priority: u32,
     pub owner: Player,
-}
-
-/// The greatest identifier, if the line has the shape of a header.
-#[tactic(auto, unfolding(crate::specs::Scan::header_at, text::specs::Tokens::end_at))]
-pub(crate) fn header(line: &[u8]) -> Option<u32>
-    ensures { at.header_at line.now ≡ result }
-{
-    let rest = sign(line, b"parity")?;
-    let (greatest, rest) = number_before(rest, b";")?;
-    if !is_end(rest) {
-        return None;
-    }
-    Some(greatest)
 }
 
 // What follows the blank in front.
@@ -129,7 +116,8 @@ fn are_name_bytes(bytes: &[u8]) -> bool
         .all(|byte| 32 <= *byte && *byte <= 126 && *byte != 34)
 }
 
-fn is_name(bytes: &[u8]) -> bool
+/// Whether a name may be so.
+pub(crate) fn is_name(bytes: &[u8]) -> bool
     ensures { result ≡ spec.is_name bytes.now }
 {
     bytes.len() <= LONGEST_NAME && are_name_bytes(bytes)
