@@ -54,7 +54,7 @@ least_reaches g table game least u v at own t is =
 
 module _ (g : Game) (game : IsGame g) (e : Evidence) (is : IsEvenOf g e) where
   -- what an entry is
-  told : (v : ℕ) (x : Entry) → entry_at e v ≡ Some x → (value_at is.table v ≡ Counts x.rank)
+  pub told : (v : ℕ) (x : Entry) → entry_at e v ≡ Some x → (value_at is.table v ≡ Counts x.rank)
       × ((w : Vertex) → vertex g v ≡ Some w → IsBestMove g is.table w x.move)
   told v x here = elim (counts_or (value_at is.table v)) [
     | inl w ↦ (let q : None ≡ Some x = sym (is.outside v w) ∙ here in absurd cc)

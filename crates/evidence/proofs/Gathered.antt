@@ -53,14 +53,14 @@ cut_more (Some text) None new done line cut taken = absurd cut
 cut_more (Some text) (Some left) None done line cut taken = absurd taken
 cut_more (Some text) (Some left) (Some rest) done line cut taken = cut ∙ ap (λ l. done ++ l) taken ∙ sym (append_assoc done (line ∷ []) (pieces_of rest))
 
-each_more : (w : ℕ) (done : List (List ℕ)) (rows : List Row) (line : List ℕ) (x : Row) → AllZip (IsShaped w) done rows → IsShaped w line x
+pub each_more : (w : ℕ) (done : List (List ℕ)) (rows : List Row) (line : List ℕ) (x : Row) → AllZip (IsShaped w) done rows → IsShaped w line x
     → AllZip (IsShaped w) (done ++ line ∷ []) (rows ++ x ∷ [])
 each_more w [] [] line x each one = (one, tt)
 each_more w [] (b ∷ rows) line x each one = absurd each
 each_more w (l ∷ done) [] line x each one = absurd each
 each_more w (l ∷ done) (b ∷ rows) line x each one = (each.0, each_more w done rows line x each.1 one)
 
-all_more : (n : ℕ) (rows : List Row) (x : Row) → AllByRecursion (IsInside n) rows → IsInside n x → AllByRecursion (IsInside n) (rows ++ x ∷ [])
+pub all_more : (n : ℕ) (rows : List Row) (x : Row) → AllByRecursion (IsInside n) rows → IsInside n x → AllByRecursion (IsInside n) (rows ++ x ∷ [])
 all_more n [] x all one = (one, tt)
 all_more n (y ∷ rows) x all one = (all.0, all_more n rows x all.1 one)
 
@@ -95,7 +95,7 @@ filled_few (Some y ∷ entries) = omega (arith, filled_few entries, count_yes is
 pub few_good : (vertices width good : ℕ) (old now : Option (List ℕ)) (entries : Entries) → SoFar vertices width good old now entries → good ≤ vertices
 few_good vertices width good old now entries so = omega (arith, filled_few entries.entries, so.filled, so.long)
 
-same_more : (rows : List Row) (entries : List (Option Entry)) (x : Row) → AreOf rows entries → x.vertex < length entries
+pub same_more : (rows : List Row) (entries : List (Option Entry)) (x : Row) → AreOf rows entries → x.vertex < length entries
     → slice_index_or entries x.vertex None ≡ None → AreOf (rows ++ x ∷ []) (slice_set entries x.vertex (Some x.entry))
 same_more rows entries x same inside free v y = (to, from)
   where

@@ -24,3 +24,9 @@ pub mod Gathered
 pub mod Alone
 pub mod Whole
 pub mod Drafted
+pub mod Canonical
+pub mod Decided
+pub mod Shortened
+pub mod Lifted
+pub mod Shortening
+pub mod Taking

@@ -1,5 +1,6 @@
 -- What evidence proves.
-use Rattle.std.specs.Prelude.{◌≡◌, ℕ, ◌+◌, ◌<◌, ◌≤◌, ◌⊎◌, ◌↔◌, Bool, List, length, IsTrue}
+use Rattle.std.specs.Prelude.{◌≡◌, ℕ, ◌+◌, ◌<◌, ◌≤◌, ◌⊎◌, ◌↔◌, Bool, List, Some, length, IsTrue}
+use Rattle.std.specs.List.{AllByRecursion}
 use Rattle.systems.specs.System.{Arrow, System, IsSystem}
 use Rattle.calculus.specs.Tree.{Formula}
 use Rattle.calculus.specs.Admitted.{IsAdmitted}
@@ -11,9 +12,11 @@ use Rattle.game.specs.Arena.{arena, place}
 use Rattle.game.specs.declared.player.Player.TheVariants.{Even, Odd}
 use Rattle.game.specs.Game.{Game, IsGame, dual, greatest}
 use Rattle.game.specs.Wins.{OddWins, Wins, WinsBy}
+use Rattle.game.specs.declared.limits.TheConstants.{MOST_VERTICES}
 use Rattle.progress.specs.Measure.{Counts, Reaches}
 use Rattle.laws.specs.Admissible.{IsNodes}
-use Rattle.evidence.specs.Evidence.{Descends, Evidence, IsEvidence, IsGood, has}
+use Rattle.evidence.specs.Canon.{evidence_text}
+use Rattle.evidence.specs.Evidence.{Descends, Entry, Evidence, IsEvidence, IsGood, entry_at, has}
 use Rattle.evidence.specs.Best.{IsEvenOf, IsOddOf}
 use Rattle.evidence.specs.Verdict.{IsBoth, IsVerdict}
 use Rattle.evidence.specs.declared.verdict.Verdict.{Verdict}
@@ -21,6 +24,7 @@ use Rattle.evidence.specs.declared.verdict.Both.{Both}
 use Rattle.evidence.specs.Fault.{HasFault}
 use Rattle.evidence.specs.Spelling.{IsEvidenceText}
 use Rattle.evidence.specs.declared.error.EvidenceFault.{EvidenceFault}
+use Rattle.evidence.specs.declared.limits.TheConstants.{GREATEST_COUNT}
 use Rattle.evidence.specs.Witness.{HasAllArrows, IsClosedFor, IsPart, IsReached, Keeps, cut_to, part_of, witness}
 use Rattle.evidence.specs.declared.verdict.Both.TheVariants.{Yes}
 
@@ -135,3 +139,21 @@ NoFault = (g : Game) (text : List ℕ) (e : Evidence) (fault : EvidenceFault) (l
 
 abbrev pub OneFault : Type 0
 OneFault = (g : Game) (text : List ℕ) (a b : EvidenceFault) (i j : ℕ) → HasFault g text a i → HasFault g text b j → (a ≡ b) × (i ≡ j)
+
+-- No count of a rank is above the limit of the texts.
+abbrev pub IsSmall : Evidence → Type 0
+IsSmall e = (v : ℕ) (x : Entry) → entry_at e v ≡ Some x → AllByRecursion (λ k. k ≤ GREATEST_COUNT) x.rank
+
+-- The canonical text of evidence spells the evidence.
+abbrev pub CanonSpells : Type 0
+CanonSpells = (g : Game) (e : Evidence) → length g.vertices ≤ MOST_VERTICES → IsEvidence g e → IsSmall e → IsEvidenceText g (evidence_text e) e
+
+-- What is written of the least tables of a game with at least one vertex is read again, as what it is, and accepted.
+abbrev pub WrittenIsAccepted : Type 0
+WrittenIsAccepted =
+    (g : Game) (e f : Evidence) → IsGame g → greatest g ≤ GREATEST_PRIORITY → IsEvenOf g e → IsOddOf g f
+    → IsEvidenceText g (evidence_text e) e × IsEvidenceText g (evidence_text f) f × IsBoth g e f Yes
+
+-- A text spells evidence for a game, or a fault decides.
+abbrev pub Decided : Type 0
+Decided = (g : Game) (text : List ℕ) → ((e : Evidence) × IsEvidenceText g text e) ⊎ ((fault : EvidenceFault) × (line : ℕ) × HasFault g text fault line)

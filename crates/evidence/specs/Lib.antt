@@ -3,6 +3,7 @@ pub mod Canon
 pub mod Spelling
 pub mod Fault
 pub mod Scan
+pub mod Short
 pub mod Reading
 pub mod Unread
 pub mod Best

@@ -1,7 +1,8 @@
 -- What is known while the lines of evidence are read.
-use Rattle.std.specs.Prelude.{◌≡◌, ℕ, ◌+◌, ◌<◌, ◌≤◌, ◌⊎◌, List, ◌∷◌, ◌++◌, length, count_by, Option, Some, None, slice_index_or, slice_set, IfSome}
+use Rattle.std.specs.Prelude.{◌≡◌, ℕ, ◌+◌, ◌<◌, ◌≤◌, ◌⊎◌, List, ◌∷◌, ◌++◌, length, count_by, Result, MatchResult, MatchOption, Option, Some, None, slice_index_or, slice_set, IfSome}
 use Rattle.std.specs.Option.{is_some}
 use Rattle.text.specs.Lines.{IfKnown}
+use Rattle.text.specs.Stream.{first_piece, below}
 use Rattle.text.specs.Text.{pieces_of}
 use Rattle.game.specs.declared.player.Player.{Player}
 use Rattle.evidence.specs.Canon.{header}
@@ -44,6 +45,27 @@ IsWrongLine old line BadVertex =
     (row : Row) × IsShaped old.width line row
     × IsNoPlace old.entries row.vertex row.entry.move
 IsWrongLine old line BadHeader = ⊥
+
+-- this is the first line, and it is taken with its end
+abbrev pub TakesFirst : List ℕ → List ℕ → List ℕ → Type 0
+TakesFirst line text left = (first_piece text ≡ line) × (left ≡ below text)
+
+-- the line that was next is taken, and gave its vertex an entry
+abbrev pub AddsNext : Option (List ℕ) → Option (List ℕ) → Entries → Entries → Type 0
+AddsNext old new before after = (line : List ℕ) × IsAdded line before after × IfKnown old new (TakesFirst line)
+
+-- the line that was next has this fault
+abbrev pub RefusesNext : Option (List ℕ) → Option (List ℕ) → Entries → EvidenceFault → Type 0
+RefusesNext old new before fault = IfKnown old new (λ text left. IsWrongLine before (first_piece text) fault × (left ≡ below text))
+
+-- it was read
+abbrev pub ReadsNext : {T : Type 0} → Option (List ℕ) → Option (List ℕ) → Entries → Entries → Result T EvidenceFault → Type 0
+ReadsNext old new before after added = MatchResult added (λ _. AddsNext old new before after) (RefusesNext old new before)
+
+-- it was read, if it stood whole in the block at hand; else nothing is done
+abbrev pub ReadsAtHand : {T : Type 0} → Option (List ℕ) → Option (List ℕ) → Entries → Entries → Option (Result T EvidenceFault) → Type 0
+ReadsAtHand old new before after found =
+    MatchOption found (IfKnown old new (λ text left. left ≡ text) × (after ≡ before)) (ReadsNext old new before after)
 
 -- the first lines are these, and the others are left
 abbrev pub IsCut : List (List ℕ) → List ℕ → List ℕ → Type 0

@@ -6,6 +6,8 @@ ghost use Rattle.evidence.specs.Laws.{
   BestExists,
   BestIsOne,
   BestIsYes,
+  CanonSpells,
+  Decided,
   DescentIsReaching,
   EvenEvidenceIsGood,
   GoodEvidenceWins,
@@ -22,6 +24,7 @@ ghost use Rattle.evidence.specs.Laws.{
   WitnessMeans,
   WitnessShows,
   WitnessWins,
+  WrittenIsAccepted,
   YesDecides,
 };
 
@@ -142,4 +145,19 @@ pub fn no_fault()
 /// A text has one deciding fault at most, at one line.
 pub fn one_fault()
     ensures { OneFault }
+{}
+
+/// The canonical text of evidence spells the evidence, and by `one_evidence` no other.
+pub fn canon_spells()
+    ensures { CanonSpells }
+{}
+
+/// What is written of the least tables of a game, Even's and Odd's, is read again as what it is, and both together are accepted.
+pub fn written_is_accepted()
+    ensures { WrittenIsAccepted }
+{}
+
+/// A text spells evidence for a game, or a fault decides: with the laws above, one of the two and just one of its kind.
+pub fn decided()
+    ensures { Decided }
 {}

@@ -10,6 +10,7 @@ pub mod limits;
 pub mod make;
 pub mod reader;
 mod scan;
+mod short;
 pub mod verdict;
 pub mod verify;
 pub mod writer;

@@ -1,35 +1,41 @@
 // The reader of evidence.
 
-ghost use Rattle.std.specs.Prelude.{◌≡◌, ◌≤◌, None, length, replicate, IfErr, IfOk, IfSome, MatchBool, OnOk};
+ghost use Rattle.std.specs.Prelude.{◌≡◌, ◌≢◌, ◌≤◌, ℕ, List, [], None, length, replicate, take, IfErr, IfOk, IfSome, MatchBool, OnOk};
 ghost use Rattle.text.specs.Lines.{IfKnown};
 ghost use Rattle.text.specs.Reads.{Reads};
 ghost use Rattle.evidence.specs.Evidence.{counted};
 ghost use Rattle.evidence.specs.Fault.{HasFault, HasFaultAt, Refuses, named};
-ghost use Rattle.evidence.specs.Reading.{AreRead, BeginsWith, HasNoHeader, HasRestFault, IsAdded, IsNoPlace, IsPlace, IsWrongLine};
+ghost use Rattle.evidence.specs.Reading.{AreRead, BeginsWith, HasNoHeader, HasRestFault, IsAdded, IsNoPlace, IsPlace, IsWrongLine, ReadsAtHand, ReadsNext};
+ghost use Rattle.evidence.specs.Short.{short};
 ghost use Rattle.evidence.specs.Spelling.{IsEvidenceText};
 
 use crate::entries::{Entries, MOST_COUNTS};
 use crate::error::{EvidenceError, EvidenceFault};
 use crate::evidence::Evidence;
+use crate::limits::LONGEST_LINE;
 use crate::scan::{fields, player_of, read_rank};
+use crate::short::{fault_of, short_line};
 use game::dual::greatest_priority;
 use game::graph::Game;
 use game::limits::MOST_VERTICES;
 use game::player::Player;
 use std::alloc::Global;
-use std::io::{BufRead, BufReader, Read};
-use text::lines::next_piece;
+use std::io::{BufRead, BufReader, ErrorKind, Read};
+use text::error::ReadFault;
+use text::scan::cut_at;
+use text::stream::has_line;
 
 // Reads the header.
-fn read_header<B: BufRead>(reader: &mut B, line: &mut Vec<u8>) -> Result<Player, EvidenceError>
+fn read_header<B: BufRead>(reader: &mut B, kept: &mut Vec<u8>) -> Result<Player, EvidenceError>
     ensures first { IfOk result (λ player. IfKnown (B.remaining reader.old) (B.remaining reader.new) (BeginsWith player)) }
     ensures fault { IfErr result (Refuses (B.remaining reader.old) HasNoHeader) }
 {
     let fault = EvidenceFault::BadHeader;
-    if !next_piece(reader, line)? {
+    if !has_line(reader)? {
         return Err(EvidenceError::Fault { fault, line: 1 });
     }
-    match player_of(line) {
+    short_line(reader, kept)?;
+    match player_of(kept) {
         Some(player) => Ok(player),
         None => Err(EvidenceError::Fault { fault, line: 1 }),
     }
@@ -70,22 +76,81 @@ fn add_line(line: &[u8], counts: &mut [u32], entries: &mut Entries) -> Result<()
     Ok(())
 }
 
+// Gives the vertex of a line its entry, of which line this is what is kept where it is shortened.
+fn add_short(line: &[u8], counts: &mut [u32], entries: &mut Entries) -> Result<(), EvidenceFault>
+    requires width { length counts.old ≡ entries.old.width }
+    requires few { length entries.old.entries ≤ MOST_VERTICES }
+    requires narrow { entries.old.width ≤ MOST_COUNTS }
+    ensures added { OnOk result (IsAdded line.now entries.old entries.new) }
+    ensures whole { OnOk result ((whole : List ℕ) → line.now ≡ take LONGEST_LINE (short whole) → IsAdded whole entries.old entries.new) }
+    ensures fault { IfErr result (λ fault. (whole : List ℕ) → line.now ≡ take LONGEST_LINE (short whole) → IsWrongLine entries.old whole fault) }
+{
+    if line.len() >= LONGEST_LINE {
+        return Err(EvidenceFault::BadLine);
+    }
+    add_line(line, counts, entries)
+}
+
+// Reads the line that is next where it stands whole in the block at hand, its end with it. Else it takes nothing.
+fn at_hand<B: BufRead>(
+    reader: &mut B,
+    counts: &mut [u32],
+    entries: &mut Entries,
+) -> Result<Option<Result<(), EvidenceFault>>, ReadFault>
+    requires width { length counts.old ≡ entries.old.width }
+    requires few { length entries.old.entries ≤ MOST_VERTICES }
+    ensures { IfOk result (ReadsAtHand (B.remaining reader.old) (B.remaining reader.new) entries.old entries.new) }
+{
+    let block = match reader.fill_buf() {
+        Ok(block) => block,
+        Err(error) if error.kind() == ErrorKind::Interrupted => return Ok(None),
+        Err(error) => return Err(fault_of(&error)),
+    };
+    let Some((line, _)) = cut_at(block, b'\n') else {
+        return Ok(None);
+    };
+    let added = add_line(line, counts, entries);
+    let len = line.len() + 1;
+    reader.consume(len);
+    Ok(Some(added))
+}
+
+// Reads the line that is next, of which there is one.
+fn read_line<B: BufRead>(
+    reader: &mut B,
+    kept: &mut Vec<u8>,
+    counts: &mut [u32],
+    entries: &mut Entries,
+) -> Result<Result<(), EvidenceFault>, ReadFault>
+    requires width { length counts.old ≡ entries.old.width }
+    requires few { length entries.old.entries ≤ MOST_VERTICES }
+    requires narrow { entries.old.width ≤ MOST_COUNTS }
+    ensures { IfOk result (ReadsNext (B.remaining reader.old) (B.remaining reader.new) entries.old entries.new) }
+{
+    if let Some(added) = at_hand(reader, counts, entries)? {
+        return Ok(added);
+    }
+    short_line(reader, kept)?;
+    Ok(add_short(kept, counts, entries))
+}
+
 // Reads the lines below a header, where no vertex has an entry yet.
 fn read_lines<B: BufRead>(
     reader: &mut B,
-    line: &mut Vec<u8>,
+    kept: &mut Vec<u8>,
     counts: &mut [u32],
     entries: &mut Entries,
 ) -> Result<(), EvidenceError>
     requires none { entries.old.entries ≡ replicate (length entries.old.entries) None }
     requires width { length counts.old ≡ entries.old.width }
     requires few { length entries.old.entries ≤ MOST_VERTICES }
+    requires narrow { entries.old.width ≤ MOST_COUNTS }
     ensures lines { OnOk result (AreRead (length entries.old.entries) entries.old.width (B.remaining reader.old) entries.new.entries) }
     ensures fault { IfErr result (Refuses (B.remaining reader.old) (HasRestFault (length entries.old.entries) entries.old.width)) }
 {
     let mut good = 0;
-    while next_piece(reader, line)? {
-        if let Err(fault) = add_line(line, counts, entries) {
+    while has_line(reader)? {
+        if let Err(fault) = read_line(reader, kept, counts, entries)? {
             return Err(EvidenceError::Fault {
                 fault,
                 line: good + 2,
@@ -113,7 +178,7 @@ pub(crate) fn width(player: Player, game: &Game) -> usize
 fn read_entries<B: BufRead>(
     alloc: Global,
     reader: &mut B,
-    line: &mut Vec<u8>,
+    kept: &mut Vec<u8>,
     player: Player,
     game: &Game,
 ) -> Result<Entries, EvidenceError>
@@ -126,7 +191,7 @@ fn read_entries<B: BufRead>(
     let Ok(mut entries) = Entries::none(alloc, game.vertices() as usize, width) else {
         return Err(EvidenceError::Memory);
     };
-    read_lines(reader, line, &mut counts[..width], &mut entries)?;
+    read_lines(reader, kept, &mut counts[..width], &mut entries)?;
     Ok(entries)
 }
 
@@ -140,15 +205,15 @@ fn read_text<B: BufRead>(
     ensures spelled { IfOk result (λ e. IfSome (B.remaining reader.old) (λ text. IsEvidenceText game.now text e.evidence)) }
     ensures fault { IfErr result (Refuses (B.remaining reader.old) (HasFault game.now)) }
 {
-    let mut line = Vec::new(alloc);
-    let player = read_header(reader, &mut line)?;
-    let entries = read_entries(alloc, reader, &mut line, player, game)?;
+    let mut kept = Vec::new(alloc);
+    let player = read_header(reader, &mut kept)?;
+    let entries = read_entries(alloc, reader, &mut kept, player, game)?;
     Ok(Evidence::of(player, entries, game))
 }
 
 /// Reads evidence for a game: a header, and below it a line for each vertex of the set, in any order. Lines end by LF, and a CR is a byte like any
-/// other. A rank has as many counts as the player's ranks have in the game, each up to 16,777,216. Of the text it keeps the line that it reads,
-/// beside the entries.
+/// other. A rank has as many counts as the player's ranks have in the game, each up to 16,777,216. It keeps no line: of the text there is a block of
+/// 8,192 bytes, and of a line that goes on in the next block 256 bytes at most, beside the entries.
 ///
 /// # Errors
 /// The first faulty line decides. A text is also refused where a read fails, or for want of memory.

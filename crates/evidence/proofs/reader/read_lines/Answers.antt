@@ -1,23 +1,28 @@
-use Rattle.std.proofs.Common.{arith, length, refl, ◌+◌, ◌≤◌}
-use Rattle.evidence.proofs.Gathered.{bad_line, few_good, line_more, nothing_yet}
+use Rattle.std.proofs.Common.{arith, length, refl, ◌+◌, ◌≤◌, []}
+use Rattle.evidence.proofs.Gathered.{all_read, few_good, nothing_yet}
+use Rattle.evidence.proofs.Taking.{next_bad, next_more, none_taken}
 use Rattle.evidence.proofs.reader.read_lines.Goals as goal
 
-pub loop-line-init : goal.loop-line-init
-loop-line-init g c = nothing_yet (length c.args.entries.now.entries) _ c.args.entries.now refl c.requires.none
+pub loop-reader-init : goal.loop-reader-init
+loop-reader-init g c = nothing_yet (length c.args.entries.now.entries) _ c.args.entries.now refl c.requires.none
 
 pub returns-in-Err-clause-fault : goal.returns-in-Err-clause-fault
 returns-in-Err-clause-fault g c =
-    bad_line _ _ c.loop-line.good c.loop-line.good refl (g.B.Read.remaining c.args.reader.now) _ _ _ _ c.in-Err.fault c.loop-line.invariant
-    (rw c.if-branch.true at c.in_ok-next_piece.ensures) (rw c.deref.ensures.value at c.in-Err.ensures.fault)
+    next_bad _ _ c.loop-reader.good c.loop-reader.good refl (g.B.Read.remaining c.args.reader.now) _ _ _ _ c.in-Err.fault c.loop-reader.invariant
+    (rw c.if-branch.true at c.in_ok-has_line.ensures) (rw c.in-Err.is at c.in_ok-fault.ensures)
 
-pub loop-line-smaller : goal.loop-line-smaller
-loop-line-smaller g c =
-    let next = line_more _ _ c.loop-line.good (g.B.Read.remaining c.args.reader.now) _ _ _ _ _ c.loop-line.invariant
-    (rw c.if-branch.true at c.in_ok-next_piece.ensures) (rw c.deref.ensures.value at c.in_default.ensures.added) in
-    let few : c.loop-line.good + 1 ≤ length c.args.entries.now.entries = few_good _ _ _ _ _ _ next in
+pub loop-reader-smaller : goal.loop-reader-smaller
+loop-reader-smaller g c =
+    let next = next_more _ _ c.loop-reader.good (g.B.Read.remaining c.args.reader.now) _ _ _ _ _ c.loop-reader.invariant
+    (rw c.if-branch.true at c.in_ok-has_line.ensures) (rw c.in_default.is at c.in_ok-fault.ensures) in
+    let few : c.loop-reader.good + 1 ≤ length c.args.entries.now.entries = few_good _ _ _ _ _ _ next in
     omega arith
 
-pub loop-line-preserved : goal.loop-line-preserved
-loop-line-preserved g c =
-    line_more _ _ c.loop-line.good (g.B.Read.remaining c.args.reader.now) _ _ _ _ _ c.loop-line.invariant (rw c.if-branch.true at c.in_ok-next_piece.ensures)
-    (rw c.deref.ensures.value at c.in_default.ensures.added)
+pub loop-reader-preserved : goal.loop-reader-preserved
+loop-reader-preserved g c =
+    next_more _ _ c.loop-reader.good (g.B.Read.remaining c.args.reader.now) _ _ _ _ _ c.loop-reader.invariant (rw c.if-branch.true at c.in_ok-has_line.ensures)
+    (rw c.in_default.is at c.in_ok-fault.ensures)
+
+pub returns-clause-lines : goal.returns-clause-lines
+returns-clause-lines g c = all_read _ _ _ (g.B.Read.remaining c.args.reader.now) _ _ [] _ c.loop-reader.invariant
+    (none_taken _ _ [] (rw c.if-branch.false at c.in_ok-has_line.ensures))

@@ -1,0 +1,184 @@
+-- What a line that is taken says of what a reader has left.
+use Rattle.std.proofs.Common.{◌≡◌, ◌≢◌, ℕ, ◌+◌, ◌≤◌, true, false, cond, ◌||◌, ◌==◌, List, [], ◌∷◌, ◌++◌, length, take, drop, Option, Some, None, Result, Ok}
+use Rattle.std.proofs.Common.{Err, refl, sym, ap, ◌∙◌, subst, append_assoc, arith}
+use Rattle.std.specs.Prelude.{IfSome, IfErr, OnOk}
+use Rattle.std.specs.List.{list_any}
+use Rattle.std.specs.Io.{StartsWith}
+use Rattle.std.specs.Io.KnownBytes.{Keeps}
+use Rattle.std.specs.Io.BufRead.{DropsConsumable}
+use Rattle.std.proofs.lemmas.List.{take-append-drop, length-append}
+use Rattle.std.proofs.lemmas.List.Prefix.{front_rest}
+use Rattle.text.specs.Text.{pieces_of, with_first, lines}
+use Rattle.text.specs.Lines.{IfKnown, TakesPiece}
+use Rattle.text.specs.Tokens.{cut_at}
+use Rattle.text.specs.Stream as stream
+use Rattle.text.specs.Stream.{first_piece, below, HasLine}
+use Rattle.text.proofs.Streaming.{known_only, lines_cons}
+use Rattle.text.proofs.Scanning.{cut_gives}
+use Rattle.game.specs.declared.player.Player.{Player}
+use Rattle.evidence.specs.declared.error.EvidenceFault.{EvidenceFault}
+use Rattle.evidence.specs.declared.error.EvidenceFault.TheVariants.{BadHeader}
+use Rattle.evidence.specs.declared.limits.TheConstants.{LONGEST_LINE}
+use Rattle.evidence.specs.Canon.{header}
+use Rattle.evidence.specs.Reading.{AddsNext, BeginsWith, HasNoHeader, HasRestFault, IsAdded, IsWrongLine, ReadsNext, RefusesNext, SoFar, TakesFirst}
+use Rattle.evidence.specs.Scan.{IsNoHeader}
+use Rattle.evidence.specs.Short.{TakesShort, short}
+use Rattle.evidence.specs.View.{Entries}
+use Rattle.evidence.proofs.Gathered.{bad_line, line_more}
+use Rattle.evidence.proofs.Lifted.{a_header, no_header}
+
+pub pieces_cons : (b : ℕ) (text : List ℕ) → pieces_of (b ∷ text) ≡ first_piece (b ∷ text) ∷ pieces_of (below (b ∷ text))
+pieces_cons b [] = elim (b == 10) as (λ c. cond c ([] ∷ []) ((b ∷ []) ∷ []) ≡ cond c [] (b ∷ []) ∷ pieces_of (cond c [] [])) [ true ↦ refl | false ↦ refl ]
+pieces_cons b (d ∷ text) =
+    elim (b == 10) as (λ c. cond c ([] ∷ pieces_of (d ∷ text)) (with_first b (pieces_of (d ∷ text)))
+    ≡ cond c [] (b ∷ first_piece (d ∷ text)) ∷ pieces_of (cond c (d ∷ text) (below (d ∷ text)))) [
+      | true ↦ refl
+      | false ↦ ap (with_first b) (pieces_cons d text)
+    ]
+
+pieces_some : (text : List ℕ) → text ≢ [] → pieces_of text ≡ first_piece text ∷ pieces_of (below text)
+pieces_some [] some = absurd (some refl)
+pieces_some (b ∷ text) some = pieces_cons b text
+
+-- ---- the line that is next
+
+some_line : (text : List ℕ) → lines text ≢ [] → text ≢ []
+some_line text some none = some (ap lines none)
+
+-- the line is the first one
+pub next_taken : (old mid new : Option (List ℕ)) (line : List ℕ) → HasLine old mid true → IfKnown mid new (TakesFirst line) → TakesPiece old new true line
+next_taken None mid new line has taken = tt
+next_taken (Some text) None new line has taken = absurd has
+next_taken (Some text) (Some left) None line has taken = absurd taken
+next_taken (Some text) (Some left) (Some rest) line (same, more) (first, after) =
+    pieces_some text (some_line text (λ none. let wrong : stream.line_of text ∷ lines (below text) ≡ [] = sym more ∙ none in cc))
+    ∙ (λ i. (ap first_piece (sym same) ∙ first) i ∷ pieces_of (below text)) ∙ ap (λ t. line ∷ pieces_of t) (sym (after ∙ ap below same))
+
+-- no line is left
+pub none_taken : (old new : Option (List ℕ)) (line : List ℕ) → HasLine old new false → TakesPiece old new false line
+none_taken None new line has = tt
+none_taken (Some text) None line has = absurd has
+none_taken (Some []) (Some left) line has = refl
+none_taken (Some (b ∷ text)) (Some left) line (same, none) =
+    absurd (let wrong : stream.line_of (b ∷ text) ∷ lines (below (b ∷ text)) ≡ [] = sym (lines_cons b text) ∙ none in cc)
+
+-- one more line
+pub next_more : (vertices width good : ℕ) (old a mid new : Option (List ℕ)) (before after : Entries) → SoFar vertices width good old a before
+    → HasLine a mid true → AddsNext mid new before after → SoFar vertices width (good + 1) old new after
+next_more vertices width good old a mid new before after so has (line, one, taken) =
+    line_more vertices width good old a new line before after so (next_taken a mid new line has taken) one
+
+-- the line is faulty
+pub next_bad : (vertices width good p : ℕ) → p ≡ good → (old a mid new : Option (List ℕ)) (before : Entries) (fault : EvidenceFault)
+    → SoFar vertices width good old a before → HasLine a mid true → RefusesNext mid new before fault
+    → IfSome old (λ text. HasRestFault vertices width text fault (p + 2))
+next_bad vertices width good p at None a mid new before fault so has wrong = tt
+next_bad vertices width good p at (Some text) None mid new before fault so has wrong = absurd so.cut
+next_bad vertices width good p at (Some text) (Some left) None new before fault so has wrong = absurd has
+next_bad vertices width good p at (Some text) (Some left) (Some same) None before fault so has wrong = absurd wrong
+next_bad vertices width good p at (Some text) (Some left) (Some same) (Some rest) before fault so has (wrong, after) =
+    bad_line vertices width good p at (Some text) (Some left) (Some rest) (first_piece same) before fault so
+    (next_taken (Some left) (Some same) (Some rest) (first_piece same) has (refl, after)) wrong
+
+-- ---- a line that is kept shortened
+
+-- it adds what the line adds
+pub short_adds : (kept : List ℕ) (old new : Option (List ℕ)) (before after : Entries) → IfKnown old new (TakesShort kept) → IsAdded kept before after
+    → ((whole : List ℕ) → kept ≡ take LONGEST_LINE (short whole) → IsAdded whole before after) → AddsNext old new before after
+short_adds kept None new before after taken one whole = (kept, one, tt)
+short_adds kept (Some text) None before after taken one whole = absurd taken
+short_adds kept (Some text) (Some left) before after (is, rest) one whole = (first_piece text, whole (first_piece text) is, (refl, rest))
+
+pub short_bad : (kept : List ℕ) (old new : Option (List ℕ)) (before : Entries) (fault : EvidenceFault) → IfKnown old new (TakesShort kept)
+    → ((whole : List ℕ) → kept ≡ take LONGEST_LINE (short whole) → IsWrongLine before whole fault) → RefusesNext old new before fault
+short_bad kept old new before fault taken whole = known_only {P = TakesShort kept}
+    {Q = λ text left. IsWrongLine before (first_piece text) fault × (left ≡ below text)} old new taken (λ text left t. (whole (first_piece text) t.0, t.1))
+
+-- ---- a line at hand
+
+cut_here : (run rest : List ℕ) → list_any (λ b. b == 10) run ≡ false → (first_piece (run ++ 10 ∷ rest) ≡ run) × (below (run ++ 10 ∷ rest) ≡ rest)
+cut_here [] rest none = (refl, refl)
+cut_here (b ∷ run) rest none =
+    elim (b == 10) as (λ c. (c || list_any (λ b. b == 10) run) ≡ false → (cond c [] (b ∷ first_piece (run ++ 10 ∷ rest)) ≡ b ∷ run)
+    × (cond c (run ++ 10 ∷ rest) (below (run ++ 10 ∷ rest)) ≡ rest)) [
+      | true ↦ λ e. absurd cc
+      | false ↦ λ e. let (piece, under) = cut_here run rest e in (ap (λ l. b ∷ l) piece, under)
+    ] none
+
+pub here_taken : (block line more : List ℕ) (n : ℕ) (old mid new : Option (List ℕ)) (limit : Option ℕ) → IfSome old (λ xs. StartsWith xs block)
+    → Keeps old mid → IfSome old (λ _. IfSome limit (λ n. length block ≤ n)) → DropsConsumable mid new limit n
+    → cut_at 10 block ≡ Some (line, more) → n ≡ length line + 1 → IfKnown old new (TakesFirst line)
+here_taken block line more n None mid new limit front same fits drops cut long = tt
+here_taken block line more n (Some text) None new limit front same fits drops cut long = absurd same
+here_taken block line more n (Some text) (Some left) new limit front same fits drops cut long =
+    let (plain, split) = cut_gives 10 block line more cut in
+    let within : n ≤ length block = omega (arith, long, ap length split, length-append line (10 ∷ more)) in
+    let new-is : new ≡ Some (drop n left) = drops (fits_count limit within fits) in
+    let rest = more ++ drop (length block) text in
+    let whole : text ≡ line ++ 10 ∷ rest = sym (take-append-drop (length block) text) ∙ ap (λ l. l ++ drop (length block) text) (front ∙ split)
+    ∙ append_assoc line (10 ∷ more) (drop (length block) text) in
+    let (one, under) = cut_here line rest plain in
+    let longer : n ≡ length (line ++ 10 ∷ []) = omega (arith, long, length-append line (10 ∷ [])) in
+    let split_one : text ≡ (line ++ 10 ∷ []) ++ rest = whole ∙ sym (append_assoc line (10 ∷ []) rest) in
+    let back : drop n text ≡ rest = ap (λ k. drop k text) longer ∙ front_rest text (line ++ 10 ∷ []) rest split_one in
+    rw (new-is, same) (ap first_piece whole ∙ one, back ∙ sym under ∙ ap below (sym whole))
+  where
+    fits_count : (limit : Option ℕ) → n ≤ length block → IfSome limit (λ n. length block ≤ n) → IfSome limit (λ m. n ≤ m)
+    fits_count None within fits = tt
+    fits_count (Some m) within fits = omega (arith, fits, within)
+
+pub here_read : {T : Type 0} (line : List ℕ) (old new : Option (List ℕ)) (before after : Entries) (r : Result T EvidenceFault)
+    → IfKnown old new (TakesFirst line) → OnOk r (IsAdded line before after) → IfErr r (IsWrongLine before line) → ReadsNext old new before after r
+here_read line old new before after (Ok x) taken added wrong = (line, added, taken)
+here_read line old new before after (Err fault) taken added wrong =
+    known_only {P = TakesFirst line} {Q = λ text left. IsWrongLine before (first_piece text) fault × (left ≡ below text)} old new taken
+    (λ text left t. (subst (λ l. IsWrongLine before l fault) (sym t.0) wrong, t.1))
+
+pub short_read : {T : Type 0} (kept : List ℕ) (old new : Option (List ℕ)) (before after : Entries) (r : Result T EvidenceFault)
+    → IfKnown old new (TakesShort kept) → OnOk r (IsAdded kept before after)
+    → OnOk r ((whole : List ℕ) → kept ≡ take LONGEST_LINE (short whole) → IsAdded whole before after)
+    → IfErr r (λ fault. (whole : List ℕ) → kept ≡ take LONGEST_LINE (short whole) → IsWrongLine before whole fault) → ReadsNext old new before after r
+short_read kept old new before after (Ok x) taken one whole wrong = short_adds kept old new before after taken one whole
+short_read kept old new before after (Err fault) taken one whole wrong = short_bad kept old new before fault taken wrong
+
+-- ---- the header
+
+pub no_line : (old new : Option (List ℕ)) → HasLine old new false → IfSome old (λ text. HasNoHeader text BadHeader 1)
+no_line None new has = tt
+no_line (Some text) None has = absurd has
+no_line (Some []) (Some left) has = (refl, λ player rest e. absurd cc, refl)
+no_line (Some (b ∷ text)) (Some left) (same, none) =
+    absurd (let wrong : stream.line_of (b ∷ text) ∷ lines (below (b ∷ text)) ≡ [] = sym (lines_cons b text) ∙ none in cc)
+
+first_same : (x y : List ℕ) (xs ys : List (List ℕ)) → x ∷ xs ≡ y ∷ ys → x ≡ y
+first_same x y xs ys e = cc
+
+pub header_is : (player : Player) (kept : List ℕ) (old mid new : Option (List ℕ)) → HasLine old mid true → IfKnown mid new (TakesShort kept)
+    → kept ≡ header player → IfKnown old new (BeginsWith player)
+header_is player kept None mid new has taken is = tt
+header_is player kept (Some text) None new has taken is = absurd has
+header_is player kept (Some text) (Some left) None has taken is = absurd taken
+header_is player kept (Some text) (Some left) (Some rest) has (kept_is, after) is =
+    next_taken (Some text) (Some left) (Some rest) (header player) has (a_header player kept (first_piece left) kept_is is, after)
+
+pub header_none : (kept : List ℕ) (old mid new : Option (List ℕ)) → HasLine old mid true → IfKnown mid new (TakesShort kept) → IsNoHeader kept
+    → IfSome old (λ text. HasNoHeader text BadHeader 1)
+header_none kept None mid new has taken none = tt
+header_none kept (Some text) None new has taken none = absurd has
+header_none kept (Some text) (Some left) None has taken none = absurd taken
+header_none kept (Some text) (Some left) (Some rest) has (is, after) none =
+    let cut = next_taken (Some text) (Some left) (Some rest) (first_piece left) has (refl, after) in (
+      refl,
+      λ player others e. no_header kept (first_piece left) is none player
+          (first_same (first_piece left) (header player) (pieces_of rest) others (sym cut ∙ e)),
+      refl,
+    )
+
+-- nothing was done before it was read
+pub still_read : {T : Type 0} (old mid new : Option (List ℕ)) (before here after : Entries) (r : Result T EvidenceFault)
+    → IfKnown old mid (λ text left. left ≡ text) × (here ≡ before) → ReadsNext mid new here after r → ReadsNext old new before after r
+still_read None mid new before here after (Ok x) (kept, same) (line, one, taken) = (line, subst (λ b. IsAdded line b after) same one, tt)
+still_read None mid new before here after (Err fault) (kept, same) read = tt
+still_read (Some text) None new before here after r (kept, same) read = absurd kept
+still_read (Some text) (Some left) new before here after r (kept, same) read =
+    subst (λ t. ReadsNext (Some t) new before after r) kept (subst (λ b. ReadsNext (Some left) new b after r) same read)
