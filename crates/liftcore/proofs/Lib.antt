@@ -14,3 +14,4 @@ pub mod Written
 pub mod Cut
 pub mod Lines
 pub mod Schedules
+pub mod Decided

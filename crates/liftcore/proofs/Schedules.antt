@@ -20,7 +20,7 @@ tails : {X : Type 0} (x y : X) (xs ys : List X) → x ∷ xs ≡ y ∷ ys → (x
 tails x y xs ys e = (cc, cc)
 
 module _ (workers vertices : ℕ) where
-  one_schedule : (lines : List (List ℕ)) (xs ys : List Event) → AllZip (IsGoodLine workers vertices) lines xs → AllZip (IsGoodLine workers vertices) lines ys
+  pub one_schedule : (lines : List (List ℕ)) (xs ys : List Event) → AllZip (IsGoodLine workers vertices) lines xs → AllZip (IsGoodLine workers vertices) lines ys
       → xs ≡ ys
   one_schedule [] [] [] h k = refl
   one_schedule [] [] (y ∷ ys) h k = absurd k
@@ -58,7 +58,7 @@ module _ (workers vertices : ℕ) where
   event_at_line (l ∷ front) line back [] h = absurd h
   event_at_line (l ∷ front) line back (x ∷ events) h = event_at_line front line back events h.1
 
-  no_fault : (text : List ℕ) (events : List Event) (fault : ScheduleFault) (place : ℕ) → IsSchedule workers vertices text events
+  pub no_fault : (text : List ℕ) (events : List Event) (fault : ScheduleFault) (place : ℕ) → IsSchedule workers vertices text events
       → HasFault workers vertices text fault place → ⊥
   no_fault text events fault place all faulty =
       let at = event_at_line faulty.front faulty.line faulty.back events (subst (λ l. AllZip (IsGoodLine workers vertices) l events) faulty.cut all) in
@@ -101,7 +101,7 @@ module _ (workers vertices : ℕ) where
       let rest = one_place fs gs l m bs cs xs ys f h (tails a g (fs ++ l ∷ bs) (gs ++ m ∷ cs) e).1 good.1 fine.1 p q in
       (omega (arith, rest.0), rest.1)
 
-  one_fault : (text : List ℕ) (f h : ScheduleFault) (i j : ℕ) → HasFault workers vertices text f i → HasFault workers vertices text h j → (f ≡ h) × (i ≡ j)
+  pub one_fault : (text : List ℕ) (f h : ScheduleFault) (i j : ℕ) → HasFault workers vertices text f i → HasFault workers vertices text h j → (f ≡ h) × (i ≡ j)
   one_fault text f h i j p q =
       let place = one_place p.front q.front p.line q.line p.back q.back p.before q.before f h (sym p.cut ∙ q.cut) p.fine q.fine p.wrong q.wrong in (
         one_fault_in p.line f h p.wrong (subst (λ line. LineFault workers vertices line h) (sym place.1) q.wrong),
@@ -126,7 +126,7 @@ module _ (workers vertices : ℕ) where
   pub nothing_yet : (text : List ℕ) → SoFar text text []
   nothing_yet text = record { done = []; each = tt; cut = refl }
 
-  each_more : (done : List (List ℕ)) (events : List Event) (line : List ℕ) (event : Event) → AllZip (IsGoodLine workers vertices) done events
+  pub each_more : (done : List (List ℕ)) (events : List Event) (line : List ℕ) (event : Event) → AllZip (IsGoodLine workers vertices) done events
       → IsGoodLine workers vertices line event
       → AllZip (IsGoodLine workers vertices) (done ++ line ∷ []) (events ++ event ∷ [])
   each_more [] [] line event each one = (one, tt)

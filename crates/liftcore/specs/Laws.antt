@@ -1,12 +1,14 @@
--- What holds of all runs of the core.
-use Rattle.std.specs.Prelude.{◌≡◌, ℕ, Bool, List, IsTrue, ◌*◌, ◌≤◌, count_by, length}
+-- What holds of all runs of the core, and of all texts of schedules.
+use Rattle.std.specs.Prelude.{◌≡◌, ℕ, Bool, List, IsTrue, ◌*◌, ◌≤◌, ◌⊎◌, count_by, length}
 use Rattle.game.specs.Game.{Game, IsGame}
 use Rattle.progress.specs.Lifting.{height}
 use Rattle.progress.specs.Measure.{IsAtMost}
 use Rattle.progress.specs.Progress.{IsProgress}
 use Rattle.progress.specs.Tables.{IsPlain, IsSettled}
 use Rattle.liftcore.specs.Core.{Core, start, is_quiet}
+use Rattle.liftcore.specs.Schedule.{HasFault, IsSchedule}
 use Rattle.liftcore.specs.Step.{RaisingSteps, Step, Steps, value_in}
+use Rattle.liftcore.specs.declared.error.ScheduleFault.{ScheduleFault}
 use Rattle.liftcore.specs.declared.event.Event.{Event}
 
 -- An event comes to one state only, and isn't both done and skipped.
@@ -39,3 +41,21 @@ abbrev pub FewRaise : Type 0
 FewRaise =
     (g : Game) (workers : ℕ) (events : List Event) (dones rises : List Bool) (c : Core) → IsGame g → RaisingSteps (start g workers) events dones rises c
     → count_by (λ rose. rose) rises ≤ length g.vertices * height g
+
+-- A text spells at most one schedule for so many workers and vertices.
+abbrev pub OneSchedule : Type 0
+OneSchedule = (workers vertices : ℕ) (text : List ℕ) (es fs : List Event) → IsSchedule workers vertices text es → IsSchedule workers vertices text fs → es ≡ fs
+
+-- A text that spells a schedule has no deciding fault, and each text has one at most, at one line.
+abbrev pub NoFault : Type 0
+NoFault = (workers vertices : ℕ) (text : List ℕ) (events : List Event) (fault : ScheduleFault) (line : ℕ) → IsSchedule workers vertices text events
+    → HasFault workers vertices text fault line → ⊥
+
+abbrev pub OneFault : Type 0
+OneFault = (workers vertices : ℕ) (text : List ℕ) (a b : ScheduleFault) (i j : ℕ) → HasFault workers vertices text a i → HasFault workers vertices text b j
+    → (a ≡ b) × (i ≡ j)
+
+-- A text spells a schedule, or a fault decides.
+abbrev pub Decided : Type 0
+Decided = (workers vertices : ℕ) (text : List ℕ) → ((events : List Event) × IsSchedule workers vertices text events)
+    ⊎ ((fault : ScheduleFault) × (line : ℕ) × HasFault workers vertices text fault line)

@@ -1,6 +1,17 @@
-// What holds of all runs of the core.
+// What holds of all runs of the core, and of all texts of schedules.
 
-ghost use Rattle.liftcore.specs.Laws.{FewRaise, NeverFalls, OneStep, QuietIsSettled, SettledIsLeast, StaysBelow};
+ghost use Rattle.liftcore.specs.Laws.{
+  Decided,
+  FewRaise,
+  NeverFalls,
+  NoFault,
+  OneFault,
+  OneSchedule,
+  OneStep,
+  QuietIsSettled,
+  SettledIsLeast,
+  StaysBelow,
+};
 
 /// The table never falls.
 pub fn never_falls()
@@ -30,4 +41,24 @@ pub fn one_step()
 /// At most as many events raise the table as top's rank times the vertices.
 pub fn few_raise()
     ensures { FewRaise }
+{}
+
+/// A text spells at most one schedule for so many workers and vertices.
+pub fn one_schedule()
+    ensures { OneSchedule }
+{}
+
+/// A text that spells a schedule has no deciding fault.
+pub fn no_fault()
+    ensures { NoFault }
+{}
+
+/// A text has at most one deciding fault, at one line.
+pub fn one_fault()
+    ensures { OneFault }
+{}
+
+/// A text spells a schedule, or a fault decides: with the laws above, one of the two and just one of its kind.
+pub fn decided()
+    ensures { Decided }
 {}
