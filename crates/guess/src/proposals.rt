@@ -57,12 +57,11 @@ impl Whole<'_> {
         proposal.put_counts(v, self.group(part), &counts[..width], rank)
     }
 
-    // Proposes the values of a component's nodes at a state. The answer is whether they are measures of the game.
+    // Proposes the values of all nodes at a state. The answer is whether they are known, and are measures of the game.
     fn propose_state(
         &self,
         game: &Game,
         proposal: &mut Proposal,
-        part: Part,
         state: u32,
         rank: &mut [u32],
     ) -> bool
@@ -70,30 +69,26 @@ impl Whole<'_> {
         requires rank { length rank.old ≡ length (components (dual game.now)) }
         ensures { proposal.new.game ≡ game.now }
     {
-        for number in part.root..part.end {
-            if self.board.form.root(number) == part.root
-                && !self.propose_at(game, proposal, part, number, state, rank)
-            {
+        for number in 0..self.board.form.count() {
+            let Some(part) = self.part_of(number) else {
+                return false;
+            };
+            if !self.propose_at(game, proposal, part, number, state, rank) {
                 return false;
             }
         }
         true
     }
 
-    // Proposes the values of a component. The answer is whether they are measures of the game.
-    fn propose_part(
-        &self,
-        game: &Game,
-        proposal: &mut Proposal,
-        part: Part,
-        rank: &mut [u32],
-    ) -> bool
+    // Proposes the values of all states, in the order in which their vertices are stored. The answer is whether they are known,
+    // and are measures of the game.
+    fn propose_states(&self, game: &Game, proposal: &mut Proposal, rank: &mut [u32]) -> bool
         requires same { proposal.old.game ≡ game.now }
         requires rank { length rank.old ≡ length (components (dual game.now)) }
         ensures { proposal.new.game ≡ game.now }
     {
         for state in 0..self.lts.states() {
-            if !self.propose_state(game, proposal, part, state, rank) {
+            if !self.propose_state(game, proposal, state, rank) {
                 return false;
             }
         }
@@ -111,11 +106,6 @@ impl Whole<'_> {
             return false;
         }
         proposal.put_top(LOST, 0, &rank[..width]);
-        for part in &self.parts {
-            if !self.propose_part(game, proposal, *part, &mut rank[..width]) {
-                return false;
-            }
-        }
-        true
+        self.propose_states(game, proposal, &mut rank[..width])
     }
 }

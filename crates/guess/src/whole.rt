@@ -2,14 +2,15 @@
 
 use crate::board::{Board, Graph};
 use crate::edges::{Edges, Kinds, fits, state_of, takes};
-use crate::form::{Form, Node, Shape};
+use crate::form::{Form, NONE, Node, Shape};
 use crate::levels::Levels;
+use crate::numbers::Numbers;
 use crate::order::Order;
 use crate::scale::Scale;
 use game::build::label_sets;
 use game::graph::Game;
 use normal::form::Normal;
-use std::alloc::Global;
+use std::alloc::{AllocError, Global};
 use systems::system::Lts;
 use text::Memory;
 
@@ -50,6 +51,8 @@ pub struct Whole<'a> {
     pub(crate) lts: &'a Lts,
     pub(crate) board: Board,
     pub(crate) parts: Vec<Part>,
+    /// For the root of each component its place among the parts.
+    places: Numbers,
 }
 
 // Whether some count can go above one.
@@ -133,6 +136,15 @@ fn solve(alloc: Global, levels: &mut Levels, root: u32) -> Result<Option<Part>, 
     }))
 }
 
+// For the root of each component, of so many nodes, its place among the parts.
+fn places(alloc: Global, nodes: u32, parts: &[Part]) -> Result<Numbers, AllocError> {
+    let mut places = Numbers::filled(alloc, NONE, nodes as usize)?;
+    for (place, part) in (0..NONE).zip(parts) {
+        places.set(part.root, place);
+    }
+    Ok(places)
+}
+
 impl<'a> Whole<'a> {
     /// Guesses the least progress table of the game of a system and a normal form. It stops at the first component that takes
     /// too long. There is nothing to guess where measures don't fit a word, nor where no count can climb: lifting takes no time
@@ -173,11 +185,19 @@ impl<'a> Whole<'a> {
                 None => break,
             }
         }
+        let places = places(alloc, levels.board.form.count(), &parts)?;
         Ok(Some(Whole {
             lts,
             board: levels.board,
             parts,
+            places,
         }))
+    }
+
+    /// The component of a node, if its values are known.
+    pub(crate) fn part_of(&self, number: u32) -> Option<Part> {
+        let place = self.places.get(self.board.form.root(number));
+        self.parts.get(place as usize).copied()
     }
 
     /// The value of a node at a state.
