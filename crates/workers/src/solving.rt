@@ -81,9 +81,28 @@ pub fn solve<B: Board + Drop + Sync, G: Gate + Sync, R: Threads + Wait + Sync>(
     ensures game { IfOk result (λ s. s.game ≡ arc_value game.now) }
     ensures least { IfOk result (λ s. IsLeastTable (arc_value game.now) s.values) }
 {
-    let mut table = first_table(alloc, game)?;
+    let table = first_table(alloc, game)?;
+    Ok(solve_from(rt, alloc, game, table, board, workers, gate))
+}
+
+/// The same from any table of the game: what it leaves is lifted by the workers.
+pub fn solve_from<B: Board + Drop + Sync, G: Gate + Sync, R: Threads + Wait + Sync>(
+    rt: &R,
+    alloc: Global,
+    game: &Arc<Game, Global>,
+    mut table: PlainTable,
+    board: B,
+    workers: usize,
+    gate: &G,
+) -> Settled
+    requires game { B.game board ≡ arc_value game.now }
+    requires table { table.game ≡ arc_value game.now }
+    requires workers { 0 < workers }
+    ensures game { result.game ≡ arc_value game.now }
+    ensures least { IsLeastTable (arc_value game.now) result.values }
+{
     let _ = run::<Brand, B, G, R>(rt, alloc, game, &table, &board, workers, gate);
     board.finish(&mut table);
     settle(game, &mut table);
-    Ok(table.into_settled())
+    table.into_settled()
 }
