@@ -1,0 +1,15 @@
+use Rattle.std.proofs.Common.{sym, subst, ◌∙◌}
+use Rattle.systems.specs.declared.system.Transition.{Transition}
+use Rattle.why.specs.Telling.{IsReached}
+use Rattle.why.specs.Walk.{told_of}
+use Rattle.why.proofs.Arrows.{target_is}
+use Rattle.why.proofs.Walking.{none_told, one_told}
+use Rattle.why.proofs.walk.tell_other.Goals as goal
+
+pub returns-in_ok-tell : goal.returns-in_ok-tell
+returns-in_ok-tell c =
+    let part = c.args.part.now in
+    let d : Transition = record { source = 0; label = 0; target = 0 } in
+    one_told _ _ _ _ _ _ _ (none_told _ _ _) c.in_ok-tell.ensures
+    (subst (λ s. IsReached (told_of part) c.args.walk.now.lines.items s)
+    (sym (target_is part c.args.way.number d c.requires.within ∙ c.if-part-way.true)) c.requires.to)

@@ -1,0 +1,7 @@
+use Rattle.systems.specs.Numbered.{system_with}
+use Rattle.text.proofs.Writing.{Wrote-as}
+use Rattle.why.proofs.Numbered.{all_lines}
+use Rattle.why.proofs.writer.put_told.Goals as goal
+
+pub returns : goal.returns
+returns g c = Wrote-as _ _ _ _ _ (all_lines (system_with c.args.system.now c.args.part.now) c.args.lines.now) c.put_lines.ensures.wrote

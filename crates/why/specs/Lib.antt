@@ -1,0 +1,4 @@
+pub mod Telling
+pub mod Walk
+pub mod Story
+pub mod Shown

@@ -1,0 +1,107 @@
+-- A walk over a system, as it tells its transitions.
+use Rattle.std.specs.Prelude.{◌≡◌, ℕ, suc, MatchBool, ◌+◌, ◌*◌, ◌≤◌, ◌<◌, ◌↔◌, ◌⊎◌, Bool, false, List, [], ◌∷◌, length}
+use Rattle.std.specs.Prelude.{IsTrue, Contains, Option, None, Some, if◌then◌else◌}
+use Rattle.std.specs.List.{slice_index_or}
+use Rattle.std.specs.List.Sorted.{IsNonDecreasingBy}
+use Rattle.systems.specs.System.{System}
+use Rattle.systems.specs.Numbered.{IsInside, system_with}
+use Rattle.systems.specs.declared.system.Transition.{Transition}
+use Rattle.why.specs.Telling.{EachFollows, HasNoStep, IsReached, arrow_at, steps, stops}
+use Rattle.why.specs.declared.walk.Block.{Block}
+use Rattle.why.specs.declared.walk.Part.{Part}
+use Rattle.why.specs.declared.walk.Walk.{Walk}
+use Rattle.why.specs.declared.walk.Way.{Way}
+
+-- the system that is told
+abbrev pub told_of : Part → System
+told_of part = system_with part.system.now part.transitions.now
+
+abbrev pub is_marked : List Bool → ℕ → Bool
+is_marked marks i = slice_index_or marks i false
+
+-- how many are not marked
+abbrev pub unmarked : List Bool → ℕ
+unmarked [] = 0
+unmarked (m ∷ marks) = if m then unmarked marks else suc (unmarked marks)
+
+-- So many are told as may be, of more.
+abbrev pub IsFull : System → (most count : ℕ) → Type 0
+IsFull l most count = (most < length l.arrows) × (most ≤ count)
+
+-- The transition of this number isn't told, and more may be.
+pub record MayTell (l : System) (most : ℕ) (w : Walk) (n : ℕ) : Type 0 where
+  pub new : is_marked w.told.items n ≡ false
+  pub room : IsFull l most w.count → ⊥
+
+-- The transition of this number waits.
+abbrev pub Waits : List Way → ℕ → Type 0
+Waits [] n = ⊥
+Waits (way ∷ ways) n = (way.number ≡ n) ⊎ Waits ways n
+
+-- What is told and what waits, where these wait: each transition from where the walk has come is told or waits, or so many are told as may be. To a
+-- state that is open the walk came last: its transitions don't wait yet.
+pub record IsWalk (l : System) (most : ℕ) (w : Walk) (waiting : List Way) (open_state : Option ℕ) : Type 0 where
+  pub states : length w.reached.items ≡ l.states
+  pub arrows : length w.told.items ≡ length l.arrows
+  pub each : EachFollows l [] w.lines.items
+  pub reached : (s : ℕ) → IsTrue (is_marked w.reached.items s) ↔ IsReached l w.lines.items s
+  pub told : (n : ℕ) → IsTrue (is_marked w.told.items n) ↔ Contains (steps w.lines.items) n
+  pub count : w.count ≡ length (steps w.lines.items)
+  pub rest : w.count + unmarked w.told.items ≡ length l.arrows
+  pub few : most < length l.arrows → w.count ≤ most
+  pub onward : (n : ℕ) → n < length l.arrows → IsReached l w.lines.items (arrow_at l n).source
+      → Contains (steps w.lines.items) n ⊎ (Waits waiting n ⊎ (IsFull l most w.count ⊎ (open_state ≡ Some (arrow_at l n).source)))
+  pub ends : (s : ℕ) → IsReached l w.lines.items s → HasNoStep l s → Contains (stops w.lines.items) s ⊎ (open_state ≡ Some s)
+  pub stopped : (s : ℕ) → Contains (stops w.lines.items) s → IsReached l w.lines.items s
+  pub opened : (s : ℕ) → open_state ≡ Some s → IsReached l w.lines.items s × (Contains (stops w.lines.items) s → ⊥)
+  pub waits : (n : ℕ) → Waits waiting n → (n < length l.arrows) × IsReached l w.lines.items (arrow_at l n).source
+
+-- The transition was told. If its target is new, it is open.
+pub record HasTold (l : System) (most n : ℕ) (old new : Walk) (fresh : Bool) : Type 0 where
+  pub walk : (waiting : List Way) (open_state : Option ℕ) → IsWalk l most old waiting open_state
+      → MatchBool fresh (open_state ≡ None → IsWalk l most new waiting (Some (arrow_at l n).target)) (IsWalk l most new waiting open_state)
+  pub told : Contains (steps new.lines.items) n
+  pub reached : IsReached l new.lines.items (arrow_at l n).target
+  pub again : IsReached l old.lines.items (arrow_at l n).target → fresh ≡ false
+  pub stays : (s : ℕ) → IsReached l old.lines.items s → IsReached l new.lines.items s
+  pub keeps : (m : ℕ) → Contains (steps old.lines.items) m → Contains (steps new.lines.items) m
+  pub waiting : new.waiting.items ≡ old.waiting.items
+  pub falls : MatchBool fresh (unmarked old.reached.items ≡ suc (unmarked new.reached.items)) (unmarked old.reached.items ≡ unmarked new.reached.items)
+
+-- Transitions to states where the walk had come were told.
+pub record HasToldMore (l : System) (most : ℕ) (old new : Walk) : Type 0 where
+  pub walk : (waiting : List Way) (open_state : Option ℕ) → IsWalk l most old waiting open_state → IsWalk l most new waiting open_state
+  pub stays : (s : ℕ) → IsReached l old.lines.items s → IsReached l new.lines.items s
+  pub keeps : (m : ℕ) → Contains (steps old.lines.items) m → Contains (steps new.lines.items) m
+  pub waiting : new.waiting.items ≡ old.waiting.items
+  pub falls : unmarked old.reached.items ≡ unmarked new.reached.items
+
+-- Nothing changed but what waits.
+pub record HasLetWait (old new : Walk) : Type 0 where
+  pub reached : new.reached.items ≡ old.reached.items
+  pub told : new.told.items ≡ old.told.items
+  pub count : new.count ≡ old.count
+  pub lines : new.lines.items ≡ old.lines.items
+
+-- Of the transitions below one, so many last ones wait, too.
+pub record HasLetBlockWait (old new : List Way) (end count : ℕ) : Type 0 where
+  pub stays : (m : ℕ) → Waits old m → Waits new m
+  pub all : (m : ℕ) → end ≤ m + count → m < end → Waits new m
+  pub only : (m : ℕ) → Waits new m → Waits old m ⊎ ((end ≤ m + count) × (m < end))
+  pub long : length new ≡ length old + count
+
+-- The block has the transitions from the state.
+pub record IsBlockOf (transitions : List Transition) (state : ℕ) (block : Block) : Type 0 where
+  pub rises : block.start ≤ block.end
+  pub within : block.end ≤ length transitions
+  pub inside : (n : ℕ) (d : Transition) → block.start ≤ n → n < block.end → (slice_index_or transitions n d).source ≡ state
+  pub all : (n : ℕ) (d : Transition) → n < length transitions → (slice_index_or transitions n d).source ≡ state → (block.start ≤ n) × (n < block.end)
+
+-- how long the walk can go on
+abbrev pub left : Walk → List Way → ℕ → ℕ
+left w waiting arrows = unmarked w.reached.items * (arrows + 1) + length waiting
+
+-- The transitions are those of the system, ascending by source.
+pub record IsOrdered (part : Part) : Type 0 where
+  pub inside : IsInside part.system.now part.transitions.now
+  pub rising : IsNonDecreasingBy (λ (t : Transition). t.source) part.transitions.now
