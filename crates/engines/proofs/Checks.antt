@@ -18,7 +18,9 @@ use Rattle.requests.specs.declared.request.WitnessForm.TheVariants.{System as As
 use Rattle.requests.specs.Writers.{EvenText, WitnessText, DrawingText, Lent, IsLentFor, NeedsEvidence, Unasked, AreKept, AreWritten, IsWhole, all_writers, kind_where}
 use Rattle.requests.specs.Writers.{lent_for, report_writer, witness_kind}
 use Rattle.requests.specs.Texts.{IsFormulaOf, IsReadRefusal}
+use Rattle.requests.specs.declared.request.ReportForm.{ReportForm}
 use Rattle.requests.specs.declared.request.Wanted.{Wanted}
+use Rattle.requests.specs.Command as request
 use Rattle.engines.specs.Findings.{AreFindings, IsTextFound, IsUnprepared, IsUnshown, formula_of, system_of, way_in}
 use Rattle.requests.specs.Solver.{IsFitting, IsUnsolved}
 use Rattle.game.specs.Game.{Game}
@@ -104,7 +106,9 @@ pub unprepared_of : (x : Findings) (wanted : Wanted) (first second : List ℕ) (
 unprepared_of x wanted first second writers e spelled found kept even witness (inl (asked, is)) =
     subst (HasRefused (way_in x) first second writers) (sym is)
     (record { l = system_of x; f = formula_of x; spelled = spelled; within = found.marks.within; needed = inl (even asked); memory = refl }, kept)
-unprepared_of x wanted first second writers e spelled found kept even witness (inr (asked, is)) = unshown e is
+unprepared_of x wanted first second writers e spelled found kept even witness (inr (inr is)) =
+    subst (HasRefused (way_in x) first second writers) (sym is) ((system_of x, spelled.system.spelled), kept)
+unprepared_of x wanted first second writers e spelled found kept even witness (inr (inl (asked, is))) = unshown e is
   where
     unshown : (e : MuError) → IsUnshown x e → HasRefused (way_in x) first second writers e
     unshown error.Memory h = ((system_of x, spelled.system.spelled), kept)
@@ -175,14 +179,14 @@ unprepared_all x wanted first second game even odd witness out e spelled found i
       | inr k ↦ inr (inr (inr (inr (inl k))))
     ]) is
 
-alone_kept : (game even odd witness old new : Option (List ℕ)) → AreKept (report_writer old new)
-    → AreKept (all_writers (record { game = false; evidence = false; witness = None }) game game even even odd odd witness witness old new)
-alone_kept game even odd witness old new h = (Keeps-refl game, (Keeps-refl even, (Keeps-refl odd, (Keeps-refl witness, h))))
+alone_kept : (form : ReportForm) (game even odd witness old new : Option (List ℕ)) → AreKept (report_writer form old new)
+    → AreKept (all_writers (request.report_alone form) game game even even odd odd witness witness old new)
+alone_kept form game even odd witness old new h = (Keeps-refl game, (Keeps-refl even, (Keeps-refl odd, (Keeps-refl witness, h))))
 
 -- the writers to which nothing is written, and the report's
-abbrev pub report_alone : (game even odd witness old new : Option (List ℕ)) → List Lent
-report_alone game even odd witness old new =
-    all_writers (record { game = false; evidence = false; witness = None }) game game even even odd odd witness witness old new
+abbrev pub report_alone : (form : ReportForm) (game even odd witness old new : Option (List ℕ)) → List Lent
+report_alone form game even odd witness old new =
+    all_writers (request.report_alone form) game game even even odd odd witness witness old new
 
 nothing_asked : (way : Way) (l : System) (f : Formula) (marks : List Bool) → IsTextOf way l f marks Unasked []
 nothing_asked BySets l f marks = refl
@@ -191,13 +195,13 @@ nothing_asked (ByGame rule board) l f marks = refl
 nothing_written : (way : Way) (l : System) (f : Formula) (marks : List Bool) (bytes : Option (List ℕ)) → IsWhole (IsTextOf way l f marks) (lent_for Unasked bytes bytes)
 nothing_written way l f marks bytes = ([], nothing_asked way l f marks, Appends-nil bytes)
 
-no_evidence_needed : (old new : Option (List ℕ)) → NeedsEvidence (report_writer old new) → ⊥
-no_evidence_needed old new needed = grind arith
+no_evidence_needed : (form : ReportForm) (old new : Option (List ℕ)) → NeedsEvidence (report_writer form old new) → ⊥
+no_evidence_needed form old new needed = grind arith
 
 -- Where nothing is wanted before the report, it alone is written.
-pub alone_of : (way : Way) (first second : List ℕ) (game even odd witness old new : Option (List ℕ)) (r : Result Bool MuError)
-    → Answers way first second (report_writer old new) r → Answers way first second (report_alone game even odd witness old new) r
-alone_of way first second game even odd witness old new (Ok a) h = record {
+pub alone_of : (way : Way) (first second : List ℕ) (form : ReportForm) (game even odd witness old new : Option (List ℕ)) (r : Result Bool MuError)
+    → Answers way first second (report_writer form old new) r → Answers way first second (report_alone form game even odd witness old new) r
+alone_of way first second form game even odd witness old new (Ok a) h = record {
   l = h.l;
   f = h.f;
   marks = h.marks;
@@ -209,11 +213,11 @@ alone_of way first second game even odd witness old new (Ok a) h = record {
   where
     nothing : (bytes : Option (List ℕ)) → IsWhole (IsTextOf way h.l h.f h.marks) (lent_for Unasked bytes bytes)
     nothing bytes = nothing_written way h.l h.f h.marks bytes
-alone_of way first second game even odd witness old new (Err error.Read) h = (h.0, alone_kept game even odd witness old new h.1)
-alone_of way first second game even odd witness old new (Err error.Memory) h = (h.0, alone_kept game even odd witness old new h.1)
-alone_of way first second game even odd witness old new (Err (error.System e)) h = (h.0, alone_kept game even odd witness old new h.1)
-alone_of way first second game even odd witness old new (Err (error.Formula e)) h = (h.0, h.1, alone_kept game even odd witness old new h.2)
-alone_of way first second game even odd witness old new (Err (error.Write e)) h = record {
+alone_of way first second form game even odd witness old new (Err error.Read) h = (h.0, alone_kept form game even odd witness old new h.1)
+alone_of way first second form game even odd witness old new (Err error.Memory) h = (h.0, alone_kept form game even odd witness old new h.1)
+alone_of way first second form game even odd witness old new (Err (error.System e)) h = (h.0, alone_kept form game even odd witness old new h.1)
+alone_of way first second form game even odd witness old new (Err (error.Formula e)) h = (h.0, h.1, alone_kept form game even odd witness old new h.2)
+alone_of way first second form game even odd witness old new (Err (error.Write e)) h = record {
   l = h.l;
   f = h.f;
   marks = h.marks;
@@ -224,15 +228,15 @@ alone_of way first second game even odd witness old new (Err (error.Write e)) h 
   where
     nothing : (bytes : Option (List ℕ)) → IsWhole (IsTextOf way h.l h.f h.marks) (lent_for Unasked bytes bytes)
     nothing bytes = nothing_written way h.l h.f h.marks bytes
-alone_of way first second game even odd witness old new (Err (error.Arguments e)) h = absurd h
-alone_of way first second game even odd witness old new (Err error.File) h = absurd h
-alone_of way first second game even odd witness old new (Err (error.Normal e)) h = (h.0, alone_kept game even odd witness old new h.1)
-alone_of way first second game even odd witness old new (Err (error.Build e)) h = (h.0, alone_kept game even odd witness old new h.1)
-alone_of way first second game even odd witness old new (Err (error.Game e)) h = absurd h
-alone_of way first second game even odd witness old new (Err (error.Evidence e)) h = absurd (no_evidence_needed old new h.0.needed)
-alone_of way first second game even odd witness old new (Err (error.Table e)) h = (h.0, alone_kept game even odd witness old new h.1)
-alone_of way first second game even odd witness old new (Err (error.Solve e)) h = (h.0, alone_kept game even odd witness old new h.1)
-alone_of way first second game even odd witness old new (Err (error.Schedule e)) h = absurd h
+alone_of way first second form game even odd witness old new (Err (error.Arguments e)) h = absurd h
+alone_of way first second form game even odd witness old new (Err error.File) h = absurd h
+alone_of way first second form game even odd witness old new (Err (error.Normal e)) h = (h.0, alone_kept form game even odd witness old new h.1)
+alone_of way first second form game even odd witness old new (Err (error.Build e)) h = (h.0, alone_kept form game even odd witness old new h.1)
+alone_of way first second form game even odd witness old new (Err (error.Game e)) h = absurd h
+alone_of way first second form game even odd witness old new (Err (error.Evidence e)) h = absurd (no_evidence_needed form old new h.0.needed)
+alone_of way first second form game even odd witness old new (Err (error.Table e)) h = (h.0, alone_kept form game even odd witness old new h.1)
+alone_of way first second form game even odd witness old new (Err (error.Solve e)) h = (h.0, alone_kept form game even odd witness old new h.1)
+alone_of way first second form game even odd witness old new (Err (error.Schedule e)) h = absurd h
 
 -- Marks that were found for each board that can be had are those of the one that is asked for; memory may be wanting anyway.
 pub marks_or_memory : {A : Type 0} (items : A → List Bool) (rule : Priorities) (board : BoardKind) (l : System) (f : Formula) (g : Game) (r : Result A MuError)

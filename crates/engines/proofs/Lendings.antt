@@ -2,6 +2,7 @@
 use Rattle.std.proofs.Common.{◌≡◌, ℕ, List, [], ◌∷◌, ◌++◌, Option, Some, None, inl, inr, refl, subst, sym}
 use Rattle.std.proofs.KnownBytes.{Keeps-refl}
 use Rattle.std.specs.Borrow.{MutBor}
+use Rattle.requests.specs.declared.request.ReportForm.TheVariants.{Whole}
 use Rattle.requests.specs.declared.writers.EvidenceWriters.{EvidenceWriters}
 use Rattle.requests.specs.declared.writers.EvidenceWriters.TheVariants.{Neither, Both}
 use Rattle.requests.specs.Writers.{AreKept, Left, LeftBoth, Lent, evidence_writers, game_writer, no_writer, report_writer}
@@ -28,9 +29,9 @@ pub kept_all : {G E O : Type 0} → (contents : G → Option (List ℕ)) (evens 
     (left : Left G)
     → (evidence : EvidenceWriters E O) (left_both : LeftBoth E O) (out : Option (List ℕ)) → ((x : MutBor G) → game ≡ Some x → left ≡ inr (inl (x, tt)))
     → ((x : MutBor E) (y : MutBor O) → evidence ≡ Both x y → left_both ≡ inr (inl (x, (y, tt))))
-    → AreKept (game_writer contents game left ++ (evidence_writers evens odds evidence left_both ++ (no_writer ∷ report_writer out out)))
+    → AreKept (game_writer contents game left ++ (evidence_writers evens odds evidence left_both ++ (no_writer ∷ report_writer Whole out out)))
 kept_all contents evens odds game left evidence left_both out same same_both =
-    kept_both (game_writer contents game left) (evidence_writers evens odds evidence left_both ++ (no_writer ∷ report_writer out out))
+    kept_both (game_writer contents game left) (evidence_writers evens odds evidence left_both ++ (no_writer ∷ report_writer Whole out out))
     (kept_game contents game left same)
-    (kept_both (evidence_writers evens odds evidence left_both) (no_writer ∷ report_writer out out) (kept_evidence evens odds evidence left_both same_both)
+    (kept_both (evidence_writers evens odds evidence left_both) (no_writer ∷ report_writer Whole out out) (kept_evidence evens odds evidence left_both same_both)
     (tt, (Keeps-refl out, tt)))

@@ -7,3 +7,4 @@ mod Lendings
 mod Winning
 mod Putting
 mod Telling
+mod Reasoning

@@ -38,10 +38,10 @@ kind_made p s is form = sym (ap (option_map (λ (y : Shown). y.form)) is) ∙ fo
 pub shown_stopped : {T E : Type 0} → (x : Findings) (p : Prepared) (s : Shown) (old new out : Option (List ℕ)) (r : Result T E) → p.shown ≡ Some s
     → option_map (λ (y : Shown). y.form) p.shown ≡ p.wanted.witness → IsErr r
     → AreWrittenUpTo (IsTextFound x) (lent_for (witness_kind (Some s.form)) old new ∷ [])
-    → AreWritten (IsTextFound x) (lent_for (witness_kind p.wanted.witness) old new ∷ report_writer out out) r
+    → AreWritten (IsTextFound x) (lent_for (witness_kind p.wanted.witness) old new ∷ report_writer p.wanted.report out out) r
 shown_stopped x p s old new out r is form h up =
-    subst (λ kind. AreWritten (IsTextFound x) (lent_for (witness_kind kind) old new ∷ report_writer out out) r) (kind_made p s is form)
-    (stopped_at (IsTextFound x) (lent_for (witness_kind (Some s.form)) old new ∷ report_writer out out) r h (elim up [
+    subst (λ kind. AreWritten (IsTextFound x) (lent_for (witness_kind kind) old new ∷ report_writer p.wanted.report out out) r) (kind_made p s is form)
+    (stopped_at (IsTextFound x) (lent_for (witness_kind (Some s.form)) old new ∷ report_writer p.wanted.report out out) r h (elim up [
       | inl w ↦ inl (w.0, (Keeps-refl out, tt))
       | inr w ↦ absurd w.1
     ]))
@@ -49,11 +49,11 @@ shown_stopped x p s old new out r is form h up =
 -- it was written, and then the report
 pub shown_written : {T E : Type 0} → (x : Findings) (p : Prepared) (s : Shown) (old new out_old out_new : Option (List ℕ)) (r : Result T E) → p.shown ≡ Some s
     → option_map (λ (y : Shown). y.form) p.shown ≡ p.wanted.witness → AreWhole (IsTextFound x) (lent_for (witness_kind (Some s.form)) old new ∷ [])
-    → AreWritten (IsTextFound x) (report_writer out_old out_new) r
-    → AreWritten (IsTextFound x) (lent_for (witness_kind p.wanted.witness) old new ∷ report_writer out_old out_new) r
+    → AreWritten (IsTextFound x) (report_writer p.wanted.report out_old out_new) r
+    → AreWritten (IsTextFound x) (lent_for (witness_kind p.wanted.witness) old new ∷ report_writer p.wanted.report out_old out_new) r
 shown_written x p s old new out_old out_new r is form whole rest =
-    subst (λ kind. AreWritten (IsTextFound x) (lent_for (witness_kind kind) old new ∷ report_writer out_old out_new) r) (kind_made p s is form)
-    (then_more (IsTextFound x) (lent_for (witness_kind (Some s.form)) old new) (report_writer out_old out_new) r whole.0 rest)
+    subst (λ kind. AreWritten (IsTextFound x) (lent_for (witness_kind kind) old new ∷ report_writer p.wanted.report out_old out_new) r) (kind_made p s is form)
+    (then_more (IsTextFound x) (lent_for (witness_kind (Some s.form)) old new) (report_writer p.wanted.report out_old out_new) r whole.0 rest)
 
 -- it is written as a system
 pub system_written : {T E : Type 0} → (x : Findings) (form : WitnessForm) (u : Texts) (part shown : List Transition) (old new : Option (List ℕ))
@@ -146,7 +146,7 @@ pub game_stopped : {T E : Type 0} → (x : Findings) (wanted : Wanted) (old new 
     (all_writers wanted old new even even odd odd witness witness out out) r
 game_stopped x wanted old new even odd witness out text r is h made front =
     let rest = lent_for (kind_where wanted.evidence EvenText) even even
-    ∷ (lent_for (kind_where wanted.evidence OddText) odd odd ∷ (lent_for (witness_kind wanted.witness) witness witness ∷ report_writer out out)) in
+    ∷ (lent_for (kind_where wanted.evidence OddText) odd odd ∷ (lent_for (witness_kind wanted.witness) witness witness ∷ report_writer wanted.report out out)) in
     subst (λ b. AreWritten (IsTextFound x) (lent_for (kind_where b GameText) old new ∷ rest) r) (sym is)
     (stopped_at (IsTextFound x) (lent_for GameText old new ∷ rest) r h
     (inl ((text, made, front), (Keeps-refl even, (Keeps-refl odd, (Keeps-refl witness, (Keeps-refl out, tt)))))))

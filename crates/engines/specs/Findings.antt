@@ -34,7 +34,7 @@ use Rattle.engines.specs.declared.findings.Findings.{Findings}
 use Rattle.engines.specs.declared.findings.Posed.{Posed}
 use Rattle.engines.specs.declared.findings.EvidencePair.{EvidencePair}
 use Rattle.requests.specs.Check.{Way, ByGame, HasGame, AreMarks, IsArenaOf, IsTextOf, game_of}
-use Rattle.requests.specs.Report.{report}
+use Rattle.requests.specs.Report.{report_in}
 use Rattle.requests.specs.Solver.{IsFitting}
 use Rattle.requests.specs.Writers.{Kind}
 
@@ -67,11 +67,10 @@ formula_of x = closed_formula x.texts.value.formula
 abbrev pub way_in : Findings → Way
 way_in x = ByGame x.solution.priorities x.solution.board
 
--- The game is solved, the marks are found, and the report is made.
+-- The game is solved, and the marks are found.
 pub record AreFindings (x : Findings) : Type 0 where
   pub solution : IsSolvedGame (system_of x) (formula_of x) x.solution
   pub marks : AreMarks (way_in x) (system_of x) (formula_of x) x.marks.items
-  pub report : x.report.items ≡ report (system_of x) (formula_of x) x.marks.items
 
 -- the texts that are written of it
 abbrev pub IsTextFound : Findings → Kind → List ℕ → Type 0
@@ -107,13 +106,15 @@ IsUnshown x (error.Normal e) = HasRefusalWith x.solution.priorities (formula_of 
 IsUnshown x (error.Evidence e) = e ≡ evidence.Memory
 IsUnshown x e = ⊥
 
--- The evidence and the witness that are wanted are made.
+-- The evidence and the witness that are wanted are made, and the report in its form.
 pub record ArePrepared (x : Findings) (p : Prepared) : Type 0 where
   pub pair : IfSome p.pair (IsPairOf (arc_value x.solution.game))
   pub evidence : is_some p.pair ≡ p.wanted.evidence
   pub shown : IfSome p.shown (λ shown. AreShown x shown.part.items)
   pub form : option_map (λ (shown : Shown). shown.form) p.shown ≡ p.wanted.witness
+  pub report : p.report.items ≡ report_in p.wanted.report (system_of x) (formula_of x) x.marks.items
 
 -- Memory was wanting for what is wanted.
 abbrev pub IsUnprepared : Findings → Wanted → MuError → Type 0
-IsUnprepared x wanted e = (IsTrue wanted.evidence × (e ≡ error.Evidence evidence.Memory)) ⊎ (IsTrue (is_some wanted.witness) × IsUnshown x e)
+IsUnprepared x wanted e =
+    (IsTrue wanted.evidence × (e ≡ error.Evidence evidence.Memory)) ⊎ ((IsTrue (is_some wanted.witness) × IsUnshown x e) ⊎ (e ≡ error.Memory))

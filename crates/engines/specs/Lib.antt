@@ -1,4 +1,5 @@
 pub mod Findings
 pub mod Found
+pub mod Reasons
 pub mod Status
 pub mod Table

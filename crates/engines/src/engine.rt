@@ -2,6 +2,7 @@
 
 ghost use Rattle.std.specs.Prelude.{◌≡◌, ◌∷◌, ◌++◌, [], ℕ, List, None, Some, IfErr, MatchResult};
 ghost use Rattle.calculus.specs.Closed.{closed_formula};
+ghost use Rattle.requests.specs.declared.request.ReportForm.TheVariants.{Whole};
 ghost use Rattle.requests.specs.Check.{Way, BySets, ByGame, AreMarks, AreSpelled, Answers, Checks, IsBeyond, IsErrorOf};
 ghost use Rattle.requests.specs.Command.{wanted_in, way_of};
 ghost use Rattle.engines.specs.Findings.{AreFindings, formula_of, system_of, way_in};
@@ -16,7 +17,7 @@ use crate::report::report_text;
 use lts::put;
 use measures::observer::{Observer, Silent, Stage};
 use requests::error::MuError;
-use requests::request::{Check, Options, Wanted};
+use requests::request::{Check, Options, ReportForm, Wanted};
 use requests::texts::{Texts, read_both_seen};
 use requests::watch::Watcher;
 use requests::writers::EvidenceWriters;
@@ -31,6 +32,7 @@ const REPORT: Wanted = Wanted {
     game: false,
     evidence: false,
     witness: None,
+    report: ReportForm::Whole,
 };
 
 /// The game and the report.
@@ -38,6 +40,7 @@ const GAME: Wanted = Wanted {
     game: true,
     evidence: false,
     witness: None,
+    report: ReportForm::Whole,
 };
 
 /// The evidence of both players and the report.
@@ -45,6 +48,7 @@ const EVIDENCE: Wanted = Wanted {
     game: false,
     evidence: true,
     witness: None,
+    report: ReportForm::Whole,
 };
 
 /// All of these.
@@ -52,6 +56,7 @@ const BOTH: Wanted = Wanted {
     game: true,
     evidence: true,
     witness: None,
+    report: ReportForm::Whole,
 };
 
 /// Writes to each writer that is lent, and answers. It is a macro, since a function that takes a writer by value hides the writer's final
@@ -111,13 +116,13 @@ pub fn check_plain<R: Read + Drop, S: Read + Drop, W: Write>(
     formula: S,
     out: &mut W,
 ) -> Result<bool, MuError>
-    ensures checks { Checks BySets (R.remaining aut) (S.remaining formula) (report_writer (W.contents out.old) (W.contents out.new)) result }
+    ensures checks { Checks BySets (R.remaining aut) (S.remaining formula) (report_writer Whole (W.contents out.old) (W.contents out.new)) result }
     ensures plain { IfErr result (IsErrorOf BySets) }
 {
-    check_plain_seen(alloc, aut, formula, out, &Silent)
+    check_plain_seen(alloc, aut, formula, ReportForm::Whole, out, &Silent)
 }
 
-/// Checks as `check_plain` does, and tells a watcher what is being read and evaluated.
+/// Checks as `check_plain` does, with the report in a form, and tells a watcher what is being read and evaluated.
 ///
 /// # Errors
 /// Those of `check_plain`.
@@ -125,10 +130,11 @@ pub fn check_plain_seen<R: Read + Drop, S: Read + Drop, W: Write, U: Watcher>(
     alloc: Global,
     aut: R,
     formula: S,
+    form: ReportForm,
     out: &mut W,
     watcher: &U,
 ) -> Result<bool, MuError>
-    ensures checks { Checks BySets (R.remaining aut) (S.remaining formula) (report_writer (W.contents out.old) (W.contents out.new)) result }
+    ensures checks { Checks BySets (R.remaining aut) (S.remaining formula) (report_writer form (W.contents out.old) (W.contents out.new)) result }
     ensures plain { IfErr result (IsErrorOf BySets) }
 {
     match read_both_seen(alloc, aut, formula, watcher) {
@@ -138,7 +144,7 @@ pub fn check_plain_seen<R: Read + Drop, S: Read + Drop, W: Write, U: Watcher>(
             });
             let marks = plain_marks(alloc, &texts.system, &texts.formula);
             watcher.sees(Stage::Writing);
-            report(alloc, &texts, marks, out)
+            report(alloc, &texts, marks, form, out)
         }
         Err(error) => Err(error),
     }
@@ -149,19 +155,20 @@ fn report<W: Write>(
     alloc: Global,
     texts: &Texts,
     marks: Result<Vec<bool>, MuError>,
+    form: ReportForm,
     out: &mut W,
 ) -> Result<bool, MuError>
     requires { let l = texts.now.system.system in let f = closed_formula texts.now.formula in
         (way : Way) × MatchResult marks (λ marks. AreMarks way l f marks.items) (IsBeyond way l f) }
     ensures answers { let l = texts.now.system.system in let f = closed_formula texts.now.formula in
         (way : Way) (first second : List ℕ) → MatchResult marks (λ marks. AreMarks way l f marks.items) (IsBeyond way l f)
-        → AreSpelled first second l f → Answers way first second (report_writer (W.contents out.old) (W.contents out.new)) result }
+        → AreSpelled first second l f → Answers way first second (report_writer form (W.contents out.old) (W.contents out.new)) result }
     ensures errors { let l = texts.now.system.system in let f = closed_formula texts.now.formula in
         (way : Way) → MatchResult marks (λ marks. AreMarks way l f marks.items) (IsBeyond way l f) → IfErr result (IsErrorOf way) }
 {
     let marks = marks?;
     let initial = texts.system.initial() as usize;
-    let text = report_text(alloc, &texts.system, &texts.formula, &marks)?;
+    let text = report_text(alloc, &texts.system, &texts.formula, &marks, form)?;
     match put(out, &text) {
         Ok(()) => Ok(marks[initial]),
         Err(fault) => Err(MuError::Write(fault)),
@@ -202,7 +209,7 @@ pub fn check_asked<
         (O.contents odd.old) (O.contents odd.new) (V.contents witness.old) (V.contents witness.new) (W.contents out.old) (W.contents out.new)) result }
 {
     if request.plain {
-        return check_plain_seen(alloc, aut, formula, out, watcher);
+        return check_plain_seen(alloc, aut, formula, wanted.report, out, watcher);
     }
     let options = &request.options;
     check_all(
@@ -238,7 +245,7 @@ pub fn check<
 ) -> Result<bool, MuError>
     ensures { Checks (ByGame options.now.priorities (Some options.now.board)) (R.remaining aut) (S.remaining formula)
         (game_writer G.contents game.entry game.exit ++ (evidence_writers E.contents O.contents evidence.entry evidence.exit
-        ++ (no_writer ∷ report_writer (W.contents out.old) (W.contents out.new)))) result }
+        ++ (no_writer ∷ report_writer Whole (W.contents out.old) (W.contents out.new)))) result }
 {
     let found = match find_with(rt, alloc, aut, formula, options, &NoGate) {
         Ok(found) => found,
@@ -273,7 +280,7 @@ pub fn check_gated<
 ) -> Result<bool, MuError>
     ensures { Checks (ByGame options.now.priorities (Some options.now.board)) (R.remaining aut) (S.remaining formula)
         (game_writer G.contents game.entry game.exit ++ (evidence_writers E.contents O.contents evidence.entry evidence.exit
-        ++ (no_writer ∷ report_writer (W.contents out.old) (W.contents out.new)))) result }
+        ++ (no_writer ∷ report_writer Whole (W.contents out.old) (W.contents out.new)))) result }
 {
     let found = match find_with(rt, alloc, aut, formula, options, gate) {
         Ok(found) => found,
@@ -317,7 +324,8 @@ pub fn check_all<
         (V.contents witness.old) (V.contents witness.new) (W.contents out.old) (W.contents out.new)) result }
 {
     if wanted.is_nothing() {
-        return check_report(rt, alloc, aut, formula, options, out, watcher);
+        let form = wanted.report;
+        return check_report(rt, alloc, aut, formula, options, form, out, watcher);
     }
     match find_seen(rt, alloc, aut, formula, options, watcher) {
         Ok(found) => {
@@ -341,17 +349,18 @@ fn check_report<
     aut: R,
     formula: S,
     options: &Options,
+    form: ReportForm,
     out: &mut W,
     watcher: &U,
 ) -> Result<bool, MuError>
     ensures { Checks (ByGame options.now.priorities (Some options.now.board)) (R.remaining aut) (S.remaining formula)
-        (report_writer (W.contents out.old) (W.contents out.new)) result }
+        (report_writer form (W.contents out.old) (W.contents out.new)) result }
 {
     match read_both_seen(alloc, aut, formula, watcher) {
         Ok(texts) => {
             let marks = game_marks(rt, alloc, &texts.system, &texts.formula, options, watcher);
             watcher.sees(Stage::Writing);
-            report(alloc, &texts, marks, out)
+            report(alloc, &texts, marks, form, out)
         }
         Err(error) => Err(error),
     }
@@ -382,7 +391,7 @@ pub fn check_one<
 ) -> Result<bool, MuError>
     ensures { Checks (ByGame options.now.priorities None) (R.remaining aut) (S.remaining formula)
         (game_writer G.contents game.entry game.exit ++ (evidence_writers E.contents O.contents evidence.entry evidence.exit
-        ++ (no_writer ∷ report_writer (W.contents out.old) (W.contents out.new)))) result }
+        ++ (no_writer ∷ report_writer Whole (W.contents out.old) (W.contents out.new)))) result }
 {
     let found = match find_alone(rt, alloc, aut, formula, options.priorities) {
         Ok(found) => found,

@@ -11,7 +11,6 @@ ghost use Rattle.requests.specs.Writers.{AreKept, Lent};
 
 use crate::guessing::guess_of;
 use crate::lifting::{SolvedGame, Winners, state_marks};
-use crate::report::report_text;
 use evidence::error::EvidenceError;
 use evidence::evidence::Evidence;
 use evidence::make::{even_evidence, odd_evidence};
@@ -49,7 +48,6 @@ pub struct Findings {
     pub texts: Box<Texts>,
     pub solution: SolvedGame,
     pub marks: Vec<bool>,
-    pub report: Vec<u8>,
 }
 
 /// Evidence of all that Even wins, and of all that Odd wins.
@@ -349,7 +347,6 @@ fn find_solved(
     let Texts { system, formula } = &*texts;
     let winners = Winners::Table(&settled);
     let marks = state_marks(alloc, system, formula, priorities, &game, winners)?;
-    let report = report_text(alloc, system, formula, &marks)?;
     Ok(Findings {
         texts,
         solution: SolvedGame {
@@ -359,7 +356,6 @@ fn find_solved(
             settled,
         },
         marks,
-        report,
     })
 }
 

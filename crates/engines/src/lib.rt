@@ -1,4 +1,5 @@
-// The engines of `check` and of `table`, over readers and writers: from both texts to the report, or to a line of the table; and the exit status.
+// The engines of `check`, `why` and `table`, over readers and writers: from both texts to the report, to what is told of the answer, or to a line of the
+// table; and the exit status.
 #![tactic(auto)]
 
 pub mod engine;
@@ -10,6 +11,7 @@ mod marks;
 mod no_writer;
 mod outputs;
 mod prepared;
+pub mod reasons;
 mod report;
 pub mod status;
 pub mod table;

@@ -97,7 +97,7 @@ pub(crate) fn game_marks<O: Observer + Sync, H: Threads + Wait + Clone + Copy + 
 }
 
 /// A mark for each state, true where it satisfies the formula, in the game of both: by a guess of the whole table, where it is good;
-/// else, with one worker, by evidence of both players that is guessed and found good, where there is some; else by lifting.
+/// else by evidence of both players that is guessed and found good, where there is some; else by lifting.
 fn marks_in<O: Observer + Sync, H: Threads + Wait + Clone + Copy + Drop + Send + Sync>(
     rt: &H,
     alloc: Global,
@@ -142,10 +142,8 @@ fn solution_of<O: Observer + Sync, H: Threads + Wait + Clone + Copy + Drop + Sen
     if let Some(settled) = settled_by_guess(alloc, game, &guess) {
         return Ok(Solution::Table(settled));
     }
-    if options.workers == 1 {
-        if let Some(marks) = certified_winners(alloc, game) {
-            return Ok(Solution::Marks(marks));
-        }
+    if let Some(marks) = certified_winners(alloc, game) {
+        return Ok(Solution::Marks(marks));
     }
     let settled = solve_seen(rt, alloc, game, options, &NoGate, observer, &guess)?;
     Ok(Solution::Table(settled))

@@ -51,7 +51,7 @@ fn put_after_game<E: Write, O: Write, V: Write, W: Write>(
     ensures { AreWritten (IsTextFound found.now) (lent_for (kind_where prepared.now.wanted.evidence EvenText) (E.contents even.old) (E.contents even.new)
         ∷ (lent_for (kind_where prepared.now.wanted.evidence OddText) (O.contents odd.old) (O.contents odd.new)
         ∷ (lent_for (witness_kind prepared.now.wanted.witness) (V.contents witness.old) (V.contents witness.new)
-        ∷ report_writer (W.contents out.old) (W.contents out.new)))) result }
+        ∷ report_writer prepared.now.wanted.report (W.contents out.old) (W.contents out.new)))) result }
 {
     match &prepared.pair {
         Some(pair) => {
@@ -73,23 +73,27 @@ fn put_after_evidence<V: Write, W: Write>(
     requires found { AreFindings found.now }
     requires prepared { ArePrepared found.now prepared.now }
     ensures { AreWritten (IsTextFound found.now) (lent_for (witness_kind prepared.now.wanted.witness) (V.contents witness.old) (V.contents witness.new)
-        ∷ report_writer (W.contents out.old) (W.contents out.new)) result }
+        ∷ report_writer prepared.now.wanted.report (W.contents out.old) (W.contents out.new)) result }
 {
     match &prepared.shown {
         Some(shown) => {
             put_witness(found, shown, witness)?;
-            put_report(found, out)
+            put_report(found, prepared, out)
         }
-        None => put_report(found, out),
+        None => put_report(found, prepared, out),
     }
 }
 
 /// Writes the report.
-fn put_report<W: Write>(found: &Findings, out: &mut W) -> Result<(), WriteFault>
-    requires { AreFindings found.now }
-    ensures { AreWritten (IsTextFound found.now) (report_writer (W.contents out.old) (W.contents out.new)) result }
+fn put_report<W: Write>(
+    found: &Findings,
+    prepared: &Prepared,
+    out: &mut W,
+) -> Result<(), WriteFault>
+    requires { ArePrepared found.now prepared.now }
+    ensures { AreWritten (IsTextFound found.now) (report_writer prepared.now.wanted.report (W.contents out.old) (W.contents out.new)) result }
 {
-    put(out, &found.report)
+    put(out, &prepared.report)
 }
 
 /// Writes the witness in its form.

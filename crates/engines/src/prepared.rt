@@ -4,9 +4,11 @@ ghost use Rattle.std.specs.Prelude.{◌≡◌, ◌<◌, IfOk, IfErr, IfSome, IsT
 ghost use Rattle.std.specs.Arc.{arc_value};
 ghost use Rattle.std.specs.Option.{is_some};
 ghost use Rattle.engines.specs.declared.prepared.Shown.{Shown};
-ghost use Rattle.engines.specs.Findings.{AreFindings, ArePrepared, AreShown, IsPairOf, IsUnprepared, IsUnshown, IsWinning};
+ghost use Rattle.engines.specs.Findings.{AreFindings, ArePrepared, AreShown, IsPairOf, IsUnprepared, IsUnshown, IsWinning, formula_of, system_of};
+ghost use Rattle.requests.specs.Report.{report_in};
 
 use crate::findings::{EvidencePair, Findings, evidence_pair};
+use crate::report::report_text;
 use evidence::error::EvidenceError;
 use evidence::evidence::Evidence;
 use evidence::make::{even_evidence, odd_evidence};
@@ -15,7 +17,7 @@ use laws::games::one_wins;
 use lts::{Memory, Transition};
 use normal::make::normal_with;
 use requests::error::MuError;
-use requests::request::{Wanted, WitnessForm};
+use requests::request::{ReportForm, Wanted, WitnessForm};
 use std::alloc::Global;
 use witness::part::witness;
 
@@ -32,6 +34,7 @@ pub struct Prepared {
     pub wanted: Wanted,
     pub pair: Option<EvidencePair>,
     pub shown: Option<Shown>,
+    pub report: Vec<u8>,
 }
 
 /// Makes what is wanted.
@@ -46,11 +49,23 @@ pub(crate) fn prepare(alloc: Global, found: &Findings, wanted: Wanted) -> Result
 {
     let pair = pair_where(alloc, found, wanted.evidence)?;
     let shown = shown_where(alloc, found, wanted.witness, &pair)?;
+    let report = report_of(alloc, found, wanted.report)?;
     Ok(Prepared {
         wanted,
         pair,
         shown,
+        report,
     })
+}
+
+/// The report in the form that is wanted.
+fn report_of(alloc: Global, found: &Findings, form: ReportForm) -> Result<Vec<u8>, MuError>
+    requires { AreFindings found.now }
+    ensures text { IfOk result (λ text. text.items ≡ report_in form (system_of found.now) (formula_of found.now) found.now.marks.items) }
+    ensures refusal { IfErr result (λ e. e ≡ MuError.Memory) }
+{
+    let texts = &found.texts;
+    report_text(alloc, &texts.system, &texts.formula, &found.marks, form)
 }
 
 /// The evidence of both players, if it is wanted.
@@ -113,7 +128,7 @@ fn part_in(alloc: Global, found: &Findings, pair: &EvidencePair) -> Result<Vec<T
 }
 
 /// The transitions that the answer rests on, where there is no evidence yet: that of the player who wins is made.
-fn part_alone(alloc: Global, found: &Findings) -> Result<Vec<Transition>, MuError>
+pub(crate) fn part_alone(alloc: Global, found: &Findings) -> Result<Vec<Transition>, MuError>
     requires { AreFindings found.now }
     ensures part { IfOk result (λ part. AreShown found.now part.items) }
     ensures refusal { IfErr result (IsUnshown found.now) }

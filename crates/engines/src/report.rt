@@ -1,19 +1,36 @@
 // The report of a check.
 
-ghost use Rattle.std.specs.Prelude.{◌≡◌, ◌++◌, length, count_by, decimal, slice_index_or, false, IfOk, IfErr};
+ghost use Rattle.std.specs.Prelude.{◌≡◌, ◌++◌, length, count_by, decimal, slice_index_or, false, IfOk, IfErr, take};
 ghost use Rattle.text.specs.Wrote.{Wrote};
 ghost use Rattle.calculus.specs.Closed.{closed_formula};
-ghost use Rattle.requests.specs.Report.{report, system_line, formula_line, yes_line, initial_line, state_lines, yes_or_no};
+ghost use Rattle.requests.specs.Report.{
+  at_most,
+  formula_line,
+  initial_line,
+  is_mark,
+  line_end,
+  number_lines,
+  numbers_with,
+  report,
+  report_in,
+  state_lines,
+  summary,
+  system_line,
+  yes_line,
+  yes_or_no,
+};
 
 use calculus::closed::Closed;
 use formula::print;
 use lts::system::Lts;
 use lts::{Piece, WriteFault, put, put_pieces};
 use requests::error::MuError;
+use requests::request::ReportForm;
 use std::alloc::Global;
 use std::io::Write;
 
-/// The report: what was read, how many states satisfy the formula, whether the initial one does, and a line for each state.
+/// The report in a form. The whole of it is: what was read, how many states satisfy the formula, whether the initial one does, and a line for each
+/// state.
 ///
 /// # Errors
 /// U4.
@@ -22,14 +39,15 @@ pub fn report_text(
     lts: &Lts,
     formula: &Closed,
     marks: &[bool],
+    form: ReportForm,
 ) -> Result<Vec<u8>, MuError>
     requires { length marks.now ≡ lts.now.system.states }
-    ensures text { IfOk result (λ text. text.items ≡ report lts.now.system (closed_formula formula.now) marks.now) }
+    ensures text { IfOk result (λ text. text.items ≡ report_in form lts.now.system (closed_formula formula.now) marks.now) }
     ensures refusal { IfErr result (λ e. e ≡ MuError.Memory) }
 {
     let mut text = Vec::new(alloc);
     // A vector refuses what there is no memory for, and nothing else.
-    match write_report(lts, formula, marks, &mut text) {
+    match write_report(lts, formula, marks, form, &mut text) {
         Ok(()) => Ok(text),
         Err(WriteFault) => Err(MuError::Memory),
     }
@@ -39,17 +57,49 @@ fn write_report<W: Write>(
     lts: &Lts,
     formula: &Closed,
     marks: &[bool],
+    form: ReportForm,
+    out: &mut W,
+) -> Result<(), WriteFault>
+    requires { length marks.now ≡ lts.now.system.states }
+    ensures { Wrote (W.contents out.old) (W.contents out.new) result
+        (report_in form lts.now.system (closed_formula formula.now) marks.now) }
+{
+    match form {
+        ReportForm::Whole => write_whole(lts, formula, marks, out),
+        ReportForm::Summary => write_summary(lts, formula, marks, out),
+        ReportForm::States { mark, most } => write_numbers(marks, mark, most, out),
+        ReportForm::Nothing => Ok(()),
+    }
+}
+
+fn write_whole<W: Write>(
+    lts: &Lts,
+    formula: &Closed,
+    marks: &[bool],
     out: &mut W,
 ) -> Result<(), WriteFault>
     requires { length marks.now ≡ lts.now.system.states }
     ensures { Wrote (W.contents out.old) (W.contents out.new) result
         (report lts.now.system (closed_formula formula.now) marks.now) }
 {
+    write_summary(lts, formula, marks, out)?;
+    write_state_lines(marks, out)
+}
+
+fn write_summary<W: Write>(
+    lts: &Lts,
+    formula: &Closed,
+    marks: &[bool],
+    out: &mut W,
+) -> Result<(), WriteFault>
+    requires { length marks.now ≡ lts.now.system.states }
+    ensures { Wrote (W.contents out.old) (W.contents out.new) result
+        (summary lts.now.system (closed_formula formula.now) marks.now) }
+{
     write_system_line(lts, out)?;
     write_formula_line(formula, out)?;
     write_yes_line(lts, marks, out)?;
-    write_initial_line(lts, marks, out)?;
-    write_state_lines(marks, out)
+    write_initial_line(lts, marks, out)
 }
 
 fn write_system_line<W: Write>(lts: &Lts, out: &mut W) -> Result<(), WriteFault>
@@ -70,7 +120,8 @@ fn write_system_line<W: Write>(lts: &Lts, out: &mut W) -> Result<(), WriteFault>
     )
 }
 
-fn write_formula_line<W: Write>(formula: &Closed, out: &mut W) -> Result<(), WriteFault>
+/// Writes the formula's canonical text.
+pub(crate) fn write_formula_line<W: Write>(formula: &Closed, out: &mut W) -> Result<(), WriteFault>
     ensures { Wrote (W.contents out.old) (W.contents out.new) result
         (formula_line (closed_formula formula.now)) }
 {
@@ -95,7 +146,12 @@ fn write_yes_line<W: Write>(lts: &Lts, marks: &[bool], out: &mut W) -> Result<()
     )
 }
 
-fn write_initial_line<W: Write>(lts: &Lts, marks: &[bool], out: &mut W) -> Result<(), WriteFault>
+/// Writes whether the initial state is marked.
+pub(crate) fn write_initial_line<W: Write>(
+    lts: &Lts,
+    marks: &[bool],
+    out: &mut W,
+) -> Result<(), WriteFault>
     requires { length marks.now ≡ lts.now.system.states }
     ensures { Wrote (W.contents out.old) (W.contents out.new) result
         (initial_line (slice_index_or marks.now lts.now.system.initial false)) }
@@ -123,6 +179,56 @@ fn write_state_line<W: Write>(state: usize, mark: bool, out: &mut W) -> Result<(
         out,
         &[Piece::Number(state as u64), Piece::Bytes(answer_line(mark))],
     )
+}
+
+/// The numbers of the states with this mark: all, or so many.
+fn write_numbers<W: Write>(
+    marks: &[bool],
+    wanted: bool,
+    most: Option<u32>,
+    out: &mut W,
+) -> Result<(), WriteFault>
+    ensures { Wrote (W.contents out.old) (W.contents out.new) result
+        (number_lines (at_most most (numbers_with wanted 0 marks.now))) }
+{
+    match most {
+        Some(most) => write_first_numbers(marks, wanted, most as usize, out),
+        None => write_first_numbers(marks, wanted, marks.len(), out),
+    }
+}
+
+/// The first so many numbers of the states with this mark.
+fn write_first_numbers<W: Write>(
+    marks: &[bool],
+    wanted: bool,
+    most: usize,
+    out: &mut W,
+) -> Result<(), WriteFault>
+    ensures { Wrote (W.contents out.old) (W.contents out.new) result
+        (number_lines (take most (numbers_with wanted 0 marks.now))) }
+{
+    let mut left = most;
+    for (state, mark) in marks.iter().enumerate() {
+        if left == 0 || !is_mark(wanted, *mark) {
+            continue;
+        }
+        write_number_line(state, out)?;
+        left -= 1;
+    }
+    Ok(())
+}
+
+fn write_number_line<W: Write>(number: usize, out: &mut W) -> Result<(), WriteFault>
+    ensures { Wrote (W.contents out.old) (W.contents out.new) result (decimal number ++ line_end) }
+{
+    put_pieces(out, &[Piece::Number(number as u64), Piece::Bytes(b"\n")])
+}
+
+/// Whether a mark is the one that is looked for.
+fn is_mark(wanted: bool, mark: bool) -> bool
+    ensures { result ≡ is_mark wanted mark }
+{
+    mark == wanted
 }
 
 /// How many are marked.

@@ -30,7 +30,7 @@ use Rattle.requests.specs.declared.error.MuError.{MuError}
 use Rattle.requests.specs.declared.error.MuError.TheVariants as error
 use Rattle.requests.specs.Texts.{IsSystemOf, IsFormulaOf}
 use Rattle.workers.specs.declared.team.BoardKind.{BoardKind}
-use Rattle.requests.specs.Report.{report}
+use Rattle.requests.specs.Report.{report_in}
 use Rattle.requests.specs.Roots.{WinsRoot}
 use Rattle.requests.specs.Solver.{IsFitting, IsUnsolved}
 use Rattle.requests.specs.Writers.{Kind, GameText, EvenText, OddText, WitnessText, DrawingText, ReportText, Unasked, Lent, NeedsEvidence, AreWhole, AreKept}
@@ -100,14 +100,14 @@ IsTextOf BySets l f marks EvenText text = ⊥
 IsTextOf BySets l f marks OddText text = ⊥
 IsTextOf BySets l f marks WitnessText text = ⊥
 IsTextOf BySets l f marks DrawingText text = ⊥
-IsTextOf BySets l f marks ReportText text = text ≡ report l f marks
+IsTextOf BySets l f marks (ReportText form) text = text ≡ report_in form l f marks
 IsTextOf BySets l f marks Unasked text = text ≡ []
 IsTextOf (ByGame rule board) l f marks GameText text = text ≡ game_text (game_of rule l f)
 IsTextOf (ByGame rule board) l f marks EvenText text = (e : Evidence) × IsEvenOf (game_of rule l f) e × (text ≡ evidence_text e)
 IsTextOf (ByGame rule board) l f marks OddText text = (e : Evidence) × IsOddOf (game_of rule l f) e × (text ≡ evidence_text e)
 IsTextOf (ByGame rule board) l f marks WitnessText text = (part : System) × IsShown l f (nodes_with rule f) part × (text ≡ aut_text part)
 IsTextOf (ByGame rule board) l f marks DrawingText text = (part : System) × IsShown l f (nodes_with rule f) part × (text ≡ drawing part)
-IsTextOf (ByGame rule board) l f marks ReportText text = text ≡ report l f marks
+IsTextOf (ByGame rule board) l f marks (ReportText form) text = text ≡ report_in form l f marks
 IsTextOf (ByGame rule board) l f marks Unasked text = text ≡ []
 
 -- Each text was written whole, the report among them on the states in the formula's meaning, and the answer is the initial state's.

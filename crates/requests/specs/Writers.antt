@@ -4,6 +4,7 @@ use Rattle.std.specs.Prelude.{◌≡◌, ℕ, ◌⊎◌, Bool, List, [], ◌∷�
 use Rattle.std.specs.Borrow.{MutBor}
 use Rattle.std.specs.Io.KnownBytes.{Appends, Keeps}
 use Rattle.text.specs.Wrote.{WroteFront}
+use Rattle.requests.specs.declared.request.ReportForm.{ReportForm}
 use Rattle.requests.specs.declared.request.Wanted.{Wanted}
 use Rattle.requests.specs.declared.request.WitnessForm.{WitnessForm}
 use Rattle.requests.specs.declared.request.WitnessForm.TheVariants.{System, Drawing}
@@ -17,7 +18,7 @@ pub data Kind : Type 0 where
   OddText : Kind
   WitnessText : Kind
   DrawingText : Kind
-  ReportText : Kind
+  ReportText : ReportForm → Kind
   Unasked : Kind
 
 -- a writer that is lent for a text, and what is known of its bytes before and after
@@ -91,8 +92,9 @@ evidence_writers evens odds (Both even odd) (inr (inl left)) = lent_for EvenText
     (odds left.1.0.now) ∷ []
 evidence_writers evens odds (Both even odd) (inr (inr x)) = absurd x
 
-abbrev pub report_writer : (old new : Option (List ℕ)) → List Lent
-report_writer old new = lent_for ReportText old new ∷ []
+-- that for the report in this form
+abbrev pub report_writer : ReportForm → (old new : Option (List ℕ)) → List Lent
+report_writer form old new = lent_for (ReportText form) old new ∷ []
 
 -- the kinds of text that are wanted
 abbrev pub kind_where : Bool → Kind → Kind
@@ -111,4 +113,4 @@ all_writers wanted old_game new_game old_even new_even old_odd new_odd old_witne
     ∷ (lent_for (kind_where wanted.evidence EvenText) old_even new_even
     ∷ (lent_for (kind_where wanted.evidence OddText) old_odd new_odd
     ∷ (lent_for (witness_kind wanted.witness) old_witness new_witness
-    ∷ (lent_for ReportText old_report new_report ∷ []))))
+    ∷ report_writer wanted.report old_report new_report)))

@@ -61,6 +61,12 @@ pub enum ArgumentError {
     /// A text that is written without a game is the report alone.
     #[error("error: --plain makes no game, so --game, --evidence and --witness can't stand beside it\n")]
     PlainOutput,
+    /// Two options ask for two forms of the report, or the numbers of states are limited where none are written.
+    #[error("error: of --quiet, --summary and --states one can stand, and --limit beside --states alone\n")]
+    ReportForms,
+    /// Standard input is named twice among the files that are read.
+    #[error("error: - names standard input, which one of the files alone can be\n")]
+    TwoInputs,
     /// What is written to the first one would destroy the other one.
     #[error("error: {0} and {1} are the same file\n")]
     SameFile(CheckFile, CheckFile),

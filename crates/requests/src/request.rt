@@ -37,19 +37,33 @@ pub enum WitnessForm {
     Drawing,
 }
 
-/// Which texts a check by a game writes before its report.
+/// In which form a report is written.
+#[derive(Clone, Copy)]
+pub enum ReportForm {
+    /// With a line for each state.
+    Whole,
+    /// Without these lines.
+    Summary,
+    /// The numbers of the states with this mark, a line each, and nothing else: of all of them, or of the first ones.
+    States { mark: bool, most: Option<u32> },
+    /// No text at all.
+    Nothing,
+}
+
+/// Which texts a check by a game writes before its report, and in which form the report.
 #[derive(Clone, Copy)]
 pub struct Wanted {
     pub game: bool,
     /// That of both players.
     pub evidence: bool,
     pub witness: Option<WitnessForm>,
+    pub report: ReportForm,
 }
 
 impl Wanted {
     /// Whether nothing is wanted before the report.
     pub fn is_nothing(&self) -> bool
-        ensures { IsTrue result ↔ (self.now ≡ record { game = false; evidence = false; witness = None }) }
+        ensures { IsTrue result ↔ (self.now ≡ record { game = false; evidence = false; witness = None; report = self.now.report }) }
     {
         !self.game && !self.evidence && self.witness.is_none()
     }

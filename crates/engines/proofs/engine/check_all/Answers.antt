@@ -33,4 +33,4 @@ returns-then-is_nothing g c = λ first second known also.
     let new = g.W.Write.contents c.check_report.new.out in
     subst (λ (w : Wanted). Answers way first second (all_writers w game game even even odd odd witness witness old new) c.check_report.result)
     (sym (c.is_nothing.ensures.0 c.if-is_nothing.true))
-    (alone_of way first second game even odd witness old new c.check_report.result (c.check_report.ensures first second known also))
+    (alone_of way first second c.args.wanted.report game even odd witness old new c.check_report.result (c.check_report.ensures first second known also))

@@ -10,7 +10,7 @@ returns-in-Ok-clause-checks g c = λ first second known also.
 pub returns-in-Err-clause-checks : goal.returns-in-Err-clause-checks
 returns-in-Err-clause-checks g c = λ first second known also.
     let here = g.W.Write.contents c.args.out.now in
-    c.in-Err.ensures.refusal first second known also BySets (report_writer here here) (Keeps-refl here, tt)
+    c.in-Err.ensures.refusal first second known also BySets (report_writer c.args.form here here) (Keeps-refl here, tt)
 
 pub returns-in-Ok-clause-plain : goal.returns-in-Ok-clause-plain
 returns-in-Ok-clause-plain g c = c.report.ensures.errors BySets c.plain_marks-marks.ensures

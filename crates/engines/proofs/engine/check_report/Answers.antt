@@ -14,4 +14,4 @@ pub returns-in-Err : goal.returns-in-Err
 returns-in-Err g c = λ first second known also.
     let options = c.args.options.now in
     let here = g.W.Write.contents c.args.out.now in
-    c.in-Err.ensures.refusal first second known also (ByGame options.priorities (Some options.board)) (report_writer here here) (Keeps-refl here, tt)
+    c.in-Err.ensures.refusal first second known also (ByGame options.priorities (Some options.board)) (report_writer c.args.form here here) (Keeps-refl here, tt)

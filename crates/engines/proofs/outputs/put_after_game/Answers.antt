@@ -11,7 +11,7 @@ returns-in_err-write_evidence-in-Some g c =
     let witness = g.V.Write.contents c.args.witness.now in
     let out = g.W.Write.contents c.args.out.now in
     even_stopped x p c.in-Some.pair _ _ (g.O.Write.contents c.args.odd.now)
-    (lent_for (witness_kind p.wanted.witness) witness witness ∷ report_writer out out) c.from_residual.result
+    (lent_for (witness_kind p.wanted.witness) witness witness ∷ report_writer p.wanted.report out out) c.from_residual.result
     c.requires.found (pair_in x p c.in-Some.pair c.in-Some.is c.requires.prepared.pair) c.in-Some.is c.requires.prepared.evidence
     (Keeps-refl witness, (Keeps-refl out, tt))
     c.from_residual.ensures.0 c.in_err-write_evidence-in-Some.ensures.wrote
@@ -22,7 +22,7 @@ returns-in_err-write_evidence-in-Some-2 g c =
     let p = c.args.prepared.now in
     let witness = g.V.Write.contents c.args.witness.now in
     let out = g.W.Write.contents c.args.out.now in
-    odd_stopped x p c.in-Some.pair _ _ _ _ (lent_for (witness_kind p.wanted.witness) witness witness ∷ report_writer out out)
+    odd_stopped x p c.in-Some.pair _ _ _ _ (lent_for (witness_kind p.wanted.witness) witness witness ∷ report_writer p.wanted.report out out)
     c.from_residual-in_err-write_evidence-in-Some-2.result c.requires.found (pair_in x p c.in-Some.pair c.in-Some.is c.requires.prepared.pair) c.in-Some.is
     c.requires.prepared.evidence (Keeps-refl witness, (Keeps-refl out, tt)) c.from_residual-in_err-write_evidence-in-Some-2.ensures.0
     c.in_ok-write_evidence-in-Some.ensures.wrote c.in_err-write_evidence-in-Some-2.ensures.wrote
@@ -33,4 +33,4 @@ returns-in-None g c =
     let call = c.put_after_evidence-in-None in
     unpaired_written c.args.found.now p (g.E.Write.contents c.args.even.now) (g.O.Write.contents c.args.odd.now)
     (lent_for (witness_kind p.wanted.witness) (g.V.Write.contents c.args.witness.now) (g.V.Write.contents call.new.witness)
-    ∷ report_writer (g.W.Write.contents c.args.out.now) (g.W.Write.contents call.new.out)) call.result c.in-None.is c.requires.prepared.evidence call.ensures
+    ∷ report_writer p.wanted.report (g.W.Write.contents c.args.out.now) (g.W.Write.contents call.new.out)) call.result c.in-None.is c.requires.prepared.evidence call.ensures

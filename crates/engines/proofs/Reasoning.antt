@@ -1,0 +1,125 @@
+-- What is told of an answer.
+use Rattle.std.proofs.Common.{◌≡◌, ℕ, ◌<◌, Bool, false, List, [], ◌∷◌, Option, Some, Result, Ok, Err, inl, inr, refl, sym, subst}
+use Rattle.std.proofs.KnownBytes.{Keeps-refl}
+use Rattle.std.specs.Prelude.{MatchResult, slice_index_or}
+use Rattle.text.specs.Wrote.{Wrote}
+use Rattle.text.specs.declared.write_loop.WriteFault.{WriteFault}
+use Rattle.systems.specs.Numbered.{system_with}
+use Rattle.systems.specs.declared.system.Transition.{Transition}
+use Rattle.normal.specs.declared.priorities.Priorities.{Priorities}
+use Rattle.normal.specs.Rules.{nodes_with}
+use Rattle.normal.proofs.Numbers.{is_form}
+use Rattle.why.specs.Shown.{AreWitness}
+use Rattle.workers.specs.declared.team.BoardKind.{BoardKind}
+use Rattle.requests.specs.declared.error.MuError.{MuError}
+use Rattle.requests.specs.declared.error.MuError.TheVariants as error
+use Rattle.requests.specs.declared.request.ReportForm.TheVariants.{Nothing}
+use Rattle.requests.specs.declared.request.Wanted.{Wanted}
+use Rattle.requests.specs.declared.request.WitnessForm.TheVariants.{System as AsSystem}
+use Rattle.requests.specs.Check.{AreSpelled, ByGame, HasRefused, Way}
+use Rattle.requests.specs.Writers.{AreKept, Lent, WitnessText, lent_for}
+use Rattle.engines.specs.declared.findings.Findings.{Findings}
+use Rattle.engines.specs.declared.reasons.Told.{Told}
+use Rattle.engines.specs.Findings.{AreFindings, AreShown, IsUnshown, formula_of, system_of, way_in}
+use Rattle.engines.specs.Reasons.{AreTold, HasNoReasons, TellsReasons, reasons}
+use Rattle.engines.proofs.Checks.{unprepared_of}
+
+-- A refusal that leaves all writers as they were leaves this one so, and is no write fault.
+pub refused_kept : (rule : Priorities) (board : Option BoardKind) (first second : List ℕ) (old : Option (List ℕ)) (e : MuError)
+    → ((writers : List Lent) → AreKept writers → HasRefused (ByGame rule board) first second writers e)
+    → HasNoReasons rule board first second old old e
+refused_kept rule board first second old (error.Write fault) h = absurd (h [] tt).begun
+refused_kept rule board first second old (error.Arguments e) h = h [] tt
+refused_kept rule board first second old error.File h = h [] tt
+refused_kept rule board first second old error.Read h = h (lent_for WitnessText old old ∷ []) (Keeps-refl old, tt)
+refused_kept rule board first second old error.Memory h = h (lent_for WitnessText old old ∷ []) (Keeps-refl old, tt)
+refused_kept rule board first second old (error.System e) h = h (lent_for WitnessText old old ∷ []) (Keeps-refl old, tt)
+refused_kept rule board first second old (error.Formula e) h = h (lent_for WitnessText old old ∷ []) (Keeps-refl old, tt)
+refused_kept rule board first second old (error.Normal e) h = h (lent_for WitnessText old old ∷ []) (Keeps-refl old, tt)
+refused_kept rule board first second old (error.Build e) h = h (lent_for WitnessText old old ∷ []) (Keeps-refl old, tt)
+refused_kept rule board first second old (error.Game e) h = h [] tt
+refused_kept rule board first second old (error.Evidence e) h = h (lent_for WitnessText old old ∷ []) (Keeps-refl old, tt)
+refused_kept rule board first second old (error.Table e) h = h (lent_for WitnessText old old ∷ []) (Keeps-refl old, tt)
+refused_kept rule board first second old (error.Solve e) h = h (lent_for WitnessText old old ∷ []) (Keeps-refl old, tt)
+refused_kept rule board first second old (error.Schedule e) h = h [] tt
+
+-- Nothing was written where there was no memory for a witness.
+pub unshown_kept : (x : Findings) (first second : List ℕ) (old : Option (List ℕ)) (e : MuError) → AreSpelled first second (system_of x) (formula_of x)
+    → AreFindings x → IsUnshown x e → HasNoReasons x.solution.priorities x.solution.board first second old old e
+unshown_kept x first second old e spelled found is = by e is (unprepared_of x wanted first second (lent_for WitnessText old old ∷ []) e spelled found
+    (Keeps-refl old, tt) (λ no. absurd cc) (λ _. inl (inl refl)) (inr (inl (refl, is))))
+  where
+    wanted : Wanted
+    wanted = record { game = false; evidence = false; witness = Some AsSystem; report = Nothing }
+
+    by : (e : MuError) → IsUnshown x e → HasRefused (way_in x) first second (lent_for WitnessText old old ∷ []) e
+        → HasNoReasons x.solution.priorities x.solution.board first second old old e
+    by error.Memory h r = r
+    by (error.Normal e) h r = r
+    by (error.Evidence e) h r = r
+    by (error.Build e) h r = absurd h
+    by (error.Table e) h r = absurd h
+    by (error.Solve e) h r = absurd h
+    by (error.Arguments e) h r = absurd h
+    by error.File h r = absurd h
+    by error.Read h r = absurd h
+    by (error.System e) h r = absurd h
+    by (error.Formula e) h r = absurd h
+    by (error.Game e) h r = absurd h
+    by (error.Schedule e) h r = absurd h
+    by (error.Write e) h r = absurd h
+
+-- What is shown is a witness of which the lines may tell.
+pub shown_witness : (x : Findings) (part : List Transition) → AreFindings x → AreShown x part → AreWitness x.texts.value.system part
+shown_witness x part found shown =
+    let within = found.solution.game.within in
+    record {
+      inside = shown.inside;
+      formula = formula_of x;
+      nodes = nodes_with x.solution.priorities (formula_of x);
+      form = is_form x.solution.priorities (formula_of x) within.form.nodes within.form.priorities;
+      few = within.vertices;
+      shown = shown.shown;
+    }
+
+-- All was written, or a beginning.
+pub reasoned : (x : Findings) (told : Told) (first second : List ℕ) (old new : Option (List ℕ)) (wrote : Result Unit WriteFault) (r : Result Bool MuError)
+    → AreFindings x → (system_of x).initial < (system_of x).states → AreSpelled first second (system_of x) (formula_of x) → AreTold x told
+    → Wrote old new wrote (reasons (formula_of x) (slice_index_or x.marks.items (system_of x).initial false)
+    (system_with x.texts.value.system told.part.items) told.lines.items)
+    → MatchResult wrote (λ _. r ≡ Ok (slice_index_or x.marks.items (system_of x).initial false)) (λ fault. r ≡ Err (error.Write fault))
+    → TellsReasons x.solution.priorities x.solution.board first second old new r
+reasoned x told first second old new (Ok v) r found inside spelled is wrote e =
+    subst (TellsReasons x.solution.priorities x.solution.board first second old new) (sym e) (record {
+      l = system_of x;
+      f = formula_of x;
+      spelled = spelled;
+      within = found.marks.within;
+      answered = found.marks.exact.exact (system_of x).initial inside;
+      text = _;
+      why = record { part = system_with x.texts.value.system told.part.items; lines = told.lines.items; shown = is.shown.shown; telling = is.telling; told = refl };
+      written = wrote;
+    })
+reasoned x told first second old new (Err fault) r found inside spelled is wrote e =
+    subst (TellsReasons x.solution.priorities x.solution.board first second old new) (sym e) (
+      slice_index_or x.marks.items (system_of x).initial false,
+      record {
+        l = system_of x;
+        f = formula_of x;
+        spelled = spelled;
+        within = found.marks.within;
+        answered = found.marks.exact.exact (system_of x).initial inside;
+        text = _;
+        why = record { part = system_with x.texts.value.system told.part.items; lines = told.lines.items; shown = is.shown.shown; telling = is.telling; told = refl };
+        written = wrote;
+      },
+    )
+
+-- What was found one way is told of it.
+pub reasons_by_way : (p rule : Priorities) (b board : Option BoardKind) (first second : List ℕ) (old new : Option (List ℕ)) (r : Result Bool MuError)
+    → ◌≡◌ {A = Way} (ByGame p b) (ByGame rule board)
+    → TellsReasons p b first second old new r → TellsReasons rule board first second old new r
+reasons_by_way p rule b board first second old new r e h =
+    let same : p ≡ rule = cc in
+    let also : b ≡ board = cc in
+    subst (λ q. TellsReasons q board first second old new r) same (subst (λ q. TellsReasons p q first second old new r) also h)

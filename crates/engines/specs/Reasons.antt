@@ -1,0 +1,66 @@
+-- What is told of why the initial state satisfies a formula, or doesn't.
+use Rattle.std.specs.Prelude.{◌≡◌, ℕ, ◌↔◌, Bool, List, [], ◌∷◌, ◌++◌, Option, Some, Result, MatchResult, IsTrue}
+use Rattle.std.specs.Io.KnownBytes.{Appends}
+use Rattle.text.specs.Wrote.{WroteFront}
+use Rattle.systems.specs.System.{System}
+use Rattle.systems.specs.Numbered.{system_with}
+use Rattle.calculus.specs.Tree.{Formula}
+use Rattle.calculus.specs.Meaning.{Satisfies}
+use Rattle.normal.specs.declared.priorities.Priorities.{Priorities}
+use Rattle.normal.specs.Rules.{nodes_with}
+use Rattle.witness.specs.Witness.{IsShown}
+use Rattle.why.specs.Story.{telling_text}
+use Rattle.why.specs.Telling.{IsTelling}
+use Rattle.why.specs.declared.line.Line.{Line}
+use Rattle.workers.specs.declared.team.BoardKind.{BoardKind}
+use Rattle.requests.specs.declared.error.MuError.{MuError}
+use Rattle.requests.specs.declared.error.MuError.TheVariants as error
+use Rattle.requests.specs.Check.{AreSpelled, ByGame, HasRefused, IsWithin}
+use Rattle.requests.specs.Report.{formula_line, initial_line}
+use Rattle.requests.specs.Writers.{WitnessText, lent_for}
+use Rattle.engines.specs.declared.findings.Findings.{Findings}
+use Rattle.engines.specs.declared.reasons.Told.{Told}
+use Rattle.engines.specs.declared.reasons.TheConstants.{MOST_TOLD}
+use Rattle.engines.specs.Findings.{AreShown}
+
+-- the formula, whether the initial state satisfies it, and what is told of a witness
+abbrev pub reasons : Formula → Bool → System → List Line → List ℕ
+reasons f answer part lines = formula_line f ++ (initial_line answer ++ telling_text part MOST_TOLD lines)
+
+-- The text tells the answer and a witness.
+pub record AreReasons (rule : Priorities) (l : System) (f : Formula) (answer : Bool) (text : List ℕ) : Type 0 where
+  pub part : System
+  pub lines : List Line
+  pub shown : IsShown l f (nodes_with rule f) part
+  pub telling : IsTelling part MOST_TOLD lines
+  pub told : text ≡ reasons f answer part lines
+
+-- Both texts are spelled, the answer is that of the initial state in the formula's meaning, and what was written is this of a text that tells why.
+pub record HasReasons (rule : Priorities) (board : Option BoardKind) (first second : List ℕ) (answer : Bool) (Writes : List ℕ → Type 0) : Type 0 where
+  pub l : System
+  pub f : Formula
+  pub spelled : AreSpelled first second l f
+  pub within : IsWithin (ByGame rule board) l f
+  pub answered : IsTrue answer ↔ Satisfies l f l.initial
+  pub text : List ℕ
+  pub why : AreReasons rule l f answer text
+  pub written : Writes text
+
+-- A refusal is that of a check that writes a witness: nothing was written. After a write fault a beginning of the text was, and some of it was not.
+abbrev pub HasNoReasons : Priorities → Option BoardKind → (first second : List ℕ) → (old new : Option (List ℕ)) → MuError → Type 0
+HasNoReasons rule board first second old new (error.Write fault) = (answer : Bool) × HasReasons rule board first second answer (WroteFront old new)
+HasNoReasons rule board first second old new e = HasRefused (ByGame rule board) first second (lent_for WitnessText old new ∷ []) e
+
+abbrev pub TellsReasons : Priorities → Option BoardKind → (first second : List ℕ) → (old new : Option (List ℕ)) → Result Bool MuError → Type 0
+TellsReasons rule board first second old new result =
+    MatchResult result (λ answer. HasReasons rule board first second answer (Appends old new)) (HasNoReasons rule board first second old new)
+
+-- The theorem: of what the readers had left, where they tell it, and of what the writer held before and after.
+abbrev pub TellsWhy : Priorities → Option BoardKind → (aut formula old new : Option (List ℕ)) → Result Bool MuError → Type 0
+TellsWhy rule board aut formula old new result =
+    (first second : List ℕ) → aut ≡ Some first → formula ≡ Some second → TellsReasons rule board first second old new result
+
+-- The transitions are a witness, and the lines tell them.
+pub record AreTold (x : Findings) (told : Told) : Type 0 where
+  pub shown : AreShown x told.part.items
+  pub telling : IsTelling (system_with x.texts.value.system told.part.items) MOST_TOLD told.lines.items

@@ -1,0 +1,122 @@
+// Why the initial state satisfies a formula, or doesn't: the verdict and a witness, as a person reads it.
+
+ghost use Rattle.std.specs.Prelude.{◌≡◌, ℕ, List, Some, IfOk, IfErr, slice_index_or, false};
+ghost use Rattle.systems.specs.Numbered.{system_with};
+ghost use Rattle.calculus.specs.Closed.{closed_formula};
+ghost use Rattle.text.specs.Wrote.{Wrote};
+ghost use Rattle.requests.specs.Check.{AreSpelled};
+ghost use Rattle.engines.specs.Findings.{AreFindings, AreShown, IsUnshown, formula_of, system_of};
+ghost use Rattle.engines.specs.Reasons.{AreTold, TellsReasons, TellsWhy, reasons};
+
+use crate::findings::{Findings, find_seen};
+use crate::outputs::answer;
+use crate::prepared::part_alone;
+use crate::report::{write_formula_line, write_initial_line};
+use lts::{Memory, Transition, WriteFault};
+use measures::observer::{Observer, Stage};
+use requests::error::MuError;
+use requests::request::Options;
+use requests::watch::Watcher;
+use std::alloc::Global;
+use std::io::{Read, Write};
+use std::sync::Wait;
+use std::thread::Threads;
+use why::line::Line;
+use why::shown::tell_witness;
+use why::writer::write_telling;
+
+/// How many transitions of a witness are told at most.
+pub const MOST_TOLD: usize = 200;
+
+/// A witness, and the lines that tell it.
+#[derive(Drop)]
+pub(crate) struct Told {
+    pub(crate) part: Vec<Transition>,
+    pub(crate) lines: Vec<Line>,
+}
+
+/// Writes the formula, whether the initial state satisfies it, and a witness of that, told from the initial state on. It answers whether the
+/// initial state satisfies the formula. The witness is the one that a check writes. Nothing is written before all memory was taken.
+///
+/// # Errors
+/// Those of `check_all` where it writes a witness alone.
+pub fn tell_why<
+    R: Read + Drop,
+    S: Read + Drop,
+    W: Write,
+    U: Watcher + Sync,
+    H: Threads + Wait + Clone + Copy + Drop + Send + Sync,
+>(
+    rt: &H,
+    alloc: Global,
+    aut: R,
+    formula: S,
+    options: &Options,
+    out: &mut W,
+    watcher: &U,
+) -> Result<bool, MuError>
+    ensures { TellsWhy options.now.priorities (Some options.now.board) (R.remaining aut) (S.remaining formula) (W.contents out.old) (W.contents out.new) result }
+{
+    match find_seen(rt, alloc, aut, formula, options, watcher) {
+        Ok(found) => {
+            watcher.sees(Stage::Writing);
+            tell_found(alloc, &found, out)
+        }
+        Err(error) => Err(error),
+    }
+}
+
+/// Tells why, where this was found out.
+fn tell_found<W: Write>(alloc: Global, found: &Findings, out: &mut W) -> Result<bool, MuError>
+    requires { AreFindings found.now }
+    ensures { (first second : List ℕ) → AreSpelled first second (system_of found.now) (formula_of found.now)
+        → TellsReasons found.now.solution.priorities found.now.solution.board first second (W.contents out.old) (W.contents out.new) result }
+{
+    match told_of(alloc, found) {
+        Ok(told) => {
+            let _initial = found.texts.system.initial();
+            let wrote = put_reasons(found, &told, out);
+            answer(found, wrote)
+        }
+        Err(error) => Err(error),
+    }
+}
+
+/// A witness of the answer, and the lines that tell it.
+fn told_of(alloc: Global, found: &Findings) -> Result<Told, MuError>
+    requires { AreFindings found.now }
+    ensures told { IfOk result (AreTold found.now) }
+    ensures refusal { IfErr result (IsUnshown found.now) }
+{
+    match part_alone(alloc, found) {
+        Ok(part) => told_by(alloc, found, part),
+        Err(error) => Err(error),
+    }
+}
+
+/// A witness with the lines that tell it.
+fn told_by(alloc: Global, found: &Findings, part: Vec<Transition>) -> Result<Told, MuError>
+    requires found { AreFindings found.now }
+    requires shown { AreShown found.now part.items }
+    ensures told { IfOk result (AreTold found.now) }
+    ensures refusal { IfErr result (λ e. e ≡ MuError.Memory) }
+{
+    match tell_witness(alloc, &found.texts.system, &part, MOST_TOLD) {
+        Ok(lines) => Ok(Told { part, lines }),
+        Err(Memory) => Err(MuError::Memory),
+    }
+}
+
+/// Writes what is told.
+fn put_reasons<W: Write>(found: &Findings, told: &Told, out: &mut W) -> Result<(), WriteFault>
+    requires found { AreFindings found.now }
+    requires told { AreTold found.now told.now }
+    ensures { let l = system_of found.now in Wrote (W.contents out.old) (W.contents out.new) result
+        (reasons (formula_of found.now) (slice_index_or found.now.marks.items l.initial false)
+        (system_with found.now.texts.value.system told.now.part.items) told.now.lines.items) }
+{
+    let system = &found.texts.system;
+    write_formula_line(&found.texts.formula, out)?;
+    write_initial_line(system, &found.marks, out)?;
+    write_telling(system, &told.part, MOST_TOLD, &told.lines, out)
+}
