@@ -1,5 +1,5 @@
 -- What is read of the matches.
-use Rattle.std.proofs.Common.{◌≡◌, ◌∙◌, ap₂, refl, sym, ℕ, List, Option, Some, None, Result, Ok, Err}
+use Rattle.std.proofs.Common.{◌≡◌, ◌∙◌, ap, ap₂, refl, sym, ℕ, List, Option, Some, None, Result, Ok, Err}
 use Rattle.std.specs.Prelude.{IfOk, option_map, unwrap_or}
 use Rattle.std.specs.Borrow.{Bor}
 use Rattle.std.specs.Str.Parse.{ParsesUnsigned}
@@ -9,7 +9,7 @@ use Rattle.clap.specs.declared.parser.matches.ArgMatches.{ArgMatches}
 use Rattle.clap.specs.declared.parser.matches.ArgMatches.TheViews.{out-ArgMatches}
 use Rattle.clap.specs.declared.parser.matches.Found.{Found}
 use Rattle.clap.proofs.WalkLemmas.{first_value-rows, one_text-rows}
-use Rattle.commands.specs.CommandLine.{number_in, number_of}
+use Rattle.commands.specs.CommandLine.{number_if_any, number_in, number_of}
 
 -- the text of an argument, by the rows
 pub value_read : (f : Found) (id : Text) (found : Option (Bor Text)) → option_map (λ s. s.now) found ≡ first_value f id
@@ -29,6 +29,26 @@ number_read E G f id default r reads none value = go (one_text f id) refl
     tried t (Err e) h = tt
 
     go : (o : Option Text) → one_text f id ≡ o → IfOk r (λ o. unwrap_or o default ≡ number_in (rows_of f) id default)
+    go None e =
+        let at : one_of id (rows_of f) ≡ None = sym (one_text-rows f id) ∙ e in
+        rw (none e, at) refl
+    go (Some t) e =
+        let at : one_of id (rows_of f) ≡ Some t = sym (one_text-rows f id) ∙ e in
+        rw at (tried t r (value t e))
+
+-- the same, where no number is none
+pub number_if_any_read : (E : Type 0) (G : List ℕ → Result ℕ E → Type 0) (f : Found) (id : Text) (r : Result (Option ℕ) E)
+    → ((t : List ℕ) (x : Result ℕ E) → G t x → ParsesUnsigned 32 10 t x)
+    → (one_text f id ≡ None → r ≡ Ok None) → ((t : List ℕ) → one_text f id ≡ Some t → TriesOne G t r)
+    → IfOk r (λ o. number_if_any (rows_of f) id ≡ o)
+number_if_any_read E G f id r reads none value = go (one_text f id) refl
+  where
+    tried : (t : List ℕ) (x : Result (Option ℕ) E) → TriesOne G t x → IfOk x (λ o. Some (number_of t) ≡ o)
+    tried t (Ok None) h = absurd h
+    tried t (Ok (Some n)) h = ap Some (sym (reads t (Ok n) h).1)
+    tried t (Err e) h = tt
+
+    go : (o : Option Text) → one_text f id ≡ o → IfOk r (λ o. number_if_any (rows_of f) id ≡ o)
     go None e =
         let at : one_of id (rows_of f) ≡ None = sym (one_text-rows f id) ∙ e in
         rw (none e, at) refl

@@ -3,9 +3,11 @@ use Rattle.std.specs.Prelude.{◌≡◌, ◌≢◌, ◌≤◌, ◌==◌, ℕ, Bo
 use Rattle.std.specs.List.{list_all}
 use Rattle.std.specs.Borrow.{Bor}
 use Rattle.requests.specs.declared.request.Options.{Options}
+use Rattle.requests.specs.declared.request.ReportForm.{ReportForm}
+use Rattle.requests.specs.declared.request.ReportForm.TheVariants.{States}
 use Rattle.commands.specs.declared.request.Outputs.{Outputs}
 use Rattle.commands.specs.declared.request.Command.{Command}
-use Rattle.commands.specs.declared.request.Command.TheVariants.{Check, Explain, Help, Normal, Replay, Solve, Table, Verify, Version}
+use Rattle.commands.specs.declared.request.Command.TheVariants.{Check, Explain, Help, Normal, Replay, Solve, Table, Verify, Version, Why}
 
 -- the numbers of workers and of shards are within the limits
 abbrev pub AreWithin : Options → Type 0
@@ -18,6 +20,11 @@ AreNamed outputs =
     × IfSome outputs.evidence (λ name. name.now ≢ [])
     × IfSome outputs.witness (λ name. name.now ≢ [])
 
+-- where numbers of states are asked for, at least one is
+abbrev pub IsForSome : ReportForm → Type 0
+IsForSome (States mark most) = IfSome most (λ n. 1 ≤ n)
+IsForSome _ = Unit {0}
+
 abbrev pub is_named : Bor (List ℕ) → Bool
 is_named file = not (length file.now == 0)
 
@@ -28,6 +35,8 @@ AreAllNamed files = IsTrue (list_all is_named files)
 -- Every file that the command needs is named, and its numbers are within the limits.
 abbrev pub IsComplete : Command → Type 0
 IsComplete (Check check outputs) = (check.system.now ≢ []) × (check.formula.now ≢ []) × AreWithin check.options × AreNamed outputs
+    × IsForSome outputs.report
+IsComplete (Why why) = (why.system.now ≢ []) × (why.formula.now ≢ []) × AreWithin why.options
 IsComplete (Table table) = (table.system.now ≢ []) × AreAllNamed table.formulas.items × AreWithin table.options
 IsComplete (Normal form) = form.formula.now ≢ []
 IsComplete (Solve solve) = (solve.game.now ≢ []) × AreWithin solve.options

@@ -1,5 +1,5 @@
 -- What the words of a command line ask for: the table of commands by which they are read, and what is read of them.
-use Rattle.std.specs.Prelude.{◌≡◌, ℕ, Bool, false, true, not, List, [], ◌∷◌, ◌++◌, Option, None, Some, codes, if◌then◌else◌, map, option_map, pos}
+use Rattle.std.specs.Prelude.{◌≡◌, ℕ, Bool, false, true, List, [], ◌∷◌, ◌++◌, Option, None, Some, codes, if◌then◌else◌, map, option_map, pos}
 use Rattle.std.specs.Borrow.{Bor}
 use Rattle.std.specs.Option.{option_map_or}
 use Rattle.std.specs.Str.{bytes_eq}
@@ -19,14 +19,17 @@ use Rattle.requests.specs.declared.error.MuError.{MuError}
 use Rattle.requests.specs.declared.error.MuError.TheVariants as error
 use Rattle.requests.specs.declared.request.Check.{Check as CheckRequest}
 use Rattle.requests.specs.declared.request.Options.{Options}
+use Rattle.requests.specs.declared.request.ReportForm.{ReportForm}
+use Rattle.requests.specs.declared.request.ReportForm.TheVariants.{Whole, Summary, States, Nothing}
 use Rattle.commands.specs.declared.request.Command.{Command}
-use Rattle.commands.specs.declared.request.Command.TheVariants.{Check, Explain, Help, Normal, Replay, Solve, Table, Verify, Version}
+use Rattle.commands.specs.declared.request.Command.TheVariants.{Check, Explain, Help, Normal, Replay, Solve, Table, Verify, Version, Why}
 use Rattle.commands.specs.declared.request.Normal.{Normal as NormalRequest}
 use Rattle.commands.specs.declared.request.Outputs.{Outputs}
 use Rattle.commands.specs.declared.request.Replay.{Replay as ReplayRequest}
 use Rattle.commands.specs.declared.request.Solve.{Solve as SolveRequest}
 use Rattle.commands.specs.declared.request.Table.{Table as TableRequest}
 use Rattle.commands.specs.declared.request.Verify.{Verify as VerifyRequest}
+use Rattle.commands.specs.declared.request.Why.{Why as WhyRequest}
 
 -- ------------------------------------------------------------------ the table
 
@@ -62,6 +65,17 @@ choice_rule name choice = record (value_rule name) { parser = Some (value_parser
 abbrev pub quiet_rule : Rule
 quiet_rule = record (flag_rule (codes "quiet")) { short = Some 113 }
 
+-- `--states` with an answer, and at most how many
+abbrev pub states_rule : (answers : Choice) → Rule
+states_rule answers = choice_rule (codes "states") answers
+
+abbrev pub limit_rule : Rule
+limit_rule = number_rule (codes "limit") 4294967295
+
+-- in which form the report is written
+abbrev pub report_rules : (answers : Choice) → List Rule
+report_rules answers = quiet_rule ∷ flag_rule (codes "summary") ∷ states_rule answers ∷ limit_rule ∷ []
+
 -- how many workers lift, how many locks their board has, and which board it is
 abbrev pub workers_rule : Rule
 workers_rule = number_rule (codes "workers") 64
@@ -83,10 +97,13 @@ output_rules = value_rule (codes "game") ∷ value_rule (codes "evidence") ∷ v
 abbrev pub priorities_rule : (rules : Choice) → Rule
 priorities_rule rules = choice_rule (codes "priorities") rules
 
-abbrev pub check_rules : (rules boards : Choice) → List Rule
-check_rules rules boards =
-    file_rule (codes "SYSTEM") ∷ file_rule (codes "FORMULA") ∷ flag_rule (codes "plain") ∷ quiet_rule
-    ∷ priorities_rule rules ∷ (lifting_rules boards ++ output_rules)
+abbrev pub check_rules : (rules boards answers : Choice) → List Rule
+check_rules rules boards answers =
+    file_rule (codes "SYSTEM") ∷ file_rule (codes "FORMULA") ∷ flag_rule (codes "plain")
+    ∷ (report_rules answers ++ (priorities_rule rules ∷ (lifting_rules boards ++ output_rules)))
+
+abbrev pub why_rules : (rules boards : Choice) → List Rule
+why_rules rules boards = file_rule (codes "SYSTEM") ∷ file_rule (codes "FORMULA") ∷ priorities_rule rules ∷ lifting_rules boards
 
 abbrev pub table_rules : (rules boards : Choice) → List Rule
 table_rules rules boards =
@@ -119,10 +136,11 @@ abbrev pub top_shape : Shape
 top_shape = record (new_shape (codes "mucheck")) { has_version = true; subcommand_required = true; disable_help_subcommand = true; is_leaf = false }
 
 -- the program with its commands
-abbrev pub mucheck_app : (rules boards : Choice) → App
-mucheck_app rules boards = record {
+abbrev pub mucheck_app : (rules boards answers : Choice) → App
+mucheck_app rules boards answers = record {
   top = top_shape;
-  subs = command_shape (codes "check") (check_rules rules boards)
+  subs = command_shape (codes "check") (check_rules rules boards answers)
+      ∷ command_shape (codes "why") (why_rules rules boards)
       ∷ command_shape (codes "table") (table_rules rules boards)
       ∷ command_shape (codes "normal") (normal_rules rules)
       ∷ command_shape (codes "solve") (solve_rules boards)
@@ -140,13 +158,18 @@ AreRules choice = texts choice.now ≡ codes "nested" ∷ codes "dependent" ∷ 
 abbrev pub AreBoards : Choice → Type 0
 AreBoards choice = texts choice.now ≡ codes "auto" ∷ codes "locked" ∷ codes "packed" ∷ []
 
+abbrev pub AreAnswers : Choice → Type 0
+AreAnswers choice = texts choice.now ≡ codes "yes" ∷ codes "no" ∷ []
+
 -- the program's table, wherever the names that are chosen from lie in memory
 pub record IsTable (app : App) : Type 0 where
   pub rules : Choice
   pub boards : Choice
+  pub answers : Choice
   pub rule_names : AreRules rules
   pub board_names : AreBoards boards
-  pub table : app ≡ mucheck_app rules boards
+  pub answer_names : AreAnswers answers
+  pub table : app ≡ mucheck_app rules boards answers
 
 -- ------------------------------------------------------------------ what is read
 
@@ -187,6 +210,27 @@ AreFiles rows id files = all_of id rows ≡ Some (map (λ f. f.now) files)
 abbrev pub IsFileIfAny : List Row → (id : Text) → Option (Bor Text) → Type 0
 IsFileIfAny rows id file = first_of id rows ≡ option_map (λ f. f.now) file
 
+-- the number that the option gives, or none where it stands nowhere
+abbrev pub number_if_any : List Row → (id : Text) → Option ℕ
+number_if_any rows id = option_map number_of (one_of id rows)
+
+abbrev pub answer_word : (mark : Bool) → Text
+answer_word mark = if mark then codes "yes" else codes "no"
+
+-- the options for the report's form, of which each stands or not
+pub record AreFormOptions (rows : List Row) (q s : Bool) (answer : Option Bool) (most : Option ℕ) : Type 0 where
+  pub quiet : stands rows (codes "quiet") ≡ q
+  pub summary : stands rows (codes "summary") ≡ s
+  pub states : first_of (codes "states") rows ≡ option_map answer_word answer
+  pub limit : number_if_any rows (codes "limit") ≡ most
+
+-- the form of the report that is asked for: by one of these options at most, and where it is `--states` with a limit if one stands
+abbrev pub IsForm : List Row → ReportForm → Type 0
+IsForm rows Whole = AreFormOptions rows false false None None
+IsForm rows Summary = AreFormOptions rows false true None None
+IsForm rows (States mark most) = AreFormOptions rows false false (Some mark) most
+IsForm rows Nothing = AreFormOptions rows true false None None
+
 -- the options that are given, and the defaults of the others
 pub record AreOptions (rows : List Row) (options : Options) : Type 0 where
   pub priorities : options.priorities ≡ priorities_in rows
@@ -200,6 +244,11 @@ pub record IsCheck (rows : List Row) (check : CheckRequest) : Type 0 where
   pub options : AreOptions rows check.options
   pub plain : check.plain ≡ stands rows (codes "plain")
 
+pub record IsWhy (rows : List Row) (why : WhyRequest) : Type 0 where
+  pub system : IsFile rows (codes "SYSTEM") why.system
+  pub formula : IsFile rows (codes "FORMULA") why.formula
+  pub options : AreOptions rows why.options
+
 pub record IsTableRequest (rows : List Row) (table : TableRequest) : Type 0 where
   pub system : IsFile rows (codes "SYSTEM") table.system
   pub formulas : AreFiles rows (codes "FORMULA") table.formulas.items
@@ -210,7 +259,7 @@ pub record AreOutputs (rows : List Row) (outputs : Outputs) : Type 0 where
   pub game : IsFileIfAny rows (codes "game") outputs.game
   pub evidence : IsFileIfAny rows (codes "evidence") outputs.evidence
   pub witness : IsFileIfAny rows (codes "witness") outputs.witness
-  pub report : outputs.report ≡ not (stands rows (codes "quiet"))
+  pub report : IsForm rows outputs.report
 
 pub record IsNormal (rows : List Row) (form : NormalRequest) : Type 0 where
   pub formula : IsFile rows (codes "FORMULA") form.formula
@@ -234,6 +283,7 @@ pub record IsReplay (rows : List Row) (replay : ReplayRequest) : Type 0 where
 -- the command of this name, as its arguments ask
 abbrev pub IsCommand : (name : Text) → List Row → Command → Type 0
 IsCommand name rows (Check check outputs) = (name ≡ codes "check") × IsCheck rows check × AreOutputs rows outputs
+IsCommand name rows (Why why) = (name ≡ codes "why") × IsWhy rows why
 IsCommand name rows (Table table) = (name ≡ codes "table") × IsTableRequest rows table
 IsCommand name rows (Normal form) = (name ≡ codes "normal") × IsNormal rows form
 IsCommand name rows (Solve solve) = (name ≡ codes "solve") × IsSolve rows solve

@@ -15,19 +15,19 @@ winners_of_two = refl
 -- ------------------------------------------------------------------ command lines
 
 -- what the words name, and what is read of the command's arguments
-abbrev read_of : {X : Type 0} → (List Row → X) → (rules boards : Choice) → List Text → Option (Text × X)
-read_of read rules boards words = option_map (λ named. (named.0, read named.1)) (subcommand_of (mucheck_app rules boards) words)
+abbrev read_of : {X : Type 0} → (List Row → X) → (rules boards answers : Choice) → List Text → Option (Text × X)
+read_of read rules boards answers words = option_map (λ named. (named.0, read named.1)) (subcommand_of (mucheck_app rules boards answers) words)
 
 -- the files of a check, and whether it is by sets of states
 abbrev files_of_check : List Row → Option Text × Option Text × Bool
 files_of_check rows = (first_of (codes "SYSTEM") rows, first_of (codes "FORMULA") rows, stands rows (codes "plain"))
 
 -- mucheck check a.aut b.mcf --plain
-plain_check : (rules boards : Choice)
-    → read_of files_of_check rules boards (codes "mucheck" ∷ codes "check" ∷ codes "a.aut" ∷ codes "b.mcf" ∷ codes "--plain" ∷ [])
+plain_check : (rules boards answers : Choice)
+    → read_of files_of_check rules boards answers (codes "mucheck" ∷ codes "check" ∷ codes "a.aut" ∷ codes "b.mcf" ∷ codes "--plain" ∷ [])
     ≡ Some (codes "check", (Some (codes "a.aut"), Some (codes "b.mcf"), true))
 unfolding clap_on_literals
-plain_check rules boards = refl
+plain_check rules boards answers = refl
 
 -- the files of a check, and its numbers of workers and of shards
 abbrev numbers_of_check : List Row → Option Text × Option Text × ℕ × ℕ
@@ -39,19 +39,19 @@ numbers_of_check rows = (
 )
 
 -- mucheck check --workers=4 a.aut b.mcf
-check_by_four : (rules boards : Choice)
-    → read_of numbers_of_check rules boards (codes "mucheck" ∷ codes "check" ∷ codes "--workers=4" ∷ codes "a.aut" ∷ codes "b.mcf" ∷ [])
+check_by_four : (rules boards answers : Choice)
+    → read_of numbers_of_check rules boards answers (codes "mucheck" ∷ codes "check" ∷ codes "--workers=4" ∷ codes "a.aut" ∷ codes "b.mcf" ∷ [])
     ≡ Some (codes "check", (Some (codes "a.aut"), Some (codes "b.mcf"), 4, 16))
 unfolding clap_on_literals
-check_by_four rules boards = refl
+check_by_four rules boards answers = refl
 
 -- the files of a game and of evidence
 abbrev files_of_verify : List Row → Option Text × Option Text × Option Text
 files_of_verify rows = (first_of (codes "GAME") rows, first_of (codes "EVIDENCE") rows, first_of (codes "OTHER") rows)
 
 -- mucheck verify g e
-one_piece : (rules boards : Choice)
-    → read_of files_of_verify rules boards (codes "mucheck" ∷ codes "verify" ∷ codes "g" ∷ codes "e" ∷ [])
+one_piece : (rules boards answers : Choice)
+    → read_of files_of_verify rules boards answers (codes "mucheck" ∷ codes "verify" ∷ codes "g" ∷ codes "e" ∷ [])
     ≡ Some (codes "verify", (Some (codes "g"), Some (codes "e"), None))
 unfolding clap_on_literals
-one_piece rules boards = refl
+one_piece rules boards answers = refl

@@ -10,3 +10,4 @@ pub mod Solves
 pub mod Verifies
 pub mod Example
 pub mod Replays
+pub mod Inputs

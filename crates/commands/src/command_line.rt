@@ -1,10 +1,10 @@
 // The command line.
 
-ghost use Rattle.std.specs.Prelude.{◌≡◌, ◌≤◌, ◌≢◌, [], Bool, IfErr, IfOk, IfSome, Some, codes, map};
+ghost use Rattle.std.specs.Prelude.{◌≡◌, ◌≤◌, ◌≢◌, ◌↔◌, [], Bool, IfErr, IfOk, IfSome, IsTrue, Some, codes, map, option_map};
 ghost use Rattle.std.specs.List.{list_all};
 ghost use Rattle.std.specs.String.{string_bytes};
 ghost use Rattle.clap.specs.Words.{first_of, found_of, rows_of, subcommand_rows_of};
-ghost use Rattle.commands.specs.Command.{AreAllNamed, AreNamed, AreWithin, IsComplete, IsPlainAlone, is_named};
+ghost use Rattle.commands.specs.Command.{AreAllNamed, AreNamed, AreWithin, IsComplete, IsForSome, IsPlainAlone, is_named};
 ghost use Rattle.commands.specs.CommandLine.{
   AreFiles,
   AreMatchesOf,
@@ -15,43 +15,50 @@ ghost use Rattle.commands.specs.CommandLine.{
   IsCommand,
   IsFile,
   IsFileIfAny,
+  IsForm,
   IsLineError,
   IsRead,
+  answer_word,
   board_in,
   has_value,
+  number_if_any,
   number_in,
   priorities_in,
 };
+ghost use Rattle.commands.specs.Inputs.{ReadsItOnce};
 ghost use Rattle.commands.specs.Names.{KeepsFiles};
 
+use crate::inputs::read_once;
 use crate::names::keep_files;
 use crate::parser::{
-    BOARD, CODE, COMMAND, EVIDENCE, EVIDENCE_FILES, FORMULA, GAME, GAME_FILE, OTHER, PLAIN,
-    PRIORITIES, QUIET, SCHEDULE, SHARDS, SYSTEM, WITNESS_FILE, WORKERS, parser,
+    BOARD, CODE, COMMAND, EVIDENCE, EVIDENCE_FILES, FORMULA, GAME, GAME_FILE, LIMIT, OTHER, PLAIN,
+    PRIORITIES, QUIET, SCHEDULE, SHARDS, STATES, SUMMARY, SYSTEM, WITNESS_FILE, WORKERS, parser,
 };
-use crate::request::{Command, Normal, Outputs, Replay, Solve, Table, Verify};
+use crate::request::{Command, Normal, Outputs, Replay, Solve, Table, Verify, Why};
 use clap::error::ErrorKind;
 use clap::{ArgMatches, Error as ClapError};
 use normal::priorities::Priorities;
 use requests::error::{ArgumentError, MuError};
-use requests::request::{BoardKind, Check, Options};
+use requests::request::{BoardKind, Check, Options, ReportForm};
 use std::alloc::Global;
 
 /// The command that the words ask for; the first word is the program's own name.
 ///
 /// # Errors
-/// U1 where the words are no command, or one that would destroy a file, with what is wrong with them, or the help or version that was asked
-/// for; U4.
+/// U1 where the words are no command, or one that would destroy a file or read standard input twice, with what is wrong with them, or the
+/// help or version that was asked for; U4.
 pub fn command<'a>(alloc: Global, words: &'a [String]) -> Result<Command<'a>, MuError>
     ensures asked { IfOk result (IsAskedFor (map (λ word. string_bytes word) words.now)) }
     ensures complete { IfOk result IsComplete }
     ensures plain { IfOk result IsPlainAlone }
     ensures kept { IfOk result KeepsFiles }
+    ensures once { IfOk result ReadsItOnce }
     ensures refused { IfErr result IsLineError }
 {
     let matches = matches_of(alloc, words)?;
     let command = request_of(alloc, &matches)?;
     keep_files(alloc, &command)?;
+    read_once(&command)?;
     Ok(command)
 }
 
@@ -108,6 +115,7 @@ fn other_of<'a>(name: &str, found: &ArgMatches<'a>) -> Result<Command<'a>, Argum
 {
     match name {
         "check" => check_of(found),
+        "why" => why_of(found),
         "normal" => normal_of(found),
         "solve" => solve_of(found),
         "verify" => verify_of(found),
@@ -162,13 +170,75 @@ fn check_of<'a>(matches: &ArgMatches<'a>) -> Result<Command<'a>, ArgumentError>
 fn outputs<'a>(matches: &ArgMatches<'a>) -> Result<Outputs<'a>, ArgumentError>
     ensures asked { IfOk result (AreOutputs (rows_of (found_of matches.now))) }
     ensures named { IfOk result AreNamed }
+    ensures some { IfOk result (λ outputs. IsForSome outputs.report) }
 {
     Ok(Outputs {
         game: optional_name(matches, GAME_FILE)?,
         evidence: optional_name(matches, EVIDENCE_FILES)?,
         witness: optional_name(matches, WITNESS_FILE)?,
-        report: !has_value(matches, QUIET, "true"),
+        report: report_form(matches)?,
     })
+}
+
+/// The form of the report that is asked for.
+fn report_form(matches: &ArgMatches<'_>) -> Result<ReportForm, ArgumentError>
+    ensures asked { IfOk result (IsForm (rows_of (found_of matches.now))) }
+    ensures some { IfOk result IsForSome }
+{
+    let quiet = has_value(matches, QUIET, "true");
+    let summary = has_value(matches, SUMMARY, "true");
+    let answer = answer(matches)?;
+    let most = optional_number(matches, LIMIT)?;
+    match (quiet, summary, answer, most) {
+        (false, false, None, None) => Ok(ReportForm::Whole),
+        (false, true, None, None) => Ok(ReportForm::Summary),
+        (false, false, Some(mark), most) => Ok(ReportForm::States { mark, most }),
+        (true, false, None, None) => Ok(ReportForm::Nothing),
+        _ => Err(ArgumentError::ReportForms),
+    }
+}
+
+/// The answer of the states whose numbers are asked for, if they are.
+fn answer(matches: &ArgMatches<'_>) -> Result<Option<bool>, ArgumentError>
+    ensures { IfOk result (λ found. first_of (codes "states") (rows_of (found_of matches.now)) ≡ option_map answer_word found) }
+{
+    match matches.get_str(STATES) {
+        None => Ok(None),
+        Some(word) => answer_named(word),
+    }
+}
+
+/// The answer of this name. The table has no other name.
+fn answer_named(name: &str) -> Result<Option<bool>, ArgumentError>
+    ensures { IfOk result (λ found. Some name.now ≡ option_map answer_word found) }
+{
+    if is_word(name, "yes") {
+        Ok(Some(true))
+    } else if is_word(name, "no") {
+        Ok(Some(false))
+    } else {
+        Err(ArgumentError::ReportForms)
+    }
+}
+
+/// Whether two words are the same.
+fn is_word(name: &str, word: &str) -> bool
+    ensures { IsTrue result ↔ (name.now ≡ word.now) }
+{
+    name == word
+}
+
+/// What is to be told of why an answer is so.
+fn why_of<'a>(matches: &ArgMatches<'a>) -> Result<Command<'a>, ArgumentError>
+    ensures asked { IfOk result (IsCommand (codes "why") (rows_of (found_of matches.now))) }
+    ensures complete { IfOk result IsComplete }
+    ensures plain { IfOk result IsPlainAlone }
+{
+    Ok(Command::Why(Why {
+        system: file_name(matches, SYSTEM)?,
+        formula: file_name(matches, FORMULA)?,
+        options: options(matches)?,
+    }))
 }
 
 /// The normal form that the matches of its command ask for.
@@ -353,6 +423,18 @@ fn number(matches: &ArgMatches<'_>, id: &str, default: u32, most: u32) -> Result
     match matches.try_get_one::<u32>(id) {
         Ok(None) => Ok(default),
         Ok(Some(n)) if n >= 1 && n <= most => Ok(n),
+        _ => Err(ArgumentError::OverLimit),
+    }
+}
+
+/// The number that an option gives, if it stands.
+fn optional_number(matches: &ArgMatches<'_>, id: &str) -> Result<Option<u32>, ArgumentError>
+    ensures asked { IfOk result (λ found. number_if_any (rows_of (found_of matches.now)) id.now ≡ found) }
+    ensures some { IfOk result (λ found. IfSome found (λ n. 1 ≤ n)) }
+{
+    match matches.try_get_one::<u32>(id) {
+        Ok(None) => Ok(None),
+        Ok(Some(n)) if n >= 1 => Ok(Some(n)),
         _ => Err(ArgumentError::OverLimit),
     }
 }

@@ -4,6 +4,7 @@
 pub mod codes;
 pub mod command_line;
 pub mod information;
+pub mod inputs;
 pub mod names;
 pub mod normal_text;
 mod parser;

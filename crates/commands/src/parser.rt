@@ -12,16 +12,20 @@ ghost use Rattle.commands.specs.CommandLine.{
   flag_rule,
   help_rules,
   lifting_rules,
+  limit_rule,
   normal_rules,
   output_rules,
   quiet_rule,
   priorities_rule,
   replay_rules,
+  report_rules,
   shards_rule,
   solve_rules,
+  states_rule,
   table_rules,
   value_rule,
   verify_rules,
+  why_rules,
   workers_rule,
 };
 ghost use Rattle.commands.specs.Parsers.{AddsRules, HasRule, ReadsBy, command_app};
@@ -65,14 +69,24 @@ pub(crate) const WITNESS_FILE: &str = "witness";
 
 pub(crate) const QUIET: &str = "quiet";
 
+pub(crate) const SUMMARY: &str = "summary";
+
+pub(crate) const STATES: &str = "states";
+
+pub(crate) const LIMIT: &str = "limit";
+
 static BOARDS: [&str; 3] = ["auto", "locked", "packed"];
 
 static RULES: [&str; 2] = ["nested", "dependent"];
 
+static ANSWERS: [&str; 2] = ["yes", "no"];
+
 const ABOUT: &str =
     "Checks formulas of the modal mu-calculus at the states of labelled transition systems";
 
-const AFTER: &str = "mucheck help COMMAND says more of a command.\n\n\
+const AFTER: &str =
+    "mucheck help COMMAND says more of a command. One of the files that it reads may be -, which\n\
+is standard input.\n\n\
 A refusal begins with a line on standard error, mucheck: CODE, with its place. The command\n\
 mucheck explain CODE says what it means and how to mend it. The most frequent:\n\
 \x20 A1      mostly both files in the wrong order, or a byte order mark\n\
@@ -88,6 +102,15 @@ const CHECK_AFTER: &str =
 the formula, 1 where it does not, 2 where an argument or a text is refused, and 3 where\n\
 memory, a file, a read or a write failed.\n\n\
 Example:\n  mucheck check examples/first/system.aut examples/first/formula.mcf";
+
+const WHY_ABOUT: &str = "Tells why a system satisfies a formula, or why it does not";
+
+const WHY_AFTER: &str =
+    "The answer for the initial state goes to the standard output, and then the transitions that it\n\
+rests on, from the initial state on: for a no a counterexample. Where there is more than one\n\
+way on, each is indented. Of more than 200 transitions the first 200 are told. The status is\n\
+that of check.\n\n\
+Example:\n  mucheck why examples/philosophers-deadlock/system.aut examples/philosophers-deadlock/no-deadlock.mcf";
 
 const TABLE_ABOUT: &str = "Reports for each of many formulas whether a system satisfies it";
 
@@ -183,6 +206,13 @@ or as a picture where FILE ends in .dot or .gv (a counterexample where the answe
 
 const QUIET_HELP: &str = "Write no report: the status alone tells";
 
+const SUMMARY_HELP: &str = "Write the report without its lines for each state";
+
+const STATES_HELP: &str =
+    "Write only the numbers of the states that satisfy the formula, or with no of the others, a line each";
+
+const LIMIT_HELP: &str = "At most so many of these numbers";
+
 const WORKERS_HELP: &str = "How many workers lift at once: 1 is the default";
 
 const SEATS_HELP: &str = "How many workers the schedule has: 2 is the default";
@@ -198,11 +228,13 @@ pub(crate) fn parser<'a>(alloc: Global) -> Result<Parser<'a>, AllocError>
 {
     let rules = RULES.as_slice();
     let boards = BOARDS.as_slice();
+    let answers = ANSWERS.as_slice();
     let parser = described(alloc, "mucheck", ABOUT, AFTER)
         .version(VERSION)
         .subcommand_required(true)
         .disable_help_subcommand(true);
-    let parser = parser.subcommand(check_parser(alloc, rules, boards)?)?;
+    let parser = parser.subcommand(check_parser(alloc, rules, boards, answers)?)?;
+    let parser = parser.subcommand(why_parser(alloc, rules, boards)?)?;
     let parser = parser.subcommand(table_parser(alloc, rules, boards)?)?;
     let parser = parser.subcommand(normal_parser(alloc, rules)?)?;
     let parser = parser.subcommand(solve_parser(alloc, boards)?)?;
@@ -224,16 +256,30 @@ fn check_parser<'a>(
     alloc: Global,
     rules: &'a [&'a str],
     boards: &'a [&'a str],
+    answers: &'a [&'a str],
 ) -> Result<Parser<'a>, AllocError>
-    ensures { IfOk result (ReadsBy (command_app (codes "check") (check_rules rules.entry boards.entry))) }
+    ensures { IfOk result (ReadsBy (command_app (codes "check") (check_rules rules.entry boards.entry answers.entry))) }
 {
     let parser = described(alloc, "check", CHECK_ABOUT, CHECK_AFTER)
         .arg(file(alloc, SYSTEM, SYSTEM_HELP))?
         .arg(file(alloc, FORMULA, FORMULA_HELP))?
-        .arg(flag(alloc, PLAIN, PLAIN_HELP))?
-        .arg(quiet(alloc))?
-        .arg(rule(alloc, rules))?;
+        .arg(flag(alloc, PLAIN, PLAIN_HELP))?;
+    let parser = with_report(alloc, parser, answers)?.arg(rule(alloc, rules))?;
     with_outputs(alloc, with_workers(alloc, parser, boards)?)
+}
+
+fn why_parser<'a>(
+    alloc: Global,
+    rules: &'a [&'a str],
+    boards: &'a [&'a str],
+) -> Result<Parser<'a>, AllocError>
+    ensures { IfOk result (ReadsBy (command_app (codes "why") (why_rules rules.entry boards.entry))) }
+{
+    let parser = described(alloc, "why", WHY_ABOUT, WHY_AFTER)
+        .arg(file(alloc, SYSTEM, SYSTEM_HELP))?
+        .arg(file(alloc, FORMULA, FORMULA_HELP))?
+        .arg(rule(alloc, rules))?;
+    with_workers(alloc, parser, boards)
 }
 
 fn table_parser<'a>(
@@ -374,6 +420,38 @@ fn board<'a>(alloc: Global, names: &'a [&'a str]) -> Arg<'a>
     option_with_value(alloc, BOARD, "KIND")
         .value_parser(ValueParser::from(names))
         .help(BOARD_HELP)
+}
+
+fn states<'a>(alloc: Global, names: &'a [&'a str]) -> Arg<'a>
+    ensures { HasRule (states_rule names.entry) result }
+{
+    option_with_value(alloc, STATES, "ANSWER")
+        .value_parser(ValueParser::from(names))
+        .help(STATES_HELP)
+}
+
+fn limit<'a>(alloc: Global) -> Arg<'a>
+    ensures { HasRule limit_rule result }
+{
+    let numbers = clap::value_parser!(u32).range(1..=4_294_967_295);
+    option_with_value(alloc, LIMIT, "NUMBER")
+        .value_parser(numbers)
+        .help(LIMIT_HELP)
+}
+
+/// In which form the report is written.
+fn with_report<'a>(
+    alloc: Global,
+    parser: Parser<'a>,
+    answers: &'a [&'a str],
+) -> Result<Parser<'a>, AllocError>
+    ensures { IfOk result (AddsRules parser.entry (report_rules answers.entry)) }
+{
+    parser
+        .arg(quiet(alloc))?
+        .arg(flag(alloc, SUMMARY, SUMMARY_HELP))?
+        .arg(states(alloc, answers))?
+        .arg(limit(alloc))
 }
 
 /// Workers, shards and board.

@@ -4,13 +4,14 @@ ghost use Rattle.std.specs.Prelude.{◌↔◌, IsTrue};
 ghost use Rattle.commands.specs.Command.{IsReportAlone};
 
 use normal::priorities::Priorities;
-use requests::request::{Check, Options};
+use requests::request::{Check, Options, ReportForm};
 
 /// What the program is asked to do.
 #[derive(Drop)]
 pub enum Command<'a> {
     /// A check, and where its texts go.
     Check(Check<'a>, Outputs<'a>),
+    Why(Why<'a>),
     Table(Table<'a>),
     Normal(Normal<'a>),
     Solve(Solve<'a>),
@@ -32,8 +33,8 @@ pub struct Outputs<'a> {
     pub evidence: Option<&'a str>,
     /// The file of the transitions that the answer rests on.
     pub witness: Option<&'a str>,
-    /// Whether the report is written.
-    pub report: bool,
+    /// In which form the report is written.
+    pub report: ReportForm,
 }
 
 impl Outputs<'_> {
@@ -43,6 +44,14 @@ impl Outputs<'_> {
     {
         self.game.is_none() && self.evidence.is_none() && self.witness.is_none()
     }
+}
+
+/// Why the initial state satisfies a formula, or doesn't: the answer and a witness, told line by line.
+#[derive(Clone, Copy)]
+pub struct Why<'a> {
+    pub system: &'a str,
+    pub formula: &'a str,
+    pub options: Options,
 }
 
 /// The answers of one system to many formulas, a line for each.

@@ -61,7 +61,7 @@ fn solve_and_write<W: Write, H: Threads + Wait + Clone + Copy + Drop + Send + Sy
     }
 }
 
-/// Who wins each vertex: by evidence that is guessed and found good, where one worker alone is asked for and there is some; else by lifting.
+/// Who wins each vertex: by evidence that is guessed and found good, where there is some; else by lifting.
 fn winners_by<H: Threads + Wait + Clone + Copy + Drop + Send + Sync>(
     rt: &H,
     alloc: Global,
@@ -73,10 +73,8 @@ fn winners_by<H: Threads + Wait + Clone + Copy + Drop + Send + Sync>(
     ensures refusal { IfErr result (IsUnsolved (Some options.now.board) (arc_value game.now)) }
 {
     require_board(game, options.board)?;
-    if options.workers == 1 {
-        if let Some(marks) = guessed_winners(alloc, game) {
-            return Ok(marks);
-        }
+    if let Some(marks) = guessed_winners(alloc, game) {
+        return Ok(marks);
     }
     match solve_with(rt, alloc, game, options, &NoGate) {
         Ok(settled) => winners(alloc, game, &settled),

@@ -2,7 +2,7 @@
 
 use crate::refusal::Refusal;
 use commands::names::{EvidenceNames, is_drawing};
-use engines::request::{Wanted, WitnessForm};
+use engines::request::{ReportForm, Wanted, WitnessForm};
 use std::cell::OnceCell;
 use std::fs::File;
 use std::io;
@@ -59,8 +59,8 @@ impl<'a> Files<'a> {
         }
     }
 
-    /// Which texts are written to them: a drawing of the witness where its file's name asks for one.
-    pub fn wanted(&self) -> Wanted {
+    /// Which texts are written to them, before a report in this form: a drawing of the witness where its file's name asks for one.
+    pub fn wanted(&self, report: ReportForm) -> Wanted {
         Wanted {
             game: self.game_name.is_some(),
             evidence: self.evidence_names.is_some(),
@@ -69,6 +69,7 @@ impl<'a> Files<'a> {
                 Some(_) => Some(WitnessForm::System),
                 None => None,
             },
+            report,
         }
     }
 

@@ -225,33 +225,27 @@ impl<T: Wait> Watcher for Line<'_, T> {
     }
 }
 
-/// Where the report goes: to standard output, before whose first byte the line is taken away if it is a terminal too, or nowhere.
+/// Where the report goes: to standard output, before whose first byte the line is taken away if it is a terminal too.
 #[derive(Drop)]
 pub struct Output<'a, T> {
     rt: HostRuntime,
     line: &'a Line<'a, T>,
     /// Standard output is a terminal.
     is_shown: bool,
-    /// The report is to be written.
-    is_wanted: bool,
 }
 
 impl<'a, T> Output<'a, T> {
-    pub fn new(rt: HostRuntime, line: &'a Line<'a, T>, is_wanted: bool) -> Output<'a, T> {
+    pub fn new(rt: HostRuntime, line: &'a Line<'a, T>) -> Output<'a, T> {
         Output {
             rt,
             line,
             is_shown: rt.stdout().is_terminal(),
-            is_wanted,
         }
     }
 }
 
 impl<T: Wait> Write for Output<'_, T> {
     fn write(&mut self, bytes: &[u8]) -> io::Result<usize> {
-        if !self.is_wanted {
-            return Ok(bytes.len());
-        }
         if self.is_shown {
             self.line.end();
         }

@@ -3,12 +3,14 @@
 #![tactic(auto)]
 
 mod files;
+mod input;
 mod line;
 mod refusal;
 mod same;
 mod table;
 
 use crate::files::Files;
+use crate::input::{Input, open};
 use crate::line::{Line, Output};
 use crate::refusal::{NO_SOURCES, Refusal, Sources, tell};
 use crate::same::keep_apart;
@@ -18,15 +20,16 @@ use commands::information::{explanation, help_text, version_text};
 use commands::names::EvidenceNames;
 use commands::normal_text::normal_text;
 use commands::replay_text::replay_text;
-use commands::request::{Command, Normal, Outputs, Replay, Solve, Verify};
+use commands::request::{Command, Normal, Outputs, Replay, Solve, Verify, Why};
 use commands::solve_text::solve_text;
 use commands::verify_text::{verify_both_text, verify_text};
 use engines::engine::check_asked;
 use engines::error::{ArgumentError, MuError};
-use engines::request::Check;
+use engines::reasons::tell_why;
+use engines::request::{Check, ReportForm};
 use engines::status::{error_status, status};
 use lts::put;
-use std::fs::File;
+use measures::observer::Silent;
 use std::io::ErrorKind;
 use std::process::ExitCode;
 use std::sync::Wait;
@@ -76,6 +79,7 @@ fn run_command<T: Threads + Wait + Clock + Clone + Copy + Drop + Send + Sync + '
 ) -> Result<u8, Refusal> {
     let answer = match command {
         Command::Check(request, outputs) => run_check(rt, threads, request, outputs),
+        Command::Why(request) => run_why(rt, threads, request),
         Command::Table(request) => return run_table(rt, threads, request),
         Command::Normal(request) => run_normal(rt, request),
         Command::Solve(request) => run_solve(rt, threads, request),
@@ -104,10 +108,6 @@ fn words(rt: &HostRuntime) -> Result<Vec<String>, MuError> {
     found.map_err(|_| MuError::Memory)
 }
 
-fn open(rt: &HostRuntime, name: &str) -> Result<File, Refusal> {
-    File::open(rt, name).map_err(|error| Refusal::of_file(rt, name, error))
-}
-
 /// That no file is destroyed is seen to before any is opened. Both files are opened, in the order of the command line, before the first is
 /// read.
 fn run_check<T: Threads + Wait + Clock + Clone + Copy + Drop + Send + Sync + 'static>(
@@ -129,9 +129,10 @@ fn run_check<T: Threads + Wait + Clock + Clone + Copy + Drop + Send + Sync + 'st
     let files = Files::new(rt, outputs.game, names, outputs.witness);
     let line = Line::new(*rt, threads);
     let ticker = line.start();
-    let mut out = Output::new(*rt, &line, outputs.report);
+    let mut out = Output::new(*rt, &line);
+    let report = outputs.report;
     let answer = write_files(
-        rt, threads, request, system, formula, &files, &mut out, &line,
+        rt, threads, request, system, formula, &files, report, &mut out, &line,
     );
     line.end();
     if let Some(ticker) = ticker {
@@ -148,9 +149,10 @@ fn write_files<T: Threads + Wait + Clock + Clone + Copy + Drop + Send + Sync + '
     rt: &HostRuntime,
     threads: &T,
     request: &Check<'_>,
-    system: File,
-    formula: File,
+    system: Input,
+    formula: Input,
     files: &Files<'_>,
+    report: ReportForm,
     out: &mut Output<'_, T>,
     line: &Line<'_, T>,
 ) -> Result<bool, MuError> {
@@ -158,7 +160,7 @@ fn write_files<T: Threads + Wait + Clock + Clone + Copy + Drop + Send + Sync + '
         threads,
         rt.alloc(),
         request,
-        files.wanted(),
+        files.wanted(report),
         system,
         formula,
         out,
@@ -168,6 +170,19 @@ fn write_files<T: Threads + Wait + Clock + Clone + Copy + Drop + Send + Sync + '
         &mut files.witness(),
         line,
     )
+}
+
+/// Both files are opened, in the order of the command line, before the first is read.
+fn run_why<T: Threads + Wait + Clone + Copy + Drop + Send + Sync>(
+    rt: &HostRuntime,
+    threads: &T,
+    request: &Why<'_>,
+) -> Result<bool, Refusal> {
+    let system = open(rt, request.system)?;
+    let formula = open(rt, request.formula)?;
+    let options = &request.options;
+    let out = &mut io::writer(rt);
+    Ok(tell_why(threads, rt.alloc(), system, formula, options, out, &Silent)?)
 }
 
 fn run_normal(rt: &HostRuntime, request: &Normal<'_>) -> Result<bool, Refusal> {

@@ -67,6 +67,11 @@ impl<'a> Sources<'a> {
                 formula: Some(check.formula),
                 ..NO_SOURCES
             },
+            Command::Why(why) => Sources {
+                system: Some(why.system),
+                formula: Some(why.formula),
+                ..NO_SOURCES
+            },
             Command::Table(table) => Sources {
                 system: Some(table.system),
                 ..NO_SOURCES

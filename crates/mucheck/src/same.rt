@@ -1,13 +1,17 @@
 // The same file under two names: links, and names with other folders in front.
 
+use commands::inputs::is_standard_input;
 use commands::names::{EvidenceNames, is_device};
 use commands::request::Outputs;
 use engines::error::{ArgumentError, CheckFile};
-use engines::request::Check;
+use engines::request::{Check, ReportForm};
 use std::fs;
 use std::io::ErrorKind;
 use std::os::unix::fs::MetadataExt;
 use std::path::Path;
+
+/// Where standard input comes from.
+const STANDARD_INPUT: &str = "/dev/stdin";
 
 /// Where standard output goes.
 const STANDARD_OUTPUT: &str = "/dev/stdout";
@@ -43,10 +47,9 @@ pub fn keep_apart<'a>(
 ) -> Result<(), ArgumentError> {
     let even = evidence.map(|names| names.even.as_str());
     let odd = evidence.map(|names| names.odd.as_str());
-    let report = if outputs.report {
-        identify(rt, STANDARD_OUTPUT)
-    } else {
-        None
+    let report = match outputs.report {
+        ReportForm::Nothing => None,
+        _ => identify(rt, STANDARD_OUTPUT),
     };
     let places = [
         written(rt, CheckFile::Game, outputs.game),
@@ -59,11 +62,11 @@ pub fn keep_apart<'a>(
         },
         Place {
             file: CheckFile::System,
-            identity: identify(rt, check.system),
+            identity: identify_read(rt, check.system),
         },
         Place {
             file: CheckFile::Formula,
-            identity: identify(rt, check.formula),
+            identity: identify_read(rt, check.formula),
         },
     ];
     for at in 0..WRITTEN {
@@ -79,6 +82,15 @@ fn written<'a>(rt: &HostRuntime, file: CheckFile, name: Option<&'a str>) -> Plac
         _ => None,
     };
     Place { file, identity }
+}
+
+/// What is read under this name.
+fn identify_read<'a>(rt: &HostRuntime, name: &'a str) -> Option<Identity<'a>> {
+    if is_standard_input(name) {
+        identify(rt, STANDARD_INPUT)
+    } else {
+        identify(rt, name)
+    }
 }
 
 fn identify<'a>(rt: &HostRuntime, name: &'a str) -> Option<Identity<'a>> {

@@ -1,6 +1,6 @@
 // The command `table`.
 
-use crate::open;
+use crate::input::open;
 use crate::refusal::{NO_SOURCES, Refusal, tell};
 use commands::request::Table;
 use engines::error::MuError;
