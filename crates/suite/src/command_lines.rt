@@ -7,7 +7,7 @@ use commands::information::{explanation, help_text, version_text};
 use commands::names::is_drawing;
 use commands::request::Command;
 use engines::error::MuError;
-use engines::request::{BoardKind, Options};
+use engines::request::{BoardKind, Options, ReportForm};
 use engines::status::status;
 use normal::priorities::Priorities;
 use std::alloc::{AllocError, Global};
@@ -47,6 +47,19 @@ fn rule_of(priorities: Priorities) -> &'static str {
     }
 }
 
+/// The form of the report, with its limit where it has one.
+fn form_of(alloc: Global, form: ReportForm) -> Result<String, AllocError> {
+    match form {
+        ReportForm::Whole => String::from_str(alloc, "report"),
+        ReportForm::Summary => String::from_str(alloc, "summary"),
+        ReportForm::Nothing => String::from_str(alloc, "quiet"),
+        ReportForm::States { mark, most } => match most {
+            Some(most) => format!(in alloc; "{most} of {mark}"),
+            None => format!(in alloc; "all of {mark}"),
+        },
+    }
+}
+
 /// What the words ask for.
 fn request_of(alloc: Global, words: &[String]) -> Result<String, AllocError> {
     match command(alloc, words) {
@@ -56,10 +69,15 @@ fn request_of(alloc: Global, words: &[String]) -> Result<String, AllocError> {
             let game = outputs.game.unwrap_or("-");
             let evidence = outputs.evidence.unwrap_or("-");
             let witness = outputs.witness.unwrap_or("-");
-            let report = if outputs.report { "report" } else { "quiet" };
+            let report = form_of(alloc, outputs.report)?;
             format!(in alloc;
                 "check {system} {formula} {options} {plain} {game} {evidence} {witness} {report}"
             )
+        }
+        Ok(Command::Why(why)) => {
+            let options = options_of(alloc, &why.options)?;
+            let (system, formula) = (why.system, why.formula);
+            format!(in alloc; "why {system} {formula} {options}")
         }
         Ok(Command::Table(table)) => {
             let options = options_of(alloc, &table.options)?;
@@ -97,7 +115,50 @@ fn request_of(alloc: Global, words: &[String]) -> Result<String, AllocError> {
 }
 
 /// Lines and what they ask for, with the defaults of the program's description.
-const TAKEN: [(&str, &str); 35] = [
+const TAKEN: [(&str, &str); 48] = [
+    (
+        "mucheck check - f",
+        "check - f nested 1 16 auto false - - - report",
+    ),
+    (
+        "mucheck check s - --plain",
+        "check s - nested 1 16 auto true - - - report",
+    ),
+    (
+        "mucheck table s f - g",
+        "table s f,-,g nested 1 16 auto false",
+    ),
+    ("mucheck verify g - o", "verify g - o"),
+    ("mucheck replay s f -", "replay s f - 2"),
+    (
+        "mucheck check s f --summary --plain",
+        "check s f nested 1 16 auto true - - - summary",
+    ),
+    (
+        "mucheck check --summary s f --evidence e",
+        "check s f nested 1 16 auto false - e - summary",
+    ),
+    (
+        "mucheck check s f --states no",
+        "check s f nested 1 16 auto false - - - all of false",
+    ),
+    (
+        "mucheck check --states yes s f --game g",
+        "check s f nested 1 16 auto false g - - all of true",
+    ),
+    (
+        "mucheck check s f --limit 1 --states no",
+        "check s f nested 1 16 auto false - - - 1 of false",
+    ),
+    (
+        "mucheck check s f --states=yes --limit=4294967295",
+        "check s f nested 1 16 auto false - - - 4294967295 of true",
+    ),
+    ("mucheck why s f", "why s f nested 1 16 auto"),
+    (
+        "mucheck why --workers 3 s f --priorities dependent",
+        "why s f dependent 3 16 auto",
+    ),
     ("mucheck table s f", "table s f nested 1 16 auto false"),
     (
         "mucheck table s f g --plain h",
@@ -216,7 +277,30 @@ fn takes_command_lines(rt: HostRuntime) {
     }
 }
 
-const REFUSED: [&str; 55] = [
+const REFUSED: [&str; 78] = [
+    "mucheck check - -",
+    "mucheck table - f -",
+    "mucheck table s - f -",
+    "mucheck verify - - o",
+    "mucheck verify - e -",
+    "mucheck verify g - -",
+    "mucheck replay - f -",
+    "mucheck check - f --game -",
+    "mucheck check s f --summary --quiet",
+    "mucheck check s f -q --states yes",
+    "mucheck check s f --states no --summary",
+    "mucheck check s f --quiet --summary --states no",
+    "mucheck check s f --states",
+    "mucheck check s f --states maybe",
+    "mucheck check s f --states no --limit 0",
+    "mucheck check s f --states no --limit 4294967296",
+    "mucheck check s f --limit 3",
+    "mucheck check s f --summary --limit 3",
+    "mucheck table s f --summary",
+    "mucheck why s",
+    "mucheck why s f g",
+    "mucheck why s f --plain",
+    "mucheck why s f --witness w",
     "mucheck table",
     "mucheck table s",
     "mucheck table  f",
@@ -384,7 +468,8 @@ fn codes_are_explained(rt: HostRuntime) {
 #[test]
 fn texts_are_those_of_the_options(rt: HostRuntime) {
     for command in &[
-        "check", "table", "normal", "solve", "verify", "replay", "explain", "help", "version",
+        "check", "why", "table", "normal", "solve", "verify", "replay", "explain", "help",
+        "version",
     ] {
         let line = format!(in rt.alloc(); "mucheck {command} --help").expect(&rt, "memory");
         let words = words(rt.alloc(), line.as_str()).expect(&rt, "memory");
@@ -427,7 +512,7 @@ const SHOWN: [(&str, [&str; 4]); 6] = [
         [
             "--witness",
             "--workers",
-            "--quiet",
+            "--summary",
             "Example:\n  mucheck check ",
         ],
     ),

@@ -8,6 +8,7 @@ Usage: mucheck <COMMAND>
 
 Commands:
   check    Reports for each state of a system whether it satisfies a formula
+  why      Tells why a system satisfies a formula, or why it does not
   table    Reports for each of many formulas whether a system satisfies it
   normal   Writes the normal form of a formula, a line for each node
   solve    Writes for each vertex of a parity game who wins it
@@ -21,7 +22,8 @@ Options:
   -h, --help     Print help
   -V, --version  Print version
 
-mucheck help COMMAND says more of a command.
+mucheck help COMMAND says more of a command. One of the files that it reads may be -, which
+is standard input.
 
 A refusal begins with a line on standard error, mucheck: CODE, with its place. The command
 mucheck explain CODE says what it means and how to mend it. The most frequent:

@@ -20,6 +20,8 @@ mod observers;
 #[cfg(test)]
 mod replays;
 #[cfg(test)]
+mod report_forms;
+#[cfg(test)]
 mod reports;
 #[cfg(test)]
 mod shown_checks;
@@ -27,5 +29,7 @@ mod shown_checks;
 mod stages;
 #[cfg(test)]
 mod table_lines;
+#[cfg(test)]
+mod told_reasons;
 #[cfg(test)]
 mod written_checks;

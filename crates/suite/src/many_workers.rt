@@ -7,8 +7,8 @@ use game::graph::Game;
 use game::name::GameName;
 use game::player::Player;
 use measures::measure::Measure;
-use measures::settle::{first_table, is_settled, solve_one};
-use measures::table::PlainTable;
+use measures::settle::{is_settled, solve_one};
+use measures::table::{PlainTable, opening};
 use samples::games::{Row, shared_game_of};
 use std::alloc::{AllocError, Global};
 use std::hint::spin_loop;
@@ -23,7 +23,7 @@ use tables::locked::LockedBoard;
 use tables::packed::PackedBoard;
 use workers::gate::{Gate, NoGate};
 use workers::locked::solve_locked;
-use workers::solving::solve;
+use workers::solving::solve_from;
 
 // A ring on which Odd wins: its greatest priority is odd. Each vertex rises many times before it is top.
 const ODD_RING: [Row; 8] = [
@@ -350,9 +350,12 @@ fn ends_well_on<B: Board + Drop + Sync, R: Threads + Wait + Sync>(
 ) -> bool
     requires { B.game inner ≡ arc_value game.now }
 {
+    let Ok(table) = opening(alloc, game) else {
+        return false;
+    };
     let board = Noted { inner, game, notes };
-    let solved = solve(rt, alloc, game, board, notes.workers, notes);
-    solved.is_ok() && notes.ended_well() && notes.both_came()
+    let _ = solve_from(rt, alloc, game, table, board, notes.workers, notes);
+    notes.ended_well() && notes.both_came()
 }
 
 // Whether they do over shards under locks.
@@ -399,14 +402,16 @@ fn all_end_well_over_words<R: Abort + AllocGlobal + Threads + Wait + Sync>(
 // Whether the table that workers begin with leaves something to lift.
 fn is_left_to_workers(rt: &(impl Abort + AllocGlobal), rows: &[Row]) -> bool {
     let game = shared_game_of(rt, rows).expect(rt, "a game");
-    let first = first_table(rt.alloc(), &game).expect(rt, "memory");
+    let first = opening(rt.alloc(), &game).expect(rt, "memory");
     !is_settled(&game, &first)
 }
 
-// Settled is what no lift raises, which is looked up at each vertex. The ring and the way are settled before workers begin; the two
-// rings aren't, so there it is the workers' doing.
+// Settled is what no lift raises, which is looked up at each vertex. The opening table is settled of none of these games, so it is
+// the workers' doing.
 #[test]
 fn workers_leave_nothing_to_lift(rt: HostRuntime) {
+    assert!(&rt; is_left_to_workers(&rt, &ODD_RING));
+    assert!(&rt; is_left_to_workers(&rt, &WAY));
     assert!(&rt; is_left_to_workers(&rt, &TWO_RINGS));
     for workers in [1, 2, 8] {
         assert!(rt;
@@ -424,7 +429,6 @@ fn workers_leave_nothing_to_lift(rt: HostRuntime) {
 // The same over words.
 #[test]
 fn workers_leave_nothing_to_lift_over_words(rt: HostRuntime) {
-    assert!(&rt; is_left_to_workers(&rt, &TWO_RINGS));
     for workers in [1, 2, 8] {
         assert!(rt;
             all_end_well_over_words(&rt, &ODD_RING, workers),

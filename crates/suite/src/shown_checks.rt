@@ -3,7 +3,7 @@
 use crate::command_texts::{EVEN_OF_STEP, ODD_OF_STEP, STEP};
 use engines::engine::{check_all, check_asked};
 use engines::error::MuError;
-use engines::request::{BoardKind, Check, Options, Wanted, WitnessForm};
+use engines::request::{BoardKind, Check, Options, ReportForm, Wanted, WitnessForm};
 use measures::observer::Silent;
 use normal::priorities::Priorities;
 use samples::texts::RING;
@@ -23,12 +23,14 @@ const ALL: Wanted = Wanted {
     game: true,
     evidence: true,
     witness: Some(WitnessForm::System),
+    report: ReportForm::Whole,
 };
 
 const NONE: Wanted = Wanted {
     game: false,
     evidence: false,
     witness: None,
+    report: ReportForm::Whole,
 };
 
 /// From its first state to both others, of which the last has no step.
@@ -141,6 +143,7 @@ fn a_witness_is_what_the_answer_rests_on(rt: HostRuntime) {
                 game: false,
                 evidence,
                 witness: Some(WitnessForm::System),
+                report: ReportForm::Whole,
             };
             let answer = run(&rt, rt.alloc(), row, wanted, &mut writers);
             assert!(rt; answer.ok() == Some(row.holds), "{}", row.formula);

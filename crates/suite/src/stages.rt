@@ -2,7 +2,7 @@
 
 use calculus::closed::Closed;
 use engines::engine::{check_all, check_plain_seen};
-use engines::request::{BoardKind, Options, Wanted};
+use engines::request::{BoardKind, Options, ReportForm, Wanted};
 use engines::watch::Watcher;
 use lts::Lts;
 use measures::observer::{Observer, Stage};
@@ -59,6 +59,7 @@ const NOTHING: Wanted = Wanted {
     game: false,
     evidence: false,
     witness: None,
+    report: ReportForm::Whole,
 };
 
 fn tells_of_a_game<R: Abort + AllocGlobal + Threads + Wait + Clone + Copy + Drop + Send + Sync>(
@@ -104,7 +105,14 @@ fn a_check_by_sets_tells_of_its_stages(rt: HostRuntime) {
     let told = Told::new();
     let mut out = Vec::new(rt.alloc());
     let (system, formula) = (RING.as_bytes(), b"<a>true".as_slice());
-    let answer = check_plain_seen(rt.alloc(), system, formula, &mut out, &told);
+    let answer = check_plain_seen(
+        rt.alloc(),
+        system,
+        formula,
+        ReportForm::Whole,
+        &mut out,
+        &told,
+    );
     assert!(rt; answer.ok() == Some(true));
     assert_eq!(rt; told.digits.load(Ordering::SeqCst), 1_100_011);
     assert_eq!(rt; told.states.load(Ordering::SeqCst), 2);

@@ -14,7 +14,7 @@ use game::dual::greatest_priority;
 use game::graph::Game;
 use measures::settle::solve_one;
 use samples::readers::Slow;
-use samples::texts::{RING, form_of, system_of};
+use samples::texts::{RING, form_of, repeated, system_of};
 use samples::writers::{AMPLE, Narrow};
 use std::alloc::{AllocError, Global};
 use std::process::Abort;
@@ -146,8 +146,16 @@ fn made_evidence_is_written(rt: HostRuntime) {
     }
 }
 
-fn refusal(alloc: Global, game: &Game, text: &str) -> Result<String, AllocError> {
-    match read(alloc, game, text) {
+// A byte at a time, less than a line, and as much as a block has. A line that stands whole in the block at hand is read there, any other is kept shortened.
+const STEPS: [usize; 3] = [1, 7, 8192];
+
+fn refusal(alloc: Global, game: &Game, text: &str, step: usize) -> Result<String, AllocError> {
+    let reader = Slow {
+        left: text.as_bytes(),
+        step,
+        fails: false,
+    };
+    match read_evidence(alloc, reader, game) {
         Ok(_) => String::from_str(alloc, "read"),
         Err(error) => error.to_string(alloc),
     }
@@ -181,12 +189,55 @@ const REFUSED: [(&str, &str); 20] = [
 fn faults_of_texts(rt: HostRuntime) {
     let game = game_of_formula(&rt, OFTEN_A);
     for (text, wanted) in &REFUSED {
-        let told = refusal(rt.alloc(), &game, text).expect(&rt, "memory");
-        same(&rt, text, told.as_str(), wanted);
+        refuses(&rt, &game, text, wanted);
     }
     let other = with_line(rt.alloc(), EVEN, "evidence even", "evidence odd").expect(&rt, "memory");
-    let told = refusal(rt.alloc(), &game, other.as_str()).expect(&rt, "memory");
-    same(&rt, "Even's lines as Odd's", told.as_str(), "E2 at line 2");
+    refuses(&rt, &game, other.as_str(), "E2 at line 2");
+}
+
+fn refuses(rt: &(impl Abort + AllocGlobal), game: &Game, text: &str, wanted: &str) {
+    for step in STEPS {
+        let told = refusal(rt.alloc(), game, text, step).expect(rt, "memory");
+        same(rt, text, told.as_str(), wanted);
+    }
+}
+
+// Lines that have one part 300 times, and how they are refused. A number of any length is a number.
+const LONG: [(&str, &str, &str, &str); 10] = [
+    ("evidence even", " ", "\n", "E1 at line 1"),
+    ("evidence eve", "n", "\n", "E1 at line 1"),
+    ("evidence even\n5", "7", " 13 (0)\n", "E3 at line 2"),
+    ("evidence even\n5 1", "3", " (0)\n", "E3 at line 2"),
+    ("evidence even\n5", "7", " 13 (0)", "E3 at line 2"),
+    ("evidence even\n0", "7", " 13 (0)\n", "E2 at line 2"),
+    ("evidence even\n5", "7", " 13 (0\n", "E2 at line 2"),
+    ("evidence even\n5 13 (1", "0", ")\n", "E2 at line 2"),
+    ("evidence even\n5 13 (0)", " ", "\n", "E2 at line 2"),
+    ("evidence even\n5 13", "-", " (0)\n", "E2 at line 2"),
+];
+
+#[test]
+fn long_lines_are_refused(rt: HostRuntime) {
+    let game = game_of_formula(&rt, OFTEN_A);
+    for (front, part, back, wanted) in &LONG {
+        let text = repeated(rt.alloc(), front, part, 300, back).expect(&rt, "memory");
+        refuses(&rt, &game, text.as_str(), wanted);
+    }
+}
+
+// The same evidence is read by whatever pieces.
+#[test]
+fn evidence_is_read_by_pieces(rt: HostRuntime) {
+    let game = game_of_formula(&rt, OFTEN_A);
+    for step in STEPS {
+        let reader = Slow {
+            left: EVEN.as_bytes(),
+            step,
+            fails: false,
+        };
+        let evidence = read_evidence(rt.alloc(), reader, &game).expect(&rt, "memory");
+        is_written(&rt, &evidence, EVEN);
+    }
 }
 
 // Each read fails in turn.

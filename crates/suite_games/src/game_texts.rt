@@ -8,10 +8,11 @@ use game::player::Player;
 use pgsolver::{read_game, write_game};
 use samples::games::{Row, game_of};
 use samples::readers::{Halting, Slow};
-use samples::texts::{form_of, system_of};
+use samples::texts::{form_of, repeated, system_of};
 use samples::writers::{AMPLE, AtEnd, Narrow};
 use std::alloc::{AllocError, Global};
 use std::io::Read;
+use std::process::Abort;
 
 // The canonical text of what was read, or the refusal.
 fn shown<R: Read + Drop>(alloc: Global, reader: R) -> Result<String, AllocError> {
@@ -68,22 +69,69 @@ const TEXTS: [(&str, &str); 31] = [
     ("parity 0;\n0 4294967296 0 0;", "G5 at line 2"),
 ];
 
+// A byte at a time, less than a line, and as much as a block has. A line that stands whole in the block at hand is read at once, any other token by
+// token.
+const STEPS: [usize; 3] = [1, 7, 8192];
+
+fn tells(rt: &(impl Abort + AllocGlobal), what: &str, text: &[u8], wanted: &str) {
+    for step in STEPS {
+        let reader = Slow {
+            left: text,
+            step,
+            fails: false,
+        };
+        let told = shown(rt.alloc(), reader).expect(rt, "memory");
+        same(rt, what, told.as_str(), wanted);
+    }
+}
+
 #[test]
 fn texts_are_read(rt: HostRuntime) {
     for (text, wanted) in &TEXTS {
-        for step in [1, 7, 8192] {
-            let reader = Slow {
-                left: text.as_bytes(),
-                step,
-                fails: false,
-            };
-            same(
-                &rt,
-                text,
-                shown(rt.alloc(), reader).expect(&rt, "memory").as_str(),
-                wanted,
-            );
-        }
+        tells(&rt, text, text.as_bytes(), wanted);
+    }
+}
+
+// Names up to the limit and past it, within a block and beyond one, and how they end; what is told of each line.
+const NAMES: [(usize, &str, &str); 7] = [
+    (4_096, "\";", "parity 0;\n0 0 0 0;\n"),
+    (4_096, "\"\t;\t\r\n", "parity 0;\n0 0 0 0;\n"),
+    (4_097, "\";", "G2 at line 2"),
+    (9_000, "\";", "G2 at line 2"),
+    (4_096, "\x7f\";", "G2 at line 2"),
+    (4_096, "\n\";", "G2 at line 2"),
+    (4_096, "", "G2 at line 2"),
+];
+
+#[test]
+fn a_name_has_a_limit(rt: HostRuntime) {
+    for (count, end, wanted) in &NAMES {
+        let text = repeated(rt.alloc(), "parity 0;\n0 0 0 0\"", "x", *count, end).expect(
+            &rt, "memory",
+        );
+        tells(&rt, "a name", text.as_bytes(), wanted);
+    }
+}
+
+// Successors that stand again and again, and what is told where the line ends so.
+const ENDS: [(&str, &str); 6] = [
+    (";", "parity 3;\n0 0 0 1,3;\n1 0 0 1;\n2 0 0 2;\n3 0 0 3;\n"),
+    (
+        ",2;\n",
+        "parity 3;\n0 0 0 1,2,3;\n1 0 0 1;\n2 0 0 2;\n3 0 0 3;\n",
+    ),
+    (",4;\n", "G4 at line 5"),
+    (",;\n", "G2 at line 5"),
+    (",01;\n", "G2 at line 5"),
+    ("", "G2 at line 5"),
+];
+
+#[test]
+fn successors_stand_again_and_again(rt: HostRuntime) {
+    let lines = "parity 3;\n3 0 0 3;\n2 0 0 2;\n1 0 0 1;\n0 0 0 3";
+    for (end, wanted) in &ENDS {
+        let text = repeated(rt.alloc(), lines, ", 1 ,3", 2_500, end).expect(&rt, "memory");
+        tells(&rt, "successors", text.as_bytes(), wanted);
     }
 }
 

@@ -1,0 +1,157 @@
+// What is told of why an answer is so: whole texts, worked out by hand from the witnesses, which have the winner's moves and all of the opponent's.
+
+use engines::error::MuError;
+use engines::reasons::tell_why;
+use engines::request::{BoardKind, Options};
+use measures::observer::Silent;
+use normal::priorities::Priorities;
+use samples::texts::{RING, ring};
+use samples::writers::{AMPLE, AtEnd, Narrow};
+use std::process::Abort;
+use std::sync::Wait;
+use std::thread::Threads;
+
+const OPTIONS: Options = Options {
+    priorities: Priorities::Nested,
+    workers: 1,
+    shards: 16,
+    board: BoardKind::Auto,
+};
+
+/// Two philosophers who take their left forks first, and may come to hold one each.
+const TABLE: &str =
+    "des (0,8,4)\n(0,\"take(0)\",1)\n(0,\"take(1)\",2)\n(1,\"eat(0)\",0)\n(1,\"take(1)\",3)\n(2,\"eat(1)\",0)\n(2,\"take(0)\",3)\n(1,\"think\",1)\n(2,\"think\",2)\n";
+
+/// By `a` to two states, of which one goes on to the other.
+const BRANCH: &str = "des (0,4,3)\n(0,\"a\",1)\n(0,\"a\",2)\n(0,\"b\",1)\n(1,\"b\",2)\n";
+
+/// By two labels to the second state, and back from there.
+const BESIDE: &str = "des (0,3,2)\n(0,\"a\",1)\n(0,\"b\",1)\n(1,\"c\",0)\n";
+
+/// A system, a formula, whether the initial state satisfies it, and what is told.
+const ROWS: [(&str, &str, bool, &str); 9] = [
+    (
+        RING,
+        "[true*]<true>true",
+        true,
+        "formula [true*]<true>true\ninitial yes\n0 -a-> 1\n1 -b-> 0 (again)\n",
+    ),
+    (
+        RING,
+        "<a><a>true",
+        false,
+        "formula <a><a>true\ninitial no\n0 -a-> 1\n1: no step\n",
+    ),
+    (
+        RING,
+        "<b>true",
+        false,
+        "formula <b>true\ninitial no\n0: no step\n",
+    ),
+    (
+        RING,
+        "nu X. mu Y. (<a>X || <b>Y)",
+        true,
+        "formula (nu X. (mu Y. (<a>X || <b>Y)))\ninitial yes\n0 -a-> 1\n1 -b-> 0 (again)\n",
+    ),
+    (
+        TABLE,
+        "[true*]<true>true",
+        false,
+        "formula [true*]<true>true\ninitial no\n0 -take(0)-> 1\n1 -take(1)-> 3\n3: no step\n",
+    ),
+    (
+        BRANCH,
+        "[a]true && <a><b>true",
+        true,
+        "formula ([a]true && <a><b>true)\ninitial yes\n  0 -a-> 1\n  1 -b-> 2\n  2: no step\n  0 -a-> 2 (again)\n",
+    ),
+    (
+        BRANCH,
+        "[a]<b>true",
+        false,
+        "formula [a]<b>true\ninitial no\n0 -a-> 2\n2: no step\n",
+    ),
+    (
+        BESIDE,
+        "<true*><c>true",
+        true,
+        "formula <true*><c>true\ninitial yes\n0 -a-> 1\n0 -b-> 1 (again)\n1 -c-> 0 (again)\n",
+    ),
+    (
+        BESIDE,
+        "[true*]<c>true",
+        false,
+        "formula [true*]<c>true\ninitial no\n0: no step\n",
+    ),
+];
+
+/// What is told of the system and the formula, and the answer.
+fn told<R: Abort + AllocGlobal + Threads + Wait + Clone + Copy + Drop + Send + Sync>(
+    rt: &R,
+    system: &str,
+    formula: &str,
+    out: &mut Narrow,
+) -> Result<bool, MuError> {
+    tell_why(
+        rt,
+        rt.alloc(),
+        system.as_bytes(),
+        formula.as_bytes(),
+        &OPTIONS,
+        out,
+        &Silent,
+    )
+}
+
+#[test]
+fn answers_are_told_as_worked_out(rt: HostRuntime) {
+    for (system, formula, holds, text) in &ROWS {
+        let mut out = Narrow::new(rt.alloc(), 7, AMPLE);
+        let answer = told(&rt, system, formula, &mut out);
+        assert!(rt; answer.ok() == Some(*holds), "{formula}");
+        assert!(rt; out.taken.as_slice() == text.as_bytes(), "{formula}");
+    }
+}
+
+/// All steps of a ring are told where there are 200, and of a larger one the first 200.
+#[test]
+fn two_hundred_steps_are_told(rt: HostRuntime) {
+    for states in [200usize, 300] {
+        let system = ring(rt.alloc(), states).expect(&rt, "memory");
+        let mut text = String::from_str(
+            rt.alloc(),
+            "formula (nu X. <true>X)\ninitial yes\n",
+        ).expect(&rt, "memory");
+        if states == 300 {
+            text.push_str("witness 300 transitions, the first 200:\n")
+                .expect(&rt, "memory");
+        }
+        for state in 0..200usize {
+            let label = if state == 0 { "a" } else { "b" };
+            let (next, end) = if state + 1 == states {
+                (0, " (again)")
+            } else {
+                (state + 1, "")
+            };
+            write!(text, "{state} -{label}-> {next}{end}\n").expect(&rt, "memory");
+        }
+        let mut out = Narrow::new(rt.alloc(), 50, AMPLE);
+        let answer = told(&rt, &system, "nu X. <true>X", &mut out);
+        assert!(rt; answer.ok() == Some(true));
+        assert!(rt; out.taken.as_slice() == text.as_bytes());
+    }
+}
+
+/// Nothing is written where the formula is refused, and a beginning where the writer fails.
+#[test]
+fn refusals_and_failed_writes_are_told(rt: HostRuntime) {
+    let mut out = Narrow::new(rt.alloc(), 7, AMPLE);
+    assert!(rt; told(&rt, RING, "<a>true && X", &mut out).is_err());
+    assert!(rt; out.taken.is_empty());
+    let mut out = Narrow::new(rt.alloc(), 7, 40);
+    out.at_end = AtEnd::TakesNothing;
+    let answer = told(&rt, RING, "<a><a>true", &mut out);
+    assert!(rt; matches!(answer, Err(MuError::Write(_))));
+    assert!(rt; out.taken.as_slice() == b"formula <a><a>true\ninitial no\n0 -a-> 1\n1".as_slice());
+}
