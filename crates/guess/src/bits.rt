@@ -15,7 +15,7 @@ pub(crate) fn words_for(bits: u32) -> u32 {
     bits.div_ceil(WORD)
 }
 
-/// A set for each node. Past the last word nothing is read but zero, and nothing is written.
+/// A set for each node. Past the last word of the last node nothing is read but zero, and nothing is written.
 #[derive(Drop)]
 pub(crate) struct Sheet {
     words: Vec<u64>,
@@ -104,7 +104,7 @@ impl Sheet {
     fn first_within(&self, node: u32, from: u32) -> Option<u32> {
         let before = bit(from).wrapping_sub(1);
         let rest = self.word(node, from / WORD) & !before;
-        if rest == 0 {
+        if rest == 0 || from / WORD >= self.width {
             return None;
         }
         let start = (from / WORD).wrapping_mul(WORD);

@@ -21,14 +21,25 @@ pub(crate) enum Known {
     Levels { first: usize, last: u64 },
 }
 
+/// What a component is found from, and what is found of it.
+#[derive(Clone, Copy, PartialEq, Eq)]
+pub(crate) enum Exits {
+    /// The values of those below it, for the least values.
+    Values,
+    /// Who wins at those below it, for who wins, with levels and rounds.
+    Marks,
+}
+
 /// Values, levels and rounds by node and state, with the edges and nodes that they are of. Variables are as their binders.
 #[derive(Drop)]
 pub(crate) struct Board {
     pub(crate) states: u32,
     pub(crate) forth: Edges,
-    pub(crate) back: Edges,
+    // As soon as they are wanted.
+    back: Option<Edges>,
     pub(crate) form: Form,
     pub(crate) scale: Scale,
+    pub(crate) exits: Exits,
     pub(crate) tops: Sheet,
     known: Vec<Known>,
     words: Vec<Words>,
@@ -55,32 +66,34 @@ fn no_words(alloc: Global, nodes: u32) -> Result<Vec<Words>, AllocError> {
     Ok(lists)
 }
 
-/// The edges of a system, both ways.
-#[derive(Drop)]
-pub(crate) struct Graph {
-    pub(crate) states: u32,
-    pub(crate) forth: Edges,
-    pub(crate) back: Edges,
+// Writes a number at these states of a word.
+fn put_number(numbers: &mut Numbers, word: u32, mut bits: u64, number: u32) {
+    for _ in 0..WORD {
+        if bits == 0 {
+            return;
+        }
+        let state = word.wrapping_mul(WORD).wrapping_add(bits.trailing_zeros());
+        numbers.set(state, number);
+        bits &= bits.wrapping_sub(1);
+    }
 }
 
 impl Board {
     pub(crate) fn new(
         alloc: Global,
-        graph: Graph,
+        states: u32,
+        forth: Edges,
         form: Form,
         scale: Scale,
+        exits: Exits,
     ) -> Result<Self, AllocError> {
-        let Graph {
-            states,
-            forth,
-            back,
-        } = graph;
         let count = form.count();
         Ok(Board {
             states,
             forth,
-            back,
+            back: None,
             scale,
+            exits,
             tops: Sheet::new(alloc, count, states)?,
             known: vec![in alloc; Known::Tops; count as usize]?,
             words: no_words(alloc, count)?,
@@ -89,6 +102,26 @@ impl Board {
             values: Vec::new(alloc),
             form,
         })
+    }
+
+    pub(crate) fn has_back(&self) -> bool {
+        self.back.is_some()
+    }
+
+    /// Makes the edges back from each state, if they aren't there yet.
+    pub(crate) fn open_back(&mut self, alloc: Global) -> Result<(), AllocError> {
+        if self.back.is_none() {
+            self.back = Some(self.forth.reversed(alloc, self.states)?);
+        }
+        Ok(())
+    }
+
+    /// The edges back from a state, where they were made.
+    pub(crate) fn back(&self, state: u32) -> &[u32] {
+        match &self.back {
+            Some(edges) => edges.row(state),
+            None => &[],
+        }
     }
 
     pub(crate) fn known(&self, node: u32) -> Known {
@@ -107,10 +140,7 @@ impl Board {
         match self.known(node) {
             Known::Tops if self.tops.has(node, state) => TOP,
             Known::Tops => ZERO,
-            Known::Words => match self.words.get(node as usize) {
-                Some(words) => words.get(state),
-                None => ZERO,
-            },
+            Known::Words => self.word(node, state),
             Known::Levels { first, last } => match self.level(node, state) {
                 NEVER => last,
                 level => {
@@ -130,24 +160,18 @@ impl Board {
     }
 
     /// Gives a level to these states of a word.
-    pub(crate) fn set_levels(&mut self, node: u32, word: u32, mut bits: u64, level: u32) {
-        let Some(levels) = self.levels.get_mut(node as usize) else {
-            return;
-        };
-        for _ in 0..WORD {
-            if bits == 0 {
-                return;
-            }
-            let state = word.wrapping_mul(WORD).wrapping_add(bits.trailing_zeros());
-            levels.set(state, level);
-            bits &= bits.wrapping_sub(1);
+    pub(crate) fn set_levels(&mut self, node: u32, word: u32, bits: u64, level: u32) {
+        if let Some(levels) = self.levels.get_mut(node as usize) {
+            put_number(levels, word, bits, level);
         }
     }
 
-    /// Forgets a node's levels.
+    /// Forgets a node's levels. Where winners alone are looked for, they are read only where the node is final.
     pub(crate) fn clear_levels(&mut self, alloc: Global, node: u32) -> Result<(), AllocError> {
+        let is_read = self.exits == Exits::Values;
         match self.levels.get_mut(node as usize) {
-            Some(levels) => levels.refill(alloc, NEVER, self.states as usize),
+            Some(levels) if is_read => levels.refill(alloc, NEVER, self.states as usize),
+            Some(levels) => levels.make_room(alloc, self.states as usize),
             None => Ok(()),
         }
     }
@@ -166,11 +190,44 @@ impl Board {
         }
     }
 
-    /// Forgets a node's rounds.
+    /// Gives a round to these states of a word.
+    pub(crate) fn set_rounds(&mut self, node: u32, word: u32, bits: u64, round: u32) {
+        if let Some(rounds) = self.rounds.get_mut(node as usize) {
+            put_number(rounds, word, bits, round);
+        }
+    }
+
+    /// Forgets a node's rounds. Where winners alone are looked for, they are read only where they are noted.
     pub(crate) fn clear_rounds(&mut self, alloc: Global, node: u32) -> Result<(), AllocError> {
+        let is_read = self.exits == Exits::Values;
         match self.rounds.get_mut(node as usize) {
-            Some(rounds) => rounds.refill(alloc, NEVER, self.states as usize),
+            Some(rounds) if is_read => rounds.refill(alloc, NEVER, self.states as usize),
+            Some(rounds) => rounds.make_room(alloc, self.states as usize),
             None => Ok(()),
+        }
+    }
+
+    /// The rounds of a node by state.
+    pub(crate) fn rounds_of(&self, node: u32) -> &[u32] {
+        match self.rounds.get(node as usize) {
+            Some(rounds) => rounds.as_slice(),
+            None => &[],
+        }
+    }
+
+    /// The levels of a node by state.
+    pub(crate) fn levels_of(&self, node: u32) -> &[u32] {
+        match self.levels.get(node as usize) {
+            Some(levels) => levels.as_slice(),
+            None => &[],
+        }
+    }
+
+    /// The words of a node by state.
+    pub(crate) fn words_of(&self, node: u32) -> &[u64] {
+        match self.words.get(node as usize) {
+            Some(words) => words.as_slice(),
+            None => &[],
         }
     }
 
@@ -191,6 +248,22 @@ impl Board {
         }
         self.set_known(node, Known::Words);
         Ok(())
+    }
+
+    /// Makes room for a word for each state of a node.
+    pub(crate) fn make_words(&mut self, alloc: Global, node: u32) -> Result<(), AllocError> {
+        if let Some(words) = self.words.get_mut(node as usize) {
+            *words = Words::filled(alloc, 0, self.states as usize)?;
+        }
+        Ok(())
+    }
+
+    /// The word of a node at a state, where it has words.
+    pub(crate) fn word(&self, node: u32, state: u32) -> u64 {
+        match self.words.get(node as usize) {
+            Some(words) => words.get(state),
+            None => ZERO,
+        }
     }
 
     pub(crate) fn set_word(&mut self, node: u32, state: u32, word: u64) {

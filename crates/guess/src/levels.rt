@@ -1,13 +1,12 @@
 // Components of nodes whose binders have one parity, value by value (Knuth 1977), over sets of states.
 
-use crate::bits::WORD;
-use crate::board::{Board, Known};
-use crate::edges::takes;
-use crate::form::{Form, NONE, Node, Shape};
+use crate::bits::{Fronts, WORD};
+use crate::board::{Board, Exits, Known};
+use crate::form::{NONE, Node, Shape};
 use crate::later::Later;
 use crate::numbers::Numbers;
 use crate::order::{Order, Wait};
-use crate::sets::{Sets, Step};
+use crate::sets::{Sets, Step, Way};
 use std::alloc::{AllocError, Global};
 use text::Memory;
 
@@ -29,6 +28,7 @@ pub(crate) struct Member {
 /// Values by levels, with the memory to find them.
 #[derive(Drop)]
 pub(crate) struct Levels {
+    pub(crate) alloc: Global,
     pub(crate) board: Board,
     /// For each node that is no variable the number of its part.
     pub(crate) parts: Numbers,
@@ -48,11 +48,10 @@ pub(crate) struct Levels {
     pub(crate) order: Order,
     pub(crate) value: u64,
     first: usize,
-}
-
-/// The number that the held binders of a part have as their part.
-pub(crate) fn held_part(part: u32, form: &Form) -> u32 {
-    part.saturating_add(form.count())
+    /// Where winners alone are looked for, the states of each binder that become final next.
+    pub(crate) next: Fronts,
+    /// The last time at which a held binder lost a state, in the rounds at hand.
+    pub(crate) last_time: u32,
 }
 
 fn no_later(alloc: Global, nodes: u32) -> Result<Vec<Later>, AllocError> {
@@ -70,9 +69,14 @@ impl Levels {
         for number in 0..count {
             parts.set(number, board.form.root(number));
         }
+        let marked = match board.exits {
+            Exits::Values => 0,
+            Exits::Marks => count,
+        };
         Ok(Levels {
+            alloc,
             parts,
-            sets: Sets::new(alloc, count, board.states)?,
+            sets: Sets::new(alloc, count, board.states, board.exits)?,
             later: no_later(alloc, count)?,
             members: Vec::new(alloc),
             sources: Vec::new(alloc),
@@ -84,6 +88,8 @@ impl Levels {
             order: Order::Rising,
             value: 0,
             first: 0,
+            next: Fronts::new(alloc, marked, board.states)?,
+            last_time: 0,
             board,
         })
     }
@@ -93,11 +99,20 @@ impl Levels {
         self.part = part;
         self.order = order;
         self.value = order.first();
+        if self.board.exits == Exits::Marks {
+            self.board.values.clear();
+        }
         self.first = self.board.values.len();
         self.begin(alloc)?;
         self.climb()?;
         self.finish();
         Ok(())
+    }
+
+    /// How many levels there are, and so one more than the greatest.
+    pub(crate) fn count(&self) -> u32 {
+        let count = self.board.values.len().saturating_sub(self.first);
+        u32::try_from(count).unwrap_or(u32::MAX)
     }
 
     /// Whether values came from outside that are neither zero nor top.
@@ -114,7 +129,7 @@ impl Levels {
         for number in 0..self.board.form.count() {
             if self.is_inside(number) {
                 self.open(alloc, number)?;
-            } else if self.parts.get(number) == held_part(self.part, &self.board.form) {
+            } else if self.is_held(number) {
                 self.see(number)?;
             }
         }
@@ -132,23 +147,31 @@ impl Levels {
         self.parts.get(number) == self.part && self.board.form.real(number) == number
     }
 
+    /// Whether a node is a held binder of the part.
+    pub(crate) fn is_held(&self, number: u32) -> bool {
+        let is_here = self.board.form.root(number) == self.part;
+        is_here && self.parts.get(number) >= self.board.form.count()
+    }
+
     // Takes a node into the part, and forgets what was known of it.
     fn open(&mut self, alloc: Global, node: u32) -> Result<(), AllocError> {
         let height = self.board.form.height(node);
         self.members.push(Member { node, height })?;
         self.sets.clear(node);
+        self.sets.add_given(node);
         self.board.clear_levels(alloc, node)?;
         for operand in self.board.form.operands(node) {
             self.see(operand)?;
         }
         let states = self.board.states;
+        let is_marked = self.board.exits == Exits::Marks;
         let shape = self.board.form.node(node).shape;
         if self.order.wait(shape) == Wait::All {
             self.sets.clear_cursors(alloc, node, states)?;
-            self.open_steps(node);
+            self.sets.add_stuck(&self.board, node);
         }
         match self.later.get_mut(node as usize) {
-            Some(later) if shape == Shape::Binder => later.clear(alloc, states),
+            Some(later) if shape == Shape::Binder && !is_marked => later.clear(alloc, states),
             _ => Ok(()),
         }
     }
@@ -161,17 +184,6 @@ impl Levels {
             self.sources.push(operand)?;
         }
         Ok(())
-    }
-
-    // Where there is no successor there is none to wait for.
-    fn open_steps(&mut self, node: u32) {
-        let mask = self.board.form.node(node).mask;
-        for state in 0..self.board.states {
-            let mut row = self.board.forth.row(state).iter();
-            if !row.any(|edge| takes(mask, *edge)) {
-                self.sets.add_state(node, state);
-            }
-        }
     }
 
     // Values from outside: the first are there at once, others when their turn comes.
@@ -209,42 +221,81 @@ impl Levels {
 
     pub(crate) fn climb(&mut self) -> Result<(), AllocError> {
         for _ in 0..u64::MAX {
-            self.spread();
+            self.spread()?;
             self.put_off()?;
             self.record()?;
-            match self.next_value() {
-                Some(value) => self.value = value,
-                None => break,
+            if !self.go_on() {
+                break;
             }
-            self.release();
         }
         Ok(())
     }
 
+    // Goes on to the next level, where there is one.
+    fn go_on(&mut self) -> bool {
+        if self.board.exits == Exits::Marks {
+            return self.pass_on();
+        }
+        match self.next_value() {
+            Some(value) => {
+                self.value = value;
+                self.release();
+                true
+            }
+            None => false,
+        }
+    }
+
+    // Where winners alone are looked for, a binder comes a level after its operand. The answer is whether one does.
+    fn pass_on(&mut self) -> bool {
+        let mut some = false;
+        for member in &self.members {
+            some |= pass_in(&mut self.next, &mut self.sets, member.node);
+        }
+        some
+    }
+
     // Carries what is final from children to parents, up to the binders.
-    fn spread(&mut self) {
-        for Member { node, .. } in self.members.as_slice() {
-            let number = *node;
-            let node = self.board.form.node(number);
-            let wait = self.order.wait(node.shape);
-            let [left, right] = self.board.form.operands(number);
-            match node.shape {
-                Shape::Dia | Shape::Box => self.sets.step(
-                    &self.board,
-                    Step {
-                        node: number,
-                        operand: left,
-                        mask: node.mask,
-                        wait,
-                    },
-                ),
-                Shape::And | Shape::Or => {
-                    self.sets.join(number, left, right, wait);
-                    self.sets.join(number, right, left, wait);
-                }
-                _ => {}
+    fn spread(&mut self) -> Result<(), AllocError> {
+        for at in 0..self.members.len() {
+            if let Some(member) = self.members.get(at).copied() {
+                self.spread_to(member.node)?;
             }
         }
+        Ok(())
+    }
+
+    fn spread_to(&mut self, number: u32) -> Result<(), AllocError> {
+        let node = self.board.form.node(number);
+        let wait = self.order.wait(node.shape);
+        let [left, right] = self.board.form.operands(number);
+        match node.shape {
+            Shape::Dia | Shape::Box => self.step(Step {
+                node: number,
+                operand: left,
+                mask: node.mask,
+                wait,
+            })?,
+            Shape::And | Shape::Or => {
+                self.sets.join(number, left, right, wait);
+                self.sets.join(number, right, left, wait);
+            }
+            _ => {}
+        }
+        Ok(())
+    }
+
+    // Carries an operand's states on to a modality.
+    fn step(&mut self, step: Step) -> Result<(), AllocError> {
+        match self.sets.way(&self.board, step) {
+            Way::None => {}
+            Way::Pull => self.sets.pull(&self.board, step),
+            Way::Push => {
+                self.board.open_back(self.alloc)?;
+                self.sets.push(&self.board, step);
+            }
+        }
+        Ok(())
     }
 
     // A binder's value comes later.
@@ -260,7 +311,9 @@ impl Levels {
             if shape != Shape::Binder || value == self.order.last() {
                 continue;
             }
-            if let Some(later) = self.later.get_mut(*node as usize) {
+            if self.board.exits == Exits::Marks {
+                put_in(&mut self.next, &self.sets, *node, operand);
+            } else if let Some(later) = self.later.get_mut(*node as usize) {
                 wait_in(later, &self.sets, operand, value)?;
             }
         }
@@ -269,8 +322,7 @@ impl Levels {
 
     // Keeps the level of what has become final.
     fn record(&mut self) -> Result<(), AllocError> {
-        let level = self.board.values.len().saturating_sub(self.first);
-        let level = u32::try_from(level).unwrap_or(u32::MAX);
+        let level = self.count();
         self.board.values.push(self.value)?;
         for at in 0..self.members.len() {
             if let Some(member) = self.members.get(at).copied() {
@@ -344,9 +396,10 @@ impl Levels {
     }
 
     // Keeps what was found.
-    fn finish(&mut self) {
+    pub(crate) fn finish(&mut self) {
         let levels = self.board.values.len().saturating_sub(self.first);
         let has_tops = match self.order {
+            _ if self.board.exits == Exits::Marks => true,
             Order::Rising => levels <= 1,
             Order::Falling => self.events.is_empty(),
         };
@@ -376,6 +429,35 @@ impl Levels {
             self.board.tops.set_word(node, word, tops);
         }
     }
+}
+
+// The states at which a binder's operand has become final.
+fn put_in(next: &mut Fronts, sets: &Sets, binder: u32, operand: u32) {
+    let mut from = 0;
+    for _ in 0..=sets.done.width() {
+        let Some(word) = sets.fronts.next(operand, from) else {
+            return;
+        };
+        next.add(binder, word, sets.fronts.word(operand, word));
+        from = word.saturating_add(1);
+    }
+}
+
+// Those of a binder become final. The answer is whether there are some.
+fn pass_in(next: &mut Fronts, sets: &mut Sets, binder: u32) -> bool {
+    let mut some = false;
+    let mut from = 0;
+    for _ in 0..=sets.done.width() {
+        let Some(word) = next.next(binder, from) else {
+            break;
+        };
+        let bits = next.word(binder, word) & sets.left(binder, word);
+        some |= bits != 0;
+        sets.add(binder, word, bits);
+        from = word.saturating_add(1);
+    }
+    next.clear(binder);
+    some
 }
 
 // Puts off the states of a binder's operand that have become final.

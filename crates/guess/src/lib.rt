@@ -1,16 +1,22 @@
-// A guess of the least progress table from a system and a formula. Nothing rests on it but time: what is guessed has to be tested.
+// A guess of the least progress table from a system and a formula, and one of who wins, as a ranking. Nothing rests on them but time: what
+// is guessed has to be tested.
 #![tactic(auto)]
 
 mod bits;
+mod blocks;
 mod board;
 mod claims;
+pub mod columns;
 mod edges;
 mod form;
 mod later;
+mod layout;
 mod levels;
+mod nested;
 mod numbers;
 mod order;
 mod proposals;
+pub mod ranks;
 mod rounds;
 mod scale;
 mod set_rounds;

@@ -15,6 +15,10 @@ impl Numbers {
         })
     }
 
+    pub(crate) fn as_slice(&self) -> &[u32] {
+        &self.items
+    }
+
     pub(crate) fn get(&self, place: u32) -> u32 {
         self.items.get(place as usize).copied().unwrap_or(0)
     }

@@ -1,8 +1,10 @@
 // Components of nodes whose binders have both parities, those of the greatest priority around the others: round by round.
 
-use crate::board::{Known, NEVER};
-use crate::form::Shape;
-use crate::levels::{Levels, held_part};
+use crate::bits::{WORD, bit};
+use crate::blocks::Blocks;
+use crate::board::{Exits, Known, NEVER};
+use crate::form::{Form, Shape};
+use crate::levels::Levels;
 use crate::order::Order;
 use crate::scale::{TOP, ZERO};
 use std::alloc::Global;
@@ -11,18 +13,44 @@ use text::Memory;
 // How many rounds there are at most, and at how many places at least.
 const MOST_ROUNDS: u32 = 64;
 
+// How many there are at most where winners alone are looked for: a round takes less time then, and what else could be done takes more.
+const MOST_ROUNDS_OF_SETS: u32 = 256;
+
 const LEAST_BUDGET: u64 = 67_108_864;
 
-/// A part whose binders of the greatest priority are held while the rest is solved.
+/// A part some of whose binders are held while those below them are solved.
 #[derive(Clone, Copy)]
 pub(crate) struct Held {
     pub(crate) part: u32,
+    /// The least and the greatest priority of those binders.
+    least: u8,
     pub(crate) priority: u8,
     /// The number that held binders have as a part.
     pub(crate) held: u32,
 }
 
 impl Held {
+    /// The binders of the greatest priority.
+    pub(crate) fn greatest(form: &Form, part: u32, priority: u8) -> Self {
+        Held {
+            part,
+            least: priority,
+            priority,
+            held: part.saturating_add(form.count()),
+        }
+    }
+
+    /// The binders of a block.
+    pub(crate) fn of(form: &Form, part: u32, blocks: &Blocks, block: u32) -> Self {
+        let below = blocks.priority(block.saturating_sub(1));
+        Held {
+            part,
+            least: below.saturating_add(1),
+            priority: blocks.priority(block),
+            held: part.saturating_add(form.count().saturating_mul(block)),
+        }
+    }
+
     pub(crate) fn is_odd(self) -> bool {
         self.priority % 2 == 1
     }
@@ -48,19 +76,23 @@ impl Levels {
         part: u32,
         priority: u8,
     ) -> Result<bool, Memory> {
-        let held = held_part(part, &self.board.form);
-        let held = Held {
-            part,
-            priority,
-            held,
-        };
+        let held = Held::greatest(&self.board.form, part, priority);
         self.hold(alloc, held)?;
         self.run(alloc, part, held.order())?;
         if self.has_events() {
             self.run_values(alloc, held)
         } else {
-            self.run_sets(alloc, held)
+            let mut budget = self.budget();
+            self.run_sets(alloc, held, &mut budget)
         }
+    }
+
+    /// Finds who wins in a part of two blocks, of which the greater is held. The answer is whether the rounds came to an end.
+    pub(crate) fn run_two(&mut self, alloc: Global, held: Held) -> Result<bool, Memory> {
+        self.hold(alloc, held)?;
+        self.run(alloc, held.part, held.order())?;
+        let mut budget = self.budget();
+        self.run_sets(alloc, held, &mut budget)
     }
 
     // Rounds over values.
@@ -87,40 +119,104 @@ impl Levels {
         u64::from(places).saturating_add(self.board.transitions() as u64)
     }
 
-    pub(crate) fn most_rounds(&self) -> u32 {
+    /// How much all rounds may take.
+    pub(crate) fn budget(&self) -> u64 {
+        let rounds = match self.board.exits {
+            Exits::Values => self.most_rounds(),
+            Exits::Marks => self.most_rounds().max(MOST_ROUNDS_OF_SETS),
+        };
+        u64::from(rounds).saturating_mul(self.size())
+    }
+
+    fn most_rounds(&self) -> u32 {
         let more = LEAST_BUDGET.checked_div(self.size()).unwrap_or(0);
         MOST_ROUNDS.saturating_add(u32::try_from(more).unwrap_or(0))
     }
 
-    fn hold(&mut self, alloc: Global, held: Held) -> Result<(), Memory> {
+    /// The greatest time of a round, or one more.
+    pub(crate) fn most_time(&self) -> u32 {
+        self.last_time
+    }
+
+    /// Whether a node is among those that are solved while these binders are held.
+    pub(crate) fn is_below(&self, held: Held, number: u32) -> bool {
+        self.is_real(held.part, number) && self.parts.get(number) < held.held
+    }
+
+    /// Whether a node is one of a component, and no variable.
+    pub(crate) fn is_real(&self, part: u32, number: u32) -> bool {
+        let form = &self.board.form;
+        form.root(number) == part && form.real(number) == number
+    }
+
+    /// Holds binders.
+    pub(crate) fn hold(&mut self, alloc: Global, held: Held) -> Result<(), Memory> {
         for number in held.part..self.board.form.count() {
-            if self.parts.get(number) != held.part {
+            if !self.is_real(held.part, number) {
                 continue;
             }
             let node = self.board.form.node(number);
-            if node.shape == Shape::Binder && node.priority == held.priority {
+            if node.shape == Shape::Binder && node.priority >= held.least {
                 self.parts.set(number, held.held);
-                self.board.tops.fill(number, held.is_odd());
                 self.board.set_known(number, Known::Tops);
             }
             self.board.clear_rounds(alloc, number)?;
         }
+        self.restart(held);
         Ok(())
     }
 
-    // Notes what came to top in a round, where that is what rounds are for.
-    pub(crate) fn note(&mut self, held: Held, round: u32) {
-        if held.is_odd() {
-            return;
-        }
+    /// Gives held binders all states again, and forgets the rounds.
+    pub(crate) fn restart(&mut self, held: Held) {
+        self.last_time = 0;
         for number in held.part..self.board.form.count() {
-            if self.parts.get(number) == held.part {
-                self.note_node(number, inner_time(round));
+            if self.parts.get(number) == held.held {
+                self.board.tops.fill(number, held.is_odd());
+                self.sets.noted.fill(number, false);
+            } else if self.is_below(held, number) {
+                self.sets.noted.fill(number, false);
             }
         }
     }
 
-    fn note_node(&mut self, number: u32, time: u32) {
+    // The states of a word that the player has for whom rounds are counted: the one who wins more with each.
+    pub(crate) fn gained(&self, held: Held, number: u32, word: u32) -> u64 {
+        let tops = self.board.tops.word(number, word);
+        if held.is_odd() {
+            self.board.tops.full(word) & !tops
+        } else {
+            tops
+        }
+    }
+
+    /// Notes what was gained in a round.
+    pub(crate) fn note(&mut self, held: Held, round: u32) {
+        self.last_time = inner_time(round);
+        for number in held.part..self.board.form.count() {
+            if self.is_below(held, number) {
+                self.note_gained(held, number, inner_time(round));
+            }
+        }
+    }
+
+    fn note_gained(&mut self, held: Held, number: u32, time: u32) {
+        for word in 0..self.sets.noted.width() {
+            let bits = self.gained(held, number, word) & !self.sets.noted.word(number, word);
+            if bits != 0 {
+                self.sets.noted.add(number, word, bits);
+                self.board.set_rounds(number, word, bits, time);
+            }
+        }
+    }
+
+    /// Notes the round of a state.
+    pub(crate) fn note_state(&mut self, number: u32, state: u32, time: u32) {
+        self.sets.noted.add(number, state / WORD, bit(state));
+        self.board.set_round(number, state, time);
+    }
+
+    // The same of what has top.
+    fn note_tops(&mut self, number: u32, time: u32) {
         for state in 0..self.board.states {
             if self.board.value(number, state) == TOP && self.board.round(number, state) == NEVER {
                 self.board.set_round(number, state, time);
@@ -135,7 +231,7 @@ impl Levels {
             if self.parts.get(number) == held.held && self.turn_node(number) {
                 changed = true;
                 if !held.is_odd() {
-                    self.note_node(number, outer_time(round));
+                    self.note_tops(number, outer_time(round));
                 }
             }
         }
@@ -163,10 +259,9 @@ impl Levels {
             return;
         }
         for number in held.part..self.board.form.count() {
-            let part = self.parts.get(number);
-            if part == held.held {
+            if self.parts.get(number) == held.held {
                 self.keep_node(number, outer_time(round));
-            } else if part == held.part {
+            } else if self.is_below(held, number) {
                 self.keep_node(number, inner_time(round));
             }
         }

@@ -1,15 +1,13 @@
 // Packed measures: a field of bits for each odd priority, that of the greatest first. All bits are top.
 
-use game::graph::Game;
-
 /// The greatest measure.
 pub(crate) const TOP: u64 = u64::MAX;
 
 /// The least measure.
 pub(crate) const ZERO: u64 = 0;
 
-// One more than the greatest priority of a game.
-const PRIORITIES: usize = 33;
+/// One more than the greatest priority of a game.
+pub(crate) const PRIORITIES: usize = 33;
 
 // How many bits all fields have at most: so no counts are top.
 const MOST_BITS: u32 = 63;
@@ -21,7 +19,7 @@ struct Field {
     size: u64,
 }
 
-/// The fields of a game's measures, and for each priority the bits of the fields that a lift keeps.
+/// The fields of measures, and for each priority the bits of the fields that a lift keeps.
 #[derive(Clone, Copy)]
 pub(crate) struct Scale {
     fields: [Field; PRIORITIES],
@@ -39,8 +37,8 @@ fn power(bits: u32) -> u64 {
 }
 
 impl Scale {
-    /// The fields of this game's measures, where they fit a word.
-    pub(crate) fn of(game: &Game) -> Option<Self> {
+    /// The fields of the measures of a game that has so many vertices of each priority, where they fit a word.
+    pub(crate) fn of(vertices: &[u32; PRIORITIES]) -> Option<Self> {
         let mut scale = Scale {
             fields: [Field { unit: 0, size: 1 }; PRIORITIES],
             kept: [0; PRIORITIES],
@@ -48,7 +46,7 @@ impl Scale {
         let mut used = 0_u32;
         for priority in 0..PRIORITIES as u32 {
             scale.kept[priority as usize] = TOP.checked_shl(used).unwrap_or(0);
-            let count = game.count(priority);
+            let count = vertices[priority as usize];
             if priority % 2 == 1 && count > 0 {
                 let size = power(bits(count));
                 let unit = power(used);
@@ -57,6 +55,14 @@ impl Scale {
             }
         }
         if used <= MOST_BITS { Some(scale) } else { None }
+    }
+
+    /// No fields: all measures are zero or top.
+    pub(crate) fn none() -> Self {
+        Scale {
+            fields: [Field { unit: 0, size: 1 }; PRIORITIES],
+            kept: [TOP; PRIORITIES],
+        }
     }
 
     /// What a binder of this priority asks for where its operand has this measure.

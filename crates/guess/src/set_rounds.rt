@@ -1,7 +1,7 @@
 // Rounds over sets, where all values from outside are zero or top: then held binders only lose states, and their values are known from the rounds.
 
 use crate::bits::{WORD, bit};
-use crate::board::NEVER;
+use crate::board::{Exits, NEVER};
 use crate::levels::Levels;
 use crate::rounds::{Held, inner_time, outer_time};
 use crate::scale::TOP;
@@ -11,14 +11,19 @@ use std::mem;
 use text::Memory;
 
 // Above this part of all states, all is found anew.
-const MANY: u32 = 50;
+const MANY: u32 = 20;
 
 impl Levels {
-    /// Goes on after the first round. The answer is whether the rounds came to an end.
-    pub(crate) fn run_sets(&mut self, alloc: Global, held: Held) -> Result<bool, Memory> {
+    /// Goes on after the first round, while what is left of this budget allows. The answer is whether the rounds came to an end.
+    pub(crate) fn run_sets(
+        &mut self,
+        alloc: Global,
+        held: Held,
+        budget: &mut u64,
+    ) -> Result<bool, Memory> {
         let mut gone = Vec::new(alloc);
         let mut next = Vec::new(alloc);
-        let mut left = u64::from(self.most_rounds()).saturating_mul(self.size());
+        let mut left = *budget;
         self.note(held, 0);
         self.find_gone(held, &mut gone)?;
         for round in 0..u32::MAX {
@@ -31,6 +36,7 @@ impl Levels {
             left = left.saturating_sub(work);
             mem::swap(&mut gone, &mut next);
         }
+        *budget = left;
         Ok(left > 0)
     }
 
@@ -83,8 +89,8 @@ impl Levels {
         next: &mut Vec<Place>,
     ) -> Result<(), AllocError> {
         let Place { node, state } = place;
-        if !held.is_odd() && self.parts.get(node) == held.part {
-            self.board.set_round(node, state, inner_time(round));
+        if self.parts.get(node) == held.part {
+            self.note_state(node, state, inner_time(round));
         }
         for number in held.part..self.board.form.count() {
             let is_held = self.parts.get(number) == held.held;
@@ -99,8 +105,9 @@ impl Levels {
         Ok(())
     }
 
-    // Held binders lose these places in a round.
-    fn mark(&mut self, held: Held, gone: &[Place], round: u32) {
+    /// Held binders lose these places in a round.
+    pub(crate) fn mark(&mut self, held: Held, gone: &[Place], round: u32) {
+        self.last_time = outer_time(round);
         for place in gone {
             let Place { node, state } = *place;
             let (word, bits) = (state / WORD, bit(state));
@@ -109,12 +116,16 @@ impl Levels {
             } else {
                 self.board.tops.add(node, word, bits);
             }
-            self.board.set_round(node, state, outer_time(round));
+            self.note_state(node, state, outer_time(round));
         }
     }
 
     // The values of the last round.
     fn end_sets(&mut self, alloc: Global, held: Held, round: u32) -> Result<(), Memory> {
+        if self.board.exits == Exits::Marks {
+            self.finish();
+            return Ok(());
+        }
         if held.is_odd() {
             for node in held.part..self.board.form.count() {
                 if self.parts.get(node) == held.held {
@@ -140,8 +151,13 @@ impl Levels {
     }
 }
 
-// The places of a node at these states of a word.
-fn push_word(list: &mut Vec<Place>, node: u32, word: u32, mut bits: u64) -> Result<(), AllocError> {
+/// The places of a node at these states of a word.
+pub(crate) fn push_word(
+    list: &mut Vec<Place>,
+    node: u32,
+    word: u32,
+    mut bits: u64,
+) -> Result<(), AllocError> {
     for _ in 0..WORD {
         if bits == 0 {
             break;

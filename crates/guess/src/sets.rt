@@ -1,7 +1,7 @@
 // At which states each node's value is final, and those from which that isn't carried on yet.
 
 use crate::bits::{Fronts, Sheet, WORD, bit};
-use crate::board::Board;
+use crate::board::{Board, Exits};
 use crate::edges::{state_of, takes};
 use crate::numbers::Numbers;
 use crate::order::Wait;
@@ -9,6 +9,9 @@ use std::alloc::{AllocError, Global};
 
 // Up to so many states are carried on by the edges back from them.
 const FEW: u32 = 2000;
+
+// Before edges back are made so many states are looked at in their place: this often as many as there are.
+const PATIENCE: u64 = 4;
 
 /// A modality: the node, its operand, the kinds of labels that it takes, and what it waits for.
 #[derive(Clone, Copy)]
@@ -19,6 +22,17 @@ pub(crate) struct Step {
     pub(crate) wait: Wait,
 }
 
+/// How states are carried on to a modality.
+#[derive(Clone, Copy)]
+pub(crate) enum Way {
+    /// There are none.
+    None,
+    /// From those that are left, along their edges.
+    Pull,
+    /// By the edges back.
+    Push,
+}
+
 /// Sets by node.
 #[derive(Drop)]
 pub(crate) struct Sets {
@@ -27,10 +41,26 @@ pub(crate) struct Sets {
     sizes: Numbers,
     // Of a node that waits for all successors: how many of the first it waits for no more.
     cursors: Vec<Numbers>,
+    // How many states were looked at in place of edges back.
+    spent: u64,
+    /// What was gained in some round: where winners alone are looked for it is final in no later one.
+    pub(crate) noted: Sheet,
+    bars: bool,
+    /// What is final from the beginning, and what never is: nothing, where no room was made.
+    pub(crate) given: Sheet,
+    pub(crate) barred: Sheet,
+    // Where a modality has no step, for those of which this is known.
+    stuck: Sheet,
+    seen: Numbers,
 }
 
 impl Sets {
-    pub(crate) fn new(alloc: Global, nodes: u32, states: u32) -> Result<Self, AllocError> {
+    pub(crate) fn new(
+        alloc: Global,
+        nodes: u32,
+        states: u32,
+        exits: Exits,
+    ) -> Result<Self, AllocError> {
         let mut cursors = Vec::new(alloc);
         for _ in 0..nodes {
             cursors.push(Numbers::filled(alloc, 0, 0)?)?;
@@ -40,6 +70,13 @@ impl Sets {
             fronts: Fronts::new(alloc, nodes, states)?,
             sizes: Numbers::filled(alloc, 0, nodes as usize)?,
             cursors,
+            spent: 0,
+            noted: Sheet::new(alloc, nodes, states)?,
+            bars: exits == Exits::Marks,
+            given: Sheet::new(alloc, 0, states)?,
+            barred: Sheet::new(alloc, 0, states)?,
+            stuck: Sheet::new(alloc, nodes, states)?,
+            seen: Numbers::filled(alloc, 0, nodes as usize)?,
         })
     }
 
@@ -48,6 +85,28 @@ impl Sets {
         self.done.fill(node, false);
         self.fronts.clear(node);
         self.sizes.set(node, 0);
+    }
+
+    /// Makes room for what is final from the beginning, and for what never is.
+    pub(crate) fn open_given(
+        &mut self,
+        alloc: Global,
+        nodes: u32,
+        states: u32,
+    ) -> Result<(), AllocError> {
+        self.given = Sheet::new(alloc, nodes, states)?;
+        self.barred = Sheet::new(alloc, nodes, states)?;
+        Ok(())
+    }
+
+    /// A node is final where that is given.
+    pub(crate) fn add_given(&mut self, node: u32) {
+        for word in 0..self.done.width() {
+            let bits = self.given.word(node, word);
+            if bits != 0 {
+                self.add(node, word, bits);
+            }
+        }
     }
 
     /// Forgets for which successors a node waits.
@@ -60,6 +119,33 @@ impl Sets {
         match self.cursors.get_mut(node as usize) {
             Some(cursors) => cursors.refill(alloc, 0, states as usize),
             None => Ok(()),
+        }
+    }
+
+    /// A modality that waits for all successors is final where it has none to wait for.
+    pub(crate) fn add_stuck(&mut self, board: &Board, node: u32) {
+        let is_new = self.seen.get(node) == 0;
+        for word in 0..self.done.width() {
+            if is_new {
+                let bits = stuck_in(board, node, word);
+                self.stuck.set_word(node, word, bits);
+            }
+            let bits = self.stuck.word(node, word) & self.left(node, word);
+            if bits != 0 {
+                self.add(node, word, bits);
+            }
+        }
+        self.seen.set(node, 1);
+    }
+
+    /// The states of a word at which a node can still become final.
+    pub(crate) fn left(&self, node: u32, word: u32) -> u64 {
+        let never = self.done.word(node, word) | self.barred.word(node, word);
+        let left = self.done.full(word) & !never;
+        if self.bars {
+            left & !self.noted.word(node, word)
+        } else {
+            left
         }
     }
 
@@ -96,7 +182,7 @@ impl Sets {
             let Some(word) = self.fronts.next(child, from) else {
                 return;
             };
-            let mut bits = self.fronts.word(child, word) & !self.done.word(node, word);
+            let mut bits = self.fronts.word(child, word) & self.left(node, word);
             if wait == Wait::Both {
                 bits &= self.done.word(other, word);
             }
@@ -107,18 +193,27 @@ impl Sets {
         }
     }
 
-    /// Carries an operand's states on to a modality: by the edges back from them, or where they are many from the states that are left.
-    pub(crate) fn step(&mut self, board: &Board, step: Step) {
+    /// How an operand's states are carried on to a modality: by the edges back from them, or where they are many, or few are left, along
+    /// the edges of what is left.
+    pub(crate) fn way(&mut self, board: &Board, step: Step) -> Way {
         let many = self.fronts.count(step.operand);
         let left = board.states.saturating_sub(self.sizes.get(step.node));
-        if many > FEW && many.saturating_mul(4) > left {
-            self.pull(board, step);
-        } else if many > 0 {
-            self.push(board, step);
+        if many == 0 {
+            return Way::None;
         }
+        if many > FEW && many.saturating_mul(8) > left {
+            return Way::Pull;
+        }
+        let spent = self.spent.saturating_add(u64::from(left));
+        if board.has_back() || spent > u64::from(board.states).saturating_mul(PATIENCE) {
+            return Way::Push;
+        }
+        self.spent = spent;
+        Way::Pull
     }
 
-    fn push(&mut self, board: &Board, step: Step) {
+    /// Carries states on by the edges back.
+    pub(crate) fn push(&mut self, board: &Board, step: Step) {
         let mut from = 0;
         for _ in 0..=self.done.width() {
             let Some(word) = self.fronts.next(step.operand, from) else {
@@ -142,9 +237,10 @@ impl Sets {
     }
 
     fn push_state(&mut self, board: &Board, step: Step, state: u32) {
-        for edge in board.back.row(state) {
+        for edge in board.back(state) {
             let source = state_of(*edge);
-            if !takes(step.mask, *edge) || self.done.has(step.node, source) {
+            let is_left = self.left(step.node, source / WORD) & bit(source) != 0;
+            if !takes(step.mask, *edge) || !is_left {
                 continue;
             }
             if step.wait == Wait::One || self.has_all(board, step, source) {
@@ -173,9 +269,10 @@ impl Sets {
         }
     }
 
-    fn pull(&mut self, board: &Board, step: Step) {
+    /// Carries states on from those that are left.
+    pub(crate) fn pull(&mut self, board: &Board, step: Step) {
         for word in 0..self.done.width() {
-            let left = self.done.full(word) & !self.done.word(step.node, word);
+            let left = self.left(step.node, word);
             let bits = self.pulled(board, step, word, left);
             if bits != 0 {
                 self.add(step.node, word, bits);
@@ -209,4 +306,17 @@ impl Sets {
             takes(step.mask, *edge) && self.fronts.has(step.operand, state_of(*edge))
         })
     }
+}
+
+// The states of a word from which a modality has no step.
+fn stuck_in(board: &Board, node: u32, word: u32) -> u64 {
+    let mask = board.form.node(node).mask;
+    let mut bits = 0;
+    for state in board.states_of(word) {
+        let mut row = board.forth.row(state).iter();
+        if !row.any(|edge| takes(mask, *edge)) {
+            bits |= bit(state);
+        }
+    }
+    bits
 }

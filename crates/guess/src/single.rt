@@ -1,7 +1,7 @@
 // The values of a node that is on no cycle: one pass over its children's.
 
 use crate::bits::bit;
-use crate::board::{Board, Known};
+use crate::board::{Board, Exits, Known};
 use crate::edges::{state_of, takes};
 use crate::form::{Node, Shape};
 use crate::scale::{TOP, ZERO};
@@ -27,6 +27,7 @@ impl Board {
     // Whether a node's values are zero and top alone.
     fn has_tops(&self, number: u32, node: Node) -> bool {
         match node.shape {
+            _ if self.exits == Exits::Marks => true,
             Shape::True | Shape::False => true,
             Shape::Binder if node.priority % 2 == 1 => false,
             _ => {

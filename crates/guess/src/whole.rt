@@ -1,14 +1,13 @@
 // The guess of a whole table, component by component of the nodes' graph.
 
-use crate::board::{Board, Graph};
+use crate::board::{Board, Exits};
 use crate::edges::{Edges, Kinds, fits, state_of, takes};
 use crate::form::{Form, NONE, Node, Shape};
 use crate::levels::Levels;
 use crate::numbers::Numbers;
 use crate::order::Order;
-use crate::scale::Scale;
+use crate::scale::{PRIORITIES, Scale};
 use game::build::label_sets;
-use game::graph::Game;
 use normal::form::Normal;
 use std::alloc::{AllocError, Global};
 use systems::system::Lts;
@@ -55,9 +54,43 @@ pub struct Whole<'a> {
     places: Numbers,
 }
 
-// Whether some count can go above one.
-fn can_climb(game: &Game) -> bool {
-    (0..16).any(|half| game.count(2 * half + 1) > 1)
+// How many vertices of each priority the game of a system and a normal form has: one for each state and node, and two that are won.
+fn vertices(lts: &Lts, normal: &Normal) -> [u32; PRIORITIES] {
+    let mut counts = [0_u32; PRIORITIES];
+    counts[0] = 1;
+    counts[1] = 1;
+    for node in normal.nodes() {
+        if let Some(count) = counts.get_mut(node.priority as usize) {
+            *count = count.saturating_add(lts.states());
+        }
+    }
+    counts
+}
+
+// Whether some count can go above one, where there are so many vertices of each priority.
+fn can_climb(vertices: &[u32; PRIORITIES]) -> bool {
+    (0..PRIORITIES / 2).any(|half| vertices[2 * half + 1] > 1)
+}
+
+/// A board for the nodes of a normal form at the states of a system. There is none where states or kinds of labels are too many.
+pub(crate) fn board_of(
+    alloc: Global,
+    lts: &Lts,
+    normal: &Normal,
+    scale: Scale,
+    exits: Exits,
+) -> Result<Option<Board>, Memory> {
+    if !fits(lts) {
+        return Ok(None);
+    }
+    let sets = label_sets(alloc, lts, normal)?;
+    let Some(kinds) = Kinds::of(alloc, lts.labels(), &sets)? else {
+        return Ok(None);
+    };
+    let forth = Edges::forth(alloc, lts, &kinds)?;
+    let form = Form::of(alloc, normal, &kinds)?;
+    let board = Board::new(alloc, lts.states(), forth, form, scale, exits)?;
+    Ok(Some(board))
 }
 
 // The binders of the component that has this root.
@@ -152,29 +185,18 @@ impl<'a> Whole<'a> {
     ///
     /// # Errors
     /// Want of memory, and nothing else.
-    pub fn of(
-        alloc: Global,
-        lts: &'a Lts,
-        normal: &Normal,
-        game: &Game,
-    ) -> Result<Option<Self>, Memory> {
-        let Some(scale) = Scale::of(game) else {
+    pub fn of(alloc: Global, lts: &'a Lts, normal: &Normal) -> Result<Option<Self>, Memory> {
+        let vertices = vertices(lts, normal);
+        let Some(scale) = Scale::of(&vertices) else {
             return Ok(None);
         };
-        if !can_climb(game) || !fits(lts) {
+        if !can_climb(&vertices) {
             return Ok(None);
         }
-        let sets = label_sets(alloc, lts, normal)?;
-        let Some(kinds) = Kinds::of(alloc, lts.labels(), &sets)? else {
+        let Some(board) = board_of(alloc, lts, normal, scale, Exits::Values)? else {
             return Ok(None);
         };
-        let graph = Graph {
-            states: lts.states(),
-            forth: Edges::forth(alloc, lts, &kinds)?,
-            back: Edges::back(alloc, lts, &kinds)?,
-        };
-        let form = Form::of(alloc, normal, &kinds)?;
-        let mut levels = Levels::new(alloc, Board::new(alloc, graph, form, scale)?)?;
+        let mut levels = Levels::new(alloc, board)?;
         let mut parts = Vec::new(alloc);
         for root in (0..levels.board.form.count()).rev() {
             if levels.board.form.root(root) != root {

@@ -1,5 +1,6 @@
 // Sets of states that shrink: held binders lose states, and with them goes what rested on those alone.
 
+use crate::board::Exits;
 use crate::edges::{state_of, takes};
 use crate::form::Shape;
 use crate::levels::Levels;
@@ -56,6 +57,7 @@ impl Levels {
 
     /// Takes these places of held binders away, and all that rests on them alone, which the list has then too.
     pub(crate) fn withdraw(&mut self, list: &mut Vec<Place>) -> Result<(), AllocError> {
+        self.board.open_back(self.alloc)?;
         let held = list.len();
         for place in list.as_slice() {
             self.sets.remove(place.node, place.state);
@@ -96,8 +98,8 @@ impl Levels {
         state: u32,
     ) -> Result<(), AllocError> {
         let mask = self.board.form.node(node).mask;
-        for at in 0..self.board.back.row(state).len() {
-            match self.board.back.row(state).get(at).copied() {
+        for at in 0..self.board.back(state).len() {
+            match self.board.back(state).get(at).copied() {
                 Some(edge) if takes(mask, edge) => self.try_place(list, node, state_of(edge))?,
                 _ => {}
             }
@@ -112,7 +114,7 @@ impl Levels {
         node: u32,
         state: u32,
     ) -> Result<(), AllocError> {
-        if !self.sets.done.has(node, state) {
+        if !self.sets.done.has(node, state) || self.sets.given.has(node, state) {
             return Ok(());
         }
         let place = Place { node, state };
@@ -145,6 +147,10 @@ impl Levels {
         let node = self.board.form.node(place.node);
         if node.shape != Shape::Binder {
             self.sets.add_state(place.node, place.state);
+            return Ok(());
+        }
+        if self.board.exits == Exits::Marks {
+            self.next.add_state(place.node, place.state);
             return Ok(());
         }
         let value = self.board.scale.prog(node.priority, self.order.first());

@@ -1,0 +1,338 @@
+// Components of three blocks of binders or more. The binders of all but the lowest are held. Whenever those of a block have lost states, all
+// below is found anew.
+
+use crate::bits::{Sheet, WORD, bit};
+use crate::blocks::Blocks;
+use crate::layout::Layout;
+use crate::levels::Levels;
+use crate::rounds::{Held, inner_time, outer_time};
+use crate::set_rounds::push_word;
+use crate::withdraw::Place;
+use std::alloc::{AllocError, Global};
+use text::Memory;
+
+/// A block above the two lowest ones.
+#[derive(Drop)]
+struct Outer {
+    held: Held,
+    /// What was gained in its rounds: the words of that are known as long as no greater block goes on to another round.
+    won: Sheet,
+    round: u32,
+}
+
+/// The blocks of a component but the lowest, which levels are counted in.
+#[derive(Drop)]
+struct Nest {
+    part: u32,
+    nodes: u32,
+    low: u8,
+    inner: Held,
+    outers: Vec<Outer>,
+    layout: Layout,
+    /// Whether all counts fit their fields.
+    fits: bool,
+}
+
+impl Outer {
+    // Forgets what was gained of these nodes.
+    fn restart(&mut self, from: u32, end: u32) {
+        self.round = 0;
+        for number in from..end {
+            self.won.fill(number, false);
+        }
+    }
+}
+
+impl Levels {
+    /// Finds who wins in a component, with the words of each node. The answer is whether the rounds came to an end, and all counts fit.
+    pub(crate) fn run_blocks(
+        &mut self,
+        alloc: Global,
+        part: u32,
+        blocks: &Blocks,
+        layout: &Layout,
+    ) -> Result<bool, Memory> {
+        let mut nest = self.nest(alloc, part, blocks, layout)?;
+        let mut gone = Vec::new(alloc);
+        let mut budget = self.budget();
+        for _ in 0..u32::MAX {
+            budget = budget.saturating_sub(self.size());
+            self.run(alloc, part, blocks.order())?;
+            if !self.run_sets(alloc, nest.inner, &mut budget)? {
+                return Ok(false);
+            }
+            if !nest.turn(self, &mut gone)? {
+                break;
+            }
+        }
+        nest.end(self);
+        Ok(nest.fits)
+    }
+
+    // Finds the states that the held binders of any block lose to their operands.
+    fn find_lost(&self, held: Held, lost: &mut Vec<Place>) -> Result<(), AllocError> {
+        for node in held.part..self.board.form.count() {
+            if self.parts.get(node) != held.held {
+                continue;
+            }
+            self.find_lost_of(held, node, lost)?;
+        }
+        Ok(())
+    }
+
+    fn find_lost_of(&self, held: Held, node: u32, lost: &mut Vec<Place>) -> Result<(), AllocError> {
+        let [operand, _] = self.board.form.operands(node);
+        for word in 0..self.sets.noted.width() {
+            let bits = self.gained(held, operand, word) & !self.gained(held, node, word);
+            push_word(lost, node, word, bits)?;
+        }
+        Ok(())
+    }
+
+    // Holds the binders of all blocks but the lowest.
+    fn nest(
+        &mut self,
+        alloc: Global,
+        part: u32,
+        blocks: &Blocks,
+        layout: &Layout,
+    ) -> Result<Nest, Memory> {
+        let nodes = self.board.form.count();
+        let inner = Held::of(&self.board.form, part, blocks, 1);
+        self.hold(alloc, inner)?;
+        self.sets.open_given(alloc, nodes, self.board.states)?;
+        for number in part..nodes {
+            if self.is_real(part, number) {
+                self.board.make_words(alloc, number)?;
+            }
+        }
+        Ok(Nest {
+            part,
+            nodes,
+            low: blocks.priority(0),
+            inner,
+            outers: self.outers(alloc, part, blocks)?,
+            layout: *layout,
+            fits: true,
+        })
+    }
+
+    fn outers(&mut self, alloc: Global, part: u32, blocks: &Blocks) -> Result<Vec<Outer>, Memory> {
+        let mut outers = Vec::new(alloc);
+        for block in 2..blocks.count() {
+            let held = Held::of(&self.board.form, part, blocks, block);
+            self.hold(alloc, held)?;
+            outers.push(Outer {
+                held,
+                won: Sheet::new(alloc, self.board.form.count(), self.board.states)?,
+                round: 0,
+            })?;
+        }
+        Ok(outers)
+    }
+}
+
+impl Nest {
+    // Another round of the lowest block whose binders lose states. The answer is whether there is one.
+    fn turn(&mut self, levels: &mut Levels, gone: &mut Vec<Place>) -> Result<bool, AllocError> {
+        for at in 0..self.outers.len() {
+            let Some(outer) = self.outers.get(at) else {
+                break;
+            };
+            let held = outer.held;
+            self.keep(levels, at, held);
+            gone.clear();
+            levels.find_lost(held, gone)?;
+            if !gone.is_empty() {
+                self.lose(levels, at, gone.as_slice());
+                self.restart(levels, at);
+                self.give(levels);
+                return Ok(true);
+            }
+        }
+        Ok(false)
+    }
+
+    // The states of a word whose words are known from a block on.
+    fn known(&self, at: usize, number: u32, word: u32) -> u64 {
+        let mut bits = 0;
+        for outer in self.outers.iter().skip(at) {
+            bits |= outer.won.word(number, word);
+        }
+        bits
+    }
+
+    // Keeps the words of what was gained in a round of a block.
+    fn keep(&mut self, levels: &mut Levels, at: usize, held: Held) {
+        for number in self.part..self.nodes {
+            if levels.is_below(held, number) {
+                self.keep_node(levels, at, held, number);
+            }
+        }
+    }
+
+    fn keep_node(&mut self, levels: &mut Levels, at: usize, held: Held, number: u32) {
+        for word in 0..levels.sets.noted.width() {
+            let bits = levels.gained(held, number, word) & !self.known(at, number, word);
+            if bits != 0 {
+                self.keep_word(levels, at, number, word, bits);
+            }
+        }
+    }
+
+    fn keep_word(&mut self, levels: &mut Levels, at: usize, number: u32, word: u32, bits: u64) {
+        let Some(outer) = self.outers.get_mut(at) else {
+            return;
+        };
+        outer.won.add(number, word, bits);
+        let (held, time) = (outer.held, inner_time(outer.round));
+        let mut rest = bits;
+        for _ in 0..WORD {
+            if rest == 0 {
+                return;
+            }
+            let state = word.wrapping_mul(WORD).wrapping_add(rest.trailing_zeros());
+            rest &= rest.wrapping_sub(1);
+            let base = self.base(levels, at, number, state);
+            let count = self.count(held.is_odd(), held.priority, time);
+            levels
+                .board
+                .set_word(number, state, base.wrapping_add(count));
+        }
+    }
+
+    // A count in the field of a priority.
+    fn count(&mut self, is_even: bool, priority: u8, count: u32) -> u64 {
+        let Layout { even, odd } = &self.layout;
+        let (unit, fits) = if is_even {
+            (even.unit(priority), even.holds(count))
+        } else {
+            (odd.unit(priority), odd.holds(count))
+        };
+        self.fits &= fits;
+        unit.wrapping_mul(u64::from(count))
+    }
+
+    // What the player for whom the rounds of a block are counted has in the fields of lesser blocks.
+    fn base(&mut self, levels: &Levels, at: usize, number: u32, state: u32) -> u64 {
+        match at.checked_sub(2) {
+            Some(below) => match self.outers.get(below) {
+                Some(outer) if outer.won.has(number, state) => levels.board.word(number, state),
+                _ => 0,
+            },
+            None if at == 1 && levels.sets.noted.has(number, state) => {
+                let round = levels.board.round(number, state);
+                self.count(self.inner.is_odd(), self.inner.priority, round)
+            }
+            None if at == 0 && levels.is_inside(number) => {
+                let level = levels.board.level(number, state);
+                self.count(self.low % 2 == 1, self.low, level)
+            }
+            None => 0,
+        }
+    }
+
+    // The binders of a block lose these places.
+    fn lose(&mut self, levels: &mut Levels, at: usize, gone: &[Place]) {
+        let Some(outer) = self.outers.get_mut(at) else {
+            return;
+        };
+        let (held, round) = (outer.held, outer.round);
+        outer.round = round.saturating_add(1);
+        levels.mark(held, gone, round);
+        let word = self.count(held.is_odd(), held.priority, outer_time(round));
+        for place in gone {
+            let Place { node, state } = *place;
+            let bits = bit(state);
+            if self.known(at, node, state / WORD) & bits == 0 {
+                levels.board.set_word(node, state, word);
+                if let Some(outer) = self.outers.get_mut(at) {
+                    outer.won.add(node, state / WORD, bits);
+                }
+            }
+        }
+    }
+
+    // All below a block is forgotten.
+    fn restart(&mut self, levels: &mut Levels, at: usize) {
+        levels.restart(self.inner);
+        for outer in self.outers.iter_mut().take(at) {
+            levels.restart(outer.held);
+            outer.restart(self.part, self.nodes);
+        }
+    }
+
+    // What is known from outer blocks holds from the beginning on.
+    fn give(&self, levels: &mut Levels) {
+        for number in self.part..self.nodes {
+            if levels.is_real(self.part, number) {
+                self.give_node(levels, number);
+            }
+        }
+    }
+
+    fn give_node(&self, levels: &mut Levels, number: u32) {
+        for word in 0..levels.sets.noted.width() {
+            self.give_word(levels, number, word);
+        }
+    }
+
+    fn give_word(&self, levels: &mut Levels, number: u32, word: u32) {
+        let (mut even, mut odd) = (0, 0);
+        for outer in &self.outers {
+            let won = outer.won.word(number, word);
+            if outer.held.is_odd() {
+                even |= won;
+            } else {
+                odd |= won;
+            }
+        }
+        if levels.parts.get(number) >= self.nodes {
+            let tops = levels.board.tops.word(number, word);
+            levels
+                .board
+                .tops
+                .set_word(number, word, (tops | odd) & !even);
+        }
+        let (given, barred) = if self.low % 2 == 1 {
+            (even, odd)
+        } else {
+            (odd, even)
+        };
+        levels.sets.given.set_word(number, word, given);
+        levels.sets.barred.set_word(number, word, barred);
+    }
+
+    // The words of the player for whom the rounds of the greatest block aren't counted.
+    fn end(&mut self, levels: &mut Levels) {
+        let Some(held) = self.outers.last().map(|outer| outer.held) else {
+            return;
+        };
+        for number in self.part..self.nodes {
+            if levels.is_real(self.part, number) {
+                self.end_node(levels, held, number);
+            }
+        }
+    }
+
+    fn end_node(&mut self, levels: &mut Levels, held: Held, number: u32) {
+        for word in 0..levels.sets.noted.width() {
+            let all = levels.sets.noted.full(word);
+            let bits = all & !levels.gained(held, number, word);
+            self.end_word(levels, number, word, bits);
+        }
+    }
+
+    fn end_word(&mut self, levels: &mut Levels, number: u32, word: u32, mut bits: u64) {
+        let top = self.outers.len();
+        for _ in 0..WORD {
+            if bits == 0 {
+                return;
+            }
+            let state = word.wrapping_mul(WORD).wrapping_add(bits.trailing_zeros());
+            bits &= bits.wrapping_sub(1);
+            let base = self.base(levels, top, number, state);
+            levels.board.set_word(number, state, base);
+        }
+    }
+}
