@@ -1,0 +1,5 @@
+pub mod Ranking
+pub mod Cells
+pub mod Slopes
+pub mod Stored
+pub mod Laws

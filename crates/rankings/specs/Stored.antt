@@ -1,0 +1,11 @@
+-- How rankings are stored.
+use Rattle.std.specs.Prelude.{map}
+use Rattle.rankings.specs.Cells.{AreShifts, Cells}
+use Rattle.rankings.specs.declared.sheet.Sheet.TheInside.{Inside}
+
+abbrev pub cells_of : Inside → Cells
+cells_of c = record { columns = map (λ column. column.items) c.columns.items; evens = c.evens.items; odds = c.odds.items }
+
+pub record IsStored (c : Inside) : Type 0 where
+  pub evens : AreShifts c.evens.items
+  pub odds : AreShifts c.odds.items

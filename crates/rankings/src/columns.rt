@@ -1,0 +1,230 @@
+// Whether the vertices of a node are ranked, state by state.
+
+ghost use Rattle.std.specs.Prelude.{◌≡◌, ◌<◌, ◌≤◌, ◌↔◌, ℕ, IsTrue, false, length, slice_index_or};
+ghost use Rattle.std.specs.List.{AllByRecursion};
+ghost use Rattle.normal.specs.Form.{IsNode};
+ghost use Rattle.normal.specs.View.{node_of, shape_of};
+ghost use Rattle.game.specs.Arena.{vertex_of};
+ghost use Rattle.game.specs.Steps.{IsSetFor};
+ghost use Rattle.rankings.specs.Cells.{cell, ranking_of};
+ghost use Rattle.rankings.specs.Ranking.{IsRanked, winner_of};
+ghost use Rattle.rankings.specs.Slopes.{TwoFollow, StepsFollow, StepsFollowAt, CanFollow, sink_of};
+
+use crate::sheet::Sheet;
+use crate::slope::Slopes;
+use crate::slopes::winner;
+use game::player::Player;
+use normal::node::{Kind, Node};
+use systems::system::{Lts, Transition};
+
+/// States from the first one up to the end.
+#[derive(Clone, Copy)]
+pub(crate) struct Span {
+    pub(crate) first: u32,
+    pub(crate) end: u32,
+}
+
+// The number of the true sink.
+const TRUE_SINK: u64 = 0;
+
+// The number of the false sink.
+const FALSE_SINK: u64 = 1;
+
+// Whether a number says that this player wins.
+pub(crate) fn is_winner(player: Player, number: u64) -> bool
+    ensures { IsTrue result ↔ (player ≡ winner_of number) }
+{
+    player == winner(number)
+}
+
+// Whether the label of a transition is in the set.
+fn has(set: &[bool], label: u32) -> bool
+    ensures { result ≡ slice_index_or set.now label false }
+{
+    set.get(label as usize).copied().unwrap_or(false)
+}
+
+// Whether a vertex is ranked whose successors have these two numbers.
+fn two_lead(owner: Player, slopes: Slopes, own: u64, first: u64, second: u64) -> bool
+    ensures { IsTrue result → TwoFollow slopes owner own first second }
+{
+    if is_winner(owner, own) {
+        slopes.let_follow(own, first) || slopes.let_follow(own, second)
+    } else {
+        slopes.let_follow(own, first) && slopes.let_follow(own, second)
+    }
+}
+
+// Whether the vertex of a modality is ranked, from whose state these transitions go.
+fn steps_lead(
+    owner: Player,
+    slopes: Slopes,
+    own: u64,
+    set: &[bool],
+    row: &[Transition],
+    next: &[u64],
+    sink: u64,
+) -> bool
+    requires { AllByRecursion (λ t. t.target < length next.now) row.now }
+    ensures { IsTrue result → StepsFollow slopes owner own set.now row.now next.now sink }
+{
+    let is_own = is_winner(owner, own);
+    let mut some = false;
+    for step in row {
+        if has(set, step.label) {
+            some = true;
+            if slopes.let_follow(own, next[step.target as usize]) == is_own {
+                return is_own;
+            }
+        }
+    }
+    if some {
+        !is_own
+    } else {
+        slopes.let_follow(own, sink)
+    }
+}
+
+// Whether the vertices of a constant are ranked.
+fn constants_lead(slopes: Slopes, own: &[u64], sink: u64, span: Span) -> bool
+    requires { span.end ≤ length own.now }
+    ensures { IsTrue result → (s : ℕ) → span.first ≤ s → s < span.end → CanFollow slopes (slice_index_or own.now s 0) sink }
+{
+    for s in span.first..span.end {
+        if !slopes.let_follow(own[s as usize], sink) {
+            return false;
+        }
+    }
+    true
+}
+
+// Whether the vertices of a node with one child, at the same state, are ranked.
+fn singles_lead(slopes: Slopes, own: &[u64], next: &[u64], span: Span) -> bool
+    requires own { span.end ≤ length own.now }
+    requires next { span.end ≤ length next.now }
+    ensures { IsTrue result → (s : ℕ) → span.first ≤ s → s < span.end → CanFollow slopes (slice_index_or own.now s 0) (slice_index_or next.now s 0) }
+{
+    for s in span.first..span.end {
+        if !slopes.let_follow(own[s as usize], next[s as usize]) {
+            return false;
+        }
+    }
+    true
+}
+
+// Whether the vertices of a junction are ranked.
+fn junctions_lead(
+    owner: Player,
+    slopes: Slopes,
+    own: &[u64],
+    left: &[u64],
+    right: &[u64],
+    span: Span,
+) -> bool
+    requires own { span.end ≤ length own.now }
+    requires left { span.end ≤ length left.now }
+    requires right { span.end ≤ length right.now }
+    ensures { IsTrue result → (s : ℕ) → span.first ≤ s → s < span.end
+        → TwoFollow slopes owner (slice_index_or own.now s 0) (slice_index_or left.now s 0) (slice_index_or right.now s 0) }
+{
+    for s in span.first..span.end {
+        let at = s as usize;
+        if !two_lead(owner, slopes, own[at], left[at], right[at]) {
+            return false;
+        }
+    }
+    true
+}
+
+// The number of the sink to which a modality of this owner leads where there is no step.
+fn sink(owner: Player) -> u64
+    ensures { result ≡ sink_of owner }
+{
+    match owner {
+        Player::Even => FALSE_SINK,
+        Player::Odd => TRUE_SINK,
+    }
+}
+
+// Whether labels' numbers fit a word. They do; it is asked so that callers know it.
+fn are_words(row: &[Transition]) -> bool
+    ensures { IsTrue result → AllByRecursion (λ t. t.label < 4294967296) row.now }
+{
+    for step in row {
+        if u64::from(step.label) > u64::from(u32::MAX) {
+            return false;
+        }
+    }
+    true
+}
+
+// Whether the vertices of a modality, which this player owns, are ranked.
+fn modalities_lead(
+    lts: &Lts,
+    owner: Player,
+    slopes: Slopes,
+    own: &[u64],
+    set: &[bool],
+    next: &[u64],
+    span: Span,
+) -> bool
+    requires states { span.end ≤ lts.now.system.states }
+    requires own { lts.now.system.states ≤ length own.now }
+    requires next { lts.now.system.states ≤ length next.now }
+    ensures { IsTrue result → (s : ℕ) → span.first ≤ s → s < span.end
+        → StepsFollowAt lts.now slopes owner set.now own.now next.now (sink_of owner) s }
+{
+    let sink = sink(owner);
+    for s in span.first..span.end {
+        let row = lts.from(s);
+        if !are_words(row) || !steps_lead(owner, slopes, own[s as usize], set, row, next, sink) {
+            return false;
+        }
+    }
+    true
+}
+
+/// Whether the vertices of a node with the states of a span are ranked.
+pub(crate) fn is_ranked(
+    lts: &Lts,
+    sheet: &Sheet,
+    number: u32,
+    node: &Node,
+    set: &[bool],
+    span: Span,
+) -> bool
+    requires states { span.end ≤ lts.now.system.states }
+    requires columns { AllByRecursion (λ column. length column ≡ lts.now.system.states) sheet.now.columns }
+    requires node { IsNode (length sheet.now.columns) (node_of node.now) }
+    requires number { number < length sheet.now.columns }
+    requires set { IsSetFor lts.now.labels (shape_of node.now.kind) set.now }
+    ensures { IsTrue result → (s : ℕ) → span.first ≤ s → s < span.end
+        → IsRanked (ranking_of sheet.now) (cell sheet.now number s) (vertex_of lts.now.system (length sheet.now.columns) s (node_of node.now)) }
+{
+    let _states = lts.states();
+    let slopes = sheet.slopes(node.priority);
+    let own = sheet.column(number);
+    match &node.kind {
+        Kind::True => constants_lead(slopes, own, TRUE_SINK, span),
+        Kind::False => constants_lead(slopes, own, FALSE_SINK, span),
+        Kind::And(left, right) => {
+            let (left, right) = (sheet.column(*left), sheet.column(*right));
+            junctions_lead(Player::Odd, slopes, own, left, right, span)
+        }
+        Kind::Or(left, right) => {
+            let (left, right) = (sheet.column(*left), sheet.column(*right));
+            junctions_lead(Player::Even, slopes, own, left, right, span)
+        }
+        Kind::Dia(_, child) => {
+            let next = sheet.column(*child);
+            modalities_lead(lts, Player::Even, slopes, own, set, next, span)
+        }
+        Kind::Box(_, child) => {
+            let next = sheet.column(*child);
+            modalities_lead(lts, Player::Odd, slopes, own, set, next, span)
+        }
+        Kind::Mu(child) | Kind::Nu(child) | Kind::Var(child) => {
+            singles_lead(slopes, own, sheet.column(*child), span)
+        }
+    }
+}
