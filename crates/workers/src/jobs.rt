@@ -9,6 +9,9 @@ use std::alloc::{AllocError, Global};
 use std::marker::PhantomData;
 use std::sync::Wait;
 
+/// For how many jobs a deque has room at first.
+const FIRST_ROOM: usize = 64;
+
 /// The rule of the deques: each job is a vertex of the game that K names.
 pub(crate) struct Jobs<K: GameName> {
     of: PhantomData<K>,
@@ -65,18 +68,14 @@ fn steal<K: GameName, R: Wait>(rt: &R, other: &Other<K>) -> Option<u32>
     unreachable!()
 }
 
-/// A job of one's own, or else of another's: one pass over the others, from the next one on.
-pub(crate) fn find<K: GameName, R: Wait>(
+/// A job of another's: one pass over the others, from the next one on.
+pub(crate) fn steal_any<K: GameName, R: Wait>(
     rt: &R,
     number: usize,
-    own: &mut Own<K>,
     others: &[Other<K>],
 ) -> Option<u32>
     ensures { IfSome result (λ v. v < length K.game.vertices) }
 {
-    if let Some(v) = take(own) {
-        return Some(v);
-    }
     for step in 1..others.len() {
         let other = &others[(number % others.len() + step) % others.len()];
         if let Some(v) = steal(rt, other) {
@@ -86,18 +85,32 @@ pub(crate) fn find<K: GameName, R: Wait>(
     None
 }
 
-/// A deque for each worker, with room for so many jobs at first, and a handle to each.
+/// A job of one's own, or else of another's.
+pub(crate) fn find<K: GameName, R: Wait>(
+    rt: &R,
+    number: usize,
+    own: &mut Own<K>,
+    others: &[Other<K>],
+) -> Option<u32>
+    ensures { IfSome result (λ v. v < length K.game.vertices) }
+{
+    match take(own) {
+        Some(v) => Some(v),
+        None => steal_any(rt, number, others),
+    }
+}
+
+/// A deque for each worker, and a handle to each.
 pub(crate) fn deques<K: GameName>(
     alloc: Global,
     workers: usize,
-    room: usize,
 ) -> Result<(Vec<Own<K>>, Vec<Other<K>>), AllocError>
     ensures { IfOk result (λ d. (vec_len d.0 ≡ workers) × (vec_len d.1 ≡ workers)) }
 {
     let mut own = Vec::new(alloc);
     let mut others = Vec::new(alloc);
     for _ in 0..workers {
-        let deque = Own::<K>::fifo_as(alloc, room)?;
+        let deque = Own::<K>::fifo_as(alloc, FIRST_ROOM)?;
         others.push(deque.stealer()?).map_err(AllocError::from)?;
         own.push(deque).map_err(AllocError::from)?;
     }

@@ -2,9 +2,12 @@
 #![tactic(auto)]
 
 pub mod error;
+mod floor;
 pub mod gate;
 mod jobs;
 pub mod locked;
+mod marks;
+mod rest;
 pub mod solving;
 pub mod team;
 mod watch;

@@ -3,10 +3,14 @@
 ghost use Rattle.std.specs.Prelude.{◌≡◌, ◌<◌, IfOk};
 ghost use Rattle.std.specs.Arc.{arc_value};
 ghost use Rattle.progress.specs.Progress.{IsLeastTable};
+ghost use Rattle.workers.specs.Floor.{IsOneGame};
 
 use crate::error::SolveError;
+use crate::floor::Floor;
 use crate::gate::Gate;
 use crate::jobs::{Own, deques};
+use crate::marks::Marks;
+use crate::rest::Rest;
 use crate::worker::work;
 use game::graph::Game;
 use game::name::GameName;
@@ -29,34 +33,30 @@ fn run<K: GameName + Send + Sync, B: Board + Sync, G: Gate + Sync, R: Threads + 
     workers: usize,
     gate: &G,
 ) -> Result<(), AllocError>
-    requires named { game.now ≡ K.game }
-    requires on_board { B.game board.now ≡ game.now }
-    requires begun { first.now.game ≡ game.now }
+    requires one { IsOneGame K.game game.now (B.game board.now) first.now.game }
     requires workers { 0 < workers }
 {
-    let room = game.vertices() as usize / workers + 1;
-    let (mut own, others) = deques::<K>(alloc, workers, room)?;
-    let predecessors = first.predecessors();
-    let others = others.as_slice();
+    let (mut own, others) = deques::<K>(alloc, workers)?;
+    let pending = Marks::new(alloc, game.vertices())?;
+    let (others, marks, rest) = (others.as_slice(), &pending, &Rest::new(workers));
     thread::for_each_mut(
         rt,
         own.as_mut_slice(),
         workers,
         &|number: usize, own: &mut Own<K>|
-            requires { (game.now ≡ K.game) × (predecessors.now ≡ K.game) × (B.game board.now ≡ game.now) × (first.now.game ≡ game.now) }
+            requires { IsOneGame K.game game.now (B.game board.now) first.now.game }
         {
-            work(
-                rt,
+            let floor = Floor {
                 alloc,
                 game,
                 first,
                 board,
                 gate,
-                predecessors,
                 others,
-                number,
-                own,
-            )
+                marks,
+                rest,
+            };
+            work(rt, &floor, number, own)
         },
     );
     Ok(())

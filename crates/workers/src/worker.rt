@@ -1,28 +1,45 @@
 // What one worker does.
 
-ghost use Rattle.std.specs.Prelude.{◌≡◌, ◌<◌, length};
+ghost use Rattle.std.specs.Prelude.{◌≡◌, ◌<◌, ◌≤◌, IfSome, length};
+ghost use Rattle.workers.specs.Floor.{IsOneGame};
 
+use crate::floor::Floor;
 use crate::gate::Gate;
-use crate::jobs::{Other, Own, find, give};
+use crate::jobs::{Own, find, give};
+use crate::marks::Marks;
 use game::graph::Game;
 use game::name::GameName;
 use game::predecessors::Predecessors;
 use liftcore::turn::Turn;
 use measures::table::{PlainTable, opening_value};
-use std::alloc::Global;
 use std::sync::Wait;
 use tables::board::Board;
 
-// Gives the predecessors of a vertex, and says whether all were taken.
-fn give_predecessors<K: GameName>(predecessors: &Predecessors, own: &mut Own<K>, v: u32) -> bool
+// Gives those predecessors of a vertex that aren't pending, and says whether all were taken. One that isn't taken stays marked: it is
+// left to the final settling.
+fn give_predecessors<K: GameName>(
+    predecessors: &Predecessors,
+    marks: &Marks,
+    own: &mut Own<K>,
+    v: u32,
+) -> bool
     requires { predecessors.now ≡ K.game }
 {
     for u in predecessors.get(v) {
-        if !give(own, *u) {
+        if marks.set(*u) && !give(own, *u) {
             return false;
         }
     }
     true
+}
+
+// The first of a worker's own vertices. They follow each other, and those of the next worker follow them.
+fn first_of(vertices: u32, workers: usize, number: usize) -> u32
+    requires { 0 < workers }
+    ensures { result ≤ vertices }
+{
+    let share = (vertices as usize).div_ceil(workers);
+    number.saturating_mul(share).min(vertices as usize) as u32
 }
 
 // Raises a vertex to what the first table has, where that is above the opening value. The answer says whether it rose.
@@ -43,37 +60,25 @@ fn raise_first<B: Board>(
     opening_value(game, v).is_below(&value) && board.raise(seat, v, &value)
 }
 
-// Raises the worker's own vertices to the first table, and gives them as its first jobs. Where a vertex rose after another
-// worker may have read it, its predecessors are jobs once more. A job that isn't taken is left to the final settling.
-fn begin<K: GameName, B: Board>(
-    game: &Game,
-    first: &PlainTable,
-    board: &B,
-    predecessors: &Predecessors,
-    workers: usize,
+// Raises the worker's own vertices to the first table. Where a vertex rose after another worker may have read it, its predecessors are
+// jobs, if their first turns were before. A job that isn't taken is left to the final settling.
+fn begin<K: GameName, B: Board, G>(
+    floor: &Floor<K, B, G>,
     number: usize,
     own: &mut Own<K>,
     seat: &mut B::Seat,
 )
-    requires named { game.now ≡ K.game }
-    requires led { predecessors.now ≡ K.game }
-    requires on_board { B.game board.now ≡ game.now }
-    requires begun { first.now.game ≡ game.now }
-    requires seat { B.fits board.now seat.old }
-    ensures { B.fits board.now seat.new }
+    requires one { IsOneGame K.game floor.now.game.now (B.game floor.now.board.now) floor.now.first.now.game }
+    requires seat { B.fits floor.now.board.now seat.old }
+    ensures { B.fits floor.now.board.now seat.new }
 {
-    let vertices = game.vertices();
-    let mut next = number;
-    for _ in 0..vertices {
-        if next >= vertices as usize {
-            return;
+    let workers = floor.others.len().max(1);
+    let start = first_of(floor.game.vertices(), workers, number);
+    let end = first_of(floor.game.vertices(), workers, number.saturating_add(1));
+    for v in start..end {
+        if raise_first(floor.game, floor.first, floor.board, seat, v) && workers > 1 {
+            give_predecessors(floor.first.predecessors(), floor.marks, own, v);
         }
-        let v = next as u32;
-        if raise_first(game, first, board, seat, v) && workers > 1 {
-            give_predecessors(predecessors, own, v);
-        }
-        give(own, v);
-        next = next.saturating_add(workers);
     }
 }
 
@@ -101,98 +106,141 @@ fn lift_by_reads<B: Board>(
     board.raise(seat, v, &turn.lifted(game))
 }
 
-// Raises a vertex to what it asks for, and says whether it rose: in the board's own way, if it has one.
-fn lift_at<B: Board>(game: &Game, board: &B, seat: &mut B::Seat, turn: &mut Turn, v: u32) -> bool
-    requires on_board { B.game board.now ≡ game.now }
-    requires seat { B.fits board.now seat.old }
-    requires turn { turn.old.game ≡ game.now }
-    requires vertex { v < length game.now.vertices }
-    ensures seat { B.fits board.now seat.new }
-    ensures turn { turn.new.game ≡ game.now }
+// Raises a vertex to what it asks for, and says whether it rose: in the board's own way, if it has one. Else a turn is made, where there
+// is none yet. None where memory for it is refused.
+fn lift_at<K: GameName, B: Board, G>(
+    floor: &Floor<K, B, G>,
+    seat: &mut B::Seat,
+    turn: &mut Option<Turn>,
+    v: u32,
+) -> Option<bool>
+    requires one { IsOneGame K.game floor.now.game.now (B.game floor.now.board.now) floor.now.first.now.game }
+    requires seat { B.fits floor.now.board.now seat.old }
+    requires turn { IfSome turn.old (λ t. t.game ≡ K.game) }
+    requires vertex { v < length K.game.vertices }
+    ensures seat { B.fits floor.now.board.now seat.new }
+    ensures turn { IfSome turn.new (λ t. t.game ≡ K.game) }
 {
-    match board.own_lift(seat, v) {
-        Some(rose) => rose,
-        None => lift_by_reads(game, board, seat, turn, v),
+    if let Some(rose) = floor.board.own_lift(seat, v) {
+        return Some(rose);
+    }
+    if turn.is_none() {
+        *turn = Turn::new(floor.alloc, floor.game).ok();
+    }
+    match turn {
+        Some(turn) => Some(lift_by_reads(floor.game, floor.board, seat, turn, v)),
+        None => None,
     }
 }
 
-// Takes jobs until one pass finds none, or a job isn't taken.
-fn take_turns<K: GameName, B: Board, G: Gate, R: Wait>(
-    rt: &R,
-    game: &Game,
-    board: &B,
-    gate: &G,
-    predecessors: &Predecessors,
-    others: &[Other<K>],
+// A turn at a vertex, which from then on isn't pending. The answer says whether the worker can go on: it can't where memory is refused
+// for a turn or a job.
+fn turn_at<K: GameName, B: Board, G: Gate>(
+    floor: &Floor<K, B, G>,
     number: usize,
     own: &mut Own<K>,
     seat: &mut B::Seat,
-    turn: &mut Turn,
-)
-    requires named { game.now ≡ K.game }
-    requires led { predecessors.now ≡ K.game }
-    requires on_board { B.game board.now ≡ game.now }
-    requires seat { B.fits board.now seat.old }
-    requires turn { turn.old.game ≡ game.now }
-    ensures { B.fits board.now seat.new }
+    turn: &mut Option<Turn>,
+    v: u32,
+) -> bool
+    requires one { IsOneGame K.game floor.now.game.now (B.game floor.now.board.now) floor.now.first.now.game }
+    requires seat { B.fits floor.now.board.now seat.old }
+    requires turn { IfSome turn.old (λ t. t.game ≡ K.game) }
+    requires vertex { v < length K.game.vertices }
+    ensures seat { B.fits floor.now.board.now seat.new }
+    ensures turn { IfSome turn.new (λ t. t.game ≡ K.game) }
 {
-    for _ in rt.forever() {
-        let Some(v) = find(rt, number, own, others) else {
-            return;
-        };
-        gate.before(number, v);
-        if lift_at(game, board, seat, turn, v) && !give_predecessors(predecessors, own, v) {
-            return;
-        }
+    floor.gate.before(number, v);
+    floor.marks.clear(v);
+    match lift_at(floor, seat, turn, v) {
+        Some(true) => give_predecessors(floor.first.predecessors(), floor.marks, own, v),
+        Some(false) => true,
+        None => false,
     }
 }
 
-/// The part of one worker. Where it gets no memory or no seat it does nothing.
+// The first turn of each of the worker's own vertices, which are jobs that no deque holds. The answer says whether the worker can go on.
+fn first_turns<K: GameName, B: Board, G: Gate>(
+    floor: &Floor<K, B, G>,
+    number: usize,
+    own: &mut Own<K>,
+    seat: &mut B::Seat,
+    turn: &mut Option<Turn>,
+) -> bool
+    requires one { IsOneGame K.game floor.now.game.now (B.game floor.now.board.now) floor.now.first.now.game }
+    requires seat { B.fits floor.now.board.now seat.old }
+    requires turn { IfSome turn.old (λ t. t.game ≡ K.game) }
+    ensures seat { B.fits floor.now.board.now seat.new }
+    ensures turn { IfSome turn.new (λ t. t.game ≡ K.game) }
+{
+    let workers = floor.others.len().max(1);
+    let start = first_of(floor.game.vertices(), workers, number);
+    let end = first_of(floor.game.vertices(), workers, number.saturating_add(1));
+    for v in start..end {
+        if !turn_at(floor, number, own, seat, turn, v) {
+            return false;
+        }
+    }
+    true
+}
+
+// A job of one's own, or of another's, for which the worker rests where there is none. None once all rest.
+fn next_job<K: GameName, B, G, R: Wait>(
+    rt: &R,
+    floor: &Floor<K, B, G>,
+    number: usize,
+    own: &mut Own<K>,
+) -> Option<u32>
+    ensures { IfSome result (λ v. v < length K.game.vertices) }
+{
+    match find(rt, number, own, floor.others) {
+        Some(v) => Some(v),
+        None => floor.rest.until_job(rt, number, floor.others),
+    }
+}
+
+// Takes turns until all workers rest, or this one can't go on, and rests then.
+fn take_turns<K: GameName, B: Board, G: Gate, R: Wait>(
+    rt: &R,
+    floor: &Floor<K, B, G>,
+    number: usize,
+    own: &mut Own<K>,
+    seat: &mut B::Seat,
+)
+    requires one { IsOneGame K.game floor.now.game.now (B.game floor.now.board.now) floor.now.first.now.game }
+    requires seat { B.fits floor.now.board.now seat.old }
+    ensures { B.fits floor.now.board.now seat.new }
+{
+    let mut turn = None;
+    let mut able = first_turns(floor, number, own, seat, &mut turn);
+    for _ in rt.forever() {
+        if !able {
+            floor.rest.lie_down();
+            return;
+        }
+        let Some(v) = next_job(rt, floor, number, own) else {
+            return;
+        };
+        able = turn_at(floor, number, own, seat, &mut turn, v);
+    }
+}
+
+/// The part of one worker. Where it gets no seat it does nothing.
 pub(crate) fn work<K: GameName, B: Board, G: Gate, R: Wait>(
     rt: &R,
-    alloc: Global,
-    game: &Game,
-    first: &PlainTable,
-    board: &B,
-    gate: &G,
-    predecessors: &Predecessors,
-    others: &[Other<K>],
+    floor: &Floor<K, B, G>,
     number: usize,
     own: &mut Own<K>,
 )
-    requires named { game.now ≡ K.game }
-    requires led { predecessors.now ≡ K.game }
-    requires on_board { B.game board.now ≡ game.now }
-    requires begun { first.now.game ≡ game.now }
+    requires { IsOneGame K.game floor.now.game.now (B.game floor.now.board.now) floor.now.first.now.game }
 {
-    let Ok(mut turn) = Turn::new(alloc, game) else {
-        return;
-    };
-    let Ok(mut seat) = board.seat() else {
-        return;
-    };
-    let workers = others.len();
-    begin(
-        game,
-        first,
-        board,
-        predecessors,
-        workers,
-        number,
-        own,
-        &mut seat,
-    );
-    take_turns(
-        rt,
-        game,
-        board,
-        gate,
-        predecessors,
-        others,
-        number,
-        own,
-        &mut seat,
-        &mut turn,
-    );
-    board.last(&mut seat);
+    floor.rest.begin();
+    match floor.board.seat() {
+        Ok(mut seat) => {
+            begin(floor, number, own, &mut seat);
+            take_turns(rt, floor, number, own, &mut seat);
+            floor.board.last(&mut seat);
+        }
+        Err(_) => floor.rest.lie_down(),
+    }
 }

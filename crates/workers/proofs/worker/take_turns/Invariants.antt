@@ -1,5 +1,5 @@
-use Rattle.std.proofs.Common.{◌≡◌}
+use Rattle.std.proofs.Common.{◌≡◌, IfSome}
 use Rattle.workers.proofs.worker.take_turns.Given as goal
 
 abbrev pub invariant-loop : goal.invariant-loop
-invariant-loop g l = g.B.Board.fits l.board l.seat × (l.turn.game ≡ l.game)
+invariant-loop g l = g.B.Board.fits l.floor.board.now l.seat × IfSome l.turn (λ t. t.game ≡ g.K.GameName.game)
