@@ -21,6 +21,7 @@ use Rattle.requests.specs.Texts.{IsFormulaOf, IsReadRefusal}
 use Rattle.requests.specs.declared.request.ReportForm.{ReportForm}
 use Rattle.requests.specs.declared.request.Wanted.{Wanted}
 use Rattle.requests.specs.Command as request
+use Rattle.requests.specs.Strict.{AnswersBy, KnowsWords}
 use Rattle.engines.specs.Findings.{AreFindings, IsTextFound, IsUnprepared, IsUnshown, formula_of, system_of, way_in}
 use Rattle.requests.specs.Solver.{IsFitting, IsUnsolved}
 use Rattle.game.specs.Game.{Game}
@@ -46,6 +47,7 @@ beyond_of rule board first second writers l f (error.Formula e) spelled h kept =
 beyond_of rule board first second writers l f (error.Game e) spelled h kept = absurd h
 beyond_of rule board first second writers l f (error.Evidence e) spelled h kept = absurd h
 beyond_of rule board first second writers l f (error.Schedule e) spelled h kept = absurd h
+beyond_of rule board first second writers l f (error.NoLabel offset) spelled h kept = absurd h
 beyond_of rule board first second writers l f (error.Write e) spelled h kept = absurd h
 
 -- What is beyond a limit before a board is asked for is so whatever board is.
@@ -64,6 +66,7 @@ beyond_any rule board l f (error.Formula e) h = absurd h
 beyond_any rule board l f (error.Game e) h = absurd h
 beyond_any rule board l f (error.Evidence e) h = absurd h
 beyond_any rule board l f (error.Schedule e) h = absurd h
+beyond_any rule board l f (error.NoLabel offset) h = absurd h
 beyond_any rule board l f (error.Write e) h = absurd h
 
 -- A game that isn't solved is one that was made.
@@ -83,6 +86,7 @@ beyond_board rule kind l f g (error.Formula e) is h = absurd h
 beyond_board rule kind l f g (error.Game e) is h = absurd h
 beyond_board rule kind l f g (error.Evidence e) is h = absurd h
 beyond_board rule kind l f g (error.Schedule e) is h = absurd h
+beyond_board rule kind l f g (error.NoLabel offset) is h = absurd h
 beyond_board rule kind l f g (error.Write e) is h = absurd h
 
 -- What was read is what something is made of.
@@ -125,6 +129,7 @@ unprepared_of x wanted first second writers e spelled found kept even witness (i
     unshown (error.Formula e) h = absurd h
     unshown (error.Game e) h = absurd h
     unshown (error.Schedule e) h = absurd h
+    unshown (error.NoLabel offset) h = absurd h
     unshown (error.Write e) h = absurd h
 
 -- What was found one way is found an equal way.
@@ -237,6 +242,7 @@ alone_of way first second form game even odd witness old new (Err (error.Evidenc
 alone_of way first second form game even odd witness old new (Err (error.Table e)) h = (h.0, alone_kept form game even odd witness old new h.1)
 alone_of way first second form game even odd witness old new (Err (error.Solve e)) h = (h.0, alone_kept form game even odd witness old new h.1)
 alone_of way first second form game even odd witness old new (Err (error.Schedule e)) h = absurd h
+alone_of way first second form game even odd witness old new (Err (error.NoLabel offset)) h = absurd h
 
 -- Marks that were found for each board that can be had are those of the one that is asked for; memory may be wanting anyway.
 pub marks_or_memory : {A : Type 0} (items : A → List Bool) (rule : Priorities) (board : BoardKind) (l : System) (f : Formula) (g : Game) (r : Result A MuError)
@@ -245,3 +251,9 @@ pub marks_or_memory : {A : Type 0} (items : A → List Bool) (rule : Priorities)
     → MatchResult r (λ marks. AreMarks (ByGame rule (Some board)) l f (items marks)) (IsBeyond (ByGame rule (Some board)) l f)
 marks_or_memory items rule board l f g (Ok marks) fits found memory = found (Some board) fits
 marks_or_memory items rule board l f g (Err e) fits found memory = subst (IsBeyond (ByGame rule (Some board)) l f) (sym memory) tt
+
+-- What was answered where each word of the formula is on a transition is answered strictly.
+pub strictly_answered : (strict : Bool) (way : Way) (first second : List ℕ) (writers : List Lent) (r : Result Bool MuError)
+    → Answers way first second writers r → (IsTrue strict → KnowsWords first second) → AnswersBy strict way first second writers r
+strictly_answered strict way first second writers (Ok a) h known = (h, known)
+strictly_answered strict way first second writers (Err e) h known = inl (h, λ asked. inr (known asked))

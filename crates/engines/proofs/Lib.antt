@@ -1,6 +1,7 @@
 mod Lines
 mod Checks
 mod Limits
+mod Ranking
 mod Roots
 mod Orders
 mod Lendings

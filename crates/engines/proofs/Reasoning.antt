@@ -42,6 +42,7 @@ refused_kept rule board first second old (error.Evidence e) h = h (lent_for Witn
 refused_kept rule board first second old (error.Table e) h = h (lent_for WitnessText old old ∷ []) (Keeps-refl old, tt)
 refused_kept rule board first second old (error.Solve e) h = h (lent_for WitnessText old old ∷ []) (Keeps-refl old, tt)
 refused_kept rule board first second old (error.Schedule e) h = h [] tt
+refused_kept rule board first second old (error.NoLabel offset) h = h [] tt
 
 -- Nothing was written where there was no memory for a witness.
 pub unshown_kept : (x : Findings) (first second : List ℕ) (old : Option (List ℕ)) (e : MuError) → AreSpelled first second (system_of x) (formula_of x)
@@ -67,6 +68,7 @@ unshown_kept x first second old e spelled found is = by e is (unprepared_of x wa
     by (error.Formula e) h r = absurd h
     by (error.Game e) h r = absurd h
     by (error.Schedule e) h r = absurd h
+    by (error.NoLabel offset) h r = absurd h
     by (error.Write e) h r = absurd h
 
 -- What is shown is a witness of which the lines may tell.

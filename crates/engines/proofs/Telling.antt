@@ -33,6 +33,7 @@ unread way l text (error.Build e) h = absurd h
 unread way l text (error.Game e) h = absurd h
 unread way l text (error.Evidence e) h = absurd h
 unread way l text (error.Schedule e) h = absurd h
+unread way l text (error.NoLabel offset) h = absurd h
 unread way l text (error.Table e) h = absurd h
 unread way l text (error.Solve e) h = absurd h
 unread way l text (error.Write e) h = absurd h
@@ -50,6 +51,7 @@ unread_fault way l text (error.Build e) h = absurd h
 unread_fault way l text (error.Game e) h = absurd h
 unread_fault way l text (error.Evidence e) h = absurd h
 unread_fault way l text (error.Schedule e) h = absurd h
+unread_fault way l text (error.NoLabel offset) h = absurd h
 unread_fault way l text (error.Table e) h = absurd h
 unread_fault way l text (error.Solve e) h = absurd h
 unread_fault way l text (error.Write e) h = absurd h
@@ -70,6 +72,7 @@ beyond way l text f (error.System e) is h = (f, is, h)
 beyond way l text f (error.Game e) is h = (f, is, h)
 beyond way l text f (error.Evidence e) is h = (f, is, h)
 beyond way l text f (error.Schedule e) is h = (f, is, h)
+beyond way l text f (error.NoLabel offset) is h = (f, is, h)
 beyond way l text f (error.Write e) is h = (f, is, h)
 
 same_line : (name : List ℕ) (a b : Option Bool) (c d : Bool) (m n s t : ℕ) → a ≡ b → c ≡ d → m ≡ n → s ≡ t

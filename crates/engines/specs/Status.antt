@@ -18,7 +18,7 @@ use Rattle.liftcore.specs.declared.error.ScheduleError.{ScheduleError}
 use Rattle.liftcore.specs.declared.error.ScheduleError.TheVariants as schedule
 use Rattle.requests.specs.declared.error.MuError.{MuError}
 use Rattle.requests.specs.declared.error.MuError.TheVariants.{Arguments, File, Read, Memory, System, Formula, Normal, Build, Game, Evidence, Table, Solve}
-use Rattle.requests.specs.declared.error.MuError.TheVariants.{Schedule, Write}
+use Rattle.requests.specs.declared.error.MuError.TheVariants.{NoLabel, Schedule, Write}
 
 -- 2 where the text is at fault, 3 where a read or memory failed
 abbrev pub system_status : AutError → ℕ
@@ -65,6 +65,7 @@ error_status Read = 3
 error_status Memory = 3
 error_status (System error) = system_status error
 error_status (Formula error) = formula_status error
+error_status (NoLabel offset) = 2
 error_status (Normal error) = normal_status error
 error_status (Build error) = build_status error
 error_status (Game error) = game_status error

@@ -5,10 +5,11 @@ ghost use Rattle.calculus.specs.Closed.{closed_formula};
 ghost use Rattle.requests.specs.declared.request.ReportForm.TheVariants.{Whole};
 ghost use Rattle.requests.specs.Check.{Way, BySets, ByGame, AreMarks, AreSpelled, Answers, Checks, IsBeyond, IsErrorOf};
 ghost use Rattle.requests.specs.Command.{wanted_in, way_of};
+ghost use Rattle.requests.specs.Strict.{ChecksBy};
 ghost use Rattle.engines.specs.Findings.{AreFindings, formula_of, system_of, way_in};
 ghost use Rattle.requests.specs.Writers.{all_writers, evidence_writers, game_writer, no_writer, report_writer};
 
-use crate::findings::{Findings, find_alone, find_seen, find_with};
+use crate::findings::{Findings, find_alone, find_in, find_with};
 use crate::marks::{game_marks, plain_marks};
 use crate::no_writer::NoWriter;
 use crate::outputs::{answer, put_wanted};
@@ -18,7 +19,7 @@ use lts::put;
 use measures::observer::{Observer, Silent, Stage};
 use requests::error::MuError;
 use requests::request::{Check, Options, ReportForm, Wanted};
-use requests::texts::{Texts, read_both_seen};
+use requests::texts::{Texts, read_asked, read_both_seen};
 use requests::watch::Watcher;
 use requests::writers::EvidenceWriters;
 use std::alloc::Global;
@@ -138,16 +139,29 @@ pub fn check_plain_seen<R: Read + Drop, S: Read + Drop, W: Write, U: Watcher>(
     ensures plain { IfErr result (IsErrorOf BySets) }
 {
     match read_both_seen(alloc, aut, formula, watcher) {
-        Ok(texts) => {
-            watcher.sees(Stage::Evaluating {
-                states: texts.system.states(),
-            });
-            let marks = plain_marks(alloc, &texts.system, &texts.formula);
-            watcher.sees(Stage::Writing);
-            report(alloc, &texts, marks, form, out)
-        }
+        Ok(texts) => report_plain(alloc, &texts, form, out, watcher),
         Err(error) => Err(error),
     }
+}
+
+/// Checks by sets of states what was read, and writes the report.
+fn report_plain<W: Write, U: Watcher>(
+    alloc: Global,
+    texts: &Texts,
+    form: ReportForm,
+    out: &mut W,
+    watcher: &U,
+) -> Result<bool, MuError>
+    ensures answers { (first second : List ℕ) → AreSpelled first second texts.now.system.system (closed_formula texts.now.formula)
+        → Answers BySets first second (report_writer form (W.contents out.old) (W.contents out.new)) result }
+    ensures plain { IfErr result (IsErrorOf BySets) }
+{
+    watcher.sees(Stage::Evaluating {
+        states: texts.system.states(),
+    });
+    let marks = plain_marks(alloc, &texts.system, &texts.formula);
+    watcher.sees(Stage::Writing);
+    report(alloc, texts, marks, form, out)
 }
 
 /// Writes the report with these marks, whichever way they were found, and answers the initial state's mark.
@@ -176,10 +190,10 @@ fn report<W: Write>(
 }
 
 /// The check that a command asks for: by sets of states where it is plain, and then it writes the report alone; else by a game, with
-/// what is wanted.
+/// what is wanted. Where it is strict, each word of the formula has to be on a transition.
 ///
 /// # Errors
-/// Those of `check_plain`, or of `check_all`.
+/// Those of `check_plain`, or of `check_all`; L1 where it is strict.
 pub fn check_asked<
     R: Read + Drop,
     S: Read + Drop,
@@ -204,16 +218,51 @@ pub fn check_asked<
     witness: &mut V,
     watcher: &U,
 ) -> Result<bool, MuError>
-    ensures { Checks (way_of request.now) (R.remaining aut) (S.remaining formula)
+    ensures { ChecksBy request.now.strict (way_of request.now) (R.remaining aut) (S.remaining formula)
+        (all_writers (wanted_in request.now wanted) (G.contents game.old) (G.contents game.new) (E.contents even.old) (E.contents even.new)
+        (O.contents odd.old) (O.contents odd.new) (V.contents witness.old) (V.contents witness.new) (W.contents out.old) (W.contents out.new)) result }
+{
+    match read_asked(alloc, aut, formula, request.strict, watcher) {
+        Ok(texts) => check_read(
+            rt, alloc, request, wanted, texts, out, game, even, odd, witness, watcher,
+        ),
+        Err(error) => Err(error),
+    }
+}
+
+/// Checks what was read, as a command asks for it.
+fn check_read<
+    W: Write,
+    G: Write,
+    E: Write,
+    O: Write,
+    V: Write,
+    U: Watcher + Sync,
+    H: Threads + Wait + Clone + Copy + Drop + Send + Sync,
+>(
+    rt: &H,
+    alloc: Global,
+    request: &Check<'_>,
+    wanted: Wanted,
+    texts: Texts,
+    out: &mut W,
+    game: &mut G,
+    even: &mut E,
+    odd: &mut O,
+    witness: &mut V,
+    watcher: &U,
+) -> Result<bool, MuError>
+    ensures { (first second : List ℕ) → AreSpelled first second texts.system.system (closed_formula texts.formula)
+        → Answers (way_of request.now) first second
         (all_writers (wanted_in request.now wanted) (G.contents game.old) (G.contents game.new) (E.contents even.old) (E.contents even.new)
         (O.contents odd.old) (O.contents odd.new) (V.contents witness.old) (V.contents witness.new) (W.contents out.old) (W.contents out.new)) result }
 {
     if request.plain {
-        return check_plain_seen(alloc, aut, formula, wanted.report, out, watcher);
+        return report_plain(alloc, &texts, wanted.report, out, watcher);
     }
     let options = &request.options;
-    check_all(
-        rt, alloc, aut, formula, options, wanted, out, game, even, odd, witness, watcher,
+    check_by_game(
+        rt, alloc, texts, options, wanted, out, game, even, odd, witness, watcher,
     )
 }
 
@@ -323,11 +372,45 @@ pub fn check_all<
         (all_writers wanted (G.contents game.old) (G.contents game.new) (E.contents even.old) (E.contents even.new) (O.contents odd.old) (O.contents odd.new)
         (V.contents witness.old) (V.contents witness.new) (W.contents out.old) (W.contents out.new)) result }
 {
-    if wanted.is_nothing() {
-        let form = wanted.report;
-        return check_report(rt, alloc, aut, formula, options, form, out, watcher);
+    match read_both_seen(alloc, aut, formula, watcher) {
+        Ok(texts) => check_by_game(
+            rt, alloc, texts, options, wanted, out, game, even, odd, witness, watcher,
+        ),
+        Err(error) => Err(error),
     }
-    match find_seen(rt, alloc, aut, formula, options, watcher) {
+}
+
+/// Checks by a game what was read, and writes what is wanted.
+fn check_by_game<
+    W: Write,
+    G: Write,
+    E: Write,
+    O: Write,
+    V: Write,
+    U: Watcher + Sync,
+    H: Threads + Wait + Clone + Copy + Drop + Send + Sync,
+>(
+    rt: &H,
+    alloc: Global,
+    texts: Texts,
+    options: &Options,
+    wanted: Wanted,
+    out: &mut W,
+    game: &mut G,
+    even: &mut E,
+    odd: &mut O,
+    witness: &mut V,
+    watcher: &U,
+) -> Result<bool, MuError>
+    ensures { (first second : List ℕ) → AreSpelled first second texts.system.system (closed_formula texts.formula)
+        → Answers (ByGame options.now.priorities (Some options.now.board)) first second
+        (all_writers wanted (G.contents game.old) (G.contents game.new) (E.contents even.old) (E.contents even.new) (O.contents odd.old) (O.contents odd.new)
+        (V.contents witness.old) (V.contents witness.new) (W.contents out.old) (W.contents out.new)) result }
+{
+    if wanted.is_nothing() {
+        return report_by_game(rt, alloc, &texts, options, wanted.report, out, watcher);
+    }
+    match find_in(rt, alloc, texts, options, watcher) {
         Ok(found) => {
             watcher.sees(Stage::Writing);
             answer_wanted(alloc, &found, wanted, game, even, odd, witness, out)
@@ -336,34 +419,28 @@ pub fn check_all<
     }
 }
 
-/// Checks as `check` does, and writes the report alone, for which it is enough to know who wins. Where a guess says it, and is good, no worker lifts.
-fn check_report<
-    R: Read + Drop,
-    S: Read + Drop,
+/// Checks by a game what was read, and writes the report alone, for which it is enough to know who wins. Where a guess says it, and is good, no
+/// worker lifts.
+fn report_by_game<
     W: Write,
     U: Watcher + Sync,
     H: Threads + Wait + Clone + Copy + Drop + Send + Sync,
 >(
     rt: &H,
     alloc: Global,
-    aut: R,
-    formula: S,
+    texts: &Texts,
     options: &Options,
     form: ReportForm,
     out: &mut W,
     watcher: &U,
 ) -> Result<bool, MuError>
-    ensures { Checks (ByGame options.now.priorities (Some options.now.board)) (R.remaining aut) (S.remaining formula)
+    ensures { (first second : List ℕ) → AreSpelled first second texts.now.system.system (closed_formula texts.now.formula)
+        → Answers (ByGame options.now.priorities (Some options.now.board)) first second
         (report_writer form (W.contents out.old) (W.contents out.new)) result }
 {
-    match read_both_seen(alloc, aut, formula, watcher) {
-        Ok(texts) => {
-            let marks = game_marks(rt, alloc, &texts.system, &texts.formula, options, watcher);
-            watcher.sees(Stage::Writing);
-            report(alloc, &texts, marks, form, out)
-        }
-        Err(error) => Err(error),
-    }
+    let marks = game_marks(rt, alloc, &texts.system, &texts.formula, options, watcher);
+    watcher.sees(Stage::Writing);
+    report(alloc, texts, marks, form, out)
 }
 
 /// Checks on one thread and without a board, and writes what `check` writes. It waits for nobody.

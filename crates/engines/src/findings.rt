@@ -164,6 +164,50 @@ pub fn find_seen<
     )
 }
 
+/// Finds what `find_seen` does of texts that were read.
+///
+/// # Errors
+/// Those of the normal form, of the game, of the board and of the workers' table; U4.
+pub fn find_in<O: Watcher + Sync, H: Threads + Wait + Clone + Copy + Drop + Send + Sync>(
+    rt: &H,
+    alloc: Global,
+    texts: Texts,
+    options: &Options,
+    observer: &O,
+) -> Result<Findings, MuError>
+    ensures found { IfOk result AreFindings }
+    ensures way { IfOk result (λ found. way_in found ≡ ByGame options.now.priorities (Some options.now.board)) }
+    ensures texts { IfOk result (λ found. found.texts.value ≡ texts) }
+    ensures refusal { IfErr result (IsBeyond (ByGame options.now.priorities (Some options.now.board)) texts.system.system (closed_formula texts.formula)) }
+{
+    match Box::new(alloc, texts) {
+        Ok(texts) => find_boxed(rt, alloc, texts, options, observer),
+        Err(_) => Err(MuError::Memory),
+    }
+}
+
+fn find_boxed<O: Watcher + Sync, H: Threads + Wait + Clone + Copy + Drop + Send + Sync>(
+    rt: &H,
+    alloc: Global,
+    texts: Box<Texts>,
+    options: &Options,
+    observer: &O,
+) -> Result<Findings, MuError>
+    ensures found { IfOk result AreFindings }
+    ensures way { IfOk result (λ found. way_in found ≡ ByGame options.now.priorities (Some options.now.board)) }
+    ensures texts { IfOk result (λ found. found.texts.value ≡ texts.value) }
+    ensures refusal { IfErr result (IsBeyond (ByGame options.now.priorities (Some options.now.board)) texts.value.system.system
+        (closed_formula texts.value.formula)) }
+{
+    match build_of(rt, alloc, texts, options.priorities, observer) {
+        Ok(posed) => {
+            let helped = Helped::EveryTeam;
+            find_by_workers(rt, alloc, posed, options, helped, &NoGate, observer)
+        }
+        Err(error) => Err(error),
+    }
+}
+
 /// Reads both texts, and finds out by the workers which states satisfy the formula.
 fn find_by_texts<
     R: Read + Drop,
@@ -267,7 +311,7 @@ fn solve_posed(alloc: Global, posed: &Posed) -> Result<Settled, Memory>
     ensures { IfOk result (λ s. s.game ≡ arc_value posed.now.game) }
 {
     let Texts { system, formula } = &*posed.texts;
-    let guess = guess_of(alloc, system, formula, posed.priorities, &posed.game);
+    let guess = guess_of(alloc, system, formula, posed.priorities);
     solve_one_by(alloc, &posed.game, &guess, &Silent)
 }
 
@@ -291,7 +335,7 @@ fn solve_by_workers<
 {
     let Texts { system, formula } = &*posed.texts;
     let guess = if helped == Helped::EveryTeam || options.workers == 1 {
-        guess_of(alloc, system, formula, posed.priorities, &posed.game)
+        guess_of(alloc, system, formula, posed.priorities)
     } else {
         None
     };

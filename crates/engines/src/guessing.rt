@@ -1,7 +1,6 @@
 // A guess of the least progress table, by which a check is solved sooner. No answer rests on it.
 
 use calculus::closed::Closed;
-use game::graph::Game;
 use guess::whole::Whole;
 use normal::make::normal_with;
 use normal::priorities::Priorities;
@@ -14,8 +13,7 @@ pub(crate) fn guess_of<'a>(
     system: &'a Lts,
     formula: &Closed,
     priorities: Priorities,
-    game: &Game,
 ) -> Option<Whole<'a>> {
     let form = normal_with(alloc, formula, priorities).ok()?;
-    Whole::of(alloc, system, &form, game).ok()?
+    Whole::of(alloc, system, &form).ok()?
 }

@@ -11,6 +11,7 @@ mod marks;
 mod no_writer;
 mod outputs;
 mod prepared;
+mod ranked;
 pub mod reasons;
 mod report;
 pub mod status;

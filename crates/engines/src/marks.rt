@@ -10,6 +10,7 @@ ghost use Rattle.engines.specs.Table.{way_by};
 
 use crate::guessing::guess_of;
 use crate::lifting::{Solution, state_marks};
+use crate::ranked::ranked_marks;
 use calculus::closed::Closed;
 use certify::decide::certified_winners;
 use game::graph::Game;
@@ -69,7 +70,7 @@ pub(crate) fn plain_marks(
     }
 }
 
-/// A mark for each state, true where it satisfies the formula, by the game.
+/// A mark for each state, true where it satisfies the formula, by the game: by a ranking of it, where one that is guessed is good, and then it isn't stored.
 ///
 /// # Errors
 /// Those of the normal form, of the game, of its board and of its workers, unchanged; U4.
@@ -87,6 +88,27 @@ pub(crate) fn game_marks<O: Observer + Sync, H: Threads + Wait + Clone + Copy + 
     observer.sees(Stage::Building {
         states: system.states(),
     });
+    match ranked_marks(alloc, system, formula, options) {
+        Some(marks) => Ok(marks),
+        None => stored_marks(rt, alloc, system, formula, options, observer),
+    }
+}
+
+/// A mark for each state, true where it satisfies the formula, by the game, which is stored.
+///
+/// # Errors
+/// Those of `game_marks`.
+fn stored_marks<O: Observer + Sync, H: Threads + Wait + Clone + Copy + Drop + Send + Sync>(
+    rt: &H,
+    alloc: Global,
+    system: &Lts,
+    formula: &Closed,
+    options: &Options,
+    observer: &O,
+) -> Result<Vec<bool>, MuError>
+    ensures { let l = system.now.system in let f = closed_formula formula.now in let way = ByGame options.now.priorities (Some options.now.board) in
+        MatchResult result (λ marks. AreMarks way l f marks.items) (IsBeyond way l f) }
+{
     match game_of(rt, alloc, system, formula, options.priorities) {
         Ok(game) => match Arc::new(alloc, game) {
             Ok(game) => marks_in(rt, alloc, system, formula, &game, options, observer),
@@ -138,7 +160,7 @@ fn solution_of<O: Observer + Sync, H: Threads + Wait + Clone + Copy + Drop + Sen
     ensures refusal { IfErr result (IsUnsolved (Some options.now.board) (arc_value game.now)) }
 {
     require_board(game, options.board)?;
-    let guess = guess_of(alloc, system, formula, options.priorities, game);
+    let guess = guess_of(alloc, system, formula, options.priorities);
     if let Some(settled) = settled_by_guess(alloc, game, &guess) {
         return Ok(Solution::Table(settled));
     }

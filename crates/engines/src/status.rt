@@ -37,6 +37,7 @@ pub fn error_status(error: &MuError) -> u8
                 offset: _,
             },
         ) => 2,
+        MuError::NoLabel { offset: _ } => 2,
         MuError::Normal(NormalError::TooManyNodes | NormalError::PriorityTooGreat) => 2,
         MuError::Build(BuildError::TooManyVertices) => 2,
         MuError::Game(PgError::Fault { fault: _, line: _ }) => 2,

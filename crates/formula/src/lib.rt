@@ -9,7 +9,7 @@ pub mod printer;
 pub use calculus::{closed, holds, label, meaning_law, tree};
 pub use printer::print;
 
-mod lexer;
+pub mod lexer;
 mod meant;
 mod misread;
 mod operands;
@@ -18,7 +18,7 @@ mod regular;
 mod room;
 mod scope;
 mod state;
-mod token;
+pub mod token;
 mod written;
 
 pub use reader::parse;

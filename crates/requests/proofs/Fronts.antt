@@ -65,3 +65,15 @@ pub at_front : {T E : Type 0} → (known : Option (List ℕ)) (front read : List
 at_front None front read (Ok x) P h e f = tt
 at_front None front read (Err x) P h e f = tt
 at_front (Some text) front read r P h e f = f text (e ∙ h)
+
+-- What spells a formula is its front.
+pub whole_spelled : (known : Option (List ℕ)) (front : List ℕ) (f : Formula) → IfSome known (λ all. front ≡ take 1048577 all)
+    → IfSome known (λ all. IsFormulaOf all f) → IfSome known (λ all. front ≡ all)
+whole_spelled None front f h is = tt
+whole_spelled (Some all) front f h is = h ∙ take_all 1048577 all (omega (arith, is.spelled.short))
+
+-- What each text with this front spells is what the reader's text spells.
+pub spelled_of_front : (known : Option (List ℕ)) (front read : List ℕ) (f : Formula) → IfSome known (λ all. front ≡ take 1048577 all) → read ≡ front
+    → ((text : List ℕ) → read ≡ take 1048577 text → IsFormulaOf text f) → IfSome known (λ all. IsFormulaOf all f)
+spelled_of_front None front read f h e k = tt
+spelled_of_front (Some text) front read f h e k = k text (e ∙ h)

@@ -43,6 +43,7 @@ unread_of way first second writers (error.Build e) spelled h kept = absurd h
 unread_of way first second writers (error.Game e) spelled h kept = absurd h
 unread_of way first second writers (error.Evidence e) spelled h kept = absurd h
 unread_of way first second writers (error.Schedule e) spelled h kept = absurd h
+unread_of way first second writers (error.NoLabel offset) spelled h kept = absurd h
 unread_of way first second writers (error.Table e) spelled h kept = absurd h
 unread_of way first second writers (error.Solve e) spelled h kept = absurd h
 unread_of way first second writers (error.Write e) spelled h kept = absurd h

@@ -164,6 +164,7 @@ HasRefused way first second writers (error.Evidence e) = HasNoEvidence way first
 HasRefused way first second writers (error.Table e) = HasNoGame way first second (error.Table e) × AreKept writers
 HasRefused way first second writers (error.Solve e) = HasNoGame way first second (error.Solve e) × AreKept writers
 HasRefused way first second writers (error.Schedule e) = ⊥
+HasRefused way first second writers (error.NoLabel offset) = ⊥
 HasRefused way first second writers (error.Write e) = HasBegun way first second writers
 
 abbrev pub Answers : Way → (first second : List ℕ) → List Lent → Result Bool MuError → Type 0
@@ -183,6 +184,7 @@ IsErrorOf BySets (error.Evidence e) = ⊥
 IsErrorOf BySets (error.Table e) = ⊥
 IsErrorOf BySets (error.Solve e) = ⊥
 IsErrorOf BySets (error.Schedule e) = ⊥
+IsErrorOf BySets (error.NoLabel offset) = ⊥
 IsErrorOf BySets (error.Arguments e) = ⊥
 IsErrorOf BySets error.File = ⊥
 IsErrorOf BySets e = Unit {0}

@@ -6,3 +6,4 @@ pub mod Check
 pub mod Command
 pub mod Roots
 pub mod Solver
+pub mod Strict

@@ -96,6 +96,9 @@ pub enum MuError {
     /// The text of the formula.
     #[error("{0}")]
     Formula(FormulaError),
+    /// A name or a quoted label of the formula is on no transition, where that is asked about; its place in the text in bytes, from 0.
+    #[error("L1 at offset {offset}")]
+    NoLabel { offset: usize },
     /// The formula's normal form.
     #[error("{0}")]
     Normal(NormalError),

@@ -26,6 +26,8 @@ pub struct Check<'a> {
     pub options: Options,
     /// By sets of states, without a game.
     pub plain: bool,
+    /// With a refusal where a name or a quoted label of the formula is on no transition.
+    pub strict: bool,
 }
 
 /// In which form a witness is written.

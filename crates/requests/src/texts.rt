@@ -1,9 +1,11 @@
 // The texts of a check, read.
 
-ghost use Rattle.std.specs.Prelude.{◌≡◌, ℕ, List, take, IfOk, IfErr, IfSome, Some};
+ghost use Rattle.std.specs.Prelude.{◌≡◌, ℕ, List, take, IfOk, IfErr, IfSome, IsTrue, MatchResult, None, Some};
 ghost use Rattle.calculus.specs.Closed.{closed_formula};
 ghost use Rattle.requests.specs.Texts.{IsFormulaOf, IsReadRefusal, IsReadFault, IsReading};
 ghost use Rattle.requests.specs.Check.{Way, BySets, AreSpelled, HasRefused, IsErrorOf};
+ghost use Rattle.requests.specs.Strict.{HasRefusedBy, IsLookRefusal, IsUnread, KnowsWords};
+ghost use Rattle.words.specs.Absent.{IsFirstAbsent};
 ghost use Rattle.requests.specs.Writers.{AreKept, Lent};
 
 use crate::error::MuError;
@@ -16,6 +18,8 @@ use lts::system::Lts;
 use measures::observer::{Silent, Stage};
 use std::alloc::Global;
 use std::io::{ErrorKind, Read};
+use text::Memory;
+use words::absent::first_absent;
 
 /// One byte more than the longest text of a formula: nothing behind it is read.
 pub const FORMULA_BYTES: u64 = LONGEST_TEXT as u64 + 1;
@@ -25,6 +29,20 @@ pub const FORMULA_BYTES: u64 = LONGEST_TEXT as u64 + 1;
 pub struct Texts {
     pub system: Lts,
     pub formula: Closed,
+}
+
+/// A formula that was read, and its text.
+#[derive(Drop)]
+struct Spelled {
+    formula: Closed,
+    text: Vec<u8>,
+}
+
+/// Both texts, read, and that of the formula as it stands.
+#[derive(Drop)]
+struct Reading {
+    texts: Texts,
+    text: Vec<u8>,
 }
 
 /// Reads the system and then the formula.
@@ -61,12 +79,94 @@ pub fn read_both_seen<R: Read + Drop, S: Read + Drop, O: Watcher>(
         → (way : Way) (writers : List Lent) → AreKept writers → IfErr result (HasRefused way first second writers) }
     ensures plain { IfErr result (IsErrorOf BySets) }
 {
+    match read_all(alloc, aut, formula, observer) {
+        Ok(reading) => Ok(texts_of(reading)),
+        Err(error) => Err(error),
+    }
+}
+
+/// Reads both as `read_both_seen` does. Where it is strict, it looks for a word of the formula that is on no transition.
+///
+/// # Errors
+/// Those of `read_both`; L1 with the place of such a word, where it is strict.
+pub fn read_asked<R: Read + Drop, S: Read + Drop, O: Watcher>(
+    alloc: Global,
+    aut: R,
+    formula: S,
+    strict: bool,
+    observer: &O,
+) -> Result<Texts, MuError>
+    ensures spelled { (first second : List ℕ) → R.remaining aut ≡ Some first → S.remaining formula ≡ Some second
+        → IfOk result (λ texts. AreSpelled first second texts.system.system (closed_formula texts.formula)) }
+    ensures known { (first second : List ℕ) → R.remaining aut ≡ Some first → S.remaining formula ≡ Some second
+        → IfOk result (λ _. IsTrue strict → KnowsWords first second) }
+    ensures refusal { (first second : List ℕ) → R.remaining aut ≡ Some first → S.remaining formula ≡ Some second
+        → (way : Way) (writers : List Lent) → AreKept writers → IfErr result (HasRefusedBy strict way first second writers) }
+{
+    match read_all(alloc, aut, formula, observer) {
+        Ok(reading) => {
+            if strict {
+                strictly(alloc, reading)
+            } else {
+                Ok(texts_of(reading))
+            }
+        }
+        Err(error) => Err(error),
+    }
+}
+
+/// Both, where each word of the formula is on a transition.
+fn strictly(alloc: Global, reading: Reading) -> Result<Texts, MuError>
+    ensures { let l = reading.texts.system.system in MatchResult result
+        (λ texts. (texts ≡ reading.texts) × IsFirstAbsent l reading.text.items None) (IsLookRefusal l reading.text.items) }
+{
+    match look(alloc, &reading.texts.system, &reading.text) {
+        Ok(()) => Ok(texts_of(reading)),
+        Err(error) => Err(error),
+    }
+}
+
+/// Looks for a word of a formula's text that is on no transition.
+fn look(alloc: Global, system: &Lts, text: &[u8]) -> Result<(), MuError>
+    ensures { MatchResult result (λ _. IsFirstAbsent system.now.system text.now None) (IsLookRefusal system.now.system text.now) }
+{
+    match first_absent(alloc, system, text) {
+        Ok(None) => Ok(()),
+        Ok(Some(offset)) => Err(MuError::NoLabel { offset }),
+        Err(Memory) => Err(MuError::Memory),
+    }
+}
+
+fn texts_of(reading: Reading) -> Texts
+    ensures { result ≡ reading.texts }
+{
+    let Reading { texts, text: _ } = reading;
+    texts
+}
+
+/// Reads the system and then the formula, and keeps the formula's text.
+fn read_all<R: Read + Drop, S: Read + Drop, O: Watcher>(
+    alloc: Global,
+    aut: R,
+    formula: S,
+    observer: &O,
+) -> Result<Reading, MuError>
+    ensures spelled { (first second : List ℕ) → R.remaining aut ≡ Some first → S.remaining formula ≡ Some second
+        → IfOk result (λ r. AreSpelled first second r.texts.system.system (closed_formula r.texts.formula)) }
+    ensures text { (second : List ℕ) → S.remaining formula ≡ Some second → IfOk result (λ r. r.text.items ≡ second) }
+    ensures refusal { (first second : List ℕ) → R.remaining aut ≡ Some first → S.remaining formula ≡ Some second
+        → (way : Way) (writers : List Lent) → AreKept writers → IfErr result (HasRefused way first second writers) }
+    ensures plain { IfErr result (IsErrorOf BySets) }
+    ensures unread { IfErr result IsUnread }
+{
     observer.sees(Stage::ReadingSystem);
     let system = read_aut(alloc, aut).map_err(MuError::System)?;
     observer.sees(Stage::ReadingFormula);
-    let formula = read_formula(alloc, formula)?;
-    observer.has_read(&system, &formula);
-    Ok(Texts { system, formula })
+    let spelled = read_spelled(alloc, formula)?;
+    observer.has_read(&system, &spelled.formula);
+    let Spelled { formula, text } = spelled;
+    let texts = Texts { system, formula };
+    Ok(Reading { texts, text })
 }
 
 /// Reads a formula. Of a text that is too long no more is read than shows it.
@@ -78,8 +178,34 @@ pub fn read_formula<S: Read + Drop>(alloc: Global, formula: S) -> Result<Closed,
     ensures refusal { (text : List ℕ) → S.remaining formula ≡ Some text → IfErr result (IsReadRefusal text) }
     ensures fault { IfErr result IsReading }
 {
+    match read_spelled(alloc, formula) {
+        Ok(spelled) => Ok(spelled_formula(spelled)),
+        Err(error) => Err(error),
+    }
+}
+
+fn spelled_formula(spelled: Spelled) -> Closed
+    ensures { result ≡ spelled.formula }
+{
+    let Spelled { formula, text: _ } = spelled;
+    formula
+}
+
+/// Reads a formula, and keeps its text.
+fn read_spelled<S: Read + Drop>(alloc: Global, formula: S) -> Result<Spelled, MuError>
+    ensures spelled { IfOk result (λ s. IfSome (S.remaining formula) (λ text. IsFormulaOf text (closed_formula s.formula))) }
+    ensures text { IfOk result (λ s. IfSome (S.remaining formula) (λ text. s.text.items ≡ text)) }
+    ensures refusal { (text : List ℕ) → S.remaining formula ≡ Some text → IfErr result (IsReadRefusal text) }
+    ensures fault { IfErr result IsReading }
+{
     let front = read_front(alloc, formula)?;
-    formula_of(alloc, &front)
+    match formula_of(alloc, &front) {
+        Ok(formula) => Ok(Spelled {
+            formula,
+            text: front,
+        }),
+        Err(error) => Err(error),
+    }
 }
 
 /// The formula that a text spells, of which this is all, or what `read_front` answers of it.

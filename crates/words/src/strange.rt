@@ -41,7 +41,7 @@ impl<'a> Word<'a> {
 
 /// The labels of a system, and the names that they are read as.
 #[derive(Drop)]
-struct Known<'a> {
+pub(crate) struct Known<'a> {
     labels: HashSet<&'a [u8]>,
     names: HashSet<&'a [u8]>,
 }
@@ -59,7 +59,7 @@ impl<'a> Known<'a> {
     }
 
     // Whether the word is among them.
-    fn has(&self, word: Word<'_>) -> bool
+    pub(crate) fn has(&self, word: Word<'_>) -> bool
         ensures { result ≡ knows self.now (term_of word.entry) }
     {
         match word {
@@ -82,7 +82,7 @@ fn add_names<'a>(set: &mut HashSet<&'a [u8]>, names: &'a [Vec<u8>]) -> Result<()
 
 // All labels of a system. A system has fewer of them than a number of a label can tell apart; where it hadn't, there would be no
 // room for them either.
-fn known_in<'a>(alloc: Global, system: &'a Lts) -> Result<Known<'a>, AllocError>
+pub(crate) fn known_in<'a>(alloc: Global, system: &'a Lts) -> Result<Known<'a>, AllocError>
     ensures { IfOk result (λ known. (t : _) → knows known t ≡ is_known system.entry.now.labels t) }
 {
     let mut known = Known {

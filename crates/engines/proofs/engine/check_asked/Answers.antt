@@ -1,8 +1,20 @@
-use Rattle.requests.specs.Check.{BySets}
-use Rattle.engines.proofs.Checks.{alone_of}
+use Rattle.requests.specs.Command.{wanted_in, way_of}
+use Rattle.requests.specs.Writers.{all_writers}
+use Rattle.engines.proofs.Checks.{kept_writers, strictly_answered}
 use Rattle.engines.proofs.engine.check_asked.Goals as goal
 
-pub returns-then-request : goal.returns-then-request
-returns-then-request g c =
-    rw c.if-request.true (λ first second known also. alone_of BySets first second c.args.wanted.report _ _ _ _ _ _ c.check_plain_seen.result
-    (c.check_plain_seen.ensures.checks first second known also))
+pub returns-in-Ok : goal.returns-in-Ok
+returns-in-Ok g c = λ first second known also.
+    strictly_answered c.args.request.now.strict (way_of c.args.request.now) first second _ c.check_read.result
+    (c.check_read.ensures first second (c.in-Ok.ensures.spelled first second known also)) (c.in-Ok.ensures.known first second known also)
+
+pub returns-in-Err : goal.returns-in-Err
+returns-in-Err g c = λ first second known also.
+    let wanted = wanted_in c.args.request.now c.args.wanted in
+    let game = g.G.Write.contents c.args.game.now in
+    let even = g.E.Write.contents c.args.even.now in
+    let odd = g.O.Write.contents c.args.odd.now in
+    let witness = g.V.Write.contents c.args.witness.now in
+    let out = g.W.Write.contents c.args.out.now in
+    c.in-Err.ensures.refusal first second known also (way_of c.args.request.now)
+    (all_writers wanted game game even even odd odd witness witness out out) (kept_writers wanted game even odd witness out)

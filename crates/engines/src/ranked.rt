@@ -1,0 +1,70 @@
+// The states that satisfy a formula, by a ranking of its parity game, which isn't stored.
+
+ghost use Rattle.std.specs.Prelude.{◌≡◌, ◌+◌, ◌*◌, ◌≤◌, ◌↔◌, IfSome, IsTrue, Some, length};
+ghost use Rattle.calculus.specs.Closed.{closed_formula};
+ghost use Rattle.calculus.specs.Meaning.{Marks};
+ghost use Rattle.normal.specs.Normal.{normal_nodes};
+ghost use Rattle.game.specs.declared.limits.TheConstants.{MOST_VERTICES};
+ghost use Rattle.game.specs.Arena.{arena, place};
+ghost use Rattle.game.specs.Wins.{Wins};
+ghost use Rattle.requests.specs.Check.{AreMarks, ByGame};
+
+use calculus::closed::Closed;
+use guess::ranks::columns;
+use laws::{chosen_is_admissible, even_wins_where_meant};
+use lts::system::Lts;
+use normal::form::Normal;
+use normal::make::normal_with;
+use rankings::sheet::Sheet;
+use rankings::winners::root_winners;
+use requests::request::Options;
+use std::alloc::Global;
+use workers::team::BoardKind;
+
+/// The ranking that is guessed, if there is one.
+fn guessed_sheet(alloc: Global, system: &Lts, form: &Normal) -> Option<Sheet> {
+    let guessed = columns(alloc, system, form).ok()??;
+    Sheet::of(guessed.words, guessed.even_shifts, guessed.odd_shifts)
+}
+
+/// A mark for each state, true where Even wins its vertex with the root node, where the ranking that is guessed is good.
+fn guessed_winners(alloc: Global, system: &Lts, form: &Normal) -> Option<Vec<bool>>
+    ensures few { IfSome result (λ _. 2 + system.now.system.states * length (normal_nodes form.now) ≤ MOST_VERTICES) }
+    ensures wins { IfSome result (λ marks. Marks system.now.system.states marks.items
+        (λ s. Wins (arena system.now.system (normal_nodes form.now)) (place (length (normal_nodes form.now)) s 0))) }
+{
+    match guessed_sheet(alloc, system, form) {
+        Some(sheet) => root_winners(alloc, system, form, &sheet),
+        None => None,
+    }
+}
+
+fn is_packed(board: BoardKind) -> bool
+    ensures { IsTrue result ↔ (board ≡ BoardKind.Packed) }
+{
+    board == BoardKind::Packed
+}
+
+/// A mark for each state, true where it satisfies the formula: by a ranking of the game of both that is guessed and found good. There is none where it
+/// isn't good, where a limit is passed, or for want of memory; nor where the packed board is asked for, since what that can hold is known of a game
+/// that is stored.
+pub(crate) fn ranked_marks(
+    alloc: Global,
+    system: &Lts,
+    formula: &Closed,
+    options: &Options,
+) -> Option<Vec<bool>>
+    ensures { let l = system.now.system in let f = closed_formula formula.now in
+        IfSome result (λ marks. AreMarks (ByGame options.now.priorities (Some options.now.board)) l f marks.items) }
+{
+    chosen_is_admissible();
+    even_wins_where_meant();
+    let _states = system.states();
+    if is_packed(options.board) {
+        return None;
+    }
+    match normal_with(alloc, formula, options.priorities) {
+        Ok(form) => guessed_winners(alloc, system, &form),
+        Err(_) => None,
+    }
+}
