@@ -99,8 +99,8 @@ priorities_rule rules = choice_rule (codes "priorities") rules
 
 abbrev pub check_rules : (rules boards answers : Choice) → List Rule
 check_rules rules boards answers =
-    file_rule (codes "SYSTEM") ∷ file_rule (codes "FORMULA") ∷ flag_rule (codes "plain")
-    ∷ (report_rules answers ++ (priorities_rule rules ∷ (lifting_rules boards ++ output_rules)))
+    file_rule (codes "SYSTEM") ∷ file_rule (codes "FORMULA") ∷ flag_rule (codes "plain") ∷ flag_rule (codes "strict")
+    ∷ flag_rule (codes "stats") ∷ (report_rules answers ++ (priorities_rule rules ∷ (lifting_rules boards ++ output_rules)))
 
 abbrev pub why_rules : (rules boards : Choice) → List Rule
 why_rules rules boards = file_rule (codes "SYSTEM") ∷ file_rule (codes "FORMULA") ∷ priorities_rule rules ∷ lifting_rules boards
@@ -113,7 +113,7 @@ abbrev pub normal_rules : (rules : Choice) → List Rule
 normal_rules rules = file_rule (codes "FORMULA") ∷ priorities_rule rules ∷ []
 
 abbrev pub solve_rules : (boards : Choice) → List Rule
-solve_rules boards = file_rule (codes "GAME") ∷ lifting_rules boards
+solve_rules boards = file_rule (codes "GAME") ∷ flag_rule (codes "stats") ∷ lifting_rules boards
 
 abbrev pub verify_rules : List Rule
 verify_rules = file_rule (codes "GAME") ∷ file_rule (codes "EVIDENCE") ∷ new_rule (codes "OTHER") ∷ []
@@ -243,6 +243,7 @@ pub record IsCheck (rows : List Row) (check : CheckRequest) : Type 0 where
   pub formula : IsFile rows (codes "FORMULA") check.formula
   pub options : AreOptions rows check.options
   pub plain : check.plain ≡ stands rows (codes "plain")
+  pub strict : check.strict ≡ stands rows (codes "strict")
 
 pub record IsWhy (rows : List Row) (why : WhyRequest) : Type 0 where
   pub system : IsFile rows (codes "SYSTEM") why.system
@@ -260,6 +261,7 @@ pub record AreOutputs (rows : List Row) (outputs : Outputs) : Type 0 where
   pub evidence : IsFileIfAny rows (codes "evidence") outputs.evidence
   pub witness : IsFileIfAny rows (codes "witness") outputs.witness
   pub report : IsForm rows outputs.report
+  pub stats : outputs.stats ≡ stands rows (codes "stats")
 
 pub record IsNormal (rows : List Row) (form : NormalRequest) : Type 0 where
   pub formula : IsFile rows (codes "FORMULA") form.formula
@@ -268,6 +270,7 @@ pub record IsNormal (rows : List Row) (form : NormalRequest) : Type 0 where
 pub record IsSolve (rows : List Row) (solve : SolveRequest) : Type 0 where
   pub game : IsFile rows (codes "GAME") solve.game
   pub options : AreOptions rows solve.options
+  pub stats : solve.stats ≡ stands rows (codes "stats")
 
 pub record IsVerify (rows : List Row) (verify : VerifyRequest) : Type 0 where
   pub game : IsFile rows (codes "GAME") verify.game

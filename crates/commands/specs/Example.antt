@@ -29,6 +29,17 @@ plain_check : (rules boards answers : Choice)
 unfolding clap_on_literals
 plain_check rules boards answers = refl
 
+-- whether a check is strict
+abbrev strictness_of_check : List Row → Option Text × Bool
+strictness_of_check rows = (first_of (codes "FORMULA") rows, stands rows (codes "strict"))
+
+-- mucheck check a.aut --strict b.mcf
+strict_check : (rules boards answers : Choice)
+    → read_of strictness_of_check rules boards answers (codes "mucheck" ∷ codes "check" ∷ codes "a.aut" ∷ codes "--strict" ∷ codes "b.mcf" ∷ [])
+    ≡ Some (codes "check", (Some (codes "b.mcf"), true))
+unfolding clap_on_literals
+strict_check rules boards answers = refl
+
 -- the files of a check, and its numbers of workers and of shards
 abbrev numbers_of_check : List Row → Option Text × Option Text × ℕ × ℕ
 numbers_of_check rows = (

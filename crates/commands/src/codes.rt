@@ -20,7 +20,7 @@ pub fn entry_of(code: &str) -> Option<&'static Entry>
     ENTRIES.iter().find(|entry| entry.code == code)
 }
 
-static ENTRIES: [Entry; 53] = [
+static ENTRIES: [Entry; 54] = [
     Entry {
         code: "A1",
         place: " at line 1",
@@ -145,6 +145,15 @@ static ENTRIES: [Entry; 53] = [
         place: "",
         wrong: "want of memory while the formula was read",
         remedy: "use a machine with more memory",
+    },
+    Entry {
+        code: "L1",
+        place: " at offset N",
+        wrong: "`--strict` was asked for, and the name or the quoted label there is on no transition \
+        of the system",
+        remedy: "mend its spelling: a name stands for the label that is just this name, or for one \
+        that has it between bars, and a label with parameters wants quotes; where the formula \
+        speaks of what can't happen, leave `--strict` away",
     },
     Entry {
         code: "N1",

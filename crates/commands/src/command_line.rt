@@ -32,7 +32,8 @@ use crate::inputs::read_once;
 use crate::names::keep_files;
 use crate::parser::{
     BOARD, CODE, COMMAND, EVIDENCE, EVIDENCE_FILES, FORMULA, GAME, GAME_FILE, LIMIT, OTHER, PLAIN,
-    PRIORITIES, QUIET, SCHEDULE, SHARDS, STATES, SUMMARY, SYSTEM, WITNESS_FILE, WORKERS, parser,
+    PRIORITIES, QUIET, SCHEDULE, SHARDS, STATES, STATS, STRICT, SUMMARY, SYSTEM, WITNESS_FILE,
+    WORKERS, parser,
 };
 use crate::request::{Command, Normal, Outputs, Replay, Solve, Table, Verify, Why};
 use clap::error::ErrorKind;
@@ -158,6 +159,7 @@ fn check_of<'a>(matches: &ArgMatches<'a>) -> Result<Command<'a>, ArgumentError>
         formula,
         options: options(matches)?,
         plain: has_value(matches, PLAIN, "true"),
+        strict: has_value(matches, STRICT, "true"),
     };
     let outputs = outputs(matches)?;
     if check.plain && !outputs.is_report_alone() {
@@ -177,6 +179,7 @@ fn outputs<'a>(matches: &ArgMatches<'a>) -> Result<Outputs<'a>, ArgumentError>
         evidence: optional_name(matches, EVIDENCE_FILES)?,
         witness: optional_name(matches, WITNESS_FILE)?,
         report: report_form(matches)?,
+        stats: has_value(matches, STATS, "true"),
     })
 }
 
@@ -262,6 +265,7 @@ fn solve_of<'a>(matches: &ArgMatches<'a>) -> Result<Command<'a>, ArgumentError>
     Ok(Command::Solve(Solve {
         game: file_name(matches, GAME)?,
         options: options(matches)?,
+        stats: has_value(matches, STATS, "true"),
     }))
 }
 

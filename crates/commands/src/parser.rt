@@ -53,6 +53,10 @@ pub(crate) const COMMAND: &str = "COMMAND";
 
 pub(crate) const PLAIN: &str = "plain";
 
+pub(crate) const STRICT: &str = "strict";
+
+pub(crate) const STATS: &str = "stats";
+
 pub(crate) const PRIORITIES: &str = "priorities";
 
 pub(crate) const WORKERS: &str = "workers";
@@ -193,6 +197,11 @@ const COMMAND_HELP: &str = "The command whose help is told";
 
 const PLAIN_HELP: &str = "Evaluate the formula over sets of states, without a game";
 
+const STRICT_HELP: &str = "Refuse a formula of which a name or a quoted label is on no transition";
+
+const STATS_HELP: &str =
+    "Tell on standard error how long each stage took, how much there was, and the most memory";
+
 const RULES_HELP: &str = "The rule by which fixpoints get their priorities: nested is the default";
 
 const GAME_FILE_HELP: &str = "Write the parity game to this file, in the format of PGSolver";
@@ -263,7 +272,9 @@ fn check_parser<'a>(
     let parser = described(alloc, "check", CHECK_ABOUT, CHECK_AFTER)
         .arg(file(alloc, SYSTEM, SYSTEM_HELP))?
         .arg(file(alloc, FORMULA, FORMULA_HELP))?
-        .arg(flag(alloc, PLAIN, PLAIN_HELP))?;
+        .arg(flag(alloc, PLAIN, PLAIN_HELP))?
+        .arg(flag(alloc, STRICT, STRICT_HELP))?
+        .arg(flag(alloc, STATS, STATS_HELP))?;
     let parser = with_report(alloc, parser, answers)?.arg(rule(alloc, rules))?;
     with_outputs(alloc, with_workers(alloc, parser, boards)?)
 }
@@ -308,9 +319,9 @@ fn normal_parser<'a>(alloc: Global, rules: &'a [&'a str]) -> Result<Parser<'a>, 
 fn solve_parser<'a>(alloc: Global, boards: &'a [&'a str]) -> Result<Parser<'a>, AllocError>
     ensures { IfOk result (ReadsBy (command_app (codes "solve") (solve_rules boards.entry))) }
 {
-    let parser = described(alloc, "solve", SOLVE_ABOUT, SOLVE_AFTER).arg(file(
-        alloc, GAME, GAME_HELP,
-    ))?;
+    let parser = described(alloc, "solve", SOLVE_ABOUT, SOLVE_AFTER)
+        .arg(file(alloc, GAME, GAME_HELP))?
+        .arg(flag(alloc, STATS, STATS_HELP))?;
     with_workers(alloc, parser, boards)
 }
 

@@ -35,6 +35,8 @@ pub struct Outputs<'a> {
     pub witness: Option<&'a str>,
     /// In which form the report is written.
     pub report: ReportForm,
+    /// Whether standard error tells of each stage.
+    pub stats: bool,
 }
 
 impl Outputs<'_> {
@@ -76,6 +78,8 @@ pub struct Normal<'a> {
 pub struct Solve<'a> {
     pub game: &'a str,
     pub options: Options,
+    /// Whether standard error tells of each stage.
+    pub stats: bool,
 }
 
 /// Whether evidence is good, or two pieces are and decide the whole game.

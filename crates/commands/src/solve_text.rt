@@ -11,10 +11,12 @@ ghost use Rattle.commands.specs.Winners.{AreWinners};
 use crate::winner_text::{guessed_winners, winners, winners_text};
 use game::graph::Game;
 use lts::put;
+use measures::guess::NoGuess;
+use measures::observer::{Observer, Silent, Stage};
 use pgsolver::read_game;
 use requests::error::MuError;
 use requests::request::Options;
-use requests::solver::{require_board, solve_with};
+use requests::solver::{require_board, solve_seen};
 use std::alloc::Global;
 use std::io::{Read, Write};
 use std::sync::{Arc, Wait};
@@ -36,47 +38,81 @@ pub fn solve_text<R: Read + Drop, W: Write, H: Threads + Wait + Clone + Copy + D
 ) -> Result<bool, MuError>
     ensures solves { Solves options.now.board (R.remaining game) (W.contents out.old) (W.contents out.new) result }
 {
+    solve_text_seen(rt, alloc, game, options, out, &Silent)
+}
+
+/// Solves as `solve_text` does, and tells an observer what is being searched, lifted and written.
+///
+/// # Errors
+/// Those of `solve_text`.
+pub fn solve_text_seen<
+    R: Read + Drop,
+    W: Write,
+    O: Observer + Sync,
+    H: Threads + Wait + Clone + Copy + Drop + Send + Sync,
+>(
+    rt: &H,
+    alloc: Global,
+    game: R,
+    options: &Options,
+    out: &mut W,
+    observer: &O,
+) -> Result<bool, MuError>
+    ensures solves { Solves options.now.board (R.remaining game) (W.contents out.old) (W.contents out.new) result }
+{
     match read_game(alloc, game) {
-        Ok(game) => solve_and_write(rt, alloc, game, options, out),
+        Ok(game) => solve_and_write(rt, alloc, game, options, out, observer),
         Err(error) => Err(MuError::Game(error)),
     }
 }
 
 /// Solves the game, and writes who wins each vertex.
-fn solve_and_write<W: Write, H: Threads + Wait + Clone + Copy + Drop + Send + Sync>(
+fn solve_and_write<
+    W: Write,
+    O: Observer + Sync,
+    H: Threads + Wait + Clone + Copy + Drop + Send + Sync,
+>(
     rt: &H,
     alloc: Global,
     game: Game,
     options: &Options,
     out: &mut W,
+    observer: &O,
 ) -> Result<bool, MuError>
     ensures { (text : List ℕ) → IsGameOf text game → Answers options.now.board text (W.contents out.old) (W.contents out.new) result }
 {
     let Ok(game) = Arc::new(alloc, game) else {
         return Err(MuError::Memory);
     };
-    match winners_by(rt, alloc, &game, options) {
-        Ok(marks) => write_winners(alloc, &game, &marks, out),
+    match winners_by(rt, alloc, &game, options, observer) {
+        Ok(marks) => {
+            observer.sees(Stage::Writing);
+            write_winners(alloc, &game, &marks, out)
+        }
         Err(error) => Err(error),
     }
 }
 
 /// Who wins each vertex: by evidence that is guessed and found good, where there is some; else by lifting.
-fn winners_by<H: Threads + Wait + Clone + Copy + Drop + Send + Sync>(
+fn winners_by<O: Observer + Sync, H: Threads + Wait + Clone + Copy + Drop + Send + Sync>(
     rt: &H,
     alloc: Global,
     game: &Arc<Game, Global>,
     options: &Options,
+    observer: &O,
 ) -> Result<Vec<bool>, MuError>
     ensures exact { IfOk result (λ marks. AreWinners (arc_value game.now) marks.items) }
     ensures board { IfOk result (λ _. IsFitting (Some options.now.board) (arc_value game.now)) }
     ensures refusal { IfErr result (IsUnsolved (Some options.now.board) (arc_value game.now)) }
 {
+    observer.sees(Stage::Searching {
+        vertices: game.vertices(),
+    });
     require_board(game, options.board)?;
     if let Some(marks) = guessed_winners(alloc, game) {
         return Ok(marks);
     }
-    match solve_with(rt, alloc, game, options, &NoGate) {
+    match solve_seen(rt, alloc, game, options, &NoGate, observer, &NoGuess) {
         Ok(settled) => winners(alloc, game, &settled),
         Err(error) => Err(error),
     }

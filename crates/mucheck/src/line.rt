@@ -1,5 +1,7 @@
-// What a check tells on standard error while it runs: notes on its formula, and at a terminal a line that says what it is doing.
+// What a check tells on standard error while it runs: notes on its formula, at a terminal a line that says what it is doing, and what it has
+// done where that is asked for.
 
+use crate::stats::{Running, Step, told_texts};
 use calculus::closed::Closed;
 use engines::watch::Watcher;
 use lts::system::Lts;
@@ -133,17 +135,27 @@ pub struct Line<'a, T> {
     handle: &'a T,
     /// None where standard error is no terminal.
     place: Option<Arc<Place, Global>>,
+    /// What goes on; where it is told of stages, None before the first.
+    running: Mutex<Option<Running>>,
+    /// Each stage is told of when it ends.
+    has_stats: bool,
 }
 
 impl<'a, T: Threads + Wait + Clock + Clone + Copy + Drop + Send + Sync + 'static> Line<'a, T> {
     /// A line for a run that begins now.
-    pub fn new(rt: HostRuntime, handle: &'a T) -> Line<'a, T> {
+    pub fn new(rt: HostRuntime, handle: &'a T, has_stats: bool) -> Line<'a, T> {
         let place = if rt.stderr().is_terminal() {
             Arc::new(rt.alloc(), Place::new()).ok()
         } else {
             None
         };
-        Line { rt, handle, place }
+        Line {
+            rt,
+            handle,
+            place,
+            running: Mutex::new(None),
+            has_stats,
+        }
     }
 
     /// The thread that writes the line, where there is one.
@@ -174,14 +186,31 @@ impl<T: Wait> Line<'_, T> {
         match &self.place {
             Some(place) => {
                 let mut screen = place.screen.lock(self.handle);
-                if screen.is_drawn {
-                    screen.is_drawn = false;
-                    self.rt.stderr().write_all(CLEAR)?;
-                }
+                self.clear(&mut screen)?;
                 self.note_all(words)
             }
             None => self.note_all(words),
         }
+    }
+
+    // Writes a text, where the line stood if there is one.
+    fn tell(&self, text: &str) -> io::Result<()> {
+        match &self.place {
+            Some(place) => {
+                let mut screen = place.screen.lock(self.handle);
+                self.clear(&mut screen)?;
+                self.rt.stderr().write_all(text.as_bytes())
+            }
+            None => self.rt.stderr().write_all(text.as_bytes()),
+        }
+    }
+
+    fn clear(&self, screen: &mut Screen) -> io::Result<()> {
+        if screen.is_drawn {
+            screen.is_drawn = false;
+            self.rt.stderr().write_all(CLEAR)?;
+        }
+        Ok(())
     }
 
     fn note_all(&self, words: &[Word<'_>]) -> io::Result<()> {
@@ -208,16 +237,56 @@ impl<T: Wait> Line<'_, T> {
     }
 }
 
-impl<T> Observer for Line<'_, T> {
-    fn sees(&self, stage: Stage) {
-        if let Some(place) = &self.place {
-            place.sees(stage);
+impl<T: Wait + Clock> Line<'_, T> {
+    /// The step begins, or goes on; what went on before has ended.
+    pub fn step(&self, step: Step) {
+        if !self.has_stats {
+            return;
+        }
+        let mut running = self.running.lock(self.handle);
+        *running = match *running {
+            Some(now) if now.goes_on(step) => Some(now.at(step)),
+            before => {
+                self.tell_ended(before);
+                Running::new(self.handle, step)
+            }
+        };
+    }
+
+    /// The last step has ended.
+    pub fn end_steps(&self) {
+        let mut running = self.running.lock(self.handle);
+        self.tell_ended(*running);
+        *running = None;
+    }
+
+    fn tell_ended(&self, ended: Option<Running>) {
+        if let Some(ended) = ended {
+            if let Some(text) = ended.told(self.rt, self.handle) {
+                // Where standard error fails, there is nobody to tell.
+                let _ = self.tell(text.as_str());
+            }
         }
     }
 }
 
-impl<T: Wait> Watcher for Line<'_, T> {
+impl<T: Wait + Clock> Observer for Line<'_, T> {
+    fn sees(&self, stage: Stage) {
+        if let Some(place) = &self.place {
+            place.sees(stage);
+        }
+        self.step(Step::Seen(stage));
+    }
+}
+
+impl<T: Wait + Clock> Watcher for Line<'_, T> {
     fn has_read(&self, system: &Lts, formula: &Closed) {
+        if self.has_stats {
+            self.end_steps();
+            if let Ok(text) = told_texts(self.rt.alloc(), system) {
+                let _ = self.tell(text.as_str());
+            }
+        }
         if let Ok(words) = strange_words(self.rt.alloc(), system, formula) {
             // Where standard error fails, there is nobody to tell.
             let _ = self.note(&words);

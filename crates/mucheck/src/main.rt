@@ -7,6 +7,7 @@ mod input;
 mod line;
 mod refusal;
 mod same;
+mod stats;
 mod table;
 
 use crate::files::Files;
@@ -14,6 +15,7 @@ use crate::input::{Input, open};
 use crate::line::{Line, Output};
 use crate::refusal::{NO_SOURCES, Refusal, Sources, tell};
 use crate::same::keep_apart;
+use crate::stats::Step;
 use crate::table::run_table;
 use commands::command_line::command;
 use commands::information::{explanation, help_text, version_text};
@@ -21,7 +23,7 @@ use commands::names::EvidenceNames;
 use commands::normal_text::normal_text;
 use commands::replay_text::replay_text;
 use commands::request::{Command, Normal, Outputs, Replay, Solve, Verify, Why};
-use commands::solve_text::solve_text;
+use commands::solve_text::solve_text_seen;
 use commands::verify_text::{verify_both_text, verify_text};
 use engines::engine::check_asked;
 use engines::error::{ArgumentError, MuError};
@@ -127,7 +129,7 @@ fn run_check<T: Threads + Wait + Clock + Clone + Copy + Drop + Send + Sync + 'st
     let system = open(rt, request.system)?;
     let formula = open(rt, request.formula)?;
     let files = Files::new(rt, outputs.game, names, outputs.witness);
-    let line = Line::new(*rt, threads);
+    let line = Line::new(*rt, threads, outputs.stats);
     let ticker = line.start();
     let mut out = Output::new(*rt, &line);
     let report = outputs.report;
@@ -135,6 +137,7 @@ fn run_check<T: Threads + Wait + Clock + Clone + Copy + Drop + Send + Sync + 'st
         rt, threads, request, system, formula, &files, report, &mut out, &line,
     );
     line.end();
+    line.end_steps();
     if let Some(ticker) = ticker {
         ticker.join(threads);
     }
@@ -191,15 +194,19 @@ fn run_normal(rt: &HostRuntime, request: &Normal<'_>) -> Result<bool, Refusal> {
     Ok(normal_text(rt.alloc(), formula, request.priorities, out)?)
 }
 
-fn run_solve<T: Threads + Wait + Clone + Copy + Drop + Send + Sync>(
+fn run_solve<T: Threads + Wait + Clock + Clone + Copy + Drop + Send + Sync + 'static>(
     rt: &HostRuntime,
     threads: &T,
     request: &Solve<'_>,
 ) -> Result<bool, Refusal> {
     let game = open(rt, request.game)?;
     let options = &request.options;
+    let line = Line::new(*rt, threads, request.stats);
+    line.step(Step::ReadingGame);
     let out = &mut io::writer(rt);
-    Ok(solve_text(threads, rt.alloc(), game, options, out)?)
+    let answer = solve_text_seen(threads, rt.alloc(), game, options, out, &line);
+    line.end_steps();
+    Ok(answer?)
 }
 
 /// All files are opened, in the order of the command line, before the first is read.

@@ -104,7 +104,7 @@ impl<'a> Sources<'a> {
     fn refused(&self, error: &MuError) -> (Option<&'a str>, Option<&'a str>) {
         match error {
             MuError::System(_) => (self.system, None),
-            MuError::Formula(_) => (self.formula, None),
+            MuError::Formula(_) | MuError::NoLabel { .. } => (self.formula, None),
             MuError::Read => (self.formula, self.schedule),
             MuError::Game(_) => (self.game, None),
             MuError::Evidence(_) => (self.evidence, self.other),

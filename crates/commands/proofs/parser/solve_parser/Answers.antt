@@ -5,5 +5,6 @@ use Rattle.commands.proofs.parser.solve_parser.Goals as goal
 
 pub returns : goal.returns
 returns c =
-    let game = adds_rule _ _ _ _ _ c.in_ok-parser.ensures c.file.ensures c.described.ensures in
-    IfOk-weaker c.with_workers.result _ _ (λ parser adds. adds_rules _ _ _ (lifting_rules c.args.boards) adds game) c.with_workers.ensures
+    let game = adds_rule _ _ _ _ _ c.in_ok-arg.ensures c.file.ensures c.described.ensures in
+    let stats = adds_rule _ _ _ _ _ c.in_ok-parser.ensures c.flag.ensures game in
+    IfOk-weaker c.with_workers.result _ _ (λ parser adds. adds_rules _ _ _ (lifting_rules c.args.boards) adds stats) c.with_workers.ensures
