@@ -66,12 +66,14 @@ fn request_of(alloc: Global, words: &[String]) -> Result<String, AllocError> {
         Ok(Command::Check(check, outputs)) => {
             let options = options_of(alloc, &check.options)?;
             let (system, formula, plain) = (check.system, check.formula, check.plain);
+            let strict = if check.strict { " strict" } else { "" };
             let game = outputs.game.unwrap_or("-");
             let evidence = outputs.evidence.unwrap_or("-");
             let witness = outputs.witness.unwrap_or("-");
             let report = form_of(alloc, outputs.report)?;
+            let stats = if outputs.stats { " stats" } else { "" };
             format!(in alloc;
-                "check {system} {formula} {options} {plain} {game} {evidence} {witness} {report}"
+                "check {system} {formula} {options} {plain} {game} {evidence} {witness} {report}{strict}{stats}"
             )
         }
         Ok(Command::Why(why)) => {
@@ -92,7 +94,8 @@ fn request_of(alloc: Global, words: &[String]) -> Result<String, AllocError> {
         Ok(Command::Solve(solve)) => {
             let options = options_of(alloc, &solve.options)?;
             let game = solve.game;
-            format!(in alloc; "solve {game} {options}")
+            let stats = if solve.stats { " stats" } else { "" };
+            format!(in alloc; "solve {game} {options}{stats}")
         }
         Ok(Command::Verify(verify)) => {
             let (game, evidence) = (verify.game, verify.evidence);
@@ -115,7 +118,7 @@ fn request_of(alloc: Global, words: &[String]) -> Result<String, AllocError> {
 }
 
 /// Lines and what they ask for, with the defaults of the program's description.
-const TAKEN: [(&str, &str); 48] = [
+const TAKEN: [(&str, &str); 52] = [
     (
         "mucheck check - f",
         "check - f nested 1 16 auto false - - - report",
@@ -130,6 +133,19 @@ const TAKEN: [(&str, &str); 48] = [
     ),
     ("mucheck verify g - o", "verify g - o"),
     ("mucheck replay s f -", "replay s f - 2"),
+    (
+        "mucheck check s --strict f",
+        "check s f nested 1 16 auto false - - - report strict",
+    ),
+    (
+        "mucheck check s f --stats",
+        "check s f nested 1 16 auto false - - - report stats",
+    ),
+    ("mucheck solve --stats g", "solve g nested 1 16 auto stats"),
+    (
+        "mucheck check --plain s f --quiet --strict",
+        "check s f nested 1 16 auto true - - - quiet strict",
+    ),
     (
         "mucheck check s f --summary --plain",
         "check s f nested 1 16 auto true - - - summary",
@@ -277,7 +293,7 @@ fn takes_command_lines(rt: HostRuntime) {
     }
 }
 
-const REFUSED: [&str; 78] = [
+const REFUSED: [&str; 81] = [
     "mucheck check - -",
     "mucheck table - f -",
     "mucheck table s - f -",
@@ -300,6 +316,9 @@ const REFUSED: [&str; 78] = [
     "mucheck why s",
     "mucheck why s f g",
     "mucheck why s f --plain",
+    "mucheck normal f --strict",
+    "mucheck why s f --stats",
+    "mucheck check s f --strict=yes",
     "mucheck why s f --witness w",
     "mucheck table",
     "mucheck table s",

@@ -2,6 +2,8 @@
 #![tactic(auto)]
 
 #[cfg(test)]
+mod climbing_workers;
+#[cfg(test)]
 mod command_lines;
 #[cfg(test)]
 mod command_texts;
@@ -27,6 +29,8 @@ mod reports;
 mod shown_checks;
 #[cfg(test)]
 mod stages;
+#[cfg(test)]
+mod strict_checks;
 #[cfg(test)]
 mod table_lines;
 #[cfg(test)]

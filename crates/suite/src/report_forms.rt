@@ -82,6 +82,7 @@ fn reports<R: Threads + Wait + Abort + Clone + Copy + Drop + Send + Sync>(
         formula: "f",
         options: OPTIONS,
         plain,
+        strict: false,
     };
     let (system, formula) = (SYSTEM.as_bytes(), FORMULA.as_bytes());
     let mut out = Vec::new(alloc);

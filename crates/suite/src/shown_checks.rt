@@ -213,6 +213,7 @@ fn sets_of_states_give_the_report_alone(rt: HostRuntime) {
         formula: "formula",
         options: OPTIONS,
         plain: true,
+        strict: false,
     };
     for row in &ROWS {
         let mut writers = Writers::new(rt.alloc());

@@ -4,6 +4,7 @@
 ghost use Rattle.std.specs.Prelude.{◌≡◌, ◌<◌, ◌≤◌, IfOk};
 
 use crate::random_games::{is_same, lifted_alone};
+use calculus::closed::Closed;
 use game::build::build;
 use game::graph::Game;
 use guess::whole::Whole;
@@ -17,8 +18,9 @@ use measures::proposal::Proposal;
 use measures::settle::{is_settled, settle};
 use measures::table::opening;
 use normal::form::Normal;
+use normal::make::normal;
 use samples::dice::Dice;
-use samples::texts::{form_of, system_of};
+use samples::texts::{formula_of, system_of};
 use std::alloc::{AllocError, Global};
 use std::process::Abort;
 use std::thread::Threads;
@@ -149,15 +151,16 @@ fn roll_formula(alloc: Global, dice: &mut Dice) -> Result<String, AllocError> {
     Ok(text)
 }
 
-// A system, the normal form of a formula, and their game.
+/// A system, a formula with its normal form, and their game.
 #[derive(Drop)]
-struct Question {
-    lts: Lts,
-    form: Normal,
-    game: Game,
+pub(crate) struct Question {
+    pub(crate) lts: Lts,
+    pub(crate) formula: Closed,
+    pub(crate) form: Normal,
+    pub(crate) game: Game,
 }
 
-fn roll_question(
+pub(crate) fn roll_question(
     rt: &(impl Abort + AllocGlobal + Threads + Sync),
     dice: &mut Dice,
     states: u32,
@@ -165,11 +168,17 @@ fn roll_question(
     requires { 0 < states }
 {
     let system = roll_system(rt.alloc(), dice, states).expect(rt, "memory");
-    let formula = roll_formula(rt.alloc(), dice).expect(rt, "memory");
+    let text = roll_formula(rt.alloc(), dice).expect(rt, "memory");
     let lts = system_of(rt.alloc(), &system).expect(rt, "a system");
-    let form = form_of(rt.alloc(), &formula).expect(rt, "a formula");
+    let formula = formula_of(rt.alloc(), &text).expect(rt, "a formula");
+    let form = normal(rt.alloc(), &formula).expect(rt, "a normal form");
     let game = build(rt, rt.alloc(), &lts, &form).expect(rt, "a game");
-    Question { lts, form, game }
+    Question {
+        lts,
+        formula,
+        form,
+        game,
+    }
 }
 
 // How a guess ended: how many components the nodes have that were guessed, how many were accepted, and whether nothing was left.
@@ -182,8 +191,13 @@ struct Ended {
 
 // The table that is guessed has to be as lifting leaves it.
 fn ends_alike(rt: &(impl Abort + AllocGlobal), question: &Question) -> Option<Ended> {
-    let Question { lts, form, game } = question;
-    let guess = Whole::of(rt.alloc(), lts, form, game).expect(rt, "memory")?;
+    let Question {
+        lts,
+        form,
+        game,
+        ..
+    } = question;
+    let guess = Whole::of(rt.alloc(), lts, form).expect(rt, "memory")?;
     let mut table = opening(rt.alloc(), game).expect(rt, "memory");
     let accepted = jump_to_guess(rt.alloc(), game, &mut table, &guess).expect(rt, "memory");
     let whole = is_settled(game, &table);
@@ -308,8 +322,13 @@ impl Guess for Wrong<'_> {
 
 // Each fault, at some vertex: the table is as lifting leaves it. The answer is how many faults were refused.
 fn changes_nothing(rt: &(impl Abort + AllocGlobal), question: &Question, vertex: u32) -> u32 {
-    let Question { lts, form, game } = question;
-    let Some(guess) = Whole::of(rt.alloc(), lts, form, game).expect(rt, "memory") else {
+    let Question {
+        lts,
+        form,
+        game,
+        ..
+    } = question;
+    let Some(guess) = Whole::of(rt.alloc(), lts, form).expect(rt, "memory") else {
         return 0;
     };
     let lifted = lifted_alone(rt.alloc(), game).expect(rt, "memory");

@@ -16,6 +16,8 @@ mod games;
 #[cfg(test)]
 mod good_evidence;
 #[cfg(test)]
+mod guessed_columns;
+#[cfg(test)]
 mod guessed_winners;
 #[cfg(test)]
 mod guesses;
@@ -31,6 +33,8 @@ mod progress_measures;
 mod random_games;
 #[cfg(test)]
 mod random_schedules;
+#[cfg(test)]
+mod rankings_by_hand;
 #[cfg(test)]
 mod schedules;
 #[cfg(test)]

@@ -4,6 +4,7 @@ use crate::common::same;
 use samples::texts::{RING, formula_of, repeated, system_of};
 use std::alloc::{AllocError, Global};
 use std::process::Abort;
+use words::absent::first_absent;
 use words::strange::{Word, strange_words};
 
 /// The words, each with its kind, in their order.
@@ -72,4 +73,30 @@ fn no_more_than_ten_are_told(rt: HostRuntime) {
         strange(&rt, RING, long.as_str()).as_str(),
         "name z;",
     );
+}
+
+/// A system, the text of a formula, and where its first word begins that is on no transition.
+const ABSENT: [(&str, &str, Option<usize>); 13] = [
+    (RING, "<a>[b]true", None),
+    (RING, "<c>true", Some(1)),
+    (RING, "<\"c\">true", Some(1)),
+    (RING, "<\"a\">[! \"b \"]true", Some(8)),
+    (RING, "[true* . \"entr(0)\"]<entr>true", Some(9)),
+    (RING, "<tau + a . b|d|c>true", Some(13)),
+    (RING, "mu z. [a]z && <a>nu y. <b>y", None),
+    (RING, "(mu a. <x>a) && (nu b. [y => x]b)", Some(8)),
+    (RING, "% <c>\n<a>% <c>\n[ % c\nc]false", Some(21)),
+    (KINDS, "<b|a>true || <b|c>true || <tau>true", None),
+    (KINDS, "<\"a|b\">true && <\"b|a\">true", Some(16)),
+    (KINDS, "<\"send(1)\">true && <send>true", Some(20)),
+    (KINDS, "<true>[false*]<\"tau\" || \"a\">true", Some(24)),
+];
+
+#[test]
+fn the_first_absent_word_has_its_place(rt: HostRuntime) {
+    for (system, formula, wanted) in &ABSENT {
+        let system = system_of(rt.alloc(), system).expect(&rt, "a system");
+        let found = first_absent(rt.alloc(), &system, formula.as_bytes());
+        assert!(rt; found.expect(&rt, "memory") == *wanted, "{formula}");
+    }
 }

@@ -1,0 +1,118 @@
+// Checks that are strict about the words of their formulas, and the same without. Which words are on no transition was read off the system.
+
+use engines::engine::check_asked;
+use engines::error::MuError;
+use engines::request::{BoardKind, Check, Options, ReportForm, Wanted};
+use measures::observer::Silent;
+use normal::priorities::Priorities;
+use samples::texts::repeated;
+use std::alloc::{AllocError, Global};
+use std::sync::Wait;
+use std::thread::Threads;
+
+const SYSTEM: &str = "des (0,3,2)\n(0,\"a\",1)\n(1,\"b|c\",0)\n(1,\"send(1)\",1)\n";
+
+const OPTIONS: Options = Options {
+    priorities: Priorities::Nested,
+    workers: 1,
+    shards: 16,
+    board: BoardKind::Auto,
+};
+
+const WANTED: Wanted = Wanted {
+    game: true,
+    evidence: true,
+    witness: None,
+    report: ReportForm::Summary,
+};
+
+/// Formulas, what a check of them comes to, and what a strict one does.
+const ROWS: [(&str, &str, &str); 10] = [
+    ("<a>true", "yes", "yes"),
+    ("<b>true", "no", "no"),
+    ("<c>true", "no", "no"),
+    ("<a.(c|b)>true", "yes", "yes"),
+    ("<d>true", "no", "L1 at offset 1"),
+    ("[!\"a \"]false", "no", "L1 at offset 2"),
+    ("<a>nu d. <\"send(1)\">d", "yes", "yes"),
+    ("% x\n<a>[send]false", "yes", "L1 at offset 8"),
+    ("<a> || <d>", "F2 at offset 4", "F2 at offset 4"),
+    ("<d>X", "F5 at offset 3", "F5 at offset 3"),
+];
+
+/// The answer, or the code and its place; and whether something was written.
+fn outcome<R: Threads + Wait + Clone + Copy + Drop + Send + Sync>(
+    rt: &R,
+    alloc: Global,
+    request: &Check<'_>,
+    formula: &str,
+) -> Result<String, AllocError> {
+    let mut out = Vec::new(alloc);
+    let (mut game, mut even) = (Vec::new(alloc), Vec::new(alloc));
+    let (mut odd, mut witness) = (Vec::new(alloc), Vec::new(alloc));
+    let answer = check_asked(
+        rt,
+        alloc,
+        request,
+        WANTED,
+        SYSTEM.as_bytes(),
+        formula.as_bytes(),
+        &mut out,
+        &mut game,
+        &mut even,
+        &mut odd,
+        &mut witness,
+        &Silent,
+    );
+    let written = out.len() + game.len() + even.len() + odd.len();
+    told(alloc, &answer, written)
+}
+
+fn told(
+    alloc: Global,
+    answer: &Result<bool, MuError>,
+    written: usize,
+) -> Result<String, AllocError> {
+    match answer {
+        Ok(_) if written == 0 => String::from_str(alloc, "no report"),
+        Ok(true) => String::from_str(alloc, "yes"),
+        Ok(false) => String::from_str(alloc, "no"),
+        Err(error) if written == 0 => error.to_string(alloc),
+        Err(_) => String::from_str(alloc, "something was written"),
+    }
+}
+
+/// A check, by sets of states or by a game, strict or not.
+fn check(plain: bool, strict: bool) -> Check<'static> {
+    Check {
+        system: "s",
+        formula: "f",
+        options: OPTIONS,
+        plain,
+        strict,
+    }
+}
+
+#[test]
+fn a_strict_check_refuses_the_first_word_on_no_transition(rt: HostRuntime) {
+    for (formula, lax, strict) in &ROWS {
+        for plain in [false, true] {
+            let found = outcome(&rt, rt.alloc(), &check(plain, false), formula);
+            assert!(rt; found.expect(&rt, "memory").as_str() == *lax, "{formula}");
+            let found = outcome(&rt, rt.alloc(), &check(plain, true), formula);
+            assert!(rt;
+                found.expect(&rt, "memory").as_str() == *strict,
+                "{formula}"
+            );
+        }
+    }
+}
+
+#[test]
+fn a_word_is_refused_before_the_normal_form(rt: HostRuntime) {
+    let formula = repeated(rt.alloc(), "<", "(a + d) . ", 13, "a>true").expect(&rt, "memory");
+    let found = outcome(&rt, rt.alloc(), &check(false, false), formula.as_str());
+    assert!(rt; found.expect(&rt, "memory").as_str() == "N1");
+    let found = outcome(&rt, rt.alloc(), &check(false, true), formula.as_str());
+    assert!(rt; found.expect(&rt, "memory").as_str() == "L1 at offset 6");
+}
