@@ -85,10 +85,7 @@ pub(crate) fn game_marks<O: Observer + Sync, H: Threads + Wait + Clone + Copy + 
     ensures { let l = system.now.system in let f = closed_formula formula.now in let way = ByGame options.now.priorities (Some options.now.board) in
         MatchResult result (λ marks. AreMarks way l f marks.items) (IsBeyond way l f) }
 {
-    observer.sees(Stage::Building {
-        states: system.states(),
-    });
-    match ranked_marks(alloc, system, formula, options) {
+    match ranked_marks(alloc, system, formula, options, observer) {
         Some(marks) => Ok(marks),
         None => stored_marks(rt, alloc, system, formula, options, observer),
     }
@@ -109,6 +106,9 @@ fn stored_marks<O: Observer + Sync, H: Threads + Wait + Clone + Copy + Drop + Se
     ensures { let l = system.now.system in let f = closed_formula formula.now in let way = ByGame options.now.priorities (Some options.now.board) in
         MatchResult result (λ marks. AreMarks way l f marks.items) (IsBeyond way l f) }
 {
+    observer.sees(Stage::Building {
+        states: system.states(),
+    });
     match game_of(rt, alloc, system, formula, options.priorities) {
         Ok(game) => match Arc::new(alloc, game) {
             Ok(game) => marks_in(rt, alloc, system, formula, &game, options, observer),

@@ -13,6 +13,7 @@ use calculus::closed::Closed;
 use guess::ranks::columns;
 use laws::{chosen_is_admissible, even_wins_where_meant};
 use lts::system::Lts;
+use measures::observer::{Observer, Stage};
 use normal::form::Normal;
 use normal::make::normal_with;
 use rankings::sheet::Sheet;
@@ -47,24 +48,29 @@ fn is_packed(board: BoardKind) -> bool
 
 /// A mark for each state, true where it satisfies the formula: by a ranking of the game of both that is guessed and found good. There is none where it
 /// isn't good, where a limit is passed, or for want of memory; nor where the packed board is asked for, since what that can hold is known of a game
-/// that is stored.
-pub(crate) fn ranked_marks(
+/// that is stored. An observer is told that winners are searched for.
+pub(crate) fn ranked_marks<O: Observer>(
     alloc: Global,
     system: &Lts,
     formula: &Closed,
     options: &Options,
+    observer: &O,
 ) -> Option<Vec<bool>>
     ensures { let l = system.now.system in let f = closed_formula formula.now in
         IfSome result (λ marks. AreMarks (ByGame options.now.priorities (Some options.now.board)) l f marks.items) }
 {
     chosen_is_admissible();
     even_wins_where_meant();
-    let _states = system.states();
+    let states = system.states();
     if is_packed(options.board) {
         return None;
     }
     match normal_with(alloc, formula, options.priorities) {
-        Ok(form) => guessed_winners(alloc, system, &form),
+        Ok(form) => {
+            let vertices = 2 + states * form.count();
+            observer.sees(Stage::Searching { vertices });
+            guessed_winners(alloc, system, &form)
+        }
         Err(_) => None,
     }
 }
