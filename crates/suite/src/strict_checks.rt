@@ -64,20 +64,20 @@ fn outcome<R: Threads + Wait + Clone + Copy + Drop + Send + Sync>(
         &mut witness,
         &Silent,
     );
-    let written = out.len() + game.len() + even.len() + odd.len();
-    told(alloc, &answer, written)
+    let is_mute = out.is_empty() && game.is_empty() && even.is_empty() && odd.is_empty();
+    told(alloc, &answer, is_mute)
 }
 
 fn told(
     alloc: Global,
     answer: &Result<bool, MuError>,
-    written: usize,
+    is_mute: bool,
 ) -> Result<String, AllocError> {
     match answer {
-        Ok(_) if written == 0 => String::from_str(alloc, "no report"),
+        Ok(_) if is_mute => String::from_str(alloc, "no report"),
         Ok(true) => String::from_str(alloc, "yes"),
         Ok(false) => String::from_str(alloc, "no"),
-        Err(error) if written == 0 => error.to_string(alloc),
+        Err(error) if is_mute => error.to_string(alloc),
         Err(_) => String::from_str(alloc, "something was written"),
     }
 }
