@@ -99,18 +99,15 @@ pub(crate) fn marks_of<'x, 'a>(
             Ok(complement(marks))
         }
         Term::And(left, right) => {
-            let one = marks_of(alloc, lts, left, scope)?;
-            let other = marks_of(alloc, lts, right, scope)?;
+            let (one, other) = marks_of_both(alloc, lts, left, right, scope)?;
             Ok(intersection(one, &other))
         }
         Term::Or(left, right) => {
-            let one = marks_of(alloc, lts, left, scope)?;
-            let other = marks_of(alloc, lts, right, scope)?;
+            let (one, other) = marks_of_both(alloc, lts, left, right, scope)?;
             Ok(union(one, &other))
         }
         Term::Implies(left, right) => {
-            let one = marks_of(alloc, lts, left, scope)?;
-            let other = marks_of(alloc, lts, right, scope)?;
+            let (one, other) = marks_of_both(alloc, lts, left, right, scope)?;
             Ok(union(complement(one), &other))
         }
         Term::Dia(regular, operand) => {
@@ -125,6 +122,26 @@ pub(crate) fn marks_of<'x, 'a>(
         Term::Mu(name, used, body) => iterated(alloc, lts, name, *used, body, scope, false),
         Term::Nu(name, used, body) => iterated(alloc, lts, name, *used, body, scope, true),
     }
+}
+
+/// The states at which each of two formulas holds.
+#[cycle(plain)]
+fn marks_of_both<'x, 'a>(
+    alloc: Global,
+    lts: &Lts,
+    left: &'x Term<'a>,
+    right: &'x Term<'a>,
+    scope: &'x Scope<'x>,
+) -> Result<(Vec<bool>, Vec<bool>), AllocError>
+    requires scope { FitsScope lts.now.system.states scope.now }
+    requires left { IsRight lts.now.system left.now }
+    requires right { IsRight lts.now.system right.now }
+    ensures one { IfOk result (λ found. Marks lts.now.system.states found.0.items (mean lts.now.system (formula_in left.now) (sets_of scope.now))) }
+    ensures other { IfOk result (λ found. Marks lts.now.system.states found.1.items (mean lts.now.system (formula_in right.now) (sets_of scope.now))) }
+{
+    let one = marks_of(alloc, lts, left, scope)?;
+    let other = marks_of(alloc, lts, right, scope)?;
+    Ok((one, other))
 }
 
 /// A mark for each state, true where the formula holds, by sets of states alone (Kozen 1983).

@@ -64,29 +64,27 @@ fn parts_of<'a>(
         State::Var(name) => Ok(Term::Var(name)),
         State::Not(operand) => Ok(Term::Not(boxed(alloc, lts, operand, below)?)),
         State::And(left, right) => {
-            let one = boxed(alloc, lts, left, below)?;
-            Ok(Term::And(one, boxed(alloc, lts, right, below)?))
+            let (one, other) = boxed_both(alloc, lts, left, right, below)?;
+            Ok(Term::And(one, other))
         }
         State::Or(left, right) => {
-            let one = boxed(alloc, lts, left, below)?;
-            Ok(Term::Or(one, boxed(alloc, lts, right, below)?))
+            let (one, other) = boxed_both(alloc, lts, left, right, below)?;
+            Ok(Term::Or(one, other))
         }
         State::Implies(left, right) => {
-            let one = boxed(alloc, lts, left, below)?;
-            Ok(Term::Implies(one, boxed(alloc, lts, right, below)?))
+            let (one, other) = boxed_both(alloc, lts, left, right, below)?;
+            Ok(Term::Implies(one, other))
         }
         State::Dia(regular, operand) => Ok(Term::Dia(regular, boxed(alloc, lts, operand, below)?)),
         State::Box(regular, operand) => Ok(Term::Box(regular, boxed(alloc, lts, operand, below)?)),
-        State::Mu(name, body) => Ok(Term::Mu(
-            name,
-            has_free(body, name),
-            boxed(alloc, lts, body, true)?,
-        )),
-        State::Nu(name, body) => Ok(Term::Nu(
-            name,
-            has_free(body, name),
-            boxed(alloc, lts, body, true)?,
-        )),
+        State::Mu(name, body) => {
+            let used = has_free(body, name);
+            Ok(Term::Mu(name, used, boxed(alloc, lts, body, true)?))
+        }
+        State::Nu(name, body) => {
+            let used = has_free(body, name);
+            Ok(Term::Nu(name, used, boxed(alloc, lts, body, true)?))
+        }
     }
 }
 
@@ -102,4 +100,22 @@ fn boxed<'a>(
     ensures right { IfOk result (λ term. IsRight lts.now.system term.value) }
 {
     Ok(Box::new(alloc, term_of(alloc, lts, formula, below)?)?)
+}
+
+/// The terms of two formulas, each in a box.
+#[cycle(terms)]
+fn boxed_both<'a>(
+    alloc: Global,
+    lts: &Lts,
+    left: &'a State,
+    right: &'a State,
+    below: bool,
+) -> Result<(Box<Term<'a>>, Box<Term<'a>>), AllocError>
+    ensures left { IfOk result (λ terms. formula_in terms.0.value ≡ formula_of left.now) }
+    ensures right { IfOk result (λ terms. formula_in terms.1.value ≡ formula_of right.now) }
+    ensures known { IfOk result (λ terms. IsRight lts.now.system terms.0.value × IsRight lts.now.system terms.1.value) }
+{
+    let one = boxed(alloc, lts, left, below)?;
+    let other = boxed(alloc, lts, right, below)?;
+    Ok((one, other))
 }

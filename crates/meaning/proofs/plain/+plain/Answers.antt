@@ -38,8 +38,8 @@ marks_of-returns-in-Known-clause-marks t c =
     (marks_anywhere l c.states-count.ensures.known f (sets_of c.args.scope.now) c.in-Known.marks.items right.0 right.1))
     c.copied.ensures
 
-pub marks_of-returns-in_ok-other-in-And-clause-marks : goal.marks_of-returns-in_ok-other-in-And-clause-marks
-marks_of-returns-in_ok-other-in-And-clause-marks t c =
+pub marks_of-returns-in_ok-one-in-And-clause-marks : goal.marks_of-returns-in_ok-one-in-And-clause-marks
+marks_of-returns-in_ok-one-in-And-clause-marks t c =
     let l = c.args.lts.now.system in
     let e = sets_of c.args.scope.now in
     let f = formula_in c.deref-in-And.result.now in
@@ -48,10 +48,10 @@ marks_of-returns-in_ok-other-in-And-clause-marks t c =
     made_of l e _ (And f g) _ _
     (ap formula_in c.in-And.is ∙ sym (ap₂ (λ a b. And (formula_in a) (formula_in b)) c.deref-in-And.ensures c.deref-in-And-2.ensures))
     (c.intersection.ensures ∙ ap (λ ms. map (λ (p : Bool × Bool). p.0 && p.1) (zip one ms)) c.deref-in-And-3.ensures.value)
-    (marks_and l.states one c.in_ok-other-in-And.other.items (mean l f e) (mean l g e) c.in_ok-one-in-And.ensures.marks c.in_ok-other-in-And.ensures.marks)
+    (marks_and l.states one c.in_ok-one-in-And.other.items (mean l f e) (mean l g e) c.in_ok-one-in-And.ensures.one c.in_ok-one-in-And.ensures.other)
 
-pub marks_of-returns-in_ok-other-in-Or-clause-marks : goal.marks_of-returns-in_ok-other-in-Or-clause-marks
-marks_of-returns-in_ok-other-in-Or-clause-marks t c =
+pub marks_of-returns-in_ok-one-in-Or-clause-marks : goal.marks_of-returns-in_ok-one-in-Or-clause-marks
+marks_of-returns-in_ok-one-in-Or-clause-marks t c =
     let l = c.args.lts.now.system in
     let e = sets_of c.args.scope.now in
     let f = formula_in c.deref-in-Or.result.now in
@@ -60,10 +60,10 @@ marks_of-returns-in_ok-other-in-Or-clause-marks t c =
     made_of l e _ (Or f g) _ _
     (ap formula_in c.in-Or.is ∙ sym (ap₂ (λ a b. Or (formula_in a) (formula_in b)) c.deref-in-Or.ensures c.deref-in-Or-2.ensures))
     (c.union.ensures ∙ ap (λ ms. map (λ (p : Bool × Bool). p.0 || p.1) (zip one ms)) c.deref-in-Or-3.ensures.value)
-    (marks_or l.states one c.in_ok-other-in-Or.other.items (mean l f e) (mean l g e) c.in_ok-one-in-Or.ensures.marks c.in_ok-other-in-Or.ensures.marks)
+    (marks_or l.states one c.in_ok-one-in-Or.other.items (mean l f e) (mean l g e) c.in_ok-one-in-Or.ensures.one c.in_ok-one-in-Or.ensures.other)
 
-pub marks_of-returns-in_ok-other-in-Implies-clause-marks : goal.marks_of-returns-in_ok-other-in-Implies-clause-marks
-marks_of-returns-in_ok-other-in-Implies-clause-marks t c =
+pub marks_of-returns-in_ok-one-in-Implies-clause-marks : goal.marks_of-returns-in_ok-one-in-Implies-clause-marks
+marks_of-returns-in_ok-one-in-Implies-clause-marks t c =
     let l = c.args.lts.now.system in
     let e = sets_of c.args.scope.now in
     let f = formula_in c.deref-in-Implies.result.now in
@@ -73,8 +73,8 @@ marks_of-returns-in_ok-other-in-Implies-clause-marks t c =
     (ap formula_in c.in-Implies.is ∙ sym (ap₂ (λ a b. Implies (formula_in a) (formula_in b)) c.deref-in-Implies.ensures c.deref-in-Implies-2.ensures))
     (c.union-in-Implies.ensures ∙ ap₂ (λ ns ms. map (λ (p : Bool × Bool). p.0 || p.1)
     (zip ns ms)) c.complement-in-Implies.ensures c.deref-in-Implies-3.ensures.value)
-    (marks_implies l.states one c.in_ok-other-in-Implies.other.items (mean l f e)
-    (mean l g e) c.in_ok-one-in-Implies.ensures.marks c.in_ok-other-in-Implies.ensures.marks)
+    (marks_implies l.states one c.in_ok-one-in-Implies.other.items (mean l f e)
+    (mean l g e) c.in_ok-one-in-Implies.ensures.one c.in_ok-one-in-Implies.ensures.other)
 
 pub marks_of-returns-in_ok-marks-in-Dia-clause-marks : goal.marks_of-returns-in_ok-marks-in-Dia-clause-marks
 marks_of-returns-in_ok-marks-in-Dia-clause-marks t c =

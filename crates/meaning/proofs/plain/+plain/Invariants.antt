@@ -1,4 +1,5 @@
-use Rattle.std.proofs.Common.{IsTrue}
+use Rattle.std.proofs.Common.{◌+◌, ◌*◌, max, IsTrue}
+use Rattle.meaning.specs.declared.term.Term.{size-Term}
 use Rattle.meaning.specs.Term.{formula_in}
 use Rattle.calculus.specs.Meaning.{mean, Marks, iterate, with_set}
 use Rattle.meaning.specs.Scope.{sets_of}
@@ -9,3 +10,12 @@ abbrev pub invariant-iterated-loop-turn : goal.invariant-iterated-loop-turn
 invariant-iterated-loop-turn l =
     Marks l.lts.system.states l.set.items (iterate l.turn (λ set. mean l.lts.system (formula_in l.body) (with_set (sets_of l.scope) l.name.items set))
     (λ s. IsTrue l.from))
+
+abbrev pub decreases-marks_of : goal.decreases-marks_of
+decreases-marks_of l = 2 * size-Term l.term.now
+
+abbrev pub decreases-iterated : goal.decreases-iterated
+decreases-iterated l = 1 + 2 * size-Term l.body.now
+
+abbrev pub decreases-marks_of_both : goal.decreases-marks_of_both
+decreases-marks_of_both l = 1 + 2 * max (size-Term l.left.now) (size-Term l.right.now)
