@@ -15,3 +15,5 @@ pub mod Cut
 pub mod Lines
 pub mod Schedules
 pub mod Decided
+pub mod Bytewise
+pub mod Taking

@@ -28,7 +28,7 @@ Gives number f = (bytes : List ℕ) (n : ℕ) → IsNumeral bytes n → number b
 
 -- ---- a numeral has no space in it
 
-digits_free : (ds : List ℕ) → list_all is_digit ds ≡ true → list_any (λ b. b == 32) ds ≡ false
+pub digits_free : (ds : List ℕ) → list_all is_digit ds ≡ true → list_any (λ b. b == 32) ds ≡ false
 digits_free [] all = refl
 digits_free (d ∷ ds) all =
     let both = and_parts (is_digit d) (list_all is_digit ds) all in

@@ -1,17 +1,16 @@
 -- A text spells one schedule at most, and has one fault at most, but not both; and the lines that were read so far.
 use Rattle.std.proofs.Common.{◌≡◌, ℕ, ◌+◌, ◌<◌, ◌≤◌, List, [], ◌∷◌, ◌++◌, Option, Some, None, Result, Ok, Err, length, refl, sym, ap, ◌∙◌, subst, arith}
 use Rattle.std.proofs.Common.{append-nil, append_assoc}
-use Rattle.std.specs.Prelude.{IfSome, IsSomeAnd}
+use Rattle.std.specs.Prelude.{IfErr, IfOk, IfSome, IsErrAnd, IsSomeAnd}
 use Rattle.std.specs.List.{AllZip}
 use Rattle.std.specs.Global.{Vec}
 use Rattle.std.proofs.lemmas.Slice.Zip.{AllZip-long}
 use Rattle.text.specs.Reads.{Reads}
 use Rattle.text.specs.Text.{pieces_of}
 use Rattle.text.proofs.Promised.{AreLaws, keeps}
-use Rattle.liftcore.specs.Schedule.{HasFault, HasFaultAt, IsEventLine, IsGoodLine, IsSchedule, IsWithin, LineFault, named, vertex_of_event, worker_of_event}
+use Rattle.liftcore.specs.Schedule.{HasFault, HasFaultAt, IsEventLine, IsGoodLine, IsSchedule, IsWithin, LineFault, vertex_of_event, worker_of_event}
+use Rattle.liftcore.specs.Taken.{SoFar}
 use Rattle.liftcore.specs.declared.event.Event.{Event}
-use Rattle.liftcore.specs.declared.error.ScheduleError.{ScheduleError}
-use Rattle.liftcore.specs.declared.error.ScheduleError.TheVariants as errors
 use Rattle.liftcore.specs.declared.error.ScheduleFault.{ScheduleFault}
 use Rattle.liftcore.specs.declared.error.ScheduleFault.TheVariants.{BadLine, NoSuchVertex, NoSuchWorker}
 use Rattle.liftcore.proofs.Lines.{one_event}
@@ -20,8 +19,8 @@ tails : {X : Type 0} (x y : X) (xs ys : List X) → x ∷ xs ≡ y ∷ ys → (x
 tails x y xs ys e = (cc, cc)
 
 module _ (workers vertices : ℕ) where
-  pub one_schedule : (lines : List (List ℕ)) (xs ys : List Event) → AllZip (IsGoodLine workers vertices) lines xs → AllZip (IsGoodLine workers vertices) lines ys
-      → xs ≡ ys
+  pub one_schedule : (lines : List (List ℕ)) (xs ys : List Event) → AllZip (IsGoodLine workers vertices) lines xs
+      → AllZip (IsGoodLine workers vertices) lines ys → xs ≡ ys
   one_schedule [] [] [] h k = refl
   one_schedule [] [] (y ∷ ys) h k = absurd k
   one_schedule [] (x ∷ xs) ys h k = absurd h
@@ -117,13 +116,7 @@ module _ (workers vertices : ℕ) where
     one_fault = λ bytes f h p q. (let e = one_fault bytes f.0 h.0 f.1 h.1 p q in λ i. (e.0 i, e.1 i));
   }
 
-  -- the first lines of a text, which spell these events, where this is left
-  pub record SoFar (text left : List ℕ) (events : List Event) : Type 0 where
-    pub done : List (List ℕ)
-    pub each : AllZip (IsGoodLine workers vertices) done events
-    pub cut : pieces_of text ≡ done ++ pieces_of left
-
-  pub nothing_yet : (text : List ℕ) → SoFar text text []
+  pub nothing_yet : (text : List ℕ) → SoFar workers vertices text text []
   nothing_yet text = record { done = []; each = tt; cut = refl }
 
   pub each_more : (done : List (List ℕ)) (events : List Event) (line : List ℕ) (event : Event) → AllZip (IsGoodLine workers vertices) done events
@@ -134,20 +127,22 @@ module _ (workers vertices : ℕ) where
   each_more (l ∷ done) [] line event each one = absurd each
   each_more (l ∷ done) (x ∷ events) line event each one = (each.0, each_more done events line event each.1 one)
 
-  pub one_more : (text left line rest : List ℕ) (events : List Event) (event : Event) → SoFar text left events → pieces_of left ≡ line ∷ pieces_of rest
+  pub one_more : (text left line rest : List ℕ) (events : List Event) (event : Event) → SoFar workers vertices text left events
+      → pieces_of left ≡ line ∷ pieces_of rest
       → IsEventLine line event → IsWithin workers vertices event
-      → SoFar text rest (events ++ event ∷ [])
+      → SoFar workers vertices text rest (events ++ event ∷ [])
   one_more text left line rest events event so next is within = record {
     done = so.done ++ line ∷ [];
     each = each_more so.done events line event so.each (record { spelled = is; within = within });
     cut = so.cut ∙ (ap (λ l. so.done ++ l) next ∙ sym (append_assoc so.done (line ∷ []) (pieces_of rest)));
   }
 
-  pub whole : (text left : List ℕ) (events : List Event) → SoFar text left events → pieces_of left ≡ [] → IsSchedule workers vertices text events
+  pub whole : (text left : List ℕ) (events : List Event) → SoFar workers vertices text left events → pieces_of left ≡ []
+      → IsSchedule workers vertices text events
   whole text left events so none = subst (λ l. AllZip (IsGoodLine workers vertices) l events)
       (sym (so.cut ∙ (ap (λ l. so.done ++ l) none ∙ append-nil so.done))) so.each
 
-  pub faulty : (text left line rest : List ℕ) (events : List Event) (fault : ScheduleFault) (place : ℕ) → SoFar text left events
+  pub faulty : (text left line rest : List ℕ) (events : List Event) (fault : ScheduleFault) (place : ℕ) → SoFar workers vertices text left events
       → pieces_of left ≡ line ∷ pieces_of rest → LineFault workers vertices line fault
       → place ≡ length events + 1 → HasFault workers vertices text fault place
   faulty text left line rest events fault place so next wrong at = record {
@@ -161,18 +156,19 @@ module _ (workers vertices : ℕ) where
     here = at ∙ ap (λ n. n + 1) (AllZip-long (IsGoodLine workers vertices) so.done events so.each);
   }
 
-  abbrev Promise : List ℕ → Result (Vec Event) ScheduleError → Type 0
-  Promise text r = Reads (IsSchedule workers vertices) (IsSchedule workers vertices) (IsSchedule workers vertices) (HasFaultAt workers vertices)
-      (λ (v : Vec Event). v.items) named (Some text) r
+  -- all that a reader promises
+  pub promised : {E : Type 0} (name : E → Option (ScheduleFault × ℕ)) (old : Option (List ℕ)) (r : Result (Vec Event) E)
+      → IfOk r (λ v. IfSome old (λ text. IsSchedule workers vertices text v.items))
+      → IfErr r (λ e. IfSome old (λ text. IfSome (name e) (HasFaultAt workers vertices text)))
+      → Reads (IsSchedule workers vertices) (IsSchedule workers vertices) (IsSchedule workers vertices) (HasFaultAt workers vertices)
+      (λ (v : Vec Event). v.items) name old r
+  promised name old r spells fault = keeps (IsSchedule workers vertices) (IsSchedule workers vertices) (IsSchedule workers vertices)
+      (HasFaultAt workers vertices) (λ (v : Vec Event). v.items) name laws old r spells fault
 
-  pub answered : (text : List ℕ) (v : Vec Event) → IsSchedule workers vertices text v.items → Promise text (Ok v)
-  answered text v is = keeps (IsSchedule workers vertices) (IsSchedule workers vertices) (IsSchedule workers vertices) (HasFaultAt workers vertices)
-      (λ (v : Vec Event). v.items) named laws (Some text) (Ok v) is tt
-
-  pub refused : (text : List ℕ) (fault : ScheduleFault) (line : ℕ) → HasFault workers vertices text fault line → Promise text (Err (errors.Fault fault line))
-  refused text fault line is = keeps (IsSchedule workers vertices) (IsSchedule workers vertices) (IsSchedule workers vertices) (HasFaultAt workers vertices)
-      (λ (v : Vec Event). v.items) named laws (Some text) (Err (errors.Fault fault line)) tt is
-
-  pub unread : (text : List ℕ) → Promise text (Err errors.Memory)
-  unread text = keeps (IsSchedule workers vertices) (IsSchedule workers vertices) (IsSchedule workers vertices) (HasFaultAt workers vertices)
-      (λ (v : Vec Event). v.items) named laws (Some text) (Err errors.Memory) tt tt
+  pub refused_by : {E : Type 0} (name : E → Option (ScheduleFault × ℕ)) (old : Option (List ℕ)) (r : Result (Vec Event) E) (e : E)
+      → IsErrAnd r (λ x. x ≡ e) → IfSome old (λ text. IfSome (name e) (HasFaultAt workers vertices text))
+      → Reads (IsSchedule workers vertices) (IsSchedule workers vertices) (IsSchedule workers vertices) (HasFaultAt workers vertices)
+      (λ (v : Vec Event). v.items) name old r
+  refused_by name old (Ok v) e is fault = absurd is
+  refused_by name old (Err x) e is fault =
+      promised name old (Err x) tt (subst (λ y. IfSome old (λ text. IfSome (name y) (HasFaultAt workers vertices text))) (sym is) fault)

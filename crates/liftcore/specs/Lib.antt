@@ -7,5 +7,7 @@ pub mod Work
 pub mod Runs
 pub mod Schedule
 pub mod Scan
+pub mod Begun
+pub mod Taken
 pub mod Replay
 pub mod Laws

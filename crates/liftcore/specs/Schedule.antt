@@ -8,6 +8,8 @@ use Rattle.liftcore.specs.declared.error.ScheduleFault.{ScheduleFault}
 use Rattle.liftcore.specs.declared.error.ScheduleFault.TheVariants.{BadLine, NoSuchVertex, NoSuchWorker}
 use Rattle.liftcore.specs.declared.error.ScheduleError.{ScheduleError}
 use Rattle.liftcore.specs.declared.error.ScheduleError.TheVariants.{Fault, Memory}
+use Rattle.liftcore.specs.declared.error.ReadError.{ReadError}
+use Rattle.liftcore.specs.declared.error.ReadError.TheVariants as read
 
 -- the word and the numbers, with one space between two
 abbrev pub IsWords : List ℕ → List ℕ → List ℕ → Type 0
@@ -72,3 +74,8 @@ HasFaultAt workers vertices text told = HasFault workers vertices text told.0 to
 abbrev pub named : ScheduleError → Option (ScheduleFault × ℕ)
 named (Fault fault line) = Some (fault, line)
 named Memory = None
+
+-- the same of an error of a reader: none for a failed read either
+abbrev pub told : ReadError → Option (ScheduleFault × ℕ)
+told (read.Schedule error) = named error
+told (read.Read fault) = None

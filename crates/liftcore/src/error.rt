@@ -2,6 +2,7 @@
 
 use std::alloc::AllocError;
 use text::Memory;
+use text::error::ReadFault;
 use thiserror::Error;
 
 /// Why there is no core. It is shown as its code.
@@ -59,4 +60,37 @@ pub enum ScheduleError {
     /// A growth was refused.
     #[error("S4")]
     Memory,
+}
+
+/// Why a reader gave no schedule.
+#[derive(Clone, Copy, Debug, PartialEq, Eq, Error)]
+pub enum ReadError {
+    /// Its text spells none, or memory for the events was refused.
+    #[error("{0}")]
+    Schedule(ScheduleError),
+    /// A read failed, or memory for the text was refused.
+    #[error("{0}")]
+    Read(ReadFault),
+}
+
+impl From<ScheduleError> for ReadError {
+    ghost use Rattle.std.specs.Prelude.{◌≡◌};
+    ghost use Rattle.liftcore.specs.declared.error.ReadError.TheVariants as errors;
+
+    ghost from_gives = { λ error e. e ≡ errors.Schedule error };
+
+    fn from(error: ScheduleError) -> Self {
+        ReadError::Schedule(error)
+    }
+}
+
+impl From<ReadFault> for ReadError {
+    ghost use Rattle.std.specs.Prelude.{◌≡◌};
+    ghost use Rattle.liftcore.specs.declared.error.ReadError.TheVariants as errors;
+
+    ghost from_gives = { λ fault e. e ≡ errors.Read fault };
+
+    fn from(fault: ReadFault) -> Self {
+        ReadError::Read(fault)
+    }
 }

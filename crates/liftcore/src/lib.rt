@@ -4,6 +4,7 @@
 pub mod error;
 pub mod event;
 pub mod law;
+mod line;
 pub mod machine;
 mod marks;
 pub mod schedule;

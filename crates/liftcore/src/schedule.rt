@@ -1,58 +1,21 @@
 // The reader of schedules.
 
-ghost use Rattle.std.specs.Prelude.{◌≡◌, ◌<◌, ◌≤◌, ◌∷◌, [], IfSome, IsSomeAnd, MatchBool, MatchOption, MatchResult, Some, length};
-ghost use Rattle.liftcore.specs.Scan as at;
-ghost use Rattle.liftcore.specs.Schedule.{HasFaultAt, IsEventLine, IsSchedule, IsWithin, LineFault, named, vertex_of_event, worker_of_event};
+ghost use Rattle.std.specs.Prelude.{◌≡◌, ◌<◌, ◌≤◌, ◌∷◌, [], ℕ, List, IfErr, IfOk, IfSome, IsSomeAnd, MatchBool, MatchResult, OnOk, Some, false};
+ghost use Rattle.text.specs.Lines.{IfKnown};
 ghost use Rattle.text.specs.Reads.{Reads};
 ghost use Rattle.text.specs.Text.{pieces_of};
-ghost use Rattle.text.specs.Tokens.{Finds};
 ghost use Rattle.text.specs.Tokens as token;
+ghost use Rattle.liftcore.specs.Begun.{IsBegun};
+ghost use Rattle.liftcore.specs.Scan as at;
+ghost use Rattle.liftcore.specs.Schedule.{HasFaultAt, IsEventLine, IsSchedule, IsWithin, LineFault, named, told, vertex_of_event, worker_of_event};
+ghost use Rattle.liftcore.specs.Taken.{HasTaken, SoFar, Takes, TakesBlock, Tells, TellsRead};
 
-use crate::error::{ScheduleError, ScheduleFault};
+use crate::error::{ReadError, ScheduleError, ScheduleFault};
 use crate::event::Event;
+use crate::line::Line;
 use std::alloc::Global;
-use text::scan::{cut_at, whole_number};
-
-// The event of a word with a worker and a vertex.
-#[tactic(auto, unfolding(crate::specs::Scan::event_with))]
-fn event_with(word: &[u8], worker: usize, vertex: u32) -> Option<Event>
-    ensures { at.event_with word.now worker vertex ≡ result }
-{
-    if word == b"take".as_slice() {
-        Some(Event::Take { worker, vertex })
-    } else if word == b"read".as_slice() {
-        Some(Event::Read { worker, vertex })
-    } else if word == b"push".as_slice() {
-        Some(Event::Push { worker, vertex })
-    } else {
-        None
-    }
-}
-
-// Two numbers, with a space between them.
-#[tactic(auto, unfolding(crate::specs::Scan::two_numbers))]
-fn two_numbers(bytes: &[u8]) -> Option<(u32, u32)>
-    ensures { at.two_numbers token.whole_number bytes.now ≡ result }
-{
-    let (first, second) = cut_at(bytes, b' ')?;
-    let first = whole_number(first)?;
-    let second = whole_number(second)?;
-    Some((first, second))
-}
-
-// The event that a line spells. A number that is too great for its type is read as the greatest one.
-#[tactic(auto, unfolding(crate::specs::Scan::event_at))]
-fn event_of(line: &[u8]) -> Option<Event>
-    ensures { at.event_at token.whole_number line.now ≡ result }
-{
-    let (word, rest) = cut_at(line, b' ')?;
-    if word == b"raise".as_slice() {
-        let worker = whole_number(rest)? as usize;
-        return Some(Event::Raise { worker });
-    }
-    let (worker, vertex) = two_numbers(rest)?;
-    event_with(word, worker as usize, vertex)
-}
+use std::io::{BufRead, BufReader, ErrorKind, Read};
+use text::error::ReadFault;
 
 fn worker_of(event: Event) -> usize
     ensures { result ≡ worker_of_event event }
@@ -77,11 +40,12 @@ fn is_far(event: Event, vertices: u32) -> bool
     }
 }
 
-// The event of a line, where its worker and its vertex are among so many.
-fn read_line(line: &[u8], workers: u32, vertices: u32) -> Result<Event, ScheduleFault>
-    ensures { MatchResult result (λ event. IsEventLine line.now event × IsWithin workers vertices event) (LineFault workers vertices line.now) }
+// The event of a line, if it has one, where its worker and its vertex are among so many.
+fn judged(event: Option<Event>, workers: u32, vertices: u32) -> Result<Event, ScheduleFault>
+    ensures { (line : List ℕ) → at.event_at token.whole_number line ≡ event
+        → MatchResult result (λ event. IsEventLine line event × IsWithin workers vertices event) (LineFault workers vertices line) }
 {
-    let Some(event) = event_of(line) else {
+    let Some(event) = event else {
         return Err(ScheduleFault::BadLine);
     };
     if worker_of(event) >= workers as usize {
@@ -93,15 +57,91 @@ fn read_line(line: &[u8], workers: u32, vertices: u32) -> Result<Event, Schedule
     Ok(event)
 }
 
-// The first line of a text, and what follows it.
-fn first_line(text: &[u8]) -> Option<(&[u8], &[u8])>
-    ensures line { MatchOption result (pieces_of text.now ≡ []) (λ cut. pieces_of text.now ≡ cut.0.now ∷ pieces_of cut.1.now) }
-    ensures shorter { IfSome result (λ cut. length cut.1.now < length text.now) }
-{
-    match cut_at(text, b'\n') {
-        Some((line, rest)) => Some((line, rest)),
-        None if text.is_empty() => None,
-        None => Some((text, b"")),
+/// What was read of a schedule for so many workers and vertices: the events of whole lines, and the line that has begun.
+#[derive(Drop)]
+pub(crate) struct Intake {
+    pub(crate) events: Vec<Event>,
+    pub(crate) line: Line,
+    pub(crate) workers: u32,
+    pub(crate) vertices: u32,
+}
+
+impl Intake {
+    // Nothing yet.
+    fn new(alloc: Global, workers: u32, vertices: u32) -> Self
+        ensures { (text : List ℕ) → HasTaken workers vertices text text result }
+    {
+        Intake {
+            events: Vec::new(alloc),
+            line: Line::new(),
+            workers,
+            vertices,
+        }
+    }
+
+    // Ends the line.
+    fn end_line(&mut self) -> Result<(), ScheduleError>
+        ensures bounds { (self.new.workers ≡ self.old.workers) × (self.new.vertices ≡ self.old.vertices) }
+        ensures fresh { OnOk result (IsBegun [] self.new.line.word.items self.new.line.part) }
+        ensures event { OnOk result ((line text left rest : List ℕ) → IsBegun line self.old.line.word.items self.old.line.part
+            → SoFar self.old.workers self.old.vertices text left self.old.events.items → pieces_of left ≡ line ∷ pieces_of rest
+            → SoFar self.old.workers self.old.vertices text rest self.new.events.items) }
+        ensures fault { IfErr result (λ e. (line text left rest : List ℕ) → IsBegun line self.old.line.word.items self.old.line.part
+            → SoFar self.old.workers self.old.vertices text left self.old.events.items → pieces_of left ≡ line ∷ pieces_of rest
+            → IfSome (named e) (HasFaultAt self.old.workers self.old.vertices text)) }
+    {
+        match judged(self.line.event(), self.workers, self.vertices) {
+            Ok(event) => {
+                let Ok(()) = self.events.push(event) else {
+                    return Err(ScheduleError::Memory);
+                };
+                self.line = Line::new();
+                Ok(())
+            }
+            Err(fault) => {
+                let line = self.events.len() as u64 + 1;
+                Err(ScheduleError::Fault { fault, line })
+            }
+        }
+    }
+
+    // Takes the byte that is next.
+    fn take(&mut self, byte: u8) -> Result<(), ScheduleError>
+        ensures taken { OnOk result (Takes (byte ∷ []) self.old self.new) }
+        ensures fault { IfErr result (Tells (byte ∷ []) self.old) }
+    {
+        if byte == b'\n' {
+            return self.end_line();
+        }
+        self.line.take(byte);
+        Ok(())
+    }
+
+    // Takes the bytes that are next.
+    fn take_all(&mut self, bytes: &[u8]) -> Result<(), ScheduleError>
+        ensures taken { OnOk result (Takes bytes.now self.old self.new) }
+        ensures fault { IfErr result (Tells bytes.now self.old) }
+    {
+        for byte in bytes {
+            self.take(*byte)?;
+        }
+        Ok(())
+    }
+
+    // The events of all lines, where no byte is left.
+    fn finish(mut self) -> Result<Vec<Event>, ScheduleError>
+        ensures events { IfOk result (λ events. (workers vertices : ℕ) (text : List ℕ) → HasTaken workers vertices text [] self
+            → IsSchedule workers vertices text events.items) }
+        ensures fault { IfErr result (λ e. (workers vertices : ℕ) (text : List ℕ) → HasTaken workers vertices text [] self
+            → IfSome (named e) (HasFaultAt workers vertices text)) }
+    {
+        if self.line.is_empty() {
+            return Ok(self.events);
+        }
+        match self.end_line() {
+            Ok(()) => Ok(self.events),
+            Err(error) => Err(error),
+        }
     }
 }
 
@@ -119,21 +159,62 @@ pub fn read_schedule(
     ensures reads { Reads (IsSchedule workers vertices) (IsSchedule workers vertices) (IsSchedule workers vertices) (HasFaultAt workers vertices)
         (λ v. v.items) named (Some text.now) result }
 {
-    let mut events = Vec::new(alloc);
-    let mut rest = text;
-    while let Some((line, more)) = first_line(rest) {
-        match read_line(line, workers, vertices) {
-            Ok(event) => {
-                let Ok(()) = events.push(event) else {
-                    return Err(ScheduleError::Memory);
-                };
-            }
-            Err(fault) => {
-                let line = events.len() as u64 + 1;
-                return Err(ScheduleError::Fault { fault, line });
-            }
+    let mut intake = Intake::new(alloc, workers, vertices);
+    intake.take_all(text)?;
+    intake.finish()
+}
+
+// Takes the bytes at hand, and says whether there were some, or may be.
+fn take_block<B: BufRead>(reader: &mut B, intake: &mut Intake) -> Result<bool, ReadError>
+    ensures taken { IfOk result (λ more. IfKnown (B.remaining reader.old) (B.remaining reader.new) (TakesBlock intake.old intake.new more)) }
+    ensures fault { IfErr result (TellsRead (B.remaining reader.old) intake.old) }
+{
+    let block = match reader.fill_buf() {
+        Ok(block) => block,
+        Err(error) => {
+            return match error.kind() {
+                ErrorKind::Interrupted => Ok(true),
+                ErrorKind::OutOfMemory => Err(ReadError::Read(ReadFault::Memory)),
+                _ => Err(ReadError::Read(ReadFault::Read)),
+            };
         }
-        rest = more;
+    };
+    let len = block.len();
+    intake.take_all(block)?;
+    reader.consume(len);
+    Ok(len > 0)
+}
+
+// Reads the whole text. A loop has to end, so this one has at most 2^64 turns.
+fn read_text<B: BufRead>(reader: &mut B, mut intake: Intake) -> Result<Vec<Event>, ReadError>
+    ensures events { IfOk result (λ events. IfSome (B.remaining reader.old) (λ left. (workers vertices : ℕ) (text : List ℕ)
+        → HasTaken workers vertices text left intake → IsSchedule workers vertices text events.items)) }
+    ensures fault { IfErr result (TellsRead (B.remaining reader.old) intake) }
+{
+    for _ in 0..u64::MAX {
+        if !take_block(reader, &mut intake)? {
+            return Ok(intake.finish()?);
+        }
     }
-    Ok(events)
+    Err(ReadError::Read(ReadFault::Read))
+}
+
+/// Reads a schedule as [`read_schedule`] does, and keeps no line of its text: of it there is a block of 8,192 bytes, beside the events.
+///
+/// # Errors
+/// Those of [`read_schedule`]. It is also refused where a read fails, or for want of memory for the block.
+pub fn read_schedule_from<R: Read + Drop>(
+    alloc: Global,
+    reader: R,
+    workers: u32,
+    vertices: u32,
+) -> Result<Vec<Event>, ReadError>
+    ensures reads { Reads (IsSchedule workers vertices) (IsSchedule workers vertices) (IsSchedule workers vertices) (HasFaultAt workers vertices)
+        (λ v. v.items) told (R.remaining reader) result }
+{
+    let mut reader = match BufReader::new(alloc, reader) {
+        Ok(reader) => reader,
+        Err(_) => return Err(ReadError::Read(ReadFault::Memory)),
+    };
+    read_text(&mut reader, Intake::new(alloc, workers, vertices))
 }

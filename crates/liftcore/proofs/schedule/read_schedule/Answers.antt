@@ -1,27 +1,26 @@
-use Rattle.std.proofs.Common.{arith, ◌+◌}
-use Rattle.liftcore.proofs.Schedules.{answered, faulty, one_more, refused, whole}
+use Rattle.std.proofs.Common.{Some}
+use Rattle.std.proofs.lemmas.Result.{IfErr-weaker, IfOk-weaker}
+use Rattle.liftcore.specs.Schedule.{named}
+use Rattle.liftcore.proofs.Schedules.{promised, refused_by}
+use Rattle.liftcore.proofs.Taking.{whole_taken, whole_tells}
 use Rattle.liftcore.proofs.schedule.read_schedule.Goals as goal
 
-pub returns-in-Err : goal.returns-in-Err
-returns-in-Err c =
+pub returns-in_err-take_all : goal.returns-in_err-take_all
+returns-in_err-take_all c =
     let text = c.args.text.now in
-    let events = c.loop-line.events.items in
+    let error = c.in_err-take_all.field-0.0 in
     record {
-      reads = refused c.args.workers c.args.vertices text c.in-Err.fault (c.len.result + 1)
-          (faulty c.args.workers c.args.vertices text c.loop-line.rest.now c.in-Some.line.now c.in-Some.more.now events c.in-Err.fault _
-          c.loop-line.invariant c.in-Some.ensures.line c.in-Err.ensures (omega arith));
+      reads = refused_by c.args.workers c.args.vertices named (Some text) c.from_residual.result error c.from_residual.ensures.1
+          (whole_tells c.args.workers c.args.vertices text c.new-intake.result error (c.new-intake.ensures text) c.in_err-take_all.ensures.fault);
     }
-
-pub loop-line-preserved : goal.loop-line-preserved
-loop-line-preserved c =
-    rw c.in-Ok-push.ensures.items
-    (one_more c.args.workers c.args.vertices c.args.text.now c.loop-line.rest.now c.in-Some.line.now c.in-Some.more.now c.loop-line.events.items
-    c.in-Ok.event c.loop-line.invariant c.in-Some.ensures.line c.in-Ok.ensures.0 c.in-Ok.ensures.1)
 
 pub returns : goal.returns
 returns c =
     let text = c.args.text.now in
+    let begins = c.new-intake.ensures text in
+    let all = whole_taken c.args.workers c.args.vertices text c.new-intake.result c.take_all.new.self begins c.in_ok-take_all.ensures.taken in
     record {
-      reads = answered c.args.workers c.args.vertices text c.loop-line.events
-          (whole c.args.workers c.args.vertices text c.loop-line.rest.now c.loop-line.events.items c.loop-line.invariant c.in_default.ensures.line);
+      reads = promised c.args.workers c.args.vertices named (Some text) c.finish.result
+          (IfOk-weaker c.finish.result _ _ (λ v is. is c.args.workers c.args.vertices text all) c.finish.ensures.events)
+          (IfErr-weaker c.finish.result _ _ (λ e is. is c.args.workers c.args.vertices text all) c.finish.ensures.fault);
     }
