@@ -30,3 +30,4 @@ pub mod Shortened
 pub mod Lifted
 pub mod Shortening
 pub mod Taking
+pub mod Spanned

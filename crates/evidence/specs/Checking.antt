@@ -1,5 +1,5 @@
 -- What a checker finds at one vertex.
-use Rattle.std.specs.Prelude.{◌≡◌, ℕ, ◌<◌, ◌≤◌, ◌⊎◌, ◌↔◌, List, length, Contains, IsTrue, Option, Some, None}
+use Rattle.std.specs.Prelude.{◌≡◌, ℕ, ◌+◌, ◌*◌, ◌<◌, ◌≤◌, ◌⊎◌, ◌↔◌, List, length, Contains, IsTrue, Option, Some, None}
 use Rattle.game.specs.Game.{Game, Vertex, vertex}
 use Rattle.game.specs.Wins.{WinsBy}
 use Rattle.progress.specs.Laws.{IsLeastSuccessor}
@@ -39,6 +39,14 @@ IsFaultAt g e u (Some fault) = (x : Entry) × (v : Vertex) × (entry_at e u ≡ 
 abbrev pub IsLeftOver : Game → Evidence → Evidence → Option ℕ → Type 0
 IsLeftOver g e f None = (v : ℕ) → v < length g.vertices → IsTrue (has e v) ⊎ IsTrue (has f v)
 IsLeftOver g e f (Some v) = (v < length g.vertices) × IsLeftOut e f v × ((u : ℕ) → u < v → IsTrue (has e u) ⊎ IsTrue (has f u))
+
+-- A vertex is in one of the two, and no fault stands there in either.
+abbrev pub IsSoundAt : Game → Evidence → Evidence → ℕ → Type 0
+IsSoundAt g e f v = (IsTrue (has e v) ⊎ IsTrue (has f v)) × ((fault : Fault) → IsFreeAt g e v fault) × ((fault : Fault) → IsFreeAt g f v fault)
+
+-- So are all vertices of a span, where spans have so many each.
+abbrev pub IsSoundSpan : Game → Evidence → Evidence → (size span : ℕ) → Type 0
+IsSoundSpan g e f size span = (v : ℕ) → span * size ≤ v → v < span * size + size → v < length g.vertices → IsSoundAt g e f v
 
 -- Each holds exactly the vertices that its player wins, and none is in both.
 abbrev pub Decides : Game → Evidence → Evidence → Type 0

@@ -11,6 +11,7 @@ pub mod make;
 pub mod reader;
 mod scan;
 mod short;
+pub mod spans;
 pub mod verdict;
 pub mod verify;
 pub mod writer;

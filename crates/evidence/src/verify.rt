@@ -110,7 +110,8 @@ fn fault_along(evidence: &Evidence, priority: u8, rank: &[u32], targets: &[u32])
     }
 }
 
-fn is_same(player: Player, other: Player) -> bool
+// Whether two players are one.
+pub(crate) fn is_same(player: Player, other: Player) -> bool
     ensures { IsTrue result ↔ (player ≡ other) }
 {
     player == other
@@ -155,7 +156,7 @@ fn fault_without(game: &Game, evidence: &Evidence, v: u32, rank: &[u32]) -> Opti
 }
 
 // The least fault at a vertex, if one stands there.
-fn fault_at(game: &Game, evidence: &Evidence, v: u32) -> Option<Fault>
+pub(crate) fn fault_at(game: &Game, evidence: &Evidence, v: u32) -> Option<Fault>
     requires same { evidence.now.game ≡ game.now }
     requires vertex { v < length game.now.vertices }
     ensures { IsFaultAt game.now evidence.now.evidence v result }
