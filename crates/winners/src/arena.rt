@@ -1,17 +1,17 @@
 // A game's vertices and edges.
 
+use crate::before::Before;
 use game::graph::Game;
 use game::player::Player;
-use game::predecessors::Predecessors;
 
 // One more than the greatest priority of a game.
-const PRIORITIES: u8 = 33;
+pub(crate) const PRIORITIES: usize = 33;
 
 /// A game with its edges in both directions. A number that is no vertex has no edges.
 #[derive(Clone, Copy)]
 pub(crate) struct Arena<'g> {
     pub(crate) game: &'g Game,
-    pub(crate) before: &'g Predecessors,
+    pub(crate) before: &'g Before,
 }
 
 impl<'g> Arena<'g> {
@@ -50,7 +50,8 @@ impl<'g> Arena<'g> {
     }
 }
 
-pub(crate) fn owner(game: &Game, v: u32) -> Player {
+/// Who owns a vertex.
+pub fn owner(game: &Game, v: u32) -> Player {
     if v < game.vertices() {
         game.owner(v)
     } else {
@@ -58,7 +59,8 @@ pub(crate) fn owner(game: &Game, v: u32) -> Player {
     }
 }
 
-pub(crate) fn priority(game: &Game, v: u32) -> u8 {
+/// Its priority.
+pub fn priority(game: &Game, v: u32) -> u8 {
     if v < game.vertices() {
         game.priority(v)
     } else {
@@ -66,7 +68,8 @@ pub(crate) fn priority(game: &Game, v: u32) -> u8 {
     }
 }
 
-pub(crate) fn successors(game: &Game, v: u32) -> &[u32] {
+/// Where it leads. A number that is no vertex leads nowhere.
+pub fn successors(game: &Game, v: u32) -> &[u32] {
     if v < game.vertices() {
         game.successors(v)
     } else {
@@ -75,7 +78,7 @@ pub(crate) fn successors(game: &Game, v: u32) -> &[u32] {
 }
 
 /// The player that wins where this priority is the greatest that is met again and again.
-pub(crate) fn winner_by(priority: u8) -> Player {
+pub fn winner_by(priority: u8) -> Player {
     if priority % 2 == 0 {
         Player::Even
     } else {
@@ -93,21 +96,10 @@ pub(crate) fn opponent(player: Player) -> Player {
 /// The greatest priority of a vertex.
 pub(crate) fn greatest(game: &Game) -> u8 {
     let mut greatest = 0;
-    for priority in 0..PRIORITIES {
+    for priority in 0..PRIORITIES as u8 {
         if game.count(u32::from(priority)) > 0 {
             greatest = priority;
         }
     }
     greatest
-}
-
-/// How many priorities there are.
-pub(crate) fn priorities(game: &Game) -> usize {
-    let mut count = 0_usize;
-    for priority in 0..PRIORITIES {
-        if game.count(u32::from(priority)) > 0 {
-            count = count.saturating_add(1);
-        }
-    }
-    count
 }

@@ -1,5 +1,6 @@
 // What is known of each vertex.
 
+use crate::arena::Arena;
 use crate::numbers::Numbers;
 use game::player::Player;
 use std::alloc::{AllocError, Global};
@@ -74,35 +75,59 @@ impl Regions {
 #[derive(Clone, Copy, PartialEq, Eq)]
 pub(crate) struct Stamp(u32);
 
-// What stands at a vertex: together, since one look-up then fetches all.
+/// What stands at a vertex: together, since one look-up then fetches all.
 #[derive(Clone, Copy)]
-struct Cell {
-    region: Region,
-    next: u32,
+pub(crate) struct Cell {
+    pub(crate) region: Region,
     // How many successors keep the vertex from the other player, if they were counted at the time of the stamp.
     left: u32,
     stamp: Stamp,
+    pub(crate) owner: Player,
+    pub(crate) priority: u8,
+}
+
+impl Cell {
+    /// How many successors are left, where they were counted at this time.
+    pub(crate) fn left(self, stamp: Stamp) -> Option<u32> {
+        if self.stamp == stamp {
+            Some(self.left)
+        } else {
+            None
+        }
+    }
 }
 
 // What is known of a vertex that was not looked at.
 const BLANK: Cell = Cell {
     region: Region::UNSEEN,
-    next: NONE,
     left: 0,
     stamp: Stamp(0),
+    owner: Player::Even,
+    priority: 0,
 };
 
 /// What is known of each vertex.
 #[derive(Drop)]
 pub(crate) struct Cells {
     cells: Vec<Cell>,
+    moves: Numbers,
     last: u32,
 }
 
 impl Cells {
-    pub(crate) fn new(alloc: Global, vertices: u32) -> Result<Self, AllocError> {
+    pub(crate) fn new(alloc: Global, arena: Arena) -> Result<Self, AllocError> {
+        let vertices = arena.vertices();
+        let mut cells = Vec::with_capacity(alloc, vertices as usize)?;
+        for v in 0..vertices {
+            cells.push(Cell {
+                owner: arena.owner(v),
+                priority: arena.priority(v),
+                ..BLANK
+            })?;
+        }
         Ok(Cells {
-            cells: vec![in alloc; BLANK; vertices as usize]?,
+            cells,
+            moves: Numbers::filled(alloc, vertices as usize, NONE)?,
             last: 0,
         })
     }
@@ -129,7 +154,7 @@ impl Cells {
         Stamp(self.fresh())
     }
 
-    fn get(&self, v: u32) -> Cell {
+    pub(crate) fn get(&self, v: u32) -> Cell {
         self.cells.get(v as usize).copied().unwrap_or(BLANK)
     }
 
@@ -145,23 +170,14 @@ impl Cells {
 
     /// The move at a vertex, or `NONE`.
     pub(crate) fn next(&self, v: u32) -> u32 {
-        self.get(v).next
+        match self.moves.only(v) {
+            [next] => *next,
+            _ => NONE,
+        }
     }
 
     pub(crate) fn set_next(&mut self, v: u32, next: u32) {
-        if let Some(cell) = self.cells.get_mut(v as usize) {
-            cell.next = next;
-        }
-    }
-
-    /// How many successors are left, where they were counted at this time.
-    pub(crate) fn left(&self, v: u32, stamp: Stamp) -> Option<u32> {
-        let cell = self.get(v);
-        if cell.stamp == stamp {
-            Some(cell.left)
-        } else {
-            None
-        }
+        self.moves.set(v as usize, next);
     }
 
     pub(crate) fn set_left(&mut self, v: u32, stamp: Stamp, left: u32) {

@@ -52,7 +52,7 @@ impl Claim {
 pub(crate) struct Core {
     part: Numbers,
     tops: Numbers,
-    /// What has still to be decided of it as a game of its own.
+    /// What has last been decided of it as a game of its own, or nothing where that is all of the rest.
     pub(crate) rest: Numbers,
     pub(crate) claim: Claim,
     gone: usize,
@@ -60,6 +60,15 @@ pub(crate) struct Core {
 }
 
 impl Core {
+    // What has been decided as a game of its own, and other vertices that are not in its regions.
+    fn decided(&self) -> &[u32] {
+        if self.rest.is_empty() {
+            self.part.as_slice()
+        } else {
+            self.rest.as_slice()
+        }
+    }
+
     /// Whether half of the part has gone to the other player.
     pub(crate) fn is_halved(&self) -> bool {
         self.part.len().saturating_sub(self.gone) <= self.gone
@@ -70,7 +79,7 @@ impl Field<'_> {
     fn tops_of(&self, part: &[u32]) -> Tops {
         let (mut even, mut odd) = (0_u8, 0_u8);
         for v in part {
-            let priority = self.arena.priority(*v);
+            let priority = self.cells.get(*v).priority;
             let above = priority.saturating_add(1);
             match winner_by(priority) {
                 Player::Even => even = above.max(even),
@@ -90,13 +99,13 @@ impl Field<'_> {
         }
     }
 
-    /// Draws what the player of the greatest priorities can force to them. The rest has to be decided.
+    /// Draws what the player of the greatest priorities can force to them. The rest, which comes beside the claim, has to be decided.
     pub(crate) fn begin(
         &mut self,
         part: Numbers,
         region: Region,
         won: Regions,
-    ) -> Result<Core, AllocError> {
+    ) -> Result<(Core, Numbers), AllocError> {
         self.meter.count_all(part.len());
         let tops = self.tops_of(part.as_slice());
         let near = self.cells.fresh_region();
@@ -108,21 +117,22 @@ impl Field<'_> {
             inner: self.cells.fresh_regions(),
             since: self.cells.fresh_stamp(),
         };
-        Ok(Core {
+        let core = Core {
             part,
             tops: top,
-            rest,
+            rest: Numbers::none(self.alloc),
             claim,
             gone: 0,
             won,
-        })
+        };
+        Ok((core, rest))
     }
 
     // The vertices of the greatest priorities. They are marked, and have no move as yet.
     fn mark_tops(&mut self, part: &[u32], tops: Tops, near: Region) -> Result<Numbers, AllocError> {
         let mut found = Numbers::none(self.alloc);
         for v in part {
-            if tops.has(self.arena.priority(*v)) {
+            if tops.has(self.cells.get(*v).priority) {
                 self.cells.set_region(*v, near);
                 self.cells.set_next(*v, NONE);
                 found.push(*v)?;
@@ -159,7 +169,7 @@ impl Field<'_> {
     pub(crate) fn lost(&self, core: &Core) -> Result<Numbers, AllocError> {
         let claim = core.claim;
         let theirs = claim.inner.of(opponent(claim.player()));
-        self.those_in(core.rest.as_slice(), theirs)
+        self.those_in(core.decided(), theirs)
     }
 
     /// Gives to the other player what it wins, with all that it can force there, which is added.
@@ -213,7 +223,8 @@ impl Field<'_> {
     fn choose_at_tops(&mut self, core: &Core) {
         let claim = core.claim;
         for v in core.tops.as_slice() {
-            if self.arena.owner(*v) == claim.player() && self.cells.region(*v) == claim.near {
+            let cell = self.cells.get(*v);
+            if cell.owner == claim.player() && cell.region == claim.near {
                 let next = self.held_next(*v, claim);
                 self.cells.set_next(*v, next);
             }

@@ -1,7 +1,7 @@
 // Attractors: what the players can force to vertices that are theirs.
 
 use crate::arena::Arena;
-use crate::cells::{Cells, Region, Regions, Stamp};
+use crate::cells::{Cell, Cells, Region, Regions, Stamp};
 use crate::meter::Meter;
 use crate::numbers::Numbers;
 use game::player::Player;
@@ -40,7 +40,7 @@ impl<'g> Field<'g> {
         Ok(Field {
             alloc,
             arena,
-            cells: Cells::new(alloc, arena.vertices())?,
+            cells: Cells::new(alloc, arena)?,
             meter,
             times: Numbers::filled(alloc, arena.vertices() as usize, 0)?,
             clock: 0,
@@ -89,7 +89,8 @@ impl<'g> Field<'g> {
         let before = self.arena.predecessors(v);
         self.meter.count(before.len());
         for u in before {
-            if spread.over.has(self.cells.region(*u)) && self.falls(*u, v, player, spread) {
+            let cell = self.cells.get(*u);
+            if spread.over.has(cell.region) && self.falls(*u, cell, v, player, spread) {
                 self.cells.set_region(*u, spread.marks.of(player));
                 queue.push(*u)?;
                 self.todo.push(*u)?;
@@ -99,12 +100,12 @@ impl<'g> Field<'g> {
     }
 
     // Whether a vertex falls to the player that has a successor of it.
-    fn falls(&mut self, u: u32, v: u32, player: Player, spread: Spread) -> bool {
-        if self.arena.owner(u) == player {
+    fn falls(&mut self, u: u32, cell: Cell, v: u32, player: Player, spread: Spread) -> bool {
+        if cell.owner == player {
             self.cells.set_next(u, v);
             return true;
         }
-        let left = match self.cells.left(u, spread.since) {
+        let left = match cell.left(spread.since) {
             Some(left) => left,
             None => self.count(u, spread),
         };

@@ -1,21 +1,22 @@
 // A guess of who wins each vertex, with reasons.
 
-use crate::arena::{Arena, greatest, priorities};
+use crate::arena::{Arena, greatest};
+use crate::before::Before;
 use crate::justify::Justification;
-use crate::meter::Meter;
+use crate::meter::{Meter, first_looks};
+use crate::numbers::Numbers;
 use crate::order::order_of;
 use crate::ranks::Ranks;
 use crate::recursion::Recursion;
-use crate::strong::Strong;
 use crate::winning::Winners;
 use game::graph::Game;
 use game::player::Player;
-use game::predecessors::Predecessors;
 use std::alloc::{AllocError, Global};
+use std::thread::{Threads, join};
 use text::Memory;
 
-// With so few priorities justifications are tried first: they are fast then.
-const FEW: usize = 4;
+// A game with fewer vertices is one thread's work.
+const LEAST_SHARED: u32 = 65_536;
 
 /// Who wins each vertex, the winner's moves, and ranks that fall along them, as they are guessed. Nothing is promised of them.
 #[derive(Drop)]
@@ -47,17 +48,59 @@ impl Guessed {
 /// # Errors
 /// Want of memory, and nothing else.
 pub fn guess_winners(alloc: Global, game: &Game) -> Result<Option<Guessed>, Memory> {
-    let Some(winners) = find_winners(alloc, game)? else {
+    let before = Before::of(alloc, game)?;
+    let Some(winners) = find_winners(alloc, game, before)? else {
         return Ok(None);
     };
-    let Some(ranks) = find_ranks(alloc, game, &winners)? else {
+    let even = order_of(alloc, game, &winners, Player::Even)?;
+    let odd = order_of(alloc, game, &winners, Player::Odd)?;
+    Ok(with_orders(alloc, game, winners, even, odd)?)
+}
+
+/// The same by so many threads, where the game is large.
+///
+/// # Errors
+/// Want of memory, and nothing else.
+pub fn guess_winners_by<R: Threads + Sync>(
+    rt: &R,
+    alloc: Global,
+    game: &Game,
+    workers: usize,
+) -> Result<Option<Guessed>, Memory> {
+    if workers < 2 || game.vertices() < LEAST_SHARED {
+        return guess_winners(alloc, game);
+    }
+    let before = Before::of_by(rt, alloc, game, workers)?;
+    let Some(winners) = find_winners(alloc, game, before)? else {
         return Ok(None);
     };
+    let (even, odd) = join(
+        rt,
+        || order_of(alloc, game, &winners, Player::Even),
+        || order_of(alloc, game, &winners, Player::Odd),
+    );
+    let (even, odd) = (even?, odd?);
+    Ok(with_orders(alloc, game, winners, even, odd)?)
+}
+
+// What is guessed, with ranks by the orders of what both win. `None` where the moves of one don't win.
+fn with_orders(
+    alloc: Global,
+    game: &Game,
+    winners: Winners,
+    even: Option<Numbers>,
+    odd: Option<Numbers>,
+) -> Result<Option<Guessed>, AllocError> {
+    let (Some(even), Some(odd)) = (even, odd) else {
+        return Ok(None);
+    };
+    let mut ranks = Ranks::zeros(alloc, game.vertices(), greatest(game))?;
+    ranks.fill(alloc, game, even.as_slice(), Player::Even)?;
+    ranks.fill(alloc, game, odd.as_slice(), Player::Odd)?;
     Ok(Some(Guessed { winners, ranks }))
 }
 
-fn find_winners(alloc: Global, game: &Game) -> Result<Option<Winners>, AllocError> {
-    let before = Predecessors::of(alloc, game)?;
+fn find_winners(alloc: Global, game: &Game, before: Before) -> Result<Option<Winners>, AllocError> {
     let arena = Arena {
         game,
         before: &before,
@@ -71,23 +114,8 @@ fn find_winners(alloc: Global, game: &Game) -> Result<Option<Winners>, AllocErro
     }
 }
 
-// A first try with few priorities.
+// A first try by justifications: on most games that are not random they look at each vertex about twice.
 fn find_first(alloc: Global, arena: Arena) -> Result<Option<Winners>, AllocError> {
-    if priorities(arena.game) > FEW {
-        return Ok(None);
-    }
-    Justification::new(alloc, arena, Meter::first(arena.size()))?.find()
-}
-
-// Ranks of both players. `None` where the moves of one don't win.
-fn find_ranks(alloc: Global, game: &Game, winners: &Winners) -> Result<Option<Ranks>, AllocError> {
-    let mut strong = Strong::new(alloc, game.vertices())?;
-    let mut ranks = Ranks::zeros(alloc, game.vertices(), greatest(game))?;
-    for player in [Player::Even, Player::Odd] {
-        match order_of(alloc, game, winners, player, &mut strong)? {
-            Some(order) => ranks.fill(alloc, game, order.as_slice(), player)?,
-            None => return Ok(None),
-        }
-    }
-    Ok(Some(ranks))
+    let looks = first_looks(alloc, arena)?;
+    Justification::new(alloc, arena, Meter::first())?.find_within(looks.as_slice())
 }

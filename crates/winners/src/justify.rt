@@ -9,7 +9,7 @@ use crate::arena::{Arena, opponent, winner_by};
 use crate::cells::NONE;
 use crate::meter::Meter;
 use crate::numbers::Numbers;
-use crate::standings::{Standings, State};
+use crate::standings::{Standing, Standings, State};
 use crate::winning::Winners;
 use game::player::Player;
 use std::alloc::{AllocError, Global};
@@ -46,14 +46,25 @@ impl<'g> Justification<'g> {
     }
 
     /// Decides who wins. `None` where the budget was spent.
-    pub(crate) fn find(mut self) -> Result<Option<Winners>, AllocError> {
-        let mut priority = 0_u8;
+    pub(crate) fn find(self) -> Result<Option<Winners>, AllocError> {
+        self.find_within(&[])
+    }
+
+    /// The same, where the budget grows by so many looks as a priority is come to for the first time.
+    pub(crate) fn find_within(mut self, more: &[u64]) -> Result<Option<Winners>, AllocError> {
+        let greatest = self.arena.greatest();
+        let (mut priority, mut reached) = (0_u8, 0_u8);
         for _ in 0..u64::MAX {
             if self.meter.is_spent() {
                 return Ok(None);
             }
-            if priority > self.arena.greatest() {
+            if priority > greatest {
                 break;
+            }
+            if priority >= reached {
+                self.meter
+                    .allow(more.get(usize::from(priority)).copied().unwrap_or(0));
+                reached = priority.saturating_add(1);
             }
             let turned = self.look(priority)?;
             if turned.is_empty() {
@@ -91,10 +102,10 @@ impl<'g> Justification<'g> {
     }
 
     fn look_at(&mut self, v: u32, priority: u8, turned: &mut Numbers) -> Result<(), AllocError> {
-        if self.standings.state(v) != State::Open {
+        let Standing { state, owner, .. } = self.standings.get(v);
+        if state != State::Open {
             return Ok(());
         }
-        let owner = self.arena.owner(v);
         let next = self.next_of(v, owner);
         self.moves.set(v as usize, next.unwrap_or(NONE));
         let player = match next {
@@ -160,29 +171,30 @@ impl<'g> Justification<'g> {
         let before = self.arena.predecessors(shaken.v);
         self.meter.count(before.len());
         for u in before {
-            let priority = self.arena.priority(*u);
-            let state = self.standings.state(*u);
-            if state == State::Justified && self.rests(*u, shaken.v) {
-                list.push(self.favour(*u, priority))?;
-            } else if state != State::Calm || !shaken.is_other {
+            let standing = self.standings.get(*u);
+            if standing.state == State::Justified && self.rests(*u, standing, shaken.v) {
+                list.push(self.favour(*u, standing))?;
+            } else if standing.state != State::Calm || !shaken.is_other {
                 continue;
             }
-            self.standings.open(*u, priority)?;
-            least = priority.min(least);
+            self.standings.open(*u, standing.priority)?;
+            least = standing.priority.min(least);
         }
         Ok(least)
     }
 
     // Whether a justified vertex has its reason by this successor.
-    fn rests(&self, u: u32, v: u32) -> bool {
-        self.standings.player(u) != self.arena.owner(u) || self.moves.get(u as usize) == v
+    fn rests(&self, u: u32, standing: Standing, v: u32) -> bool {
+        standing.player != standing.owner || self.moves.get(u as usize) == v
     }
 
     // Gives a vertex back to the player that its priority favours.
-    fn favour(&mut self, v: u32, priority: u8) -> Shaken {
-        let favoured = winner_by(priority);
-        let is_other = self.standings.player(v) != favoured;
+    fn favour(&mut self, v: u32, standing: Standing) -> Shaken {
+        let favoured = winner_by(standing.priority);
         self.standings.set_player(v, favoured);
-        Shaken { v, is_other }
+        Shaken {
+            v,
+            is_other: standing.player != favoured,
+        }
     }
 }

@@ -1,14 +1,15 @@
 // Who wins each vertex of a parity game, as it is guessed. Nothing rests on it but time: what is guessed has to be tested.
 #![tactic(auto)]
 
-mod arena;
+pub mod arena;
+mod before;
 mod cells;
 mod claim;
 mod field;
 pub mod guess;
 mod justify;
 mod meter;
-mod numbers;
+pub mod numbers;
 mod order;
 mod parts;
 mod ranks;
@@ -16,5 +17,5 @@ mod recursion;
 mod repair;
 mod settle;
 mod standings;
-mod strong;
+pub mod strong;
 mod winning;

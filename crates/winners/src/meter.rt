@@ -1,18 +1,31 @@
-// How long a search may take.
+// How long a search may take, in vertices and edges that are looked at.
 
-// How many vertices and edges are looked at: this many, and so many times those of the game.
+use crate::arena::{Arena, PRIORITIES};
+use std::alloc::{AllocError, Global};
+
+// How many looks there may be: this many, and so many times those that see the game once.
 const LEAST_BUDGET: u64 = 67_108_864;
 
 const TIMES: u64 = 300;
 
-// The same for a first try.
-const FIRST_TIMES: u64 = 6;
+// After so many times the game's size a search has taken long.
+const LATE_TIMES: u64 = 8;
 
-/// How many vertices and edges have been looked at, and how many may be.
+// A first try may look along an edge to a vertex that lies near so often, and once at all else.
+const NEAR_TIMES: u64 = 12;
+
+// Vertices of which no more than so many lie between lie near each other, so that a look from one to the other takes little time.
+const NEAR: u32 = 4_096;
+
+// A first try may always look so often.
+const LEAST_FIRST: u64 = 65_536;
+
+/// How many looks there have been, and how many there may be.
 #[derive(Drop)]
 pub(crate) struct Meter {
     looks: u64,
     budget: u64,
+    late: u64,
 }
 
 impl Meter {
@@ -21,15 +34,22 @@ impl Meter {
         Meter {
             looks: 0,
             budget: size.saturating_mul(TIMES).saturating_add(LEAST_BUDGET),
+            late: size.saturating_mul(LATE_TIMES),
         }
     }
 
     /// The same for a first try, which has to end soon.
-    pub(crate) fn first(size: u64) -> Self {
+    pub(crate) fn first() -> Self {
         Meter {
             looks: 0,
-            budget: size.saturating_mul(FIRST_TIMES),
+            budget: LEAST_FIRST,
+            late: LEAST_FIRST,
         }
+    }
+
+    /// More looks are allowed.
+    pub(crate) fn allow(&mut self, looks: u64) {
+        self.budget = self.budget.saturating_add(looks);
     }
 
     /// A vertex has been looked at, with so many edges.
@@ -46,4 +66,33 @@ impl Meter {
     pub(crate) fn is_spent(&self) -> bool {
         self.looks > self.budget
     }
+
+    /// Whether the search has taken long.
+    pub(crate) fn is_late(&self) -> bool {
+        self.looks > self.late
+    }
+}
+
+/// For each priority how many looks at its vertices a first try may take.
+pub(crate) fn first_looks(alloc: Global, arena: Arena) -> Result<Vec<u64>, AllocError> {
+    let mut looks = vec![in alloc; 0_u64; PRIORITIES]?;
+    for v in 0..arena.vertices() {
+        if let Some(sum) = looks.get_mut(usize::from(arena.priority(v))) {
+            *sum = sum.saturating_add(looks_at(arena, v));
+        }
+    }
+    Ok(looks)
+}
+
+fn looks_at(arena: Arena, v: u32) -> u64 {
+    let mut looks = 1_u64;
+    for t in arena.successors(v) {
+        let more = if v.abs_diff(*t) <= NEAR {
+            NEAR_TIMES
+        } else {
+            1
+        };
+        looks = looks.saturating_add(more);
+    }
+    looks
 }

@@ -72,18 +72,18 @@ pub(crate) fn order_of<'a>(
     game: &'a Game,
     winners: &'a Winners,
     player: Player,
-    strong: &mut Strong,
 ) -> Result<Option<Numbers>, AllocError> {
     let chosen = Chosen {
         game,
         winners,
         player,
     };
+    let mut strong = Strong::new(alloc, game.vertices())?;
     let mut refining = Refining::new(alloc, chosen)?;
     for _ in 0..u64::MAX {
         match refining.segments.pop() {
             Some(segment) => {
-                if !refining.refine(segment, strong)? {
+                if !refining.refine(segment, &mut strong)? {
                     return Ok(None);
                 }
             }

@@ -1,17 +1,19 @@
-// Components that wait to be decided.
+// Parts of a game that wait to be decided.
 
 use crate::cells::Regions;
 use crate::numbers::{Numbers, Span};
 use std::alloc::{AllocError, Global};
 use std::mem;
 
-/// Components of a game, each after those to which it leads.
+/// Parts of a game, each after those to which it leads.
 #[derive(Drop)]
 pub(crate) struct Parts {
     alloc: Global,
     list: Numbers,
     ends: Numbers,
     next: usize,
+    /// Whether nothing that was decided around them decides any of their vertices.
+    pub(crate) is_alone: bool,
     /// Where what each player wins of them belongs.
     pub(crate) won: Regions,
 }
@@ -23,18 +25,26 @@ impl Parts {
             list,
             ends,
             next: 0,
+            is_alone: false,
             won,
         }
     }
 
-    /// A part as if it were one component.
+    /// One part.
     pub(crate) fn one(alloc: Global, part: Numbers, won: Regions) -> Result<Self, AllocError> {
         let end = u32::try_from(part.len()).unwrap_or(u32::MAX);
         let ends = Numbers::copied(alloc, &[end])?;
         Ok(Parts::new(alloc, part, ends, won))
     }
 
-    /// How many components there are.
+    /// One part of which nothing that was decided around it decides any vertex.
+    pub(crate) fn alone(alloc: Global, part: Numbers, won: Regions) -> Result<Self, AllocError> {
+        let mut parts = Parts::one(alloc, part, won)?;
+        parts.is_alone = true;
+        Ok(parts)
+    }
+
+    /// How many parts there are.
     pub(crate) fn len(&self) -> usize {
         self.ends.len()
     }
@@ -44,7 +54,7 @@ impl Parts {
         self.list
     }
 
-    /// Goes on to the next component, and tells where it stands.
+    /// Goes on to the next part, and tells where it stands.
     pub(crate) fn advance(&mut self) -> Option<Span> {
         if self.next >= self.ends.len() {
             return None;
@@ -62,7 +72,7 @@ impl Parts {
         self.list.slice(span)
     }
 
-    /// The vertices of a component. If it is the only one they are taken away.
+    /// The vertices of a part. If it is the only one they are taken away.
     pub(crate) fn take(&mut self, span: Span) -> Result<Numbers, AllocError> {
         if span.len() == self.list.len() {
             Ok(mem::replace(&mut self.list, Numbers::none(self.alloc)))

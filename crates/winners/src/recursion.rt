@@ -1,5 +1,6 @@
-// Who wins each vertex: by recursion on the greatest priority (Zielonka 1998) in strong components, with claims that are repaired
-// where the layers of a part fall one by one. What it still has to do stands in a list.
+// Who wins each vertex: by recursion on the greatest priority (Zielonka 1998), with claims that are repaired where the layers of a
+// part fall one by one. Strong components, which cost as much as the rest, are looked for only where it takes long. What it still
+// has to do stands in a list.
 
 use crate::arena::Arena;
 use crate::cells::{Region, Regions};
@@ -21,8 +22,8 @@ impl Edges for Arena<'_> {
 // What a recursion still has to do.
 #[derive(Drop)]
 enum Task {
-    // To decide components, one after another.
-    Components(Parts),
+    // To decide parts, one after another.
+    Parts(Parts),
     // To look at who wins the rest of a part.
     Rest(Core),
 }
@@ -68,8 +69,8 @@ impl<'g> Recursion<'g> {
                 rest.push(v)?;
             }
         }
-        let parts = self.components(rest, won)?;
-        self.push(Task::Components(parts))
+        let parts = self.split(rest, won)?;
+        self.push(Task::Parts(parts))
     }
 
     fn push(&mut self, task: Task) -> Result<(), AllocError> {
@@ -79,12 +80,16 @@ impl<'g> Recursion<'g> {
 
     fn go_on(&mut self, task: Task) -> Result<(), AllocError> {
         match task {
-            Task::Components(parts) => self.decide_next(parts),
+            Task::Parts(parts) => self.decide_next(parts),
             Task::Rest(core) => self.conclude(core),
         }
     }
 
-    fn components(&mut self, mut list: Numbers, won: Regions) -> Result<Parts, AllocError> {
+    // The components of what the decided vertices around decide nothing of, or the whole of it where the search hasn't taken long.
+    fn split(&mut self, mut list: Numbers, won: Regions) -> Result<Parts, AllocError> {
+        if !self.field.meter.is_late() {
+            return Parts::alone(self.field.alloc, list, won);
+        }
         let span = Span {
             from: 0,
             to: list.len(),
@@ -100,8 +105,9 @@ impl<'g> Recursion<'g> {
             Some(span) => {
                 let part = parts.take(span)?;
                 let won = parts.won;
-                self.push(Task::Components(parts))?;
-                self.decide(part, won)
+                let is_alone = parts.is_alone;
+                self.push(Task::Parts(parts))?;
+                self.decide(part, won, is_alone)
             }
             None => Ok(()),
         }
@@ -121,9 +127,12 @@ impl<'g> Recursion<'g> {
     }
 
     // Looks for components anew only where half was decided at once.
-    fn decide(&mut self, part: Numbers, won: Regions) -> Result<(), AllocError> {
+    fn decide(&mut self, part: Numbers, won: Regions, is_alone: bool) -> Result<(), AllocError> {
         let region = self.field.cells.fresh_region();
         self.field.cells.mark_all(part.as_slice(), region);
+        if is_alone {
+            return self.claim(part, region, won);
+        }
         let half = part.len() / 2;
         let left = self.field.settle(part, region, won)?;
         if left.is_empty() {
@@ -132,21 +141,20 @@ impl<'g> Recursion<'g> {
         if left.len() > half {
             return self.claim(left, region, won);
         }
-        let parts = self.components(left, won)?;
+        let parts = self.split(left, won)?;
         if parts.len() > 1 {
-            self.push(Task::Components(parts))
+            self.push(Task::Parts(parts))
         } else {
             self.claim(parts.into_list(), region, won)
         }
     }
 
     fn claim(&mut self, part: Numbers, region: Region, won: Regions) -> Result<(), AllocError> {
-        let core = self.field.begin(part, region, won)?;
-        let rest = Numbers::copied(self.field.alloc, core.rest.as_slice())?;
+        let (core, rest) = self.field.begin(part, region, won)?;
         let inner = core.claim.inner;
         self.push(Task::Rest(core))?;
-        let parts = self.components(rest, inner)?;
-        self.push(Task::Components(parts))
+        let parts = self.split(rest, inner)?;
+        self.push(Task::Parts(parts))
     }
 
     // Where the other player wins some of the rest, it wins what can be forced there, and the claim is repaired.
@@ -159,8 +167,8 @@ impl<'g> Recursion<'g> {
         self.field.take_lost(&mut core, &mut lost)?;
         if core.is_halved() {
             let left = self.field.left(&core)?;
-            let parts = self.components(left, core.won)?;
-            return self.push(Task::Components(parts));
+            let parts = self.split(left, core.won)?;
+            return self.push(Task::Parts(parts));
         }
         core.rest = self.field.repair(&lost, core.claim)?;
         self.decide_rest(core)
@@ -171,7 +179,7 @@ impl<'g> Recursion<'g> {
         let rest = Numbers::copied(alloc, core.rest.as_slice())?;
         let parts = Parts::one(alloc, rest, core.claim.inner)?;
         self.push(Task::Rest(core))?;
-        self.push(Task::Components(parts))
+        self.push(Task::Parts(parts))
     }
 
     fn winners(&self, won: Regions) -> Result<Winners, AllocError> {

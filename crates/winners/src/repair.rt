@@ -45,7 +45,7 @@ impl Field<'_> {
         let before = self.arena.predecessors(v);
         self.meter.count(before.len());
         for u in before {
-            if self.arena.owner(*u) == claim.player() && self.cells.next(*u) == v {
+            if self.cells.get(*u).owner == claim.player() && self.cells.next(*u) == v {
                 if self.cells.region(*u) == claim.calm() {
                     shaken.push(*u)?;
                 } else if self.is_drawn(*u, claim) && !self.is_turned(*u, v, claim) {
@@ -59,7 +59,8 @@ impl Field<'_> {
 
     // Whether a vertex was drawn to the greatest priorities, of which it is none.
     fn is_drawn(&self, u: u32, claim: Claim) -> bool {
-        self.cells.region(u) == claim.near && !claim.tops.has(self.arena.priority(u))
+        let cell = self.cells.get(u);
+        cell.region == claim.near && !claim.tops.has(cell.priority)
     }
 
     // Lets a vertex go on to another that was drawn before it, and so doesn't rest on it. What is gone stays so: successors
@@ -108,7 +109,7 @@ impl Field<'_> {
         let before = self.arena.predecessors(v);
         self.meter.count(before.len());
         for u in before {
-            let rests = self.arena.owner(*u) != claim.player() || self.cells.next(*u) == v;
+            let rests = self.cells.get(*u).owner != claim.player() || self.cells.next(*u) == v;
             if rests && self.is_drawn(*u, claim) {
                 self.cells.set_region(*u, shaking.limbo);
                 off.push(*u)?;
@@ -147,7 +148,7 @@ impl Field<'_> {
     fn is_held(&mut self, u: u32, shaking: Shaking) -> bool {
         let successors = self.arena.successors(u);
         self.meter.count(successors.len());
-        if self.arena.owner(u) != shaking.claim.player() {
+        if self.cells.get(u).owner != shaking.claim.player() {
             return !self.has_way_out(successors, shaking);
         }
         for t in successors {

@@ -122,7 +122,7 @@ impl Field<'_> {
     }
 
     fn outlook(&mut self, v: u32, region: Region, won: Regions) -> Outlook {
-        let win = won.of(self.arena.owner(v));
+        let win = won.of(self.cells.get(v).owner);
         let successors = self.arena.successors(v);
         self.meter.count(successors.len());
         let mut outlook = Outlook {
@@ -142,7 +142,7 @@ impl Field<'_> {
     // A vertex that is decided is its owner's where there is a move.
     fn mark_decided(&mut self, decided: &[u32], marks: Regions) {
         for v in decided {
-            let owner = self.arena.owner(*v);
+            let owner = self.cells.get(*v).owner;
             let winner = if self.cells.next(*v) == NONE {
                 opponent(owner)
             } else {

@@ -15,16 +15,21 @@ pub(crate) enum State {
     Justified,
 }
 
+/// What stands at a vertex: together, since one look-up then fetches all.
 #[derive(Clone, Copy)]
-struct Standing {
-    player: Player,
-    state: State,
+pub(crate) struct Standing {
+    pub(crate) player: Player,
+    pub(crate) state: State,
+    pub(crate) owner: Player,
+    pub(crate) priority: u8,
 }
 
 // That of what is no vertex.
 const NOBODY: Standing = Standing {
     player: Player::Even,
     state: State::Justified,
+    owner: Player::Even,
+    priority: 0,
 };
 
 // The vertices of a priority that are open and calm, and others.
@@ -53,13 +58,15 @@ impl Standings {
             standings.list.push(Standing {
                 player: winner_by(priority),
                 state: State::Open,
+                owner: arena.owner(v),
+                priority,
             })?;
             standings.open(v, priority)?;
         }
         Ok(standings)
     }
 
-    fn get(&self, v: u32) -> Standing {
+    pub(crate) fn get(&self, v: u32) -> Standing {
         self.list.get(v as usize).copied().unwrap_or(NOBODY)
     }
 

@@ -11,7 +11,8 @@ const CLOSED: u32 = u32::MAX;
 const UNMET: u32 = 0;
 
 /// The edges of a graph.
-pub(crate) trait Edges {
+pub trait Edges {
+    /// Where they lead from a vertex.
     fn after(&self, v: u32) -> &[u32];
 }
 
@@ -25,7 +26,7 @@ struct Call {
 
 /// The memory to find strong components.
 #[derive(Drop)]
-pub(crate) struct Strong {
+pub struct Strong {
     // The least number of a vertex without a component that is known to be reached.
     low: Numbers,
     path: Vec<Call>,
@@ -36,7 +37,11 @@ pub(crate) struct Strong {
 }
 
 impl Strong {
-    pub(crate) fn new(alloc: Global, vertices: u32) -> Result<Self, AllocError> {
+    /// For graphs of so many vertices.
+    ///
+    /// # Errors
+    /// Want of memory, and nothing else.
+    pub fn new(alloc: Global, vertices: u32) -> Result<Self, AllocError> {
         Ok(Strong {
             low: Numbers::filled(alloc, vertices as usize, CLOSED)?,
             path: Vec::new(alloc),
@@ -48,7 +53,10 @@ impl Strong {
 
     /// Sorts the vertices between two places of a list by components, each after those to which it leads. The answer is where they
     /// end, counted from the first place on.
-    pub(crate) fn sort<E: Edges>(
+    ///
+    /// # Errors
+    /// Want of memory, and nothing else.
+    pub fn sort<E: Edges>(
         &mut self,
         alloc: Global,
         edges: &E,
