@@ -1,1 +1,2 @@
 pub mod Marked
+mod Whole

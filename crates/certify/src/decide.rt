@@ -1,57 +1,28 @@
-// Who wins each vertex of a game, by a guess of which a checker accepts evidence of both players.
+// Who wins each vertex of a game, and evidence of it, by a guess of which a checker accepts evidence of both players.
 
-ghost use Rattle.std.specs.Prelude.{◌≡◌, ◌<◌, IfOk, IfSome, IsTrue, length};
+ghost use Rattle.std.specs.Prelude.{◌≡◌, ◌<◌, ◌≤◌, IfOk, IfSome, IsTrue, length};
 ghost use Rattle.calculus.specs.Meaning.{Marks};
+ghost use Rattle.certify.specs.Full.{IsFull};
+ghost use Rattle.certify.specs.Pair.{AreFull, AreOf};
 ghost use Rattle.game.specs.Wins.{Wins};
-ghost use Rattle.evidence.specs.Evidence.{counted, has};
+ghost use Rattle.evidence.specs.Evidence.{has};
+ghost use Rattle.evidence.specs.Laws.{IsSmall};
 
-use evidence::draft::Draft;
+use crate::guessed::guessed_pair;
+use crate::pair::EvidencePair;
+use crate::small::is_small;
 use evidence::evidence::Evidence;
+use evidence::law::canon_spells;
 use evidence::verdict::Both;
 use evidence::verify::check_both;
 use game::graph::Game;
-use game::player::Player;
 use std::alloc::{AllocError, Global};
-use text::Memory;
-use winners::guess::{Guessed, guess_winners};
 
-// Puts what is guessed of a vertex into the evidence of its winner. A move to no vertex of the game is left out.
-fn put_guessed(game: &Game, guessed: &Guessed, draft: &mut Draft, v: u32, rank: &mut [u32])
-    requires same { draft.old.game ≡ game.now }
-    requires vertex { v < length game.now.vertices }
-    requires rank { length rank.old ≡ length (counted draft.old.evidence.player draft.old.game) }
-    ensures same { draft.new.game ≡ game.now }
-    ensures player { draft.new.evidence.player ≡ draft.old.evidence.player }
-    ensures rank { length rank.new ≡ length rank.old }
-{
-    guessed.put_rank(v, rank);
-    let vertices = game.vertices();
-    let next = guessed.next(v).filter(|next| *next < vertices);
-    draft.put(v, next, rank);
-}
-
-// Evidence of all that a player is guessed to win.
-fn evidence_of(
-    alloc: Global,
-    game: &Game,
-    guessed: &Guessed,
-    player: Player,
-) -> Result<Evidence, Memory>
-    ensures game { IfOk result (λ e. e.game ≡ game.now) }
-    ensures player { IfOk result (λ e. e.evidence.player ≡ player) }
-{
-    let mut draft = Draft::new(alloc, game, player)?;
-    let mut rank = vec![in alloc; 0; draft.width()]?;
-    for v in 0..game.vertices() {
-        if guessed.winner(v) == player {
-            put_guessed(game, guessed, &mut draft, v, rank.as_mut_slice());
-        }
-    }
-    Ok(draft.into_evidence())
-}
-
-// A mark for each vertex that Even's evidence has.
-fn marks_of(alloc: Global, game: &Game, even: &Evidence) -> Result<Vec<bool>, AllocError>
+/// A mark for each vertex that Even's evidence has.
+///
+/// # Errors
+/// Want of memory.
+pub fn set_marks(alloc: Global, game: &Game, even: &Evidence) -> Result<Vec<bool>, AllocError>
     requires same { even.now.game ≡ game.now }
     ensures { IfOk result (λ marks. Marks (length game.now.vertices) marks.items (λ v. IsTrue (has even.now.evidence v))) }
 {
@@ -64,14 +35,12 @@ fn marks_of(alloc: Global, game: &Game, even: &Evidence) -> Result<Vec<bool>, Al
 }
 
 // The marks of the vertices that Even's evidence has, where the checker accepts it beside Odd's, and no vertex is left out.
-fn checked_marks(alloc: Global, game: &Game, even: &Evidence, odd: &Evidence) -> Option<Vec<bool>>
-    requires same { even.now.game ≡ game.now }
-    requires other { odd.now.game ≡ game.now }
-    requires player { even.now.evidence.player ≡ Player.Even }
+fn checked_marks(alloc: Global, game: &Game, pair: &EvidencePair) -> Option<Vec<bool>>
+    requires { AreOf game.now pair.now }
     ensures { IfSome result (λ marks. Marks (length game.now.vertices) marks.items (Wins game.now)) }
 {
-    match check_both(game, even, odd) {
-        Both::Yes => match marks_of(alloc, game, even) {
+    match check_both(game, &pair.even, &pair.odd) {
+        Both::Yes => match set_marks(alloc, game, &pair.even) {
             Ok(marks) => Some(marks),
             Err(AllocError) => None,
         },
@@ -84,8 +53,42 @@ fn checked_marks(alloc: Global, game: &Game, even: &Evidence, odd: &Evidence) ->
 pub fn certified_winners(alloc: Global, game: &Game) -> Option<Vec<bool>>
     ensures { IfSome result (λ marks. Marks (length game.now.vertices) marks.items (Wins game.now)) }
 {
-    let guessed = guess_winners(alloc, game).ok()??;
-    let even = evidence_of(alloc, game, &guessed, Player::Even).ok()?;
-    let odd = evidence_of(alloc, game, &guessed, Player::Odd).ok()?;
-    checked_marks(alloc, game, &even, &odd)
+    let pair = guessed_pair(alloc, game)?;
+    checked_marks(alloc, game, &pair)
+}
+
+// The same pair, where the checker accepts it, no vertex is left out, and its texts can be read again.
+fn checked_pair(game: &Game, pair: EvidencePair) -> Option<EvidencePair>
+    requires { AreOf game.now pair }
+    ensures { IfSome result (AreFull game.now) }
+{
+    canon_spells();
+    game.known();
+    pair.even.known();
+    pair.odd.known();
+    let both = check_both(game, &pair.even, &pair.odd);
+    if matches!(both, Both::Yes) && are_small(game, &pair) {
+        Some(pair)
+    } else {
+        None
+    }
+}
+
+// Whether the texts of both can be read again.
+fn are_small(game: &Game, pair: &EvidencePair) -> bool
+    requires { AreOf game.now pair.now }
+    ensures even { IsTrue result → IsSmall pair.now.even.evidence }
+    ensures odd { IsTrue result → IsSmall pair.now.odd.evidence }
+{
+    let vertices = game.vertices();
+    is_small(&pair.even, vertices) && is_small(&pair.odd, vertices)
+}
+
+/// Evidence of all that each player wins, by a guess of winners, moves and ranks. There is none where the checker refuses the evidence that is
+/// made of the guess, where a count is too great for its text, where the guess took too long, or for want of memory.
+pub fn certified_evidence(alloc: Global, game: &Game) -> Option<EvidencePair>
+    ensures { IfSome result (AreFull game.now) }
+{
+    let pair = guessed_pair(alloc, game)?;
+    checked_pair(game, pair)
 }

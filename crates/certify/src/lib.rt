@@ -2,3 +2,7 @@
 #![tactic(auto)]
 
 pub mod decide;
+mod guessed;
+pub mod pair;
+pub mod shared;
+mod small;

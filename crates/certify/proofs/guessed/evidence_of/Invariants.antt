@@ -1,6 +1,6 @@
 use Rattle.std.proofs.Common.{◌≡◌, length}
 use Rattle.evidence.specs.Evidence.{counted}
-use Rattle.certify.proofs.decide.evidence_of.Given as goal
+use Rattle.certify.proofs.guessed.evidence_of.Given as goal
 
 abbrev pub invariant-loop-v : goal.invariant-loop-v
 invariant-loop-v l = (l.draft.game ≡ l.game) × (l.draft.evidence.player ≡ l.player) × (length l.rank.items ≡ length (counted l.player l.game))
