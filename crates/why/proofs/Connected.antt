@@ -18,7 +18,7 @@ use Rattle.normal.specs.Nodes.{Node}
 use Rattle.normal.specs.Tree.{Shape, ConstantNode, JunctionNode, ModalityNode, FixpointNode, VariableNode}
 use Rattle.game.specs.Arena.{arena, is_step, place, successors_of, targets, vertex_of}
 use Rattle.game.specs.Game.{Vertex, vertex}
-use Rattle.game.proofs.Arenas.{arena_is_game, arena_low, rows_count}
+use Rattle.game.proofs.Arenas.{rows_count}
 use Rattle.progress.proofs.Lists.{contains_cases, contains_none}
 use Rattle.progress.proofs.NotBoth.{path_on}
 use Rattle.laws.proofs.Edges.{of_or_else}
@@ -28,9 +28,8 @@ use Rattle.laws.proofs.Vertices.{node_in, vertex_is}
 use Rattle.evidence.specs.Evidence.{Evidence, IsGood}
 use Rattle.evidence.specs.Witness.{Goes, HasArrows, IsReached, is_taken, is_taken_at, witness}
 use Rattle.evidence.specs.declared.verdict.Fault.TheVariants.{Move}
-use Rattle.evidence.proofs.BestGood.{even_is_good, odd_is_good}
 use Rattle.evidence.proofs.Taken.{witness_has}
-use Rattle.witness.specs.Witness.{IsShown, IsWinners, root_of}
+use Rattle.witness.specs.Witness.{IsShown, root_of}
 use Rattle.why.specs.Telling.{IsConnected, LeadsTo, arrow_at}
 
 -- ------------------------------------------------------------------ places
@@ -227,15 +226,7 @@ module _ (l : System) (nodes : List Node) (e : Evidence) (set : ℕ → Bool) (f
 
 -- ------------------------------------------------------------------ of a witness that is shown
 
-winners_good : (l : System) (nodes : List Node) (e : Evidence) → IsForm nodes → 2 + l.states * length nodes ≤ 16777216 → IsWinners l nodes e
-    → IsGood (arena l nodes) e
-winners_good l nodes e form few w = elim w.best [
-  | inl even ↦ (even_is_good (arena l nodes) (arena_is_game l nodes form few) e even).1
-  | inr odd ↦ (odd_is_good (arena l nodes) (arena_is_game l nodes form few) (arena_low l nodes form) e odd).1
-]
-
-pub shown_connected : (l : System) (f : Formula) (nodes : List Node) (part : System) → IsForm nodes → IsSystem l → 2 + l.states * length nodes ≤ 16777216
+pub shown_connected : (l : System) (f : Formula) (nodes : List Node) (part : System) → IsForm nodes → IsSystem l
     → IsShown l f nodes part → IsConnected part
-shown_connected l f nodes part form system few shown =
-    let good = winners_good l nodes shown.evidence form few shown.winners in
-    subst IsConnected (sym shown.taken.2) (connected l nodes shown.evidence shown.taken.0 form system.initial good shown.taken.1)
+shown_connected l f nodes part form system shown =
+    subst IsConnected (sym shown.taken.2) (connected l nodes shown.evidence shown.taken.0 form system.initial shown.winners.good shown.taken.1)

@@ -1,11 +1,10 @@
 -- Transitions of a system that are a witness.
-use Rattle.std.specs.Prelude.{◌+◌, ◌*◌, ◌≤◌, List, length}
+use Rattle.std.specs.Prelude.{List}
 use Rattle.systems.specs.Numbered.{IsInside, Numbered, system_with}
 use Rattle.systems.specs.declared.system.Transition.{Transition}
 use Rattle.calculus.specs.Tree.{Formula}
 use Rattle.normal.specs.Form.{IsForm}
 use Rattle.normal.specs.Nodes.{Node}
-use Rattle.game.specs.declared.limits.TheConstants.{MOST_VERTICES}
 use Rattle.witness.specs.Witness.{IsShown}
 
 -- They show why some formula holds at the initial state, or doesn't, by the game of a normal form's nodes.
@@ -14,5 +13,4 @@ pub record AreWitness (l : Numbered) (part : List Transition) : Type 0 where
   pub formula : Formula
   pub nodes : List Node
   pub form : IsForm nodes
-  pub few : 2 + l.system.states * length nodes ≤ MOST_VERTICES
   pub shown : IsShown l.system formula nodes (system_with l part)

@@ -3,3 +3,4 @@ pub mod Walking
 pub mod Keeping
 pub mod Means
 pub mod Drawn
+pub mod OneWay

@@ -2,5 +2,6 @@
 #![tactic(auto)]
 
 pub mod drawing;
+pub mod one_way;
 pub mod part;
 mod walk;

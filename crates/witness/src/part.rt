@@ -136,8 +136,8 @@ fn taken(
     Ok(part)
 }
 
-// The vertex of the initial state with the root.
-fn root_vertex(system: &Lts, normal: &Normal, game: &Game) -> u32
+/// The vertex of the initial state with the root.
+pub fn root_vertex(system: &Lts, normal: &Normal, game: &Game) -> u32
     requires { game.now ≡ arena system.now.system (normal_nodes normal.now) }
     ensures root { result ≡ root_of system.now.system (normal_nodes normal.now) }
     ensures within { result < length game.now.vertices }

@@ -8,4 +8,4 @@ telling-requires-clause-ordered c =
 
 pub telling-requires-clause-connected : goal.telling-requires-clause-connected
 telling-requires-clause-connected c =
-    shown_connected c.args.system.now.system c.requires.formula c.requires.nodes _ c.requires.form c.states-known.ensures.known c.requires.few c.requires.shown
+    shown_connected c.args.system.now.system c.requires.formula c.requires.nodes _ c.requires.form c.states-known.ensures.known c.requires.shown

@@ -1,0 +1,129 @@
+// A path into a loop, of as few steps as are found.
+
+use crate::ball::Ball;
+use crate::closing::{Asked, Closing, Loop};
+use crate::field::Field;
+use crate::graph::{Graph, NOWHERE};
+use crate::lasso::Lasso;
+use std::alloc::{AllocError, Global};
+use winners::arena::winner_by;
+use winners::numbers::Numbers;
+
+// How many steps away the search looks at first, and how many times further then.
+const FIRST_STEPS: u32 = 16;
+
+const TIMES: u32 = 4;
+
+// How many ways are looked at once a loop is known.
+const BUDGET: u64 = 16_777_216;
+
+// One more than the greatest priority of a game.
+const PRIORITIES: u8 = 33;
+
+// The search in a ball.
+#[derive(Drop)]
+struct Search<'a> {
+    alloc: Global,
+    graph: &'a Graph,
+    far: &'a Numbers,
+    closing: Closing,
+    best: Option<Loop>,
+    // How many steps it takes to come to the best loop and go round it once.
+    total: u32,
+}
+
+/// A path from a vertex into a loop whose greatest priority is the player's, in which the opponent never has a choice.
+pub(crate) fn find_lasso(
+    alloc: Global,
+    field: Field,
+    root: u32,
+) -> Result<Option<Lasso>, AllocError> {
+    let mut ball = Ball::new(alloc, field, root)?;
+    let mut steps = FIRST_STEPS;
+    for _ in 0..u32::BITS {
+        ball.grow(field, steps)?;
+        let graph = Graph::of(alloc, field, &ball)?;
+        let search = Search::new(alloc, &graph, &ball.far)?.find(field)?;
+        let is_last = ball.is_whole() || search.total <= steps;
+        match &search.best {
+            Some(best) if is_last => return Ok(Some(Lasso::of(alloc, &ball, &best.places)?)),
+            // A better one has no place further away than this one is long.
+            Some(_) => steps = search.total,
+            None if is_last => break,
+            None => steps = steps.saturating_mul(TIMES),
+        }
+    }
+    Ok(None)
+}
+
+impl<'a> Search<'a> {
+    fn new(alloc: Global, graph: &'a Graph, far: &'a Numbers) -> Result<Self, AllocError> {
+        Ok(Search {
+            alloc,
+            graph,
+            far,
+            closing: Closing::new(alloc, graph)?,
+            best: None,
+            total: u32::MAX,
+        })
+    }
+
+    fn find(mut self, field: Field) -> Result<Self, AllocError> {
+        for top in 0..PRIORITIES {
+            if winner_by(top) == field.player && self.graph.has(u32::from(top)) {
+                self.look_below(u32::from(top))?;
+            }
+        }
+        Ok(self)
+    }
+
+    // Looks for loops whose greatest priority this is.
+    fn look_below(&mut self, top: u32) -> Result<(), AllocError> {
+        let rooms = self.graph.rooms(self.alloc, top)?;
+        self.look_through_top(&rooms, top)?;
+        for (start, far) in (0..u32::MAX).zip(self.far.as_slice()) {
+            if *far >= self.total || self.closing.looks > BUDGET {
+                break;
+            }
+            if rooms.get(start as usize) != NOWHERE {
+                self.look_from(&rooms, top, start, *far)?;
+            }
+        }
+        Ok(())
+    }
+
+    // A loop through the first place of this priority that has one.
+    fn look_through_top(&mut self, rooms: &Numbers, top: u32) -> Result<(), AllocError> {
+        for (start, room) in (0..u32::MAX).zip(rooms.as_slice()) {
+            if *room != NOWHERE && self.graph.priority(start) == top {
+                return self.look_from(rooms, top, start, 0);
+            }
+        }
+        Ok(())
+    }
+
+    // A loop from a place through others to which at least so many steps lead, if it is better than the best.
+    fn look_from(
+        &mut self,
+        rooms: &Numbers,
+        top: u32,
+        start: u32,
+        nearest: u32,
+    ) -> Result<(), AllocError> {
+        let far = self.far.get(start as usize);
+        let found = self.closing.find(Asked {
+            graph: self.graph,
+            far: self.far,
+            rooms,
+            top,
+            start,
+            nearest,
+            limit: self.total.saturating_sub(far),
+        })?;
+        if let Some(found) = found {
+            self.total = far.saturating_add(found.steps);
+            self.best = Some(found);
+        }
+        Ok(())
+    }
+}

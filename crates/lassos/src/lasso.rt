@@ -1,0 +1,77 @@
+// A path into a loop.
+
+use crate::ball::Ball;
+use std::alloc::{AllocError, Global};
+use winners::numbers::Numbers;
+
+// That a place leads nowhere.
+const NONE: u32 = u32::MAX;
+
+/// Vertices, each of which leads to the next. The last leads back to one of them.
+#[derive(Drop)]
+pub(crate) struct Lasso {
+    pub(crate) vertices: Numbers,
+    /// The place of the vertex to which the last one leads.
+    pub(crate) back: usize,
+}
+
+impl Lasso {
+    /// The path from a ball's first vertex to a loop through these places, and the loop.
+    pub(crate) fn of(alloc: Global, ball: &Ball, places: &Numbers) -> Result<Self, AllocError> {
+        let mut next = Numbers::filled(alloc, ball.vertices.len(), NONE)?;
+        lead_to(&mut next, ball, places.get(0));
+        lead_round(&mut next, places);
+        Lasso::along(alloc, ball, &next)
+    }
+
+    // What a walk meets that goes on from each place to the next.
+    fn along(alloc: Global, ball: &Ball, next: &Numbers) -> Result<Self, AllocError> {
+        let mut met = Numbers::filled(alloc, next.len(), NONE)?;
+        let mut vertices = Numbers::none(alloc);
+        let mut place = 0;
+        for number in 0..u32::MAX {
+            if met.get(place) != NONE {
+                break;
+            }
+            met.set(place, number);
+            vertices.push(ball.vertices.get(place))?;
+            place = next.get(place) as usize;
+        }
+        Ok(Lasso {
+            vertices,
+            back: met.get(place) as usize,
+        })
+    }
+
+    /// The vertex that follows the one at a place.
+    pub(crate) fn after(&self, place: usize) -> u32 {
+        let next = place.saturating_add(1);
+        if next < self.vertices.len() {
+            self.vertices.get(next)
+        } else {
+            self.vertices.get(self.back)
+        }
+    }
+}
+
+// Leads from the ball's first place to another on a shortest way.
+fn lead_to(next: &mut Numbers, ball: &Ball, place: u32) {
+    let mut place = place;
+    for _ in 0..u32::MAX {
+        if place == 0 {
+            break;
+        }
+        let before = ball.before.get(place as usize);
+        next.set(before as usize, place);
+        place = before;
+    }
+}
+
+// Leads from each of these places to the next, and from the last to the first.
+fn lead_round(next: &mut Numbers, places: &Numbers) {
+    let mut place = places.get(places.len().saturating_sub(1));
+    for to in places.as_slice() {
+        next.set(place as usize, *to);
+        place = *to;
+    }
+}

@@ -1,0 +1,11 @@
+// Plays that are a path into a loop, as short as a search finds them. Nothing rests on the search: evidence is made of what it finds, and checked.
+#![tactic(auto)]
+
+mod ball;
+mod closing;
+mod field;
+mod finding;
+mod graph;
+mod lasso;
+pub mod making;
+mod ranks;
