@@ -159,6 +159,12 @@ impl Board {
         }
     }
 
+    pub(crate) fn set_level(&mut self, node: u32, state: u32, level: u32) {
+        if let Some(levels) = self.levels.get_mut(node as usize) {
+            levels.set(state, level);
+        }
+    }
+
     /// Gives a level to these states of a word.
     pub(crate) fn set_levels(&mut self, node: u32, word: u32, bits: u64, level: u32) {
         if let Some(levels) = self.levels.get_mut(node as usize) {

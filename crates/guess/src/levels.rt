@@ -1,12 +1,14 @@
 // Components of nodes whose binders have one parity, value by value (Knuth 1977), over sets of states.
 
-use crate::bits::{Fronts, WORD};
+use crate::bits::{Fronts, WORD, bit};
 use crate::board::{Board, Exits, Known};
+use crate::few::{Few, are_few};
 use crate::form::{NONE, Node, Shape};
 use crate::later::Later;
 use crate::numbers::Numbers;
 use crate::order::{Order, Wait};
 use crate::sets::{Sets, Step, Way};
+use crate::withdraw::Place;
 use std::alloc::{AllocError, Global};
 use text::Memory;
 
@@ -48,8 +50,14 @@ pub(crate) struct Levels {
     pub(crate) order: Order,
     pub(crate) value: u64,
     first: usize,
+    // How many levels there are.
+    depth: u32,
     /// Where winners alone are looked for, the states of each binder that become final next.
     pub(crate) next: Fronts,
+    /// The same for levels that begin at few states, with what is final in them.
+    pub(crate) few: Few,
+    /// Whether the level at hand begins at few states.
+    pub(crate) is_listed: bool,
     /// The last time at which a held binder lost a state, in the rounds at hand.
     pub(crate) last_time: u32,
 }
@@ -88,7 +96,10 @@ impl Levels {
             order: Order::Rising,
             value: 0,
             first: 0,
+            depth: 0,
             next: Fronts::new(alloc, marked, board.states)?,
+            few: Few::new(alloc, count)?,
+            is_listed: false,
             last_time: 0,
             board,
         })
@@ -99,9 +110,7 @@ impl Levels {
         self.part = part;
         self.order = order;
         self.value = order.first();
-        if self.board.exits == Exits::Marks {
-            self.board.values.clear();
-        }
+        self.depth = 0;
         self.first = self.board.values.len();
         self.begin(alloc)?;
         self.climb()?;
@@ -111,8 +120,7 @@ impl Levels {
 
     /// How many levels there are, and so one more than the greatest.
     pub(crate) fn count(&self) -> u32 {
-        let count = self.board.values.len().saturating_sub(self.first);
-        u32::try_from(count).unwrap_or(u32::MAX)
+        self.depth
     }
 
     /// Whether values came from outside that are neither zero nor top.
@@ -124,6 +132,8 @@ impl Levels {
         self.members.clear();
         self.sources.clear();
         self.events.clear();
+        self.few.clear();
+        self.is_listed = false;
         self.seen = 0;
         self.runs = self.runs.saturating_add(1);
         for number in 0..self.board.form.count() {
@@ -134,6 +144,7 @@ impl Levels {
             }
         }
         self.members.sort_unstable_by_key(|member| member.height);
+        self.few.order_links();
         for at in 0..self.sources.len() {
             if let Some(source) = self.sources.get(at).copied() {
                 self.enter(source)?;
@@ -157,6 +168,7 @@ impl Levels {
     fn open(&mut self, alloc: Global, node: u32) -> Result<(), AllocError> {
         let height = self.board.form.height(node);
         self.members.push(Member { node, height })?;
+        self.few.link(&self.board.form, self.order, node)?;
         self.sets.clear(node);
         self.sets.add_given(node);
         self.board.clear_levels(alloc, node)?;
@@ -221,10 +233,16 @@ impl Levels {
 
     pub(crate) fn climb(&mut self) -> Result<(), AllocError> {
         for _ in 0..u64::MAX {
-            self.spread()?;
-            self.put_off()?;
-            self.record()?;
-            if !self.go_on() {
+            if self.is_listed {
+                let level = self.depth;
+                self.few.spread(&mut self.board, &mut self.sets, level)?;
+                self.end_level()?;
+            } else {
+                self.spread()?;
+                self.put_off()?;
+                self.record()?;
+            }
+            if !self.go_on()? {
                 break;
             }
         }
@@ -232,27 +250,123 @@ impl Levels {
     }
 
     // Goes on to the next level, where there is one.
-    fn go_on(&mut self) -> bool {
+    fn go_on(&mut self) -> Result<bool, AllocError> {
         if self.board.exits == Exits::Marks {
             return self.pass_on();
         }
-        match self.next_value() {
+        Ok(match self.next_value() {
             Some(value) => {
                 self.value = value;
                 self.release();
                 true
             }
             None => false,
-        }
+        })
     }
 
     // Where winners alone are looked for, a binder comes a level after its operand. The answer is whether one does.
-    fn pass_on(&mut self) -> bool {
-        let mut some = false;
-        for member in &self.members {
-            some |= pass_in(&mut self.next, &mut self.sets, member.node);
+    fn pass_on(&mut self) -> Result<bool, AllocError> {
+        let was_listed = self.is_listed;
+        self.is_listed = self.board.has_back() && are_few(self.waiting(), self.board.states);
+        if was_listed {
+            return self.pass_list();
         }
-        some
+        let mut some = false;
+        for at in 0..self.members.len() {
+            if let Some(member) = self.members.get(at).copied() {
+                some |= self.pass_binder(member.node)?;
+            }
+        }
+        Ok(some)
+    }
+
+    // One more level has its value.
+    fn end_level(&mut self) -> Result<(), AllocError> {
+        self.depth = self.depth.saturating_add(1);
+        if self.board.exits == Exits::Values {
+            self.board.values.push(self.value)?;
+        }
+        Ok(())
+    }
+
+    // How many states of binders come next.
+    fn waiting(&self) -> usize {
+        if self.is_listed {
+            return self.few.waiting();
+        }
+        let mut count = 0_usize;
+        for member in &self.members {
+            count = count.saturating_add(self.next.count(member.node) as usize);
+        }
+        count
+    }
+
+    // Binders that are listed become final. The answer is whether there are some.
+    fn pass_list(&mut self) -> Result<bool, AllocError> {
+        let mut some = false;
+        if !self.is_listed {
+            self.recount();
+        }
+        for _ in 0..u64::MAX {
+            let Some(place) = self.few.take() else {
+                break;
+            };
+            if self.sets.is_left(place.node, place.state) {
+                some = true;
+                self.add_place(place)?;
+            }
+        }
+        Ok(some)
+    }
+
+    // Sizes aren't kept while places are listed.
+    fn recount(&mut self) {
+        for member in &self.members {
+            self.sets.recount(member.node);
+        }
+    }
+
+    /// A place becomes final.
+    pub(crate) fn add_place(&mut self, place: Place) -> Result<(), AllocError> {
+        if self.is_listed {
+            self.few.add(&mut self.sets, place)
+        } else {
+            self.sets.add_state(place.node, place.state);
+            Ok(())
+        }
+    }
+
+    // The states of a binder that come next become final. The answer is whether there are some.
+    fn pass_binder(&mut self, binder: u32) -> Result<bool, AllocError> {
+        if !self.is_listed {
+            return Ok(pass_in(&mut self.next, &mut self.sets, binder));
+        }
+        let mut some = false;
+        let mut from = 0;
+        for _ in 0..=self.sets.done.width() {
+            let Some(word) = self.next.next(binder, from) else {
+                break;
+            };
+            let bits = self.next.word(binder, word) & self.sets.left(binder, word);
+            some |= bits != 0;
+            self.list_word(binder, word, bits)?;
+            from = word.saturating_add(1);
+        }
+        self.next.clear(binder);
+        Ok(some)
+    }
+
+    // Lists a binder at these states of a word.
+    fn list_word(&mut self, node: u32, word: u32, mut bits: u64) -> Result<(), AllocError> {
+        for _ in 0..WORD {
+            if bits == 0 {
+                break;
+            }
+            let state = word.wrapping_mul(WORD).wrapping_add(bits.trailing_zeros());
+            bits &= bits.wrapping_sub(1);
+            self.few.add(&mut self.sets, Place { node, state })?;
+        }
+        Ok(())
     }
 
     // Carries what is final from children to parents, up to the binders.
@@ -323,7 +437,7 @@ impl Levels {
     // Keeps the level of what has become final.
     fn record(&mut self) -> Result<(), AllocError> {
         let level = self.count();
-        self.board.values.push(self.value)?;
+        self.end_level()?;
         for at in 0..self.members.len() {
             if let Some(member) = self.members.get(at).copied() {
                 self.record_node(member.node, level);
@@ -397,10 +511,9 @@ impl Levels {
 
     // Keeps what was found.
     pub(crate) fn finish(&mut self) {
-        let levels = self.board.values.len().saturating_sub(self.first);
         let has_tops = match self.order {
             _ if self.board.exits == Exits::Marks => true,
-            Order::Rising => levels <= 1,
+            Order::Rising => self.depth <= 1,
             Order::Falling => self.events.is_empty(),
         };
         let known = if has_tops {

@@ -3,6 +3,7 @@
 use crate::blocks::Blocks;
 use crate::board::{Board, Exits};
 use crate::columns::Columns;
+use crate::crew::{Task, do_by, whole};
 use crate::form::{Form, NONE};
 use crate::layout::{Fields, Layout, MARK, shifts};
 use crate::levels::Levels;
@@ -12,6 +13,7 @@ use crate::scale::Scale;
 use crate::whole::board_of;
 use normal::form::Normal;
 use std::alloc::{AllocError, Global};
+use std::thread::Threads;
 use systems::system::Lts;
 use text::Memory;
 
@@ -187,10 +189,26 @@ impl Ranks {
         }
     }
 
-    fn into_columns(self, alloc: Global) -> Result<Option<Columns>, AllocError> {
+    fn into_columns<R: Threads + Sync>(
+        self,
+        rt: &R,
+        alloc: Global,
+        workers: u32,
+    ) -> Result<Option<Columns>, AllocError> {
+        let mut places = Vec::new(alloc);
+        for _ in 0..self.levels.board.form.count() {
+            places.push(None)?;
+        }
+        let task = ColumnTask {
+            ranks: &self,
+            alloc,
+            first: 0,
+            places: &mut places,
+        };
+        do_by(rt, task, workers);
         let mut words = Vec::new(alloc);
-        for number in 0..self.levels.board.form.count() {
-            match self.column(alloc, number)? {
+        for column in places {
+            match column {
                 Some(column) => words.push(column)?,
                 None => return Ok(None),
             }
@@ -200,6 +218,54 @@ impl Ranks {
             even_shifts: shifts(alloc, &self.layout.even.kept)?,
             odd_shifts: shifts(alloc, &self.layout.odd.kept)?,
         }))
+    }
+}
+
+/// The columns of the nodes from the first one on, none of which is there yet.
+#[derive(Drop)]
+struct ColumnTask<'r, 'p> {
+    ranks: &'r Ranks,
+    alloc: Global,
+    first: u32,
+    places: &'p mut [Option<Vec<u64>>],
+}
+
+impl Task for ColumnTask<'_, '_> {
+    fn size(&self) -> usize {
+        let states = self.ranks.levels.board.states as usize;
+        states.saturating_mul(self.places.len())
+    }
+
+    fn cut(self, parts: u32) -> (Self, Self) {
+        let nodes = self.places.len() / parts.max(1) as usize;
+        let (ranks, alloc, first) = (self.ranks, self.alloc, self.first);
+        let (places, other_places) = self.places.split_at_mut(nodes);
+        let front = ColumnTask {
+            ranks,
+            alloc,
+            first,
+            places,
+        };
+        let rest = ColumnTask {
+            ranks,
+            alloc,
+            first: first.saturating_add(u32::try_from(nodes).unwrap_or(0)),
+            places: other_places,
+        };
+        (front, rest)
+    }
+
+    fn run(self) {
+        let (ranks, alloc, first) = (self.ranks, self.alloc, self.first);
+        let places = whole(self.places);
+        put_columns(ranks, alloc, first, places);
+    }
+}
+
+// Writes the columns of the nodes from the first one on. Want of memory is no column.
+fn put_columns(ranks: &Ranks, alloc: Global, first: u32, places: &mut [Option<Vec<u64>>]) {
+    for (number, place) in (first..u32::MAX).zip(places.iter_mut()) {
+        *place = ranks.column(alloc, number).ok().flatten();
     }
 }
 
@@ -289,12 +355,18 @@ fn find(alloc: Global, board: Board) -> Result<Option<Ranks>, Memory> {
 ///
 /// # Errors
 /// Want of memory, and nothing else.
-pub fn columns(alloc: Global, lts: &Lts, normal: &Normal) -> Result<Option<Columns>, Memory> {
+pub fn columns<R: Threads + Sync>(
+    rt: &R,
+    alloc: Global,
+    lts: &Lts,
+    normal: &Normal,
+    workers: u32,
+) -> Result<Option<Columns>, Memory> {
     let Some(board) = board_of(alloc, lts, normal, Scale::none(), Exits::Marks)? else {
         return Ok(None);
     };
     match find(alloc, board)? {
-        Some(ranks) => Ok(ranks.into_columns(alloc)?),
+        Some(ranks) => Ok(ranks.into_columns(rt, alloc, workers)?),
         None => Ok(None),
     }
 }

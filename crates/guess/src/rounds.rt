@@ -203,7 +203,7 @@ impl Levels {
         for word in 0..self.sets.noted.width() {
             let bits = self.gained(held, number, word) & !self.sets.noted.word(number, word);
             if bits != 0 {
-                self.sets.noted.add(number, word, bits);
+                self.sets.note(number, word, bits);
                 self.board.set_rounds(number, word, bits, time);
             }
         }
@@ -211,7 +211,7 @@ impl Levels {
 
     /// Notes the round of a state.
     pub(crate) fn note_state(&mut self, number: u32, state: u32, time: u32) {
-        self.sets.noted.add(number, state / WORD, bit(state));
+        self.sets.note(number, state / WORD, bit(state));
         self.board.set_round(number, state, time);
     }
 

@@ -37,6 +37,8 @@ pub(crate) enum Way {
 #[derive(Drop)]
 pub(crate) struct Sets {
     pub(crate) done: Sheet,
+    // Where a node can still become final.
+    open: Sheet,
     pub(crate) fronts: Fronts,
     sizes: Numbers,
     // Of a node that waits for all successors: how many of the first it waits for no more.
@@ -67,6 +69,7 @@ impl Sets {
         }
         Ok(Sets {
             done: Sheet::new(alloc, nodes, states)?,
+            open: Sheet::new(alloc, nodes, states)?,
             fronts: Fronts::new(alloc, nodes, states)?,
             sizes: Numbers::filled(alloc, 0, nodes as usize)?,
             cursors,
@@ -80,11 +83,33 @@ impl Sets {
         })
     }
 
-    /// Forgets what is known of a node.
+    /// Forgets what is known of a node, but for what was noted, and what never is final.
     pub(crate) fn clear(&mut self, node: u32) {
         self.done.fill(node, false);
         self.fronts.clear(node);
         self.sizes.set(node, 0);
+        for word in 0..self.done.width() {
+            let bits = self.done.full(word) & !self.never(node, word);
+            self.open.set_word(node, word, bits);
+        }
+    }
+
+    // The states of a word at which a node is final in no case.
+    fn never(&self, node: u32, word: u32) -> u64 {
+        let barred = self.barred.word(node, word);
+        if self.bars {
+            barred | self.noted.word(node, word)
+        } else {
+            barred
+        }
+    }
+
+    /// Notes that a node was gained at these states of a word.
+    pub(crate) fn note(&mut self, node: u32, word: u32, bits: u64) {
+        self.noted.add(node, word, bits);
+        if self.bars {
+            self.open.remove(node, word, bits);
+        }
     }
 
     /// Makes room for what is final from the beginning, and for what never is.
@@ -140,19 +165,24 @@ impl Sets {
 
     /// The states of a word at which a node can still become final.
     pub(crate) fn left(&self, node: u32, word: u32) -> u64 {
-        let never = self.done.word(node, word) | self.barred.word(node, word);
-        let left = self.done.full(word) & !never;
-        if self.bars {
-            left & !self.noted.word(node, word)
-        } else {
-            left
-        }
+        self.open.word(node, word)
+    }
+
+    /// Whether a node can still become final at a state.
+    pub(crate) fn is_left(&self, node: u32, state: u32) -> bool {
+        self.open.has(node, state)
     }
 
     /// A node's value is final at these states of a word.
     pub(crate) fn add(&mut self, node: u32, word: u32, bits: u64) {
-        self.done.add(node, word, bits);
+        self.settle(node, word, bits);
         self.fronts.add(node, word, bits);
+    }
+
+    /// The same where nothing is carried on from there by these sets.
+    pub(crate) fn settle(&mut self, node: u32, word: u32, bits: u64) {
+        self.done.add(node, word, bits);
+        self.open.remove(node, word, bits);
     }
 
     pub(crate) fn add_state(&mut self, node: u32, state: u32) {
@@ -161,12 +191,24 @@ impl Sets {
 
     /// A node's value is final no more at a state.
     pub(crate) fn remove(&mut self, node: u32, state: u32) {
-        self.done.remove(node, state / WORD, bit(state));
+        let (word, bits) = (state / WORD, bit(state));
+        self.done.remove(node, word, bits);
+        let again = bits & !self.never(node, word);
+        self.open.add(node, word, again);
         let size = self.sizes.get(node).saturating_sub(1);
         self.sizes.set(node, size);
         if let Some(cursors) = self.cursors.get_mut(node as usize) {
             cursors.set(state, 0);
         }
+    }
+
+    /// Counts the states at which a node is final.
+    pub(crate) fn recount(&mut self, node: u32) {
+        let mut size = 0_u32;
+        for word in 0..self.done.width() {
+            size = size.saturating_add(self.done.word(node, word).count_ones());
+        }
+        self.sizes.set(node, size);
     }
 
     /// Notes that so many more states are final.
@@ -239,8 +281,7 @@ impl Sets {
     fn push_state(&mut self, board: &Board, step: Step, state: u32) {
         for edge in board.back(state) {
             let source = state_of(*edge);
-            let is_left = self.left(step.node, source / WORD) & bit(source) != 0;
-            if !takes(step.mask, *edge) || !is_left {
+            if !takes(step.mask, *edge) || !self.is_left(step.node, source) {
                 continue;
             }
             if step.wait == Wait::One || self.has_all(board, step, source) {
@@ -249,8 +290,8 @@ impl Sets {
         }
     }
 
-    // Whether all successors are final. If not, the first that isn't is noted.
-    fn has_all(&mut self, board: &Board, step: Step, state: u32) -> bool {
+    /// Whether all successors are final. If not, the first that isn't is noted.
+    pub(crate) fn has_all(&mut self, board: &Board, step: Step, state: u32) -> bool {
         let Some(cursors) = self.cursors.get_mut(step.node as usize) else {
             return false;
         };

@@ -2,6 +2,7 @@
 
 use crate::board::Exits;
 use crate::edges::{state_of, takes};
+use crate::few::are_few;
 use crate::form::Shape;
 use crate::levels::Levels;
 use crate::order::Wait;
@@ -135,6 +136,9 @@ impl Levels {
                 later.restart();
             }
         }
+        let is_marked = self.board.exits == Exits::Marks;
+        let many = list.len().saturating_sub(held);
+        self.is_listed = is_marked && are_few(many, self.board.states);
         for place in list.iter().skip(held) {
             if !self.sets.done.has(place.node, place.state) && self.stands(*place, None) {
                 self.bring_back_to(*place)?;
@@ -146,8 +150,10 @@ impl Levels {
     fn bring_back_to(&mut self, place: Place) -> Result<(), AllocError> {
         let node = self.board.form.node(place.node);
         if node.shape != Shape::Binder {
-            self.sets.add_state(place.node, place.state);
-            return Ok(());
+            return self.add_place(place);
+        }
+        if self.is_listed {
+            return self.few.put_off(place);
         }
         if self.board.exits == Exits::Marks {
             self.next.add_state(place.node, place.state);

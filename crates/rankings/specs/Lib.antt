@@ -3,3 +3,4 @@ pub mod Cells
 pub mod Slopes
 pub mod Stored
 pub mod Laws
+pub mod Spans

@@ -22,6 +22,28 @@ use systems::system::{Lts, Transition};
 pub(crate) struct Span {
     pub(crate) first: u32,
     pub(crate) end: u32,
+    ghost ordered: { first ≤ end },
+}
+
+impl Span {
+    /// The first of so many parts of the same size, and what comes after it.
+    pub(crate) fn cut(self, parts: u32) -> (Span, Span)
+        requires { 0 < parts }
+        ensures first { result.0.first ≡ self.first }
+        ensures middle { result.1.first ≡ result.0.end }
+        ensures end { result.1.end ≡ self.end }
+    {
+        let middle = self.first + (self.end - self.first) / parts;
+        let front = Span {
+            first: self.first,
+            end: middle,
+        };
+        let rest = Span {
+            first: middle,
+            end: self.end,
+        };
+        (front, rest)
+    }
 }
 
 // The number of the true sink.

@@ -1,0 +1,248 @@
+// Levels that begin at few states: what becomes final is listed, and carried on place by place.
+
+use crate::bits::{WORD, bit};
+use crate::board::Board;
+use crate::edges::{state_of, takes};
+use crate::form::{Form, Shape};
+use crate::numbers::Numbers;
+use crate::order::{Order, Wait};
+use crate::sets::{Sets, Step};
+use crate::withdraw::Place;
+use std::alloc::{AllocError, Global};
+
+// A level begins at few states where they are at most this part of all, or as few as this.
+const PART: u32 = 64;
+
+const FEW: usize = 64;
+
+/// How a node's states are carried on to one over it.
+#[derive(Clone, Copy)]
+enum Way {
+    /// To a binder, a level later.
+    Later,
+    /// At once.
+    Now,
+    /// Where this child is final too.
+    With(u32),
+    /// By the edges back.
+    Back(Step),
+}
+
+/// A node and one over it.
+#[derive(Clone, Copy)]
+struct Link {
+    under: u32,
+    over: u32,
+    way: Way,
+}
+
+/// What is over each node of a part.
+#[derive(Drop)]
+struct Links {
+    list: Vec<Link>,
+    // For each node the first link from it, and for the one after the last how many there are.
+    starts: Numbers,
+}
+
+/// What is final in a level, with what is over each node of the part at hand.
+#[derive(Drop)]
+pub(crate) struct Few {
+    links: Links,
+    /// Places that have become final, and aren't carried on yet.
+    found: Vec<Place>,
+    /// Binders that become final in the next level.
+    next: Vec<Place>,
+}
+
+/// Whether so many of all states are few.
+pub(crate) fn are_few(many: usize, states: u32) -> bool {
+    many <= FEW.max((states / PART) as usize)
+}
+
+impl Links {
+    fn push(&mut self, under: u32, over: u32, way: Way) -> Result<(), AllocError> {
+        self.list.push(Link { under, over, way })?;
+        Ok(())
+    }
+
+    // The links to a junction from one of its children.
+    fn push_joined(
+        &mut self,
+        wait: Wait,
+        over: u32,
+        under: u32,
+        other: u32,
+    ) -> Result<(), AllocError> {
+        match wait {
+            Wait::Both => self.push(under, over, Way::With(other)),
+            _ => self.push(under, over, Way::Now),
+        }
+    }
+
+    fn order(&mut self) {
+        self.list.sort_unstable_by_key(|link| link.under);
+        let nodes = u32::try_from(self.starts.as_slice().len()).unwrap_or(0);
+        let mut at = 0_u32;
+        for node in 0..nodes {
+            let rest = self.list.iter().skip(at as usize);
+            let before = rest.take_while(|link| link.under < node).count();
+            at = at.saturating_add(u32::try_from(before).unwrap_or(0));
+            self.starts.set(node, at);
+        }
+    }
+
+    // The links from a node.
+    fn from(&self, node: u32) -> &[Link] {
+        let start = self.starts.get(node) as usize;
+        let end = self.starts.get(node.saturating_add(1)) as usize;
+        if start <= end && end <= self.list.len() {
+            &self.list[start..end]
+        } else {
+            &[]
+        }
+    }
+}
+
+impl Few {
+    /// Nothing, for so many nodes.
+    pub(crate) fn new(alloc: Global, nodes: u32) -> Result<Self, AllocError> {
+        Ok(Few {
+            links: Links {
+                list: Vec::new(alloc),
+                starts: Numbers::filled(alloc, 0, (nodes as usize).saturating_add(1))?,
+            },
+            found: Vec::new(alloc),
+            next: Vec::new(alloc),
+        })
+    }
+
+    /// Forgets all nodes and places.
+    pub(crate) fn clear(&mut self) {
+        self.links.list.clear();
+        self.found.clear();
+        self.next.clear();
+    }
+
+    /// Adds the links to a node from its children.
+    pub(crate) fn link(&mut self, form: &Form, order: Order, node: u32) -> Result<(), AllocError> {
+        let [left, right] = form.operands(node);
+        let shape = form.node(node).shape;
+        let wait = order.wait(shape);
+        match shape {
+            Shape::And | Shape::Or => {
+                self.links.push_joined(wait, node, left, right)?;
+                self.links.push_joined(wait, node, right, left)
+            }
+            Shape::Dia | Shape::Box => {
+                let step = Step {
+                    node,
+                    operand: left,
+                    mask: form.node(node).mask,
+                    wait,
+                };
+                self.links.push(left, node, Way::Back(step))
+            }
+            Shape::Binder => self.links.push(left, node, Way::Later),
+            _ => Ok(()),
+        }
+    }
+
+    /// Orders the links to all nodes that were added.
+    pub(crate) fn order_links(&mut self) {
+        self.links.order();
+    }
+
+    /// How many binders become final in the next level, each once or more.
+    pub(crate) fn waiting(&self) -> usize {
+        self.next.len()
+    }
+
+    /// A place becomes final.
+    pub(crate) fn add(&mut self, sets: &mut Sets, place: Place) -> Result<(), AllocError> {
+        add_to(&mut self.found, sets, place)
+    }
+
+    /// A binder becomes final in the next level, where it still can.
+    pub(crate) fn put_off(&mut self, place: Place) -> Result<(), AllocError> {
+        self.next.push(place)?;
+        Ok(())
+    }
+
+    /// The binder that was put off last.
+    pub(crate) fn take(&mut self) -> Option<Place> {
+        self.next.pop()
+    }
+
+    /// Carries what has become final on to all that does so with it, and gives that a level.
+    pub(crate) fn spread(
+        &mut self,
+        board: &mut Board,
+        sets: &mut Sets,
+        level: u32,
+    ) -> Result<(), AllocError> {
+        for _ in 0..u64::MAX {
+            let Some(place) = self.found.pop() else {
+                break;
+            };
+            board.set_level(place.node, place.state, level);
+            for link in self.links.from(place.node) {
+                let next = Place {
+                    node: link.over,
+                    state: place.state,
+                };
+                match link.way {
+                    Way::Later => self.next.push(next)?,
+                    Way::Back(step) => {
+                        carry_back(&mut self.found, sets, board, step, place.state)?;
+                    }
+                    Way::With(other) if !sets.done.has(other, place.state) => {}
+                    Way::Now | Way::With(_) => try_add_to(&mut self.found, sets, next)?,
+                }
+            }
+        }
+        Ok(())
+    }
+}
+
+fn add_to(found: &mut Vec<Place>, sets: &mut Sets, place: Place) -> Result<(), AllocError> {
+    sets.settle(place.node, place.state / WORD, bit(place.state));
+    found.push(place)?;
+    Ok(())
+}
+
+// A place becomes final where it still can.
+fn try_add_to(found: &mut Vec<Place>, sets: &mut Sets, place: Place) -> Result<(), AllocError> {
+    if sets.is_left(place.node, place.state) {
+        add_to(found, sets, place)
+    } else {
+        Ok(())
+    }
+}
+
+// Carries a state on by the edges back from it.
+fn carry_back(
+    found: &mut Vec<Place>,
+    sets: &mut Sets,
+    board: &Board,
+    step: Step,
+    state: u32,
+) -> Result<(), AllocError> {
+    let node = step.node;
+    for edge in board.back(state) {
+        let source = state_of(*edge);
+        if !takes(step.mask, *edge) || !sets.is_left(node, source) {
+            continue;
+        }
+        if step.wait == Wait::One || sets.has_all(board, step, source) {
+            add_to(
+                found,
+                sets,
+                Place {
+                    node,
+                    state: source,
+                },
+            )?;
+        }
+    }
+    Ok(())
+}
