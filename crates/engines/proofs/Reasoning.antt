@@ -1,7 +1,7 @@
 -- What is told of an answer.
 use Rattle.std.proofs.Common.{◌≡◌, ℕ, ◌<◌, Bool, false, List, [], ◌∷◌, Option, Some, Result, Ok, Err, inl, inr, refl, sym, subst}
 use Rattle.std.proofs.KnownBytes.{Keeps-refl}
-use Rattle.std.specs.Prelude.{MatchResult, slice_index_or}
+use Rattle.std.specs.Prelude.{IsTrue, MatchResult, slice_index_or}
 use Rattle.text.specs.Wrote.{Wrote}
 use Rattle.text.specs.declared.write_loop.WriteFault.{WriteFault}
 use Rattle.systems.specs.Numbered.{system_with}
@@ -17,12 +17,17 @@ use Rattle.requests.specs.declared.request.ReportForm.TheVariants.{Nothing}
 use Rattle.requests.specs.declared.request.Wanted.{Wanted}
 use Rattle.requests.specs.declared.request.WitnessForm.TheVariants.{System as AsSystem}
 use Rattle.requests.specs.Check.{AreSpelled, ByGame, HasRefused, Way}
+use Rattle.requests.specs.Strict.{HasRefusedBy, KnowsWords}
 use Rattle.requests.specs.Writers.{AreKept, Lent, WitnessText, lent_for}
 use Rattle.engines.specs.declared.findings.Findings.{Findings}
 use Rattle.engines.specs.declared.reasons.Told.{Told}
 use Rattle.engines.specs.Findings.{AreFindings, AreShown, IsUnshown, formula_of, system_of, way_in}
 use Rattle.engines.specs.Reasons.{AreTold, HasNoReasons, TellsReasons, reasons}
+use Rattle.engines.specs.StrictReasons.{HasNoReasonsBy, TellsReasonsBy}
 use Rattle.engines.proofs.Checks.{unprepared_of}
+
+no_write : (fault : WriteFault) (place : ℕ) → ◌≡◌ {A = MuError} (error.Write fault) (error.NoLabel place) → ⊥
+no_write fault place h = cc
 
 -- A refusal that leaves all writers as they were leaves this one so, and is no write fault.
 pub refused_kept : (rule : Priorities) (board : Option BoardKind) (first second : List ℕ) (old : Option (List ℕ)) (e : MuError)
@@ -43,6 +48,35 @@ refused_kept rule board first second old (error.Table e) h = h (lent_for Witness
 refused_kept rule board first second old (error.Solve e) h = h (lent_for WitnessText old old ∷ []) (Keeps-refl old, tt)
 refused_kept rule board first second old (error.Schedule e) h = h [] tt
 refused_kept rule board first second old (error.NoLabel offset) h = h [] tt
+
+-- What was told where each word of the formula is on a transition is told strictly.
+pub strictly_told : (strict : Bool) (rule : Priorities) (board : Option BoardKind) (first second : List ℕ) (old new : Option (List ℕ)) (r : Result Bool MuError)
+    → TellsReasons rule board first second old new r → (IsTrue strict → KnowsWords first second) → TellsReasonsBy strict rule board first second old new r
+strictly_told strict rule board first second old new (Ok a) h known = (h, known)
+strictly_told strict rule board first second old new (Err e) h known = inl (h, λ asked. inr (known asked))
+
+-- A refusal while the texts are read, or of a word, leaves the writer as it was.
+pub strictly_refused : (strict : Bool) (rule : Priorities) (board : Option BoardKind) (first second : List ℕ) (old : Option (List ℕ)) (e : MuError)
+    → ((writers : List Lent) → AreKept writers → HasRefusedBy strict (ByGame rule board) first second writers e)
+    → HasNoReasonsBy strict rule board first second old old e
+strictly_refused strict rule board first second old (error.Write fault) h = elim (h [] tt) [
+  | inl p ↦ absurd p.0.begun
+  | inr w ↦ absurd (no_write fault w.place w.is)
+]
+strictly_refused strict rule board first second old (error.Arguments e) h = h (lent_for WitnessText old old ∷ []) (Keeps-refl old, tt)
+strictly_refused strict rule board first second old error.File h = h (lent_for WitnessText old old ∷ []) (Keeps-refl old, tt)
+strictly_refused strict rule board first second old error.Read h = h (lent_for WitnessText old old ∷ []) (Keeps-refl old, tt)
+strictly_refused strict rule board first second old error.Memory h = h (lent_for WitnessText old old ∷ []) (Keeps-refl old, tt)
+strictly_refused strict rule board first second old (error.System e) h = h (lent_for WitnessText old old ∷ []) (Keeps-refl old, tt)
+strictly_refused strict rule board first second old (error.Formula e) h = h (lent_for WitnessText old old ∷ []) (Keeps-refl old, tt)
+strictly_refused strict rule board first second old (error.Normal e) h = h (lent_for WitnessText old old ∷ []) (Keeps-refl old, tt)
+strictly_refused strict rule board first second old (error.Build e) h = h (lent_for WitnessText old old ∷ []) (Keeps-refl old, tt)
+strictly_refused strict rule board first second old (error.Game e) h = h (lent_for WitnessText old old ∷ []) (Keeps-refl old, tt)
+strictly_refused strict rule board first second old (error.Evidence e) h = h (lent_for WitnessText old old ∷ []) (Keeps-refl old, tt)
+strictly_refused strict rule board first second old (error.Table e) h = h (lent_for WitnessText old old ∷ []) (Keeps-refl old, tt)
+strictly_refused strict rule board first second old (error.Solve e) h = h (lent_for WitnessText old old ∷ []) (Keeps-refl old, tt)
+strictly_refused strict rule board first second old (error.Schedule e) h = h (lent_for WitnessText old old ∷ []) (Keeps-refl old, tt)
+strictly_refused strict rule board first second old (error.NoLabel offset) h = h (lent_for WitnessText old old ∷ []) (Keeps-refl old, tt)
 
 -- Nothing was written where there was no memory for a witness.
 pub unshown_kept : (x : Findings) (first second : List ℕ) (old : Option (List ℕ)) (e : MuError) → AreSpelled first second (system_of x) (formula_of x)
@@ -80,7 +114,6 @@ shown_witness x part found shown =
       formula = formula_of x;
       nodes = nodes_with x.solution.priorities (formula_of x);
       form = is_form x.solution.priorities (formula_of x) within.form.nodes within.form.priorities;
-      few = within.vertices;
       shown = shown.shown;
     }
 

@@ -1,6 +1,6 @@
 -- Evidence that has the initial state's vertex with the root node.
 use Rattle.std.proofs.Common.{◌≡◌, ◌<◌, ℕ, Bool, true, false, Some, inl, inr, refl, sym, ap, ◌∙◌, subst, true≢false}
-use Rattle.std.specs.Prelude.{IsTrue, ◌↔◌, ◌⊎◌, IfOk, List, Result, Ok, Err, slice_index_or}
+use Rattle.std.specs.Prelude.{IsTrue, ◌↔◌, ◌⊎◌, IfOk, IfSome, List, Option, None, Result, Ok, Err, slice_index_or}
 use Rattle.std.specs.Arc.{arc_value}
 use Rattle.systems.specs.Numbered.{IsInside, system_with}
 use Rattle.systems.specs.declared.system.Transition.{Transition}
@@ -18,10 +18,10 @@ use Rattle.progress.specs.Laws.{OneWins}
 use Rattle.laws.specs.Admissible.{IsNodes}
 use Rattle.laws.specs.Laws.{ChosenIsAdmissible}
 use Rattle.evidence.specs.Best.{IsEvenOf, IsOddOf}
-use Rattle.evidence.specs.Evidence.{IsGood, has}
+use Rattle.evidence.specs.Evidence.{IsEvidence, IsGood, has}
 use Rattle.evidence.specs.View.{Piece}
 use Rattle.evidence.specs.declared.error.EvidenceError.{EvidenceError}
-use Rattle.witness.specs.Witness.{HasTaken, IsWitness, root_of}
+use Rattle.witness.specs.Witness.{GoesOneWay, HasTaken, IsWitness, root_of}
 use Rattle.requests.specs.Roots.{WinsRoot}
 use Rattle.requests.specs.declared.texts.Texts.{Texts}
 use Rattle.engines.specs.Findings.{AreFindings, AreShown, IsWinning, formula_of, system_of}
@@ -59,15 +59,22 @@ odd_there x found inside one game mark v at =
       | inr o ↦ o
     ]
 
+-- the initial state's vertex with the root node
+abbrev root_in : Findings → ℕ
+root_in x = root_of (system_of x) (nodes_with x.solution.priorities (formula_of x))
+
+root_at : (x : Findings) → AreFindings x → place_in (game_in x) (system_of x).initial 0 ≡ Some (root_in x)
+root_at x found = ap (λ (g : Game). place_in g (system_of x).initial 0) found.solution.game.same
+
 -- Even's, where the initial state satisfies the formula
 pub even_winning : (x : Findings) (e : Piece) → AreFindings x → (system_of x).initial < (system_of x).states → mark_in x ≡ true → e.game ≡ game_in x
     → IsEvenOf (game_in x) e.evidence → IsGood (game_in x) e.evidence
     → ((v : ℕ) → IsTrue (has e.evidence v) ↔ Wins (game_in x) v) → IsWinning x e
 even_winning x e found inside mark same even good exact = record {
   game = same;
-  best = inl (subst (λ (g : Game). IsEvenOf g e.evidence) (sym same) even);
+  kind = inr (inl (subst (λ (g : Game). IsEvenOf g e.evidence) (sym same) even));
   good = subst (λ (g : Game). IsGood g e.evidence) (sym same) good;
-  root = λ v at. (exact v).1 (even_there x found inside mark v (ap (λ (g : Game). place_in g (system_of x).initial 0) (sym same) ∙ at));
+  root = (exact (root_in x)).1 (even_there x found inside mark (root_in x) (root_at x found));
 }
 
 -- Odd's, where it doesn't
@@ -77,9 +84,9 @@ pub odd_winning : (x : Findings) (e : Piece) → AreFindings x → (system_of x)
     → IsWinning x e
 odd_winning x e found inside one game mark same odd good exact = record {
   game = same;
-  best = inr (subst (λ (g : Game). IsOddOf g e.evidence) (sym same) odd);
+  kind = inr (inr (subst (λ (g : Game). IsOddOf g e.evidence) (sym same) odd));
   good = subst (λ (g : Game). IsGood g e.evidence) (sym same) good;
-  root = λ v at. (exact v).1 (odd_there x found inside one game mark v (ap (λ (g : Game). place_in g (system_of x).initial 0) (sym same) ∙ at));
+  root = (exact (root_in x)).1 (odd_there x found inside one game mark (root_in x) (root_at x found));
 }
 
 -- the same of Odd's where it is made
@@ -94,13 +101,30 @@ odd_found x g (Ok e) found inside one game mark same of odd good exact =
     (subst (λ (h : Game). (v : ℕ) → IsTrue (has e.evidence v) ↔ OddWins h v) same exact)
 odd_found x g (Err e) found inside one game mark same of odd good exact = tt
 
+-- that of a play that goes one way, where it is found, of the texts as they are read off what was found
+pub one_way_found : (x : Findings) (g : Game) (t u : Texts) (nodes : List Node) (o : Option Piece) → g ≡ game_in x → t ≡ x.texts.value → u ≡ x.texts.value
+    → nodes ≡ nodes_with x.solution.priorities (closed_formula t.formula)
+    → IfSome o (λ e. e.game ≡ g) → IfSome o (λ e. IsGood g e.evidence) → IfSome o (λ e. IsTrue (has e.evidence (root_of u.system.system nodes)))
+    → IfSome o (λ e. GoesOneWay g e.evidence)
+    → IfSome o (IsWinning x)
+one_way_found x g t u nodes None same at_t at_u is game good root one = tt
+one_way_found x g t u nodes (Some e) same at_t at_u is game good root one =
+    let whole = subst (λ (y : Texts). nodes ≡ nodes_with x.solution.priorities (closed_formula y.formula)) at_t is in
+    record {
+      game = game ∙ same;
+      good = subst (λ (h : Game). IsGood h e.evidence) (sym game) good;
+      root = subst (λ (ns : List Node). IsTrue (has e.evidence (root_of (system_of x) ns))) whole
+          (subst (λ (y : Texts). IsTrue (has e.evidence (root_of y.system.system nodes))) at_u root);
+      kind = inl (subst (λ (h : Game). GoesOneWay h e.evidence) (sym game) one);
+    }
+
 -- What the play takes by such evidence is shown.
 pub shown_by : (x : Findings) (e : Piece) (nodes : List Node) (part : List Transition) → ChosenIsAdmissible → AreFindings x → IsWinning x e
-    → nodes ≡ nodes_with x.solution.priorities (formula_of x) → IsInside x.texts.value.system part
+    → IsEvidence e.game e.evidence → nodes ≡ nodes_with x.solution.priorities (formula_of x) → IsInside x.texts.value.system part
     → HasTaken (system_of x) nodes e.evidence (system_with x.texts.value.system part)
     → ((f : Formula) → IsAdmitted f → IsNodes (normal_form f) nodes → IsWitness (system_of x) f (system_with x.texts.value.system part))
     → AreShown x part
-shown_by x e nodes part chosen found win same inside taken witness =
+shown_by x e nodes part chosen found win is same inside taken witness =
     let rule = x.solution.priorities in
     let l = system_of x in
     let f = formula_of x in
@@ -112,8 +136,10 @@ shown_by x e nodes part chosen found win same inside taken witness =
       shown = record {
         evidence = e.evidence;
         winners = record {
-          best = subst (λ (g : Game). IsEvenOf g e.evidence ⊎ IsOddOf g e.evidence) game win.best;
-          root = win.root (root_of l (nodes_with rule f)) (ap (λ (g : Game). place_in g l.initial 0) game);
+          evidence = subst (λ (g : Game). IsEvidence g e.evidence) game is;
+          good = subst (λ (g : Game). IsGood g e.evidence) game win.good;
+          root = win.root;
+          kind = subst (λ (g : Game). GoesOneWay g e.evidence ⊎ (IsEvenOf g e.evidence ⊎ IsOddOf g e.evidence)) game win.kind;
         };
         taken = subst (λ (ns : List Node). HasTaken l ns e.evidence whole) same taken;
         witness = witness f admitted (subst (IsNodes (normal_form f)) (sym same) (chosen rule f admitted));
@@ -122,12 +148,13 @@ shown_by x e nodes part chosen found win same inside taken witness =
 
 -- the same of the texts as they are read off what was found
 pub shown_at : (x : Findings) (e : Piece) (t u : Texts) (nodes : List Node) (part : List Transition) → t ≡ x.texts.value → u ≡ x.texts.value
-    → ChosenIsAdmissible → AreFindings x → IsWinning x e → nodes ≡ nodes_with x.solution.priorities (closed_formula t.formula) → IsInside u.system part
+    → ChosenIsAdmissible → AreFindings x → IsWinning x e → IsEvidence e.game e.evidence
+    → nodes ≡ nodes_with x.solution.priorities (closed_formula t.formula) → IsInside u.system part
     → HasTaken u.system.system nodes e.evidence (system_with u.system part)
     → ((f : Formula) → IsAdmitted f → IsNodes (normal_form f) nodes → IsWitness u.system.system f (system_with u.system part))
     → AreShown x part
-shown_at x e t u nodes part at_t at_u chosen found win same inside taken witness =
-    shown_by x e nodes part chosen found win
+shown_at x e t u nodes part at_t at_u chosen found win is same inside taken witness =
+    shown_by x e nodes part chosen found win is
     (subst (λ (y : Texts). nodes ≡ nodes_with x.solution.priorities (closed_formula y.formula)) at_t same)
     (subst (λ (y : Texts). IsInside y.system part) at_u inside)
     (subst (λ (y : Texts). HasTaken y.system.system nodes e.evidence (system_with y.system part)) at_u taken)

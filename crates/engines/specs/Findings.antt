@@ -13,13 +13,12 @@ use Rattle.normal.specs.declared.priorities.Priorities.{Priorities}
 use Rattle.normal.specs.Refused.{HasRefusalWith}
 use Rattle.normal.specs.Rules.{nodes_with}
 use Rattle.game.specs.Game.{Game, greatest}
-use Rattle.game.specs.Arena.{place_in}
 use Rattle.game.specs.Wins.{OddWins, Wins}
 use Rattle.evidence.specs.Best.{IsEvenOf, IsOddOf}
 use Rattle.evidence.specs.Evidence.{IsGood, has}
 use Rattle.evidence.specs.View.{Piece}
 use Rattle.evidence.specs.declared.error.EvidenceError.TheVariants as evidence
-use Rattle.witness.specs.Witness.{IsShown}
+use Rattle.witness.specs.Witness.{GoesOneWay, IsShown, root_of}
 use Rattle.requests.specs.declared.error.MuError.{MuError}
 use Rattle.requests.specs.declared.error.MuError.TheVariants as error
 use Rattle.requests.specs.declared.request.Wanted.{Wanted}
@@ -87,12 +86,12 @@ pub record IsPairOf (g : Game) (pair : EvidencePair) : Type 0 where
   pub even : IsEvenOf g pair.even.evidence
   pub odd : IsOddOf g pair.odd.evidence
 
--- good evidence of the least progress tables that has the initial state's vertex with the root node
+-- good evidence that has the initial state's vertex with the root node: of a play that goes one way from each vertex, or of the least progress tables
 pub record IsWinning (x : Findings) (e : Piece) : Type 0 where
   pub game : e.game ≡ arc_value x.solution.game
-  pub best : IsEvenOf e.game e.evidence ⊎ IsOddOf e.game e.evidence
   pub good : IsGood e.game e.evidence
-  pub root : (v : ℕ) → place_in e.game (system_of x).initial 0 ≡ Some v → IsTrue (has e.evidence v)
+  pub root : IsTrue (has e.evidence (root_of (system_of x) (nodes_with x.solution.priorities (formula_of x))))
+  pub kind : GoesOneWay e.game e.evidence ⊎ (IsEvenOf e.game e.evidence ⊎ IsOddOf e.game e.evidence)
 
 -- the transitions of a witness
 pub record AreShown (x : Findings) (part : List Transition) : Type 0 where

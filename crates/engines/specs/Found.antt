@@ -4,15 +4,17 @@ use Rattle.std.specs.List.{slice_index_or}
 use Rattle.systems.specs.System.{System}
 use Rattle.calculus.specs.Tree.{Formula}
 use Rattle.requests.specs.Check.{Way, AreMarks}
+use Rattle.requests.specs.Known.{AreKnown}
 use Rattle.requests.specs.Texts.{IsFormulaOf}
 use Rattle.engines.specs.declared.table.Found.{Found}
 use Rattle.engines.specs.Table.{expectation}
 
 -- the answer and the number are those of the meaning of the formula that the text spells
-pub record IsFound (way : Way) (l : System) (text : List ℕ) (x : Found) : Type 0 where
+pub record IsFound (strict : Bool) (way : Way) (l : System) (text : List ℕ) (x : Found) : Type 0 where
   pub f : Formula
   pub marks : List Bool
   pub formula : IsFormulaOf text f
+  pub known : AreKnown strict l text
   pub found : AreMarks way l f marks
   pub expected : x.expected ≡ expectation text
   pub answer : x.answer ≡ slice_index_or marks l.initial false

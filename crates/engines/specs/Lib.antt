@@ -1,5 +1,6 @@
 pub mod Findings
 pub mod Found
 pub mod Reasons
+pub mod StrictReasons
 pub mod Status
 pub mod Table

@@ -55,11 +55,6 @@ abbrev pub TellsReasons : Priorities → Option BoardKind → (first second : Li
 TellsReasons rule board first second old new result =
     MatchResult result (λ answer. HasReasons rule board first second answer (Appends old new)) (HasNoReasons rule board first second old new)
 
--- The theorem: of what the readers had left, where they tell it, and of what the writer held before and after.
-abbrev pub TellsWhy : Priorities → Option BoardKind → (aut formula old new : Option (List ℕ)) → Result Bool MuError → Type 0
-TellsWhy rule board aut formula old new result =
-    (first second : List ℕ) → aut ≡ Some first → formula ≡ Some second → TellsReasons rule board first second old new result
-
 -- The transitions are a witness, and the lines tell them.
 pub record AreTold (x : Findings) (told : Told) : Type 0 where
   pub shown : AreShown x told.part.items

@@ -20,6 +20,7 @@ use Rattle.requests.specs.declared.error.MuError.{MuError}
 use Rattle.requests.specs.declared.error.MuError.TheVariants as error
 use Rattle.requests.specs.declared.request.Options.{Options}
 use Rattle.requests.specs.Check.{Way, BySets, ByGame, AreMarks, IsBeyond}
+use Rattle.requests.specs.Known.{AreKnown, IsAbsentAt}
 use Rattle.requests.specs.Report.{line_end}
 use Rattle.requests.specs.Texts.{IsFormulaOf}
 use Rattle.engines.specs.Status.{error_status}
@@ -85,11 +86,13 @@ code_of (error.Table table.TooManyRanks) = codes "T1"
 code_of (error.Table table.Memory) = codes "T2"
 code_of (error.Table table.NoSeat) = codes "T3"
 code_of (error.Solve e) = codes "V1"
+code_of (error.NoLabel offset) = codes "L1"
 code_of _ = []
 
 -- the place in the formula's text, where the refusal has one
 abbrev pub place_of : MuError → List ℕ
 place_of (error.Formula (formula.Fault fault offset)) = codes " at offset " ++ decimal offset
+place_of (error.NoLabel offset) = codes " at offset " ++ decimal offset
 place_of _ = []
 
 abbrev pub name_end : (name : List ℕ) → List ℕ
@@ -105,47 +108,50 @@ refusal_line name e = code_of e ++ (place_of e ++ name_end name)
 abbrev pub way_by : Options → (plain : Bool) → Way
 way_by options plain = if plain then BySets else ByGame options.priorities (Some options.board)
 
--- why a formula has no answer: its text, or a limit that is passed with this system
-abbrev pub IsRefused : Way → System → (text : List ℕ) → MuError → Type 0
-IsRefused way l text error.Read = Unit {0}
-IsRefused way l text error.Memory = Unit {0}
-IsRefused way l text (error.Formula e) = IsTold text e
-IsRefused way l text e = (f : Formula) × IsFormulaOf text f × IsBeyond way l f e
+-- why a formula has no answer: its text, a word of it that is on no transition, where that is asked about, or a limit that is passed with this system
+abbrev pub IsRefused : (strict : Bool) → Way → System → (text : List ℕ) → MuError → Type 0
+IsRefused strict way l text error.Read = Unit {0}
+IsRefused strict way l text error.Memory = Unit {0}
+IsRefused strict way l text (error.Formula e) = IsTold text e
+IsRefused strict way l text (error.NoLabel place) = (f : Formula) × IsFormulaOf text f × IsAbsentAt strict l text place
+IsRefused strict way l text e = (f : Formula) × IsFormulaOf text f × IsBeyond way l f e × AreKnown strict l text
 
--- The line has the initial state's answer in the meaning of the formula that the text spells, and the number of states in it.
-pub record IsAnswer (way : Way) (l : System) (name text line : List ℕ) (status : ℕ) : Type 0 where
+-- The line has the initial state's answer in the meaning of the formula that the text spells, and the number of states in it. Where its words are asked
+-- about, each is on a transition.
+pub record IsAnswer (strict : Bool) (way : Way) (l : System) (name text line : List ℕ) (status : ℕ) : Type 0 where
   pub f : Formula
   pub marks : List Bool
   pub formula : IsFormulaOf text f
+  pub known : AreKnown strict l text
   pub found : AreMarks way l f marks
   pub told : line ≡ answer_line name (expectation text) (slice_index_or marks l.initial false) (count_by (λ mark. mark) marks) l.states
   pub ends : status ≡ (if is_as_expected (expectation text) (slice_index_or marks l.initial false) then 0 else 1)
 
 -- The line has the refusal.
-pub record IsRefusal (way : Way) (l : System) (name text line : List ℕ) (status : ℕ) : Type 0 where
+pub record IsRefusal (strict : Bool) (way : Way) (l : System) (name text line : List ℕ) (status : ℕ) : Type 0 where
   pub e : MuError
-  pub refused : IsRefused way l text e
+  pub refused : IsRefused strict way l text e
   pub told : line ≡ refusal_line name e
   pub ends : status ≡ error_status e
 
 -- the line of a formula's text, and its status
-abbrev pub IsLine : Way → System → (name text line : List ℕ) → (status : ℕ) → Type 0
-IsLine way l name text line status = IsAnswer way l name text line status ⊎ IsRefusal way l name text line status
+abbrev pub IsLine : (strict : Bool) → Way → System → (name text line : List ℕ) → (status : ℕ) → Type 0
+IsLine strict way l name text line status = IsAnswer strict way l name text line status ⊎ IsRefusal strict way l name text line status
 
 -- such a line was written whole
-pub record HasTold (way : Way) (l : System) (name text : List ℕ) (old new : Option (List ℕ)) (status : ℕ) : Type 0 where
+pub record HasTold (strict : Bool) (way : Way) (l : System) (name text : List ℕ) (old new : Option (List ℕ)) (status : ℕ) : Type 0 where
   pub line : List ℕ
-  pub is : IsLine way l name text line status
+  pub is : IsLine strict way l name text line status
   pub written : Appends old new line
 
 -- a beginning of it was written
-pub record HasBegunToTell (way : Way) (l : System) (name text : List ℕ) (old new : Option (List ℕ)) : Type 0 where
+pub record HasBegunToTell (strict : Bool) (way : Way) (l : System) (name text : List ℕ) (old new : Option (List ℕ)) : Type 0 where
   pub line : List ℕ
   pub status : ℕ
-  pub is : IsLine way l name text line status
+  pub is : IsLine strict way l name text line status
   pub begun : WroteFront old new line
 
 -- what a call for a line says of the formula's reader and of the writer
-abbrev pub Tells : Way → System → (name : List ℕ) → (formula old new : Option (List ℕ)) → Result ℕ WriteFault → Type 0
-Tells way l name formula old new result = (text : List ℕ) → formula ≡ Some text
-    → MatchResult result (HasTold way l name text old new) (λ fault. HasBegunToTell way l name text old new)
+abbrev pub Tells : (strict : Bool) → Way → System → (name : List ℕ) → (formula old new : Option (List ℕ)) → Result ℕ WriteFault → Type 0
+Tells strict way l name formula old new result = (text : List ℕ) → formula ≡ Some text
+    → MatchResult result (HasTold strict way l name text old new) (λ fault. HasBegunToTell strict way l name text old new)

@@ -7,7 +7,7 @@ ghost use Rattle.requests.specs.Check.{Way, BySets, ByGame, AreMarks, AreSpelled
 ghost use Rattle.requests.specs.Command.{wanted_in, way_of};
 ghost use Rattle.requests.specs.Strict.{ChecksBy};
 ghost use Rattle.engines.specs.Findings.{AreFindings, formula_of, system_of, way_in};
-ghost use Rattle.requests.specs.Writers.{all_writers, evidence_writers, game_writer, no_writer, report_writer};
+ghost use Rattle.requests.specs.Writers.{all_writers, evidence_writers, game_writer, lent_writers, no_writer, report_writer};
 
 use crate::findings::{Findings, find_alone, find_in, find_with};
 use crate::marks::{game_marks, plain_marks};
@@ -21,7 +21,7 @@ use requests::error::MuError;
 use requests::request::{Check, Options, ReportForm, Wanted};
 use requests::texts::{Texts, read_asked, read_both_seen};
 use requests::watch::Watcher;
-use requests::writers::EvidenceWriters;
+use requests::writers::{EvidenceWriters, Writers};
 use std::alloc::Global;
 use std::io::{Read, Write};
 use std::sync::Wait;
@@ -197,11 +197,11 @@ fn report<W: Write>(
 pub fn check_asked<
     R: Read + Drop,
     S: Read + Drop,
-    W: Write,
     G: Write,
     E: Write,
     O: Write,
     V: Write,
+    W: Write,
     U: Watcher + Sync,
     H: Threads + Wait + Clone + Copy + Drop + Send + Sync,
 >(
@@ -211,32 +211,25 @@ pub fn check_asked<
     wanted: Wanted,
     aut: R,
     formula: S,
-    out: &mut W,
-    game: &mut G,
-    even: &mut E,
-    odd: &mut O,
-    witness: &mut V,
+    writers: &mut Writers<G, E, O, V, W>,
     watcher: &U,
 ) -> Result<bool, MuError>
     ensures { ChecksBy request.now.strict (way_of request.now) (R.remaining aut) (S.remaining formula)
-        (all_writers (wanted_in request.now wanted) (G.contents game.old) (G.contents game.new) (E.contents even.old) (E.contents even.new)
-        (O.contents odd.old) (O.contents odd.new) (V.contents witness.old) (V.contents witness.new) (W.contents out.old) (W.contents out.new)) result }
+        (lent_writers G.contents E.contents O.contents V.contents W.contents (wanted_in request.now wanted) writers.old writers.new) result }
 {
     match read_asked(alloc, aut, formula, request.strict, watcher) {
-        Ok(texts) => check_read(
-            rt, alloc, request, wanted, texts, out, game, even, odd, witness, watcher,
-        ),
+        Ok(texts) => check_read(rt, alloc, request, wanted, texts, writers, watcher),
         Err(error) => Err(error),
     }
 }
 
 /// Checks what was read, as a command asks for it.
 fn check_read<
-    W: Write,
     G: Write,
     E: Write,
     O: Write,
     V: Write,
+    W: Write,
     U: Watcher + Sync,
     H: Threads + Wait + Clone + Copy + Drop + Send + Sync,
 >(
@@ -245,25 +238,18 @@ fn check_read<
     request: &Check<'_>,
     wanted: Wanted,
     texts: Texts,
-    out: &mut W,
-    game: &mut G,
-    even: &mut E,
-    odd: &mut O,
-    witness: &mut V,
+    writers: &mut Writers<G, E, O, V, W>,
     watcher: &U,
 ) -> Result<bool, MuError>
     ensures { (first second : List ℕ) → AreSpelled first second texts.system.system (closed_formula texts.formula)
         → Answers (way_of request.now) first second
-        (all_writers (wanted_in request.now wanted) (G.contents game.old) (G.contents game.new) (E.contents even.old) (E.contents even.new)
-        (O.contents odd.old) (O.contents odd.new) (V.contents witness.old) (V.contents witness.new) (W.contents out.old) (W.contents out.new)) result }
+        (lent_writers G.contents E.contents O.contents V.contents W.contents (wanted_in request.now wanted) writers.old writers.new) result }
 {
     if request.plain {
-        return report_plain(alloc, &texts, wanted.report, out, watcher);
+        return report_plain(alloc, &texts, wanted.report, &mut writers.report, watcher);
     }
     let options = &request.options;
-    check_by_game(
-        rt, alloc, texts, options, wanted, out, game, even, odd, witness, watcher,
-    )
+    check_by_game(rt, alloc, texts, options, wanted, writers, watcher)
 }
 
 /// Checks a formula at each state of a system by a parity game, with the priorities of the options' rule, which is solved by the
@@ -347,11 +333,11 @@ pub fn check_gated<
 pub fn check_all<
     R: Read + Drop,
     S: Read + Drop,
-    W: Write,
     G: Write,
     E: Write,
     O: Write,
     V: Write,
+    W: Write,
     U: Watcher + Sync,
     H: Threads + Wait + Clone + Copy + Drop + Send + Sync,
 >(
@@ -361,32 +347,25 @@ pub fn check_all<
     formula: S,
     options: &Options,
     wanted: Wanted,
-    out: &mut W,
-    game: &mut G,
-    even: &mut E,
-    odd: &mut O,
-    witness: &mut V,
+    writers: &mut Writers<G, E, O, V, W>,
     watcher: &U,
 ) -> Result<bool, MuError>
     ensures { Checks (ByGame options.now.priorities (Some options.now.board)) (R.remaining aut) (S.remaining formula)
-        (all_writers wanted (G.contents game.old) (G.contents game.new) (E.contents even.old) (E.contents even.new) (O.contents odd.old) (O.contents odd.new)
-        (V.contents witness.old) (V.contents witness.new) (W.contents out.old) (W.contents out.new)) result }
+        (lent_writers G.contents E.contents O.contents V.contents W.contents wanted writers.old writers.new) result }
 {
     match read_both_seen(alloc, aut, formula, watcher) {
-        Ok(texts) => check_by_game(
-            rt, alloc, texts, options, wanted, out, game, even, odd, witness, watcher,
-        ),
+        Ok(texts) => check_by_game(rt, alloc, texts, options, wanted, writers, watcher),
         Err(error) => Err(error),
     }
 }
 
 /// Checks by a game what was read, and writes what is wanted.
 fn check_by_game<
-    W: Write,
     G: Write,
     E: Write,
     O: Write,
     V: Write,
+    W: Write,
     U: Watcher + Sync,
     H: Threads + Wait + Clone + Copy + Drop + Send + Sync,
 >(
@@ -395,25 +374,30 @@ fn check_by_game<
     texts: Texts,
     options: &Options,
     wanted: Wanted,
-    out: &mut W,
-    game: &mut G,
-    even: &mut E,
-    odd: &mut O,
-    witness: &mut V,
+    writers: &mut Writers<G, E, O, V, W>,
     watcher: &U,
 ) -> Result<bool, MuError>
     ensures { (first second : List ℕ) → AreSpelled first second texts.system.system (closed_formula texts.formula)
         → Answers (ByGame options.now.priorities (Some options.now.board)) first second
-        (all_writers wanted (G.contents game.old) (G.contents game.new) (E.contents even.old) (E.contents even.new) (O.contents odd.old) (O.contents odd.new)
-        (V.contents witness.old) (V.contents witness.new) (W.contents out.old) (W.contents out.new)) result }
+        (lent_writers G.contents E.contents O.contents V.contents W.contents wanted writers.old writers.new) result }
 {
     if wanted.is_nothing() {
+        let out = &mut writers.report;
         return report_by_game(rt, alloc, &texts, options, wanted.report, out, watcher);
     }
     match find_in(rt, alloc, texts, options, watcher) {
         Ok(found) => {
             watcher.sees(Stage::Writing);
-            answer_wanted(alloc, &found, wanted, game, even, odd, witness, out)
+            answer_wanted(
+                alloc,
+                &found,
+                wanted,
+                &mut writers.game,
+                &mut writers.even,
+                &mut writers.odd,
+                &mut writers.witness,
+                &mut writers.report,
+            )
         }
         Err(error) => Err(error),
     }

@@ -127,44 +127,8 @@ pub fn find_with<
     )
 }
 
-/// Finds what `find_with` does, and tells a watcher what is being read, built, searched and lifted. Where a guess of the whole table is good, no
-/// worker lifts, however many there are.
-///
-/// # Errors
-/// Those of `find_with`.
-pub fn find_seen<
-    R: Read + Drop,
-    S: Read + Drop,
-    O: Watcher + Sync,
-    H: Threads + Wait + Clone + Copy + Drop + Send + Sync,
->(
-    rt: &H,
-    alloc: Global,
-    aut: R,
-    formula: S,
-    options: &Options,
-    observer: &O,
-) -> Result<Findings, MuError>
-    ensures found { IfOk result AreFindings }
-    ensures way { IfOk result (λ found. way_in found ≡ ByGame options.now.priorities (Some options.now.board)) }
-    ensures spelled { (first second : List ℕ) → R.remaining aut ≡ Some first → S.remaining formula ≡ Some second
-        → IfOk result (λ found. AreSpelled first second (system_of found) (formula_of found)) }
-    ensures refusal { (first second : List ℕ) → R.remaining aut ≡ Some first → S.remaining formula ≡ Some second
-        → (writers : List Lent) → AreKept writers → IfErr result (HasRefused (ByGame options.now.priorities (Some options.now.board)) first second writers) }
-{
-    find_by_texts(
-        rt,
-        alloc,
-        aut,
-        formula,
-        options,
-        Helped::EveryTeam,
-        &NoGate,
-        observer,
-    )
-}
-
-/// Finds what `find_seen` does of texts that were read.
+/// Finds what `find_with` does, of texts that were read, and tells a watcher what is being built, searched and lifted. Where a guess of the whole
+/// table is good, no worker lifts, however many there are.
 ///
 /// # Errors
 /// Those of the normal form, of the game, of the board and of the workers' table; U4.

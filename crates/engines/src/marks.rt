@@ -12,7 +12,7 @@ use crate::guessing::guess_of;
 use crate::lifting::{Solution, state_marks};
 use crate::ranked::ranked_marks;
 use calculus::closed::Closed;
-use certify::decide::certified_winners;
+use certify::shared::certified_winners_by;
 use game::graph::Game;
 use lts::Memory;
 use lts::system::Lts;
@@ -85,7 +85,7 @@ pub(crate) fn game_marks<O: Observer + Sync, H: Threads + Wait + Clone + Copy + 
     ensures { let l = system.now.system in let f = closed_formula formula.now in let way = ByGame options.now.priorities (Some options.now.board) in
         MatchResult result (λ marks. AreMarks way l f marks.items) (IsBeyond way l f) }
 {
-    match ranked_marks(alloc, system, formula, options, observer) {
+    match ranked_marks(rt, alloc, system, formula, options, observer) {
         Some(marks) => Ok(marks),
         None => stored_marks(rt, alloc, system, formula, options, observer),
     }
@@ -164,7 +164,7 @@ fn solution_of<O: Observer + Sync, H: Threads + Wait + Clone + Copy + Drop + Sen
     if let Some(settled) = settled_by_guess(alloc, game, &guess) {
         return Ok(Solution::Table(settled));
     }
-    if let Some(marks) = certified_winners(alloc, game) {
+    if let Some(marks) = certified_winners_by(rt, alloc, game, options.workers as usize) {
         return Ok(Solution::Marks(marks));
     }
     let settled = solve_seen(rt, alloc, game, options, &NoGate, observer, &guess)?;

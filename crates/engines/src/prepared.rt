@@ -12,6 +12,7 @@ use crate::report::report_text;
 use evidence::error::EvidenceError;
 use evidence::evidence::Evidence;
 use evidence::make::{even_evidence, odd_evidence};
+use lassos::making::one_way_evidence;
 use laws::chosen_is_admissible;
 use laws::games::one_wins;
 use lts::{Memory, Transition};
@@ -104,11 +105,67 @@ fn shown_where(
     let Some(form) = form else {
         return Ok(None);
     };
-    let part = match pair {
-        Some(pair) => part_in(alloc, found, pair)?,
-        None => part_alone(alloc, found)?,
-    };
+    let part = part_of(alloc, found, pair)?;
     Ok(Some(Shown { form, part }))
+}
+
+/// The transitions that the answer rests on: those of a play that goes one way from each vertex, where one is found, and else what the play by
+/// the evidence of all that the winner wins takes.
+pub(crate) fn part_of(
+    alloc: Global,
+    found: &Findings,
+    pair: &Option<EvidencePair>,
+) -> Result<Vec<Transition>, MuError>
+    requires found { AreFindings found.now }
+    requires pair { IfSome pair.now (IsPairOf (arc_value found.now.solution.game)) }
+    ensures part { IfOk result (λ part. AreShown found.now part.items) }
+    ensures refusal { IfErr result (IsUnshown found.now) }
+{
+    match one_way(alloc, found) {
+        Ok(Some(evidence)) => part_by(alloc, found, &evidence),
+        Ok(None) => part_of_all(alloc, found, pair),
+        Err(error) => Err(error),
+    }
+}
+
+/// Evidence of a play that goes one way from each vertex, where one is found.
+fn one_way(alloc: Global, found: &Findings) -> Result<Option<Evidence>, MuError>
+    requires { AreFindings found.now }
+    ensures winning { IfOk result (λ evidence. IfSome evidence (IsWinning found.now)) }
+    ensures refusal { IfErr result (IsUnshown found.now) }
+{
+    let texts = &found.texts;
+    let solution = &found.solution;
+    match normal_with(alloc, &texts.formula, solution.priorities) {
+        Ok(normal) => match one_way_evidence(
+            alloc,
+            &texts.system,
+            &normal,
+            &solution.game,
+            &solution.settled,
+        ) {
+            Ok(evidence) => Ok(evidence),
+            Err(Memory) => Err(MuError::Memory),
+        },
+        Err(error) => Err(MuError::Normal(error)),
+    }
+}
+
+/// The transitions that the answer rests on, by the evidence of all that the winner wins.
+fn part_of_all(
+    alloc: Global,
+    found: &Findings,
+    pair: &Option<EvidencePair>,
+) -> Result<Vec<Transition>, MuError>
+    requires found { AreFindings found.now }
+    requires pair { IfSome pair.now (IsPairOf (arc_value found.now.solution.game)) }
+    ensures part { IfOk result (λ part. AreShown found.now part.items) }
+    ensures refusal { IfErr result (IsUnshown found.now) }
+{
+    match pair {
+        Some(pair) => part_in(alloc, found, pair),
+        None => part_alone(alloc, found),
+    }
 }
 
 /// The transitions that the answer rests on, by the evidence of both players.
@@ -128,7 +185,7 @@ fn part_in(alloc: Global, found: &Findings, pair: &EvidencePair) -> Result<Vec<T
 }
 
 /// The transitions that the answer rests on, where there is no evidence yet: that of the player who wins is made.
-pub(crate) fn part_alone(alloc: Global, found: &Findings) -> Result<Vec<Transition>, MuError>
+fn part_alone(alloc: Global, found: &Findings) -> Result<Vec<Transition>, MuError>
     requires { AreFindings found.now }
     ensures part { IfOk result (λ part. AreShown found.now part.items) }
     ensures refusal { IfErr result (IsUnshown found.now) }
@@ -163,6 +220,7 @@ fn part_by(alloc: Global, found: &Findings, evidence: &Evidence) -> Result<Vec<T
     ensures refusal { IfErr result (IsUnshown found.now) }
 {
     chosen_is_admissible();
+    evidence.known();
     let texts = &found.texts;
     match normal_with(alloc, &texts.formula, found.solution.priorities) {
         Ok(normal) => match witness(

@@ -20,22 +20,35 @@ use rankings::sheet::Sheet;
 use rankings::winners::root_winners;
 use requests::request::Options;
 use std::alloc::Global;
+use std::thread::Threads;
 use workers::team::BoardKind;
 
-/// The ranking that is guessed, if there is one.
-fn guessed_sheet(alloc: Global, system: &Lts, form: &Normal) -> Option<Sheet> {
-    let guessed = columns(alloc, system, form).ok()??;
+/// The ranking that is guessed by so many threads, if there is one.
+fn guessed_sheet<H: Threads + Sync>(
+    rt: &H,
+    alloc: Global,
+    system: &Lts,
+    form: &Normal,
+    workers: u32,
+) -> Option<Sheet> {
+    let guessed = columns(rt, alloc, system, form, workers).ok()??;
     Sheet::of(guessed.words, guessed.even_shifts, guessed.odd_shifts)
 }
 
-/// A mark for each state, true where Even wins its vertex with the root node, where the ranking that is guessed is good.
-fn guessed_winners(alloc: Global, system: &Lts, form: &Normal) -> Option<Vec<bool>>
+/// A mark for each state, true where Even wins its vertex with the root node, where the ranking that is guessed is good. So many threads guess and test.
+fn guessed_winners<H: Threads + Sync>(
+    rt: &H,
+    alloc: Global,
+    system: &Lts,
+    form: &Normal,
+    workers: u32,
+) -> Option<Vec<bool>>
     ensures few { IfSome result (λ _. 2 + system.now.system.states * length (normal_nodes form.now) ≤ MOST_VERTICES) }
     ensures wins { IfSome result (λ marks. Marks system.now.system.states marks.items
         (λ s. Wins (arena system.now.system (normal_nodes form.now)) (place (length (normal_nodes form.now)) s 0))) }
 {
-    match guessed_sheet(alloc, system, form) {
-        Some(sheet) => root_winners(alloc, system, form, &sheet),
+    match guessed_sheet(rt, alloc, system, form, workers) {
+        Some(sheet) => root_winners(rt, alloc, system, form, &sheet, workers),
         None => None,
     }
 }
@@ -49,7 +62,8 @@ fn is_packed(board: BoardKind) -> bool
 /// A mark for each state, true where it satisfies the formula: by a ranking of the game of both that is guessed and found good. There is none where it
 /// isn't good, where a limit is passed, or for want of memory; nor where the packed board is asked for, since what that can hold is known of a game
 /// that is stored. An observer is told that winners are searched for.
-pub(crate) fn ranked_marks<O: Observer>(
+pub(crate) fn ranked_marks<O: Observer, H: Threads + Sync>(
+    rt: &H,
     alloc: Global,
     system: &Lts,
     formula: &Closed,
@@ -69,7 +83,7 @@ pub(crate) fn ranked_marks<O: Observer>(
         Ok(form) => {
             let vertices = 2 + states * form.count();
             observer.sees(Stage::Searching { vertices });
-            guessed_winners(alloc, system, &form)
+            guessed_winners(rt, alloc, system, &form, options.workers)
         }
         Err(_) => None,
     }

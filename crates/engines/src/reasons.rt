@@ -6,16 +6,18 @@ ghost use Rattle.calculus.specs.Closed.{closed_formula};
 ghost use Rattle.text.specs.Wrote.{Wrote};
 ghost use Rattle.requests.specs.Check.{AreSpelled};
 ghost use Rattle.engines.specs.Findings.{AreFindings, AreShown, IsUnshown, formula_of, system_of};
-ghost use Rattle.engines.specs.Reasons.{AreTold, TellsReasons, TellsWhy, reasons};
+ghost use Rattle.engines.specs.Reasons.{AreTold, TellsReasons, reasons};
+ghost use Rattle.engines.specs.StrictReasons.{TellsWhyBy};
 
-use crate::findings::{Findings, find_seen};
+use crate::findings::{Findings, find_in};
 use crate::outputs::answer;
-use crate::prepared::part_alone;
+use crate::prepared::part_of;
 use crate::report::{write_formula_line, write_initial_line};
 use lts::{Memory, Transition, WriteFault};
 use measures::observer::{Observer, Stage};
 use requests::error::MuError;
-use requests::request::Options;
+use requests::request::{Options, Why};
+use requests::texts::{Texts, read_asked};
 use requests::watch::Watcher;
 use std::alloc::Global;
 use std::io::{Read, Write};
@@ -36,10 +38,11 @@ pub(crate) struct Told {
 }
 
 /// Writes the formula, whether the initial state satisfies it, and a witness of that, told from the initial state on. It answers whether the
-/// initial state satisfies the formula. The witness is the one that a check writes. Nothing is written before all memory was taken.
+/// initial state satisfies the formula. The witness is the one that a check writes. Nothing is written before all memory was taken. Where it is
+/// strict, each word of the formula has to be on a transition.
 ///
 /// # Errors
-/// Those of `check_all` where it writes a witness alone.
+/// Those of `check_all` where it writes a witness alone; L1 where it is strict.
 pub fn tell_why<
     R: Read + Drop,
     S: Read + Drop,
@@ -49,15 +52,34 @@ pub fn tell_why<
 >(
     rt: &H,
     alloc: Global,
+    request: &Why<'_>,
     aut: R,
     formula: S,
+    out: &mut W,
+    watcher: &U,
+) -> Result<bool, MuError>
+    ensures { TellsWhyBy request.now.strict request.now.options.priorities (Some request.now.options.board) (R.remaining aut) (S.remaining formula)
+        (W.contents out.old) (W.contents out.new) result }
+{
+    match read_asked(alloc, aut, formula, request.strict, watcher) {
+        Ok(texts) => tell_read(rt, alloc, texts, &request.options, out, watcher),
+        Err(error) => Err(error),
+    }
+}
+
+/// Tells why, of texts that were read.
+fn tell_read<W: Write, U: Watcher + Sync, H: Threads + Wait + Clone + Copy + Drop + Send + Sync>(
+    rt: &H,
+    alloc: Global,
+    texts: Texts,
     options: &Options,
     out: &mut W,
     watcher: &U,
 ) -> Result<bool, MuError>
-    ensures { TellsWhy options.now.priorities (Some options.now.board) (R.remaining aut) (S.remaining formula) (W.contents out.old) (W.contents out.new) result }
+    ensures { (first second : List ℕ) → AreSpelled first second texts.system.system (closed_formula texts.formula)
+        → TellsReasons options.now.priorities (Some options.now.board) first second (W.contents out.old) (W.contents out.new) result }
 {
-    match find_seen(rt, alloc, aut, formula, options, watcher) {
+    match find_in(rt, alloc, texts, options, watcher) {
         Ok(found) => {
             watcher.sees(Stage::Writing);
             tell_found(alloc, &found, out)
@@ -88,7 +110,7 @@ fn told_of(alloc: Global, found: &Findings) -> Result<Told, MuError>
     ensures told { IfOk result (AreTold found.now) }
     ensures refusal { IfErr result (IsUnshown found.now) }
 {
-    match part_alone(alloc, found) {
+    match part_of(alloc, found, &None) {
         Ok(part) => told_by(alloc, found, part),
         Err(error) => Err(error),
     }

@@ -1,16 +1,20 @@
 // A table: the answers of one system to many formulas, a line for each.
 
 ghost use Rattle.std.specs.Prelude.{◌≡◌, ℕ, List, take, length, count_by, slice_index_or, false, Some, IfOk, MatchResult, if◌then◌else◌};
+ghost use Rattle.calculus.specs.Closed.{closed_formula};
 ghost use Rattle.text.specs.Wrote.{Wrote};
 ghost use Rattle.requests.specs.declared.texts.TheConstants.{FORMULA_BYTES};
 ghost use Rattle.engines.specs.Found.{IsFound};
 ghost use Rattle.engines.specs.Status.{error_status as status_of_error};
+ghost use Rattle.requests.specs.Known.{AreKnown};
+ghost use Rattle.requests.specs.Texts.{IsFormulaOf};
 ghost use Rattle.engines.specs.Table.{IsRefused, Tells, answer_line, code_of, fault_code, is_as_expected, name_end, place_of, refusal_line, remark, way_by};
 
 use crate::expectation::expectation;
 use crate::marks::marks_by;
 use crate::report::marked;
 use crate::status::error_status;
+use calculus::closed::Closed;
 use formula::error::{FormulaError, FormulaFault};
 use game::error::BuildError;
 use lts::system::Lts;
@@ -18,8 +22,8 @@ use lts::{Piece, WriteFault, put, put_pieces};
 use measures::observer::Silent;
 use normal::error::NormalError;
 use requests::error::MuError;
-use requests::request::Options;
-use requests::texts::{formula_of, read_front};
+use requests::request::Table;
+use requests::texts::{formula_of, look_where, read_front};
 use std::alloc::Global;
 use std::io::{Read, Write};
 use std::sync::Wait;
@@ -37,9 +41,10 @@ pub struct Found {
     pub marked: usize,
 }
 
-/// Writes the line of a formula's text: the initial state's answer and how many states satisfy the formula, or why there is no
-/// answer; and the name. It answers the status that the line comes to: 0 where the answer is as expected, which is yes where the
-/// text says nothing, else 1, and of a refusal that of `status`.
+/// Writes the line of a formula's text, as a table is asked for: the initial state's answer and how many states satisfy the formula, or why there
+/// is no answer; and the name. It answers the status that the line comes to: 0 where the answer is as expected, which is yes where the
+/// text says nothing, else 1, and of a refusal that of `status`. Where the table is strict, a formula is refused of which a word is on no
+/// transition.
 ///
 /// # Errors
 /// W1.
@@ -47,15 +52,15 @@ pub fn table_line<S: Read + Drop, W: Write, H: Threads + Wait + Clone + Copy + D
     rt: &H,
     alloc: Global,
     system: &Lts,
-    options: &Options,
-    plain: bool,
+    request: &Table<'_>,
     name: &str,
     formula: S,
     out: &mut W,
 ) -> Result<u8, WriteFault>
-    ensures { Tells (way_by options.now plain) system.now.system name.now (S.remaining formula) (W.contents out.old) (W.contents out.new) result }
+    ensures { Tells request.now.strict (way_by request.now.options request.now.plain) system.now.system name.now
+        (S.remaining formula) (W.contents out.old) (W.contents out.new) result }
 {
-    match find(rt, alloc, system, options, plain, formula) {
+    match find(rt, alloc, system, request, formula) {
         Ok(found) => tell_answer(name, &found, system.states(), out),
         Err(error) => tell_refusal(name, &error, out),
     }
@@ -66,15 +71,14 @@ fn find<S: Read + Drop, H: Threads + Wait + Clone + Copy + Drop + Send + Sync>(
     rt: &H,
     alloc: Global,
     system: &Lts,
-    options: &Options,
-    plain: bool,
+    request: &Table<'_>,
     formula: S,
 ) -> Result<Found, MuError>
-    ensures { (text : List ℕ) → S.remaining formula ≡ Some text
-        → MatchResult result (IsFound (way_by options.now plain) system.now.system text) (IsRefused (way_by options.now plain) system.now.system text) }
+    ensures { let strict = request.now.strict in let way = way_by request.now.options request.now.plain in let l = system.now.system in
+        (text : List ℕ) → S.remaining formula ≡ Some text → MatchResult result (IsFound strict way l text) (IsRefused strict way l text) }
 {
     match read_front(alloc, formula) {
-        Ok(front) => find_in(rt, alloc, system, options, plain, &front),
+        Ok(front) => find_in(rt, alloc, system, request, &front),
         Err(error) => Err(error),
     }
 }
@@ -84,21 +88,52 @@ fn find_in<H: Threads + Wait + Clone + Copy + Drop + Send + Sync>(
     rt: &H,
     alloc: Global,
     system: &Lts,
-    options: &Options,
-    plain: bool,
+    request: &Table<'_>,
     front: &[u8],
 ) -> Result<Found, MuError>
-    ensures { (text : List ℕ) → front.now ≡ take FORMULA_BYTES text
-        → MatchResult result (IsFound (way_by options.now plain) system.now.system text) (IsRefused (way_by options.now plain) system.now.system text) }
+    ensures { let strict = request.now.strict in let way = way_by request.now.options request.now.plain in let l = system.now.system in
+        (text : List ℕ) → front.now ≡ take FORMULA_BYTES text → MatchResult result (IsFound strict way l text) (IsRefused strict way l text) }
 {
     match formula_of(alloc, front) {
-        Ok(formula) => {
-            let marks = marks_by(rt, alloc, system, &formula, options, plain, &Silent);
-            match marks {
-                Ok(marks) => Ok(found_of(system, &marks, expectation(front))),
-                Err(error) => Err(error),
-            }
-        }
+        Ok(formula) => find_known(rt, alloc, system, request, front, &formula),
+        Err(error) => Err(error),
+    }
+}
+
+/// What is found of a formula with this text, of which each word has to be on a transition where the table is strict.
+fn find_known<H: Threads + Wait + Clone + Copy + Drop + Send + Sync>(
+    rt: &H,
+    alloc: Global,
+    system: &Lts,
+    request: &Table<'_>,
+    text: &[u8],
+    formula: &Closed,
+) -> Result<Found, MuError>
+    ensures { let strict = request.now.strict in let way = way_by request.now.options request.now.plain in let l = system.now.system in
+        IsFormulaOf text.now (closed_formula formula.now) → MatchResult result (IsFound strict way l text.now) (IsRefused strict way l text.now) }
+{
+    match look_where(alloc, system, text, request.strict) {
+        Ok(()) => find_marked(rt, alloc, system, request, text, formula),
+        Err(error) => Err(error),
+    }
+}
+
+/// What is found of it where its words are on transitions, or may be on none.
+fn find_marked<H: Threads + Wait + Clone + Copy + Drop + Send + Sync>(
+    rt: &H,
+    alloc: Global,
+    system: &Lts,
+    request: &Table<'_>,
+    text: &[u8],
+    formula: &Closed,
+) -> Result<Found, MuError>
+    ensures { let strict = request.now.strict in let way = way_by request.now.options request.now.plain in let l = system.now.system in
+        IsFormulaOf text.now (closed_formula formula.now) → AreKnown strict l text.now
+        → MatchResult result (IsFound strict way l text.now) (IsRefused strict way l text.now) }
+{
+    let options = &request.options;
+    match marks_by(rt, alloc, system, formula, options, request.plain, &Silent) {
+        Ok(marks) => Ok(found_of(system, &marks, expectation(text))),
         Err(error) => Err(error),
     }
 }
@@ -233,9 +268,8 @@ fn put_place<W: Write>(error: &MuError, out: &mut W) -> Result<(), WriteFault>
     ensures { Wrote (W.contents out.old) (W.contents out.new) result (place_of error.now) }
 {
     match error {
-        MuError::Formula(FormulaError::Fault { fault: _, offset }) => {
-            put_number(out, b" at offset ", *offset)
-        }
+        MuError::Formula(FormulaError::Fault { fault: _, offset }) | MuError::NoLabel { offset } =>
+            put_number(out, b" at offset ", *offset),
         _ => Ok(()),
     }
 }
@@ -258,6 +292,7 @@ fn code(error: &MuError) -> &'static [u8]
         MuError::Table(TableError::Memory) => b"T2",
         MuError::Table(TableError::NoSeat) => b"T3",
         MuError::Solve(_) => b"V1",
+        MuError::NoLabel { .. } => b"L1",
         // No formula is refused so.
         _ => b"",
     }

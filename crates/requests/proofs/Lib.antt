@@ -1,3 +1,4 @@
 mod Fronts
 pub mod Readings
 mod Words
+pub mod Orders

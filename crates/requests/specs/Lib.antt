@@ -7,3 +7,4 @@ pub mod Command
 pub mod Roots
 pub mod Solver
 pub mod Strict
+pub mod Known

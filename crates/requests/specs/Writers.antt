@@ -10,6 +10,7 @@ use Rattle.requests.specs.declared.request.WitnessForm.{WitnessForm}
 use Rattle.requests.specs.declared.request.WitnessForm.TheVariants.{System, Drawing}
 use Rattle.requests.specs.declared.writers.EvidenceWriters.{EvidenceWriters}
 use Rattle.requests.specs.declared.writers.EvidenceWriters.TheVariants.{Neither, Both}
+use Rattle.requests.specs.declared.writers.Writers.{Writers}
 
 -- the texts that a check writes; `Unasked` is that of a writer from which none is asked for
 pub data Kind : Type 0 where
@@ -114,3 +115,12 @@ all_writers wanted old_game new_game old_even new_even old_odd new_odd old_witne
     ∷ (lent_for (kind_where wanted.evidence OddText) old_odd new_odd
     ∷ (lent_for (witness_kind wanted.witness) old_witness new_witness
     ∷ report_writer wanted.report old_report new_report)))
+
+-- what is known of a writer's bytes
+abbrev pub Contents : Type 0 → Type 0
+Contents W = W → Option (List ℕ)
+
+-- those of a record of writers, before and after
+abbrev pub lent_writers : {G E O V W : Type 0} → Contents G → Contents E → Contents O → Contents V → Contents W → Wanted → (old new : Writers G E O V W) → List Lent
+lent_writers games evens odds witnesses reports wanted old new = all_writers wanted (games old.game) (games new.game) (evens old.even) (evens new.even)
+    (odds old.odd) (odds new.odd) (witnesses old.witness) (witnesses new.witness) (reports old.report) (reports new.report)

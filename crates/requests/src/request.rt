@@ -1,4 +1,4 @@
-// What a check is asked for.
+// What a check is asked for, a telling of its answer, and a table of many.
 
 ghost use Rattle.std.specs.Prelude.{◌≡◌, ◌≤◌, ◌↔◌, None, IsTrue, false};
 
@@ -27,6 +27,28 @@ pub struct Check<'a> {
     /// By sets of states, without a game.
     pub plain: bool,
     /// With a refusal where a name or a quoted label of the formula is on no transition.
+    pub strict: bool,
+}
+
+/// Why the initial state satisfies a formula, or doesn't: the answer and a witness, told line by line.
+#[derive(Clone, Copy)]
+pub struct Why<'a> {
+    pub system: &'a str,
+    pub formula: &'a str,
+    pub options: Options,
+    /// With a refusal where a name or a quoted label of the formula is on no transition.
+    pub strict: bool,
+}
+
+/// The answers of one system to many formulas, a line for each.
+#[derive(Drop)]
+pub struct Table<'a> {
+    pub system: &'a str,
+    pub formulas: Vec<&'a str>,
+    pub options: Options,
+    /// By sets of states, without a game.
+    pub plain: bool,
+    /// With a refusal of each formula of which a name or a quoted label is on no transition.
     pub strict: bool,
 }
 

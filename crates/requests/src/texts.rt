@@ -4,6 +4,7 @@ ghost use Rattle.std.specs.Prelude.{◌≡◌, ℕ, List, take, IfOk, IfErr, IfS
 ghost use Rattle.calculus.specs.Closed.{closed_formula};
 ghost use Rattle.requests.specs.Texts.{IsFormulaOf, IsReadRefusal, IsReadFault, IsReading};
 ghost use Rattle.requests.specs.Check.{Way, BySets, AreSpelled, HasRefused, IsErrorOf};
+ghost use Rattle.requests.specs.Known.{AreKnown};
 ghost use Rattle.requests.specs.Strict.{HasRefusedBy, IsLookRefusal, IsUnread, KnowsWords};
 ghost use Rattle.words.specs.Absent.{IsFirstAbsent};
 ghost use Rattle.requests.specs.Writers.{AreKept, Lent};
@@ -123,6 +124,22 @@ fn strictly(alloc: Global, reading: Reading) -> Result<Texts, MuError>
     match look(alloc, &reading.texts.system, &reading.text) {
         Ok(()) => Ok(texts_of(reading)),
         Err(error) => Err(error),
+    }
+}
+
+/// Where that is asked for, looks for a word of a formula's text that is on no transition.
+///
+/// # Errors
+/// L1 with the place of the first such word, where it is asked for; U4.
+pub fn look_where(alloc: Global, system: &Lts, text: &[u8], strict: bool) -> Result<(), MuError>
+    ensures known { IfOk result (λ _. AreKnown strict system.now.system text.now) }
+    ensures asked { IfErr result (λ _. IsTrue strict) }
+    ensures refusal { IfErr result (IsLookRefusal system.now.system text.now) }
+{
+    if strict {
+        look(alloc, system, text)
+    } else {
+        Ok(())
     }
 }
 

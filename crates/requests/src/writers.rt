@@ -6,3 +6,15 @@ pub enum EvidenceWriters<'a, E, O> {
     Neither,
     Both(&'a mut E, &'a mut O),
 }
+
+/// A writer for each text of a check, in the order in which they are written to.
+#[derive(Drop)]
+pub struct Writers<G, E, O, V, W> {
+    pub game: G,
+    /// Of Even's evidence.
+    pub even: E,
+    /// Of Odd's.
+    pub odd: O,
+    pub witness: V,
+    pub report: W,
+}

@@ -11,10 +11,10 @@ returns-in-Ok g c = λ first second known also.
 pub returns-in-Err : goal.returns-in-Err
 returns-in-Err g c = λ first second known also.
     let wanted = wanted_in c.args.request.now c.args.wanted in
-    let game = g.G.Write.contents c.args.game.now in
-    let even = g.E.Write.contents c.args.even.now in
-    let odd = g.O.Write.contents c.args.odd.now in
-    let witness = g.V.Write.contents c.args.witness.now in
-    let out = g.W.Write.contents c.args.out.now in
+    let game = g.G.Write.contents c.args.writers.now.game in
+    let even = g.E.Write.contents c.args.writers.now.even in
+    let odd = g.O.Write.contents c.args.writers.now.odd in
+    let witness = g.V.Write.contents c.args.writers.now.witness in
+    let out = g.W.Write.contents c.args.writers.now.report in
     c.in-Err.ensures.refusal first second known also (way_of c.args.request.now)
     (all_writers wanted game game even even odd odd witness witness out out) (kept_writers wanted game even odd witness out)

@@ -17,11 +17,11 @@ returns-in-Ok g c = λ first second spelled.
 pub returns-in-Err : goal.returns-in-Err
 returns-in-Err g c = λ first second spelled.
     let options = c.args.options.now in
-    let game = g.G.Write.contents c.args.game.now in
-    let even = g.E.Write.contents c.args.even.now in
-    let odd = g.O.Write.contents c.args.odd.now in
-    let witness = g.V.Write.contents c.args.witness.now in
-    let out = g.W.Write.contents c.args.out.now in
+    let game = g.G.Write.contents c.args.writers.now.game in
+    let even = g.E.Write.contents c.args.writers.now.even in
+    let odd = g.O.Write.contents c.args.writers.now.odd in
+    let witness = g.V.Write.contents c.args.writers.now.witness in
+    let out = g.W.Write.contents c.args.writers.now.report in
     beyond_of options.priorities (Some options.board) first second (all_writers c.args.wanted game game even even odd odd witness witness out out)
     c.args.texts.system.system (closed_formula c.args.texts.formula)
     c.in-Err.error spelled c.in-Err.ensures.refusal (kept_writers c.args.wanted game even odd witness out)
@@ -30,11 +30,11 @@ pub returns-then-is_nothing : goal.returns-then-is_nothing
 returns-then-is_nothing g c = λ first second spelled.
     let options = c.args.options.now in
     let way = ByGame options.priorities (Some options.board) in
-    let game = g.G.Write.contents c.args.game.now in
-    let even = g.E.Write.contents c.args.even.now in
-    let odd = g.O.Write.contents c.args.odd.now in
-    let witness = g.V.Write.contents c.args.witness.now in
-    let old = g.W.Write.contents c.args.out.now in
+    let game = g.G.Write.contents c.args.writers.now.game in
+    let even = g.E.Write.contents c.args.writers.now.even in
+    let odd = g.O.Write.contents c.args.writers.now.odd in
+    let witness = g.V.Write.contents c.args.writers.now.witness in
+    let old = g.W.Write.contents c.args.writers.now.report in
     let new = g.W.Write.contents c.report_by_game.new.out in
     subst (λ (w : Wanted). Answers way first second (all_writers w game game even even odd odd witness witness old new) c.report_by_game.result)
     (sym (c.is_nothing.ensures.0 c.if-is_nothing.true))

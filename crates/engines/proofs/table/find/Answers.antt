@@ -11,4 +11,5 @@ returns-in-Ok g c = λ text known.
 
 pub returns-in-Err : goal.returns-in-Err
 returns-in-Err g c = λ text known.
-    unread_fault (way_by c.args.options.now c.args.plain) c.args.system.now.system text c.in-Err.error c.in-Err.ensures.refusal
+    let request = c.args.request.now in
+    unread_fault request.strict (way_by request.options request.plain) c.args.system.now.system text c.in-Err.error c.in-Err.ensures.refusal

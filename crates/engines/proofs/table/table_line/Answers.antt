@@ -4,10 +4,12 @@ use Rattle.engines.proofs.table.table_line.Goals as goal
 
 pub returns-in-Ok : goal.returns-in-Ok
 returns-in-Ok g c = λ text known.
-    answered (way_by c.args.options.now c.args.plain) c.args.system.now.system c.args.name.now text _ _ c.in-Ok.found c.states.result c.tell_answer.result
-    (c.in-Ok.ensures text known) c.states.ensures.count c.tell_answer.ensures.wrote c.tell_answer.ensures.status
+    let request = c.args.request.now in
+    answered request.strict (way_by request.options request.plain) c.args.system.now.system c.args.name.now text _ _ c.in-Ok.found c.states.result
+    c.tell_answer.result (c.in-Ok.ensures text known) c.states.ensures.count c.tell_answer.ensures.wrote c.tell_answer.ensures.status
 
 pub returns-in-Err : goal.returns-in-Err
 returns-in-Err g c = λ text known.
-    refused (way_by c.args.options.now c.args.plain) c.args.system.now.system c.args.name.now text _ _ c.in-Err.error c.tell_refusal.result
+    let request = c.args.request.now in
+    refused request.strict (way_by request.options request.plain) c.args.system.now.system c.args.name.now text _ _ c.in-Err.error c.tell_refusal.result
     (c.in-Err.ensures text known) c.tell_refusal.ensures.wrote c.tell_refusal.ensures.status
