@@ -2,5 +2,6 @@ mod Lines
 mod Marked
 mod Judged
 mod Replayed
+mod Solving
 mod Tables
 mod Asked

@@ -21,15 +21,15 @@ use Rattle.requests.specs.declared.request.Check.{Check as CheckRequest}
 use Rattle.requests.specs.declared.request.Options.{Options}
 use Rattle.requests.specs.declared.request.ReportForm.{ReportForm}
 use Rattle.requests.specs.declared.request.ReportForm.TheVariants.{Whole, Summary, States, Nothing}
+use Rattle.requests.specs.declared.request.Table.{Table as TableRequest}
+use Rattle.requests.specs.declared.request.Why.{Why as WhyRequest}
 use Rattle.commands.specs.declared.request.Command.{Command}
 use Rattle.commands.specs.declared.request.Command.TheVariants.{Check, Explain, Help, Normal, Replay, Solve, Table, Verify, Version, Why}
 use Rattle.commands.specs.declared.request.Normal.{Normal as NormalRequest}
 use Rattle.commands.specs.declared.request.Outputs.{Outputs}
 use Rattle.commands.specs.declared.request.Replay.{Replay as ReplayRequest}
 use Rattle.commands.specs.declared.request.Solve.{Solve as SolveRequest}
-use Rattle.commands.specs.declared.request.Table.{Table as TableRequest}
 use Rattle.commands.specs.declared.request.Verify.{Verify as VerifyRequest}
-use Rattle.commands.specs.declared.request.Why.{Why as WhyRequest}
 
 -- ------------------------------------------------------------------ the table
 
@@ -89,9 +89,13 @@ board_rule boards = choice_rule (codes "board") boards
 abbrev pub lifting_rules : (boards : Choice) → List Rule
 lifting_rules boards = workers_rule ∷ shards_rule ∷ board_rule boards ∷ []
 
+-- where the evidence goes
+abbrev pub evidence_rule : Rule
+evidence_rule = value_rule (codes "evidence")
+
 -- where the game, the evidence and the witness go
 abbrev pub output_rules : List Rule
-output_rules = value_rule (codes "game") ∷ value_rule (codes "evidence") ∷ value_rule (codes "witness") ∷ []
+output_rules = value_rule (codes "game") ∷ evidence_rule ∷ value_rule (codes "witness") ∷ []
 
 -- the rule of priorities
 abbrev pub priorities_rule : (rules : Choice) → Rule
@@ -103,17 +107,19 @@ check_rules rules boards answers =
     ∷ flag_rule (codes "stats") ∷ (report_rules answers ++ (priorities_rule rules ∷ (lifting_rules boards ++ output_rules)))
 
 abbrev pub why_rules : (rules boards : Choice) → List Rule
-why_rules rules boards = file_rule (codes "SYSTEM") ∷ file_rule (codes "FORMULA") ∷ priorities_rule rules ∷ lifting_rules boards
+why_rules rules boards =
+    file_rule (codes "SYSTEM") ∷ file_rule (codes "FORMULA") ∷ flag_rule (codes "strict") ∷ priorities_rule rules ∷ lifting_rules boards
 
 abbrev pub table_rules : (rules boards : Choice) → List Rule
 table_rules rules boards =
-    file_rule (codes "SYSTEM") ∷ files_rule (codes "FORMULA") ∷ flag_rule (codes "plain") ∷ priorities_rule rules ∷ lifting_rules boards
+    file_rule (codes "SYSTEM") ∷ files_rule (codes "FORMULA") ∷ flag_rule (codes "plain") ∷ flag_rule (codes "strict") ∷ priorities_rule rules
+    ∷ lifting_rules boards
 
 abbrev pub normal_rules : (rules : Choice) → List Rule
 normal_rules rules = file_rule (codes "FORMULA") ∷ priorities_rule rules ∷ []
 
 abbrev pub solve_rules : (boards : Choice) → List Rule
-solve_rules boards = file_rule (codes "GAME") ∷ flag_rule (codes "stats") ∷ lifting_rules boards
+solve_rules boards = file_rule (codes "GAME") ∷ evidence_rule ∷ flag_rule (codes "stats") ∷ lifting_rules boards
 
 abbrev pub verify_rules : List Rule
 verify_rules = file_rule (codes "GAME") ∷ file_rule (codes "EVIDENCE") ∷ new_rule (codes "OTHER") ∷ []
@@ -249,12 +255,14 @@ pub record IsWhy (rows : List Row) (why : WhyRequest) : Type 0 where
   pub system : IsFile rows (codes "SYSTEM") why.system
   pub formula : IsFile rows (codes "FORMULA") why.formula
   pub options : AreOptions rows why.options
+  pub strict : why.strict ≡ stands rows (codes "strict")
 
 pub record IsTableRequest (rows : List Row) (table : TableRequest) : Type 0 where
   pub system : IsFile rows (codes "SYSTEM") table.system
   pub formulas : AreFiles rows (codes "FORMULA") table.formulas.items
   pub options : AreOptions rows table.options
   pub plain : table.plain ≡ stands rows (codes "plain")
+  pub strict : table.strict ≡ stands rows (codes "strict")
 
 pub record AreOutputs (rows : List Row) (outputs : Outputs) : Type 0 where
   pub game : IsFileIfAny rows (codes "game") outputs.game
@@ -270,6 +278,7 @@ pub record IsNormal (rows : List Row) (form : NormalRequest) : Type 0 where
 pub record IsSolve (rows : List Row) (solve : SolveRequest) : Type 0 where
   pub game : IsFile rows (codes "GAME") solve.game
   pub options : AreOptions rows solve.options
+  pub evidence : IsFileIfAny rows (codes "evidence") solve.evidence
   pub stats : solve.stats ≡ stands rows (codes "stats")
 
 pub record IsVerify (rows : List Row) (verify : VerifyRequest) : Type 0 where

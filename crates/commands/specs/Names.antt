@@ -1,4 +1,4 @@
--- Which names the files of a check may have, so that nothing is destroyed by what is written.
+-- Which names the files of a command may have, so that nothing is destroyed by what is written.
 use Rattle.std.specs.Prelude.{◌≡◌, ◌≤◌, ◌-◌, Bool, false, ◌||◌, List, [], ◌∷◌, ◌++◌, Option, None, Some, codes, drop, length, map, option_map}
 use Rattle.std.specs.List.{list_any}
 use Rattle.std.specs.Option.{option_map_or}
@@ -7,8 +7,9 @@ use Rattle.std.specs.Char.{to_ascii_lowercase}
 use Rattle.clap.specs.Words.{Text}
 use Rattle.requests.specs.declared.request.Check.{Check as CheckRequest}
 use Rattle.commands.specs.declared.request.Command.{Command}
-use Rattle.commands.specs.declared.request.Command.TheVariants.{Check}
+use Rattle.commands.specs.declared.request.Command.TheVariants.{Check, Solve}
 use Rattle.commands.specs.declared.request.Outputs.{Outputs}
+use Rattle.commands.specs.declared.request.Solve.{Solve as SolveRequest}
 
 -- any number of texts may go there, as nothing is kept there that they could destroy
 abbrev pub is_device : Text → Bool
@@ -31,18 +32,23 @@ IsApart None others = Unit {0}
 IsApart (Some name) others = is_device name ≡ false → list_any (has_name name) others ≡ false
 
 -- each file of these that is written is apart from those after it, and from those that are read
-abbrev pub AreApart : (game even odd witness : Option Text) → (read : List (Option Text)) → Type 0
-AreApart game even odd witness read =
-    IsApart game (even ∷ odd ∷ witness ∷ read) × IsApart even (odd ∷ witness ∷ read) × IsApart odd (witness ∷ read) × IsApart witness read
+abbrev pub AreApart : (written read : List (Option Text)) → Type 0
+AreApart [] read = Unit {0}
+AreApart (file ∷ files) read = IsApart file (files ++ read) × AreApart files read
 
 abbrev pub KeepsNames : CheckRequest → Outputs → Type 0
-KeepsNames check outputs = AreApart (option_map (λ name. name.now) outputs.game)
-    (option_map (λ path. even_name path.now) outputs.evidence) (option_map (λ path. odd_name path.now) outputs.evidence)
-    (option_map (λ name. name.now) outputs.witness) (Some check.system.now ∷ Some check.formula.now ∷ [])
+KeepsNames check outputs = AreApart (option_map (λ name. name.now) outputs.game ∷ option_map (λ path. even_name path.now) outputs.evidence
+    ∷ option_map (λ path. odd_name path.now) outputs.evidence ∷ option_map (λ name. name.now) outputs.witness ∷ [])
+    (Some check.system.now ∷ Some check.formula.now ∷ [])
+
+abbrev pub KeepsGame : SolveRequest → Type 0
+KeepsGame solve = AreApart (option_map (λ path. even_name path.now) solve.evidence ∷ option_map (λ path. odd_name path.now) solve.evidence ∷ [])
+    (Some solve.game.now ∷ [])
 
 -- No two texts are written to files of one name, and none to a file that is read, but to devices.
 abbrev pub KeepsFiles : Command → Type 0
 KeepsFiles (Check check outputs) = KeepsNames check outputs
+KeepsFiles (Solve solve) = KeepsGame solve
 KeepsFiles _ = Unit {0}
 
 -- the name ends with this, whatever letters are capital ones

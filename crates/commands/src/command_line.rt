@@ -35,12 +35,12 @@ use crate::parser::{
     PRIORITIES, QUIET, SCHEDULE, SHARDS, STATES, STATS, STRICT, SUMMARY, SYSTEM, WITNESS_FILE,
     WORKERS, parser,
 };
-use crate::request::{Command, Normal, Outputs, Replay, Solve, Table, Verify, Why};
+use crate::request::{Command, Normal, Outputs, Replay, Solve, Verify};
 use clap::error::ErrorKind;
 use clap::{ArgMatches, Error as ClapError};
 use normal::priorities::Priorities;
 use requests::error::{ArgumentError, MuError};
-use requests::request::{BoardKind, Check, Options, ReportForm};
+use requests::request::{BoardKind, Check, Options, ReportForm, Table, Why};
 use std::alloc::Global;
 
 /// The command that the words ask for; the first word is the program's own name.
@@ -143,6 +143,7 @@ fn table_of<'a>(alloc: Global, matches: &ArgMatches<'a>) -> Result<Command<'a>, 
         formulas,
         options,
         plain: has_value(matches, PLAIN, "true"),
+        strict: has_value(matches, STRICT, "true"),
     }))
 }
 
@@ -241,6 +242,7 @@ fn why_of<'a>(matches: &ArgMatches<'a>) -> Result<Command<'a>, ArgumentError>
         system: file_name(matches, SYSTEM)?,
         formula: file_name(matches, FORMULA)?,
         options: options(matches)?,
+        strict: has_value(matches, STRICT, "true"),
     }))
 }
 
@@ -265,6 +267,7 @@ fn solve_of<'a>(matches: &ArgMatches<'a>) -> Result<Command<'a>, ArgumentError>
     Ok(Command::Solve(Solve {
         game: file_name(matches, GAME)?,
         options: options(matches)?,
+        evidence: optional_name(matches, EVIDENCE_FILES)?,
         stats: has_value(matches, STATS, "true"),
     }))
 }

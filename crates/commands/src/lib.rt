@@ -10,6 +10,7 @@ pub mod normal_text;
 mod parser;
 pub mod replay_text;
 pub mod request;
+mod solution;
 pub mod solve_text;
 pub mod verify_text;
 pub mod version;

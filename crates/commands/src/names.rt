@@ -1,13 +1,13 @@
-// The names of a check's files: nothing is written to a file that it reads, or that another of its texts goes to.
+// The names of a command's files: nothing is written to a file that it reads, or that another of its texts goes to.
 
 ghost use Rattle.std.specs.Prelude.{◌≡◌, ◌↔◌, ◌⊎◌, ◌∷◌, ◌++◌, [], IfErr, IfOk, IsTrue, Some, codes, map, option_map};
 ghost use Rattle.std.specs.List.{list_any};
 ghost use Rattle.std.specs.String.{string_bytes};
 ghost use Rattle.commands.specs.CommandLine.{IsLineError};
 ghost use Rattle.commands.specs.Named.{name_of};
-ghost use Rattle.commands.specs.Names.{AreApart, IsApart, KeepsFiles, KeepsNames, HasEnding, even_name, has_name, is_device, odd_name};
+ghost use Rattle.commands.specs.Names.{AreApart, IsApart, KeepsFiles, KeepsGame, KeepsNames, HasEnding, even_name, has_name, is_device, odd_name};
 
-use crate::request::{Command, Outputs};
+use crate::request::{Command, Outputs, Solve};
 use requests::error::{ArgumentError, CheckFile, MuError};
 use requests::request::Check;
 use std::alloc::{AllocError, Global};
@@ -39,14 +39,14 @@ fn joined(alloc: Global, path: &str, ending: &str) -> Result<String, AllocError>
     Ok(name)
 }
 
-/// A file of a check, with its name if the check has such a file.
+/// A file of a command, with its name if the command has such a file.
 #[derive(Clone, Copy)]
 pub struct Named<'a> {
     pub file: CheckFile,
     pub name: Option<&'a str>,
 }
 
-/// Refuses a check that would write to a file twice, or to one that it reads.
+/// Refuses a command that would write to a file twice, or to one that it reads.
 ///
 /// # Errors
 /// U1, with both files; U4.
@@ -56,6 +56,7 @@ pub(crate) fn keep_files(alloc: Global, command: &Command<'_>) -> Result<(), MuE
 {
     match command {
         Command::Check(check, outputs) => keep_names(alloc, check, outputs),
+        Command::Solve(solve) => keep_game(alloc, solve),
         _ => Ok(()),
     }
 }
@@ -90,8 +91,8 @@ fn keep_apart(
     even: Option<&str>,
     odd: Option<&str>,
 ) -> Result<(), ArgumentError>
-    ensures { IfOk result (λ _. AreApart (option_map (λ name. name.now) outputs.now.game) (option_map (λ name. name.now) even.entry)
-        (option_map (λ name. name.now) odd.entry) (option_map (λ name. name.now) outputs.now.witness)
+    ensures { IfOk result (λ _. AreApart (option_map (λ name. name.now) outputs.now.game ∷ option_map (λ name. name.now) even.entry
+        ∷ option_map (λ name. name.now) odd.entry ∷ option_map (λ name. name.now) outputs.now.witness ∷ [])
         (Some check.now.system.now ∷ Some check.now.formula.now ∷ [])) }
 {
     let file = |file, name| Named { file, name };
@@ -105,6 +106,47 @@ fn keep_apart(
     apart(even, &[odd, witness, system, formula])?;
     apart(odd, &[witness, system, formula])?;
     apart(witness, &[system, formula])
+}
+
+fn keep_game(alloc: Global, solve: &Solve<'_>) -> Result<(), MuError>
+    ensures kept { IfOk result (λ _. KeepsGame solve.now) }
+    ensures refused { IfErr result IsLineError }
+{
+    let Some(path) = solve.evidence else {
+        return Ok(());
+    };
+    let Ok(names) = EvidenceNames::of(alloc, path) else {
+        return Err(MuError::Memory);
+    };
+    keep_evidence(alloc, solve.game, names.even.as_str(), names.odd.as_str())
+}
+
+fn keep_evidence(alloc: Global, game: &str, even: &str, odd: &str) -> Result<(), MuError>
+    ensures kept { IfOk result (λ _. AreApart (Some even.now ∷ Some odd.now ∷ []) (Some game.now ∷ [])) }
+    ensures refused { IfErr result IsLineError }
+{
+    let file = |file, name| Named { file, name };
+    let game = file(CheckFile::Game, Some(game));
+    let even = file(CheckFile::EvenEvidence, Some(even));
+    let odd = file(CheckFile::OddEvidence, Some(odd));
+    // Evidence of one player never has the name of the other's: what it may have is that of the game.
+    if apart(even, &[odd, game]).is_err() {
+        return Err(over_game(alloc, CheckFile::EvenEvidence));
+    }
+    if apart(odd, &[game]).is_err() {
+        return Err(over_game(alloc, CheckFile::OddEvidence));
+    }
+    Ok(())
+}
+
+/// The refusal of a file that is written and is that of the game that is read.
+pub fn over_game(alloc: Global, file: CheckFile) -> MuError
+    ensures { IsLineError result }
+{
+    match format!(in alloc; "error: {file} and GAME are the same file\n") {
+        Ok(text) => MuError::Arguments(ArgumentError::Refused(text)),
+        Err(AllocError) => MuError::Memory,
+    }
 }
 
 /// Refuses a file that has another one's name.

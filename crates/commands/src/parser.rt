@@ -6,6 +6,7 @@ ghost use Rattle.commands.specs.CommandLine.{
   IsTable,
   board_rule,
   check_rules,
+  evidence_rule,
   explain_rules,
   file_rule,
   files_rule,
@@ -139,9 +140,10 @@ Example:\n  mucheck normal examples/first/formula.mcf";
 const SOLVE_ABOUT: &str = "Writes for each vertex of a parity game who wins it";
 
 const SOLVE_AFTER: &str =
-    "The first lines have the number of vertices, and of those that Even wins. The status is 0,\n\
-or 2 where an argument or the game is refused, and 3 where memory, the file, a read or a\n\
-write failed.\n\n\
+    "The first lines have the number of vertices, and of those that Even wins. Evidence says why:\n\
+a set of vertices for each player, with moves and ranks, which mucheck verify checks. The\n\
+status is 0, or 2 where an argument or the game is refused, and 3 where memory, a file, a\n\
+read or a write failed.\n\n\
 Example:\n  mucheck solve examples/two-states/endless-a.pg";
 
 const VERIFY_ABOUT: &str = "Checks evidence that a player wins vertices of a parity game";
@@ -289,6 +291,7 @@ fn why_parser<'a>(
     let parser = described(alloc, "why", WHY_ABOUT, WHY_AFTER)
         .arg(file(alloc, SYSTEM, SYSTEM_HELP))?
         .arg(file(alloc, FORMULA, FORMULA_HELP))?
+        .arg(flag(alloc, STRICT, STRICT_HELP))?
         .arg(rule(alloc, rules))?;
     with_workers(alloc, parser, boards)
 }
@@ -304,6 +307,7 @@ fn table_parser<'a>(
         .arg(file(alloc, SYSTEM, SYSTEM_HELP))?
         .arg(files(alloc, FORMULA, FORMULAS_HELP))?
         .arg(flag(alloc, PLAIN, PLAIN_HELP))?
+        .arg(flag(alloc, STRICT, STRICT_HELP))?
         .arg(rule(alloc, rules))?;
     with_workers(alloc, parser, boards)
 }
@@ -321,6 +325,7 @@ fn solve_parser<'a>(alloc: Global, boards: &'a [&'a str]) -> Result<Parser<'a>, 
 {
     let parser = described(alloc, "solve", SOLVE_ABOUT, SOLVE_AFTER)
         .arg(file(alloc, GAME, GAME_HELP))?
+        .arg(evidence_files(alloc))?
         .arg(flag(alloc, STATS, STATS_HELP))?;
     with_workers(alloc, parser, boards)
 }
@@ -450,6 +455,13 @@ fn limit<'a>(alloc: Global) -> Arg<'a>
         .help(LIMIT_HELP)
 }
 
+/// `--evidence PATH`.
+fn evidence_files<'a>(alloc: Global) -> Arg<'a>
+    ensures { HasRule evidence_rule result }
+{
+    option_with_value(alloc, EVIDENCE_FILES, "PATH").help(EVIDENCE_FILES_HELP)
+}
+
 /// In which form the report is written.
 fn with_report<'a>(
     alloc: Global,
@@ -485,6 +497,6 @@ fn with_outputs<'a>(alloc: Global, parser: Parser<'a>) -> Result<Parser<'a>, All
 {
     parser
         .arg(option_with_value(alloc, GAME_FILE, "FILE").help(GAME_FILE_HELP))?
-        .arg(option_with_value(alloc, EVIDENCE_FILES, "PATH").help(EVIDENCE_FILES_HELP))?
+        .arg(evidence_files(alloc))?
         .arg(option_with_value(alloc, WITNESS_FILE, "FILE").help(WITNESS_FILE_HELP))
 }

@@ -1,6 +1,6 @@
 // The engine of the command `replay`.
 
-ghost use Rattle.std.specs.Prelude.{◌≡◌, ℕ, List, Some, IfErr, IfOk, IfSome, MatchResult, length};
+ghost use Rattle.std.specs.Prelude.{◌≡◌, ℕ, List, Some, MatchResult, length};
 ghost use Rattle.systems.specs.System.{System};
 ghost use Rattle.calculus.specs.Tree.{Formula};
 ghost use Rattle.calculus.specs.Closed.{closed_formula};
@@ -8,23 +8,23 @@ ghost use Rattle.normal.specs.declared.priorities.Priorities.TheVariants.{Nested
 ghost use Rattle.liftcore.specs.Core.{start};
 ghost use Rattle.requests.specs.Check.{AreSpelled, HasGame};
 ghost use Rattle.requests.specs.Check.{IsArenaOf};
-ghost use Rattle.requests.specs.Texts.{IsReadFault};
 ghost use Rattle.commands.specs.Replays.{Answers, IsUnread, Replays, nested_game};
 ghost use Rattle.commands.specs.Spelled.{IsScheduleOf};
 
 use game::graph::Game;
-use liftcore::error::{CoreError, ScheduleError};
+use liftcore::error::{CoreError, ReadError, ScheduleError};
 use liftcore::event::Event;
 use liftcore::machine::Core;
-use liftcore::schedule::read_schedule;
+use liftcore::schedule::read_schedule_from;
 use liftcore::writer::write_replay;
 use normal::priorities::Priorities;
 use requests::arena::game_of;
 use requests::error::MuError;
 use requests::texts::{Texts, read_both};
 use std::alloc::Global;
-use std::io::{ErrorKind, Read, Write};
+use std::io::{Read, Write};
 use std::thread::Threads;
+use text::error::ReadFault;
 
 /// Writes what the events of a schedule come to in the game of a system and a formula: how many were done and how many skipped,
 /// the measure of each vertex, the pending vertices, and whether the table is settled and all is quiet. The answer is true. The
@@ -98,27 +98,11 @@ fn read_events<T: Read + Drop>(
     ensures { (text : List ℕ) → T.remaining schedule ≡ Some text
         → MatchResult result (λ events. IsScheduleOf workers vertices text events.items) (IsUnread workers vertices text) }
 {
-    match read_whole(alloc, schedule) {
-        Ok(text) => match read_schedule(alloc, &text, workers, vertices) {
-            Ok(events) => Ok(events),
-            Err(error) => Err(MuError::Schedule(error)),
-        },
-        Err(error) => Err(error),
-    }
-}
-
-/// All bytes of the reader.
-fn read_whole<T: Read + Drop>(alloc: Global, mut reader: T) -> Result<Vec<u8>, MuError>
-    ensures whole { IfOk result (λ text. IfSome (T.remaining reader) (λ all. text.items ≡ all)) }
-    ensures refusal { IfErr result IsReadFault }
-{
-    let mut text = Vec::new(alloc);
-    match reader.read_to_end(&mut text) {
-        Ok(_) => Ok(text),
-        Err(error) => match error.kind() {
-            ErrorKind::OutOfMemory => Err(MuError::Memory),
-            _ => Err(MuError::Read),
-        },
+    match read_schedule_from(alloc, schedule, workers, vertices) {
+        Ok(events) => Ok(events),
+        Err(ReadError::Schedule(error)) => Err(MuError::Schedule(error)),
+        Err(ReadError::Read(ReadFault::Read)) => Err(MuError::Read),
+        Err(ReadError::Read(ReadFault::Memory)) => Err(MuError::Memory),
     }
 }
 

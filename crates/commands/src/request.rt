@@ -4,7 +4,7 @@ ghost use Rattle.std.specs.Prelude.{◌↔◌, IsTrue};
 ghost use Rattle.commands.specs.Command.{IsReportAlone};
 
 use normal::priorities::Priorities;
-use requests::request::{Check, Options, ReportForm};
+use requests::request::{Check, Options, ReportForm, Table, Why};
 
 /// What the program is asked to do.
 #[derive(Drop)]
@@ -48,24 +48,6 @@ impl Outputs<'_> {
     }
 }
 
-/// Why the initial state satisfies a formula, or doesn't: the answer and a witness, told line by line.
-#[derive(Clone, Copy)]
-pub struct Why<'a> {
-    pub system: &'a str,
-    pub formula: &'a str,
-    pub options: Options,
-}
-
-/// The answers of one system to many formulas, a line for each.
-#[derive(Drop)]
-pub struct Table<'a> {
-    pub system: &'a str,
-    pub formulas: Vec<&'a str>,
-    pub options: Options,
-    /// By sets of states, without a game.
-    pub plain: bool,
-}
-
 /// The normal form of a formula, with the priorities of a rule.
 #[derive(Clone, Copy)]
 pub struct Normal<'a> {
@@ -78,6 +60,8 @@ pub struct Normal<'a> {
 pub struct Solve<'a> {
     pub game: &'a str,
     pub options: Options,
+    /// The files of Even's and of Odd's evidence, without `.even` and `.odd`.
+    pub evidence: Option<&'a str>,
     /// Whether standard error tells of each stage.
     pub stats: bool,
 }

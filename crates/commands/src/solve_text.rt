@@ -1,124 +1,124 @@
 // The engine of the command `solve`.
 
-ghost use Rattle.std.specs.Prelude.{ℕ, IfErr, IfOk, List, Some};
+ghost use Rattle.std.specs.Prelude.{◌≡◌, ℕ, Bool, true, List, Option, Some, Ok, Err, MatchResult};
 ghost use Rattle.std.specs.Arc.{arc_value};
+ghost use Rattle.std.specs.Option.{is_some};
+ghost use Rattle.certify.specs.Pair.{AreFull};
 ghost use Rattle.workers.specs.declared.team.BoardKind.{BoardKind};
-ghost use Rattle.requests.specs.Solver.{IsFitting, IsUnsolved};
+ghost use Rattle.requests.specs.Solver.{IsFitting};
+ghost use Rattle.requests.specs.Writers.{AreWritten, report_writer};
+ghost use Rattle.requests.specs.declared.request.ReportForm.TheVariants.{Whole};
 ghost use Rattle.commands.specs.Spelled.{IsGameOf};
-ghost use Rattle.commands.specs.Solves.{Answers, Solves};
-ghost use Rattle.commands.specs.Winners.{AreWinners};
+ghost use Rattle.commands.specs.Solves.{Answers, IsTextOf, Solves, solve_writers};
+ghost use Rattle.commands.specs.Winners.{AreWinners, winners_text as text_of};
+ghost use Rattle.game.specs.Game.{Game};
 
-use crate::winner_text::{guessed_winners, winners, winners_text};
+use crate::request::Solve;
+use crate::solution::{evidence_by, winners_by};
+use crate::winner_text::{even_marks, winners_text};
+use certify::pair::EvidencePair;
+use evidence::writer::write_evidence;
 use game::graph::Game;
-use lts::put;
-use measures::guess::NoGuess;
-use measures::observer::{Observer, Silent, Stage};
+use lts::{WriteFault, put};
+use measures::observer::{Observer, Stage};
 use pgsolver::read_game;
 use requests::error::MuError;
 use requests::request::Options;
-use requests::solver::{require_board, solve_seen};
 use std::alloc::Global;
 use std::io::{Read, Write};
 use std::sync::{Arc, Wait};
 use std::thread::Threads;
-use workers::gate::NoGate;
 
-/// Writes who wins each vertex of the game that a text spells, and how many of them Even wins. The answer is true. The game is
-/// solved by the workers and over the board of the options.
+/// Writes who wins each vertex of the game that a text spells, and how many of them Even wins; before that, where it is asked for, evidence of all that
+/// Even wins and of all that Odd wins, each to its writer. The answer is true. The game is solved by the workers and over the board of the
+/// options. An observer is told what is being searched, lifted and written.
 ///
 /// # Errors
 /// Those of the reader, unchanged; T1 where the packed board is asked for and can't be had, and only there; T2, V1 and U4 for
-/// memory; W1 where a write failed. After a refusal that is not W1 nothing was written.
-pub fn solve_text<R: Read + Drop, W: Write, H: Threads + Wait + Clone + Copy + Drop + Send + Sync>(
-    rt: &H,
-    alloc: Global,
-    game: R,
-    options: &Options,
-    out: &mut W,
-) -> Result<bool, MuError>
-    ensures solves { Solves options.now.board (R.remaining game) (W.contents out.old) (W.contents out.new) result }
-{
-    solve_text_seen(rt, alloc, game, options, out, &Silent)
-}
-
-/// Solves as `solve_text` does, and tells an observer what is being searched, lifted and written.
-///
-/// # Errors
-/// Those of `solve_text`.
-pub fn solve_text_seen<
+/// memory, and E5 where evidence is asked for; W1 where a write failed. After a refusal that is not W1 nothing was written.
+pub fn solve_asked<
     R: Read + Drop,
+    E: Write,
+    O: Write,
     W: Write,
-    O: Observer + Sync,
+    U: Observer + Sync,
     H: Threads + Wait + Clone + Copy + Drop + Send + Sync,
 >(
     rt: &H,
     alloc: Global,
+    request: &Solve<'_>,
     game: R,
-    options: &Options,
+    even: &mut E,
+    odd: &mut O,
     out: &mut W,
-    observer: &O,
+    observer: &U,
 ) -> Result<bool, MuError>
-    ensures solves { Solves options.now.board (R.remaining game) (W.contents out.old) (W.contents out.new) result }
+    ensures { Solves request.now.options.board (R.remaining game) (solve_writers (is_some request.now.evidence)
+        (E.contents even.old) (E.contents even.new) (O.contents odd.old) (O.contents odd.new) (W.contents out.old) (W.contents out.new)) result }
 {
     match read_game(alloc, game) {
-        Ok(game) => solve_and_write(rt, alloc, game, options, out, observer),
+        Ok(game) => solve_read(rt, alloc, request, game, even, odd, out, observer),
         Err(error) => Err(MuError::Game(error)),
+    }
+}
+
+/// Solves the game that was read, and writes what is asked for.
+fn solve_read<
+    E: Write,
+    O: Write,
+    W: Write,
+    U: Observer + Sync,
+    H: Threads + Wait + Clone + Copy + Drop + Send + Sync,
+>(
+    rt: &H,
+    alloc: Global,
+    request: &Solve<'_>,
+    game: Game,
+    even: &mut E,
+    odd: &mut O,
+    out: &mut W,
+    observer: &U,
+) -> Result<bool, MuError>
+    ensures { (text : List ℕ) → IsGameOf text game → Answers request.now.options.board text (solve_writers (is_some request.now.evidence)
+        (E.contents even.old) (E.contents even.new) (O.contents odd.old) (O.contents odd.new) (W.contents out.old) (W.contents out.new)) result }
+{
+    let Ok(game) = Arc::new(alloc, game) else {
+        return Err(MuError::Memory);
+    };
+    let options = &request.options;
+    if request.evidence.is_some() {
+        prove_and_write(rt, alloc, &game, options, even, odd, out, observer)
+    } else {
+        solve_and_write(rt, alloc, &game, options, out, observer)
     }
 }
 
 /// Solves the game, and writes who wins each vertex.
 fn solve_and_write<
     W: Write,
-    O: Observer + Sync,
+    U: Observer + Sync,
     H: Threads + Wait + Clone + Copy + Drop + Send + Sync,
 >(
     rt: &H,
     alloc: Global,
-    game: Game,
+    game: &Arc<Game, Global>,
     options: &Options,
     out: &mut W,
-    observer: &O,
+    observer: &U,
 ) -> Result<bool, MuError>
-    ensures { (text : List ℕ) → IsGameOf text game → Answers options.now.board text (W.contents out.old) (W.contents out.new) result }
+    ensures { (text : List ℕ) → IsGameOf text (arc_value game.now)
+        → Answers options.now.board text (report_writer Whole (W.contents out.old) (W.contents out.new)) result }
 {
-    let Ok(game) = Arc::new(alloc, game) else {
-        return Err(MuError::Memory);
-    };
-    match winners_by(rt, alloc, &game, options, observer) {
+    match winners_by(rt, alloc, game, options, observer) {
         Ok(marks) => {
             observer.sees(Stage::Writing);
-            write_winners(alloc, &game, &marks, out)
+            write_winners(alloc, game, &marks, out)
         }
         Err(error) => Err(error),
     }
 }
 
-/// Who wins each vertex: by evidence that is guessed and found good, where there is some; else by lifting.
-fn winners_by<O: Observer + Sync, H: Threads + Wait + Clone + Copy + Drop + Send + Sync>(
-    rt: &H,
-    alloc: Global,
-    game: &Arc<Game, Global>,
-    options: &Options,
-    observer: &O,
-) -> Result<Vec<bool>, MuError>
-    ensures exact { IfOk result (λ marks. AreWinners (arc_value game.now) marks.items) }
-    ensures board { IfOk result (λ _. IsFitting (Some options.now.board) (arc_value game.now)) }
-    ensures refusal { IfErr result (IsUnsolved (Some options.now.board) (arc_value game.now)) }
-{
-    observer.sees(Stage::Searching {
-        vertices: game.vertices(),
-    });
-    require_board(game, options.board)?;
-    if let Some(marks) = guessed_winners(alloc, game) {
-        return Ok(marks);
-    }
-    match solve_seen(rt, alloc, game, options, &NoGate, observer, &NoGuess) {
-        Ok(settled) => winners(alloc, game, &settled),
-        Err(error) => Err(error),
-    }
-}
-
-/// Writes who wins each vertex of a solved game.
+/// Writes who wins each vertex.
 fn write_winners<W: Write>(
     alloc: Global,
     game: &Game,
@@ -127,10 +127,80 @@ fn write_winners<W: Write>(
 ) -> Result<bool, MuError>
     requires { AreWinners game.now marks.now }
     ensures { (board : BoardKind) (text : List ℕ) → IsGameOf text game.now → IsFitting (Some board) game.now
-        → Answers board text (W.contents out.old) (W.contents out.new) result }
+        → Answers board text (report_writer Whole (W.contents out.old) (W.contents out.new)) result }
 {
     let text = winners_text(alloc, marks)?;
-    match put(out, &text) {
+    answer(put(out, &text))
+}
+
+/// Makes evidence of all that each player wins, and writes both texts of it and who wins each vertex.
+fn prove_and_write<
+    E: Write,
+    O: Write,
+    W: Write,
+    U: Observer + Sync,
+    H: Threads + Wait + Clone + Copy + Drop + Send + Sync,
+>(
+    rt: &H,
+    alloc: Global,
+    game: &Arc<Game, Global>,
+    options: &Options,
+    even: &mut E,
+    odd: &mut O,
+    out: &mut W,
+    observer: &U,
+) -> Result<bool, MuError>
+    ensures { (text : List ℕ) → IsGameOf text (arc_value game.now) → Answers options.now.board text (solve_writers true (E.contents even.old)
+        (E.contents even.new) (O.contents odd.old) (O.contents odd.new) (W.contents out.old) (W.contents out.new)) result }
+{
+    match evidence_by(rt, alloc, game, options, observer) {
+        Ok(pair) => {
+            observer.sees(Stage::Writing);
+            write_all(alloc, game, &pair, even, odd, out)
+        }
+        Err(error) => Err(error),
+    }
+}
+
+/// Writes both texts of evidence, and who wins each vertex by them.
+fn write_all<E: Write, O: Write, W: Write>(
+    alloc: Global,
+    game: &Game,
+    pair: &EvidencePair,
+    even: &mut E,
+    odd: &mut O,
+    out: &mut W,
+) -> Result<bool, MuError>
+    requires { AreFull game.now pair.now }
+    ensures { (board : BoardKind) (text : List ℕ) → IsGameOf text game.now → IsFitting (Some board) game.now → Answers board text (solve_writers true
+        (E.contents even.old) (E.contents even.new) (O.contents odd.old) (O.contents odd.new) (W.contents out.old) (W.contents out.new)) result }
+{
+    let marks = even_marks(alloc, game, &pair.even)?;
+    let text = winners_text(alloc, &marks)?;
+    answer(put_all(pair, &text, even, odd, out))
+}
+
+/// Writes the three texts, one after another.
+fn put_all<E: Write, O: Write, W: Write>(
+    pair: &EvidencePair,
+    text: &[u8],
+    even: &mut E,
+    odd: &mut O,
+    out: &mut W,
+) -> Result<(), WriteFault>
+    ensures { (g : Game) (marks : List Bool) → AreFull g pair.now → text.now ≡ text_of marks → AreWritten (IsTextOf g marks) (solve_writers true
+        (E.contents even.old) (E.contents even.new) (O.contents odd.old) (O.contents odd.new) (W.contents out.old) (W.contents out.new)) result }
+{
+    write_evidence(&pair.even, even)?;
+    write_evidence(&pair.odd, odd)?;
+    put(out, text)
+}
+
+/// True, where all was written.
+fn answer(wrote: Result<(), WriteFault>) -> Result<bool, MuError>
+    ensures { MatchResult wrote (λ _. result ≡ Ok true) (λ fault. result ≡ Err (MuError.Write fault)) }
+{
+    match wrote {
         Ok(()) => Ok(true),
         Err(fault) => Err(MuError::Write(fault)),
     }

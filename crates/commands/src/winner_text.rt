@@ -3,11 +3,15 @@
 ghost use Rattle.std.specs.Prelude.{◌≡◌, ◌++◌, length, count_by, decimal, IfErr, IfOk, IfSome};
 ghost use Rattle.text.specs.Wrote.{Wrote};
 ghost use Rattle.calculus.specs.Meaning.{Marks};
+ghost use Rattle.certify.specs.Full.{IsFull};
 ghost use Rattle.game.specs.Wins.{Wins};
 ghost use Rattle.commands.specs.Winners.{AreWinners, even_or_odd, sizes_text, winner_lines, winners_text as text_of};
 
-use certify::decide::certified_winners;
+use certify::decide::set_marks;
+use certify::shared::certified_winners_by;
+use evidence::evidence::Evidence;
 use game::graph::Game;
+use game::player::Player;
 use laws::games::{not_both_win, one_wins};
 use lts::{Piece, WriteFault, put_pieces};
 use measures::settle::even_wins;
@@ -15,6 +19,7 @@ use measures::table::Settled;
 use requests::error::MuError;
 use std::alloc::{AllocError, Global};
 use std::io::Write;
+use std::thread::Threads;
 
 /// A mark for each vertex of a solved game, true where Even wins it.
 ///
@@ -34,14 +39,39 @@ pub(crate) fn winners(alloc: Global, game: &Game, settled: &Settled) -> Result<V
     }
 }
 
-/// A mark for each vertex, true where Even wins it, by evidence of both players that was guessed. There is none where none is found.
-pub(crate) fn guessed_winners(alloc: Global, game: &Game) -> Option<Vec<bool>>
+/// A mark for each vertex, true where Even wins it, by evidence of both players that was guessed, and by so many threads where the
+/// game is large. There is none where none is found.
+pub(crate) fn guessed_winners<R: Threads + Sync>(
+    rt: &R,
+    alloc: Global,
+    game: &Game,
+    workers: u32,
+) -> Option<Vec<bool>>
     ensures { IfSome result (λ marks. AreWinners game.now marks.items) }
 {
     game.known();
     not_both_win();
     one_wins();
-    certified_winners(alloc, game)
+    certified_winners_by(rt, alloc, game, workers as usize)
+}
+
+/// A mark for each vertex, true where Even wins it, by evidence of all that Even wins.
+///
+/// # Errors
+/// U4.
+pub(crate) fn even_marks(alloc: Global, game: &Game, even: &Evidence) -> Result<Vec<bool>, MuError>
+    requires game { even.now.game ≡ game.now }
+    requires full { IsFull Player.Even game.now even.now.evidence }
+    ensures exact { IfOk result (λ marks. AreWinners game.now marks.items) }
+    ensures refusal { IfErr result (λ e. e ≡ MuError.Memory) }
+{
+    game.known();
+    not_both_win();
+    one_wins();
+    match set_marks(alloc, game, even) {
+        Ok(marks) => Ok(marks),
+        Err(AllocError) => Err(MuError::Memory),
+    }
 }
 
 /// A mark for each vertex, true where Even wins it.

@@ -1,12 +1,31 @@
-// The files that a check writes beside its report.
+// The files that a command writes beside its report.
 
 use crate::refusal::Refusal;
 use commands::names::{EvidenceNames, is_drawing};
+use engines::error::MuError;
 use engines::request::{ReportForm, Wanted, WitnessForm};
+use engines::writers::Writers;
 use std::cell::OnceCell;
 use std::fs::File;
 use std::io;
 use std::io::{Error, ErrorKind, Write};
+
+/// The names of both files of evidence, where a path is given.
+///
+/// # Errors
+/// U4.
+pub fn evidence_names(
+    rt: &HostRuntime,
+    path: Option<&str>,
+) -> Result<Option<EvidenceNames>, Refusal> {
+    let Some(path) = path else {
+        return Ok(None);
+    };
+    match EvidenceNames::of(rt.alloc(), path) {
+        Ok(names) => Ok(Some(names)),
+        Err(_) => Err(Refusal::Told(MuError::Memory)),
+    }
+}
 
 /// Where a text goes. What is written to the program's own output is put behind what stands there.
 #[derive(Drop)]
@@ -16,7 +35,7 @@ enum Target {
     ErrorOutput,
 }
 
-/// The files that a check writes beside its report. Each is made when its own first byte is written.
+/// The files that a command writes beside its report. Each is made when its own first byte is written.
 #[derive(Drop)]
 pub struct Files<'a> {
     rt: &'a HostRuntime,
@@ -73,42 +92,43 @@ impl<'a> Files<'a> {
         }
     }
 
-    /// The game's file.
-    pub fn game(&'a self) -> FileWriter<'a> {
-        FileWriter {
-            all: self,
-            name: self.game_name,
-            own: &self.game,
-        }
-    }
-
     /// The file of Even's evidence.
     pub fn even(&'a self) -> FileWriter<'a> {
-        FileWriter {
-            all: self,
-            name: self
-                .evidence_names
+        self.writer(
+            self.evidence_names
                 .as_ref()
                 .map(|names| names.even.as_str()),
-            own: &self.even,
-        }
+            &self.even,
+        )
     }
 
     /// The file of Odd's evidence.
     pub fn odd(&'a self) -> FileWriter<'a> {
-        FileWriter {
-            all: self,
-            name: self.evidence_names.as_ref().map(|names| names.odd.as_str()),
-            own: &self.odd,
+        self.writer(
+            self.evidence_names.as_ref().map(|names| names.odd.as_str()),
+            &self.odd,
+        )
+    }
+
+    /// A writer for each of them, and that of the report.
+    pub fn writers<W>(
+        &'a self,
+        report: W,
+    ) -> Writers<FileWriter<'a>, FileWriter<'a>, FileWriter<'a>, FileWriter<'a>, W> {
+        Writers {
+            game: self.writer(self.game_name, &self.game),
+            even: self.even(),
+            odd: self.odd(),
+            witness: self.writer(self.witness_name, &self.witness),
+            report,
         }
     }
 
-    /// The witness's file.
-    pub fn witness(&'a self) -> FileWriter<'a> {
+    fn writer(&'a self, name: Option<&'a str>, own: &'a OnceCell<Target>) -> FileWriter<'a> {
         FileWriter {
             all: self,
-            name: self.witness_name,
-            own: &self.witness,
+            name,
+            own,
         }
     }
 

@@ -1,16 +1,25 @@
 // The files that are read, of which one may be standard input.
 
+use crate::line::Line;
 use crate::refusal::Refusal;
 use commands::inputs::is_standard_input;
 use std::fs::File;
-use std::io;
 use std::io::{Read, Stdin};
+use std::{fs, io};
+
+/// Where a text comes from.
+#[derive(Drop)]
+enum Source {
+    File(File),
+    Standard(Stdin),
+}
 
 /// A file that is read, or standard input.
 #[derive(Drop)]
-pub enum Input {
-    File(File),
-    Standard(Stdin),
+pub struct Input {
+    source: Source,
+    /// How many bytes it has, where that is known before it is read.
+    size: Option<u64>,
 }
 
 /// The file of this name, where `-` is standard input.
@@ -19,19 +28,60 @@ pub enum Input {
 /// U2.
 pub fn open(rt: &HostRuntime, name: &str) -> Result<Input, Refusal> {
     if is_standard_input(name) {
-        return Ok(Input::Standard(rt.stdin()));
+        return Ok(Input {
+            source: Source::Standard(rt.stdin()),
+            size: None,
+        });
     }
     match File::open(rt, name) {
-        Ok(file) => Ok(Input::File(file)),
+        Ok(file) => Ok(Input {
+            source: Source::File(file),
+            size: size_of(rt, name),
+        }),
         Err(error) => Err(Refusal::of_file(rt, name, error)),
+    }
+}
+
+/// How many bytes a file has; none of what is no file, as a pipe.
+fn size_of(rt: &HostRuntime, name: &str) -> Option<u64> {
+    match fs::metadata(rt, name) {
+        Ok(found) if found.is_file() => Some(found.len()),
+        _ => None,
     }
 }
 
 impl Read for Input {
     fn read(&mut self, bytes: &mut [u8]) -> io::Result<usize> {
-        match self {
-            Input::File(file) => file.read(bytes),
-            Input::Standard(input) => input.read(bytes),
+        match &mut self.source {
+            Source::File(file) => file.read(bytes),
+            Source::Standard(input) => input.read(bytes),
         }
+    }
+}
+
+/// A file of which a line tells how much is read.
+#[derive(Drop)]
+pub struct Counted<'a, T> {
+    input: Input,
+    line: &'a Line<'a, T>,
+    count: u64,
+}
+
+impl<'a, T> Counted<'a, T> {
+    pub fn new(input: Input, line: &'a Line<'a, T>) -> Counted<'a, T> {
+        Counted {
+            input,
+            line,
+            count: 0,
+        }
+    }
+}
+
+impl<T> Read for Counted<'_, T> {
+    fn read(&mut self, bytes: &mut [u8]) -> io::Result<usize> {
+        let read = self.input.read(bytes)?;
+        self.count = self.count.saturating_add(read as u64);
+        self.line.has_bytes(self.count, self.input.size);
+        Ok(read)
     }
 }

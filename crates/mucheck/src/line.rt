@@ -21,8 +21,15 @@ const FIRST: u64 = 2000;
 /// How long a line stands until it is written anew, in milliseconds.
 const NEXT: u64 = 250;
 
-/// Takes a line away: back to its beginning, and all after it.
-const CLEAR: &[u8] = b"\r\x1b[K";
+/// Takes the line away, behind whose end the cursor stands: up to its beginning, and all after it. So a run that is broken off leaves a line of
+/// its own.
+const CLEAR: &[u8] = b"\x1b[A\r\x1b[K";
+
+/// How many bytes are a megabyte.
+const MEGABYTE: u64 = 1_000_000;
+
+/// What is told of a size that isn't known.
+const UNKNOWN: u64 = 0;
 
 /// What has become of the line.
 #[derive(Drop)]
@@ -40,6 +47,9 @@ struct Place {
     kind: AtomicU64,
     count: AtomicU64,
     lifts: AtomicU64,
+    /// How many bytes of the text at hand are read, and how many it has.
+    bytes: AtomicU64,
+    size: AtomicU64,
     screen: Mutex<Screen>,
     over: Condvar,
 }
@@ -50,6 +60,8 @@ impl Place {
             kind: AtomicU64::new(0),
             count: AtomicU64::new(0),
             lifts: AtomicU64::new(0),
+            bytes: AtomicU64::new(0),
+            size: AtomicU64::new(UNKNOWN),
             screen: Mutex::new(Screen {
                 is_drawn: false,
                 is_over: false,
@@ -64,7 +76,19 @@ impl Place {
         self.lifts.store(lifts, Ordering::Relaxed);
     }
 
-    fn sees(&self, stage: Stage) {
+    fn has_bytes(&self, bytes: u64, size: Option<u64>) {
+        self.bytes.store(bytes, Ordering::Relaxed);
+        self.size.store(size.unwrap_or(UNKNOWN), Ordering::Relaxed);
+    }
+
+    fn sees(&self, step: Step) {
+        match step {
+            Step::ReadingGame => self.store(7, 0, 0),
+            Step::Seen(stage) => self.sees_stage(stage),
+        }
+    }
+
+    fn sees_stage(&self, stage: Stage) {
         match stage {
             Stage::ReadingSystem => self.store(0, 0, 0),
             Stage::ReadingFormula => self.store(1, 0, 0),
@@ -81,20 +105,30 @@ impl Place {
         let count = self.count.load(Ordering::Relaxed);
         let lifts = self.lifts.load(Ordering::Relaxed);
         match self.kind.load(Ordering::Relaxed) {
-            0 => format!(in alloc; "\r\x1b[Kmucheck: reading the system, {seconds} s"),
-            1 => format!(in alloc; "\r\x1b[Kmucheck: reading the formula, {seconds} s"),
-            2 => format!(in alloc; "\r\x1b[Kmucheck: building, {count} states, {seconds} s"),
-            3 => format!(in alloc; "\r\x1b[Kmucheck: searching, {count} vertices, {seconds} s"),
-            4 => {
-                format!(in alloc;
-                    "\r\x1b[Kmucheck: lifting, {count} vertices, {lifts} lifts, {seconds} s"
-                )
-            }
-            5 => format!(in alloc;
-                "\r\x1b[Kmucheck: evaluating by sets, {count} states, {seconds} s"
+            0 => self.reading(alloc, "system", seconds),
+            1 => self.reading(alloc, "formula", seconds),
+            2 => format!(in alloc; "mucheck: building, {count} states, {seconds} s\n"),
+            3 => format!(in alloc; "mucheck: searching, {count} vertices, {seconds} s\n"),
+            4 => format!(in alloc;
+                "mucheck: lifting, {count} vertices, {lifts} lifts, {seconds} s\n"
             ),
-            _ => format!(in alloc; "\r\x1b[Kmucheck: writing, {seconds} s"),
+            5 => format!(in alloc; "mucheck: evaluating by sets, {count} states, {seconds} s\n"),
+            7 => self.reading(alloc, "game", seconds),
+            _ => format!(in alloc; "mucheck: writing, {seconds} s\n"),
         }
+    }
+
+    // How much of this text is read, where it is known how much there is.
+    fn reading(&self, alloc: Global, text: &str, seconds: u64) -> Result<String, AllocError> {
+        let size = self.size.load(Ordering::Relaxed);
+        if size == UNKNOWN {
+            return format!(in alloc; "mucheck: reading the {text}, {seconds} s\n");
+        }
+        let (read, whole) = (
+            self.bytes.load(Ordering::Relaxed) / MEGABYTE,
+            size / MEGABYTE,
+        );
+        format!(in alloc; "mucheck: reading the {text}, {read} of {whole} MB, {seconds} s\n")
     }
 }
 
@@ -114,18 +148,21 @@ fn tick<T: Wait + Clock>(rt: HostRuntime, handle: &T, place: &Place) {
             return;
         }
         if let Ok(elapsed) = start.elapsed(handle) {
-            screen.is_drawn = draw(rt, place, elapsed.as_secs());
+            screen.is_drawn = draw(rt, place, screen.is_drawn, elapsed.as_secs());
         }
         pause = NEXT;
     }
 }
 
-// Whether something stands on the line afterwards.
-fn draw(rt: HostRuntime, place: &Place, seconds: u64) -> bool {
-    match place.text(rt.alloc(), seconds) {
-        Ok(text) => rt.stderr().write_all(text.as_bytes()).is_ok(),
-        Err(AllocError) => true,
+// Writes the line in place of the one that stands, if one does. Whether one stands afterwards.
+fn draw(rt: HostRuntime, place: &Place, is_drawn: bool, seconds: u64) -> bool {
+    let Ok(text) = place.text(rt.alloc(), seconds) else {
+        return is_drawn;
+    };
+    if is_drawn && rt.stderr().write_all(CLEAR).is_err() {
+        return false;
     }
+    rt.stderr().write_all(text.as_bytes()).is_ok()
 }
 
 /// What a check tells while it runs.
@@ -163,6 +200,15 @@ impl<'a, T: Threads + Wait + Clock + Clone + Copy + Drop + Send + Sync + 'static
         let place = Arc::try_clone(self.place.as_ref()?).ok()?;
         let (rt, handle) = (self.rt, *self.handle);
         thread::spawn(self.handle, move || tick(rt, &handle, &place)).ok()
+    }
+}
+
+impl<T> Line<'_, T> {
+    /// So many bytes of the text at hand are read, of so many where that is known.
+    pub fn has_bytes(&self, bytes: u64, size: Option<u64>) {
+        if let Some(place) = &self.place {
+            place.has_bytes(bytes, size);
+        }
     }
 }
 
@@ -237,12 +283,29 @@ impl<T: Wait> Line<'_, T> {
     }
 }
 
+impl<T: Threads + Wait + Clock> Line<'_, T> {
+    /// The run has ended: nothing is told any more, and the thread that wrote the line, if there was one, ends.
+    pub fn finish(&self, ticker: Option<JoinHandle<()>>) {
+        self.end();
+        self.end_steps();
+        if let Some(ticker) = ticker {
+            ticker.join(self.handle);
+        }
+    }
+}
+
 impl<T: Wait + Clock> Line<'_, T> {
     /// The step begins, or goes on; what went on before has ended.
     pub fn step(&self, step: Step) {
-        if !self.has_stats {
-            return;
+        if let Some(place) = &self.place {
+            place.sees(step);
         }
+        if self.has_stats {
+            self.begin(step);
+        }
+    }
+
+    fn begin(&self, step: Step) {
         let mut running = self.running.lock(self.handle);
         *running = match *running {
             Some(now) if now.goes_on(step) => Some(now.at(step)),
@@ -272,9 +335,6 @@ impl<T: Wait + Clock> Line<'_, T> {
 
 impl<T: Wait + Clock> Observer for Line<'_, T> {
     fn sees(&self, stage: Stage) {
-        if let Some(place) = &self.place {
-            place.sees(stage);
-        }
         self.step(Step::Seen(stage));
     }
 }

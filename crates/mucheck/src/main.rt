@@ -2,36 +2,32 @@
 // ended; all that matters stands in the engines.
 #![tactic(auto)]
 
+mod check;
 mod files;
 mod input;
 mod line;
+mod reasons;
 mod refusal;
 mod same;
+mod solve;
 mod stats;
 mod table;
 
-use crate::files::Files;
-use crate::input::{Input, open};
-use crate::line::{Line, Output};
+use crate::check::run_check;
+use crate::input::open;
+use crate::reasons::run_why;
 use crate::refusal::{NO_SOURCES, Refusal, Sources, tell};
-use crate::same::keep_apart;
-use crate::stats::Step;
+use crate::solve::run_solve;
 use crate::table::run_table;
 use commands::command_line::command;
 use commands::information::{explanation, help_text, version_text};
-use commands::names::EvidenceNames;
 use commands::normal_text::normal_text;
 use commands::replay_text::replay_text;
-use commands::request::{Command, Normal, Outputs, Replay, Solve, Verify, Why};
-use commands::solve_text::solve_text_seen;
+use commands::request::{Command, Normal, Replay, Verify};
 use commands::verify_text::{verify_both_text, verify_text};
-use engines::engine::check_asked;
 use engines::error::{ArgumentError, MuError};
-use engines::reasons::tell_why;
-use engines::request::{Check, ReportForm};
 use engines::status::{error_status, status};
 use lts::put;
-use measures::observer::Silent;
 use std::io::ErrorKind;
 use std::process::ExitCode;
 use std::sync::Wait;
@@ -110,103 +106,10 @@ fn words(rt: &HostRuntime) -> Result<Vec<String>, MuError> {
     found.map_err(|_| MuError::Memory)
 }
 
-/// That no file is destroyed is seen to before any is opened. Both files are opened, in the order of the command line, before the first is
-/// read.
-fn run_check<T: Threads + Wait + Clock + Clone + Copy + Drop + Send + Sync + 'static>(
-    rt: &HostRuntime,
-    threads: &T,
-    request: &Check<'_>,
-    outputs: &Outputs<'_>,
-) -> Result<bool, Refusal> {
-    let names = match outputs.evidence {
-        Some(path) => EvidenceNames::of(rt.alloc(), path).map(Some),
-        None => Ok(None),
-    };
-    let Ok(names) = names else {
-        return Err(Refusal::Told(MuError::Memory));
-    };
-    keep_apart(rt, request, outputs, names.as_ref()).map_err(MuError::Arguments)?;
-    let system = open(rt, request.system)?;
-    let formula = open(rt, request.formula)?;
-    let files = Files::new(rt, outputs.game, names, outputs.witness);
-    let line = Line::new(*rt, threads, outputs.stats);
-    let ticker = line.start();
-    let mut out = Output::new(*rt, &line);
-    let report = outputs.report;
-    let answer = write_files(
-        rt, threads, request, system, formula, &files, report, &mut out, &line,
-    );
-    line.end();
-    line.end_steps();
-    if let Some(ticker) = ticker {
-        ticker.join(threads);
-    }
-    match files.into_refusal() {
-        Some(refusal) => Err(refusal),
-        None => Ok(answer?),
-    }
-}
-
-/// Writes what is asked for to the files, and then the report.
-fn write_files<T: Threads + Wait + Clock + Clone + Copy + Drop + Send + Sync + 'static>(
-    rt: &HostRuntime,
-    threads: &T,
-    request: &Check<'_>,
-    system: Input,
-    formula: Input,
-    files: &Files<'_>,
-    report: ReportForm,
-    out: &mut Output<'_, T>,
-    line: &Line<'_, T>,
-) -> Result<bool, MuError> {
-    check_asked(
-        threads,
-        rt.alloc(),
-        request,
-        files.wanted(report),
-        system,
-        formula,
-        out,
-        &mut files.game(),
-        &mut files.even(),
-        &mut files.odd(),
-        &mut files.witness(),
-        line,
-    )
-}
-
-/// Both files are opened, in the order of the command line, before the first is read.
-fn run_why<T: Threads + Wait + Clone + Copy + Drop + Send + Sync>(
-    rt: &HostRuntime,
-    threads: &T,
-    request: &Why<'_>,
-) -> Result<bool, Refusal> {
-    let system = open(rt, request.system)?;
-    let formula = open(rt, request.formula)?;
-    let options = &request.options;
-    let out = &mut io::writer(rt);
-    Ok(tell_why(threads, rt.alloc(), system, formula, options, out, &Silent)?)
-}
-
 fn run_normal(rt: &HostRuntime, request: &Normal<'_>) -> Result<bool, Refusal> {
     let formula = open(rt, request.formula)?;
     let out = &mut io::writer(rt);
     Ok(normal_text(rt.alloc(), formula, request.priorities, out)?)
-}
-
-fn run_solve<T: Threads + Wait + Clock + Clone + Copy + Drop + Send + Sync + 'static>(
-    rt: &HostRuntime,
-    threads: &T,
-    request: &Solve<'_>,
-) -> Result<bool, Refusal> {
-    let game = open(rt, request.game)?;
-    let options = &request.options;
-    let line = Line::new(*rt, threads, request.stats);
-    line.step(Step::ReadingGame);
-    let out = &mut io::writer(rt);
-    let answer = solve_text_seen(threads, rt.alloc(), game, options, out, &line);
-    line.end_steps();
-    Ok(answer?)
 }
 
 /// All files are opened, in the order of the command line, before the first is read.

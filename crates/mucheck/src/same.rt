@@ -1,9 +1,9 @@
 // The same file under two names: links, and names with other folders in front.
 
 use commands::inputs::is_standard_input;
-use commands::names::{EvidenceNames, is_device};
-use commands::request::Outputs;
-use engines::error::{ArgumentError, CheckFile};
+use commands::names::{EvidenceNames, is_device, over_game};
+use commands::request::{Outputs, Solve};
+use engines::error::{ArgumentError, CheckFile, MuError};
 use engines::request::{Check, ReportForm};
 use std::fs;
 use std::io::ErrorKind;
@@ -16,9 +16,6 @@ const STANDARD_INPUT: &str = "/dev/stdin";
 /// Where standard output goes.
 const STANDARD_OUTPUT: &str = "/dev/stdout";
 
-/// How many of a check's places are written to: they stand first.
-const WRITTEN: usize = 5;
-
 /// What tells a file from every other one: its device and number or, where it isn't there yet, those of its folder with its name.
 #[derive(Clone, Copy, PartialEq, Eq)]
 struct Identity<'a> {
@@ -27,7 +24,7 @@ struct Identity<'a> {
     name: &'a str,
 }
 
-/// A file of a check, with what it is, as far as the system tells.
+/// A file of a command, with what it is, as far as the system tells.
 #[derive(Clone, Copy)]
 struct Place<'a> {
     file: CheckFile,
@@ -47,32 +44,65 @@ pub fn keep_apart<'a>(
 ) -> Result<(), ArgumentError> {
     let even = evidence.map(|names| names.even.as_str());
     let odd = evidence.map(|names| names.odd.as_str());
-    let report = match outputs.report {
+    all_apart(
+        &[
+            written(rt, CheckFile::Game, outputs.game),
+            written(rt, CheckFile::EvenEvidence, even),
+            written(rt, CheckFile::OddEvidence, odd),
+            written(rt, CheckFile::Witness, outputs.witness),
+            reported(rt, outputs.report),
+        ],
+        &[
+            read(rt, CheckFile::System, check.system),
+            read(rt, CheckFile::Formula, check.formula),
+        ],
+    )
+}
+
+/// Refuses to solve a game where the same would be so.
+///
+/// # Errors
+/// U1, with both files; U4.
+pub fn keep_game_apart<'a>(
+    rt: &HostRuntime,
+    solve: &Solve<'a>,
+    evidence: Option<&'a EvidenceNames>,
+) -> Result<(), MuError> {
+    let even = evidence.map(|names| names.even.as_str());
+    let odd = evidence.map(|names| names.odd.as_str());
+    let places = [
+        written(rt, CheckFile::EvenEvidence, even),
+        written(rt, CheckFile::OddEvidence, odd),
+        reported(rt, ReportForm::Whole),
+    ];
+    let game = read(rt, CheckFile::Game, solve.game);
+    for place in &places {
+        if apart_from(place, &[game]).is_err() {
+            return Err(over_game(rt.alloc(), place.file));
+        }
+    }
+    all_apart(&places, &[]).map_err(MuError::Arguments)
+}
+
+/// Refuses a place that is written to and is another one of these.
+fn all_apart(written: &[Place<'_>], read: &[Place<'_>]) -> Result<(), ArgumentError> {
+    for at in 0..written.len() {
+        apart_from(&written[at], &written[at + 1..])?;
+        apart_from(&written[at], read)?;
+    }
+    Ok(())
+}
+
+/// Where the report goes, in a form in which there is one.
+fn reported<'a>(rt: &HostRuntime, report: ReportForm) -> Place<'a> {
+    let identity = match report {
         ReportForm::Nothing => None,
         _ => identify(rt, STANDARD_OUTPUT),
     };
-    let places = [
-        written(rt, CheckFile::Game, outputs.game),
-        written(rt, CheckFile::EvenEvidence, even),
-        written(rt, CheckFile::OddEvidence, odd),
-        written(rt, CheckFile::Witness, outputs.witness),
-        Place {
-            file: CheckFile::Report,
-            identity: report,
-        },
-        Place {
-            file: CheckFile::System,
-            identity: identify_read(rt, check.system),
-        },
-        Place {
-            file: CheckFile::Formula,
-            identity: identify_read(rt, check.formula),
-        },
-    ];
-    for at in 0..WRITTEN {
-        apart_from(&places[at], &places[at + 1..])?;
+    Place {
+        file: CheckFile::Report,
+        identity,
     }
-    Ok(())
 }
 
 /// The place of a text that is written, where it is asked for. Any number of texts may go to a device.
@@ -84,13 +114,14 @@ fn written<'a>(rt: &HostRuntime, file: CheckFile, name: Option<&'a str>) -> Plac
     Place { file, identity }
 }
 
-/// What is read under this name.
-fn identify_read<'a>(rt: &HostRuntime, name: &'a str) -> Option<Identity<'a>> {
-    if is_standard_input(name) {
+/// The place of what is read under this name.
+fn read<'a>(rt: &HostRuntime, file: CheckFile, name: &'a str) -> Place<'a> {
+    let identity = if is_standard_input(name) {
         identify(rt, STANDARD_INPUT)
     } else {
         identify(rt, name)
-    }
+    };
+    Place { file, identity }
 }
 
 fn identify<'a>(rt: &HostRuntime, name: &'a str) -> Option<Identity<'a>> {

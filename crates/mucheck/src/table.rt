@@ -2,8 +2,8 @@
 
 use crate::input::open;
 use crate::refusal::{NO_SOURCES, Refusal, tell};
-use commands::request::Table;
 use engines::error::MuError;
+use engines::request::Table;
 use engines::status::error_status;
 use engines::table::table_line;
 use lts::reader::read_aut;
@@ -28,13 +28,11 @@ pub fn run_table<T: Threads + Wait + Clone + Copy + Drop + Send + Sync>(
                 threads,
                 rt.alloc(),
                 &system,
-                &request.options,
-                request.plain,
+                request,
                 name,
                 formula,
                 out,
-            )
-            .map_err(MuError::Write)?,
+            ).map_err(MuError::Write)?,
             Err(refusal) => {
                 // Where standard error fails too, the status alone tells.
                 let _ = tell(rt, &NO_SOURCES, &refusal);

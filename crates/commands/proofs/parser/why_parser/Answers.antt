@@ -7,5 +7,6 @@ pub returns : goal.returns
 returns c =
     let system = adds_rule _ _ _ _ _ c.in_ok-arg.ensures c.file.ensures c.described.ensures in
     let formula = adds_rule _ _ _ _ _ c.in_ok-arg-2.ensures c.file-2.ensures system in
-    let rule = adds_rule _ _ _ _ _ c.in_ok-parser.ensures c.rule.ensures formula in
+    let strict = adds_rule _ _ _ _ _ c.in_ok-arg-3.ensures c.flag.ensures formula in
+    let rule = adds_rule _ _ _ _ _ c.in_ok-parser.ensures c.rule.ensures strict in
     IfOk-weaker c.with_workers.result _ _ (λ parser adds. adds_rules _ _ _ (lifting_rules c.args.boards) adds rule) c.with_workers.ensures

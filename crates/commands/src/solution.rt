@@ -1,0 +1,125 @@
+// Who wins each vertex of a game, and evidence of it: by a guess that a checker accepts, or else by the least progress tables.
+
+ghost use Rattle.std.specs.Prelude.{◌≡◌, ◌≤◌, IfErr, IfOk, Some};
+ghost use Rattle.std.specs.Arc.{arc_value};
+ghost use Rattle.certify.specs.Pair.{AreFull};
+ghost use Rattle.requests.specs.Solver.{IsFitting, IsUnsolved};
+ghost use Rattle.commands.specs.Solves.{IsUnproved};
+ghost use Rattle.commands.specs.Winners.{AreWinners};
+
+use crate::winner_text::{guessed_winners, winners};
+use certify::decide::certified_evidence;
+use certify::pair::EvidencePair;
+use evidence::error::EvidenceError;
+use evidence::law::written_is_accepted;
+use evidence::make::{even_evidence, odd_evidence};
+use game::dual::greatest_priority;
+use game::graph::Game;
+use measures::guess::NoGuess;
+use measures::observer::{Observer, Stage};
+use measures::table::Settled;
+use normal::limits::GREATEST_PRIORITY;
+use requests::error::MuError;
+use requests::request::Options;
+use requests::solver::{require_board, solve_seen};
+use std::alloc::Global;
+use std::sync::{Arc, Wait};
+use std::thread::Threads;
+use workers::gate::NoGate;
+
+/// Who wins each vertex: by evidence that is guessed and found good, where there is some; else by lifting.
+///
+/// # Errors
+/// T1 where the packed board is asked for and can't be had, and only there; T2, V1 and U4 for memory.
+pub(crate) fn winners_by<O: Observer + Sync, H: Threads + Wait + Clone + Copy + Drop + Send + Sync>(
+    rt: &H,
+    alloc: Global,
+    game: &Arc<Game, Global>,
+    options: &Options,
+    observer: &O,
+) -> Result<Vec<bool>, MuError>
+    ensures exact { IfOk result (λ marks. AreWinners (arc_value game.now) marks.items) }
+    ensures board { IfOk result (λ _. IsFitting (Some options.now.board) (arc_value game.now)) }
+    ensures refusal { IfErr result (IsUnsolved (Some options.now.board) (arc_value game.now)) }
+{
+    observer.sees(Stage::Searching {
+        vertices: game.vertices(),
+    });
+    require_board(game, options.board)?;
+    if let Some(marks) = guessed_winners(rt, alloc, game, options.workers) {
+        return Ok(marks);
+    }
+    match solve_seen(rt, alloc, game, options, &NoGate, observer, &NoGuess) {
+        Ok(settled) => winners(alloc, game, &settled),
+        Err(error) => Err(error),
+    }
+}
+
+/// Evidence of all that each player wins: that which is guessed, where it is found good; else that of the least progress tables.
+///
+/// # Errors
+/// Those of `winners_by`, and E5.
+pub(crate) fn evidence_by<
+    O: Observer + Sync,
+    H: Threads + Wait + Clone + Copy + Drop + Send + Sync,
+>(
+    rt: &H,
+    alloc: Global,
+    game: &Arc<Game, Global>,
+    options: &Options,
+    observer: &O,
+) -> Result<EvidencePair, MuError>
+    ensures full { IfOk result (AreFull (arc_value game.now)) }
+    ensures board { IfOk result (λ _. IsFitting (Some options.now.board) (arc_value game.now)) }
+    ensures refusal { IfErr result (IsUnproved options.now.board (arc_value game.now)) }
+{
+    observer.sees(Stage::Searching {
+        vertices: game.vertices(),
+    });
+    match require_board(game, options.board) {
+        Ok(()) => match certified_evidence(alloc, game) {
+            Some(pair) => Ok(pair),
+            None => evidence_by_lifting(rt, alloc, game, options, observer),
+        },
+        Err(error) => Err(error),
+    }
+}
+
+/// That of the least progress tables.
+fn evidence_by_lifting<O: Observer + Sync, H: Threads + Wait + Clone + Copy + Drop + Send + Sync>(
+    rt: &H,
+    alloc: Global,
+    game: &Arc<Game, Global>,
+    options: &Options,
+    observer: &O,
+) -> Result<EvidencePair, MuError>
+    ensures full { IfOk result (AreFull (arc_value game.now)) }
+    ensures board { IfOk result (λ _. IsFitting (Some options.now.board) (arc_value game.now)) }
+    ensures refusal { IfErr result (IsUnproved options.now.board (arc_value game.now)) }
+{
+    match solve_seen(rt, alloc, game, options, &NoGate, observer, &NoGuess) {
+        Ok(settled) => least_evidence(alloc, game, &settled),
+        Err(error) => Err(error),
+    }
+}
+
+/// The evidence that the least progress tables give.
+fn least_evidence(alloc: Global, game: &Game, settled: &Settled) -> Result<EvidencePair, MuError>
+    requires { settled.now.game ≡ game.now }
+    ensures full { IfOk result (AreFull game.now) }
+    ensures memory { IfErr result (λ e. e ≡ MuError.Evidence EvidenceError.Memory) }
+{
+    written_is_accepted();
+    game.known();
+    // A game that was read has no priority above the limit. Of one that has, the dual game can't be made.
+    if greatest_priority(game) > GREATEST_PRIORITY {
+        return Err(MuError::Evidence(EvidenceError::Memory));
+    }
+    match even_evidence(alloc, game, settled) {
+        Ok(even) => match odd_evidence(alloc, game) {
+            Ok(odd) => Ok(EvidencePair { even, odd }),
+            Err(error) => Err(MuError::Evidence(error)),
+        },
+        Err(error) => Err(MuError::Evidence(error)),
+    }
+}

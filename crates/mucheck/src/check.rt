@@ -1,0 +1,73 @@
+// The command `check`.
+
+use crate::files::{Files, evidence_names};
+use crate::input::{Counted, open};
+use crate::line::{Line, Output};
+use crate::refusal::Refusal;
+use crate::same::keep_apart;
+use commands::request::Outputs;
+use engines::engine::check_asked;
+use engines::error::MuError;
+use engines::request::{Check, ReportForm};
+use std::sync::Wait;
+use std::thread::Threads;
+use std::time::Clock;
+
+/// That no file is destroyed is seen to before any is opened. Both files are opened, in the order of the command line, before the first is
+/// read.
+pub fn run_check<T: Threads + Wait + Clock + Clone + Copy + Drop + Send + Sync + 'static>(
+    rt: &HostRuntime,
+    threads: &T,
+    request: &Check<'_>,
+    outputs: &Outputs<'_>,
+) -> Result<bool, Refusal> {
+    let names = evidence_names(rt, outputs.evidence)?;
+    keep_apart(rt, request, outputs, names.as_ref()).map_err(MuError::Arguments)?;
+    let system = open(rt, request.system)?;
+    let formula = open(rt, request.formula)?;
+    let files = Files::new(rt, outputs.game, names, outputs.witness);
+    let line = Line::new(*rt, threads, outputs.stats);
+    let ticker = line.start();
+    let report = outputs.report;
+    let answer = write_files(
+        rt,
+        threads,
+        request,
+        Counted::new(system, &line),
+        Counted::new(formula, &line),
+        &files,
+        report,
+        &line,
+    );
+    line.finish(ticker);
+    match files.into_refusal() {
+        Some(refusal) => Err(refusal),
+        None => Ok(answer?),
+    }
+}
+
+/// Writes what is asked for to the files, and then the report.
+fn write_files<T: Threads + Wait + Clock + Clone + Copy + Drop + Send + Sync + 'static>(
+    rt: &HostRuntime,
+    threads: &T,
+    request: &Check<'_>,
+    system: Counted<'_, T>,
+    formula: Counted<'_, T>,
+    files: &Files<'_>,
+    report: ReportForm,
+    line: &Line<'_, T>,
+) -> Result<bool, MuError> {
+    let alloc = rt.alloc();
+    let wanted = files.wanted(report);
+    let mut writers = files.writers(Output::new(*rt, line));
+    check_asked(
+        threads,
+        alloc,
+        request,
+        wanted,
+        system,
+        formula,
+        &mut writers,
+        line,
+    )
+}

@@ -1,0 +1,33 @@
+// The command `why`.
+
+use crate::input::{Counted, open};
+use crate::line::{Line, Output};
+use crate::refusal::Refusal;
+use engines::reasons::tell_why;
+use engines::request::Why;
+use std::sync::Wait;
+use std::thread::Threads;
+use std::time::Clock;
+
+/// Both files are opened, in the order of the command line, before the first is read.
+pub fn run_why<T: Threads + Wait + Clock + Clone + Copy + Drop + Send + Sync + 'static>(
+    rt: &HostRuntime,
+    threads: &T,
+    request: &Why<'_>,
+) -> Result<bool, Refusal> {
+    let system = open(rt, request.system)?;
+    let formula = open(rt, request.formula)?;
+    let line = Line::new(*rt, threads, false);
+    let ticker = line.start();
+    let answer = tell_why(
+        threads,
+        rt.alloc(),
+        request,
+        Counted::new(system, &line),
+        Counted::new(formula, &line),
+        &mut Output::new(*rt, &line),
+        &line,
+    );
+    line.finish(ticker);
+    Ok(answer?)
+}

@@ -1,0 +1,44 @@
+// The command `solve`.
+
+use crate::files::{Files, evidence_names};
+use crate::input::{Counted, open};
+use crate::line::{Line, Output};
+use crate::refusal::Refusal;
+use crate::same::keep_game_apart;
+use crate::stats::Step;
+use commands::request::Solve;
+use commands::solve_text::solve_asked;
+use std::sync::Wait;
+use std::thread::Threads;
+use std::time::Clock;
+
+/// That no file is destroyed is seen to before the game is opened.
+pub fn run_solve<T: Threads + Wait + Clock + Clone + Copy + Drop + Send + Sync + 'static>(
+    rt: &HostRuntime,
+    threads: &T,
+    request: &Solve<'_>,
+) -> Result<bool, Refusal> {
+    let names = evidence_names(rt, request.evidence)?;
+    keep_game_apart(rt, request, names.as_ref())?;
+    let game = open(rt, request.game)?;
+    let files = Files::new(rt, None, names, None);
+    let line = Line::new(*rt, threads, request.stats);
+    let ticker = line.start();
+    line.step(Step::ReadingGame);
+    let mut out = Output::new(*rt, &line);
+    let answer = solve_asked(
+        threads,
+        rt.alloc(),
+        request,
+        Counted::new(game, &line),
+        &mut files.even(),
+        &mut files.odd(),
+        &mut out,
+        &line,
+    );
+    line.finish(ticker);
+    match files.into_refusal() {
+        Some(refusal) => Err(refusal),
+        None => Ok(answer?),
+    }
+}
