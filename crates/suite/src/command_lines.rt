@@ -79,13 +79,15 @@ fn request_of(alloc: Global, words: &[String]) -> Result<String, AllocError> {
         Ok(Command::Why(why)) => {
             let options = options_of(alloc, &why.options)?;
             let (system, formula) = (why.system, why.formula);
-            format!(in alloc; "why {system} {formula} {options}")
+            let strict = if why.strict { " strict" } else { "" };
+            format!(in alloc; "why {system} {formula} {options}{strict}")
         }
         Ok(Command::Table(table)) => {
             let options = options_of(alloc, &table.options)?;
             let (system, plain) = (table.system, table.plain);
             let files = table.formulas.join(alloc, ",")?;
-            format!(in alloc; "table {system} {files} {options} {plain}")
+            let strict = if table.strict { " strict" } else { "" };
+            format!(in alloc; "table {system} {files} {options} {plain}{strict}")
         }
         Ok(Command::Normal(form)) => {
             let (formula, rule) = (form.formula, rule_of(form.priorities));
@@ -93,9 +95,9 @@ fn request_of(alloc: Global, words: &[String]) -> Result<String, AllocError> {
         }
         Ok(Command::Solve(solve)) => {
             let options = options_of(alloc, &solve.options)?;
-            let game = solve.game;
+            let (game, evidence) = (solve.game, solve.evidence.unwrap_or("-"));
             let stats = if solve.stats { " stats" } else { "" };
-            format!(in alloc; "solve {game} {options}{stats}")
+            format!(in alloc; "solve {game} {options} {evidence}{stats}")
         }
         Ok(Command::Verify(verify)) => {
             let (game, evidence) = (verify.game, verify.evidence);
@@ -118,7 +120,7 @@ fn request_of(alloc: Global, words: &[String]) -> Result<String, AllocError> {
 }
 
 /// Lines and what they ask for, with the defaults of the program's description.
-const TAKEN: [(&str, &str); 52] = [
+const TAKEN: [(&str, &str); 57] = [
     (
         "mucheck check - f",
         "check - f nested 1 16 auto false - - - report",
@@ -141,7 +143,27 @@ const TAKEN: [(&str, &str); 52] = [
         "mucheck check s f --stats",
         "check s f nested 1 16 auto false - - - report stats",
     ),
-    ("mucheck solve --stats g", "solve g nested 1 16 auto stats"),
+    (
+        "mucheck solve --stats g",
+        "solve g nested 1 16 auto - stats",
+    ),
+    (
+        "mucheck solve g --evidence e --workers 2",
+        "solve g nested 2 16 auto e",
+    ),
+    ("mucheck solve --evidence e e", "solve e nested 1 16 auto e"),
+    (
+        "mucheck why --strict s f",
+        "why s f nested 1 16 auto strict",
+    ),
+    (
+        "mucheck table s f --strict g",
+        "table s f,g nested 1 16 auto false strict",
+    ),
+    (
+        "mucheck table s --plain f --strict",
+        "table s f nested 1 16 auto true strict",
+    ),
     (
         "mucheck check --plain s f --quiet --strict",
         "check s f nested 1 16 auto true - - - quiet strict",
@@ -266,10 +288,10 @@ const TAKEN: [(&str, &str); 52] = [
         "mucheck normal --priorities dependent f",
         "normal f dependent",
     ),
-    ("mucheck solve g", "solve g nested 1 16 auto"),
+    ("mucheck solve g", "solve g nested 1 16 auto -"),
     (
         "mucheck solve g --workers 2 --shards 256 --board locked",
-        "solve g nested 2 256 locked",
+        "solve g nested 2 256 locked -",
     ),
     ("mucheck verify g e", "verify g e -"),
     ("mucheck verify g e o", "verify g e o"),
@@ -293,7 +315,7 @@ fn takes_command_lines(rt: HostRuntime) {
     }
 }
 
-const REFUSED: [&str; 81] = [
+const REFUSED: [&str; 86] = [
     "mucheck check - -",
     "mucheck table - f -",
     "mucheck table s - f -",
@@ -317,6 +339,11 @@ const REFUSED: [&str; 81] = [
     "mucheck why s f g",
     "mucheck why s f --plain",
     "mucheck normal f --strict",
+    "mucheck solve g --strict",
+    "mucheck solve g --evidence",
+    "mucheck solve g --evidence ",
+    "mucheck solve g.even --evidence g",
+    "mucheck table s f --strict=yes",
     "mucheck why s f --stats",
     "mucheck check s f --strict=yes",
     "mucheck why s f --witness w",
@@ -387,7 +414,7 @@ fn refuses_command_lines(rt: HostRuntime) {
 }
 
 /// Lines that would destroy a file, or write what there isn't, and what is said of them.
-const DESTRUCTIVE: [(&str, &str); 12] = [
+const DESTRUCTIVE: [(&str, &str); 14] = [
     (
         "mucheck check s f --game s",
         "the file of --game and SYSTEM are the same file",
@@ -423,6 +450,14 @@ const DESTRUCTIVE: [(&str, &str); 12] = [
     (
         "mucheck check s f --evidence e --witness e.odd",
         "PATH.odd of --evidence and the file of --witness are the same file",
+    ),
+    (
+        "mucheck solve --evidence g g.even",
+        "PATH.even of --evidence and GAME are the same file",
+    ),
+    (
+        "mucheck solve g.odd --evidence g",
+        "PATH.odd of --evidence and GAME are the same file",
     ),
     (
         "mucheck check s f --plain --game g",
@@ -548,7 +583,7 @@ const SHOWN: [(&str, [&str; 4]); 6] = [
         "mucheck solve --help",
         [
             "PGSolver",
-            "--workers",
+            "--evidence",
             "--board",
             "Example:\n  mucheck solve ",
         ],

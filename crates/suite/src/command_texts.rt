@@ -2,16 +2,18 @@
 
 use crate::common::{same, shown};
 use commands::normal_text::normal_text;
-use commands::solve_text::solve_text;
+use commands::request::Solve;
+use commands::solve_text::solve_asked;
 use commands::verify_text::{verify_both_text, verify_text};
 use engines::error::MuError;
 use engines::request::{BoardKind, Options};
+use measures::observer::Silent;
 use normal::priorities::Priorities;
 use samples::readers::Slow;
 use samples::texts::repeated;
 use samples::writers::{AMPLE, AtEnd, Narrow};
 use std::alloc::{AllocError, Global};
-use std::io::Write;
+use std::io::{Read, Write};
 use std::process::Abort;
 use std::sync::Wait;
 use std::thread::Threads;
@@ -58,7 +60,7 @@ fn run<W: Write, H: Threads + Wait + AllocGlobal + Clone + Copy + Drop + Send + 
     let alloc = rt.alloc();
     match asked {
         Asked::Normal(formula, rule) => normal_text(alloc, formula.as_bytes(), *rule, out),
-        Asked::Solve(game) => solve_text(rt, alloc, game.as_bytes(), options, out),
+        Asked::Solve(game) => solve(rt, alloc, game.as_bytes(), options, out),
         Asked::Verify(game, evidence) => {
             verify_text(alloc, game.as_bytes(), evidence.as_bytes(), out)
         }
@@ -66,6 +68,28 @@ fn run<W: Write, H: Threads + Wait + AllocGlobal + Clone + Copy + Drop + Send + 
             let evidence = (first.as_bytes(), second.as_bytes());
             verify_both_text(alloc, game.as_bytes(), evidence.0, evidence.1, out)
         }
+    }
+}
+
+/// Who wins each vertex, without evidence.
+fn solve<G: Read + Drop, W: Write, H: Threads + Wait + Clone + Copy + Drop + Send + Sync>(
+    rt: &H,
+    alloc: Global,
+    game: G,
+    options: &Options,
+    out: &mut W,
+) -> Result<bool, MuError> {
+    let request = Solve {
+        game: "g",
+        options: *options,
+        evidence: None,
+        stats: false,
+    };
+    let (mut even, mut odd) = (Vec::new(alloc), Vec::new(alloc));
+    let answer = solve_asked(rt, alloc, &request, game, &mut even, &mut odd, out, &Silent);
+    match answer {
+        Ok(_) if !even.is_empty() || !odd.is_empty() => Err(MuError::Memory),
+        answer => answer,
     }
 }
 
@@ -377,7 +401,7 @@ fn is_unread<H: Abort + Threads + Wait + AllocGlobal + Clone + Copy + Drop + Sen
     let normal = normal_text(rt.alloc(), formula, Priorities::Nested, &mut out);
     assert!(rt; matches!(&normal, Err(MuError::Read)));
     let game = failing_reader(STEP, given);
-    let solved = solve_text(rt, rt.alloc(), game, &OPTIONS, &mut out);
+    let solved = solve(rt, rt.alloc(), game, &OPTIONS, &mut out);
     assert!(rt; is_shown(rt.alloc(), &solved, "G7"));
     let game = failing_reader(STEP, given);
     let verified = verify_text(rt.alloc(), game, EVEN.as_bytes(), &mut out);

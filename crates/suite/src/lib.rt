@@ -28,6 +28,8 @@ mod reports;
 #[cfg(test)]
 mod shown_checks;
 #[cfg(test)]
+mod solved_games;
+#[cfg(test)]
 mod stages;
 #[cfg(test)]
 mod strict_checks;
@@ -35,5 +37,7 @@ mod strict_checks;
 mod table_lines;
 #[cfg(test)]
 mod told_reasons;
+#[cfg(test)]
+mod unwritten;
 #[cfg(test)]
 mod written_checks;

@@ -1,5 +1,6 @@
 // The forms of a report, by sets of states and by a game, with other texts beside it and without. The system and its states were written by hand.
 
+use crate::unwritten::unwritten;
 use engines::engine::check_asked;
 use engines::request::{BoardKind, Check, Options, ReportForm, Wanted};
 use measures::observer::Silent;
@@ -85,9 +86,7 @@ fn reports<R: Threads + Wait + Abort + Clone + Copy + Drop + Send + Sync>(
         strict: false,
     };
     let (system, formula) = (SYSTEM.as_bytes(), FORMULA.as_bytes());
-    let mut out = Vec::new(alloc);
-    let (mut game, mut even) = (Vec::new(alloc), Vec::new(alloc));
-    let (mut odd, mut witness) = (Vec::new(alloc), Vec::new(alloc));
+    let mut writers = unwritten(alloc);
     let answer = check_asked(
         rt,
         alloc,
@@ -95,14 +94,10 @@ fn reports<R: Threads + Wait + Abort + Clone + Copy + Drop + Send + Sync>(
         wanted,
         system,
         formula,
-        &mut out,
-        &mut game,
-        &mut even,
-        &mut odd,
-        &mut witness,
+        &mut writers,
         &Silent,
     );
-    answer.ok() == Some(true) && out.as_slice() == text.as_bytes()
+    answer.ok() == Some(true) && writers.report.as_slice() == text.as_bytes()
 }
 
 /// The report in this form, with evidence before it or not.

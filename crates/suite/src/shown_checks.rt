@@ -4,6 +4,7 @@ use crate::command_texts::{EVEN_OF_STEP, ODD_OF_STEP, STEP};
 use engines::engine::{check_all, check_asked};
 use engines::error::MuError;
 use engines::request::{BoardKind, Check, Options, ReportForm, Wanted, WitnessForm};
+use engines::writers::Writers;
 use measures::observer::Silent;
 use normal::priorities::Priorities;
 use samples::texts::RING;
@@ -84,25 +85,16 @@ const ROWS: [Row; 5] = [
     },
 ];
 
-/// A writer for each text.
-#[derive(Drop)]
-struct Writers {
-    game: Narrow,
-    even: Narrow,
-    odd: Narrow,
-    witness: Narrow,
-    report: Narrow,
-}
+/// Writers that are alike.
+type Narrows = Writers<Narrow, Narrow, Narrow, Narrow, Narrow>;
 
-impl Writers {
-    fn new(alloc: Global) -> Writers {
-        Writers {
-            game: Narrow::new(alloc, 9, AMPLE),
-            even: Narrow::new(alloc, 9, AMPLE),
-            odd: Narrow::new(alloc, 9, AMPLE),
-            witness: Narrow::new(alloc, 9, AMPLE),
-            report: Narrow::new(alloc, 9, AMPLE),
-        }
+fn ample_writers(alloc: Global) -> Narrows {
+    Writers {
+        game: Narrow::new(alloc, 9, AMPLE),
+        even: Narrow::new(alloc, 9, AMPLE),
+        odd: Narrow::new(alloc, 9, AMPLE),
+        witness: Narrow::new(alloc, 9, AMPLE),
+        report: Narrow::new(alloc, 9, AMPLE),
     }
 }
 
@@ -111,7 +103,7 @@ fn run<R: Threads + Wait + Clone + Copy + Drop + Send + Sync>(
     alloc: Global,
     row: &Row,
     wanted: Wanted,
-    writers: &mut Writers,
+    writers: &mut Narrows,
 ) -> Result<bool, MuError> {
     check_all(
         rt,
@@ -120,11 +112,7 @@ fn run<R: Threads + Wait + Clone + Copy + Drop + Send + Sync>(
         row.formula.as_bytes(),
         &OPTIONS,
         wanted,
-        &mut writers.report,
-        &mut writers.game,
-        &mut writers.even,
-        &mut writers.odd,
-        &mut writers.witness,
+        writers,
         &Silent,
     )
 }
@@ -138,7 +126,7 @@ fn has(writer: &Narrow, text: &str) -> bool {
 fn a_witness_is_what_the_answer_rests_on(rt: HostRuntime) {
     for row in &ROWS {
         for evidence in [true, false] {
-            let mut writers = Writers::new(rt.alloc());
+            let mut writers = ample_writers(rt.alloc());
             let wanted = Wanted {
                 game: false,
                 evidence,
@@ -160,7 +148,7 @@ fn a_drawing_has_the_same_edges(rt: HostRuntime) {
     let head =
         b"digraph witness {\n  rankdir=LR;\n  node [shape=circle];\n  0 [shape=doublecircle];\n";
     for row in &ROWS {
-        let mut writers = Writers::new(rt.alloc());
+        let mut writers = ample_writers(rt.alloc());
         let wanted = Wanted {
             witness: Some(WitnessForm::Drawing),
             ..NONE
@@ -177,7 +165,7 @@ fn a_drawing_has_the_same_edges(rt: HostRuntime) {
 #[test]
 fn what_is_not_wanted_is_not_written(rt: HostRuntime) {
     for row in &ROWS {
-        let mut writers = Writers::new(rt.alloc());
+        let mut writers = ample_writers(rt.alloc());
         let answer = run(&rt, rt.alloc(), row, NONE, &mut writers);
         assert!(rt; answer.ok() == Some(row.holds));
         assert!(rt; writers.game.taken.is_empty() && writers.witness.taken.is_empty());
@@ -190,7 +178,7 @@ fn what_is_not_wanted_is_not_written(rt: HostRuntime) {
 fn a_failed_witness_ends_the_check(rt: HostRuntime) {
     let row = &ROWS[0];
     for room in 0..row.part.len() {
-        let mut writers = Writers::new(rt.alloc());
+        let mut writers = ample_writers(rt.alloc());
         writers.witness = Narrow::new(rt.alloc(), 9, room);
         let answer = run(&rt, rt.alloc(), row, ALL, &mut writers);
         assert!(rt; matches!(answer, Err(MuError::Write(_))));
@@ -216,7 +204,7 @@ fn sets_of_states_give_the_report_alone(rt: HostRuntime) {
         strict: false,
     };
     for row in &ROWS {
-        let mut writers = Writers::new(rt.alloc());
+        let mut writers = ample_writers(rt.alloc());
         let answer = check_asked(
             &rt,
             rt.alloc(),
@@ -224,11 +212,7 @@ fn sets_of_states_give_the_report_alone(rt: HostRuntime) {
             ALL,
             row.system.as_bytes(),
             row.formula.as_bytes(),
-            &mut writers.report,
-            &mut writers.game,
-            &mut writers.even,
-            &mut writers.odd,
-            &mut writers.witness,
+            &mut writers,
             &Silent,
         );
         assert!(rt; answer.ok() == Some(row.holds));

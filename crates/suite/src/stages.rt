@@ -1,5 +1,6 @@
 // What a watcher is told of a check: each stage that its way has, and both texts once they are read.
 
+use crate::unwritten::unwritten;
 use calculus::closed::Closed;
 use engines::engine::{check_all, check_plain_seen};
 use engines::request::{BoardKind, Options, ReportForm, Wanted};
@@ -73,8 +74,7 @@ fn tells_of_a_game<R: Abort + AllocGlobal + Threads + Wait + Clone + Copy + Drop
         shards: 16,
         board: BoardKind::Auto,
     };
-    let (mut out, mut game, mut witness) = (Vec::new(alloc), Vec::new(alloc), Vec::new(alloc));
-    let (mut even, mut odd) = (Vec::new(alloc), Vec::new(alloc));
+    let mut writers = unwritten(alloc);
     let answer = check_all(
         rt,
         alloc,
@@ -82,11 +82,7 @@ fn tells_of_a_game<R: Abort + AllocGlobal + Threads + Wait + Clone + Copy + Drop
         b"<a>true".as_slice(),
         &options,
         NOTHING,
-        &mut out,
-        &mut game,
-        &mut even,
-        &mut odd,
-        &mut witness,
+        &mut writers,
         &told,
     );
     assert!(rt; answer.ok() == Some(true));

@@ -1,5 +1,6 @@
 // Checks that are strict about the words of their formulas, and the same without. Which words are on no transition was read off the system.
 
+use crate::unwritten::{Written, unwritten};
 use engines::engine::check_asked;
 use engines::error::MuError;
 use engines::request::{BoardKind, Check, Options, ReportForm, Wanted};
@@ -47,9 +48,7 @@ fn outcome<R: Threads + Wait + Clone + Copy + Drop + Send + Sync>(
     request: &Check<'_>,
     formula: &str,
 ) -> Result<String, AllocError> {
-    let mut out = Vec::new(alloc);
-    let (mut game, mut even) = (Vec::new(alloc), Vec::new(alloc));
-    let (mut odd, mut witness) = (Vec::new(alloc), Vec::new(alloc));
+    let mut writers = unwritten(alloc);
     let answer = check_asked(
         rt,
         alloc,
@@ -57,15 +56,17 @@ fn outcome<R: Threads + Wait + Clone + Copy + Drop + Send + Sync>(
         WANTED,
         SYSTEM.as_bytes(),
         formula.as_bytes(),
-        &mut out,
-        &mut game,
-        &mut even,
-        &mut odd,
-        &mut witness,
+        &mut writers,
         &Silent,
     );
-    let is_mute = out.is_empty() && game.is_empty() && even.is_empty() && odd.is_empty();
-    told(alloc, &answer, is_mute)
+    told(alloc, &answer, is_mute(&writers))
+}
+
+fn is_mute(writers: &Written) -> bool {
+    writers.report.is_empty()
+        && writers.game.is_empty()
+        && writers.even.is_empty()
+        && writers.odd.is_empty()
 }
 
 fn told(

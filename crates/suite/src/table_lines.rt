@@ -1,11 +1,12 @@
 // Lines of tables, on a system of two states whose answers were worked out by hand.
 
-use engines::request::{BoardKind, Options};
+use engines::request::{BoardKind, Options, Table};
 use engines::table::table_line;
 use lts::{Lts, read_aut};
 use normal::priorities::Priorities;
 use samples::texts::RING;
 use samples::writers::{AtEnd, Narrow};
+use std::alloc::Global;
 use std::process::Abort;
 use std::sync::Wait;
 use std::thread::Threads;
@@ -38,6 +39,47 @@ const LINES: [(&str, &str, u8); 12] = [
     ("% expect no\n?", "F1 at offset 12 f.mcf\n", 2),
 ];
 
+/// Formulas, their lines where the table isn't strict, and where it is. Which words are on no transition was read off the system.
+const STRICT: [(&str, &str, &str); 6] = [
+    ("<a>true", "yes 1 of 2 f.mcf\n", "yes 1 of 2 f.mcf\n"),
+    (
+        "[true*]<true>true",
+        "yes 2 of 2 f.mcf\n",
+        "yes 2 of 2 f.mcf\n",
+    ),
+    ("[c]false", "yes 2 of 2 f.mcf\n", "L1 at offset 1 f.mcf\n"),
+    (
+        "% expect yes\n[a]<\"b(1)\">true",
+        "no 1 of 2 f.mcf UNEXPECTED\n",
+        "L1 at offset 17 f.mcf\n",
+    ),
+    ("nu c. <b>c", "no 0 of 2 f.mcf\n", "no 0 of 2 f.mcf\n"),
+    ("<c>X", "F5 at offset 3 f.mcf\n", "F5 at offset 3 f.mcf\n"),
+];
+
+/// A table, by sets of states or by the game, strict or not.
+fn table(alloc: Global, plain: bool, strict: bool) -> Table<'static> {
+    Table {
+        system: "s",
+        formulas: Vec::new(alloc),
+        options: OPTIONS,
+        plain,
+        strict,
+    }
+}
+
+/// The line of a formula.
+fn line_of<R: AllocGlobal + Threads + Wait + Clone + Copy + Drop + Send + Sync>(
+    rt: &R,
+    system: &Lts,
+    request: &Table<'_>,
+    formula: &str,
+    out: &mut Vec<u8>,
+) -> Option<u8> {
+    let alloc = rt.alloc();
+    table_line(rt, alloc, system, request, "f.mcf", formula.as_bytes(), out).ok()
+}
+
 /// The formula has this line and this status, by sets of states or by the game.
 fn tells<R: Abort + AllocGlobal + Threads + Wait + Clone + Copy + Drop + Send + Sync>(
     rt: &R,
@@ -47,17 +89,14 @@ fn tells<R: Abort + AllocGlobal + Threads + Wait + Clone + Copy + Drop + Send + 
 ) {
     let (formula, line, status) = *row;
     let mut out = Vec::new(rt.alloc());
-    let answer = table_line(
+    let answer = line_of(
         rt,
-        rt.alloc(),
         system,
-        &OPTIONS,
-        plain,
-        "f.mcf",
-        formula.as_bytes(),
+        &table(rt.alloc(), plain, false),
+        formula,
         &mut out,
     );
-    assert!(rt; answer.ok() == Some(status), "{formula}");
+    assert!(rt; answer == Some(status), "{formula}");
     assert!(rt; out.as_slice() == line.as_bytes(), "{formula}");
 }
 
@@ -67,6 +106,33 @@ fn lines_are_those_worked_out(rt: HostRuntime) {
     for row in &LINES {
         tells(&rt, &system, true, row);
         tells(&rt, &system, false, row);
+    }
+}
+
+#[test]
+fn a_strict_table_refuses_a_word_on_no_transition(rt: HostRuntime) {
+    let system = read_aut(rt.alloc(), RING.as_bytes()).expect(&rt, "a system");
+    for (formula, lax, strict) in &STRICT {
+        for plain in [true, false] {
+            let mut out = Vec::new(rt.alloc());
+            line_of(
+                &rt,
+                &system,
+                &table(rt.alloc(), plain, false),
+                formula,
+                &mut out,
+            );
+            assert!(rt; out.as_slice() == lax.as_bytes(), "{formula}");
+            let mut out = Vec::new(rt.alloc());
+            line_of(
+                &rt,
+                &system,
+                &table(rt.alloc(), plain, true),
+                formula,
+                &mut out,
+            );
+            assert!(rt; out.as_slice() == strict.as_bytes(), "{formula}");
+        }
     }
 }
 
@@ -81,8 +147,7 @@ fn failed_writes_are_told(rt: HostRuntime) {
         &rt,
         rt.alloc(),
         &system,
-        &OPTIONS,
-        true,
+        &table(rt.alloc(), true, false),
         "f.mcf",
         formula,
         &mut out,

@@ -1,8 +1,9 @@
 // What is told of why an answer is so: whole texts, worked out by hand from the witnesses, which have the winner's moves and all of the opponent's.
 
+use crate::common::{same, shown};
 use engines::error::MuError;
 use engines::reasons::tell_why;
-use engines::request::{BoardKind, Options};
+use engines::request::{BoardKind, Options, Why};
 use measures::observer::Silent;
 use normal::priorities::Priorities;
 use samples::texts::{RING, ring};
@@ -28,8 +29,16 @@ const BRANCH: &str = "des (0,4,3)\n(0,\"a\",1)\n(0,\"a\",2)\n(0,\"b\",1)\n(1,\"b
 /// By two labels to the second state, and back from there.
 const BESIDE: &str = "des (0,3,2)\n(0,\"a\",1)\n(0,\"b\",1)\n(1,\"c\",0)\n";
 
+/// A ring of four states, and beside it a state with a step to itself.
+const LOOPS: &str =
+    "des (0,6,5)\n(0,\"a\",1)\n(0,\"a\",4)\n(1,\"a\",2)\n(2,\"a\",3)\n(3,\"a\",0)\n(4,\"a\",4)\n";
+
+/// A request, after which a loop of three steps and one of two have no answer.
+const REQUEST: &str =
+    "des (0,6,5)\n(0,\"ask\",1)\n(1,\"a\",2)\n(1,\"b\",4)\n(2,\"a\",3)\n(3,\"a\",1)\n(4,\"b\",1)\n";
+
 /// A system, a formula, whether the initial state satisfies it, and what is told.
-const ROWS: [(&str, &str, bool, &str); 9] = [
+const ROWS: [(&str, &str, bool, &str); 12] = [
     (
         RING,
         "[true*]<true>true",
@@ -84,7 +93,37 @@ const ROWS: [(&str, &str, bool, &str); 9] = [
         false,
         "formula [true*]<c>true\ninitial no\n0: no step\n",
     ),
+    // The shortest path into a loop.
+    (
+        LOOPS,
+        "mu X. [!b]X",
+        false,
+        "formula (mu X. [!b]X)\ninitial no\n0 -a-> 4\n4 -a-> 4 (again)\n",
+    ),
+    (
+        LOOPS,
+        "nu X. <a>X",
+        true,
+        "formula (nu X. <a>X)\ninitial yes\n0 -a-> 4\n4 -a-> 4 (again)\n",
+    ),
+    // The shorter loop.
+    (
+        REQUEST,
+        "[true*][ask] mu X. [!answer]X",
+        false,
+        "formula [true*][ask](mu X. [!answer]X)\ninitial no\n0 -ask-> 1\n1 -b-> 4\n4 -b-> 1 (again)\n",
+    ),
 ];
+
+/// What is asked about, strictly or not.
+fn why(strict: bool) -> Why<'static> {
+    Why {
+        system: "s",
+        formula: "f",
+        options: OPTIONS,
+        strict,
+    }
+}
 
 /// What is told of the system and the formula, and the answer.
 fn told<R: Abort + AllocGlobal + Threads + Wait + Clone + Copy + Drop + Send + Sync>(
@@ -93,12 +132,22 @@ fn told<R: Abort + AllocGlobal + Threads + Wait + Clone + Copy + Drop + Send + S
     formula: &str,
     out: &mut Narrow,
 ) -> Result<bool, MuError> {
+    told_by(rt, &why(false), system, formula, out)
+}
+
+fn told_by<R: Abort + AllocGlobal + Threads + Wait + Clone + Copy + Drop + Send + Sync>(
+    rt: &R,
+    request: &Why<'_>,
+    system: &str,
+    formula: &str,
+    out: &mut Narrow,
+) -> Result<bool, MuError> {
     tell_why(
         rt,
         rt.alloc(),
+        request,
         system.as_bytes(),
         formula.as_bytes(),
-        &OPTIONS,
         out,
         &Silent,
     )
@@ -154,4 +203,23 @@ fn refusals_and_failed_writes_are_told(rt: HostRuntime) {
     let answer = told(&rt, RING, "<a><a>true", &mut out);
     assert!(rt; matches!(answer, Err(MuError::Write(_))));
     assert!(rt; out.taken.as_slice() == b"formula <a><a>true\ninitial no\n0 -a-> 1\n1".as_slice());
+}
+
+/// A formula on the ring, and what comes of it where it is asked about strictly. Which words are on no transition was read off the system.
+const STRICT: [(&str, &str); 4] = [
+    ("<a><a>true", "no"),
+    ("[true*]<true>true", "yes"),
+    ("[a]<c>true && <d>true", "L1 at offset 4"),
+    ("<c>X", "F5 at offset 3"),
+];
+
+#[test]
+fn strictly_a_word_on_no_transition_is_refused(rt: HostRuntime) {
+    for (formula, wanted) in &STRICT {
+        let mut out = Narrow::new(rt.alloc(), 7, AMPLE);
+        let answer = told_by(&rt, &why(true), RING, formula, &mut out);
+        let found = shown(rt.alloc(), &answer).expect(&rt, "memory");
+        same(&rt, formula, found.as_str(), wanted);
+        assert!(rt; out.taken.is_empty() == answer.is_err(), "{formula}");
+    }
 }

@@ -167,7 +167,7 @@ fn an_interrupted_read_is_tried_again(rt: HostRuntime) {
     );
 }
 
-// Each growth may be refused: then nothing but that is told. `rt try --test --fail-alloc N` refuses the Nth.
+// Each growth may be refused: then nothing but that is told. tests/refusals refuses each in turn.
 #[test]
 fn want_of_memory_is_told_as_such(rt: HostRuntime) {
     let text = "parity 2;\n2 0 0 0,1;\n0 1 1 2;\n1 2 0 1 \"x\";\n";

@@ -119,7 +119,7 @@ fn each_split_of_a_ring_gives_its_game(rt: HostRuntime) {
     }
 }
 
-// Each growth may be refused: then nothing but that is told. `rt try --test --fail-alloc N` refuses the Nth.
+// Each growth may be refused: then nothing but that is told. tests/refusals refuses each in turn.
 #[test]
 fn want_of_memory_is_told_as_such(rt: HostRuntime) {
     let (system, formula, wanted) = GAMES[0];

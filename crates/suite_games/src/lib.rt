@@ -38,4 +38,6 @@ mod rankings_by_hand;
 #[cfg(test)]
 mod schedules;
 #[cfg(test)]
+mod unasked;
+#[cfg(test)]
 mod witnesses;

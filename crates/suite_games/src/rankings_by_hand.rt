@@ -5,6 +5,7 @@ use rankings::sheet::Sheet;
 use rankings::winners::root_winners;
 use samples::texts::{form_of, system_of};
 use std::alloc::{AllocError, Global};
+use std::thread::Threads;
 
 // From state 0 to state 1 by `a`; from there nothing goes on. State 2 leads to itself by `b`.
 const SYSTEM: &str = "des (0,2,3)\n(0,\"a\",1)\n(2,\"b\",2)\n";
@@ -29,16 +30,17 @@ fn sheet_of(alloc: Global, rows: Rows<'_>, evens: &[u32], odds: &[u32]) -> Optio
 
 // The winners that a sheet tells of the game of a formula, if it is a good ranking; one letter for each state.
 fn told(
-    alloc: Global,
+    rt: &(impl Threads + AllocGlobal + Sync),
     formula: &str,
     rows: Rows<'_>,
     evens: &[u32],
     odds: &[u32],
 ) -> Option<[bool; 3]> {
+    let alloc = rt.alloc();
     let system = system_of(alloc, SYSTEM).ok()?;
     let form = form_of(alloc, formula)?;
     let sheet = sheet_of(alloc, rows, evens, odds)?;
-    let marks = root_winners(alloc, &system, &form, &sheet)?;
+    let marks = root_winners(rt, alloc, &system, &form, &sheet, 1)?;
     match marks.as_slice() {
         [first, second, third] => Some([*first, *second, *third]),
         _ => None,
@@ -48,35 +50,32 @@ fn told(
 // One step by `a`: where there is none the diamond leads to the false sink, whose number is 1, and has to be above it where the mark doesn't count.
 #[test]
 fn a_diamond_without_a_step_is_odds(rt: HostRuntime) {
-    let alloc = rt.alloc();
     let rows = [[0, 3, 3], [0, 0, 0]];
-    let found = told(alloc, "<a>true", &rows, &[0], &[1]);
+    let found = told(&rt, "<a>true", &rows, &[0], &[1]);
     assert!(rt; found == Some([true, false, false]));
-    assert!(rt; told(alloc, "<a>true", &[[0, 1, 3], [0, 0, 0]], &[0], &[1]) == None);
-    assert!(rt; told(alloc, "<a>true", &[[0, 0, 3], [0, 0, 0]], &[0], &[1]) == None);
-    assert!(rt; told(alloc, "<a>true", &[[3, 3, 3], [0, 0, 0]], &[0], &[1]) == None);
+    assert!(rt; told(&rt, "<a>true", &[[0, 1, 3], [0, 0, 0]], &[0], &[1]) == None);
+    assert!(rt; told(&rt, "<a>true", &[[0, 0, 3], [0, 0, 0]], &[0], &[1]) == None);
+    assert!(rt; told(&rt, "<a>true", &[[3, 3, 3], [0, 0, 0]], &[0], &[1]) == None);
 }
 
 // A box without a step leads to the true sink, and is Even's.
 #[test]
 fn a_box_without_a_step_is_evens(rt: HostRuntime) {
-    let alloc = rt.alloc();
     let rows = [[3, 0, 0], [3, 3, 3]];
-    assert!(rt; told(alloc, "[a]false", &rows, &[0], &[1]) == None);
+    assert!(rt; told(&rt, "[a]false", &rows, &[0], &[1]) == None);
     let rows = [[5, 0, 0], [3, 3, 3]];
-    assert!(rt; told(alloc, "[a]false", &rows, &[0], &[1]) == Some([false, true, true]));
-    assert!(rt; told(alloc, "[a]false", &[[5, 5, 0], [3, 3, 3]], &[0], &[1]) == None);
+    assert!(rt; told(&rt, "[a]false", &rows, &[0], &[1]) == Some([false, true, true]));
+    assert!(rt; told(&rt, "[a]false", &[[5, 5, 0], [3, 3, 3]], &[0], &[1]) == None);
 }
 
 // The least fixpoint that only goes on is Odd's everywhere, the greatest is Even's where a step follows a step for ever.
 #[test]
 fn fixpoints_that_only_go_on(rt: HostRuntime) {
-    let alloc = rt.alloc();
     let least = [[3, 3, 3], [7, 7, 7], [5, 5, 5]];
-    assert!(rt; told(alloc, "mu X. <true>X", &least, &[0], &[1, 4]) == Some([false, false, false]));
+    assert!(rt; told(&rt, "mu X. <true>X", &least, &[0], &[1, 4]) == Some([false, false, false]));
     assert!(rt;
         told(
-            alloc,
+            &rt,
             "mu X. <true>X",
             &[[0, 0, 0], [0, 0, 0], [0, 0, 0]],
             &[0],
@@ -84,10 +83,10 @@ fn fixpoints_that_only_go_on(rt: HostRuntime) {
         ) == None
     );
     let greatest = [[11, 5, 0], [9, 3, 0], [13, 7, 0]];
-    assert!(rt; told(alloc, "nu X. <true>X", &greatest, &[0], &[1]) == Some([false, false, true]));
+    assert!(rt; told(&rt, "nu X. <true>X", &greatest, &[0], &[1]) == Some([false, false, true]));
     assert!(rt;
         told(
-            alloc,
+            &rt,
             "nu X. <true>X",
             &[[0, 0, 0], [0, 0, 0], [0, 0, 0]],
             &[0],
@@ -99,10 +98,9 @@ fn fixpoints_that_only_go_on(rt: HostRuntime) {
 // A sheet needs a column for each node and a number for each state, and shifts that don't fall.
 #[test]
 fn sheets_of_the_wrong_shape(rt: HostRuntime) {
-    let alloc = rt.alloc();
     let rows = [[0, 3, 3], [0, 0, 0]];
-    assert!(rt; told(alloc, "<a>true", &rows[..1], &[0], &[1]) == None);
-    assert!(rt; told(alloc, "<a>true && true", &rows, &[0], &[1]) == None);
-    assert!(rt; told(alloc, "<a>true", &rows, &[2, 1], &[1]) == None);
-    assert!(rt; told(alloc, "<a>true", &rows, &[0], &[64]) == None);
+    assert!(rt; told(&rt, "<a>true", &rows[..1], &[0], &[1]) == None);
+    assert!(rt; told(&rt, "<a>true && true", &rows, &[0], &[1]) == None);
+    assert!(rt; told(&rt, "<a>true", &rows, &[2, 1], &[1]) == None);
+    assert!(rt; told(&rt, "<a>true", &rows, &[0], &[64]) == None);
 }

@@ -2,12 +2,15 @@
 
 use game::graph::Game;
 use game::player::Player;
+use liftcore::error::{ReadError, ScheduleError, ScheduleFault};
 use liftcore::event::{Event, Outcome};
 use liftcore::machine::{Core, run};
-use liftcore::schedule::read_schedule;
+use liftcore::schedule::{read_schedule, read_schedule_from};
 use liftcore::writer::write_replay;
 use samples::games::{Row, game_of};
+use samples::readers::{Halting, Slow};
 use std::process::Abort;
+use text::ReadFault;
 
 // The game of `<a>true` on two states, of which the first leads to the second by a, and the second to the first by b.
 pub const STEP: [Row; 6] = [
@@ -84,7 +87,7 @@ fn a_late_read_does_no_harm(rt: HostRuntime) {
 }
 
 // Schedules for two workers and eight vertices, and their refusals.
-const REFUSED: [(&str, &str); 9] = [
+const REFUSED: [(&str, &str); 20] = [
     ("take 2 0\n", "S2 at line 1"),
     ("take 0 8\n", "S3 at line 1"),
     ("take 2 8\n", "S2 at line 1"),
@@ -94,6 +97,17 @@ const REFUSED: [(&str, &str); 9] = [
     ("raise 0\r\n", "S1 at line 1"),
     ("take 0  1\n", "S1 at line 1"),
     ("take 99999999999 0", "S2 at line 1"),
+    ("take 0 99999999999999999999999999999999", "S3 at line 1"),
+    ("take 0 99999999999999999999999999999999 ", "S1 at line 1"),
+    ("take 0 4294967296x", "S1 at line 1"),
+    ("raise 00", "S1 at line 1"),
+    ("raise 0 0", "S1 at line 1"),
+    ("raise", "S1 at line 1"),
+    ("raise ", "S1 at line 1"),
+    ("raises 0", "S1 at line 1"),
+    ("take 0 ", "S1 at line 1"),
+    ("take 0 1 2", "S1 at line 1"),
+    ("pull 0 1", "S1 at line 1"),
 ];
 
 #[test]
@@ -103,6 +117,68 @@ fn faulty_schedules_are_refused(rt: HostRuntime) {
         let text = replayed(&rt, &game, schedule);
         assert!(rt; text.as_str() == *wanted);
     }
+}
+
+// What a reader in such pieces gives is what the whole text does.
+const STEPS: [usize; 3] = [1, 7, 8192];
+
+fn is_read_alike(rt: &(impl Abort + AllocGlobal), schedule: &str) -> bool {
+    let whole = read_schedule(rt.alloc(), schedule.as_bytes(), 2, 8);
+    for step in STEPS {
+        let reader = Slow {
+            left: schedule.as_bytes(),
+            step,
+            fails: false,
+        };
+        let found = read_schedule_from(rt.alloc(), reader, 2, 8);
+        let is_same = match (&whole, &found) {
+            (Ok(events), Ok(found)) => events.as_slice() == found.as_slice(),
+            (Err(error), Err(found)) => ReadError::Schedule(*error) == *found,
+            _ => false,
+        };
+        if !is_same {
+            return false;
+        }
+    }
+    true
+}
+
+#[test]
+fn schedules_are_read_in_pieces(rt: HostRuntime) {
+    for schedule in [LATE, "", "take 1 7", "raise 0\nraise 1", "push 0 6\n"] {
+        assert!(rt; is_read_alike(&rt, schedule), "{schedule}");
+    }
+    for (schedule, _) in &REFUSED {
+        assert!(rt; is_read_alike(&rt, schedule), "{schedule}");
+    }
+}
+
+// A failed read is told where the text has no fault before it, and an interrupted one is tried again.
+#[test]
+fn reads_of_schedules_fail_or_are_tried_again(rt: HostRuntime) {
+    for (schedule, wanted) in [
+        ("raise 0\ntake", ReadError::Read(ReadFault::Read)),
+        (
+            "raise 0\ntake\n",
+            ReadError::Schedule(ScheduleError::Fault {
+                fault: ScheduleFault::BadLine,
+                line: 2,
+            }),
+        ),
+    ] {
+        let reader = Slow {
+            left: schedule.as_bytes(),
+            step: 3,
+            fails: true,
+        };
+        assert!(rt; read_schedule_from(rt.alloc(), reader, 2, 8).err() == Some(wanted));
+    }
+    let reader = Halting {
+        left: LATE.as_bytes(),
+        is_interrupted: false,
+    };
+    let events = read_schedule_from(rt.alloc(), reader, 2, 8).expect(&rt, "events");
+    assert_eq!(rt; events.len(), 13);
 }
 
 #[test]

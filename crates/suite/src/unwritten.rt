@@ -1,0 +1,17 @@
+// A writer for each text of a check that keeps what it is given.
+
+use engines::writers::Writers;
+use std::alloc::Global;
+
+pub type Written = Writers<Vec<u8>, Vec<u8>, Vec<u8>, Vec<u8>, Vec<u8>>;
+
+/// Writers to which nothing was written yet.
+pub fn unwritten(alloc: Global) -> Written {
+    Writers {
+        game: Vec::new(alloc),
+        even: Vec::new(alloc),
+        odd: Vec::new(alloc),
+        witness: Vec::new(alloc),
+        report: Vec::new(alloc),
+    }
+}
