@@ -13,6 +13,8 @@ peterson              the mutual exclusion algorithm of Peterson (1981) for two 
 philosophers          the dining philosophers (Dijkstra 1971): four, the last of whom takes his right fork first
 philosophers-deadlock the same, where each takes his left fork first
 counter               a 4-bit synchronous counter with the inputs enable and reset and the output carry
+two-phase-commit      the commit protocol of that name (Gray 1978): a coordinator, which may crash, and two participants
+elevator              an elevator for three floors, which goes on in its direction as long as a call waits there
 """
 
 from collections import deque
@@ -145,6 +147,63 @@ def counter(bits):
     return explore(0, steps)
 
 
+def two_phase_commit(count):
+    """A coordinator and so many participants.
+
+    The coordinator asks each for its vote, decides to commit where all have voted yes and to abort where one has voted no, and tells each. It may
+    crash before all are told. A participant that votes no has aborted, and one that hasn't voted yet may abort when the coordinator is down; one
+    that has voted yes waits to be told.
+    """
+
+    def steps(state):
+        coordinator, participants = state
+
+        def put(me, place):
+            return participants[:me] + (place,) + participants[me + 1 :]
+
+        for me, place in enumerate(participants):
+            if coordinator == "asking" and place == "idle":
+                yield f"prepare({me})", (coordinator, put(me, "asked"))
+            if place == "asked":
+                yield f"vote({me},yes)", (coordinator, put(me, "ready"))
+                yield f"vote({me},no)", (coordinator, put(me, "aborted"))
+            if place == "ready" and coordinator in ("commit", "abort"):
+                yield f"{coordinator}({me})", (coordinator, put(me, "committed" if coordinator == "commit" else "aborted"))
+            if place in ("idle", "asked") and coordinator in ("abort", "down"):
+                yield f"abort({me})", (coordinator, put(me, "aborted"))
+        if coordinator == "asking" and all(place == "ready" for place in participants):
+            yield "decide(commit)", ("commit", participants)
+        if coordinator == "asking" and "aborted" in participants:
+            yield "decide(abort)", ("abort", participants)
+        if coordinator != "down" and any(place in ("idle", "asked", "ready") for place in participants):
+            yield "crash", ("down", participants)
+
+    return explore(("asking", ("idle",) * count), steps)
+
+
+def elevator(floors):
+    """The floor where it is, where it goes (1 up, -1 down), whether its door is open, and the floors that it is called to.
+
+    A button may be pressed at any time. Called to its floor, it opens its door, which answers the call. Else, with its door closed, it goes on in its
+    direction where a call waits there, and turns round where one waits on the other side alone.
+    """
+
+    def steps(state):
+        floor, direction, is_open, calls = state
+        for called in range(floors):
+            yield f"press({called})", (floor, direction, is_open, calls | {called})
+        if is_open:
+            yield "close", (floor, direction, False, calls)
+        elif floor in calls:
+            yield f"open({floor})", (floor, direction, True, calls - {floor})
+        elif any((call - floor) * direction > 0 for call in calls):
+            yield "up" if direction > 0 else "down", (floor + direction, direction, False, calls)
+        elif calls:
+            yield "turn", (floor, -direction, False, calls)
+
+    return explore((0, 1, False, frozenset()), steps)
+
+
 def main():
     write("first", [(0, "a", 1), (1, "b", 1)], 2)
     write("two-states", [(0, "a", 1), (1, "b", 0)], 2)
@@ -153,6 +212,8 @@ def main():
     write("philosophers", *philosophers(4, last_is_right_handed=True))
     write("philosophers-deadlock", *philosophers(4, last_is_right_handed=False))
     write("counter", *counter(4))
+    write("two-phase-commit", *two_phase_commit(2))
+    write("elevator", *elevator(3))
 
 
 if __name__ == "__main__":
