@@ -626,6 +626,25 @@ def fault_of_both(game, first, second):
     return f"C5 at {min(missing)}" if missing else None
 
 
+# ---- schedules
+
+EVENT = re.compile(rb"(take|read|push) " + NUMBER + rb" " + NUMBER + rb"|raise " + NUMBER)
+
+
+def read_schedule(text, workers, vertices):
+    """The lines of a schedule for so many workers and vertices."""
+    rows = pieces(text)
+    for at, row in enumerate(rows, 1):
+        shape = EVENT.fullmatch(row)
+        if not shape:
+            raise at_line("S1", at)
+        if int(shape[2] or shape[4]) >= workers:
+            raise at_line("S2", at)
+        if shape[3] and int(shape[3]) >= vertices:
+            raise at_line("S3", at)
+    return rows
+
+
 # ---- the command line
 
 def opener(name):
