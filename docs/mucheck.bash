@@ -9,10 +9,10 @@ _mucheck_options() {
   local lifting="--workers --shards --board"
   case ${1-} in
     check) echo "--plain --strict --stats --quiet --summary --states --limit --priorities $lifting --game --evidence --witness --help" ;;
-    why) echo "--priorities $lifting --help" ;;
-    table) echo "--plain --priorities $lifting --help" ;;
+    why) echo "--strict --priorities $lifting --help" ;;
+    table) echo "--plain --strict --priorities $lifting --help" ;;
     normal) echo "--priorities --help" ;;
-    solve) echo "--stats $lifting --help" ;;
+    solve) echo "--evidence --stats $lifting --help" ;;
     replay) echo "--workers --help" ;;
     verify | explain | help | version) echo "--help" ;;
     *) echo "--help --version" ;;
