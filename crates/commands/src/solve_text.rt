@@ -20,7 +20,7 @@ use certify::pair::EvidencePair;
 use evidence::writer::write_evidence;
 use game::graph::Game;
 use lts::{WriteFault, put};
-use measures::observer::{Observer, Stage};
+use measures::observer::{Observer, Silent, Stage};
 use pgsolver::read_game;
 use requests::error::MuError;
 use requests::request::Options;
@@ -29,13 +29,49 @@ use std::io::{Read, Write};
 use std::sync::{Arc, Wait};
 use std::thread::Threads;
 
-/// Writes who wins each vertex of the game that a text spells, and how many of them Even wins; before that, where it is asked for, evidence of all that
-/// Even wins and of all that Odd wins, each to its writer. The answer is true. The game is solved by the workers and over the board of the
-/// options. An observer is told what is being searched, lifted and written.
+/// Writes who wins each vertex of the game that a text spells, and how many of them Even wins. The answer is true. The game is
+/// solved by the workers and over the board of the options.
 ///
 /// # Errors
 /// Those of the reader, unchanged; T1 where the packed board is asked for and can't be had, and only there; T2, V1 and U4 for
-/// memory, and E5 where evidence is asked for; W1 where a write failed. After a refusal that is not W1 nothing was written.
+/// memory; W1 where a write failed. After a refusal that is not W1 nothing was written.
+pub fn solve_text<R: Read + Drop, W: Write, H: Threads + Wait + Clone + Copy + Drop + Send + Sync>(
+    rt: &H,
+    alloc: Global,
+    game: R,
+    options: &Options,
+    out: &mut W,
+) -> Result<bool, MuError>
+    ensures solves { Solves options.now.board (R.remaining game) (report_writer Whole (W.contents out.old) (W.contents out.new)) result }
+{
+    match read_game(alloc, game) {
+        Ok(game) => solve_alone(rt, alloc, game, options, out),
+        Err(error) => Err(MuError::Game(error)),
+    }
+}
+
+/// Solves the game, and writes who wins each vertex. Nobody watches.
+fn solve_alone<W: Write, H: Threads + Wait + Clone + Copy + Drop + Send + Sync>(
+    rt: &H,
+    alloc: Global,
+    game: Game,
+    options: &Options,
+    out: &mut W,
+) -> Result<bool, MuError>
+    ensures { (text : List ℕ) → IsGameOf text game
+        → Answers options.now.board text (report_writer Whole (W.contents out.old) (W.contents out.new)) result }
+{
+    match Arc::new(alloc, game) {
+        Ok(game) => solve_and_write(rt, alloc, &game, options, out, &Silent),
+        Err(_) => Err(MuError::Memory),
+    }
+}
+
+/// Solves as `solve_text` does by the options of a request, and before that writes, where it is asked for, evidence of all that
+/// Even wins and of all that Odd wins, each to its writer. An observer is told what is being searched, lifted and written.
+///
+/// # Errors
+/// Those of `solve_text`, and E5 where evidence is asked for and memory is wanting for it.
 pub fn solve_asked<
     R: Read + Drop,
     E: Write,

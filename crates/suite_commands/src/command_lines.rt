@@ -1,4 +1,4 @@
-// Command lines, and the exit statuses of their answers, by the program's table of both.
+// Command lines, and what is asked for by them.
 
 use crate::common::same;
 use crate::help::HELP;
@@ -6,19 +6,11 @@ use commands::command_line::command;
 use commands::information::{explanation, help_text, version_text};
 use commands::names::is_drawing;
 use commands::request::Command;
-use engines::error::MuError;
-use engines::request::{BoardKind, Options, ReportForm};
-use engines::status::status;
 use normal::priorities::Priorities;
+use requests::error::MuError;
+use requests::request::{BoardKind, Options, ReportForm};
 use std::alloc::{AllocError, Global};
 use std::process::Abort;
-
-#[test]
-fn statuses_are_those_of_the_table(rt: HostRuntime) {
-    assert!(rt; status(&Ok(true)) == 0 && status(&Ok(false)) == 1);
-    assert!(rt; status(&Err(MuError::File)) == 3);
-    assert!(rt; status(&Err(MuError::Memory)) == 3);
-}
 
 /// The words of a command line.
 fn words(alloc: Global, line: &str) -> Result<Vec<String>, AllocError> {

@@ -1,9 +1,10 @@
 // What is told of why an answer is so: whole texts, worked out by hand from the witnesses, which have the winner's moves and all of the opponent's.
 
-use crate::common::{same, shown};
+use crate::common::same;
 use engines::error::MuError;
 use engines::reasons::tell_why;
 use engines::request::{BoardKind, Options, Why};
+use fixtures::answers::shown;
 use measures::observer::Silent;
 use normal::priorities::Priorities;
 use samples::texts::{RING, ring};

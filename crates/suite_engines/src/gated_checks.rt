@@ -1,14 +1,14 @@
 // Checks by workers over boards: that neither shows in a report, when a board can't be had, and that both workers take turns.
 // The reports are those that were worked out by hand; the least system without a packed board is computed from the definition.
 
-use crate::command_texts::{EVEN, ODD, OFTEN_A};
 use crate::common::same;
-use crate::many_workers::Meeting;
 use crate::reports::{report_of_the_ring, shown};
 use engines::engine::{check, check_gated};
 use engines::error::MuError;
 use engines::request::{BoardKind, Options};
 use engines::writers::EvidenceWriters;
+use fixtures::meeting::Meeting;
+use fixtures::texts::{EVEN_OF_OFTEN_A, ODD_OF_OFTEN_A, OFTEN_A};
 use normal::priorities::Priorities;
 use samples::texts::{RING, repeated, ring};
 use std::alloc::{AllocError, Global};
@@ -116,8 +116,8 @@ impl Texts {
         let report =
             "system 2 states 2 transitions initial 0\nformula (nu X. (mu Y. (<a>X || <b>Y)))\nyes 2 of 2\ninitial yes\n0 yes\n1 yes\n";
         self.game.as_slice() == OFTEN_A.as_bytes()
-            && self.even.as_slice() == EVEN.as_bytes()
-            && self.odd.as_slice() == ODD.as_bytes()
+            && self.even.as_slice() == EVEN_OF_OFTEN_A.as_bytes()
+            && self.odd.as_slice() == ODD_OF_OFTEN_A.as_bytes()
             && self.report.as_slice() == report.as_bytes()
     }
 }

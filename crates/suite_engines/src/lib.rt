@@ -1,12 +1,6 @@
-// Tests of workers, engines and commands, by what the crates offer to others.
+// Tests of the engines of `check`, `table` and `why`, by what the crates offer to others.
 #![tactic(auto)]
 
-#[cfg(test)]
-mod climbing_workers;
-#[cfg(test)]
-mod command_lines;
-#[cfg(test)]
-mod command_texts;
 #[cfg(test)]
 mod common;
 #[cfg(test)]
@@ -14,23 +8,15 @@ mod faults;
 #[cfg(test)]
 mod gated_checks;
 #[cfg(test)]
-mod help;
-#[cfg(test)]
-mod many_workers;
-#[cfg(test)]
-mod observers;
-#[cfg(test)]
-mod replays;
-#[cfg(test)]
 mod report_forms;
 #[cfg(test)]
 mod reports;
 #[cfg(test)]
 mod shown_checks;
 #[cfg(test)]
-mod solved_games;
-#[cfg(test)]
 mod stages;
+#[cfg(test)]
+mod statuses;
 #[cfg(test)]
 mod strict_checks;
 #[cfg(test)]

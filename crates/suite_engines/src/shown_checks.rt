@@ -1,10 +1,10 @@
 // What a check writes where a witness is wanted. The parts are worked out by hand: the winner's moves and all of the opponent's.
 
-use crate::command_texts::{EVEN_OF_STEP, ODD_OF_STEP, STEP};
 use engines::engine::{check_all, check_asked};
 use engines::error::MuError;
 use engines::request::{BoardKind, Check, Options, ReportForm, Wanted, WitnessForm};
 use engines::writers::Writers;
+use fixtures::texts::{EVEN_OF_STEP, ODD_OF_STEP, STEP};
 use measures::observer::Silent;
 use normal::priorities::Priorities;
 use samples::texts::RING;

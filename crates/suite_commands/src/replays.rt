@@ -1,8 +1,9 @@
 // What the command `replay` writes, answers and refuses: the worked examples of docs/FORMATS.md, and schedules worked out by hand.
 
-use crate::common::{same, shown};
+use crate::common::same;
 use commands::replay_text::replay_text;
-use engines::error::MuError;
+use fixtures::answers::shown;
+use requests::error::MuError;
 use samples::readers::Slow;
 use samples::texts::RING;
 use samples::writers::{AMPLE, AtEnd, Narrow};

@@ -1,10 +1,10 @@
 // What a check writes: the game, both players' evidence and the report, of formulas whose games were solved by hand (the worked examples of docs/FORMATS.md).
 
-use crate::command_texts::{EVEN, EVEN_OF_STEP, ODD, ODD_OF_STEP, OFTEN_A, STEP};
 use engines::engine::{check, check_one};
 use engines::error::MuError;
 use engines::request::{BoardKind, Options};
 use engines::writers::EvidenceWriters;
+use fixtures::texts::{EVEN_OF_OFTEN_A, EVEN_OF_STEP, ODD_OF_OFTEN_A, ODD_OF_STEP, OFTEN_A, STEP};
 use normal::priorities::Priorities;
 use samples::texts::RING;
 use samples::writers::{AMPLE, Narrow};
@@ -39,8 +39,8 @@ const CHECKS: [Texts; 2] = [
     Texts {
         formula: "nu X. mu Y. (<a>X || <b>Y)",
         game: OFTEN_A,
-        even: EVEN,
-        odd: ODD,
+        even: EVEN_OF_OFTEN_A,
+        odd: ODD_OF_OFTEN_A,
         report: "system 2 states 2 transitions initial 0\nformula (nu X. (mu Y. (<a>X || <b>Y)))\nyes 2 of 2\ninitial yes\n0 yes\n1 yes\n",
     },
 ];

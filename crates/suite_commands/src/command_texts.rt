@@ -1,14 +1,14 @@
 // What the commands `normal`, `solve` and `verify` write, answer and refuse: the worked examples of docs/FORMATS.md, and games that were solved by hand.
 
-use crate::common::{same, shown};
+use crate::common::same;
 use commands::normal_text::normal_text;
-use commands::request::Solve;
-use commands::solve_text::solve_asked;
+use commands::solve_text::solve_text;
 use commands::verify_text::{verify_both_text, verify_text};
-use engines::error::MuError;
-use engines::request::{BoardKind, Options};
-use measures::observer::Silent;
+use fixtures::answers::shown;
+use fixtures::texts::{EVEN_OF_OFTEN_A, EVEN_OF_STEP, ODD_OF_OFTEN_A, ODD_OF_STEP, OFTEN_A, STEP};
 use normal::priorities::Priorities;
+use requests::error::MuError;
+use requests::request::{BoardKind, Options};
 use samples::readers::Slow;
 use samples::texts::repeated;
 use samples::writers::{AMPLE, AtEnd, Narrow};
@@ -24,23 +24,6 @@ const OPTIONS: Options = Options {
     shards: 16,
     board: BoardKind::Auto,
 };
-
-/// The game of `<a>true` on a ring of two states.
-pub const STEP: &str =
-    "parity 5;\n0 0 0 0 \"true\";\n1 1 0 1 \"false\";\n2 0 0 5 \"0,0\";\n3 0 0 0 \"0,1\";\n4 0 0 1 \"1,0\";\n5 0 0 0 \"1,1\";\n";
-
-pub const EVEN_OF_STEP: &str = "evidence even\n0 0 (0)\n2 5 (0)\n3 0 (0)\n5 0 (0)\n";
-
-pub const ODD_OF_STEP: &str = "evidence odd\n1 - (0)\n4 - (1)\n";
-
-/// The game of `nu X. mu Y. (<a>X || <b>Y)` on it.
-pub const OFTEN_A: &str =
-    "parity 15;\n0 0 0 0 \"true\";\n1 1 0 1 \"false\";\n2 2 0 3 \"0,0\";\n3 1 0 4 \"0,1\";\n4 0 0 5,7 \"0,2\";\n5 0 0 13 \"0,3\";\n6 0 0 2 \"0,4\";\n7 0 0 1 \"0,5\";\n8 0 0 3 \"0,6\";\n9 2 0 10 \"1,0\";\n10 1 0 11 \"1,1\";\n11 0 0 12,14 \"1,2\";\n12 0 0 1 \"1,3\";\n13 0 0 9 \"1,4\";\n14 0 0 8 \"1,5\";\n15 0 0 10 \"1,6\";\n";
-
-pub const EVEN: &str =
-    "evidence even\n0 0 (0)\n2 3 (0)\n3 4 (1)\n4 5 (0)\n5 13 (0)\n6 2 (0)\n8 3 (1)\n9 10 (0)\n10 11 (2)\n11 14 (1)\n13 9 (0)\n14 8 (1)\n15 10 (2)\n";
-
-pub const ODD: &str = "evidence odd\n1 - (0,0)\n7 - (0,1)\n12 - (0,1)\n";
 
 /// A command with its texts.
 #[derive(Clone, Copy)]
@@ -60,7 +43,7 @@ fn run<W: Write, H: Threads + Wait + AllocGlobal + Clone + Copy + Drop + Send + 
     let alloc = rt.alloc();
     match asked {
         Asked::Normal(formula, rule) => normal_text(alloc, formula.as_bytes(), *rule, out),
-        Asked::Solve(game) => solve(rt, alloc, game.as_bytes(), options, out),
+        Asked::Solve(game) => solve_text(rt, alloc, game.as_bytes(), options, out),
         Asked::Verify(game, evidence) => {
             verify_text(alloc, game.as_bytes(), evidence.as_bytes(), out)
         }
@@ -68,28 +51,6 @@ fn run<W: Write, H: Threads + Wait + AllocGlobal + Clone + Copy + Drop + Send + 
             let evidence = (first.as_bytes(), second.as_bytes());
             verify_both_text(alloc, game.as_bytes(), evidence.0, evidence.1, out)
         }
-    }
-}
-
-/// Who wins each vertex, without evidence.
-fn solve<G: Read + Drop, W: Write, H: Threads + Wait + Clone + Copy + Drop + Send + Sync>(
-    rt: &H,
-    alloc: Global,
-    game: G,
-    options: &Options,
-    out: &mut W,
-) -> Result<bool, MuError> {
-    let request = Solve {
-        game: "g",
-        options: *options,
-        evidence: None,
-        stats: false,
-    };
-    let (mut even, mut odd) = (Vec::new(alloc), Vec::new(alloc));
-    let answer = solve_asked(rt, alloc, &request, game, &mut even, &mut odd, out, &Silent);
-    match answer {
-        Ok(_) if !even.is_empty() || !odd.is_empty() => Err(MuError::Memory),
-        answer => answer,
     }
 }
 
@@ -144,27 +105,35 @@ const TOLD: [(Asked<'static>, &str, &str); 13] = [
         "yes",
     ),
     (
-        Asked::Verify(OFTEN_A, EVEN),
+        Asked::Verify(OFTEN_A, EVEN_OF_OFTEN_A),
         "verified even 13 of 16\n",
         "yes",
     ),
-    (Asked::Verify(OFTEN_A, ODD), "verified odd 3 of 16\n", "yes"),
+    (
+        Asked::Verify(OFTEN_A, ODD_OF_OFTEN_A),
+        "verified odd 3 of 16\n",
+        "yes",
+    ),
     (
         Asked::Verify(STEP, ODD_OF_STEP),
         "verified odd 2 of 6\n",
         "yes",
     ),
     (
-        Asked::Both(OFTEN_A, EVEN, ODD),
+        Asked::Both(OFTEN_A, EVEN_OF_OFTEN_A, ODD_OF_OFTEN_A),
         "verified both even 13 odd 3 of 16\n",
         "yes",
     ),
     (
-        Asked::Both(OFTEN_A, ODD, EVEN),
+        Asked::Both(OFTEN_A, ODD_OF_OFTEN_A, EVEN_OF_OFTEN_A),
         "verified both even 13 odd 3 of 16\n",
         "yes",
     ),
-    (Asked::Both(OFTEN_A, EVEN, EVEN), "refused C4\n", "no"),
+    (
+        Asked::Both(OFTEN_A, EVEN_OF_OFTEN_A, EVEN_OF_OFTEN_A),
+        "refused C4\n",
+        "no",
+    ),
     (
         Asked::Both(STEP, EVEN_OF_STEP, ODD_OF_STEP),
         "verified both even 4 odd 2 of 6\n",
@@ -262,16 +231,16 @@ const CHANGED: [(&str, &str, &str, &str); 11] = [
 #[test]
 fn changed_evidence_is_refused(rt: HostRuntime) {
     for (line, other, text, answer) in &CHANGED {
-        let changed = with_line(rt.alloc(), EVEN, line, other).expect(&rt, "memory");
+        let changed = with_line(rt.alloc(), EVEN_OF_OFTEN_A, line, other).expect(&rt, "memory");
         tells(&rt, &Asked::Verify(OFTEN_A, changed.as_str()), text, answer);
     }
-    let gone = with_line(rt.alloc(), ODD, "1 - (0,0)", "").expect(&rt, "memory");
-    let second = Asked::Both(OFTEN_A, EVEN, gone.as_str());
+    let gone = with_line(rt.alloc(), ODD_OF_OFTEN_A, "1 - (0,0)", "").expect(&rt, "memory");
+    let second = Asked::Both(OFTEN_A, EVEN_OF_OFTEN_A, gone.as_str());
     tells(&rt, &second, "refused second C2 at 7\n", "no");
-    let first = Asked::Both(OFTEN_A, gone.as_str(), EVEN);
+    let first = Asked::Both(OFTEN_A, gone.as_str(), EVEN_OF_OFTEN_A);
     tells(&rt, &first, "refused first C2 at 7\n", "no");
-    let left = with_line(rt.alloc(), ODD, "7 - (0,1)", "").expect(&rt, "memory");
-    let both = Asked::Both(OFTEN_A, EVEN, left.as_str());
+    let left = with_line(rt.alloc(), ODD_OF_OFTEN_A, "7 - (0,1)", "").expect(&rt, "memory");
+    let both = Asked::Both(OFTEN_A, EVEN_OF_OFTEN_A, left.as_str());
     tells(&rt, &both, "refused C5 at 7\n", "no")
 }
 
@@ -401,16 +370,22 @@ fn is_unread<H: Abort + Threads + Wait + AllocGlobal + Clone + Copy + Drop + Sen
     let normal = normal_text(rt.alloc(), formula, Priorities::Nested, &mut out);
     assert!(rt; matches!(&normal, Err(MuError::Read)));
     let game = failing_reader(STEP, given);
-    let solved = solve(rt, rt.alloc(), game, &OPTIONS, &mut out);
+    let solved = solve_text(rt, rt.alloc(), game, &OPTIONS, &mut out);
     assert!(rt; is_shown(rt.alloc(), &solved, "G7"));
     let game = failing_reader(STEP, given);
-    let verified = verify_text(rt.alloc(), game, EVEN.as_bytes(), &mut out);
+    let verified = verify_text(rt.alloc(), game, EVEN_OF_OFTEN_A.as_bytes(), &mut out);
     assert!(rt; is_shown(rt.alloc(), &verified, "G7"));
-    let evidence = failing_reader(EVEN, given);
+    let evidence = failing_reader(EVEN_OF_OFTEN_A, given);
     let verified = verify_text(rt.alloc(), OFTEN_A.as_bytes(), evidence, &mut out);
     assert!(rt; is_shown(rt.alloc(), &verified, "E4"));
-    let (game, other) = (OFTEN_A.as_bytes(), failing_reader(ODD, given));
-    let both = verify_both_text(rt.alloc(), game, EVEN.as_bytes(), other, &mut out);
+    let (game, other) = (OFTEN_A.as_bytes(), failing_reader(ODD_OF_OFTEN_A, given));
+    let both = verify_both_text(
+        rt.alloc(),
+        game,
+        EVEN_OF_OFTEN_A.as_bytes(),
+        other,
+        &mut out,
+    );
     assert!(rt; is_shown(rt.alloc(), &both, "E4"));
     assert!(rt; out.is_empty());
 }

@@ -3,6 +3,7 @@
 ghost use Rattle.std.specs.Prelude.{◌≡◌, ◌<◌, length};
 ghost use Rattle.std.specs.Arc.{arc_value};
 
+use fixtures::meeting::Meeting;
 use game::graph::Game;
 use game::name::GameName;
 use game::player::Player;
@@ -11,7 +12,6 @@ use measures::settle::{is_settled, solve_one};
 use measures::table::{PlainTable, opening};
 use samples::games::{Row, shared_game_of};
 use std::alloc::{AllocError, Global};
-use std::hint::spin_loop;
 use std::marker::Brand;
 use std::process::Abort;
 use std::sync::atomic::{AtomicBool, AtomicU32, AtomicU64, Ordering};
@@ -112,47 +112,6 @@ fn any_number_of_workers_finds_the_least_table(rt: HostRuntime) {
             "{workers} on a ring in shards"
         );
         assert!(rt; same_table(&rt, &WAY, 16, workers), "{workers} on a way");
-    }
-}
-
-/// How often a worker that is held looks at most. Between two looks it leaves the processor some time: a thread may be slow to begin.
-const MOST_LOOKS: u64 = 10_000_000;
-
-/// Holds each of two workers at its first turn until the other's has come.
-#[derive(Drop)]
-pub struct Meeting {
-    came: [AtomicU64; 2],
-    missed: AtomicU64,
-}
-
-impl Meeting {
-    pub fn new() -> Self {
-        Meeting {
-            came: [AtomicU64::new(0), AtomicU64::new(0)],
-            missed: AtomicU64::new(0),
-        }
-    }
-
-    pub fn took_place(&self) -> bool {
-        self.came
-            .iter()
-            .all(|came| came.load(Ordering::SeqCst) == 1)
-            && self.missed.load(Ordering::SeqCst) == 0
-    }
-}
-
-impl Gate for Meeting {
-    fn before(&self, worker: usize, _v: u32) {
-        if worker > 1 || self.came[worker].swap(1, Ordering::SeqCst) == 1 {
-            return;
-        }
-        for _ in 0..MOST_LOOKS {
-            if self.came[1 - worker].load(Ordering::SeqCst) == 1 {
-                return;
-            }
-            spin_loop();
-        }
-        self.missed.store(1, Ordering::SeqCst);
     }
 }
 

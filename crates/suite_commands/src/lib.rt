@@ -1,0 +1,15 @@
+// Tests of the commands and of the command line, by what the crates offer to others.
+#![tactic(auto)]
+
+#[cfg(test)]
+mod command_lines;
+#[cfg(test)]
+mod command_texts;
+#[cfg(test)]
+mod common;
+#[cfg(test)]
+mod help;
+#[cfg(test)]
+mod replays;
+#[cfg(test)]
+mod solved_games;
