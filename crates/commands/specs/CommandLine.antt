@@ -25,7 +25,7 @@ use Rattle.requests.specs.declared.request.Table.{Table as TableRequest}
 use Rattle.requests.specs.declared.request.Why.{Why as WhyRequest}
 use Rattle.commands.specs.declared.request.Command.{Command}
 use Rattle.commands.specs.declared.request.Command.TheVariants.{Check, Explain, Help, Normal, Replay, Solve, Table, Verify, Version, Why}
-use Rattle.commands.specs.declared.request.Normal.{Normal as NormalRequest}
+use Rattle.commands.specs.declared.request.Normalize.{Normalize}
 use Rattle.commands.specs.declared.request.Outputs.{Outputs}
 use Rattle.commands.specs.declared.request.Replay.{Replay as ReplayRequest}
 use Rattle.commands.specs.declared.request.Solve.{Solve as SolveRequest}
@@ -271,7 +271,7 @@ pub record AreOutputs (rows : List Row) (outputs : Outputs) : Type 0 where
   pub report : IsForm rows outputs.report
   pub stats : outputs.stats ≡ stands rows (codes "stats")
 
-pub record IsNormal (rows : List Row) (form : NormalRequest) : Type 0 where
+pub record IsNormal (rows : List Row) (form : Normalize) : Type 0 where
   pub formula : IsFile rows (codes "FORMULA") form.formula
   pub priorities : form.priorities ≡ priorities_in rows
 

@@ -35,7 +35,7 @@ use crate::parser::{
     PRIORITIES, QUIET, SCHEDULE, SHARDS, STATES, STATS, STRICT, SUMMARY, SYSTEM, WITNESS_FILE,
     WORKERS, parser,
 };
-use crate::request::{Command, Normal, Outputs, Replay, Solve, Verify};
+use crate::request::{Command, Normalize, Outputs, Replay, Solve, Verify};
 use clap::error::ErrorKind;
 use clap::{ArgMatches, Error as ClapError};
 use normal::priorities::Priorities;
@@ -252,7 +252,7 @@ fn normal_of<'a>(matches: &ArgMatches<'a>) -> Result<Command<'a>, ArgumentError>
     ensures complete { IfOk result IsComplete }
     ensures plain { IfOk result IsPlainAlone }
 {
-    Ok(Command::Normal(Normal {
+    Ok(Command::Normal(Normalize {
         formula: file_name(matches, FORMULA)?,
         priorities: rule(matches),
     }))

@@ -18,7 +18,7 @@ use liftcore::machine::Core;
 use liftcore::schedule::read_schedule_from;
 use liftcore::writer::write_replay;
 use normal::priorities::Priorities;
-use requests::arena::game_of;
+use requests::arena::arena_of;
 use requests::error::MuError;
 use requests::texts::{Texts, read_both};
 use std::alloc::Global;
@@ -64,7 +64,7 @@ fn replay_of<T: Read + Drop, W: Write, H: Threads + Sync>(
         → T.remaining schedule ≡ Some third
         → Answers workers first second third (W.contents out.old) (W.contents out.new) result }
 {
-    match game_of(rt, alloc, &texts.system, &texts.formula, Priorities::Nested) {
+    match arena_of(rt, alloc, &texts.system, &texts.formula, Priorities::Nested) {
         Ok(game) => replay_in(alloc, &game, schedule, workers, out),
         Err(error) => Err(error),
     }

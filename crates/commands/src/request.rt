@@ -13,7 +13,7 @@ pub enum Command<'a> {
     Check(Check<'a>, Outputs<'a>),
     Why(Why<'a>),
     Table(Table<'a>),
-    Normal(Normal<'a>),
+    Normal(Normalize<'a>),
     Solve(Solve<'a>),
     Verify(Verify<'a>),
     Replay(Replay<'a>),
@@ -50,7 +50,7 @@ impl Outputs<'_> {
 
 /// The normal form of a formula, with the priorities of a rule.
 #[derive(Clone, Copy)]
-pub struct Normal<'a> {
+pub struct Normalize<'a> {
     pub formula: &'a str,
     pub priorities: Priorities,
 }

@@ -18,7 +18,7 @@ use Rattle.game.specs.Game.{Game}
 use Rattle.evidence.specs.Best.{IsEvenOf, IsOddOf}
 use Rattle.evidence.specs.Canon.{evidence_text}
 use Rattle.evidence.specs.Evidence.{Evidence}
-use Rattle.engines.specs.declared.findings.EvidencePair.{EvidencePair}
+use Rattle.certify.specs.declared.pair.EvidencePair.{EvidencePair}
 use Rattle.engines.specs.declared.findings.Findings.{Findings}
 use Rattle.engines.specs.declared.prepared.Prepared.{Prepared}
 use Rattle.engines.specs.declared.prepared.Shown.{Shown}

@@ -31,7 +31,7 @@ use Rattle.engines.specs.declared.lifting.Solution.{Solution}
 use Rattle.engines.specs.declared.lifting.Solution.TheVariants.{Table as HasTable, Marks as HasMarks}
 use Rattle.engines.specs.declared.findings.Findings.{Findings}
 use Rattle.engines.specs.declared.findings.Posed.{Posed}
-use Rattle.engines.specs.declared.findings.EvidencePair.{EvidencePair}
+use Rattle.certify.specs.declared.pair.EvidencePair.{EvidencePair}
 use Rattle.requests.specs.Check.{Way, ByGame, HasGame, AreMarks, IsArenaOf, IsTextOf, game_of}
 use Rattle.requests.specs.Report.{report_in}
 use Rattle.requests.specs.Solver.{IsFitting}

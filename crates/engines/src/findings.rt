@@ -11,15 +11,15 @@ ghost use Rattle.requests.specs.Writers.{AreKept, Lent};
 
 use crate::guessing::guess_of;
 use crate::lifting::{SolvedGame, Winners, state_marks};
+use certify::pair::EvidencePair;
 use evidence::error::EvidenceError;
-use evidence::evidence::Evidence;
 use evidence::make::{even_evidence, odd_evidence};
 use game::graph::Game;
 use measures::guess::solve_one_by;
 use measures::observer::{Observer, Silent, Stage};
 use measures::table::Settled;
 use normal::priorities::Priorities;
-use requests::arena::game_of;
+use requests::arena::arena_of;
 use requests::error::MuError;
 use requests::request::Options;
 use requests::solver::solve_seen;
@@ -48,13 +48,6 @@ pub struct Findings {
     pub texts: Box<Texts>,
     pub solution: SolvedGame,
     pub marks: Vec<bool>,
-}
-
-/// Evidence of all that Even wins, and of all that Odd wins.
-#[derive(Drop)]
-pub struct EvidencePair {
-    pub even: Evidence,
-    pub odd: Evidence,
 }
 
 /// Both texts, and their game, which is to be solved.
@@ -243,7 +236,7 @@ fn build_of<O: Observer, H: Threads + Sync>(
     observer.sees(Stage::Building {
         states: texts.system.states(),
     });
-    match game_of(rt, alloc, &texts.system, &texts.formula, priorities) {
+    match arena_of(rt, alloc, &texts.system, &texts.formula, priorities) {
         Ok(game) => match Arc::new(alloc, game) {
             Ok(game) => Ok(Posed {
                 texts,

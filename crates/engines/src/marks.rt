@@ -19,7 +19,7 @@ use lts::system::Lts;
 use meaning::plain::plain_states;
 use measures::guess::settled_by_guess;
 use measures::observer::{Observer, Stage};
-use requests::arena::game_of;
+use requests::arena::arena_of;
 use requests::error::MuError;
 use requests::request::Options;
 use requests::solver::{require_board, solve_seen};
@@ -109,7 +109,7 @@ fn stored_marks<O: Observer + Sync, H: Threads + Wait + Clone + Copy + Drop + Se
     observer.sees(Stage::Building {
         states: system.states(),
     });
-    match game_of(rt, alloc, system, formula, options.priorities) {
+    match arena_of(rt, alloc, system, formula, options.priorities) {
         Ok(game) => match Arc::new(alloc, game) {
             Ok(game) => marks_in(rt, alloc, system, formula, &game, options, observer),
             Err(_) => Err(MuError::Memory),

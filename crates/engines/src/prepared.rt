@@ -7,7 +7,8 @@ ghost use Rattle.engines.specs.declared.prepared.Shown.{Shown};
 ghost use Rattle.engines.specs.Findings.{AreFindings, ArePrepared, AreShown, IsPairOf, IsUnprepared, IsUnshown, IsWinning, formula_of, system_of};
 ghost use Rattle.requests.specs.Report.{report_in};
 
-use crate::findings::{EvidencePair, Findings, evidence_pair};
+use crate::findings::{Findings, evidence_pair};
+use certify::pair::EvidencePair;
 use crate::report::report_text;
 use evidence::error::EvidenceError;
 use evidence::evidence::Evidence;

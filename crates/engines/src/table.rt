@@ -23,7 +23,7 @@ use measures::observer::Silent;
 use normal::error::NormalError;
 use requests::error::MuError;
 use requests::request::Table;
-use requests::texts::{formula_of, look_where, read_front};
+use requests::texts::{look_where, parse_front, read_front};
 use std::alloc::Global;
 use std::io::{Read, Write};
 use std::sync::Wait;
@@ -94,7 +94,7 @@ fn find_in<H: Threads + Wait + Clone + Copy + Drop + Send + Sync>(
     ensures { let strict = request.now.strict in let way = way_by request.now.options request.now.plain in let l = system.now.system in
         (text : List ℕ) → front.now ≡ take FORMULA_BYTES text → MatchResult result (IsFound strict way l text) (IsRefused strict way l text) }
 {
-    match formula_of(alloc, front) {
+    match parse_front(alloc, front) {
         Ok(formula) => find_known(rt, alloc, system, request, front, &formula),
         Err(error) => Err(error),
     }

@@ -3,6 +3,6 @@ pub mod Bound
 pub mod Extreme
 pub mod Free
 pub mod Into
-pub mod Scope
+pub mod Environment
 pub mod Signs
 pub mod Term

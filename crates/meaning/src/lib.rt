@@ -3,10 +3,10 @@
 
 mod actions;
 mod arrivals;
+mod environment;
 mod free;
 pub mod plain;
 mod regular;
-mod scope;
 mod search;
 mod sets;
 mod signs;

@@ -7,11 +7,11 @@ ghost use Rattle.calculus.specs.Closed.{closed_formula};
 ghost use Rattle.calculus.specs.Meaning.{Satisfies, mean, Marks, iterate, with_set};
 ghost use Rattle.meaning.specs.Extreme.{IsLeast, IsGreatest};
 ghost use Rattle.meaning.specs.Free.{is_free_in};
-ghost use Rattle.meaning.specs.Scope.{sets_of, FitsScope};
+ghost use Rattle.meaning.specs.Environment.{sets_of, FitsEnvironment};
 ghost use Rattle.meaning.specs.Term.{formula_in, IsRight};
 
 use crate::regular::leading;
-use crate::scope::Scope;
+use crate::environment::Environment;
 use crate::sets::{all, complement, copied, intersection, union};
 use crate::term::{Term, term_of};
 use calculus::closed::Closed;
@@ -19,19 +19,19 @@ use std::alloc::{AllocError, Global};
 use systems::system::Lts;
 use text::Memory;
 
-/// The set of a variable, none if the scope has none.
+/// The set of a variable, none if the environment has none.
 fn set_of(
     alloc: Global,
-    scope: &Scope,
+    environment: &Environment,
     name: &Vec<u8>,
     count: usize,
 ) -> Result<Vec<bool>, AllocError>
-    requires { FitsScope count scope.now }
-    ensures { IfOk result (λ marks. Marks count marks.items (sets_of scope.now name.now.items)) }
+    requires { FitsEnvironment count environment.now }
+    ensures { IfOk result (λ marks. Marks count marks.items (sets_of environment.now name.now.items)) }
 {
-    match scope {
-        Scope::Empty => all(alloc, count, false),
-        Scope::More(other, marks, outer) => {
+    match environment {
+        Environment::Empty => all(alloc, count, false),
+        Environment::More(other, marks, outer) => {
             if name.as_slice() == other.as_slice() {
                 marks.to_vec(alloc)
             } else {
@@ -50,23 +50,23 @@ fn iterated<'x, 'a>(
     name: &'x Vec<u8>,
     used: bool,
     body: &'x Term<'a>,
-    scope: &'x Scope<'x>,
+    environment: &'x Environment<'x>,
     from: bool,
 ) -> Result<Vec<bool>, AllocError>
-    requires scope { FitsScope lts.now.system.states scope.now }
+    requires environment { FitsEnvironment lts.now.system.states environment.now }
     requires right { IsRight lts.now.system body.now }
     requires used { used ≡ is_free_in name.now.items (formula_in body.now) }
     ensures { IfOk result (λ marks. Marks lts.now.system.states marks.items
-        (iterate lts.now.system.states (λ set. mean lts.now.system (formula_in body.now) (with_set (sets_of scope.now) name.now.items set))
+        (iterate lts.now.system.states (λ set. mean lts.now.system (formula_in body.now) (with_set (sets_of environment.now) name.now.items set))
         (λ s. IsTrue from))) }
 {
     let count = lts.states();
     let mut set = all(alloc, count as usize, from)?;
     if !used {
-        return marks_of(alloc, lts, &*body, &Scope::More(&*name, &set, &*scope));
+        return marks_of(alloc, lts, &*body, &Environment::More(&*name, &set, &*environment));
     }
     for turn in 0..count {
-        let next = marks_of(alloc, lts, &*body, &Scope::More(&*name, &set, &*scope))?;
+        let next = marks_of(alloc, lts, &*body, &Environment::More(&*name, &set, &*environment))?;
         if next == set {
             return Ok(set);
         }
@@ -75,17 +75,17 @@ fn iterated<'x, 'a>(
     Ok(set)
 }
 
-/// The states at which the formula holds, where the scope has the sets of its variables.
+/// The states at which the formula holds, where the environment has the sets of its variables.
 #[cycle(plain)]
 pub(crate) fn marks_of<'x, 'a>(
     alloc: Global,
     lts: &Lts,
     term: &'x Term<'a>,
-    scope: &'x Scope<'x>,
+    environment: &'x Environment<'x>,
 ) -> Result<Vec<bool>, AllocError>
-    requires scope { FitsScope lts.now.system.states scope.now }
+    requires environment { FitsEnvironment lts.now.system.states environment.now }
     requires right { IsRight lts.now.system term.now }
-    ensures marks { IfOk result (λ marks. Marks lts.now.system.states marks.items (mean lts.now.system (formula_in term.now) (sets_of scope.now))) }
+    ensures marks { IfOk result (λ marks. Marks lts.now.system.states marks.items (mean lts.now.system (formula_in term.now) (sets_of environment.now))) }
     ensures known { IsSystem lts.now.system }
 {
     let count = lts.states() as usize;
@@ -93,34 +93,34 @@ pub(crate) fn marks_of<'x, 'a>(
         Term::Known(_, marks) => copied(alloc, marks),
         Term::True => all(alloc, count, true),
         Term::False => all(alloc, count, false),
-        Term::Var(name) => set_of(alloc, scope, name, count),
+        Term::Var(name) => set_of(alloc, environment, name, count),
         Term::Not(operand) => {
-            let marks = marks_of(alloc, lts, operand, scope)?;
+            let marks = marks_of(alloc, lts, operand, environment)?;
             Ok(complement(marks))
         }
         Term::And(left, right) => {
-            let (one, other) = marks_of_both(alloc, lts, left, right, scope)?;
+            let (one, other) = marks_of_both(alloc, lts, left, right, environment)?;
             Ok(intersection(one, &other))
         }
         Term::Or(left, right) => {
-            let (one, other) = marks_of_both(alloc, lts, left, right, scope)?;
+            let (one, other) = marks_of_both(alloc, lts, left, right, environment)?;
             Ok(union(one, &other))
         }
         Term::Implies(left, right) => {
-            let (one, other) = marks_of_both(alloc, lts, left, right, scope)?;
+            let (one, other) = marks_of_both(alloc, lts, left, right, environment)?;
             Ok(union(complement(one), &other))
         }
         Term::Dia(regular, operand) => {
-            let marks = marks_of(alloc, lts, operand, scope)?;
+            let marks = marks_of(alloc, lts, operand, environment)?;
             leading(alloc, lts, regular, &marks)
         }
         Term::Box(regular, operand) => {
-            let marks = marks_of(alloc, lts, operand, scope)?;
+            let marks = marks_of(alloc, lts, operand, environment)?;
             let found = leading(alloc, lts, regular, &complement(marks))?;
             Ok(complement(found))
         }
-        Term::Mu(name, used, body) => iterated(alloc, lts, name, *used, body, scope, false),
-        Term::Nu(name, used, body) => iterated(alloc, lts, name, *used, body, scope, true),
+        Term::Mu(name, used, body) => iterated(alloc, lts, name, *used, body, environment, false),
+        Term::Nu(name, used, body) => iterated(alloc, lts, name, *used, body, environment, true),
     }
 }
 
@@ -131,16 +131,16 @@ fn marks_of_both<'x, 'a>(
     lts: &Lts,
     left: &'x Term<'a>,
     right: &'x Term<'a>,
-    scope: &'x Scope<'x>,
+    environment: &'x Environment<'x>,
 ) -> Result<(Vec<bool>, Vec<bool>), AllocError>
-    requires scope { FitsScope lts.now.system.states scope.now }
+    requires environment { FitsEnvironment lts.now.system.states environment.now }
     requires left { IsRight lts.now.system left.now }
     requires right { IsRight lts.now.system right.now }
-    ensures one { IfOk result (λ found. Marks lts.now.system.states found.0.items (mean lts.now.system (formula_in left.now) (sets_of scope.now))) }
-    ensures other { IfOk result (λ found. Marks lts.now.system.states found.1.items (mean lts.now.system (formula_in right.now) (sets_of scope.now))) }
+    ensures one { IfOk result (λ found. Marks lts.now.system.states found.0.items (mean lts.now.system (formula_in left.now) (sets_of environment.now))) }
+    ensures other { IfOk result (λ found. Marks lts.now.system.states found.1.items (mean lts.now.system (formula_in right.now) (sets_of environment.now))) }
 {
-    let one = marks_of(alloc, lts, left, scope)?;
-    let other = marks_of(alloc, lts, right, scope)?;
+    let one = marks_of(alloc, lts, left, environment)?;
+    let other = marks_of(alloc, lts, right, environment)?;
     Ok((one, other))
 }
 
@@ -155,5 +155,5 @@ pub fn plain_states(alloc: Global, lts: &Lts, formula: &Closed) -> Result<Vec<bo
         → IsGreatest lts.now.system name f marks.items) }
 {
     let term = term_of(alloc, lts, formula.tree(), false)?;
-    Ok(marks_of(alloc, lts, &term, &Scope::Empty)?)
+    Ok(marks_of(alloc, lts, &term, &Environment::Empty)?)
 }

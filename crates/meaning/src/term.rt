@@ -6,7 +6,7 @@ ghost use Rattle.meaning.specs.Term.{formula_in, IsRight};
 
 use crate::free::{has_free, is_closed};
 use crate::plain::marks_of;
-use crate::scope::Scope;
+use crate::environment::Environment;
 use calculus::tree::{Reg, State};
 use std::alloc::{AllocError, Global};
 use systems::system::Lts;
@@ -43,7 +43,7 @@ pub fn term_of<'a>(
     if !below || !is_closed(formula) {
         return Ok(term);
     }
-    let marks = marks_of(alloc, lts, &term, &Scope::Empty)?;
+    let marks = marks_of(alloc, lts, &term, &Environment::Empty)?;
     Ok(Term::Known(formula, marks))
 }
 

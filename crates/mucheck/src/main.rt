@@ -23,7 +23,7 @@ use commands::command_line::command;
 use commands::information::{explanation, help_text, version_text};
 use commands::normal_text::normal_text;
 use commands::replay_text::replay_text;
-use commands::request::{Command, Normal, Replay, Verify};
+use commands::request::{Command, Normalize, Replay, Verify};
 use commands::verify_text::{verify_both_text, verify_text};
 use engines::error::{ArgumentError, MuError};
 use engines::status::{error_status, status};
@@ -106,7 +106,7 @@ fn words(rt: &HostRuntime) -> Result<Vec<String>, MuError> {
     found.map_err(|_| MuError::Memory)
 }
 
-fn run_normal(rt: &HostRuntime, request: &Normal<'_>) -> Result<bool, Refusal> {
+fn run_normal(rt: &HostRuntime, request: &Normalize<'_>) -> Result<bool, Refusal> {
     let formula = open(rt, request.formula)?;
     let out = &mut io::writer(rt);
     Ok(normal_text(rt.alloc(), formula, request.priorities, out)?)

@@ -19,7 +19,7 @@ use std::thread::Threads;
 ///
 /// # Errors
 /// Those of the normal form and of the game, unchanged.
-pub fn game_of<H: Threads + Sync>(
+pub fn arena_of<H: Threads + Sync>(
     rt: &H,
     alloc: Global,
     system: &Lts,

@@ -216,7 +216,7 @@ fn read_spelled<S: Read + Drop>(alloc: Global, formula: S) -> Result<Spelled, Mu
     ensures fault { IfErr result IsReading }
 {
     let front = read_front(alloc, formula)?;
-    match formula_of(alloc, &front) {
+    match parse_front(alloc, &front) {
         Ok(formula) => Ok(Spelled {
             formula,
             text: front,
@@ -229,7 +229,7 @@ fn read_spelled<S: Read + Drop>(alloc: Global, formula: S) -> Result<Spelled, Mu
 ///
 /// # Errors
 /// Those of `parse`.
-pub fn formula_of(alloc: Global, front: &[u8]) -> Result<Closed, MuError>
+pub fn parse_front(alloc: Global, front: &[u8]) -> Result<Closed, MuError>
     ensures spelled { (text : List ℕ) → front.now ≡ take FORMULA_BYTES text → IfOk result (λ f. IsFormulaOf text (closed_formula f)) }
     ensures refusal { (text : List ℕ) → front.now ≡ take FORMULA_BYTES text → IfErr result (IsReadRefusal text) }
     ensures fault { IfErr result IsReading }

@@ -6,7 +6,7 @@ use Rattle.meaning.specs.Term.{formula_in, IsRight}
 use Rattle.calculus.specs.Tree.{Formula, And, Or, Implies, Dia, Box, Mu, Nu}
 use Rattle.calculus.specs.Meaning.{Env, Marks, mean, iterate, with_set}
 use Rattle.meaning.specs.Into.{Into}
-use Rattle.meaning.specs.Scope.{sets_of}
+use Rattle.meaning.specs.Environment.{sets_of}
 use Rattle.meaning.proofs.Marked.{marks_and, marks_or, marks_implies, equal_marks}
 use Rattle.meaning.proofs.Regulars.{into_box, into_dia}
 use Rattle.meaning.specs.Free.{is_free_in}
@@ -33,15 +33,15 @@ marks_of-returns-in-Known-clause-marks t c =
     let l = c.args.lts.now.system in
     let f = formula_of c.in-Known.field-0.now in
     let right = subst (IsRight l) c.in-Known.is c.requires.right in
-    result_of l (sets_of c.args.scope.now) _ f c.copied.result (λ ms. ms ≡ c.deref.result.now) (ap formula_in c.in-Known.is)
-    (λ ms same. subst (λ ns. Marks l.states ns (mean l f (sets_of c.args.scope.now))) (sym (same ∙ c.deref.ensures.value))
-    (marks_anywhere l c.states-count.ensures.known f (sets_of c.args.scope.now) c.in-Known.marks.items right.0 right.1))
+    result_of l (sets_of c.args.environment.now) _ f c.copied.result (λ ms. ms ≡ c.deref.result.now) (ap formula_in c.in-Known.is)
+    (λ ms same. subst (λ ns. Marks l.states ns (mean l f (sets_of c.args.environment.now))) (sym (same ∙ c.deref.ensures.value))
+    (marks_anywhere l c.states-count.ensures.known f (sets_of c.args.environment.now) c.in-Known.marks.items right.0 right.1))
     c.copied.ensures
 
 pub marks_of-returns-in_ok-one-in-And-clause-marks : goal.marks_of-returns-in_ok-one-in-And-clause-marks
 marks_of-returns-in_ok-one-in-And-clause-marks t c =
     let l = c.args.lts.now.system in
-    let e = sets_of c.args.scope.now in
+    let e = sets_of c.args.environment.now in
     let f = formula_in c.deref-in-And.result.now in
     let g = formula_in c.deref-in-And-2.result.now in
     let one = c.in_ok-one-in-And.one.items in
@@ -53,7 +53,7 @@ marks_of-returns-in_ok-one-in-And-clause-marks t c =
 pub marks_of-returns-in_ok-one-in-Or-clause-marks : goal.marks_of-returns-in_ok-one-in-Or-clause-marks
 marks_of-returns-in_ok-one-in-Or-clause-marks t c =
     let l = c.args.lts.now.system in
-    let e = sets_of c.args.scope.now in
+    let e = sets_of c.args.environment.now in
     let f = formula_in c.deref-in-Or.result.now in
     let g = formula_in c.deref-in-Or-2.result.now in
     let one = c.in_ok-one-in-Or.one.items in
@@ -65,7 +65,7 @@ marks_of-returns-in_ok-one-in-Or-clause-marks t c =
 pub marks_of-returns-in_ok-one-in-Implies-clause-marks : goal.marks_of-returns-in_ok-one-in-Implies-clause-marks
 marks_of-returns-in_ok-one-in-Implies-clause-marks t c =
     let l = c.args.lts.now.system in
-    let e = sets_of c.args.scope.now in
+    let e = sets_of c.args.environment.now in
     let f = formula_in c.deref-in-Implies.result.now in
     let g = formula_in c.deref-in-Implies-2.result.now in
     let one = c.in_ok-one-in-Implies.one.items in
@@ -80,7 +80,7 @@ pub marks_of-returns-in_ok-marks-in-Dia-clause-marks : goal.marks_of-returns-in_
 marks_of-returns-in_ok-marks-in-Dia-clause-marks t c =
     let l = c.args.lts.now.system in
     let r = regular_of c.in-Dia.regular.now in
-    let e = sets_of c.args.scope.now in
+    let e = sets_of c.args.environment.now in
     let f = formula_in c.deref-in-Dia.result.now in
     result_of l e _ (Dia r f) c.leading.result (λ ms. Marks l.states ms (Into l r c.deref-in-Dia-2.result.now))
     (ap formula_in c.in-Dia.is ∙ sym (ap (λ a. Dia r (formula_in a)) c.deref-in-Dia.ensures))
@@ -94,7 +94,7 @@ marks_of-returns-in_ok-found-in-Box-clause-marks t c =
     let r = regular_of c.in-Box.regular.now in
     let found = c.in_ok-found-in-Box.found.items in
     let turned : c.deref-in-Box-2.result.now ≡ map not c.in_ok-marks-in-Box.marks.items = c.deref-in-Box-2.ensures.value ∙ c.complement-in-Box.ensures in
-    let e = sets_of c.args.scope.now in
+    let e = sets_of c.args.environment.now in
     let f = formula_in c.deref-in-Box.result.now in
     made_of l e _ (Box r f) _ _
     (ap formula_in c.in-Box.is ∙ sym (ap (λ a. Box r (formula_in a)) c.deref-in-Box.ensures))
@@ -105,7 +105,7 @@ marks_of-returns-in_ok-found-in-Box-clause-marks t c =
 pub marks_of-returns-in-Mu-clause-marks : goal.marks_of-returns-in-Mu-clause-marks
 marks_of-returns-in-Mu-clause-marks t c =
     let l = c.args.lts.now.system in
-    let e = sets_of c.args.scope.now in
+    let e = sets_of c.args.environment.now in
     let f = formula_in c.deref-in-Mu.result.now in
     let name = c.in-Mu.name.now.items in
     result_of l e _ (Mu name f) c.iterated.result (λ ms. Marks l.states ms (iterate l.states (λ set. mean l f (with_set e name set)) (λ s. IsTrue false)))
@@ -115,7 +115,7 @@ marks_of-returns-in-Mu-clause-marks t c =
 pub marks_of-returns-in-Nu-clause-marks : goal.marks_of-returns-in-Nu-clause-marks
 marks_of-returns-in-Nu-clause-marks t c =
     let l = c.args.lts.now.system in
-    let e = sets_of c.args.scope.now in
+    let e = sets_of c.args.environment.now in
     let f = formula_in c.deref-in-Nu.result.now in
     let name = c.in-Nu.name.now.items in
     result_of l e _ (Nu name f) c.iterated-in-Nu.result (λ ms. Marks l.states ms (iterate l.states (λ set. mean l f (with_set e name set)) (λ s. IsTrue true)))
@@ -126,7 +126,7 @@ pub iterated-returns-then-not-used : goal.iterated-returns-then-not-used
 iterated-returns-then-not-used t c =
     let l = c.args.lts.now.system in
     let f = formula_in c.args.body.now in
-    let e = sets_of c.args.scope.now in
+    let e = sets_of c.args.environment.now in
     let name = c.args.name.now.items in
     let absent : is_free_in name f ≡ false = sym c.requires.used ∙ c.if-not-used.true in
     IfOk-weaker c.marks_of.result _ _
@@ -136,14 +136,14 @@ iterated-returns-then-not-used t c =
 pub iterated-loop-turn-preserved : goal.iterated-loop-turn-preserved
 iterated-loop-turn-preserved t c =
     turn_marks c.args.lts.now.system c.states-count.ensures.known c.args.name.now.items (formula_in c.args.body.now)
-    (sets_of c.args.scope.now) c.loop-turn.turn (λ s. IsTrue c.args.from) c.loop-turn.set.items _ c.in_ok-next.next.items
+    (sets_of c.args.environment.now) c.loop-turn.turn (λ s. IsTrue c.args.from) c.loop-turn.set.items _ c.in_ok-next.next.items
     c.deref-in-loop-turn.ensures.value c.loop-turn.invariant c.in_ok-next.ensures.marks
 
 pub iterated-returns-then-eq : goal.iterated-returns-then-eq
 iterated-returns-then-eq t c =
     let same : c.in_ok-next.next.items ≡ c.loop-turn.set.items = equal_marks c.in_ok-next.next.items c.loop-turn.set.items (sym c.eq.ensures ∙ c.if-eq.true) in
     repeats_marks c.args.lts.now.system c.states-count.ensures.known c.args.name.now.items (formula_in c.args.body.now)
-    (sets_of c.args.scope.now) c.loop-turn.turn c.args.lts.now.system.states (λ s. IsTrue c.args.from) c.loop-turn.set.items _ c.in_ok-next.next.items
+    (sets_of c.args.environment.now) c.loop-turn.turn c.args.lts.now.system.states (λ s. IsTrue c.args.from) c.loop-turn.set.items _ c.in_ok-next.next.items
     c.deref-in-loop-turn.ensures.value same (omega arith) c.loop-turn.invariant c.in_ok-next.ensures.marks
 
 pub iterated-returns : goal.iterated-returns
@@ -151,5 +151,5 @@ iterated-returns t c =
     let l = c.args.lts.now.system in
     let done : c.loop-turn.turn ≡ l.states = omega (arith, c.loop-turn-test.false, c.loop-turn.auto.turn-end, c.states-count.ensures.count) in
     subst (λ k. Marks l.states c.loop-turn.set.items (iterate k
-    (λ set. mean l (formula_in c.args.body.now) (with_set (sets_of c.args.scope.now) c.args.name.now.items set))
+    (λ set. mean l (formula_in c.args.body.now) (with_set (sets_of c.args.environment.now) c.args.name.now.items set))
     (λ s. IsTrue c.args.from))) done c.loop-turn.invariant

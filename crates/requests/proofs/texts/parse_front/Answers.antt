@@ -4,7 +4,7 @@ use Rattle.requests.specs.Texts.{IsReadRefusal}
 use Rattle.requests.specs.declared.error.MuError.TheVariants as error
 use Rattle.requests.proofs.Readings.{ok_after_both, err_after}
 use Rattle.requests.proofs.Fronts.{formula_of_front, refused_of}
-use Rattle.requests.proofs.texts.formula_of.Goals as goal
+use Rattle.requests.proofs.texts.parse_front.Goals as goal
 
 pub returns-clause-spelled : goal.returns-clause-spelled
 returns-clause-spelled c =
