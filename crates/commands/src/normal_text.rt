@@ -5,6 +5,7 @@ ghost use Rattle.calculus.specs.Closed.{closed_formula};
 ghost use Rattle.requests.specs.Texts.{IsFormulaOf};
 ghost use Rattle.commands.specs.Prints.{Answers, Prints};
 
+use crate::request::Normalize;
 use calculus::closed::Closed;
 use normal::make::normal_with;
 use normal::printer::print_normal;
@@ -31,6 +32,21 @@ pub fn normal_text<S: Read + Drop, W: Write>(
         Ok(formula) => write_form(alloc, &formula, priorities, out),
         Err(error) => Err(error),
     }
+}
+
+/// Writes the normal form as a command asks for it: with the priorities of its rule.
+///
+/// # Errors
+/// Those of `normal_text`.
+pub fn normal_asked<S: Read + Drop, W: Write>(
+    alloc: Global,
+    request: &Normalize<'_>,
+    formula: S,
+    out: &mut W,
+) -> Result<bool, MuError>
+    ensures prints { Prints request.now.priorities (S.remaining formula) (W.contents out.old) (W.contents out.new) result }
+{
+    normal_text(alloc, formula, request.priorities, out)
 }
 
 /// Writes the formula's normal form.

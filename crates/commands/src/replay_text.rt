@@ -11,6 +11,7 @@ ghost use Rattle.requests.specs.Check.{IsArenaOf};
 ghost use Rattle.commands.specs.Replays.{Answers, IsUnread, Replays, nested_game};
 ghost use Rattle.commands.specs.Spelled.{IsScheduleOf};
 
+use crate::request::Replay;
 use game::graph::Game;
 use liftcore::error::{CoreError, ReadError, ScheduleError};
 use liftcore::event::Event;
@@ -49,6 +50,25 @@ pub fn replay_text<R: Read + Drop, S: Read + Drop, T: Read + Drop, W: Write, H: 
         Ok(texts) => replay_of(rt, alloc, &texts, schedule, workers, out),
         Err(error) => Err(error),
     }
+}
+
+/// Replays as a command asks for it: with as many workers.
+///
+/// # Errors
+/// Those of `replay_text`.
+pub fn replay_asked<R: Read + Drop, S: Read + Drop, T: Read + Drop, W: Write, H: Threads + Sync>(
+    rt: &H,
+    alloc: Global,
+    request: &Replay<'_>,
+    aut: R,
+    formula: S,
+    schedule: T,
+    out: &mut W,
+) -> Result<bool, MuError>
+    ensures replays { Replays request.now.workers (R.remaining aut) (S.remaining formula) (T.remaining schedule)
+        (W.contents out.old) (W.contents out.new) result }
+{
+    replay_text(rt, alloc, aut, formula, schedule, request.workers, out)
 }
 
 /// Replays the schedule in the game of a system and a formula that were read, and writes what it comes to.

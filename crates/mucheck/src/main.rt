@@ -21,8 +21,8 @@ use crate::solve::run_solve;
 use crate::table::run_table;
 use commands::command_line::command;
 use commands::information::{explanation, help_text, version_text};
-use commands::normal_text::normal_text;
-use commands::replay_text::replay_text;
+use commands::normal_text::normal_asked;
+use commands::replay_text::replay_asked;
 use commands::request::{Command, Normalize, Replay, Verify};
 use commands::verify_text::{verify_both_text, verify_text};
 use engines::error::{ArgumentError, MuError};
@@ -109,7 +109,7 @@ fn words(rt: &HostRuntime) -> Result<Vec<String>, MuError> {
 fn run_normal(rt: &HostRuntime, request: &Normalize<'_>) -> Result<bool, Refusal> {
     let formula = open(rt, request.formula)?;
     let out = &mut io::writer(rt);
-    Ok(normal_text(rt.alloc(), formula, request.priorities, out)?)
+    Ok(normal_asked(rt.alloc(), request, formula, out)?)
 }
 
 /// All files are opened, in the order of the command line, before the first is read.
@@ -136,6 +136,5 @@ fn run_replay<T: Threads + Sync>(
     let formula = open(rt, request.formula)?;
     let schedule = open(rt, request.schedule)?;
     let out = &mut io::writer(rt);
-    let workers = request.workers;
-    Ok(replay_text(threads, rt.alloc(), system, formula, schedule, workers, out)?)
+    Ok(replay_asked(threads, rt.alloc(), request, system, formula, schedule, out)?)
 }

@@ -1,7 +1,8 @@
 // What the commands `normal`, `solve` and `verify` write, answer and refuse: the worked examples of docs/FORMATS.md, and games that were solved by hand.
 
 use crate::common::same;
-use commands::normal_text::normal_text;
+use commands::normal_text::{normal_asked, normal_text};
+use commands::request::Normalize;
 use commands::solve_text::solve_text;
 use commands::verify_text::{verify_both_text, verify_text};
 use fixtures::answers::shown;
@@ -42,7 +43,13 @@ fn run<W: Write, H: Threads + Wait + AllocGlobal + Clone + Copy + Drop + Send + 
 ) -> Result<bool, MuError> {
     let alloc = rt.alloc();
     match asked {
-        Asked::Normal(formula, rule) => normal_text(alloc, formula.as_bytes(), *rule, out),
+        Asked::Normal(formula, rule) => {
+            let request = Normalize {
+                formula: "f",
+                priorities: *rule,
+            };
+            normal_asked(alloc, &request, formula.as_bytes(), out)
+        }
         Asked::Solve(game) => solve_text(rt, alloc, game.as_bytes(), options, out),
         Asked::Verify(game, evidence) => {
             verify_text(alloc, game.as_bytes(), evidence.as_bytes(), out)

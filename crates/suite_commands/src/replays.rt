@@ -1,7 +1,8 @@
 // What the command `replay` writes, answers and refuses: the worked examples of docs/FORMATS.md, and schedules worked out by hand.
 
 use crate::common::same;
-use commands::replay_text::replay_text;
+use commands::replay_text::{replay_asked, replay_text};
+use commands::request::Replay;
 use fixtures::answers::shown;
 use requests::error::MuError;
 use samples::readers::Slow;
@@ -25,8 +26,14 @@ fn run<W: Write, H: Threads + Sync + AllocGlobal>(
         step: 7,
         fails: false,
     };
+    let request = Replay {
+        system: "s",
+        formula: "f",
+        schedule: "e",
+        workers,
+    };
     let (system, formula) = (RING.as_bytes(), formula.as_bytes());
-    replay_text(rt, rt.alloc(), system, formula, schedule, workers, out)
+    replay_asked(rt, rt.alloc(), &request, system, formula, schedule, out)
 }
 
 /// The command writes this, and answers so.
