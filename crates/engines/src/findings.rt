@@ -23,7 +23,7 @@ use requests::arena::arena_of;
 use requests::error::MuError;
 use requests::request::Options;
 use requests::solver::solve_seen;
-use requests::texts::{Texts, read_both_seen};
+use requests::texts::{Texts, read_both};
 use requests::watch::Watcher;
 use std::alloc::Global;
 use std::io::Read;
@@ -77,7 +77,7 @@ pub fn find_alone<R: Read + Drop, S: Read + Drop, H: Threads + Sync>(
     ensures refusal { (first second : List ℕ) → R.remaining aut ≡ Some first → S.remaining formula ≡ Some second
         → (writers : List Lent) → AreKept writers → IfErr result (HasRefused (ByGame priorities None) first second writers) }
 {
-    match read_and_build(rt, alloc, aut, formula, priorities, &Silent) {
+    match read_and_build(rt, alloc, aut, formula, priorities) {
         Ok(posed) => find_by_one(alloc, posed),
         Err(error) => Err(error),
     }
@@ -108,16 +108,13 @@ pub fn find_with<
     ensures refusal { (first second : List ℕ) → R.remaining aut ≡ Some first → S.remaining formula ≡ Some second
         → (writers : List Lent) → AreKept writers → IfErr result (HasRefused (ByGame options.now.priorities (Some options.now.board)) first second writers) }
 {
-    find_by_texts(
-        rt,
-        alloc,
-        aut,
-        formula,
-        options,
-        Helped::OneWorker,
-        gate,
-        &Silent,
-    )
+    match read_and_build(rt, alloc, aut, formula, options.priorities) {
+        Ok(posed) => {
+            let helped = Helped::OneWorker;
+            find_by_workers(rt, alloc, posed, options, helped, gate, &Silent)
+        }
+        Err(error) => Err(error),
+    }
 }
 
 /// Finds what `find_with` does, of texts that were read, and tells a watcher what is being built, searched and lifted. Where a guess of the whole
@@ -165,44 +162,13 @@ fn find_boxed<O: Watcher + Sync, H: Threads + Wait + Clone + Copy + Drop + Send 
     }
 }
 
-/// Reads both texts, and finds out by the workers which states satisfy the formula.
-fn find_by_texts<
-    R: Read + Drop,
-    S: Read + Drop,
-    T: Gate + Sync,
-    O: Watcher + Sync,
-    H: Threads + Wait + Clone + Copy + Drop + Send + Sync,
->(
-    rt: &H,
-    alloc: Global,
-    aut: R,
-    formula: S,
-    options: &Options,
-    helped: Helped,
-    gate: &T,
-    observer: &O,
-) -> Result<Findings, MuError>
-    ensures found { IfOk result AreFindings }
-    ensures way { IfOk result (λ found. way_in found ≡ ByGame options.now.priorities (Some options.now.board)) }
-    ensures spelled { (first second : List ℕ) → R.remaining aut ≡ Some first → S.remaining formula ≡ Some second
-        → IfOk result (λ found. AreSpelled first second (system_of found) (formula_of found)) }
-    ensures refusal { (first second : List ℕ) → R.remaining aut ≡ Some first → S.remaining formula ≡ Some second
-        → (writers : List Lent) → AreKept writers → IfErr result (HasRefused (ByGame options.now.priorities (Some options.now.board)) first second writers) }
-{
-    match read_and_build(rt, alloc, aut, formula, options.priorities, observer) {
-        Ok(posed) => find_by_workers(rt, alloc, posed, options, helped, gate, observer),
-        Err(error) => Err(error),
-    }
-}
-
 /// Reads both texts, and makes their game.
-fn read_and_build<R: Read + Drop, S: Read + Drop, O: Watcher, H: Threads + Sync>(
+fn read_and_build<R: Read + Drop, S: Read + Drop, H: Threads + Sync>(
     rt: &H,
     alloc: Global,
     aut: R,
     formula: S,
     priorities: Priorities,
-    observer: &O,
 ) -> Result<Posed, MuError>
     ensures posed { IfOk result ArePosed }
     ensures rule { IfOk result (λ posed. posed.priorities ≡ priorities) }
@@ -211,9 +177,9 @@ fn read_and_build<R: Read + Drop, S: Read + Drop, O: Watcher, H: Threads + Sync>
     ensures refusal { (first second : List ℕ) → R.remaining aut ≡ Some first → S.remaining formula ≡ Some second
         → (board : Option BoardKind) (writers : List Lent) → AreKept writers → IfErr result (HasRefused (ByGame priorities board) first second writers) }
 {
-    match read_both_seen(alloc, aut, formula, observer) {
+    match read_both(alloc, aut, formula) {
         Ok(texts) => match Box::new(alloc, texts) {
-            Ok(texts) => build_of(rt, alloc, texts, priorities, observer),
+            Ok(texts) => build_of(rt, alloc, texts, priorities, &Silent),
             Err(_) => Err(MuError::Memory),
         },
         Err(error) => Err(error),

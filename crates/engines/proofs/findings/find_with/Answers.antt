@@ -5,7 +5,7 @@ use Rattle.calculus.specs.Closed.{closed_formula}
 use Rattle.engines.specs.declared.findings.Findings.{Findings}
 use Rattle.requests.specs.Check.{IsArenaOf}
 use Rattle.engines.proofs.Checks.{beyond_board, beyond_of, spelled_by}
-use Rattle.engines.proofs.findings.find_by_texts.Goals as goal
+use Rattle.engines.proofs.findings.find_with.Goals as goal
 
 pub returns-in-Ok-clause-spelled : goal.returns-in-Ok-clause-spelled
 returns-in-Ok-clause-spelled g c = λ first second known also.
