@@ -19,7 +19,7 @@ use lts::put;
 use measures::observer::{Observer, Silent, Stage};
 use requests::error::MuError;
 use requests::request::{Check, Options, ReportForm, Wanted};
-use requests::texts::{Texts, read_asked, read_both_seen};
+use requests::texts::{Texts, read_asked, read_both};
 use requests::watch::Watcher;
 use requests::writers::{EvidenceWriters, Writers};
 use std::alloc::Global;
@@ -120,26 +120,8 @@ pub fn check_plain<R: Read + Drop, S: Read + Drop, W: Write>(
     ensures checks { Checks BySets (R.remaining aut) (S.remaining formula) (report_writer Whole (W.contents out.old) (W.contents out.new)) result }
     ensures plain { IfErr result (IsErrorOf BySets) }
 {
-    check_plain_seen(alloc, aut, formula, ReportForm::Whole, out, &Silent)
-}
-
-/// Checks as `check_plain` does, with the report in a form, and tells a watcher what is being read and evaluated.
-///
-/// # Errors
-/// Those of `check_plain`.
-pub fn check_plain_seen<R: Read + Drop, S: Read + Drop, W: Write, U: Watcher>(
-    alloc: Global,
-    aut: R,
-    formula: S,
-    form: ReportForm,
-    out: &mut W,
-    watcher: &U,
-) -> Result<bool, MuError>
-    ensures checks { Checks BySets (R.remaining aut) (S.remaining formula) (report_writer form (W.contents out.old) (W.contents out.new)) result }
-    ensures plain { IfErr result (IsErrorOf BySets) }
-{
-    match read_both_seen(alloc, aut, formula, watcher) {
-        Ok(texts) => report_plain(alloc, &texts, form, out, watcher),
+    match read_both(alloc, aut, formula) {
+        Ok(texts) => report_plain(alloc, &texts, ReportForm::Whole, out, &Silent),
         Err(error) => Err(error),
     }
 }
@@ -190,10 +172,13 @@ fn report<W: Write>(
 }
 
 /// The check that a command asks for: by sets of states where it is plain, and then it writes the report alone; else by a game, with
-/// what is wanted. Where it is strict, each word of the formula has to be on a transition.
+/// what is wanted. Each text has a writer; nothing is written to those of texts that aren't wanted. Where it is strict, each word of the
+/// formula has to be on a transition. Of the witness it is proved that it has the system's states and initial state, and just the
+/// transitions that the play takes from there by the winner's evidence, and that the formula holds at the initial state exactly where it
+/// does in the system. A watcher is told of each stage.
 ///
 /// # Errors
-/// Those of `check_plain`, or of `check_all`; L1 where it is strict.
+/// Those of `check_plain`, or of `check`; L1 where it is strict. E5 and N3 also for want of memory where a witness is made.
 pub fn check_asked<
     R: Read + Drop,
     S: Read + Drop,
@@ -322,41 +307,6 @@ pub fn check_gated<
         Err(error) => return Err(error),
     };
     answer_lent!(alloc, &found, game, evidence, out)
-}
-
-/// Checks as `check` does, and tells a watcher what it is doing. Each text has a writer, to which it is written where it is wanted; nothing is
-/// written to the others. Of the witness it is proved that it has the system's states and initial state, and just the transitions that the play
-/// takes from there by the winner's evidence, and that the formula holds at the initial state exactly where it does in the system.
-///
-/// # Errors
-/// Those of `check`. E5 and N3 also for want of memory where a witness is made.
-pub fn check_all<
-    R: Read + Drop,
-    S: Read + Drop,
-    G: Write,
-    E: Write,
-    O: Write,
-    V: Write,
-    W: Write,
-    U: Watcher + Sync,
-    H: Threads + Wait + Clone + Copy + Drop + Send + Sync,
->(
-    rt: &H,
-    alloc: Global,
-    aut: R,
-    formula: S,
-    options: &Options,
-    wanted: Wanted,
-    writers: &mut Writers<G, E, O, V, W>,
-    watcher: &U,
-) -> Result<bool, MuError>
-    ensures { Checks (ByGame options.now.priorities (Some options.now.board)) (R.remaining aut) (S.remaining formula)
-        (lent_writers G.contents E.contents O.contents V.contents W.contents wanted writers.old writers.new) result }
-{
-    match read_both_seen(alloc, aut, formula, watcher) {
-        Ok(texts) => check_by_game(rt, alloc, texts, options, wanted, writers, watcher),
-        Err(error) => Err(error),
-    }
 }
 
 /// Checks by a game what was read, and writes what is wanted.

@@ -42,7 +42,7 @@ pub(crate) struct Told {
 /// strict, each word of the formula has to be on a transition.
 ///
 /// # Errors
-/// Those of `check_all` where it writes a witness alone; L1 where it is strict.
+/// Those of `check_asked` where it writes a witness alone.
 pub fn tell_why<
     R: Read + Drop,
     S: Read + Drop,

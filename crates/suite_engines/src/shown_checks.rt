@@ -1,6 +1,6 @@
 // What a check writes where a witness is wanted. The parts are worked out by hand: the winner's moves and all of the opponent's.
 
-use engines::engine::{check_all, check_asked};
+use engines::engine::check_asked;
 use engines::error::MuError;
 use engines::request::{BoardKind, Check, Options, ReportForm, Wanted, WitnessForm};
 use engines::writers::Writers;
@@ -105,13 +105,20 @@ fn run<R: Threads + Wait + Clone + Copy + Drop + Send + Sync>(
     wanted: Wanted,
     writers: &mut Narrows,
 ) -> Result<bool, MuError> {
-    check_all(
+    let request = Check {
+        system: "s",
+        formula: "f",
+        options: OPTIONS,
+        plain: false,
+        strict: false,
+    };
+    check_asked(
         rt,
         alloc,
+        &request,
+        wanted,
         row.system.as_bytes(),
         row.formula.as_bytes(),
-        &OPTIONS,
-        wanted,
         writers,
         &Silent,
     )

@@ -2,14 +2,14 @@
 
 use crate::unwritten::unwritten;
 use calculus::closed::Closed;
-use engines::engine::{check_all, check_plain_seen};
-use engines::request::{BoardKind, Options, ReportForm, Wanted};
+use engines::engine::check_asked;
+use engines::error::MuError;
+use engines::request::{BoardKind, Check, Options, ReportForm, Wanted};
 use engines::watch::Watcher;
 use lts::Lts;
 use measures::observer::{Observer, Stage};
 use normal::priorities::Priorities;
 use samples::texts::RING;
-use std::process::Abort;
 use std::sync::Wait;
 use std::sync::atomic::{AtomicU64, Ordering};
 use std::thread::Threads;
@@ -56,6 +56,13 @@ impl Watcher for Told {
     }
 }
 
+const OPTIONS: Options = Options {
+    priorities: Priorities::Nested,
+    workers: 1,
+    shards: 16,
+    board: BoardKind::Auto,
+};
+
 const NOTHING: Wanted = Wanted {
     game: false,
     evidence: false,
@@ -63,53 +70,45 @@ const NOTHING: Wanted = Wanted {
     report: ReportForm::Whole,
 };
 
-fn tells_of_a_game<R: Abort + AllocGlobal + Threads + Wait + Clone + Copy + Drop + Send + Sync>(
+/// The answer of a check on the ring of two states, by sets of states where it is plain, of which this watcher is told.
+fn checked<R: AllocGlobal + Threads + Wait + Clone + Copy + Drop + Send + Sync>(
     rt: &R,
-) {
-    let alloc = rt.alloc();
-    let told = Told::new();
-    let options = Options {
-        priorities: Priorities::Nested,
-        workers: 1,
-        shards: 16,
-        board: BoardKind::Auto,
+    plain: bool,
+    told: &Told,
+) -> Result<bool, MuError> {
+    let request = Check {
+        system: "s",
+        formula: "f",
+        options: OPTIONS,
+        plain,
+        strict: false,
     };
-    let mut writers = unwritten(alloc);
-    let answer = check_all(
+    let mut writers = unwritten(rt.alloc());
+    check_asked(
         rt,
-        alloc,
+        rt.alloc(),
+        &request,
+        NOTHING,
         RING.as_bytes(),
         b"<a>true".as_slice(),
-        &options,
-        NOTHING,
         &mut writers,
-        &told,
-    );
-    assert!(rt; answer.ok() == Some(true));
+        told,
+    )
+}
+
+#[test]
+fn a_check_by_a_game_tells_of_its_stages(rt: HostRuntime) {
+    let told = Told::new();
+    assert!(rt; checked(&rt, false, &told).ok() == Some(true));
     // A ranking that is guessed is good, so that no game is built.
     assert_eq!(rt; told.digits.load(Ordering::SeqCst), 1_001_011);
     assert_eq!(rt; told.states.load(Ordering::SeqCst), 2);
 }
 
 #[test]
-fn a_check_by_a_game_tells_of_its_stages(rt: HostRuntime) {
-    tells_of_a_game(&rt);
-}
-
-#[test]
 fn a_check_by_sets_tells_of_its_stages(rt: HostRuntime) {
     let told = Told::new();
-    let mut out = Vec::new(rt.alloc());
-    let (system, formula) = (RING.as_bytes(), b"<a>true".as_slice());
-    let answer = check_plain_seen(
-        rt.alloc(),
-        system,
-        formula,
-        ReportForm::Whole,
-        &mut out,
-        &told,
-    );
-    assert!(rt; answer.ok() == Some(true));
+    assert!(rt; checked(&rt, true, &told).ok() == Some(true));
     assert_eq!(rt; told.digits.load(Ordering::SeqCst), 1_100_011);
     assert_eq!(rt; told.states.load(Ordering::SeqCst), 2);
 }
