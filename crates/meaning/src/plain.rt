@@ -10,8 +10,8 @@ ghost use Rattle.meaning.specs.Free.{is_free_in};
 ghost use Rattle.meaning.specs.Environment.{sets_of, FitsEnvironment};
 ghost use Rattle.meaning.specs.Term.{formula_in, IsRight};
 
-use crate::regular::leading;
 use crate::environment::Environment;
+use crate::regular::leading;
 use crate::sets::{all, complement, copied, intersection, union};
 use crate::term::{Term, term_of};
 use calculus::closed::Closed;
@@ -63,10 +63,20 @@ fn iterated<'x, 'a>(
     let count = lts.states();
     let mut set = all(alloc, count as usize, from)?;
     if !used {
-        return marks_of(alloc, lts, &*body, &Environment::More(&*name, &set, &*environment));
+        return marks_of(
+            alloc,
+            lts,
+            &*body,
+            &Environment::More(&*name, &set, &*environment),
+        );
     }
     for turn in 0..count {
-        let next = marks_of(alloc, lts, &*body, &Environment::More(&*name, &set, &*environment))?;
+        let next = marks_of(
+            alloc,
+            lts,
+            &*body,
+            &Environment::More(&*name, &set, &*environment),
+        )?;
         if next == set {
             return Ok(set);
         }

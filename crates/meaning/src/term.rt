@@ -4,9 +4,9 @@ ghost use Rattle.std.specs.Prelude.{IfOk, ◌≡◌};
 ghost use Rattle.calculus.specs.View.{formula_of};
 ghost use Rattle.meaning.specs.Term.{formula_in, IsRight};
 
+use crate::environment::Environment;
 use crate::free::{has_free, is_closed};
 use crate::plain::marks_of;
-use crate::environment::Environment;
 use calculus::tree::{Reg, State};
 use std::alloc::{AllocError, Global};
 use systems::system::Lts;
