@@ -9,7 +9,8 @@ use samples::dice::{Dice, roll_game};
 use samples::games::push;
 use std::alloc::Global;
 use std::process::Abort;
-use winners::guess::{Guessed, guess_winners};
+use std::thread::Threads;
+use winners::guess::{Guessed, guess_winners, guess_winners_by};
 
 // One more than the greatest priority of a game.
 const PRIORITIES: u8 = 33;
@@ -104,9 +105,21 @@ fn evens(rt: &(impl Abort + AllocGlobal), game: &Game) -> Option<u32> {
     let guessed = guess_winners(rt.alloc(), game)
         .expect(rt, "memory")
         .expect(rt, "a guess");
+    evens_of(game, &guessed)
+}
+
+// The same by a guess of four threads.
+fn evens_by_threads<R: Abort + AllocGlobal + Threads + Sync>(rt: &R, game: &Game) -> Option<u32> {
+    let guessed = guess_winners_by(rt, rt.alloc(), game, 4)
+        .expect(rt, "memory")
+        .expect(rt, "a guess");
+    evens_of(game, &guessed)
+}
+
+fn evens_of(game: &Game, guessed: &Guessed) -> Option<u32> {
     let tested = Tested {
         game,
-        guessed: &guessed,
+        guessed,
         greatest: greatest(game),
     };
     let mut count = 0_u32;
@@ -162,6 +175,44 @@ impl Rows {
 }
 
 // Even has the even vertices, and Odd the odd ones.
+// A game of so many vertices, of which each leads to one, two or three.
+fn wide_game(
+    rt: &(impl Abort + AllocGlobal),
+    dice: &mut Dice,
+    vertices: u32,
+    priorities: u8,
+) -> Game
+    requires some { 0 < vertices }
+    requires few { (0 < priorities) × (priorities ≤ 33) }
+{
+    let mut rows = Rows::new(rt.alloc());
+    for _ in 0..vertices {
+        let successors = [
+            dice.roll(vertices),
+            dice.roll(vertices),
+            dice.roll(vertices),
+        ];
+        let count = 1 + dice.roll(3) as usize;
+        let priority = dice.roll(u32::from(priorities)) as u8;
+        rows.add(rt, owner_of(dice.roll(2)), priority, &successors[..count]);
+    }
+    rows.finish(rt)
+}
+
+// Threads share a game of 65,536 vertices and more.
+#[test]
+fn threads_guess_what_one_guesses(rt: HostRuntime) {
+    let mut dice = Dice::new(11);
+    for priorities in [2, 3, 10, 31] {
+        let game = wide_game(&rt, &mut dice, 70_000, priorities);
+        let found = evens_by_threads(&rt, &game);
+        assert!(rt;
+            found.is_some() && found == evens(&rt, &game),
+            "{priorities}"
+        );
+    }
+}
+
 fn owner_of(v: u32) -> Player {
     if v % 2 == 0 {
         Player::Even

@@ -18,6 +18,15 @@ impl Region {
 
     /// That of no vertex.
     pub(crate) const NOWHERE: Region = Region(u32::MAX);
+
+    /// The one of this number, which stands for it where memory is shared.
+    pub(crate) fn numbered(number: u32) -> Self {
+        Region(number)
+    }
+
+    pub(crate) fn number(self) -> u32 {
+        self.0
+    }
 }
 
 /// A region for each player.

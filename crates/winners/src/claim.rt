@@ -15,6 +15,21 @@ pub(crate) struct Tops {
 }
 
 impl Tops {
+    /// Those of a part in which no priority of Even's comes up to the first number, and none of Odd's to the other.
+    pub(crate) fn above(even: u8, odd: u8) -> Self {
+        if odd > even {
+            Tops {
+                player: Player::Odd,
+                least: even,
+            }
+        } else {
+            Tops {
+                player: Player::Even,
+                least: odd,
+            }
+        }
+    }
+
     pub(crate) fn has(self, priority: u8) -> bool {
         priority >= self.least
     }
@@ -86,17 +101,7 @@ impl Field<'_> {
                 Player::Odd => odd = above.max(odd),
             }
         }
-        if odd > even {
-            Tops {
-                player: Player::Odd,
-                least: even,
-            }
-        } else {
-            Tops {
-                player: Player::Even,
-                least: odd,
-            }
-        }
+        Tops::above(even, odd)
     }
 
     /// Draws what the player of the greatest priorities can force to them. The rest, which comes beside the claim, has to be decided.

@@ -28,7 +28,7 @@ pub(crate) struct Field<'g> {
     pub(crate) alloc: Global,
     pub(crate) arena: Arena<'g>,
     pub(crate) cells: Cells,
-    pub(crate) meter: Meter,
+    pub(crate) meter: Meter<'g>,
     /// When each vertex was drawn to the greatest priorities of its part: what it rests on was drawn before.
     pub(crate) times: Numbers,
     clock: u32,
@@ -36,7 +36,11 @@ pub(crate) struct Field<'g> {
 }
 
 impl<'g> Field<'g> {
-    pub(crate) fn new(alloc: Global, arena: Arena<'g>, meter: Meter) -> Result<Self, AllocError> {
+    pub(crate) fn new(
+        alloc: Global,
+        arena: Arena<'g>,
+        meter: Meter<'g>,
+    ) -> Result<Self, AllocError> {
         Ok(Field {
             alloc,
             arena,

@@ -1,13 +1,16 @@
 // A guess of who wins each vertex, with reasons.
 
-use crate::arena::{Arena, greatest};
+use crate::arena::Arena;
 use crate::before::Before;
+use crate::crowd::Crowd;
 use crate::justify::Justification;
 use crate::meter::{Meter, first_looks};
 use crate::numbers::Numbers;
 use crate::order::order_of;
-use crate::ranks::Ranks;
+use crate::race::Race;
+use crate::ranks::{Counted, Ranks, places_of};
 use crate::recursion::Recursion;
+use crate::share::Crew;
 use crate::winning::Winners;
 use game::graph::Game;
 use game::player::Player;
@@ -22,7 +25,9 @@ const LEAST_SHARED: u32 = 65_536;
 #[derive(Drop)]
 pub struct Guessed {
     winners: Winners,
-    ranks: Ranks,
+    places: Numbers,
+    even: Ranks,
+    odd: Ranks,
 }
 
 impl Guessed {
@@ -39,7 +44,11 @@ impl Guessed {
     /// Writes the rank of the vertex: one count for each priority of the other parity than the winner's, the greatest first.
     /// Counts that find no place are left out, and places past the last count as they are.
     pub fn put_rank(&self, v: u32, rank: &mut [u32]) {
-        self.ranks.put(v, self.winner(v), rank);
+        let place = self.places.get(v as usize) as usize;
+        match self.winner(v) {
+            Player::Even => self.even.put(place, rank),
+            Player::Odd => self.odd.put(place, rank),
+        }
     }
 }
 
@@ -49,11 +58,15 @@ impl Guessed {
 /// Want of memory, and nothing else.
 pub fn guess_winners(alloc: Global, game: &Game) -> Result<Option<Guessed>, Memory> {
     let before = Before::of(alloc, game)?;
-    let Some(winners) = find_winners(alloc, game, before)? else {
+    let arena = Arena {
+        game,
+        before: &before,
+    };
+    let Some(winners) = find_winners(alloc, arena)? else {
         return Ok(None);
     };
-    let even = order_of(alloc, game, &winners, Player::Even)?;
-    let odd = order_of(alloc, game, &winners, Player::Odd)?;
+    let even = put_in_order(alloc, game, &winners, Player::Even)?;
+    let odd = put_in_order(alloc, game, &winners, Player::Odd)?;
     Ok(with_orders(alloc, game, winners, even, odd)?)
 }
 
@@ -71,16 +84,38 @@ pub fn guess_winners_by<R: Threads + Sync>(
         return guess_winners(alloc, game);
     }
     let before = Before::of_by(rt, alloc, game, workers)?;
-    let Some(winners) = find_winners(alloc, game, before)? else {
+    let crew = Crew { rt, alloc, workers };
+    let Some(winners) = find_winners_by(&crew, game, &before)? else {
         return Ok(None);
     };
     let (even, odd) = join(
         rt,
-        || order_of(alloc, game, &winners, Player::Even),
-        || order_of(alloc, game, &winners, Player::Odd),
+        || put_in_order(alloc, game, &winners, Player::Even),
+        || put_in_order(alloc, game, &winners, Player::Odd),
     );
     let (even, odd) = (even?, odd?);
     Ok(with_orders(alloc, game, winners, even, odd)?)
+}
+
+// What a player wins, in an order and with ranks by it.
+#[derive(Drop)]
+struct Ordered {
+    order: Numbers,
+    ranks: Ranks,
+}
+
+// What a player wins in an order. `None` where its moves don't win.
+fn put_in_order(
+    alloc: Global,
+    game: &Game,
+    winners: &Winners,
+    player: Player,
+) -> Result<Option<Ordered>, AllocError> {
+    let Some(order) = order_of(alloc, game, winners, player)? else {
+        return Ok(None);
+    };
+    let ranks = Ranks::of(alloc, game, order.as_slice(), Counted::of(game, player))?;
+    Ok(Some(Ordered { order, ranks }))
 }
 
 // What is guessed, with ranks by the orders of what both win. `None` where the moves of one don't win.
@@ -88,34 +123,109 @@ fn with_orders(
     alloc: Global,
     game: &Game,
     winners: Winners,
-    even: Option<Numbers>,
-    odd: Option<Numbers>,
+    even: Option<Ordered>,
+    odd: Option<Ordered>,
 ) -> Result<Option<Guessed>, AllocError> {
     let (Some(even), Some(odd)) = (even, odd) else {
         return Ok(None);
     };
-    let mut ranks = Ranks::zeros(alloc, game.vertices(), greatest(game))?;
-    ranks.fill(alloc, game, even.as_slice(), Player::Even)?;
-    ranks.fill(alloc, game, odd.as_slice(), Player::Odd)?;
-    Ok(Some(Guessed { winners, ranks }))
+    let (first, second) = (even.order.as_slice(), odd.order.as_slice());
+    Ok(Some(Guessed {
+        winners,
+        places: places_of(alloc, game.vertices(), first, second)?,
+        even: even.ranks,
+        odd: odd.ranks,
+    }))
 }
 
-fn find_winners(alloc: Global, game: &Game, before: Before) -> Result<Option<Winners>, AllocError> {
+// The same by several threads: the first try on one of them, and beside it a recursion that the others share.
+fn find_winners_by<'x, R: Threads + Sync>(
+    crew: &'x Crew<'x, R>,
+    game: &'x Game,
+    before: &'x Before,
+) -> Result<Option<Winners>, AllocError> {
     let arena = Arena {
-        game,
-        before: &before,
+        game: &*game,
+        before: &*before,
     };
-    if let Some(winners) = find_first(alloc, arena)? {
+    let race = Race::new();
+    let (first, other) = find_both(&*crew, arena, &race);
+    if let Some(winners) = first? {
         return Ok(Some(winners));
     }
-    match Recursion::new(alloc, arena, Meter::new(arena.size()))?.find()? {
+    match other? {
         Some(winners) => Ok(Some(winners)),
-        None => Justification::new(alloc, arena, Meter::new(arena.size()))?.find(),
+        None => find_last(crew.alloc, arena),
+    }
+}
+
+// What each of both finds. Once one has found, the other ends.
+fn find_both<'g, R: Threads + Sync>(
+    crew: &'g Crew<'g, R>,
+    arena: Arena<'g>,
+    race: &'g Race,
+) -> (
+    Result<Option<Winners>, AllocError>,
+    Result<Option<Winners>, AllocError>,
+) {
+    join(
+        crew.rt,
+        || told(
+            race,
+            find_first(crew.alloc, arena, Meter::first().beside(race)),
+        ),
+        || told(
+            race,
+            find_shared(
+                crew,
+                arena,
+                Meter::of_vertices(arena.vertices()).beside(race),
+            ),
+        ),
+    )
+}
+
+// Ends the race where something was found.
+fn told(
+    race: &Race,
+    found: Result<Option<Winners>, AllocError>,
+) -> Result<Option<Winners>, AllocError> {
+    if let Ok(Some(_)) = &found {
+        race.end();
+    }
+    found
+}
+
+// By a recursion that threads share.
+fn find_shared<'g, R: Threads + Sync>(
+    crew: &'g Crew<'g, R>,
+    arena: Arena<'g>,
+    meter: Meter<'g>,
+) -> Result<Option<Winners>, AllocError> {
+    Crowd::new(crew, arena, meter)?.find()
+}
+
+fn find_winners(alloc: Global, arena: Arena) -> Result<Option<Winners>, AllocError> {
+    match find_first(alloc, arena, Meter::first())? {
+        Some(winners) => Ok(Some(winners)),
+        None => find_last(alloc, arena),
     }
 }
 
 // A first try by justifications: on most games that are not random they look at each vertex about twice.
-fn find_first(alloc: Global, arena: Arena) -> Result<Option<Winners>, AllocError> {
+fn find_first<'g>(
+    alloc: Global,
+    arena: Arena<'g>,
+    meter: Meter<'g>,
+) -> Result<Option<Winners>, AllocError> {
     let looks = first_looks(alloc, arena)?;
-    Justification::new(alloc, arena, Meter::first())?.find_within(looks.as_slice())
+    Justification::new(alloc, arena, meter)?.find_within(looks.as_slice())
+}
+
+// By recursion, and where that takes too long by justifications.
+fn find_last(alloc: Global, arena: Arena) -> Result<Option<Winners>, AllocError> {
+    match Recursion::new(alloc, arena, Meter::new(arena.size()))?.find()? {
+        Some(winners) => Ok(Some(winners)),
+        None => Justification::new(alloc, arena, Meter::new(arena.size()))?.find(),
+    }
 }

@@ -31,11 +31,15 @@ pub(crate) struct Justification<'g> {
     arena: Arena<'g>,
     standings: Standings,
     moves: Numbers,
-    meter: Meter,
+    meter: Meter<'g>,
 }
 
 impl<'g> Justification<'g> {
-    pub(crate) fn new(alloc: Global, arena: Arena<'g>, meter: Meter) -> Result<Self, AllocError> {
+    pub(crate) fn new(
+        alloc: Global,
+        arena: Arena<'g>,
+        meter: Meter<'g>,
+    ) -> Result<Self, AllocError> {
         Ok(Justification {
             alloc,
             arena,

@@ -1,6 +1,7 @@
 // How long a search may take, in vertices and edges that are looked at.
 
 use crate::arena::{Arena, PRIORITIES};
+use crate::race::Race;
 use std::alloc::{AllocError, Global};
 
 // How many looks there may be: this many, and so many times those that see the game once.
@@ -17,24 +18,29 @@ const NEAR_TIMES: u64 = 12;
 // Vertices of which no more than so many lie between lie near each other, so that a look from one to the other takes little time.
 const NEAR: u32 = 4_096;
 
+// Where threads share the work, they may look at each vertex so often.
+const SHARED_TIMES: u64 = 30;
+
 // A first try may always look so often.
 const LEAST_FIRST: u64 = 65_536;
 
-/// How many looks there have been, and how many there may be.
+/// How many looks there have been, and how many there may be, unless another search has found.
 #[derive(Drop)]
-pub(crate) struct Meter {
+pub(crate) struct Meter<'r> {
     looks: u64,
     budget: u64,
     late: u64,
+    race: Option<&'r Race>,
 }
 
-impl Meter {
+impl<'r> Meter<'r> {
     /// For a game with so many vertices and edges.
     pub(crate) fn new(size: u64) -> Self {
         Meter {
             looks: 0,
             budget: size.saturating_mul(TIMES).saturating_add(LEAST_BUDGET),
             late: size.saturating_mul(LATE_TIMES),
+            race: None,
         }
     }
 
@@ -44,6 +50,26 @@ impl Meter {
             looks: 0,
             budget: LEAST_FIRST,
             late: LEAST_FIRST,
+            race: None,
+        }
+    }
+
+    /// For a search that looks at vertices with all of their edges, many at once, and has to end soon.
+    pub(crate) fn of_vertices(vertices: u32) -> Self {
+        let looks = u64::from(vertices).saturating_mul(SHARED_TIMES);
+        Meter {
+            looks: 0,
+            budget: looks,
+            late: looks,
+            race: None,
+        }
+    }
+
+    /// The same, beside another search.
+    pub(crate) fn beside(self, race: &'r Race) -> Self {
+        Meter {
+            race: Some(race),
+            ..self
         }
     }
 
@@ -64,7 +90,11 @@ impl Meter {
     }
 
     pub(crate) fn is_spent(&self) -> bool {
-        self.looks > self.budget
+        let is_over = match self.race {
+            Some(race) => race.is_over(),
+            None => false,
+        };
+        is_over || self.looks > self.budget
     }
 
     /// Whether the search has taken long.

@@ -7,90 +7,119 @@
 // is not if v has priority q. Else t stands in a component before that of v: its count is no greater, and less if v has priority q.
 // In one component they would be v itself, with a loop, and then v doesn't have a priority that is counted.
 
-use crate::arena::{priority, winner_by};
+use crate::arena::{greatest, priority, winner_by};
 use crate::numbers::{Numbers, Span};
 use game::graph::Game;
 use game::player::Player;
 use std::alloc::{AllocError, Global};
 
-/// For each vertex a rank: a count for each priority that is not of the parity of the player that wins it, the greatest first.
-#[derive(Drop)]
-pub(crate) struct Ranks {
+/// Which priorities are counted of a player's vertices: those that are not of its parity, up to the greatest of a game.
+#[derive(Clone, Copy)]
+pub(crate) struct Counted {
+    player: Player,
     greatest: u8,
-    // As many for each vertex as the wider ranks have.
-    counts: Numbers,
 }
 
-// How many counts there are for Odd's vertices, and for Even's no more.
-fn most_counts(greatest: u8) -> usize {
-    usize::from(greatest) / 2 + 1
-}
-
-impl Ranks {
-    /// Only zeros, for a game with this greatest priority.
-    pub(crate) fn zeros(alloc: Global, vertices: u32, greatest: u8) -> Result<Self, AllocError> {
-        let length = (vertices as usize).saturating_mul(most_counts(greatest));
-        Ok(Ranks {
-            greatest,
-            counts: Numbers::filled(alloc, length, 0)?,
-        })
+impl Counted {
+    pub(crate) fn of(game: &Game, player: Player) -> Self {
+        Counted {
+            player,
+            greatest: greatest(game),
+        }
     }
 
-    // How many priorities are counted.
-    fn width(&self, player: Player) -> usize {
-        match player {
+    // How many there are.
+    fn width(self) -> usize {
+        match self.player {
             Player::Even => (usize::from(self.greatest) + 1) / 2,
-            Player::Odd => most_counts(self.greatest),
+            Player::Odd => usize::from(self.greatest) / 2 + 1,
         }
     }
 
     // How many of them are not below this one.
-    fn kept(&self, player: Player, priority: u8) -> usize {
-        let below = match player {
+    fn kept(self, priority: u8) -> usize {
+        let below = match self.player {
             Player::Even => usize::from(priority) / 2,
             Player::Odd => (usize::from(priority) + 1) / 2,
         };
-        self.width(player).saturating_sub(below)
+        self.width().saturating_sub(below)
     }
 
-    // Where so many counts of a vertex stand.
-    fn places(&self, v: u32, count: usize) -> Span {
-        let from = (v as usize).saturating_mul(most_counts(self.greatest));
+    // Where the first counts of the vertex at a place of the order stand.
+    fn span(self, place: usize, count: usize) -> Span {
+        let from = place.saturating_mul(self.width());
         Span {
             from,
             to: from.saturating_add(count),
         }
     }
+}
 
-    /// Gives a player's vertices, in their order, their ranks. Of a priority that is not less than the vertex's own the count is of
-    /// the vertices that have it, up to this one; of a lesser one it is zero.
-    pub(crate) fn fill(
-        &mut self,
+/// Ranks of the vertices that a player wins: a count for each priority that is counted, the greatest first.
+#[derive(Drop)]
+pub(crate) struct Ranks {
+    counted: Counted,
+    // In the order of the vertices.
+    counts: Numbers,
+}
+
+impl Ranks {
+    /// Those of a player's vertices, in their order. Of a priority that is not less than the vertex's own the count is of the
+    /// vertices that have it, up to this one; of a lesser one it is zero.
+    pub(crate) fn of(
         alloc: Global,
         game: &Game,
         order: &[u32],
-        player: Player,
-    ) -> Result<(), AllocError> {
-        let mut counts = Numbers::filled(alloc, self.width(player), 0)?;
-        for v in order {
-            let priority = priority(game, *v);
-            let kept = self.kept(player, priority);
-            if winner_by(priority) != player {
-                let own = kept.saturating_sub(1);
-                counts.set(own, counts.get(own).saturating_add(1));
-            }
-            let from = self.places(*v, kept).from;
-            self.counts
-                .write(from, counts.slice(Span { from: 0, to: kept }));
+        counted: Counted,
+    ) -> Result<Self, AllocError> {
+        let length = order.len().saturating_mul(counted.width());
+        let mut ranks = Ranks {
+            counted,
+            counts: Numbers::filled(alloc, length, 0)?,
+        };
+        let mut counts = Numbers::filled(alloc, counted.width(), 0)?;
+        for (place, v) in (0..usize::MAX).zip(order) {
+            ranks.add(place, priority(game, *v), &mut counts);
         }
-        Ok(())
+        Ok(ranks)
     }
 
-    /// Writes the rank of a vertex that the player wins, as far as there is place.
-    pub(crate) fn put(&self, v: u32, player: Player, rank: &mut [u32]) {
-        let counts = self.counts.slice(self.places(v, self.width(player)));
-        for (place, count) in rank.iter_mut().zip(counts) {
-            *place = *count;
+    // The rank of the vertex at a place, after so many of each priority.
+    fn add(&mut self, place: usize, priority: u8, counts: &mut Numbers) {
+        let kept = self.counted.kept(priority);
+        if winner_by(priority) != self.counted.player {
+            let own = kept.saturating_sub(1);
+            counts.set(own, counts.get(own).saturating_add(1));
         }
+        let from = self.counted.span(place, 0).from;
+        self.counts
+            .write(from, counts.slice(Span { from: 0, to: kept }));
+    }
+
+    /// Writes the rank of the vertex at a place of the order, as far as there is room.
+    pub(crate) fn put(&self, place: usize, rank: &mut [u32]) {
+        let span = self.counted.span(place, self.counted.width());
+        for (count, found) in rank.iter_mut().zip(self.counts.slice(span)) {
+            *count = *found;
+        }
+    }
+}
+
+/// For each vertex where it stands in the order of what its winner wins.
+pub(crate) fn places_of(
+    alloc: Global,
+    vertices: u32,
+    even: &[u32],
+    odd: &[u32],
+) -> Result<Numbers, AllocError> {
+    let mut places = Numbers::filled(alloc, vertices as usize, 0)?;
+    enter_all(&mut places, even);
+    enter_all(&mut places, odd);
+    Ok(places)
+}
+
+fn enter_all(places: &mut Numbers, order: &[u32]) {
+    for (place, v) in (0..u32::MAX).zip(order) {
+        places.set(*v as usize, place);
     }
 }

@@ -37,7 +37,11 @@ pub(crate) struct Recursion<'g> {
 }
 
 impl<'g> Recursion<'g> {
-    pub(crate) fn new(alloc: Global, arena: Arena<'g>, meter: Meter) -> Result<Self, AllocError> {
+    pub(crate) fn new(
+        alloc: Global,
+        arena: Arena<'g>,
+        meter: Meter<'g>,
+    ) -> Result<Self, AllocError> {
         Ok(Recursion {
             field: Field::new(alloc, arena, meter)?,
             strong: Strong::new(alloc, arena.vertices())?,

@@ -1,0 +1,119 @@
+// Attractors that several threads make: ring by ring, where a ring is large.
+
+use crate::arena::Arena;
+use crate::cells::{NONE, Region, Regions};
+use crate::numbers::Numbers;
+use crate::share::{Crew, LEAST_LIST, Look};
+use crate::shared::{Place, Shared};
+use game::player::Player;
+use std::alloc::{AllocError, Global};
+use std::thread::Threads;
+
+/// An attractor of a player's that is being made.
+#[derive(Clone, Copy)]
+pub(crate) struct Flood<'a> {
+    pub(crate) alloc: Global,
+    pub(crate) arena: Arena<'a>,
+    pub(crate) shared: &'a Shared,
+    pub(crate) player: Player,
+    /// The vertices that may be drawn.
+    pub(crate) over: Regions,
+    /// To what they belong then.
+    pub(crate) to: Region,
+}
+
+impl Look for Flood<'_> {
+    /// Draws what these vertices, which are drawn, draw at once.
+    fn look_at(&self, vertices: &[u32]) -> Result<Numbers, AllocError> {
+        let mut drawn = Numbers::none(self.alloc);
+        for v in vertices {
+            self.draw_before(*v, &mut drawn)?;
+        }
+        Ok(drawn)
+    }
+}
+
+impl Flood<'_> {
+    /// Draws all that these vertices draw, which belong there already. The answer is how many vertices were looked at.
+    pub(crate) fn spread<R: Threads + Sync>(
+        &self,
+        crew: &Crew<'_, R>,
+        vertices: Numbers,
+    ) -> Result<usize, AllocError> {
+        let mut list = vertices;
+        let mut looks = 0_usize;
+        for _ in 0..u64::MAX {
+            if list.len() >= LEAST_LIST {
+                looks = looks.saturating_add(list.len());
+                list = crew.look(list.as_slice(), self)?;
+                continue;
+            }
+            match list.pop() {
+                Some(v) => {
+                    looks = looks.saturating_add(1);
+                    self.draw_before(v, &mut list)?;
+                }
+                None => break,
+            }
+        }
+        Ok(looks)
+    }
+
+    // Draws those before a vertex that have to come to it, or whose owner wants to.
+    fn draw_before(&self, v: u32, drawn: &mut Numbers) -> Result<(), AllocError> {
+        for u in self.arena.predecessors(v) {
+            let place = self.shared.get(*u);
+            if self.over.has(place.region) && self.draw(*u, place, v) {
+                drawn.push(*u)?;
+            }
+        }
+        Ok(())
+    }
+
+    // Draws a vertex to a successor of it, if that can be forced, and says whether this is what drew it.
+    fn draw(&self, u: u32, place: Place, v: u32) -> bool {
+        let next = if self.arena.owner(u) == self.player {
+            v
+        } else if self.has_way_out(u, place) {
+            return false;
+        } else {
+            NONE
+        };
+        let drawn = Place {
+            region: self.to,
+            next,
+        };
+        self.shared.exchange(u, place, drawn)
+    }
+
+    // Whether a vertex of the opponent's leads to one that isn't drawn. Where such a one was seen last is kept in place of a move, and
+    // looked at first: so each successor is passed by twice at most.
+    fn has_way_out(&self, u: u32, place: Place) -> bool {
+        let successors = self.arena.successors(u);
+        let last = (place.next as usize).min(successors.len());
+        let seen = self
+            .way_out(successors, last, successors.len())
+            .or(self.way_out(successors, 0, last));
+        let Some(seen) = seen else {
+            return false;
+        };
+        if seen != place.next {
+            let kept = Place {
+                region: place.region,
+                next: seen,
+            };
+            self.shared.exchange(u, place, kept);
+        }
+        true
+    }
+
+    // Where the first of these successors stands that isn't drawn.
+    fn way_out(&self, successors: &[u32], from: usize, to: usize) -> Option<u32> {
+        for (place, t) in (0..u32::MAX).zip(successors).take(to).skip(from) {
+            if self.over.has(self.shared.region(*t)) {
+                return Some(place);
+            }
+        }
+        None
+    }
+}
