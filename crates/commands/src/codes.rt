@@ -13,6 +13,18 @@ pub struct Entry {
     pub remedy: &'static str,
 }
 
+/// What is to be done where a text begins with a byte order mark.
+pub const BYTE_ORDER_MARK: &str = "the file begins with a byte order mark, which editors don't \
+show: save it without one";
+
+/// What is to be done where a line is blank.
+pub const BLANK_LINE: &str = "the line is blank: take it away; a blank line is a line like any \
+other, at a file's end, too";
+
+/// What is to be done where a label with parameters has no quotes.
+pub const BARE_LABEL: &str = "a label with parameters wants quotes, as in \
+`<\"take(0,1)\">true`";
+
 /// The entry of a code.
 pub fn entry_of(code: &str) -> Option<&'static Entry>
     ensures { IfSome result (λ entry. entry.now.code.now ≡ code.now) }

@@ -8,8 +8,8 @@ ghost use Rattle.engines.specs.Findings.{AreFindings, ArePrepared, AreShown, IsP
 ghost use Rattle.requests.specs.Report.{report_in};
 
 use crate::findings::{Findings, evidence_pair};
-use certify::pair::EvidencePair;
 use crate::report::report_text;
+use certify::pair::EvidencePair;
 use evidence::error::EvidenceError;
 use evidence::evidence::Evidence;
 use evidence::make::{even_evidence, odd_evidence};

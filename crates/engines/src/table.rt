@@ -24,6 +24,7 @@ use normal::error::NormalError;
 use requests::error::MuError;
 use requests::request::Table;
 use requests::texts::{look_where, parse_front, read_front};
+use requests::watch::Watcher;
 use std::alloc::Global;
 use std::io::{Read, Write};
 use std::sync::Wait;
@@ -60,79 +61,109 @@ pub fn table_line<S: Read + Drop, W: Write, H: Threads + Wait + Clone + Copy + D
     ensures { Tells request.now.strict (way_by request.now.options request.now.plain) system.now.system name.now
         (S.remaining formula) (W.contents out.old) (W.contents out.new) result }
 {
-    match find(rt, alloc, system, request, formula) {
+    table_line_seen(rt, alloc, system, request, name, formula, out, &Silent)
+}
+
+/// Writes the line of a formula's text as `table_line` does, and tells a watcher that the formula is read, and what is being built, searched and lifted.
+///
+/// # Errors
+/// W1.
+pub fn table_line_seen<
+    S: Read + Drop,
+    W: Write,
+    U: Watcher + Sync,
+    H: Threads + Wait + Clone + Copy + Drop + Send + Sync,
+>(
+    rt: &H,
+    alloc: Global,
+    system: &Lts,
+    request: &Table<'_>,
+    name: &str,
+    formula: S,
+    out: &mut W,
+    watcher: &U,
+) -> Result<u8, WriteFault>
+    ensures { Tells request.now.strict (way_by request.now.options request.now.plain) system.now.system name.now
+        (S.remaining formula) (W.contents out.old) (W.contents out.new) result }
+{
+    match find(rt, alloc, system, request, formula, watcher) {
         Ok(found) => tell_answer(name, &found, system.states(), out),
         Err(error) => tell_refusal(name, &error, out),
     }
 }
 
 /// What is found of the formula that the reader's text spells.
-fn find<S: Read + Drop, H: Threads + Wait + Clone + Copy + Drop + Send + Sync>(
+fn find<S: Read + Drop, U: Watcher + Sync, H: Threads + Wait + Clone + Copy + Drop + Send + Sync>(
     rt: &H,
     alloc: Global,
     system: &Lts,
     request: &Table<'_>,
     formula: S,
+    watcher: &U,
 ) -> Result<Found, MuError>
     ensures { let strict = request.now.strict in let way = way_by request.now.options request.now.plain in let l = system.now.system in
         (text : List ℕ) → S.remaining formula ≡ Some text → MatchResult result (IsFound strict way l text) (IsRefused strict way l text) }
 {
     match read_front(alloc, formula) {
-        Ok(front) => find_in(rt, alloc, system, request, &front),
+        Ok(front) => find_in(rt, alloc, system, request, &front, watcher),
         Err(error) => Err(error),
     }
 }
 
 /// What is found of the formula that a text spells, of which this is all, or the front that shows that it is too long.
-fn find_in<H: Threads + Wait + Clone + Copy + Drop + Send + Sync>(
+fn find_in<U: Watcher + Sync, H: Threads + Wait + Clone + Copy + Drop + Send + Sync>(
     rt: &H,
     alloc: Global,
     system: &Lts,
     request: &Table<'_>,
     front: &[u8],
+    watcher: &U,
 ) -> Result<Found, MuError>
     ensures { let strict = request.now.strict in let way = way_by request.now.options request.now.plain in let l = system.now.system in
         (text : List ℕ) → front.now ≡ take FORMULA_BYTES text → MatchResult result (IsFound strict way l text) (IsRefused strict way l text) }
 {
     match parse_front(alloc, front) {
-        Ok(formula) => find_known(rt, alloc, system, request, front, &formula),
+        Ok(formula) => find_known(rt, alloc, system, request, front, &formula, watcher),
         Err(error) => Err(error),
     }
 }
 
 /// What is found of a formula with this text, of which each word has to be on a transition where the table is strict.
-fn find_known<H: Threads + Wait + Clone + Copy + Drop + Send + Sync>(
+fn find_known<U: Watcher + Sync, H: Threads + Wait + Clone + Copy + Drop + Send + Sync>(
     rt: &H,
     alloc: Global,
     system: &Lts,
     request: &Table<'_>,
     text: &[u8],
     formula: &Closed,
+    watcher: &U,
 ) -> Result<Found, MuError>
     ensures { let strict = request.now.strict in let way = way_by request.now.options request.now.plain in let l = system.now.system in
         IsFormulaOf text.now (closed_formula formula.now) → MatchResult result (IsFound strict way l text.now) (IsRefused strict way l text.now) }
 {
+    watcher.has_read(system, formula);
     match look_where(alloc, system, text, request.strict) {
-        Ok(()) => find_marked(rt, alloc, system, request, text, formula),
+        Ok(()) => find_marked(rt, alloc, system, request, text, formula, watcher),
         Err(error) => Err(error),
     }
 }
 
 /// What is found of it where its words are on transitions, or may be on none.
-fn find_marked<H: Threads + Wait + Clone + Copy + Drop + Send + Sync>(
+fn find_marked<U: Watcher + Sync, H: Threads + Wait + Clone + Copy + Drop + Send + Sync>(
     rt: &H,
     alloc: Global,
     system: &Lts,
     request: &Table<'_>,
     text: &[u8],
     formula: &Closed,
+    watcher: &U,
 ) -> Result<Found, MuError>
     ensures { let strict = request.now.strict in let way = way_by request.now.options request.now.plain in let l = system.now.system in
         IsFormulaOf text.now (closed_formula formula.now) → AreKnown strict l text.now
         → MatchResult result (IsFound strict way l text.now) (IsRefused strict way l text.now) }
 {
     let options = &request.options;
-    match marks_by(rt, alloc, system, formula, options, request.plain, &Silent) {
+    match marks_by(rt, alloc, system, formula, options, request.plain, watcher) {
         Ok(marks) => Ok(found_of(system, &marks, expectation(text))),
         Err(error) => Err(error),
     }

@@ -5,6 +5,7 @@ use crate::input::{Counted, open};
 use crate::line::{Line, Output};
 use crate::refusal::Refusal;
 use crate::same::keep_apart;
+use crate::stats::Stats;
 use commands::request::Outputs;
 use engines::engine::check_asked;
 use engines::error::MuError;
@@ -26,7 +27,7 @@ pub fn run_check<T: Threads + Wait + Clock + Clone + Copy + Drop + Send + Sync +
     let system = open(rt, request.system)?;
     let formula = open(rt, request.formula)?;
     let files = Files::new(rt, outputs.game, names, outputs.witness);
-    let line = Line::new(*rt, threads, outputs.stats);
+    let line = Line::new(*rt, threads, stats_of(request, outputs), None);
     let ticker = line.start();
     let report = outputs.report;
     let answer = write_files(
@@ -43,6 +44,17 @@ pub fn run_check<T: Threads + Wait + Clock + Clone + Copy + Drop + Send + Sync +
     match files.into_refusal() {
         Some(refusal) => Err(refusal),
         None => Ok(answer?),
+    }
+}
+
+/// What is told of a check.
+fn stats_of(request: &Check<'_>, outputs: &Outputs<'_>) -> Stats {
+    if !outputs.stats {
+        Stats::Nothing
+    } else if request.plain {
+        Stats::Stages
+    } else {
+        Stats::StagesAndGame(request.options.priorities)
     }
 }
 

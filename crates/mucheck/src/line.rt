@@ -1,7 +1,8 @@
 // What a check tells on standard error while it runs: notes on its formula, at a terminal a line that says what it is doing, and what it has
 // done where that is asked for.
 
-use crate::stats::{Running, Step, told_texts};
+use crate::notes::note_all;
+use crate::stats::{Running, Stats, Step, told_texts};
 use calculus::closed::Closed;
 use engines::watch::Watcher;
 use lts::system::Lts;
@@ -174,13 +175,14 @@ pub struct Line<'a, T> {
     place: Option<Arc<Place, Global>>,
     /// What goes on; where it is told of stages, None before the first.
     running: Mutex<Option<Running>>,
-    /// Each stage is told of when it ends.
-    has_stats: bool,
+    stats: Stats,
+    /// The formula's file, where notes name it.
+    name: Option<&'a str>,
 }
 
 impl<'a, T: Threads + Wait + Clock + Clone + Copy + Drop + Send + Sync + 'static> Line<'a, T> {
-    /// A line for a run that begins now.
-    pub fn new(rt: HostRuntime, handle: &'a T, has_stats: bool) -> Line<'a, T> {
+    /// A line for a run that begins now. Where this is one of several, notes name its formula's file.
+    pub fn new(rt: HostRuntime, handle: &'a T, stats: Stats, name: Option<&'a str>) -> Line<'a, T> {
         let place = if rt.stderr().is_terminal() {
             Arc::new(rt.alloc(), Place::new()).ok()
         } else {
@@ -191,7 +193,8 @@ impl<'a, T: Threads + Wait + Clock + Clone + Copy + Drop + Send + Sync + 'static
             handle,
             place,
             running: Mutex::new(None),
-            has_stats,
+            stats,
+            name,
         }
     }
 
@@ -233,9 +236,9 @@ impl<T: Wait> Line<'_, T> {
             Some(place) => {
                 let mut screen = place.screen.lock(self.handle);
                 self.clear(&mut screen)?;
-                self.note_all(words)
+                note_all(self.rt, self.name, words)
             }
-            None => self.note_all(words),
+            None => note_all(self.rt, self.name, words),
         }
     }
 
@@ -258,29 +261,6 @@ impl<T: Wait> Line<'_, T> {
         }
         Ok(())
     }
-
-    fn note_all(&self, words: &[Word<'_>]) -> io::Result<()> {
-        for word in words {
-            self.note_one(*word)?;
-        }
-        Ok(())
-    }
-
-    fn note_one(&self, word: Word<'_>) -> io::Result<()> {
-        let rt = self.rt;
-        match word {
-            Word::Name(bytes) => match str::from_utf8(bytes) {
-                Ok(name) => eprintln!(rt;
-                    "mucheck: note: {name} is a name in no label of this system"
-                ),
-                Err(_) => Ok(()),
-            },
-            Word::Atom(bytes) => match str::from_utf8(bytes) {
-                Ok(label) => eprintln!(rt; "mucheck: note: \"{label}\" is no label of this system"),
-                Err(_) => Ok(()),
-            },
-        }
-    }
 }
 
 impl<T: Threads + Wait + Clock> Line<'_, T> {
@@ -300,7 +280,7 @@ impl<T: Wait + Clock> Line<'_, T> {
         if let Some(place) = &self.place {
             place.sees(step);
         }
-        if self.has_stats {
+        if self.stats.are_told() {
             self.begin(step);
         }
     }
@@ -341,9 +321,10 @@ impl<T: Wait + Clock> Observer for Line<'_, T> {
 
 impl<T: Wait + Clock> Watcher for Line<'_, T> {
     fn has_read(&self, system: &Lts, formula: &Closed) {
-        if self.has_stats {
+        if self.stats.are_told() {
             self.end_steps();
-            if let Ok(text) = told_texts(self.rt.alloc(), system) {
+            if let Some(text) = told_texts(self.rt.alloc(), self.stats, system, formula) {
+                // Where standard error fails, there is nobody to tell.
                 let _ = self.tell(text.as_str());
             }
         }

@@ -1,9 +1,11 @@
 // What is told of a refusal on standard error.
 
+use crate::sight::{Place, Sight, look};
 use commands::codes::entry_of;
 use commands::request::Command;
 use engines::error::MuError;
 use std::io;
+use std::io::ErrorKind;
 
 /// Why there is no answer.
 #[derive(Drop)]
@@ -114,8 +116,8 @@ impl<'a> Sources<'a> {
     }
 }
 
-/// Tells a refusal: a line with the code and the place; which file it speaks of; what is to be done. After wrong arguments, what is wrong with
-/// them, or the help.
+/// Tells a refusal: a line with the code and the place; which file it speaks of, and the line of its text; what is to be done. After wrong
+/// arguments, what is wrong with them, or the help.
 pub fn tell(rt: &HostRuntime, sources: &Sources<'_>, refusal: &Refusal) -> io::Result<()> {
     match refusal {
         Refusal::Told(MuError::Arguments(argument)) => eprint!(rt; "mucheck: U1\n{argument}"),
@@ -140,33 +142,64 @@ fn tell_more(rt: &HostRuntime, sources: &Sources<'_>, error: &MuError) -> io::Re
 
 /// What follows the line of this text.
 fn tell_rest(rt: &HostRuntime, files: (Option<&str>, Option<&str>), text: &str) -> io::Result<()> {
-    match text.split_once(" at ") {
-        Some((code, place)) => {
-            tell_source(rt, files, Some(place))?;
+    let (code, words) = match text.split_once(" at ") {
+        Some((code, words)) => (code, Some(words)),
+        None => (text, None),
+    };
+    match files {
+        (None, _) => tell_remedy(rt, code),
+        (Some(first), Some(second)) => {
+            tell_either(rt, first, second, words)?;
             tell_remedy(rt, code)
         }
-        None => {
-            tell_source(rt, files, None)?;
-            tell_remedy(rt, text)
+        (Some(name), None) => tell_in_file(rt, code, name, words),
+    }
+}
+
+/// Tells in which one of two files it may be.
+fn tell_either(rt: &HostRuntime, first: &str, second: &str, words: Option<&str>) -> io::Result<()> {
+    match words {
+        Some(words) => eprintln!(rt; "mucheck: in {first} or {second}, {words}"),
+        None => eprintln!(rt; "mucheck: in {first} or {second}"),
+    }
+}
+
+/// Tells in which file it is and where, shows its line, and tells what is to be done.
+fn tell_in_file(rt: &HostRuntime, code: &str, name: &str, words: Option<&str>) -> io::Result<()> {
+    let Some(words) = words else {
+        eprintln!(rt; "mucheck: in {name}")?;
+        return tell_remedy(rt, code);
+    };
+    match look_at(rt, name, words) {
+        Ok(Some(sight)) => tell_sight(rt, code, name, &sight),
+        // Where there is no memory, the line with the code stands alone.
+        Err(error) if error.kind() == ErrorKind::OutOfMemory => Ok(()),
+        _ => {
+            eprintln!(rt; "mucheck: in {name}, {words}")?;
+            tell_remedy(rt, code)
         }
     }
 }
 
-fn tell_source(
-    rt: &HostRuntime,
-    files: (Option<&str>, Option<&str>),
-    place: Option<&str>,
-) -> io::Result<()> {
-    let (Some(first), second) = files else {
-        return Ok(());
-    };
-    eprint!(rt; "mucheck: in {first}")?;
-    if let Some(second) = second {
-        eprint!(rt; " or {second}")?;
+/// What stands at the place that these words name in a file.
+fn look_at(rt: &HostRuntime, name: &str, words: &str) -> io::Result<Option<Sight>> {
+    match Place::in_words(words) {
+        Some(place) => look(rt, name, place),
+        None => Ok(None),
     }
-    match place {
-        Some(place) => eprintln!(rt; ", {place}"),
-        None => eprintln!(rt; ""),
+}
+
+/// Tells what is seen of a file, and what is to be done about it.
+fn tell_sight(rt: &HostRuntime, code: &str, name: &str, sight: &Sight) -> io::Result<()> {
+    let line = sight.line;
+    match sight.column {
+        Some(column) => eprintln!(rt; "mucheck: in {name}:{line}:{column}")?,
+        None => eprintln!(rt; "mucheck: in {name}:{line}")?,
+    }
+    sight.tell(rt)?;
+    match sight.remedy {
+        Some(remedy) => eprintln!(rt; "mucheck: {remedy}"),
+        None => tell_remedy(rt, code),
     }
 }
 

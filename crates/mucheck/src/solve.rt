@@ -5,7 +5,7 @@ use crate::input::{Counted, open};
 use crate::line::{Line, Output};
 use crate::refusal::Refusal;
 use crate::same::keep_game_apart;
-use crate::stats::Step;
+use crate::stats::{Stats, Step};
 use commands::request::Solve;
 use commands::solve_text::solve_asked;
 use std::sync::Wait;
@@ -22,7 +22,12 @@ pub fn run_solve<T: Threads + Wait + Clock + Clone + Copy + Drop + Send + Sync +
     keep_game_apart(rt, request, names.as_ref())?;
     let game = open(rt, request.game)?;
     let files = Files::new(rt, None, names, None);
-    let line = Line::new(*rt, threads, request.stats);
+    let stats = if request.stats {
+        Stats::Stages
+    } else {
+        Stats::Nothing
+    };
+    let line = Line::new(*rt, threads, stats, None);
     let ticker = line.start();
     line.step(Step::ReadingGame);
     let mut out = Output::new(*rt, &line);

@@ -1,10 +1,33 @@
 // What `--stats` tells of a run: for each of its stages the time, how much there was, and the greatest memory so far.
 
+use calculus::closed::Closed;
 use lts::system::Lts;
 use measures::observer::Stage;
+use normal::form::Normal;
+use normal::make::normal_with;
+use normal::priorities::Priorities;
 use std::alloc::{AllocError, Global};
 use std::fs;
 use std::time::{Clock, Duration, Instant};
+
+/// What is told of a run.
+#[derive(Clone, Copy)]
+pub enum Stats {
+    Nothing,
+    Stages,
+    /// Its stages, and the game of both texts by this rule.
+    StagesAndGame(Priorities),
+}
+
+impl Stats {
+    /// Whether anything is told.
+    pub fn are_told(self) -> bool {
+        match self {
+            Stats::Nothing => false,
+            Stats::Stages | Stats::StagesAndGame(_) => true,
+        }
+    }
+}
 
 /// What the program does at a time.
 #[derive(Clone, Copy)]
@@ -60,10 +83,39 @@ impl Running {
     }
 }
 
-/// What is told of both texts.
-pub fn told_texts(alloc: Global, system: &Lts) -> Result<String, AllocError> {
+/// What is told of both texts, and of their game where that is told of; nothing where there is no memory.
+pub fn told_texts(alloc: Global, stats: Stats, system: &Lts, formula: &Closed) -> Option<String> {
     let (states, transitions) = (system.states(), system.transitions());
-    format!(in alloc; "mucheck: {states} states, {transitions} transitions\n")
+    let game = match stats {
+        Stats::StagesAndGame(rule) => told_game(alloc, states, formula, rule),
+        _ => None,
+    };
+    match game {
+        Some(game) => format!(in alloc;
+            "mucheck: {states} states, {transitions} transitions\n{game}"
+        ).ok(),
+        None => format!(in alloc; "mucheck: {states} states, {transitions} transitions\n").ok(),
+    }
+}
+
+/// What is told of the game of a system with so many states; nothing where the formula has no normal form.
+fn told_game(alloc: Global, states: u32, formula: &Closed, rule: Priorities) -> Option<String> {
+    let normal = normal_with(alloc, formula, rule).ok()?;
+    let (nodes, priority) = (normal.count(), greatest_priority(&normal));
+    let vertices = u64::from(states)
+        .saturating_mul(u64::from(nodes))
+        .saturating_add(2);
+    format!(in alloc;
+        "mucheck: {nodes} nodes, greatest priority {priority}, {vertices} vertices\n"
+    ).ok()
+}
+
+fn greatest_priority(normal: &Normal) -> u32 {
+    let mut greatest = 0;
+    for k in 0..normal.count() {
+        greatest = normal.priority(k).max(greatest);
+    }
+    greatest
 }
 
 /// The line of a step that took so long.

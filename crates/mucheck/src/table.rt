@@ -1,38 +1,32 @@
 // The command `table`.
 
-use crate::input::open;
+use crate::input::{Counted, Input, open};
+use crate::line::{Line, Output};
 use crate::refusal::{NO_SOURCES, Refusal, tell};
+use crate::stats::Stats;
 use engines::error::MuError;
 use engines::request::Table;
 use engines::status::error_status;
-use engines::table::table_line;
+use engines::table::table_line_seen;
 use lts::reader::read_aut;
-use std::io;
+use lts::system::Lts;
+use measures::observer::{Observer, Stage};
 use std::sync::Wait;
 use std::thread::Threads;
+use std::time::Clock;
 
-/// Reads the system once, and writes a line for each formula as soon as it is known. It answers the greatest of their statuses. A file that
-/// can't be opened has its refusal on standard error.
-pub fn run_table<T: Threads + Wait + Clone + Copy + Drop + Send + Sync>(
+/// Reads the system once, and writes a line for each formula as soon as it is known. It answers the greatest of their statuses. Notes on words that
+/// no label has, and the refusal of a file that can't be opened, go to standard error.
+pub fn run_table<T: Threads + Wait + Clock + Clone + Copy + Drop + Send + Sync + 'static>(
     rt: &HostRuntime,
     threads: &T,
     request: &Table<'_>,
 ) -> Result<u8, Refusal> {
-    let system = open(rt, request.system)?;
-    let system = read_aut(rt.alloc(), system).map_err(MuError::System)?;
-    let out = &mut io::writer(rt);
+    let system = read_system(rt, threads, request.system)?;
     let mut greatest = 0;
     for name in &request.formulas {
         let status = match open(rt, name) {
-            Ok(formula) => table_line(
-                threads,
-                rt.alloc(),
-                &system,
-                request,
-                name,
-                formula,
-                out,
-            ).map_err(MuError::Write)?,
+            Ok(formula) => write_line(rt, threads, request, &system, name, formula)?,
             Err(refusal) => {
                 // Where standard error fails too, the status alone tells.
                 let _ = tell(rt, &NO_SOURCES, &refusal);
@@ -42,4 +36,45 @@ pub fn run_table<T: Threads + Wait + Clone + Copy + Drop + Send + Sync>(
         greatest = status.max(greatest);
     }
     Ok(greatest)
+}
+
+/// The system of the file of this name.
+fn read_system<T: Threads + Wait + Clock + Clone + Copy + Drop + Send + Sync + 'static>(
+    rt: &HostRuntime,
+    threads: &T,
+    name: &str,
+) -> Result<Lts, Refusal> {
+    let system = open(rt, name)?;
+    let line = Line::new(*rt, threads, Stats::Nothing, None);
+    let ticker = line.start();
+    line.sees(Stage::ReadingSystem);
+    let read = read_aut(rt.alloc(), Counted::new(system, &line));
+    line.finish(ticker);
+    Ok(read.map_err(MuError::System)?)
+}
+
+/// Writes the line of a formula's file, and answers its status.
+fn write_line<T: Threads + Wait + Clock + Clone + Copy + Drop + Send + Sync + 'static>(
+    rt: &HostRuntime,
+    threads: &T,
+    request: &Table<'_>,
+    system: &Lts,
+    name: &str,
+    formula: Input,
+) -> Result<u8, Refusal> {
+    let line = Line::new(*rt, threads, Stats::Nothing, Some(name));
+    let ticker = line.start();
+    line.sees(Stage::ReadingFormula);
+    let status = table_line_seen(
+        threads,
+        rt.alloc(),
+        system,
+        request,
+        name,
+        Counted::new(formula, &line),
+        &mut Output::new(*rt, &line),
+        &line,
+    );
+    line.finish(ticker);
+    Ok(status.map_err(MuError::Write)?)
 }

@@ -1,14 +1,18 @@
 // Lines of tables, on a system of two states whose answers were worked out by hand.
 
+use calculus::closed::Closed;
 use engines::request::{BoardKind, Options, Table};
-use engines::table::table_line;
+use engines::table::{table_line, table_line_seen};
+use engines::watch::Watcher;
 use lts::{Lts, read_aut};
+use measures::observer::{Observer, Stage};
 use normal::priorities::Priorities;
 use samples::texts::RING;
 use samples::writers::{AtEnd, Narrow};
 use std::alloc::Global;
 use std::process::Abort;
 use std::sync::Wait;
+use std::sync::atomic::{AtomicU64, Ordering};
 use std::thread::Threads;
 
 const OPTIONS: Options = Options {
@@ -154,4 +158,54 @@ fn failed_writes_are_told(rt: HostRuntime) {
     );
     assert!(rt; answer.is_err());
     assert!(rt; out.taken.as_slice() == b"yes 1 of 2".as_slice());
+}
+
+/// How many states the systems had together of which a watcher was told that they and a formula are read.
+#[derive(Drop)]
+struct Told {
+    states: AtomicU64,
+}
+
+impl Observer for Told {
+    fn sees(&self, _stage: Stage) {}
+}
+
+impl Watcher for Told {
+    fn has_read(&self, system: &Lts, _formula: &Closed) {
+        let states = u64::from(system.states());
+        self.states.fetch_add(states, Ordering::SeqCst);
+    }
+}
+
+/// How many states a watcher is told of, while the line of this formula on a system of two states is found out.
+fn states_told<R: Abort + AllocGlobal + Threads + Wait + Clone + Copy + Drop + Send + Sync>(
+    rt: &R,
+    formula: &str,
+    line: &str,
+) -> u64 {
+    let system = read_aut(rt.alloc(), RING.as_bytes()).expect(rt, "a system");
+    let told = Told {
+        states: AtomicU64::new(0),
+    };
+    let mut out = Vec::new(rt.alloc());
+    let request = table(rt.alloc(), false, true);
+    let bytes = formula.as_bytes();
+    let alloc = rt.alloc();
+    let answer = table_line_seen(
+        rt, alloc, &system, &request, "f.mcf", bytes, &mut out, &told,
+    );
+    assert!(rt; answer.is_ok());
+    assert!(rt; out.as_slice() == line.as_bytes(), "{formula}");
+    told.states.load(Ordering::SeqCst)
+}
+
+/// A watcher is told of a formula that is read, also where a word of it is refused then, and of none whose text is refused.
+#[test]
+fn a_watcher_is_told_of_formulas_that_are_read(rt: HostRuntime) {
+    assert_eq!(rt; states_told(&rt, "<a>true", "yes 1 of 2 f.mcf\n"), 2);
+    assert_eq!(rt; states_told(&rt, "<c>true", "L1 at offset 1 f.mcf\n"), 2);
+    assert_eq!(rt;
+        states_told(&rt, "<a>true && X", "F5 at offset 11 f.mcf\n"),
+        0
+    );
 }

@@ -1,6 +1,6 @@
 use Rattle.engines.specs.Table.{way_by}
 use Rattle.engines.proofs.Telling.{answered, refused}
-use Rattle.engines.proofs.table.table_line.Goals as goal
+use Rattle.engines.proofs.table.table_line_seen.Goals as goal
 
 pub returns-in-Ok : goal.returns-in-Ok
 returns-in-Ok g c = λ text known.
