@@ -1,10 +1,13 @@
-// Games by their rows.
+// Games by their rows, and those of formulas.
 
+use crate::texts::{form_of, system_of};
+use game::build::build;
 use game::graph::{Game, GameBuilder};
 use game::limits::MOST_VERTICES;
 use game::player::Player;
 use std::alloc::AllocError;
 use std::sync::Arc;
+use std::thread::Threads;
 
 /// A vertex: its owner, its priority and its successors.
 pub type Row = (Player, u8, &'static [u32]);
@@ -39,4 +42,16 @@ pub fn game_of(rt: &impl AllocGlobal, rows: &[Row]) -> Option<Game> {
 /// The game of these vertices, to be shared, where they make one and memory suffices.
 pub fn shared_game_of(rt: &impl AllocGlobal, rows: &[Row]) -> Option<Arc<Game>> {
     Arc::new(rt.alloc(), game_of(rt, rows)?).ok()
+}
+
+/// The game of the texts of a system and of a formula, to be shared, where they are such and memory suffices.
+pub fn shared_arena_of(
+    rt: &(impl AllocGlobal + Threads + Sync),
+    system: &str,
+    formula: &str,
+) -> Option<Arc<Game>> {
+    let lts = system_of(rt.alloc(), system).ok()?;
+    let form = form_of(rt.alloc(), formula)?;
+    let game = build(rt, rt.alloc(), &lts, &form).ok()?;
+    Arc::new(rt.alloc(), game).ok()
 }

@@ -1,6 +1,6 @@
 // A writer that has little room.
 
-use std::alloc::Global;
+use std::alloc::{AllocError, Global};
 use std::io;
 use std::io::Write;
 
@@ -27,8 +27,17 @@ pub struct Narrow {
 
 impl Narrow {
     pub fn new(alloc: Global, step: usize, room: usize) -> Narrow {
+        Narrow::over(Vec::new(alloc), step, room)
+    }
+
+    /// A writer that takes so many bytes, and has the memory for them before the first one.
+    pub fn ready(alloc: Global, room: usize) -> Result<Narrow, AllocError> {
+        Ok(Narrow::over(Vec::with_capacity(alloc, room)?, room, room))
+    }
+
+    fn over(taken: Vec<u8>, step: usize, room: usize) -> Narrow {
         Narrow {
-            taken: Vec::new(alloc),
+            taken,
             step,
             room,
             at_end: AtEnd::Fails,

@@ -1,5 +1,5 @@
-// What takes no memory. Of two tests that stand side by side the first makes something, and the second makes it and uses it: tests/refusals counts what
-// both request, which has to be as much.
+// What takes no memory. Of two tests that stand side by side, as `x` and `x_and_y`, the first makes something, and the second makes it and uses it:
+// tests/refusals counts how often both request memory, which has to be the same. Where it is `x_with_y` the second may request it 200 times more.
 
 ghost use Rattle.std.specs.Prelude.{◌≡◌, ◌<◌, length};
 
@@ -8,17 +8,21 @@ use evidence::reader::read_evidence;
 use evidence::verdict::{Both, Verdict};
 use evidence::verify::{check_both, verify};
 use evidence::writer::write_evidence;
+use game::dual::{dual, greatest_priority};
 use game::graph::Game;
 use game::name::GameName;
+use lts::read_aut;
 use lts::writer::write_aut;
 use measures::settle::{is_settled, settle};
 use measures::table::{PlainTable, opening};
 use pgsolver::{read_game, write_game};
-use samples::games::game_of;
-use samples::texts::{RING, system_of};
+use samples::games::{game_of, shared_arena_of};
+use samples::readers::Slow;
+use samples::texts::{RING, repeated, ring, system_of};
 use std::alloc::Global;
 use std::marker::Brand;
 use std::process::Abort;
+use std::thread::Threads;
 use tables::shard::Shard;
 
 // A table of a game, which is settled or left as it is.
@@ -135,4 +139,73 @@ fn texts_are_made(rt: HostRuntime) {
 #[test]
 fn texts_are_made_and_written(rt: HostRuntime) {
     of_texts(&rt, true)
+}
+
+/// So many blanks stand before a transition.
+const BLANKS: usize = 100_000;
+
+const LINE: &str = "(0,\"a\",1)\n";
+
+const HEADER: &str = "des (0,1,2)\n";
+
+/// More bytes than a text has here.
+const AT_ONCE: usize = 1_000_000;
+
+// A text with many blanks and one without, of which one is read, some bytes at a time.
+fn of_system(rt: &(impl Abort + AllocGlobal), has_blanks: bool, step: usize) {
+    let blanks = repeated(rt.alloc(), HEADER, " ", BLANKS, LINE).expect(rt, "memory");
+    let none = repeated(rt.alloc(), HEADER, " ", 0, LINE).expect(rt, "memory");
+    let text = if has_blanks { &blanks } else { &none };
+    let reader = Slow {
+        left: text.as_bytes(),
+        step,
+        fails: false,
+    };
+    let system = read_aut(rt.alloc(), reader).expect(rt, "a system");
+    assert!(rt; system.states() == 2 && system.all().len() == 1);
+}
+
+#[test]
+fn a_system_is_read(rt: HostRuntime) {
+    of_system(&rt, false, AT_ONCE)
+}
+
+#[test]
+fn a_system_is_read_and_comes_byte_by_byte(rt: HostRuntime) {
+    of_system(&rt, false, 1)
+}
+
+#[test]
+fn a_system_is_read_and_has_many_blanks(rt: HostRuntime) {
+    of_system(&rt, true, AT_ONCE)
+}
+
+#[test]
+fn a_system_is_read_and_has_many_blanks_in_pieces(rt: HostRuntime) {
+    of_system(&rt, true, 7)
+}
+
+// The text of a game of 25,002 vertices, which is read; and its dual, or not.
+fn of_game(rt: &(impl Abort + AllocGlobal + Threads + Sync), has_dual: bool) {
+    let system = ring(rt.alloc(), 2500).expect(rt, "memory");
+    let formula = "[true*]<true*>(<a>true)";
+    let arena = shared_arena_of(rt, system.as_str(), formula).expect(rt, "a game");
+    let mut text = Vec::new(rt.alloc());
+    assert!(rt; write_game(&arena, &mut text).is_ok());
+    let game = read_game(rt.alloc(), text.as_slice()).expect(rt, "a game");
+    assert!(rt; game.vertices() == 25_002 && greatest_priority(&game) <= 31);
+    if has_dual {
+        let dual = dual(rt.alloc(), &game).expect(rt, "memory");
+        assert!(rt; dual.vertices() == 25_002);
+    }
+}
+
+#[test]
+fn a_game_is_read(rt: HostRuntime) {
+    of_game(&rt, false)
+}
+
+#[test]
+fn a_game_is_read_with_its_dual(rt: HostRuntime) {
+    of_game(&rt, true)
 }

@@ -6,7 +6,10 @@ use commands::request::Normalize;
 use commands::solve_text::solve_text;
 use commands::verify_text::{verify_both_text, verify_text};
 use fixtures::answers::shown;
-use fixtures::texts::{EVEN_OF_OFTEN_A, EVEN_OF_STEP, ODD_OF_OFTEN_A, ODD_OF_STEP, OFTEN_A, STEP};
+use fixtures::texts::{
+    APART, EVEN_OF_APART, EVEN_OF_OFTEN_A, EVEN_OF_STEP, ODD_OF_APART, ODD_OF_OFTEN_A, ODD_OF_STEP,
+    OFTEN_A, STEP,
+};
 use normal::priorities::Priorities;
 use requests::error::MuError;
 use requests::request::{BoardKind, Options};
@@ -25,6 +28,9 @@ const OPTIONS: Options = Options {
     shards: 16,
     board: BoardKind::Auto,
 };
+
+/// More than the commands write here.
+const MOST_WRITTEN: usize = 1_000;
 
 /// A command with its texts.
 #[derive(Clone, Copy)]
@@ -85,7 +91,7 @@ fn tells_with<H: Abort + Threads + Wait + AllocGlobal + Clone + Copy + Drop + Se
     assert!(rt; out.taken.as_slice() == text.as_bytes(), "{text}");
 }
 
-const TOLD: [(Asked<'static>, &str, &str); 13] = [
+const TOLD: [(Asked<'static>, &str, &str); 15] = [
     (
         Asked::Normal("<a + + b>true", Priorities::Nested),
         "nodes 9 priority 1 depth 1\n0 or 0 1 7\n1 dia 0 2 a\n2 mu 1 3\n3 or 0 4 5\n4 true 0\n5 dia 0 6 a\n6 var 0 2\n7 dia 0 8 b\n8 true 0\n",
@@ -109,6 +115,16 @@ const TOLD: [(Asked<'static>, &str, &str); 13] = [
     (
         Asked::Solve("parity 1;\n0 0 0 1;\n1 2 1 0;\n"),
         "vertices 2\neven 2\n0 even\n1 even\n",
+        "yes",
+    ),
+    (
+        Asked::Solve(APART),
+        "vertices 16\neven 1\n0 even\n1 odd\n2 odd\n3 odd\n4 odd\n5 odd\n6 odd\n7 odd\n8 odd\n9 odd\n10 odd\n11 odd\n12 odd\n13 odd\n14 odd\n15 odd\n",
+        "yes",
+    ),
+    (
+        Asked::Both(APART, EVEN_OF_APART, ODD_OF_APART),
+        "verified both even 1 odd 15 of 16\n",
         "yes",
     ),
     (
@@ -161,7 +177,7 @@ fn commands_write_what_was_worked_out(rt: HostRuntime) {
 }
 
 /// Formulas, and the first line of the normal form by the nested rule and by the dependent one.
-const FIRST_LINES: [(&str, &str, &str); 3] = [
+const FIRST_LINES: [(&str, &str, &str); 4] = [
     (
         "[true*]<true*>(<a>true)",
         "nodes 10 priority 2 depth 2\n",
@@ -176,6 +192,11 @@ const FIRST_LINES: [(&str, &str, &str); 3] = [
         "nu X. (<a>X && mu Y. <b>Y)",
         "nodes 7 priority 2 depth 2\n",
         "nodes 7 priority 1 depth 2\n",
+    ),
+    (
+        "mu Z. nu Y. mu X. (<a>Z || <b>Y)",
+        "nodes 8 priority 3 depth 3\n",
+        "nodes 8 priority 3 depth 3\n",
     ),
 ];
 
@@ -429,15 +450,15 @@ fn failed_writes_of_commands_leave_a_beginning(rt: HostRuntime) {
     }
 }
 
-/// Each growth may be refused: nothing is written then. `rt try --test --fail-alloc N` refuses the Nth.
+/// Each growth may be refused: nothing is written then. tests/refusals refuses each in turn.
 #[test]
 fn commands_want_memory_before_they_write(rt: HostRuntime) {
     for (asked, text, _) in &TOLD {
-        let mut out = Narrow::new(rt.alloc(), AMPLE, AMPLE);
+        let mut out = Narrow::ready(rt.alloc(), MOST_WRITTEN).expect(&rt, "memory");
         if run(&rt, asked, &OPTIONS, &mut out).is_ok() {
             assert!(rt; out.taken.as_slice() == text.as_bytes(), "{text}");
         } else {
-            assert!(rt; out.taken.is_empty());
+            assert!(rt; out.taken.is_empty(), "{text}");
         }
     }
 }

@@ -12,6 +12,9 @@ use std::io::Write;
 use std::process::Abort;
 use std::thread::Threads;
 
+/// More than a replay writes here.
+const MOST_WRITTEN: usize = 1_000;
+
 /// A formula, a schedule and a number of workers: a replay in the game of the formula on the ring of two states.
 type Asked<'a> = (&'a str, &'a str, u32);
 
@@ -171,15 +174,15 @@ fn failed_writes_of_replays_leave_a_beginning(rt: HostRuntime) {
     }
 }
 
-/// Each growth may be refused: nothing is written then. `rt try --test --fail-alloc N` refuses the Nth.
+/// Each growth may be refused: nothing is written then. tests/refusals refuses each in turn.
 #[test]
 fn replays_want_memory_before_they_write(rt: HostRuntime) {
     for (asked, text) in &TOLD {
-        let mut out = Narrow::new(rt.alloc(), AMPLE, AMPLE);
+        let mut out = Narrow::ready(rt.alloc(), MOST_WRITTEN).expect(&rt, "memory");
         if run(&rt, *asked, &mut out).is_ok() {
             assert!(rt; out.taken.as_slice() == text.as_bytes(), "{text}");
         } else {
-            assert!(rt; out.taken.is_empty());
+            assert!(rt; out.taken.is_empty(), "{text}");
         }
     }
 }

@@ -4,7 +4,10 @@ use engines::engine::{check, check_one};
 use engines::error::MuError;
 use engines::request::{BoardKind, Options};
 use engines::writers::EvidenceWriters;
-use fixtures::texts::{EVEN_OF_OFTEN_A, EVEN_OF_STEP, ODD_OF_OFTEN_A, ODD_OF_STEP, OFTEN_A, STEP};
+use fixtures::texts::{
+    APART, EVEN_OF_APART, EVEN_OF_OFTEN_A, EVEN_OF_STEP, ODD_OF_APART, ODD_OF_OFTEN_A, ODD_OF_STEP,
+    OFTEN_A, STAY, STEP,
+};
 use normal::priorities::Priorities;
 use samples::texts::RING;
 use samples::writers::{AMPLE, Narrow};
@@ -12,36 +15,68 @@ use std::alloc::Global;
 use std::sync::Wait;
 use std::thread::Threads;
 
-const OPTIONS: Options = Options {
-    priorities: Priorities::Nested,
-    workers: 2,
-    shards: 16,
-    board: BoardKind::Auto,
-};
+/// By two workers.
+fn options(priorities: Priorities) -> Options {
+    Options {
+        priorities,
+        workers: 2,
+        shards: 16,
+        board: BoardKind::Auto,
+    }
+}
 
-/// The texts of a check, in the order in which they are written.
+/// A check with its texts, in the order in which they are written, and its answer.
 struct Texts {
+    system: &'static str,
     formula: &'static str,
+    priorities: Priorities,
+    initial: bool,
     game: &'static str,
     even: &'static str,
     odd: &'static str,
     report: &'static str,
 }
 
-const CHECKS: [Texts; 2] = [
+const CHECKS: [Texts; 4] = [
     Texts {
+        system: RING,
         formula: "<a>true",
+        priorities: Priorities::Nested,
+        initial: true,
         game: STEP,
         even: EVEN_OF_STEP,
         odd: ODD_OF_STEP,
         report: "system 2 states 2 transitions initial 0\nformula <a>true\nyes 1 of 2\ninitial yes\n0 yes\n1 no\n",
     },
     Texts {
+        system: RING,
         formula: "nu X. mu Y. (<a>X || <b>Y)",
+        priorities: Priorities::Nested,
+        initial: true,
         game: OFTEN_A,
         even: EVEN_OF_OFTEN_A,
         odd: ODD_OF_OFTEN_A,
         report: "system 2 states 2 transitions initial 0\nformula (nu X. (mu Y. (<a>X || <b>Y)))\nyes 2 of 2\ninitial yes\n0 yes\n1 yes\n",
+    },
+    Texts {
+        system: RING,
+        formula: "nu X. mu Y. (<a>X || <b>Y)",
+        priorities: Priorities::Dependent,
+        initial: true,
+        game: OFTEN_A,
+        even: EVEN_OF_OFTEN_A,
+        odd: ODD_OF_OFTEN_A,
+        report: "system 2 states 2 transitions initial 0\nformula (nu X. (mu Y. (<a>X || <b>Y)))\nyes 2 of 2\ninitial yes\n0 yes\n1 yes\n",
+    },
+    Texts {
+        system: STAY,
+        formula: "nu X. (<a>X && mu Y. <b>Y)",
+        priorities: Priorities::Dependent,
+        initial: false,
+        game: APART,
+        even: EVEN_OF_APART,
+        odd: ODD_OF_APART,
+        report: "system 2 states 2 transitions initial 0\nformula (nu X. (<a>X && (mu Y. <b>Y)))\nyes 0 of 2\ninitial no\n0 no\n1 no\n",
     },
 ];
 
@@ -69,12 +104,13 @@ impl Writers {
 fn run<R: Threads + Wait + Clone + Copy + Drop + Send + Sync>(
     rt: &R,
     alloc: Global,
-    formula: &str,
+    texts: &Texts,
     is_one: bool,
     writers: &mut Writers,
 ) -> Result<bool, MuError> {
-    let system = RING.as_bytes();
-    let formula = formula.as_bytes();
+    let system = texts.system.as_bytes();
+    let formula = texts.formula.as_bytes();
+    let options = options(texts.priorities);
     let evidence = EvidenceWriters::Both(&mut writers.even, &mut writers.odd);
     let game = Some(&mut writers.game);
     if is_one {
@@ -83,7 +119,7 @@ fn run<R: Threads + Wait + Clone + Copy + Drop + Send + Sync>(
             alloc,
             system,
             formula,
-            &OPTIONS,
+            &options,
             &mut writers.report,
             game,
             evidence,
@@ -94,7 +130,7 @@ fn run<R: Threads + Wait + Clone + Copy + Drop + Send + Sync>(
             alloc,
             system,
             formula,
-            &OPTIONS,
+            &options,
             &mut writers.report,
             game,
             evidence,
@@ -116,8 +152,8 @@ fn every_text_is_written(rt: HostRuntime) {
     for texts in &CHECKS {
         for is_one in [true, false] {
             let mut writers = Writers::new(rt.alloc());
-            let answer = run(&rt, rt.alloc(), texts.formula, is_one, &mut writers);
-            assert!(rt; answer.ok() == Some(true));
+            let answer = run(&rt, rt.alloc(), texts, is_one, &mut writers);
+            assert!(rt; answer.ok() == Some(texts.initial));
             assert!(rt; has_all(&writers.game, texts.game));
             assert!(rt; has_all(&writers.even, texts.even));
             assert!(rt; has_all(&writers.odd, texts.odd));
@@ -136,7 +172,7 @@ fn a_failed_game_ends_the_check(rt: HostRuntime) {
         for room in 0..texts.game.len() {
             let mut writers = Writers::new(rt.alloc());
             writers.game = Narrow::new(rt.alloc(), 9, room);
-            let answer = run(&rt, rt.alloc(), texts.formula, false, &mut writers);
+            let answer = run(&rt, rt.alloc(), texts, false, &mut writers);
             assert!(rt; is_write_fault(&answer));
             assert!(rt; has(&writers.game, texts.game, room));
             assert!(rt; writers.even.taken.is_empty() && writers.odd.taken.is_empty());
@@ -151,7 +187,7 @@ fn failed_evidence_ends_the_check(rt: HostRuntime) {
         for room in 0..texts.odd.len() {
             let mut writers = Writers::new(rt.alloc());
             writers.odd = Narrow::new(rt.alloc(), 9, room);
-            let answer = run(&rt, rt.alloc(), texts.formula, false, &mut writers);
+            let answer = run(&rt, rt.alloc(), texts, false, &mut writers);
             assert!(rt; is_write_fault(&answer));
             assert!(rt; has_all(&writers.game, texts.game));
             assert!(rt; has_all(&writers.even, texts.even));
@@ -167,7 +203,7 @@ fn a_failed_report_leaves_the_other_texts_whole(rt: HostRuntime) {
         for room in 0..texts.report.len() {
             let mut writers = Writers::new(rt.alloc());
             writers.report = Narrow::new(rt.alloc(), 9, room);
-            let answer = run(&rt, rt.alloc(), texts.formula, true, &mut writers);
+            let answer = run(&rt, rt.alloc(), texts, true, &mut writers);
             assert!(rt; is_write_fault(&answer));
             assert!(rt; has_all(&writers.game, texts.game));
             assert!(rt; has_all(&writers.odd, texts.odd));
@@ -183,9 +219,10 @@ fn the_game_may_be_written_alone(rt: HostRuntime) {
         let mut writers = Writers::new(rt.alloc());
         let none: EvidenceWriters<'_, Vec<u8>, Vec<u8>> = EvidenceWriters::Neither;
         let game = Some(&mut writers.game);
-        let (system, formula) = (RING.as_bytes(), texts.formula.as_bytes());
+        let (system, formula) = (texts.system.as_bytes(), texts.formula.as_bytes());
+        let options = options(texts.priorities);
         let out = &mut writers.report;
-        let answer = check(&rt, rt.alloc(), system, formula, &OPTIONS, out, game, none);
+        let answer = check(&rt, rt.alloc(), system, formula, &options, out, game, none);
         assert!(rt; answer.is_ok());
         assert!(rt; has_all(&writers.game, texts.game));
         assert!(rt; has_all(&writers.report, texts.report));

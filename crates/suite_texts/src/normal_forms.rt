@@ -128,7 +128,7 @@ fn limits_are_met_exactly(rt: HostRuntime) {
     }
 }
 
-// Each growth may be refused: then nothing but that is told. `rt try --test --fail-alloc N` refuses the Nth.
+// Each growth may be refused: then nothing but that is told. tests/refusals refuses each in turn.
 #[test]
 fn want_of_memory_is_told_as_such(rt: HostRuntime) {
     if let Some(told) = size(rt.alloc(), "nu X. <a|b + \"c\"*>X") {

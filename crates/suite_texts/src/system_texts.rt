@@ -138,7 +138,7 @@ fn an_interrupted_read_is_tried_again(rt: HostRuntime) {
     );
 }
 
-// Each growth may be refused: then nothing but that is told. `rt try --test --fail-alloc N` refuses the Nth.
+// Each growth may be refused: then nothing but that is told. tests/refusals refuses each in turn.
 #[test]
 fn want_of_memory_is_told_as_such(rt: HostRuntime) {
     let text = "des (2,4,3)\n(2,\"c|a|b\",0)\n(0,\"tau\",2)\n(2,\"c|a|b\",0)\n(1,\"r(1)\",1)\n";

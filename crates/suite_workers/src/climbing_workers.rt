@@ -25,12 +25,13 @@ use workers::solving::solve_from;
 
 /// Counts the turns of each of 64 workers.
 #[derive(Drop)]
-struct Turns {
+pub struct Turns {
     by: [AtomicU64; 64],
 }
 
 impl Turns {
-    fn new() -> Self {
+    /// None was counted yet.
+    pub fn new() -> Self {
         Turns {
             by: array::from_fn(|_| AtomicU64::new(0)),
         }
@@ -44,8 +45,8 @@ impl Turns {
         }
     }
 
-    // Those of all workers.
-    fn all(&self) -> u64 {
+    /// Those of all workers.
+    pub fn all(&self) -> u64 {
         let mut all = 0u64;
         for turns in &self.by {
             all = all.saturating_add(turns.load(Ordering::SeqCst));
@@ -295,8 +296,8 @@ fn lifted_somehow<R: Abort + AllocGlobal + Threads + Wait + Clone + Copy + Drop 
     }
 }
 
-// Whether two tables of a game are the same.
-fn is_same(game: &Game, one: &Settled, other: &Settled) -> bool
+/// Whether two tables of a game are the same.
+pub fn is_same(game: &Game, one: &Settled, other: &Settled) -> bool
     requires one { one.now.game ≡ game.now }
     requires other { other.now.game ≡ game.now }
 {

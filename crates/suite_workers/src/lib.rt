@@ -7,3 +7,7 @@ mod climbing_workers;
 mod many_workers;
 #[cfg(test)]
 mod observers;
+#[cfg(test)]
+mod refused_memory;
+#[cfg(test)]
+mod worked_games;

@@ -331,6 +331,15 @@ fn ends_well<
     ends_well_on(rt, alloc, game, inner, &notes) && notes.are_read(game)
 }
 
+/// Whether workers over shards under locks leave nothing to lift.
+pub fn end_well_over_shards<
+    R: Abort + AllocGlobal + Threads + Wait + Clone + Copy + Drop + Send + Sync,
+>(rt: &R, game: &Arc<Game, Global>, workers: usize) -> bool
+    requires { 0 < workers }
+{
+    ends_well::<Brand, R>(rt, rt.alloc(), game, workers)
+}
+
 // The same of the game of these vertices.
 fn all_end_well<R: Abort + AllocGlobal + Threads + Wait + Clone + Copy + Drop + Send + Sync>(
     rt: &R,
@@ -340,10 +349,24 @@ fn all_end_well<R: Abort + AllocGlobal + Threads + Wait + Clone + Copy + Drop + 
     requires { 0 < workers }
 {
     let game = shared_game_of(rt, rows).expect(rt, "a game");
-    ends_well::<Brand, R>(rt, rt.alloc(), &game, workers)
+    end_well_over_shards(rt, &game, workers)
 }
 
-// Whether they end well over words, which they lift in the board's own way.
+/// Whether workers over words, which they lift in the board's own way, leave nothing to lift.
+pub fn end_well_over_words<R: Abort + AllocGlobal + Threads + Wait + Sync>(
+    rt: &R,
+    game: &Arc<Game, Global>,
+    workers: usize,
+) -> bool
+    requires { 0 < workers }
+{
+    let notes = Notes::new(rt.alloc(), game.vertices(), workers).expect(rt, "memory");
+    let shared = Arc::try_clone(game).expect(rt, "memory");
+    let inner = PackedBoard::new(rt.alloc(), shared, 1).expect(rt, "a board");
+    ends_well_on(rt, rt.alloc(), game, inner, &notes) && notes.are_own(game)
+}
+
+// The same of the game of these vertices.
 fn all_end_well_over_words<R: Abort + AllocGlobal + Threads + Wait + Sync>(
     rt: &R,
     rows: &[Row],
@@ -352,17 +375,19 @@ fn all_end_well_over_words<R: Abort + AllocGlobal + Threads + Wait + Sync>(
     requires { 0 < workers }
 {
     let game = shared_game_of(rt, rows).expect(rt, "a game");
-    let notes = Notes::new(rt.alloc(), game.vertices(), workers).expect(rt, "memory");
-    let shared = Arc::try_clone(&game).expect(rt, "memory");
-    let inner = PackedBoard::new(rt.alloc(), shared, 1).expect(rt, "a board");
-    ends_well_on(rt, rt.alloc(), &game, inner, &notes) && notes.are_own(&game)
+    end_well_over_words(rt, &game, workers)
 }
 
-// Whether the table that workers begin with leaves something to lift.
+/// Whether the table that workers begin with leaves something to lift.
+pub fn is_left(rt: &(impl Abort + AllocGlobal), game: &Game) -> bool {
+    let first = opening(rt.alloc(), game).expect(rt, "memory");
+    !is_settled(game, &first)
+}
+
+// The same of the game of these vertices.
 fn is_left_to_workers(rt: &(impl Abort + AllocGlobal), rows: &[Row]) -> bool {
     let game = shared_game_of(rt, rows).expect(rt, "a game");
-    let first = opening(rt.alloc(), &game).expect(rt, "memory");
-    !is_settled(&game, &first)
+    is_left(rt, &game)
 }
 
 // Settled is what no lift raises, which is looked up at each vertex. The opening table is settled of none of these games, so it is

@@ -1,0 +1,127 @@
+// Workers where memory is refused. tests/refusals runs each test with `memory` in its name once for each request for memory, and refuses that one;
+// where the setting can't be made the test ends by `expect` with the word memory. Run by itself it meets no refusal.
+
+ghost use Rattle.std.specs.Prelude.{◌≡◌, ◌<◌};
+ghost use Rattle.std.specs.Arc.{arc_value};
+
+use crate::climbing_workers::{Turns, is_same};
+use game::graph::Game;
+use game::name::GameName;
+use measures::settle::solve_one;
+use measures::table::Settled;
+use samples::games::shared_arena_of;
+use samples::texts::RING;
+use std::alloc::Global;
+use std::marker::Brand;
+use std::process::Abort;
+use std::sync::{Arc, Wait};
+use std::thread::Threads;
+use tables::board::Board;
+use tables::locked::LockedBoard;
+use tables::packed::PackedBoard;
+use workers::error::SolveError;
+use workers::solving::solve;
+
+/// How many locks the locked board has.
+const SHARDS: u32 = 3;
+
+/// Whether workers over the board come to this table, or memory was refused and none of them had a turn.
+fn is_solved_or_unbegun<B: Board + Drop + Sync, R: Threads + Wait + Sync>(
+    rt: &R,
+    alloc: Global,
+    game: &Arc<Game, Global>,
+    board: B,
+    workers: usize,
+    wanted: &Settled,
+) -> bool
+    requires board { B.game board ≡ arc_value game.now }
+    requires workers { 0 < workers }
+    requires wanted { wanted.now.game ≡ arc_value game.now }
+{
+    let turns = Turns::new();
+    match solve(rt, alloc, game, board, workers, &turns) {
+        Ok(settled) => is_same(game, wanted, &settled),
+        Err(SolveError::Memory) => turns.all() == 0,
+    }
+}
+
+/// The same over words.
+fn is_solved_over_words<R: Abort + AllocGlobal + Threads + Wait + Sync>(
+    rt: &R,
+    game: &Arc<Game, Global>,
+    workers: usize,
+    wanted: &Settled,
+) -> bool
+    requires workers { 0 < workers }
+    requires wanted { wanted.now.game ≡ arc_value game.now }
+{
+    let shared = Arc::try_clone(game).expect(rt, "memory");
+    let board = PackedBoard::new(rt.alloc(), shared, 1).expect(rt, "memory");
+    is_solved_or_unbegun(rt, rt.alloc(), game, board, workers, wanted)
+}
+
+/// The same over shards under locks.
+fn is_solved_over_shards<
+    K: GameName + Send + Sync,
+    R: Abort + AllocGlobal + Threads + Wait + Clone + Copy + Drop + Send + Sync,
+>(rt: &R, game: &Arc<Game, Global>, workers: usize, wanted: &Settled) -> bool
+    requires named { arc_value game.now ≡ K.game }
+    requires workers { 0 < workers }
+    requires wanted { wanted.now.game ≡ arc_value game.now }
+{
+    let shared = Arc::try_clone(game).expect(rt, "memory");
+    let board = LockedBoard::<K, R>::new(*rt, rt.alloc(), shared, SHARDS).expect(rt, "memory");
+    is_solved_or_unbegun(rt, rt.alloc(), game, board, workers, wanted)
+}
+
+/// The game that asks on a ring of two states whether some path has `a` again and again.
+fn often_a(rt: &(impl Abort + AllocGlobal + Threads + Sync)) -> Arc<Game, Global> {
+    shared_arena_of(rt, RING, "nu X. mu Y. (<a>X || <b>Y)").expect(rt, "memory")
+}
+
+fn refuses_before_turns_over_words<R: Abort + AllocGlobal + Threads + Wait + Sync>(
+    rt: &R,
+    workers: usize,
+)
+    requires { 0 < workers }
+{
+    let game = often_a(rt);
+    let wanted = solve_one(rt.alloc(), &game).expect(rt, "memory");
+    assert!(rt; is_solved_over_words(rt, &game, workers, &wanted));
+}
+
+fn refuses_before_turns_over_shards<
+    R: Abort + AllocGlobal + Threads + Wait + Clone + Copy + Drop + Send + Sync,
+>(rt: &R, workers: usize)
+    requires { 0 < workers }
+{
+    let game = often_a(rt);
+    let wanted = solve_one(rt.alloc(), &game).expect(rt, "memory");
+    assert!(rt; is_solved_over_shards::<Brand, R>(rt, &game, workers, &wanted));
+}
+
+#[test]
+fn memory_is_refused_before_the_turns_of_one_worker(rt: HostRuntime) {
+    refuses_before_turns_over_words(&rt, 1);
+    refuses_before_turns_over_shards(&rt, 1)
+}
+
+#[test]
+fn memory_is_refused_before_the_turns_of_two_over_words(rt: HostRuntime) {
+    refuses_before_turns_over_words(&rt, 2)
+}
+
+#[test]
+fn memory_is_refused_before_the_turns_of_two_over_shards(rt: HostRuntime) {
+    refuses_before_turns_over_shards(&rt, 2)
+}
+
+#[test]
+fn memory_is_refused_before_the_turns_of_eight_over_words(rt: HostRuntime) {
+    refuses_before_turns_over_words(&rt, 8)
+}
+
+#[test]
+fn memory_is_refused_before_the_turns_of_eight_over_shards(rt: HostRuntime) {
+    refuses_before_turns_over_shards(&rt, 8)
+}
