@@ -1,19 +1,23 @@
 // What a check by a game finds out before it writes.
 
-ghost use Rattle.std.specs.Prelude.{◌≡◌, IfOk, IfErr, ℕ, List, Some, None, Option};
+ghost use Rattle.std.specs.Prelude.{◌≡◌, ◌↔◌, IfOk, IfErr, IsTrue, ℕ, List, Some, None, Option};
 ghost use Rattle.std.specs.Arc.{arc_value};
 ghost use Rattle.calculus.specs.Closed.{closed_formula};
+ghost use Rattle.game.specs.Wins.{OddWins};
+ghost use Rattle.evidence.specs.Best.{IsOddOf};
+ghost use Rattle.evidence.specs.Evidence.{IsGood, has};
 ghost use Rattle.workers.specs.declared.team.BoardKind.{BoardKind};
 ghost use Rattle.requests.specs.Check.{ByGame, AreSpelled, HasRefused, IsBeyond};
 ghost use Rattle.engines.specs.Findings.{AreFindings, ArePosed, IsPairOf, formula_of, system_of, way_in};
 ghost use Rattle.requests.specs.Solver.{IsFitting, IsUnsolved};
 ghost use Rattle.requests.specs.Writers.{AreKept, Lent};
 
-use crate::guessing::guess_of;
+use crate::guessing::{dual_guess_of, guess_of};
 use crate::lifting::{SolvedGame, Winners, state_marks};
 use certify::pair::EvidencePair;
 use evidence::error::EvidenceError;
-use evidence::make::{even_evidence, odd_evidence};
+use evidence::evidence::Evidence;
+use evidence::make::{even_evidence, odd_evidence_by};
 use game::graph::Game;
 use measures::guess::solve_one_by;
 use measures::observer::{Observer, Silent, Stage};
@@ -326,6 +330,24 @@ fn find_solved(
     })
 }
 
+/// The evidence of all that Odd wins.
+///
+/// # Errors
+/// E5.
+pub(crate) fn odd_of(alloc: Global, found: &Findings) -> Result<Evidence, EvidenceError>
+    requires { AreFindings found.now }
+    ensures game { IfOk result (λ e. e.game ≡ arc_value found.now.solution.game) }
+    ensures memory { IfErr result (λ e. e ≡ EvidenceError.Memory) }
+    ensures odd { IfOk result (λ e. IsOddOf (arc_value found.now.solution.game) e.evidence) }
+    ensures good { IfOk result (λ e. IsGood (arc_value found.now.solution.game) e.evidence) }
+    ensures exact { IfOk result (λ e. (v : ℕ) → IsTrue (has e.evidence v) ↔ OddWins (arc_value found.now.solution.game) v) }
+{
+    let solution = &found.solution;
+    let Texts { system, formula } = &*found.texts;
+    let guess = dual_guess_of(alloc, system, formula, solution.priorities);
+    odd_evidence_by(alloc, &solution.game, &guess)
+}
+
 /// The evidence of both players.
 ///
 /// # Errors
@@ -337,7 +359,7 @@ pub fn evidence_pair(alloc: Global, found: &Findings) -> Result<EvidencePair, Mu
 {
     let game = &found.solution.game;
     match even_evidence(alloc, game, &found.solution.settled) {
-        Ok(even) => match odd_evidence(alloc, game) {
+        Ok(even) => match odd_of(alloc, found) {
             Ok(odd) => Ok(EvidencePair { even, odd }),
             Err(error) => Err(MuError::Evidence(error)),
         },

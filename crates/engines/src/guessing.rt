@@ -1,7 +1,7 @@
-// A guess of the least progress table, by which a check is solved sooner. No answer rests on it.
+// Guesses of least progress tables, by which a check is solved sooner, and evidence is made sooner. No answer rests on them.
 
 use calculus::closed::Closed;
-use guess::whole::Whole;
+use claims::claimed::Claims;
 use normal::make::normal_with;
 use normal::priorities::Priorities;
 use std::alloc::Global;
@@ -13,7 +13,18 @@ pub(crate) fn guess_of<'a>(
     system: &'a Lts,
     formula: &Closed,
     priorities: Priorities,
-) -> Option<Whole<'a>> {
+) -> Option<Claims<'a>> {
     let form = normal_with(alloc, formula, priorities).ok()?;
-    Whole::of(alloc, system, &form).ok()?
+    Claims::of(alloc, system, &form).ok()?
+}
+
+/// What is guessed of the dual of that game, by which Odd's evidence is made sooner. Want of memory is no guess.
+pub(crate) fn dual_guess_of<'a>(
+    alloc: Global,
+    system: &'a Lts,
+    formula: &Closed,
+    priorities: Priorities,
+) -> Option<Claims<'a>> {
+    let form = normal_with(alloc, formula, priorities).ok()?;
+    Claims::of_dual(alloc, system, &form).ok()?
 }

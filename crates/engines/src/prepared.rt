@@ -7,12 +7,12 @@ ghost use Rattle.engines.specs.declared.prepared.Shown.{Shown};
 ghost use Rattle.engines.specs.Findings.{AreFindings, ArePrepared, AreShown, IsPairOf, IsUnprepared, IsUnshown, IsWinning, formula_of, system_of};
 ghost use Rattle.requests.specs.Report.{report_in};
 
-use crate::findings::{Findings, evidence_pair};
+use crate::findings::{Findings, evidence_pair, odd_of};
 use crate::report::report_text;
 use certify::pair::EvidencePair;
 use evidence::error::EvidenceError;
 use evidence::evidence::Evidence;
-use evidence::make::{even_evidence, odd_evidence};
+use evidence::make::even_evidence;
 use lassos::making::one_way_evidence;
 use laws::chosen_is_admissible;
 use laws::games::one_wins;
@@ -209,7 +209,7 @@ fn winner_evidence(alloc: Global, found: &Findings) -> Result<Evidence, Evidence
     if initial_mark(found) {
         even_evidence(alloc, game, &found.solution.settled)
     } else {
-        odd_evidence(alloc, game)
+        odd_of(alloc, found)
     }
 }
 

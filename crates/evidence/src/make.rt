@@ -13,8 +13,9 @@ use crate::evidence::Evidence;
 use game::dual::{dual, greatest_priority};
 use game::graph::Game;
 use game::player::Player;
+use measures::guess::{Guess, NoGuess, solve_one_by};
+use measures::observer::Silent;
 use measures::progs::prog;
-use measures::settle::solve_one;
 use measures::table::Settled;
 use normal::limits::GREATEST_PRIORITY;
 use std::alloc::Global;
@@ -74,11 +75,11 @@ fn entries_of(alloc: Global, game: &Game, settled: &Settled) -> Result<Entries, 
     Ok(entries)
 }
 
-// The same, where the game isn't solved yet.
-fn solved_entries(alloc: Global, game: &Game) -> Result<Entries, Memory>
+// The same, where the game isn't solved yet, with the help of a guess.
+fn solved_entries<G: Guess>(alloc: Global, game: &Game, guess: &G) -> Result<Entries, Memory>
     ensures { IfOk result (λ e. IsEvenOf game.now (record { player = Player.Even; entries = e.entries })) }
 {
-    let settled = solve_one(alloc, game)?;
+    let settled = solve_one_by(alloc, game, guess, &Silent)?;
     entries_of(alloc, game, &settled)
 }
 
@@ -116,10 +117,29 @@ pub fn odd_evidence(alloc: Global, game: &Game) -> Result<Evidence, EvidenceErro
     ensures good { IfOk result (λ e. IsGood game.now e.evidence) }
     ensures exact { IfOk result (λ e. (v : ℕ) → IsTrue (has e.evidence v) ↔ OddWins game.now v) }
 {
+    odd_evidence_by(alloc, game, &NoGuess)
+}
+
+/// The same, with the help of a guess of the dual game's least progress table.
+///
+/// # Errors
+/// Those of `odd_evidence`.
+pub fn odd_evidence_by<G: Guess>(
+    alloc: Global,
+    game: &Game,
+    guess: &G,
+) -> Result<Evidence, EvidenceError>
+    requires { greatest game.now ≤ GREATEST_PRIORITY }
+    ensures game { IfOk result (λ e. e.game ≡ game.now) }
+    ensures memory { IsOkUnless result EvidenceError.Memory }
+    ensures odd { IfOk result (λ e. IsOddOf game.now e.evidence) }
+    ensures good { IfOk result (λ e. IsGood game.now e.evidence) }
+    ensures exact { IfOk result (λ e. (v : ℕ) → IsTrue (has e.evidence v) ↔ OddWins game.now v) }
+{
     game.known();
     let Ok(turned) = dual(alloc, game) else {
         return Err(EvidenceError::Memory);
     };
-    let entries = solved_entries(alloc, &turned)?;
+    let entries = solved_entries(alloc, &turned, guess)?;
     Ok(Evidence::of(Player::Odd, entries, game))
 }

@@ -2,7 +2,7 @@
 
 use crate::bits::{Sheet, WORD};
 use crate::edges::Edges;
-use crate::form::Form;
+use crate::form::{Form, Side};
 use crate::numbers::{Numbers, Words};
 use crate::scale::{Scale, TOP, ZERO};
 use std::alloc::{AllocError, Global};
@@ -151,6 +151,15 @@ impl Board {
         }
     }
 
+    /// The same without steps, where they are counted last.
+    pub(crate) fn plain_value(&self, node: u32, state: u32) -> u64 {
+        let value = self.value(node, state);
+        match self.form.side {
+            Side::Own => value,
+            Side::Dual => self.scale.without_steps(value),
+        }
+    }
+
     /// The level at which a node's value was found at a state.
     pub(crate) fn level(&self, node: u32, state: u32) -> u32 {
         match self.levels.get(node as usize) {
@@ -260,6 +269,14 @@ impl Board {
     pub(crate) fn make_words(&mut self, alloc: Global, node: u32) -> Result<(), AllocError> {
         if let Some(words) = self.words.get_mut(node as usize) {
             *words = Words::filled(alloc, 0, self.states as usize)?;
+        }
+        Ok(())
+    }
+
+    /// Gives a node a word for each state, top, though its values are still those that were known.
+    pub(crate) fn make_tops(&mut self, alloc: Global, node: u32) -> Result<(), AllocError> {
+        if let Some(words) = self.words.get_mut(node as usize) {
+            *words = Words::filled(alloc, TOP, self.states as usize)?;
         }
         Ok(())
     }

@@ -22,6 +22,30 @@ pub(crate) enum Shape {
     Variable,
 }
 
+impl Shape {
+    // What it is where the players are exchanged.
+    fn exchanged(self) -> Self {
+        match self {
+            Shape::True => Shape::False,
+            Shape::False => Shape::True,
+            Shape::And => Shape::Or,
+            Shape::Or => Shape::And,
+            Shape::Dia => Shape::Box,
+            Shape::Box => Shape::Dia,
+            Shape::Binder | Shape::Variable => self,
+        }
+    }
+}
+
+/// Which game is guessed.
+#[derive(Clone, Copy, PartialEq, Eq)]
+pub(crate) enum Side {
+    /// That of the system and the normal form.
+    Own,
+    /// Its dual: the players are exchanged, and each priority is one more. So all that binds nothing has priority 1 there, and counts: a step.
+    Dual,
+}
+
 /// A node and its children. One that has a single child has it twice, and a variable has its binder.
 #[derive(Clone, Copy)]
 pub(crate) struct Node {
@@ -53,24 +77,44 @@ impl Node {
             mask,
         }
     }
+
+    // The node on a side, if this is the game's own.
+    fn on(self, side: Side) -> Self {
+        match side {
+            Side::Own => self,
+            Side::Dual => Node {
+                shape: self.shape.exchanged(),
+                priority: self.priority.saturating_add(1),
+                ..self
+            },
+        }
+    }
 }
 
 /// The nodes, by number.
 #[derive(Drop)]
 pub(crate) struct Form {
+    pub(crate) side: Side,
     nodes: Vec<Node>,
     roots: Numbers,
     heights: Numbers,
 }
 
 impl Form {
-    pub(crate) fn of(alloc: Global, normal: &Normal, kinds: &Kinds) -> Result<Self, AllocError> {
+    pub(crate) fn of(
+        alloc: Global,
+        normal: &Normal,
+        kinds: &Kinds,
+        side: Side,
+    ) -> Result<Self, AllocError> {
         let mut nodes = Vec::new(alloc);
         for (number, node) in (0..u32::MAX).zip(normal.nodes()) {
-            nodes.push(Node::of(&node.kind, node.priority, kinds.mask(number)))?;
+            let own = Node::of(&node.kind, node.priority, kinds.mask(number));
+            nodes.push(own.on(side))?;
         }
         let count = nodes.len();
         let mut form = Form {
+            side,
             nodes,
             roots: Numbers::filled(alloc, NONE, count)?,
             heights: Numbers::filled(alloc, 0, count)?,

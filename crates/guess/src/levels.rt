@@ -206,7 +206,7 @@ impl Levels {
             return Ok(());
         }
         for state in 0..self.board.states {
-            let value = self.board.value(source, state);
+            let value = self.board.plain_value(source, state);
             if value == self.order.first() {
                 self.sets.add_state(source, state);
             } else if value != self.order.last() {
@@ -485,7 +485,7 @@ impl Levels {
     // The value from outside that comes next.
     fn event(&self) -> Option<u64> {
         let Event { node, state, .. } = self.events.get(self.seen).copied()?;
-        Some(self.board.value(node, state))
+        Some(self.board.plain_value(node, state))
     }
 
     // All that have this value become final.

@@ -1,11 +1,10 @@
-// A guess of the least progress table from a system and a formula, and one of who wins, as a ranking. Nothing rests on them but time: what
-// is guessed has to be tested.
+// A guess of the least progress table from a system and a formula, or of that of the dual game, and one of who wins, as a ranking. Nothing
+// rests on them but time: what is guessed has to be tested.
 #![tactic(auto)]
 
 mod bits;
 mod blocks;
 mod board;
-mod claims;
 pub mod columns;
 mod crew;
 mod edges;
@@ -17,12 +16,12 @@ mod levels;
 mod nested;
 mod numbers;
 mod order;
-mod proposals;
 pub mod ranks;
 mod rounds;
-mod scale;
+pub mod scale;
 mod set_rounds;
 mod sets;
 mod single;
+mod steps;
 pub mod whole;
 mod withdraw;

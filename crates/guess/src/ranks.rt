@@ -4,7 +4,7 @@ use crate::blocks::Blocks;
 use crate::board::{Board, Exits};
 use crate::columns::Columns;
 use crate::crew::{Task, do_by, whole};
-use crate::form::{Form, NONE};
+use crate::form::{Form, NONE, Side};
 use crate::layout::{Fields, Layout, MARK, shifts};
 use crate::levels::Levels;
 use crate::numbers::Numbers;
@@ -362,7 +362,7 @@ pub fn columns<R: Threads + Sync>(
     normal: &Normal,
     workers: u32,
 ) -> Result<Option<Columns>, Memory> {
-    let Some(board) = board_of(alloc, lts, normal, Scale::none(), Exits::Marks)? else {
+    let Some(board) = board_of(alloc, lts, normal, Side::Own, Scale::none(), Exits::Marks)? else {
         return Ok(None);
     };
     match find(alloc, board)? {

@@ -1,10 +1,10 @@
 // Packed measures: a field of bits for each odd priority, that of the greatest first. All bits are top.
 
 /// The greatest measure.
-pub(crate) const TOP: u64 = u64::MAX;
+pub const TOP: u64 = u64::MAX;
 
 /// The least measure.
-pub(crate) const ZERO: u64 = 0;
+pub const ZERO: u64 = 0;
 
 /// One more than the greatest priority of a game.
 pub(crate) const PRIORITIES: usize = 33;
@@ -72,6 +72,20 @@ impl Scale {
             return word;
         }
         (word & self.kept[place]).saturating_add(self.fields[place].unit)
+    }
+
+    /// A word without its count of the least priority: that of steps, in the dual.
+    pub(crate) fn without_steps(&self, word: u64) -> u64 {
+        if word == TOP {
+            TOP
+        } else {
+            word & self.kept[2]
+        }
+    }
+
+    /// How many steps a word counts.
+    pub(crate) fn steps(&self, word: u64) -> u64 {
+        word & !self.kept[2]
     }
 
     /// A count of this priority alone.

@@ -17,19 +17,25 @@ impl Board {
         }
         self.fill_words(alloc, number, ZERO)?;
         let [left, right] = self.form.operands(number);
+        self.lift_words(number, node, left, right);
+        Ok(())
+    }
+
+    /// The word of a node at each state, by those of its children.
+    pub(crate) fn lift_words(&mut self, number: u32, node: Node, left: u32, right: u32) {
         for state in 0..self.states {
             let word = self.lifted(node, left, right, state);
             self.set_word(number, state, word);
         }
-        Ok(())
     }
 
     // Whether a node's values are zero and top alone.
     fn has_tops(&self, number: u32, node: Node) -> bool {
         match node.shape {
             _ if self.exits == Exits::Marks => true,
-            Shape::True | Shape::False => true,
-            Shape::Binder if node.priority % 2 == 1 => false,
+            Shape::False => true,
+            _ if node.priority % 2 == 1 => false,
+            Shape::True => true,
             _ => {
                 let mut operands = self.form.operands(number).into_iter();
                 operands.all(|operand| self.known(operand) == Known::Tops)
@@ -73,17 +79,16 @@ impl Board {
     }
 
     fn lifted(&self, node: Node, left: u32, right: u32, state: u32) -> u64 {
-        match node.shape {
+        let word = match node.shape {
             Shape::True => ZERO,
             Shape::False => TOP,
             Shape::And => self.value(left, state).max(self.value(right, state)),
             Shape::Or => self.value(left, state).min(self.value(right, state)),
             Shape::Dia => self.least(node, left, state),
             Shape::Box => self.greatest(node, left, state),
-            Shape::Binder | Shape::Variable => {
-                self.scale.prog(node.priority, self.value(left, state))
-            }
-        }
+            Shape::Binder | Shape::Variable => self.value(left, state),
+        };
+        self.scale.prog(node.priority, word)
     }
 
     fn least(&self, node: Node, operand: u32, state: u32) -> u64 {

@@ -2,11 +2,11 @@
 
 use crate::board::{Board, Exits};
 use crate::edges::{Edges, Kinds, fits, state_of, takes};
-use crate::form::{Form, NONE, Node, Shape};
+use crate::form::{Form, NONE, Node, Shape, Side};
 use crate::levels::Levels;
 use crate::numbers::Numbers;
 use crate::order::Order;
-use crate::scale::{PRIORITIES, Scale};
+use crate::scale::{PRIORITIES, Scale, ZERO};
 use game::build::label_sets;
 use normal::form::Normal;
 use std::alloc::{AllocError, Global};
@@ -24,10 +24,11 @@ enum Falls {
 
 /// A component whose values are known.
 #[derive(Clone, Copy)]
-pub(crate) struct Part {
-    pub(crate) root: u32,
+pub struct Component {
+    root: u32,
     /// One past its last node.
-    pub(crate) end: u32,
+    end: u32,
+    nodes: u32,
     falls: Falls,
     /// How far nodes are at most from the binders below them, and one more.
     turns: u32,
@@ -47,29 +48,34 @@ struct Binders {
 /// Guesses of values, with moves and ranks, for each node and state of some components, bottom up.
 #[derive(Drop)]
 pub struct Whole<'a> {
-    pub(crate) lts: &'a Lts,
-    pub(crate) board: Board,
-    pub(crate) parts: Vec<Part>,
+    lts: &'a Lts,
+    board: Board,
+    parts: Vec<Component>,
     /// For the root of each component its place among the parts.
     places: Numbers,
 }
 
-// How many vertices of each priority the game of a system and a normal form has: one for each state and node, and two that are won.
-fn vertices(lts: &Lts, normal: &Normal) -> [u32; PRIORITIES] {
+// How many vertices of each priority the game on a side has: one for each state and node, and two that are won.
+fn vertices(lts: &Lts, normal: &Normal, side: Side) -> [u32; PRIORITIES] {
     let mut counts = [0_u32; PRIORITIES];
-    counts[0] = 1;
-    counts[1] = 1;
+    for priority in 0..2 {
+        add_vertices(&mut counts, priority, side, 1);
+    }
     for node in normal.nodes() {
-        if let Some(count) = counts.get_mut(node.priority as usize) {
-            *count = count.saturating_add(lts.states());
-        }
+        add_vertices(&mut counts, node.priority, side, lts.states());
     }
     counts
 }
 
-// Whether some count can go above one, where there are so many vertices of each priority.
-fn can_climb(vertices: &[u32; PRIORITIES]) -> bool {
-    (0..PRIORITIES / 2).any(|half| vertices[2 * half + 1] > 1)
+// Counts so many more vertices that have this priority in the game itself.
+fn add_vertices(counts: &mut [u32; PRIORITIES], own: u32, side: Side, more: u32) {
+    let priority = match side {
+        Side::Own => own,
+        Side::Dual => own.saturating_add(1),
+    };
+    if let Some(count) = counts.get_mut(priority as usize) {
+        *count = count.saturating_add(more);
+    }
 }
 
 /// A board for the nodes of a normal form at the states of a system. There is none where states or kinds of labels are too many.
@@ -77,6 +83,7 @@ pub(crate) fn board_of(
     alloc: Global,
     lts: &Lts,
     normal: &Normal,
+    side: Side,
     scale: Scale,
     exits: Exits,
 ) -> Result<Option<Board>, Memory> {
@@ -88,7 +95,7 @@ pub(crate) fn board_of(
         return Ok(None);
     };
     let forth = Edges::forth(alloc, lts, &kinds)?;
-    let form = Form::of(alloc, normal, &kinds)?;
+    let form = Form::of(alloc, normal, &kinds, side)?;
     let board = Board::new(alloc, lts.states(), forth, form, scale, exits)?;
     Ok(Some(board))
 }
@@ -133,7 +140,7 @@ fn is_nested(form: &Form, root: u32, binders: Binders) -> bool {
 }
 
 // Finds the values of a component. The answer is nothing where they are not found.
-fn solve(alloc: Global, levels: &mut Levels, root: u32) -> Result<Option<Part>, Memory> {
+fn solve(alloc: Global, levels: &mut Levels, root: u32) -> Result<Option<Component>, Memory> {
     let binders = survey(&levels.board.form, root);
     let greatest = binders.greatest;
     let falls = match (binders.nodes, binders.odd, binders.even) {
@@ -161,16 +168,35 @@ fn solve(alloc: Global, levels: &mut Levels, root: u32) -> Result<Option<Part>, 
             }
         }
     };
-    Ok(Some(Part {
+    if levels.board.form.side == Side::Dual && binders.nodes > 1 {
+        levels.board.count_steps(alloc, root)?;
+    }
+    Ok(Some(Component {
         root,
         end: binders.end,
+        nodes: binders.nodes,
         falls,
         turns: binders.turns,
     }))
 }
 
+// Finds the values of all components bottom up, up to the first that takes too long.
+fn solve_all(alloc: Global, levels: &mut Levels) -> Result<Vec<Component>, Memory> {
+    let mut parts = Vec::new(alloc);
+    for root in (0..levels.board.form.count()).rev() {
+        if levels.board.form.root(root) != root {
+            continue;
+        }
+        match solve(alloc, levels, root)? {
+            Some(part) => parts.push(part)?,
+            None => break,
+        }
+    }
+    Ok(parts)
+}
+
 // For the root of each component, of so many nodes, its place among the parts.
-fn places(alloc: Global, nodes: u32, parts: &[Part]) -> Result<Numbers, AllocError> {
+fn places(alloc: Global, nodes: u32, parts: &[Component]) -> Result<Numbers, AllocError> {
     let mut places = Numbers::filled(alloc, NONE, nodes as usize)?;
     for (place, part) in (0..NONE).zip(parts) {
         places.set(part.root, place);
@@ -178,35 +204,67 @@ fn places(alloc: Global, nodes: u32, parts: &[Part]) -> Result<Numbers, AllocErr
     Ok(places)
 }
 
+/// Which values are meant.
+#[derive(Clone, Copy, PartialEq, Eq)]
+pub enum Steps {
+    /// The values of the table.
+    Counted,
+    /// Those without steps, from which they are found where the dual is guessed.
+    LeftOut,
+}
+
+/// A node of a component at a state.
+#[derive(Clone, Copy)]
+pub struct Position {
+    pub part: Component,
+    pub number: u32,
+    pub state: u32,
+}
+
+impl Component {
+    /// The number of its first node, and one past that of its last.
+    pub fn ends(self) -> (u32, u32) {
+        (self.root, self.end)
+    }
+
+    // Whether a play can come back to it.
+    fn is_cyclic(self) -> bool {
+        self.nodes > 1
+    }
+}
+
 impl<'a> Whole<'a> {
     /// Guesses the least progress table of the game of a system and a normal form. It stops at the first component that takes
-    /// too long. There is nothing to guess where measures don't fit a word, nor where no count can climb: lifting takes no time
-    /// there.
+    /// too long. There is nothing to guess where measures don't fit a word.
     ///
     /// # Errors
     /// Want of memory, and nothing else.
     pub fn of(alloc: Global, lts: &'a Lts, normal: &Normal) -> Result<Option<Self>, Memory> {
-        let vertices = vertices(lts, normal);
-        let Some(scale) = Scale::of(&vertices) else {
+        Whole::on(alloc, lts, normal, Side::Own)
+    }
+
+    /// The same of the dual of that game.
+    ///
+    /// # Errors
+    /// Want of memory, and nothing else.
+    pub fn of_dual(alloc: Global, lts: &'a Lts, normal: &Normal) -> Result<Option<Self>, Memory> {
+        Whole::on(alloc, lts, normal, Side::Dual)
+    }
+
+    fn on(
+        alloc: Global,
+        lts: &'a Lts,
+        normal: &Normal,
+        side: Side,
+    ) -> Result<Option<Self>, Memory> {
+        let Some(scale) = Scale::of(&vertices(lts, normal, side)) else {
             return Ok(None);
         };
-        if !can_climb(&vertices) {
-            return Ok(None);
-        }
-        let Some(board) = board_of(alloc, lts, normal, scale, Exits::Values)? else {
+        let Some(board) = board_of(alloc, lts, normal, side, scale, Exits::Values)? else {
             return Ok(None);
         };
         let mut levels = Levels::new(alloc, board)?;
-        let mut parts = Vec::new(alloc);
-        for root in (0..levels.board.form.count()).rev() {
-            if levels.board.form.root(root) != root {
-                continue;
-            }
-            match solve(alloc, &mut levels, root)? {
-                Some(part) => parts.push(part)?,
-                None => break,
-            }
-        }
+        let parts = solve_all(alloc, &mut levels)?;
         let places = places(alloc, levels.board.form.count(), &parts)?;
         Ok(Some(Whole {
             lts,
@@ -216,19 +274,66 @@ impl<'a> Whole<'a> {
         }))
     }
 
+    /// The components that are known.
+    pub fn parts(&self) -> &[Component] {
+        &self.parts
+    }
+
+    /// How many states the system has.
+    pub fn states(&self) -> u32 {
+        self.lts.states()
+    }
+
+    /// How many nodes the normal form has.
+    pub fn nodes(&self) -> u32 {
+        self.board.form.count()
+    }
+
+    /// Whether the dual is guessed.
+    pub fn is_dual(&self) -> bool {
+        self.board.form.side == Side::Dual
+    }
+
+    /// The vertex that Even wins whatever happens, and the one that Odd wins.
+    pub fn ends(&self) -> (u32, u32) {
+        match self.board.form.side {
+            Side::Own => (0, 1),
+            Side::Dual => (1, 0),
+        }
+    }
+
+    /// Whether a node is one of a component.
+    pub fn has(&self, part: Component, number: u32) -> bool {
+        self.board.form.root(number) == part.root
+    }
+
+    /// The group of a component: what lies below it has a smaller one, and the last two vertices have zero.
+    pub fn group(&self, part: Component) -> u32 {
+        self.board.form.count().saturating_sub(part.root)
+    }
+
     /// The component of a node, if its values are known.
-    pub(crate) fn part_of(&self, number: u32) -> Option<Part> {
+    pub fn part_of(&self, number: u32) -> Option<Component> {
         let place = self.places.get(self.board.form.root(number));
         self.parts.get(place as usize).copied()
     }
 
-    /// The value of a node at a state.
-    pub(crate) fn value(&self, number: u32, state: u32) -> u64 {
-        self.board.value(self.board.form.real(number), state)
+    /// The value of a node at a state, as a word.
+    pub fn value(&self, number: u32, state: u32, steps: Steps) -> u64 {
+        match (self.board.form.side, steps) {
+            (Side::Own, _) => self.board.value(self.board.form.real(number), state),
+            (Side::Dual, Steps::Counted) => self.board.value(number, state),
+            (Side::Dual, Steps::LeftOut) => self.board.plain_value(number, state),
+        }
+    }
+
+    /// The counts of a word.
+    pub fn counts_into(&self, word: u64, counts: &mut [u32]) {
+        self.board.scale.counts_into(word, counts);
     }
 
     // The rank of a node at a state, as two numbers.
-    fn rank(&self, part: Part, number: u32, state: u32) -> (u32, u32) {
+    fn rank(&self, part: Component, number: u32, state: u32) -> (u32, u32) {
         let real = self.board.form.real(number);
         let height = self.board.form.height(number);
         match part.falls {
@@ -242,47 +347,93 @@ impl<'a> Whole<'a> {
         }
     }
 
-    // Whether Odd may go on to this child: its value is as great, and the rank falls.
-    fn leads(&self, part: Part, number: u32, state: u32, child: u32, target: u32) -> bool {
-        let is_inside = self.board.form.root(child) == part.root;
-        let value = self.value(number, state);
-        let falls = || self.rank(part, child, target) < self.rank(part, number, state);
-        self.value(child, target) >= value && (!is_inside || falls())
+    // Whether Odd may go on from a position to this child: its value asks for that of the position, and ranks fall inside a component, but for
+    // steps, by which values fall.
+    fn leads(&self, at: Position, steps: Steps, child: u32, target: u32) -> bool {
+        let Position {
+            part,
+            number,
+            state,
+        } = at;
+        let form = &self.board.form;
+        let asked = match steps {
+            Steps::Counted => {
+                let value = self.value(child, target, steps);
+                self.board.scale.prog(form.node(number).priority, value)
+            }
+            Steps::LeftOut => self.value(child, target, steps),
+        };
+        let falls = || form.root(child) != part.root
+            || self.counts_steps(steps)
+            || self.rank(part, child, target) < self.rank(part, number, state);
+        asked >= self.value(number, state, steps) && falls()
+    }
+
+    // Whether values have steps.
+    fn counts_steps(&self, steps: Steps) -> bool {
+        self.is_dual() && steps == Steps::Counted
     }
 
     /// Where Odd goes on, as a vertex.
-    pub(crate) fn next(&self, part: Part, number: u32, state: u32) -> u32 {
+    pub fn next(&self, at: Position, steps: Steps) -> u32 {
+        let Position { number, state, .. } = at;
         let node = self.board.form.node(number);
+        let (won, lost) = self.ends();
         match node.shape {
-            Shape::And if self.leads(part, number, state, node.left, state) => {
-                self.vertex(node.left, state)
-            }
+            Shape::And if self.leads(at, steps, node.left, state) => self.vertex(node.left, state),
             Shape::And => self.vertex(node.right, state),
-            Shape::Box => self.next_step(part, number, node, state),
-            _ => 0,
+            Shape::Box => self.next_step(at, steps, node),
+            Shape::Binder | Shape::Variable => self.vertex(node.left, state),
+            Shape::False => lost,
+            _ => won,
         }
     }
 
-    fn next_step(&self, part: Part, number: u32, node: Node, state: u32) -> u32 {
-        for edge in self.board.forth.row(state) {
+    fn next_step(&self, at: Position, steps: Steps, node: Node) -> u32 {
+        for edge in self.board.forth.row(at.state) {
             let target = state_of(*edge);
-            if takes(node.mask, *edge) && self.leads(part, number, state, node.left, target) {
+            if takes(node.mask, *edge) && self.leads(at, steps, node.left, target) {
                 return self.vertex(node.left, target);
             }
         }
-        0
+        let (won, _) = self.ends();
+        won
+    }
+
+    /// What is to be claimed at a position, as a word; zero where nothing is. In the dual the values of a cycle are claimed without steps first.
+    pub fn claimed(&self, at: Position, steps: Steps) -> u64 {
+        let word = self.value(at.number, at.state, steps);
+        if !self.is_dual() {
+            return word;
+        }
+        let is_sooner = match steps {
+            Steps::LeftOut => !at.part.is_cyclic(),
+            Steps::Counted => {
+                at.part.is_cyclic() && self.value(at.number, at.state, Steps::LeftOut) == word
+            }
+        };
+        if is_sooner { ZERO } else { word }
+    }
+
+    /// Writes the rank of what is claimed. Steps have ranks of zeros: their values fall.
+    pub fn claimed_rank_into(&self, at: Position, steps: Steps, rank: &mut [u32]) {
+        if self.counts_steps(steps) {
+            rank.fill(0);
+        } else {
+            self.rank_into(at, rank);
+        }
     }
 
     /// The vertex of a node at a state.
-    pub(crate) fn vertex(&self, number: u32, state: u32) -> u32 {
+    pub fn vertex(&self, number: u32, state: u32) -> u32 {
         let first = state.wrapping_mul(self.board.form.count());
         first.wrapping_add(number).wrapping_add(2)
     }
 
-    /// Writes the rank of a node at a state.
-    pub(crate) fn rank_into(&self, part: Part, number: u32, state: u32, rank: &mut [u32]) {
-        let (time, height) = self.rank(part, number, state);
-        let half = match part.falls {
+    /// Writes the rank at a position.
+    pub fn rank_into(&self, at: Position, rank: &mut [u32]) {
+        let (time, height) = self.rank(at.part, at.number, at.state);
+        let half = match at.part.falls {
             Falls::Heights => 0,
             Falls::Times(priority) | Falls::Both(priority) => usize::from(priority) / 2,
         };

@@ -190,53 +190,62 @@ fn the_empty_text_is_a_schedule(rt: HostRuntime) {
     assert!(rt; text.as_str() == wanted);
 }
 
+// Events that one worker can't do at first: it has no vertex in hand, there is no second worker, and the game has six vertices.
+const NOT_YET: [Event; 5] = [
+    Event::Read {
+        worker: 0,
+        vertex: 1,
+    },
+    Event::Raise { worker: 0 },
+    Event::Push {
+        worker: 0,
+        vertex: 1,
+    },
+    Event::Take {
+        worker: 1,
+        vertex: 4,
+    },
+    Event::Take {
+        worker: 0,
+        vertex: 6,
+    },
+];
+
+// A worker takes the fourth vertex, and can then neither take another one nor read one that isn't a successor.
+const TAKEN: [(Event, Outcome); 3] = [
+    (
+        Event::Take {
+            worker: 0,
+            vertex: 4,
+        },
+        Outcome::Done,
+    ),
+    (
+        Event::Take {
+            worker: 0,
+            vertex: 5,
+        },
+        Outcome::Skipped,
+    ),
+    (
+        Event::Read {
+            worker: 0,
+            vertex: 0,
+        },
+        Outcome::Skipped,
+    ),
+];
+
 #[test]
 fn events_that_cannot_be_done_are_skipped(rt: HostRuntime) {
     let game = game_of(&rt, &STEP).expect(&rt, "a game");
     let mut core = Core::new(rt.alloc(), &game, 1).expect(&rt, "memory");
-    let skipped = [
-        Event::Read {
-            worker: 0,
-            vertex: 1,
-        },
-        Event::Raise { worker: 0 },
-        Event::Push {
-            worker: 0,
-            vertex: 1,
-        },
-        Event::Take {
-            worker: 1,
-            vertex: 4,
-        },
-        Event::Take {
-            worker: 0,
-            vertex: 6,
-        },
-    ];
-    for event in skipped {
+    for event in NOT_YET {
         assert_eq!(rt; core.step(event), Outcome::Skipped);
     }
-    assert_eq!(rt;
-        core.step(Event::Take {
-            worker: 0,
-            vertex: 4
-        }),
-        Outcome::Done
-    );
-    assert_eq!(rt;
-        core.step(Event::Take {
-            worker: 0,
-            vertex: 5
-        }),
-        Outcome::Skipped
-    );
-    assert_eq!(rt;
-        core.step(Event::Read {
-            worker: 0,
-            vertex: 0
-        }),
-        Outcome::Skipped
-    );
+    for (event, outcome) in TAKEN {
+        assert_eq!(rt; core.step(event), outcome);
+    }
     assert!(rt; !core.is_pending(4) && core.is_pending(5));
 }
 

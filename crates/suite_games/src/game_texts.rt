@@ -9,7 +9,7 @@ use pgsolver::{read_game, write_game};
 use samples::games::{Row, game_of};
 use samples::readers::{Halting, Slow};
 use samples::texts::{form_of, repeated, system_of};
-use samples::writers::{AMPLE, AtEnd, Narrow};
+use samples::writers::{AtEnd, Narrow};
 use std::alloc::{AllocError, Global};
 use std::io::Read;
 use std::process::Abort;
@@ -22,8 +22,11 @@ fn shown<R: Read + Drop>(alloc: Global, reader: R) -> Result<String, AllocError>
     }
 }
 
+// How much is written of a game at most.
+const MOST_WRITTEN: usize = 8192;
+
 fn text_of(alloc: Global, game: &Game) -> Result<String, AllocError> {
-    let mut out = Narrow::new(alloc, 8192, AMPLE);
+    let mut out = Narrow::ready(alloc, MOST_WRITTEN)?;
     let fault = write_game(game, &mut out).is_err();
     match String::from_utf8(out.taken) {
         Ok(text) if !fault => Ok(text),

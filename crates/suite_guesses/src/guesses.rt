@@ -5,9 +5,10 @@ ghost use Rattle.std.specs.Prelude.{◌≡◌, ◌<◌, ◌≤◌, IfOk};
 
 use crate::random_games::{is_same, lifted_alone};
 use calculus::closed::Closed;
+use claims::claimed::Claims;
 use game::build::build;
+use game::dual::{dual, greatest_priority};
 use game::graph::Game;
-use guess::whole::Whole;
 use lts::Lts;
 use measures::claim::Claim;
 use measures::guess::{Guess, jump_to_guess, solve_one_by};
@@ -18,6 +19,7 @@ use measures::proposal::Proposal;
 use measures::settle::{is_settled, settle};
 use measures::table::opening;
 use normal::form::Normal;
+use normal::limits::GREATEST_PRIORITY;
 use normal::make::normal;
 use samples::dice::Dice;
 use samples::texts::{formula_of, system_of};
@@ -35,6 +37,9 @@ const VARIABLES: [&str; 4] = ["W", "X", "Y", "Z"];
 const QUESTIONS: u32 = 40;
 
 const LEAST_WHOLE: u32 = 32;
+
+// The same of duals.
+const LEAST_WHOLE_DUALS: u32 = 32;
 
 // How many are guessed wrongly, and how many wrong guesses at least aren't accepted whole.
 const WRONG_QUESTIONS: u32 = 10;
@@ -190,27 +195,25 @@ struct Ended {
 }
 
 // The table that is guessed has to be as lifting leaves it.
-fn ends_alike(rt: &(impl Abort + AllocGlobal), question: &Question) -> Option<Ended> {
-    let Question {
-        lts,
-        form,
-        game,
-        ..
-    } = question;
-    let guess = Whole::of(rt.alloc(), lts, form).expect(rt, "memory")?;
+fn ends_alike(rt: &(impl Abort + AllocGlobal), game: &Game, guess: &Claims<'_>) -> Ended {
     let mut table = opening(rt.alloc(), game).expect(rt, "memory");
-    let accepted = jump_to_guess(rt.alloc(), game, &mut table, &guess).expect(rt, "memory");
+    let accepted = jump_to_guess(rt.alloc(), game, &mut table, guess).expect(rt, "memory");
     let whole = is_settled(game, &table);
     settle(game, &mut table);
-    let solved = solve_one_by(rt.alloc(), game, &guess, &Silent).expect(rt, "memory");
+    let solved = solve_one_by(rt.alloc(), game, guess, &Silent).expect(rt, "memory");
     let lifted = lifted_alone(rt.alloc(), game).expect(rt, "memory");
     assert!(rt; is_same(game, &solved, &lifted) && is_same(game, &solved, &table));
-    let guessed = guess.parts();
-    Some(Ended {
-        guessed,
+    Ended {
+        guessed: guess.parts(),
         accepted,
         whole,
-    })
+    }
+}
+
+// Whether nothing is left to lift. All that is guessed is accepted.
+fn is_whole(rt: &impl Abort, ended: Ended) -> bool {
+    assert_eq!(rt; ended.accepted, ended.guessed);
+    ended.whole
 }
 
 #[test]
@@ -219,16 +222,48 @@ fn guesses_and_lifting_alone_end_alike(rt: HostRuntime) {
     let mut whole = 0_u32;
     for _ in 0..QUESTIONS {
         let states = 1 + dice.roll(20);
-        let question = roll_question(&rt, &mut dice, states);
-        let Some(ended) = ends_alike(&rt, &question) else {
+        let Question {
+            lts,
+            form,
+            game,
+            ..
+        } = roll_question(&rt, &mut dice, states);
+        let guess = Claims::of(rt.alloc(), &lts, &form).expect(&rt, "memory");
+        let Some(guess) = guess else {
             continue;
         };
-        assert_eq!(rt; ended.accepted, ended.guessed);
-        if ended.whole {
+        if is_whole(&rt, ends_alike(&rt, &game, &guess)) {
             whole = whole.saturating_add(1);
         }
     }
     assert!(rt; whole >= LEAST_WHOLE, "{whole}");
+}
+
+// The dual of a game, where its priorities fit.
+fn dual_of(rt: &(impl Abort + AllocGlobal), game: &Game) -> Option<Game> {
+    if greatest_priority(game) > GREATEST_PRIORITY {
+        return None;
+    }
+    Some(dual(rt.alloc(), game).expect(rt, "memory"))
+}
+
+#[test]
+fn guesses_of_duals_and_lifting_alone_end_alike(rt: HostRuntime) {
+    let mut dice = Dice::new(17);
+    let mut whole = 0_u32;
+    for _ in 0..QUESTIONS {
+        let states = 1 + dice.roll(20);
+        let question = roll_question(&rt, &mut dice, states);
+        let guess = Claims::of_dual(rt.alloc(), &question.lts, &question.form);
+        let guess = guess.expect(&rt, "memory");
+        let (Some(turned), Some(guess)) = (dual_of(&rt, &question.game), guess) else {
+            continue;
+        };
+        if is_whole(&rt, ends_alike(&rt, &turned, &guess)) {
+            whole = whole.saturating_add(1);
+        }
+    }
+    assert!(rt; whole >= LEAST_WHOLE_DUALS, "{whole}");
 }
 
 // What is wrong with a guess.
@@ -245,7 +280,7 @@ const FAULTS: [Fault; 4] = [Fault::Value, Fault::Rank, Fault::Move, Fault::Compo
 /// A guess with a fault at a vertex, or at all vertices of each component.
 #[derive(Drop)]
 struct Wrong<'g> {
-    guess: &'g Whole<'g>,
+    guess: &'g Claims<'g>,
     fault: Fault,
     vertex: u32,
 }
@@ -328,7 +363,7 @@ fn changes_nothing(rt: &(impl Abort + AllocGlobal), question: &Question, vertex:
         game,
         ..
     } = question;
-    let Some(guess) = Whole::of(rt.alloc(), lts, form).expect(rt, "memory") else {
+    let Some(guess) = Claims::of(rt.alloc(), lts, form).expect(rt, "memory") else {
         return 0;
     };
     let lifted = lifted_alone(rt.alloc(), game).expect(rt, "memory");

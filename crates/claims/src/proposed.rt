@@ -4,57 +4,46 @@ ghost use Rattle.std.specs.Prelude.{◌≡◌, length};
 ghost use Rattle.game.specs.Game.{dual};
 ghost use Rattle.progress.specs.Measure.{components};
 
-use crate::scale::{TOP, ZERO};
-use crate::whole::{Part, Whole};
+use crate::claimed::{Claims, MOST_RANKS};
 use game::graph::Game;
+use guess::scale::{TOP, ZERO};
+use guess::whole::{Position, Steps};
 use progress::measure::COMPONENTS;
 use progress::proposal::Proposal;
 
-// How many counts a rank has at most.
-const MOST_RANKS: usize = 17;
-
-// The vertex of a play that Even has lost.
-const LOST: u32 = 1;
-
-impl Whole<'_> {
+impl Claims<'_> {
     // Whether each component's values are known.
     fn is_whole(&self) -> bool {
-        self.parts.iter().any(|part| part.root == 0)
+        self.whole.part_of(0).is_some()
     }
 
-    // The group of a component: what lies below it has a smaller one, and the sinks have zero.
-    fn group(&self, part: Part) -> u32 {
-        self.board.form.count().saturating_sub(part.root)
-    }
-
-    // Proposes the value of a node at a state. The answer is whether it is a measure of the game.
+    // Proposes the value at a position. The answer is whether it is a measure of the game.
     fn propose_at(
         &self,
         game: &Game,
         proposal: &mut Proposal,
-        part: Part,
-        number: u32,
-        state: u32,
+        at: Position,
         rank: &mut [u32],
     ) -> bool
         requires same { proposal.old.game ≡ game.now }
         requires rank { length rank.old ≡ length (components (dual game.now)) }
         ensures { proposal.new.game ≡ game.now }
     {
-        let word = self.value(number, state);
-        let v = self.vertex(number, state);
+        let word = self.whole.value(at.number, at.state, Steps::Counted);
+        let v = self.whole.vertex(at.number, at.state);
         if word == ZERO || v >= game.vertices() {
             return word == ZERO;
         }
-        self.rank_into(part, number, state, rank);
+        let group = self.whole.group(at.part);
+        self.whole.rank_into(at, rank);
         if word == TOP {
-            proposal.put_top(v, self.group(part), rank);
+            proposal.put_top(v, group, rank);
             return true;
         }
         let mut counts = [0; COMPONENTS];
         let width = proposal.width().min(COMPONENTS);
-        self.board.scale.counts_into(word, &mut counts[..width]);
-        proposal.put_counts(v, self.group(part), &counts[..width], rank)
+        self.whole.counts_into(word, &mut counts[..width]);
+        proposal.put_counts(v, group, &counts[..width], rank)
     }
 
     // Proposes the values of all nodes at a state. The answer is whether they are known, and are measures of the game.
@@ -69,11 +58,16 @@ impl Whole<'_> {
         requires rank { length rank.old ≡ length (components (dual game.now)) }
         ensures { proposal.new.game ≡ game.now }
     {
-        for number in 0..self.board.form.count() {
-            let Some(part) = self.part_of(number) else {
+        for number in 0..self.whole.nodes() {
+            let Some(part) = self.whole.part_of(number) else {
                 return false;
             };
-            if !self.propose_at(game, proposal, part, number, state, rank) {
+            let at = Position {
+                part,
+                number,
+                state,
+            };
+            if !self.propose_at(game, proposal, at, rank) {
                 return false;
             }
         }
@@ -87,7 +81,7 @@ impl Whole<'_> {
         requires rank { length rank.old ≡ length (components (dual game.now)) }
         ensures { proposal.new.game ≡ game.now }
     {
-        for state in 0..self.lts.states() {
+        for state in 0..self.whole.states() {
             if !self.propose_state(game, proposal, state, rank) {
                 return false;
             }
@@ -102,10 +96,11 @@ impl Whole<'_> {
     {
         let width = proposal.rank_width();
         let mut rank = [0; MOST_RANKS];
-        if width > MOST_RANKS || game.vertices() <= LOST || !self.is_whole() {
+        let (_, lost) = self.whole.ends();
+        if width > MOST_RANKS || game.vertices() <= lost || !self.is_whole() {
             return false;
         }
-        proposal.put_top(LOST, 0, &rank[..width]);
+        proposal.put_top(lost, 0, &rank[..width]);
         self.propose_states(game, proposal, &mut rank[..width])
     }
 }

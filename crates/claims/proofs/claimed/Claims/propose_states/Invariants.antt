@@ -1,5 +1,5 @@
 use Rattle.std.proofs.Common.{◌≡◌}
-use Rattle.guess.proofs.whole.Whole.propose_states.Given as goal
+use Rattle.claims.proofs.claimed.Claims.propose_states.Given as goal
 
 abbrev pub invariant-loop-state : goal.invariant-loop-state
 invariant-loop-state l = l.proposal.game ≡ l.game
