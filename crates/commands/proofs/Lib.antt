@@ -3,5 +3,3 @@ mod Marked
 mod Judged
 mod Replayed
 mod Solving
-mod Tables
-mod Asked

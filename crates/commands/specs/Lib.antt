@@ -1,8 +1,3 @@
-pub mod Command
-pub mod CommandLine
-pub mod Names
-pub mod Named
-pub mod Parsers
 pub mod Spelled
 pub mod Prints
 pub mod Winners
@@ -10,4 +5,3 @@ pub mod Solves
 pub mod Verifies
 pub mod Example
 pub mod Replays
-pub mod Inputs

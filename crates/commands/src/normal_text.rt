@@ -5,12 +5,12 @@ ghost use Rattle.calculus.specs.Closed.{closed_formula};
 ghost use Rattle.requests.specs.Texts.{IsFormulaOf};
 ghost use Rattle.commands.specs.Prints.{Answers, Prints};
 
-use crate::request::Normalize;
 use calculus::closed::Closed;
 use normal::make::normal_with;
 use normal::printer::print_normal;
 use normal::priorities::Priorities;
 use requests::error::MuError;
+use requests::request::Normalize;
 use requests::texts::read_formula;
 use std::alloc::Global;
 use std::io::{Read, Write};

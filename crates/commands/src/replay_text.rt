@@ -11,7 +11,6 @@ ghost use Rattle.requests.specs.Check.{IsArenaOf};
 ghost use Rattle.commands.specs.Replays.{Answers, IsUnread, Replays, nested_game};
 ghost use Rattle.commands.specs.Spelled.{IsScheduleOf};
 
-use crate::request::Replay;
 use game::graph::Game;
 use liftcore::error::{CoreError, ReadError, ScheduleError};
 use liftcore::event::Event;
@@ -21,6 +20,7 @@ use liftcore::writer::write_replay;
 use normal::priorities::Priorities;
 use requests::arena::arena_of;
 use requests::error::MuError;
+use requests::request::Replay;
 use requests::texts::{Texts, read_both};
 use std::alloc::Global;
 use std::io::{Read, Write};

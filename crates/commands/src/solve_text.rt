@@ -13,7 +13,6 @@ ghost use Rattle.commands.specs.Solves.{Answers, IsTextOf, Solves, solve_writers
 ghost use Rattle.commands.specs.Winners.{AreWinners, winners_text as text_of};
 ghost use Rattle.game.specs.Game.{Game};
 
-use crate::request::Solve;
 use crate::solution::{evidence_by, winners_by};
 use crate::winner_text::{even_marks, winners_text};
 use certify::pair::EvidencePair;
@@ -23,7 +22,7 @@ use lts::{WriteFault, put};
 use measures::observer::{Observer, Silent, Stage};
 use pgsolver::read_game;
 use requests::error::MuError;
-use requests::request::Options;
+use requests::request::{Options, Solve};
 use std::alloc::Global;
 use std::io::{Read, Write};
 use std::sync::{Arc, Wait};

@@ -2,11 +2,11 @@
 
 use crate::files::{Files, evidence_names};
 use crate::input::{Counted, open};
-use crate::line::{Line, Output};
+use crate::line::{Output, ProgressLine};
 use crate::refusal::Refusal;
 use crate::same::keep_apart;
 use crate::stats::Stats;
-use commands::request::Outputs;
+use command_line::request::Outputs;
 use engines::engine::check_asked;
 use engines::error::MuError;
 use engines::request::{Check, ReportForm};
@@ -27,7 +27,7 @@ pub fn run_check<T: Threads + Wait + Clock + Clone + Copy + Drop + Send + Sync +
     let system = open(rt, request.system)?;
     let formula = open(rt, request.formula)?;
     let files = Files::new(rt, outputs.game, names, outputs.witness);
-    let line = Line::new(*rt, threads, stats_of(request, outputs), None);
+    let line = ProgressLine::new(*rt, threads, stats_of(request, outputs), None);
     let ticker = line.start();
     let report = outputs.report;
     let answer = write_files(
@@ -67,7 +67,7 @@ fn write_files<T: Threads + Wait + Clock + Clone + Copy + Drop + Send + Sync + '
     formula: Counted<'_, T>,
     files: &Files<'_>,
     report: ReportForm,
-    line: &Line<'_, T>,
+    line: &ProgressLine<'_, T>,
 ) -> Result<bool, MuError> {
     let alloc = rt.alloc();
     let wanted = files.wanted(report);

@@ -1,7 +1,7 @@
 // The files that a command writes beside its report.
 
 use crate::refusal::Refusal;
-use commands::names::{EvidenceNames, is_drawing};
+use command_line::names::{EvidenceNames, is_drawing};
 use engines::error::MuError;
 use engines::request::{ReportForm, Wanted, WitnessForm};
 use engines::writers::Writers;

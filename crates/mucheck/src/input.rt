@@ -1,8 +1,8 @@
 // The files that are read, of which one may be standard input.
 
-use crate::line::Line;
+use crate::line::ProgressLine;
 use crate::refusal::Refusal;
-use commands::inputs::is_standard_input;
+use command_line::inputs::is_standard_input;
 use std::fs::File;
 use std::io::{Read, Stdin};
 use std::{fs, io};
@@ -63,12 +63,12 @@ impl Read for Input {
 #[derive(Drop)]
 pub struct Counted<'a, T> {
     input: Input,
-    line: &'a Line<'a, T>,
+    line: &'a ProgressLine<'a, T>,
     count: u64,
 }
 
 impl<'a, T> Counted<'a, T> {
-    pub fn new(input: Input, line: &'a Line<'a, T>) -> Counted<'a, T> {
+    pub fn new(input: Input, line: &'a ProgressLine<'a, T>) -> Counted<'a, T> {
         Counted {
             input,
             line,

@@ -168,7 +168,7 @@ fn draw(rt: HostRuntime, place: &Place, is_drawn: bool, seconds: u64) -> bool {
 
 /// What a check tells while it runs.
 #[derive(Drop)]
-pub struct Line<'a, T> {
+pub struct ProgressLine<'a, T> {
     rt: HostRuntime,
     handle: &'a T,
     /// None where standard error is no terminal.
@@ -180,15 +180,23 @@ pub struct Line<'a, T> {
     name: Option<&'a str>,
 }
 
-impl<'a, T: Threads + Wait + Clock + Clone + Copy + Drop + Send + Sync + 'static> Line<'a, T> {
+impl<'a, T: Threads + Wait + Clock + Clone + Copy + Drop + Send + Sync + 'static> ProgressLine<
+    'a,
+    T,
+> {
     /// A line for a run that begins now. Where this is one of several, notes name its formula's file.
-    pub fn new(rt: HostRuntime, handle: &'a T, stats: Stats, name: Option<&'a str>) -> Line<'a, T> {
+    pub fn new(
+        rt: HostRuntime,
+        handle: &'a T,
+        stats: Stats,
+        name: Option<&'a str>,
+    ) -> ProgressLine<'a, T> {
         let place = if rt.stderr().is_terminal() {
             Arc::new(rt.alloc(), Place::new()).ok()
         } else {
             None
         };
-        Line {
+        ProgressLine {
             rt,
             handle,
             place,
@@ -206,7 +214,7 @@ impl<'a, T: Threads + Wait + Clock + Clone + Copy + Drop + Send + Sync + 'static
     }
 }
 
-impl<T> Line<'_, T> {
+impl<T> ProgressLine<'_, T> {
     /// So many bytes of the text at hand are read, of so many where that is known.
     pub fn has_bytes(&self, bytes: u64, size: Option<u64>) {
         if let Some(place) = &self.place {
@@ -215,7 +223,7 @@ impl<T> Line<'_, T> {
     }
 }
 
-impl<T: Wait> Line<'_, T> {
+impl<T: Wait> ProgressLine<'_, T> {
     /// Takes the line away for good.
     pub fn end(&self) {
         if let Some(place) = &self.place {
@@ -263,7 +271,7 @@ impl<T: Wait> Line<'_, T> {
     }
 }
 
-impl<T: Threads + Wait + Clock> Line<'_, T> {
+impl<T: Threads + Wait + Clock> ProgressLine<'_, T> {
     /// The run has ended: nothing is told any more, and the thread that wrote the line, if there was one, ends.
     pub fn finish(&self, ticker: Option<JoinHandle<()>>) {
         self.end();
@@ -274,7 +282,7 @@ impl<T: Threads + Wait + Clock> Line<'_, T> {
     }
 }
 
-impl<T: Wait + Clock> Line<'_, T> {
+impl<T: Wait + Clock> ProgressLine<'_, T> {
     /// The step begins, or goes on; what went on before has ended.
     pub fn step(&self, step: Step) {
         if let Some(place) = &self.place {
@@ -313,13 +321,13 @@ impl<T: Wait + Clock> Line<'_, T> {
     }
 }
 
-impl<T: Wait + Clock> Observer for Line<'_, T> {
+impl<T: Wait + Clock> Observer for ProgressLine<'_, T> {
     fn sees(&self, stage: Stage) {
         self.step(Step::Seen(stage));
     }
 }
 
-impl<T: Wait + Clock> Watcher for Line<'_, T> {
+impl<T: Wait + Clock> Watcher for ProgressLine<'_, T> {
     fn has_read(&self, system: &Lts, formula: &Closed) {
         if self.stats.are_told() {
             self.end_steps();
@@ -339,13 +347,13 @@ impl<T: Wait + Clock> Watcher for Line<'_, T> {
 #[derive(Drop)]
 pub struct Output<'a, T> {
     rt: HostRuntime,
-    line: &'a Line<'a, T>,
+    line: &'a ProgressLine<'a, T>,
     /// Standard output is a terminal.
     is_shown: bool,
 }
 
 impl<'a, T> Output<'a, T> {
-    pub fn new(rt: HostRuntime, line: &'a Line<'a, T>) -> Output<'a, T> {
+    pub fn new(rt: HostRuntime, line: &'a ProgressLine<'a, T>) -> Output<'a, T> {
         Output {
             rt,
             line,

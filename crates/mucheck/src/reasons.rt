@@ -1,7 +1,7 @@
 // The command `why`.
 
 use crate::input::{Counted, open};
-use crate::line::{Line, Output};
+use crate::line::{Output, ProgressLine};
 use crate::refusal::Refusal;
 use crate::stats::Stats;
 use engines::reasons::tell_why;
@@ -18,7 +18,7 @@ pub fn run_why<T: Threads + Wait + Clock + Clone + Copy + Drop + Send + Sync + '
 ) -> Result<bool, Refusal> {
     let system = open(rt, request.system)?;
     let formula = open(rt, request.formula)?;
-    let line = Line::new(*rt, threads, Stats::Nothing, None);
+    let line = ProgressLine::new(*rt, threads, Stats::Nothing, None);
     let ticker = line.start();
     let answer = tell_why(
         threads,

@@ -1,8 +1,8 @@
 // What is told of a refusal on standard error.
 
-use crate::sight::{Place, Sight, look};
-use commands::codes::entry_of;
-use commands::request::Command;
+use crate::sight::{Location, Sight, look};
+use command_line::codes::entry_of;
+use command_line::request::Command;
 use engines::error::MuError;
 use std::io;
 use std::io::ErrorKind;
@@ -183,7 +183,7 @@ fn tell_in_file(rt: &HostRuntime, code: &str, name: &str, words: Option<&str>) -
 
 /// What stands at the place that these words name in a file.
 fn look_at(rt: &HostRuntime, name: &str, words: &str) -> io::Result<Option<Sight>> {
-    match Place::in_words(words) {
+    match Location::in_words(words) {
         Some(place) => look(rt, name, place),
         None => Ok(None),
     }

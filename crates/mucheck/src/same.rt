@@ -1,10 +1,10 @@
 // The same file under two names: links, and names with other folders in front.
 
-use commands::inputs::is_standard_input;
-use commands::names::{EvidenceNames, is_device, over_game};
-use commands::request::{Outputs, Solve};
+use command_line::inputs::is_standard_input;
+use command_line::names::{EvidenceNames, is_device, over_game};
+use command_line::request::Outputs;
 use engines::error::{ArgumentError, CheckFile, MuError};
-use engines::request::{Check, ReportForm};
+use engines::request::{Check, ReportForm, Solve};
 use std::fs;
 use std::io::ErrorKind;
 use std::os::unix::fs::MetadataExt;

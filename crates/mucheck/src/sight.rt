@@ -1,7 +1,7 @@
 // The line of a text at which a refusal points. The file is read anew, up to that line and no further, and no more of it is kept than is shown.
 
-use commands::codes::{BARE_LABEL, BLANK_LINE, BYTE_ORDER_MARK};
-use commands::inputs::is_standard_input;
+use command_line::codes::{BARE_LABEL, BLANK_LINE, BYTE_ORDER_MARK};
+use command_line::inputs::is_standard_input;
 use std::alloc::Global;
 use std::fs::File;
 use std::io::{BufRead, BufReader, Read, Seek, SeekFrom, Write};
@@ -24,21 +24,21 @@ const MARK: &[u8] = b"\xef\xbb\xbf";
 
 /// Where a refusal points.
 #[derive(Clone, Copy)]
-pub enum Place {
+pub enum Location {
     /// A line, from 1.
     Line(usize),
     /// A byte, from 0.
     Offset(usize),
 }
 
-impl Place {
+impl Location {
     /// The place that a refusal's line names behind its code.
-    pub fn in_words(words: &str) -> Option<Place> {
+    pub fn in_words(words: &str) -> Option<Location> {
         let (kind, number) = words.split_once(" ")?;
         let number = number.parse::<usize>().ok()?;
         match kind {
-            "line" => Some(Place::Line(number)),
-            "offset" => Some(Place::Offset(number)),
+            "line" => Some(Location::Line(number)),
+            "offset" => Some(Location::Offset(number)),
             _ => None,
         }
     }
@@ -87,14 +87,14 @@ impl Sight {
 ///
 /// # Errors
 /// A read failed, or memory was refused.
-pub fn look(rt: &HostRuntime, name: &str, place: Place) -> io::Result<Option<Sight>> {
+pub fn look(rt: &HostRuntime, name: &str, place: Location) -> io::Result<Option<Sight>> {
     if is_standard_input(name) || !fs::metadata(rt, name)?.is_file() {
         return Ok(None);
     }
     let mut reader = BufReader::new(rt.alloc(), File::open(rt, name)?)?;
     match place {
-        Place::Line(line) => sight_of_line(rt.alloc(), reader, line),
-        Place::Offset(offset) => {
+        Location::Line(line) => sight_of_line(rt.alloc(), reader, line),
+        Location::Offset(offset) => {
             let start = line_with(&mut reader, offset)?;
             Ok(Some(sight_of_byte(rt.alloc(), reader, start, offset)?))
         }

@@ -2,12 +2,12 @@
 
 use crate::files::{Files, evidence_names};
 use crate::input::{Counted, open};
-use crate::line::{Line, Output};
+use crate::line::{Output, ProgressLine};
 use crate::refusal::Refusal;
 use crate::same::keep_game_apart;
 use crate::stats::{Stats, Step};
-use commands::request::Solve;
 use commands::solve_text::solve_asked;
+use engines::request::Solve;
 use std::sync::Wait;
 use std::thread::Threads;
 use std::time::Clock;
@@ -27,7 +27,7 @@ pub fn run_solve<T: Threads + Wait + Clock + Clone + Copy + Drop + Send + Sync +
     } else {
         Stats::Nothing
     };
-    let line = Line::new(*rt, threads, stats, None);
+    let line = ProgressLine::new(*rt, threads, stats, None);
     let ticker = line.start();
     line.step(Step::ReadingGame);
     let mut out = Output::new(*rt, &line);

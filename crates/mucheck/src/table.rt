@@ -1,7 +1,7 @@
 // The command `table`.
 
 use crate::input::{Counted, Input, open};
-use crate::line::{Line, Output};
+use crate::line::{Output, ProgressLine};
 use crate::refusal::{NO_SOURCES, Refusal, tell};
 use crate::stats::Stats;
 use engines::error::MuError;
@@ -45,7 +45,7 @@ fn read_system<T: Threads + Wait + Clock + Clone + Copy + Drop + Send + Sync + '
     name: &str,
 ) -> Result<Lts, Refusal> {
     let system = open(rt, name)?;
-    let line = Line::new(*rt, threads, Stats::Nothing, None);
+    let line = ProgressLine::new(*rt, threads, Stats::Nothing, None);
     let ticker = line.start();
     line.sees(Stage::ReadingSystem);
     let read = read_aut(rt.alloc(), Counted::new(system, &line));
@@ -62,7 +62,7 @@ fn write_line<T: Threads + Wait + Clock + Clone + Copy + Drop + Send + Sync + 's
     name: &str,
     formula: Input,
 ) -> Result<u8, Refusal> {
-    let line = Line::new(*rt, threads, Stats::Nothing, Some(name));
+    let line = ProgressLine::new(*rt, threads, Stats::Nothing, Some(name));
     let ticker = line.start();
     line.sees(Stage::ReadingFormula);
     let status = table_line_seen(

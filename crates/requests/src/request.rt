@@ -1,4 +1,4 @@
-// What a check is asked for, a telling of its answer, and a table of many.
+// What commands are asked for. The files are named as on the command line.
 
 ghost use Rattle.std.specs.Prelude.{◌≡◌, ◌≤◌, ◌↔◌, None, IsTrue, false};
 
@@ -18,7 +18,7 @@ pub struct Options {
     pub ghost few_shards: { shards ≤ 256 },
 }
 
-/// A check of a formula at each state of a system. The files are named as on the command line.
+/// A check of a formula at each state of a system.
 #[derive(Clone, Copy)]
 pub struct Check<'a> {
     pub system: &'a str,
@@ -50,6 +50,41 @@ pub struct Table<'a> {
     pub plain: bool,
     /// With a refusal of each formula of which a name or a quoted label is on no transition.
     pub strict: bool,
+}
+
+/// The normal form of a formula, with the priorities of a rule.
+#[derive(Clone, Copy)]
+pub struct Normalize<'a> {
+    pub formula: &'a str,
+    pub priorities: Priorities,
+}
+
+/// Who wins each vertex of a game.
+#[derive(Clone, Copy)]
+pub struct Solve<'a> {
+    pub game: &'a str,
+    pub options: Options,
+    /// The files of Even's and of Odd's evidence, without `.even` and `.odd`.
+    pub evidence: Option<&'a str>,
+    /// Whether standard error tells of each stage.
+    pub stats: bool,
+}
+
+/// Whether evidence is good, or two pieces are and decide the whole game.
+#[derive(Clone, Copy)]
+pub struct Verify<'a> {
+    pub game: &'a str,
+    pub evidence: &'a str,
+    pub other: Option<&'a str>,
+}
+
+/// What the events of a schedule come to in the game of a system and a formula.
+#[derive(Clone, Copy)]
+pub struct Replay<'a> {
+    pub system: &'a str,
+    pub formula: &'a str,
+    pub schedule: &'a str,
+    pub workers: u32,
 }
 
 /// In which form a witness is written.

@@ -2,13 +2,13 @@
 
 use crate::common::same;
 use crate::help::HELP;
-use commands::command_line::command;
-use commands::information::{explanation, help_text, version_text};
-use commands::names::is_drawing;
-use commands::request::Command;
+use command_line::information::{explanation, help_text, version_text};
+use command_line::line::command;
+use command_line::names::is_drawing;
+use command_line::request::{Command, Outputs};
 use normal::priorities::Priorities;
 use requests::error::MuError;
-use requests::request::{BoardKind, Options, ReportForm};
+use requests::request::{BoardKind, Check, Options, ReportForm, Solve, Table, Why};
 use std::alloc::{AllocError, Global};
 use std::process::Abort;
 
@@ -52,61 +52,77 @@ fn form_of(alloc: Global, form: ReportForm) -> Result<String, AllocError> {
     }
 }
 
-/// What the words ask for.
-fn request_of(alloc: Global, words: &[String]) -> Result<String, AllocError> {
-    match command(alloc, words) {
-        Ok(Command::Check(check, outputs)) => {
-            let options = options_of(alloc, &check.options)?;
-            let (system, formula, plain) = (check.system, check.formula, check.plain);
-            let strict = if check.strict { " strict" } else { "" };
-            let game = outputs.game.unwrap_or("-");
-            let evidence = outputs.evidence.unwrap_or("-");
-            let witness = outputs.witness.unwrap_or("-");
-            let report = form_of(alloc, outputs.report)?;
-            let stats = if outputs.stats { " stats" } else { "" };
-            format!(in alloc;
-                "check {system} {formula} {options} {plain} {game} {evidence} {witness} {report}{strict}{stats}"
-            )
-        }
-        Ok(Command::Why(why)) => {
-            let options = options_of(alloc, &why.options)?;
-            let (system, formula) = (why.system, why.formula);
-            let strict = if why.strict { " strict" } else { "" };
-            format!(in alloc; "why {system} {formula} {options}{strict}")
-        }
-        Ok(Command::Table(table)) => {
-            let options = options_of(alloc, &table.options)?;
-            let (system, plain) = (table.system, table.plain);
-            let files = table.formulas.join(alloc, ",")?;
-            let strict = if table.strict { " strict" } else { "" };
-            format!(in alloc; "table {system} {files} {options} {plain}{strict}")
-        }
-        Ok(Command::Normal(form)) => {
+/// What a check asks for.
+fn check_of(alloc: Global, check: &Check<'_>, outputs: &Outputs<'_>) -> Result<String, AllocError> {
+    let options = options_of(alloc, &check.options)?;
+    let (system, formula, plain) = (check.system, check.formula, check.plain);
+    let strict = if check.strict { " strict" } else { "" };
+    let game = outputs.game.unwrap_or("-");
+    let evidence = outputs.evidence.unwrap_or("-");
+    let witness = outputs.witness.unwrap_or("-");
+    let report = form_of(alloc, outputs.report)?;
+    let stats = if outputs.stats { " stats" } else { "" };
+    format!(in alloc;
+        "check {system} {formula} {options} {plain} {game} {evidence} {witness} {report}{strict}{stats}"
+    )
+}
+
+fn why_of(alloc: Global, why: &Why<'_>) -> Result<String, AllocError> {
+    let options = options_of(alloc, &why.options)?;
+    let (system, formula) = (why.system, why.formula);
+    let strict = if why.strict { " strict" } else { "" };
+    format!(in alloc; "why {system} {formula} {options}{strict}")
+}
+
+fn table_of(alloc: Global, table: &Table<'_>) -> Result<String, AllocError> {
+    let options = options_of(alloc, &table.options)?;
+    let (system, plain) = (table.system, table.plain);
+    let files = table.formulas.join(alloc, ",")?;
+    let strict = if table.strict { " strict" } else { "" };
+    format!(in alloc; "table {system} {files} {options} {plain}{strict}")
+}
+
+fn solve_of(alloc: Global, solve: &Solve<'_>) -> Result<String, AllocError> {
+    let options = options_of(alloc, &solve.options)?;
+    let (game, evidence) = (solve.game, solve.evidence.unwrap_or("-"));
+    let stats = if solve.stats { " stats" } else { "" };
+    format!(in alloc; "solve {game} {options} {evidence}{stats}")
+}
+
+/// What a command asks for.
+fn asked_of(alloc: Global, command: &Command<'_>) -> Result<String, AllocError> {
+    match command {
+        Command::Check(check, outputs) => check_of(alloc, check, outputs),
+        Command::Why(why) => why_of(alloc, why),
+        Command::Table(table) => table_of(alloc, table),
+        Command::Normal(form) => {
             let (formula, rule) = (form.formula, rule_of(form.priorities));
             format!(in alloc; "normal {formula} {rule}")
         }
-        Ok(Command::Solve(solve)) => {
-            let options = options_of(alloc, &solve.options)?;
-            let (game, evidence) = (solve.game, solve.evidence.unwrap_or("-"));
-            let stats = if solve.stats { " stats" } else { "" };
-            format!(in alloc; "solve {game} {options} {evidence}{stats}")
-        }
-        Ok(Command::Verify(verify)) => {
+        Command::Solve(solve) => solve_of(alloc, solve),
+        Command::Verify(verify) => {
             let (game, evidence) = (verify.game, verify.evidence);
             let other = verify.other.unwrap_or("-");
             format!(in alloc; "verify {game} {evidence} {other}")
         }
-        Ok(Command::Replay(replay)) => {
+        Command::Replay(replay) => {
             let (system, formula, schedule) = (replay.system, replay.formula, replay.schedule);
             let workers = replay.workers;
             format!(in alloc; "replay {system} {formula} {schedule} {workers}")
         }
-        Ok(Command::Explain(code)) => format!(in alloc; "explain {code}"),
-        Ok(Command::Help(topic)) => {
+        Command::Explain(code) => format!(in alloc; "explain {code}"),
+        Command::Help(topic) => {
             let topic = topic.unwrap_or("-");
             format!(in alloc; "help {topic}")
         }
-        Ok(Command::Version) => String::from_str(alloc, "version"),
+        Command::Version => String::from_str(alloc, "version"),
+    }
+}
+
+/// What the words ask for.
+fn request_of(alloc: Global, words: &[String]) -> Result<String, AllocError> {
+    match command(alloc, words) {
+        Ok(command) => asked_of(alloc, &command),
         Err(error) => error.to_string(alloc),
     }
 }

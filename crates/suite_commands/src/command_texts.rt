@@ -2,7 +2,6 @@
 
 use crate::common::same;
 use commands::normal_text::{normal_asked, normal_text};
-use commands::request::Normalize;
 use commands::solve_text::solve_text;
 use commands::verify_text::{verify_both_text, verify_text};
 use fixtures::answers::shown;
@@ -12,7 +11,7 @@ use fixtures::texts::{
 };
 use normal::priorities::Priorities;
 use requests::error::MuError;
-use requests::request::{BoardKind, Options};
+use requests::request::{BoardKind, Normalize, Options};
 use samples::readers::Slow;
 use samples::texts::repeated;
 use samples::writers::{AMPLE, AtEnd, Narrow};

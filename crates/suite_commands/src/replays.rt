@@ -2,9 +2,9 @@
 
 use crate::common::same;
 use commands::replay_text::{replay_asked, replay_text};
-use commands::request::Replay;
 use fixtures::answers::shown;
 use requests::error::MuError;
+use requests::request::Replay;
 use samples::readers::Slow;
 use samples::texts::RING;
 use samples::writers::{AMPLE, AtEnd, Narrow};

@@ -1,14 +1,13 @@
 // Evidence that `solve` writes beside the winners: games that were solved by hand, and random ones. The checker of evidence has to accept both pieces
 // together, and then they decide who wins each vertex, whoever made them.
 
-use commands::request::Solve;
 use commands::solve_text::solve_asked;
 use commands::verify_text::verify_both_text;
 use fixtures::texts::{EVEN_OF_STEP, ODD_OF_STEP, STEP};
 use measures::observer::Silent;
 use normal::priorities::Priorities;
 use requests::error::MuError;
-use requests::request::{BoardKind, Options};
+use requests::request::{BoardKind, Options, Solve};
 use samples::writers::{AMPLE, AtEnd, Narrow};
 use std::alloc::Global;
 use std::process::Abort;

@@ -1,0 +1,3 @@
+mod Tables
+mod Asked
+mod Refusals

@@ -1,0 +1,12 @@
+use Rattle.std.proofs.lemmas.Result.{IfOk-weaker}
+use Rattle.command_line.specs.CommandLine.{lifting_rules}
+use Rattle.command_line.proofs.Tables.{adds_rule, adds_rules}
+use Rattle.command_line.proofs.parser.why_parser.Goals as goal
+
+pub returns : goal.returns
+returns c =
+    let system = adds_rule _ _ _ _ _ c.in_ok-arg.ensures c.file.ensures c.described.ensures in
+    let formula = adds_rule _ _ _ _ _ c.in_ok-arg-2.ensures c.file-2.ensures system in
+    let strict = adds_rule _ _ _ _ _ c.in_ok-arg-3.ensures c.flag.ensures formula in
+    let rule = adds_rule _ _ _ _ _ c.in_ok-parser.ensures c.rule.ensures strict in
+    IfOk-weaker c.with_workers.result _ _ (λ parser adds. adds_rules _ _ _ (lifting_rules c.args.boards) adds rule) c.with_workers.ensures

@@ -1,0 +1,12 @@
+use Rattle.std.proofs.Common.{refl}
+use Rattle.std.proofs.lemmas.Result.{IfOk-weaker}
+use Rattle.command_line.proofs.Tables.{adds_rule}
+use Rattle.command_line.proofs.parser.with_report.Goals as goal
+
+pub returns : goal.returns
+returns c = IfOk-weaker c.arg-4.result _ _ (λ parser added.
+    adds_rule _ _ _ _ _ added c.limit.ensures
+    (adds_rule _ _ _ _ _ c.in_ok-arg-3.ensures c.states.ensures
+    (adds_rule _ _ _ _ _ c.in_ok-arg-2.ensures c.flag.ensures
+    (adds_rule _ _ _ _ _ c.in_ok-arg.ensures c.quiet.ensures refl))))
+    c.arg-4.ensures

@@ -1,0 +1,346 @@
+-- What the words of a command line ask for: the table of commands by which they are read, and what is read of them.
+use Rattle.std.specs.Prelude.{◌≡◌, ◌<◌, ◌^◌, ℕ, Bool, false, true, List, [], ◌∷◌, ◌++◌, Option, None, Some, codes, if◌then◌else◌, map, option_map, pos}
+use Rattle.std.specs.Borrow.{Bor}
+use Rattle.std.specs.Option.{option_map_or}
+use Rattle.std.specs.Str.{bytes_eq}
+use Rattle.std.specs.Str.Parse.{IsNumeral, digits_value, without_leading_plus}
+use Rattle.clap.specs.Simple.{new_shape}
+use Rattle.clap.specs.Walk.{texts}
+use Rattle.clap.specs.Lexer.{usize_max}
+use Rattle.clap.specs.Words.{App, Row, Rule, Shape, Text, all_of, first_of, new_rule, one_of, subcommand_of, subcommand_rows_of}
+use Rattle.clap.specs.declared.builder.action.ArgAction.TheVariants as action
+use Rattle.clap.specs.declared.builder.value_parser.ValueParser.TheVariants as value_parser
+use Rattle.clap.specs.declared.parser.matches.ArgMatches.{ArgMatches}
+use Rattle.normal.specs.declared.priorities.Priorities.{Priorities}
+use Rattle.normal.specs.declared.priorities.Priorities.TheVariants.{Dependent, Nested}
+use Rattle.workers.specs.declared.team.BoardKind.{BoardKind}
+use Rattle.workers.specs.declared.team.BoardKind.TheVariants as board
+use Rattle.requests.specs.declared.error.MuError.{MuError}
+use Rattle.requests.specs.declared.error.MuError.TheVariants as error
+use Rattle.requests.specs.declared.request.Check.{Check as CheckRequest}
+use Rattle.requests.specs.declared.request.Options.{Options}
+use Rattle.requests.specs.declared.request.ReportForm.{ReportForm}
+use Rattle.requests.specs.declared.request.ReportForm.TheVariants.{Whole, Summary, States, Nothing}
+use Rattle.requests.specs.declared.request.Table.{Table as TableRequest}
+use Rattle.requests.specs.declared.request.Why.{Why as WhyRequest}
+use Rattle.command_line.specs.declared.request.Command.{Command}
+use Rattle.command_line.specs.declared.request.Command.TheVariants.{Check, Explain, Help, Normal, Replay, Solve, Table, Verify, Version, Why}
+use Rattle.requests.specs.declared.request.Normalize.{Normalize}
+use Rattle.command_line.specs.declared.request.Outputs.{Outputs}
+use Rattle.requests.specs.declared.request.Replay.{Replay as ReplayRequest}
+use Rattle.requests.specs.declared.request.Solve.{Solve as SolveRequest}
+use Rattle.requests.specs.declared.request.Verify.{Verify as VerifyRequest}
+
+-- ------------------------------------------------------------------ the table
+
+-- a file, by its place among the words
+abbrev pub file_rule : Text → Rule
+file_rule id = record (new_rule id) { required = true }
+
+-- files, by their place among the words: one at least
+abbrev pub files_rule : Text → Rule
+files_rule id = record (file_rule id) { range = Some (record { start_inclusive = 1; end_inclusive = usize_max }) }
+
+-- `--name`
+abbrev pub flag_rule : Text → Rule
+flag_rule name = record (new_rule name) { long = Some name; action = Some action.SetTrue }
+
+-- `--name` with a value
+abbrev pub value_rule : Text → Rule
+value_rule name = record (new_rule name) { long = Some name; action = Some action.Set; value_names = 1 }
+
+-- its value is a number from 1 to this one
+abbrev pub number_rule : Text → ℕ → Rule
+number_rule name most = record (value_rule name) { parser = Some (value_parser.Signed (pos 1) (pos most)) }
+
+-- names of which one is chosen
+abbrev pub Choice : Type 0
+Choice = Bor (List (Bor Text))
+
+-- its value is one of these names
+abbrev pub choice_rule : Text → Choice → Rule
+choice_rule name choice = record (value_rule name) { parser = Some (value_parser.Names choice) }
+
+-- `--quiet`, or `-q`
+abbrev pub quiet_rule : Rule
+quiet_rule = record (flag_rule (codes "quiet")) { short = Some 113 }
+
+-- `--states` with an answer, and at most how many
+abbrev pub states_rule : (answers : Choice) → Rule
+states_rule answers = choice_rule (codes "states") answers
+
+abbrev pub limit_rule : Rule
+limit_rule = number_rule (codes "limit") 4294967295
+
+-- in which form the report is written
+abbrev pub report_rules : (answers : Choice) → List Rule
+report_rules answers = quiet_rule ∷ flag_rule (codes "summary") ∷ states_rule answers ∷ limit_rule ∷ []
+
+-- how many workers lift, how many locks their board has, and which board it is
+abbrev pub workers_rule : Rule
+workers_rule = number_rule (codes "workers") 64
+
+abbrev pub shards_rule : Rule
+shards_rule = number_rule (codes "shards") 256
+
+abbrev pub board_rule : (boards : Choice) → Rule
+board_rule boards = choice_rule (codes "board") boards
+
+abbrev pub lifting_rules : (boards : Choice) → List Rule
+lifting_rules boards = workers_rule ∷ shards_rule ∷ board_rule boards ∷ []
+
+-- where the evidence goes
+abbrev pub evidence_rule : Rule
+evidence_rule = value_rule (codes "evidence")
+
+-- where the game, the evidence and the witness go
+abbrev pub output_rules : List Rule
+output_rules = value_rule (codes "game") ∷ evidence_rule ∷ value_rule (codes "witness") ∷ []
+
+-- the rule of priorities
+abbrev pub priorities_rule : (rules : Choice) → Rule
+priorities_rule rules = choice_rule (codes "priorities") rules
+
+abbrev pub check_rules : (rules boards answers : Choice) → List Rule
+check_rules rules boards answers =
+    file_rule (codes "SYSTEM") ∷ file_rule (codes "FORMULA") ∷ flag_rule (codes "plain") ∷ flag_rule (codes "strict")
+    ∷ flag_rule (codes "stats") ∷ (report_rules answers ++ (priorities_rule rules ∷ (lifting_rules boards ++ output_rules)))
+
+abbrev pub why_rules : (rules boards : Choice) → List Rule
+why_rules rules boards =
+    file_rule (codes "SYSTEM") ∷ file_rule (codes "FORMULA") ∷ flag_rule (codes "strict") ∷ priorities_rule rules ∷ lifting_rules boards
+
+abbrev pub table_rules : (rules boards : Choice) → List Rule
+table_rules rules boards =
+    file_rule (codes "SYSTEM") ∷ files_rule (codes "FORMULA") ∷ flag_rule (codes "plain") ∷ flag_rule (codes "strict") ∷ priorities_rule rules
+    ∷ lifting_rules boards
+
+abbrev pub normal_rules : (rules : Choice) → List Rule
+normal_rules rules = file_rule (codes "FORMULA") ∷ priorities_rule rules ∷ []
+
+abbrev pub solve_rules : (boards : Choice) → List Rule
+solve_rules boards = file_rule (codes "GAME") ∷ evidence_rule ∷ flag_rule (codes "stats") ∷ lifting_rules boards
+
+abbrev pub verify_rules : List Rule
+verify_rules = file_rule (codes "GAME") ∷ file_rule (codes "EVIDENCE") ∷ new_rule (codes "OTHER") ∷ []
+
+abbrev pub replay_rules : List Rule
+replay_rules = file_rule (codes "SYSTEM") ∷ file_rule (codes "FORMULA") ∷ file_rule (codes "SCHEDULE") ∷ workers_rule ∷ []
+
+abbrev pub explain_rules : List Rule
+explain_rules = file_rule (codes "CODE") ∷ []
+
+abbrev pub help_rules : List Rule
+help_rules = new_rule (codes "COMMAND") ∷ []
+
+-- a command with its arguments
+abbrev pub command_shape : (name : Text) → List Rule → Shape
+command_shape name rules = record (new_shape name) { rules = rules }
+
+-- the program without its commands: it has a version, and one of its commands has to be named
+abbrev pub top_shape : Shape
+top_shape = record (new_shape (codes "mucheck")) { has_version = true; subcommand_required = true; disable_help_subcommand = true; is_leaf = false }
+
+-- the program with its commands
+abbrev pub mucheck_app : (rules boards answers : Choice) → App
+mucheck_app rules boards answers = record {
+  top = top_shape;
+  subs = command_shape (codes "check") (check_rules rules boards answers)
+      ∷ command_shape (codes "why") (why_rules rules boards)
+      ∷ command_shape (codes "table") (table_rules rules boards)
+      ∷ command_shape (codes "normal") (normal_rules rules)
+      ∷ command_shape (codes "solve") (solve_rules boards)
+      ∷ command_shape (codes "verify") verify_rules
+      ∷ command_shape (codes "replay") replay_rules
+      ∷ command_shape (codes "explain") explain_rules
+      ∷ command_shape (codes "help") help_rules
+      ∷ command_shape (codes "version") []
+      ∷ [];
+}
+
+abbrev pub AreRules : Choice → Type 0
+AreRules choice = texts choice.now ≡ codes "nested" ∷ codes "dependent" ∷ []
+
+abbrev pub AreBoards : Choice → Type 0
+AreBoards choice = texts choice.now ≡ codes "auto" ∷ codes "locked" ∷ codes "packed" ∷ []
+
+abbrev pub AreAnswers : Choice → Type 0
+AreAnswers choice = texts choice.now ≡ codes "yes" ∷ codes "no" ∷ []
+
+-- the program's table, wherever the names that are chosen from lie in memory
+pub record IsTable (app : App) : Type 0 where
+  pub rules : Choice
+  pub boards : Choice
+  pub answers : Choice
+  pub rule_names : AreRules rules
+  pub board_names : AreBoards boards
+  pub answer_names : AreAnswers answers
+  pub table : app ≡ mucheck_app rules boards answers
+
+-- ------------------------------------------------------------------ what is read
+
+-- the argument has this value
+abbrev pub has_value : List Row → (id value : Text) → Bool
+has_value rows id value = option_map_or (λ text. bytes_eq text value) (first_of id rows) false
+
+-- the option without a value stands
+abbrev pub stands : List Row → (id : Text) → Bool
+stands rows id = has_value rows id (codes "true")
+
+-- the text is a numeral of this number, which has 32 bits
+pub record IsNumber (text : Text) (n : ℕ) : Type 0 where
+  pub numeral : IsNumeral 10 (without_leading_plus text)
+  pub value : n ≡ digits_value 10 (without_leading_plus text)
+  pub fits : n < 2 ^ 32
+
+-- the number that the text has, or else the default
+abbrev pub IsNumberOr : Option Text → (default n : ℕ) → Type 0
+IsNumberOr None default n = n ≡ default
+IsNumberOr (Some text) default n = IsNumber text n
+
+-- the number that the option gives, or else the default
+abbrev pub IsNumberIn : List Row → (id : Text) → (default n : ℕ) → Type 0
+IsNumberIn rows id default n = IsNumberOr (one_of id rows) default n
+
+-- the rule that is asked for, or else the nested one
+abbrev pub priorities_in : List Row → Priorities
+priorities_in rows = if has_value rows (codes "priorities") (codes "dependent") then Dependent else Nested
+
+-- the board that is asked for, or else whichever fits
+abbrev pub board_in : List Row → BoardKind
+board_in rows =
+    if has_value rows (codes "board") (codes "locked") then board.Locked
+    else (if has_value rows (codes "board") (codes "packed") then board.Packed else board.Auto)
+
+-- the argument names this file, or gives this word
+abbrev pub IsFile : List Row → (id : Text) → Bor Text → Type 0
+IsFile rows id file = first_of id rows ≡ Some file.now
+
+-- it names these files, in their order
+abbrev pub AreFiles : List Row → (id : Text) → List (Bor Text) → Type 0
+AreFiles rows id files = all_of id rows ≡ Some (map (λ f. f.now) files)
+
+-- it names this file, or stands nowhere where there is none
+abbrev pub IsFileIfAny : List Row → (id : Text) → Option (Bor Text) → Type 0
+IsFileIfAny rows id file = first_of id rows ≡ option_map (λ f. f.now) file
+
+-- the number that the text has, or none where there is no text
+abbrev pub IsNumberOf : Option Text → Option ℕ → Type 0
+IsNumberOf None None = Unit {0}
+IsNumberOf None (Some n) = ⊥
+IsNumberOf (Some text) None = ⊥
+IsNumberOf (Some text) (Some n) = IsNumber text n
+
+-- the number that the option gives, or none where it stands nowhere
+abbrev pub IsNumberIfAny : List Row → (id : Text) → Option ℕ → Type 0
+IsNumberIfAny rows id found = IsNumberOf (one_of id rows) found
+
+abbrev pub answer_word : (mark : Bool) → Text
+answer_word mark = if mark then codes "yes" else codes "no"
+
+-- the form that a report has where just these options stand, if there is one
+abbrev pub form_by : (quiet summary : Bool) → (answer : Option Bool) → (most : Option ℕ) → Option ReportForm
+form_by false false None None = Some Whole
+form_by false true None None = Some Summary
+form_by false false (Some mark) most = Some (States mark most)
+form_by true false None None = Some Nothing
+form_by _ _ _ _ = None
+
+-- the form of the report that is asked for
+pub record IsForm (rows : List Row) (form : ReportForm) : Type 0 where
+  pub answer : Option Bool
+  pub most : Option ℕ
+  pub states : first_of (codes "states") rows ≡ option_map answer_word answer
+  pub limit : IsNumberIfAny rows (codes "limit") most
+  pub by : form_by (stands rows (codes "quiet")) (stands rows (codes "summary")) answer most ≡ Some form
+
+-- the options that are given, and the defaults of the others
+pub record AreOptions (rows : List Row) (options : Options) : Type 0 where
+  pub priorities : options.priorities ≡ priorities_in rows
+  pub workers : IsNumberIn rows (codes "workers") 1 options.workers
+  pub shards : IsNumberIn rows (codes "shards") 16 options.shards
+  pub board : options.board ≡ board_in rows
+
+pub record IsCheck (rows : List Row) (check : CheckRequest) : Type 0 where
+  pub system : IsFile rows (codes "SYSTEM") check.system
+  pub formula : IsFile rows (codes "FORMULA") check.formula
+  pub options : AreOptions rows check.options
+  pub plain : check.plain ≡ stands rows (codes "plain")
+  pub strict : check.strict ≡ stands rows (codes "strict")
+
+pub record IsWhy (rows : List Row) (why : WhyRequest) : Type 0 where
+  pub system : IsFile rows (codes "SYSTEM") why.system
+  pub formula : IsFile rows (codes "FORMULA") why.formula
+  pub options : AreOptions rows why.options
+  pub strict : why.strict ≡ stands rows (codes "strict")
+
+pub record IsTableRequest (rows : List Row) (table : TableRequest) : Type 0 where
+  pub system : IsFile rows (codes "SYSTEM") table.system
+  pub formulas : AreFiles rows (codes "FORMULA") table.formulas.items
+  pub options : AreOptions rows table.options
+  pub plain : table.plain ≡ stands rows (codes "plain")
+  pub strict : table.strict ≡ stands rows (codes "strict")
+
+pub record AreOutputs (rows : List Row) (outputs : Outputs) : Type 0 where
+  pub game : IsFileIfAny rows (codes "game") outputs.game
+  pub evidence : IsFileIfAny rows (codes "evidence") outputs.evidence
+  pub witness : IsFileIfAny rows (codes "witness") outputs.witness
+  pub report : IsForm rows outputs.report
+  pub stats : outputs.stats ≡ stands rows (codes "stats")
+
+pub record IsNormal (rows : List Row) (form : Normalize) : Type 0 where
+  pub formula : IsFile rows (codes "FORMULA") form.formula
+  pub priorities : form.priorities ≡ priorities_in rows
+
+pub record IsSolve (rows : List Row) (solve : SolveRequest) : Type 0 where
+  pub game : IsFile rows (codes "GAME") solve.game
+  pub options : AreOptions rows solve.options
+  pub evidence : IsFileIfAny rows (codes "evidence") solve.evidence
+  pub stats : solve.stats ≡ stands rows (codes "stats")
+
+pub record IsVerify (rows : List Row) (verify : VerifyRequest) : Type 0 where
+  pub game : IsFile rows (codes "GAME") verify.game
+  pub evidence : IsFile rows (codes "EVIDENCE") verify.evidence
+  pub other : IsFileIfAny rows (codes "OTHER") verify.other
+
+pub record IsReplay (rows : List Row) (replay : ReplayRequest) : Type 0 where
+  pub system : IsFile rows (codes "SYSTEM") replay.system
+  pub formula : IsFile rows (codes "FORMULA") replay.formula
+  pub schedule : IsFile rows (codes "SCHEDULE") replay.schedule
+  pub workers : IsNumberIn rows (codes "workers") 2 replay.workers
+
+-- the command of this name, as its arguments ask
+abbrev pub IsCommand : (name : Text) → List Row → Command → Type 0
+IsCommand name rows (Check check outputs) = (name ≡ codes "check") × IsCheck rows check × AreOutputs rows outputs
+IsCommand name rows (Why why) = (name ≡ codes "why") × IsWhy rows why
+IsCommand name rows (Table table) = (name ≡ codes "table") × IsTableRequest rows table
+IsCommand name rows (Normal form) = (name ≡ codes "normal") × IsNormal rows form
+IsCommand name rows (Solve solve) = (name ≡ codes "solve") × IsSolve rows solve
+IsCommand name rows (Verify verify) = (name ≡ codes "verify") × IsVerify rows verify
+IsCommand name rows (Replay replay) = (name ≡ codes "replay") × IsReplay rows replay
+IsCommand name rows (Explain code) = (name ≡ codes "explain") × IsFile rows (codes "CODE") code
+IsCommand name rows (Help topic) = (name ≡ codes "help") × IsFileIfAny rows (codes "COMMAND") topic
+IsCommand name rows Version = name ≡ codes "version"
+
+-- the command that was read, of which there is one
+abbrev pub IsRead : Option (Text × List Row) → Command → Type 0
+IsRead None command = ⊥
+IsRead (Some named) command = IsCommand named.0 named.1 command
+
+-- these matches are what the program's table finds in the words
+pub record AreMatchesOf (words : List Text) (matches : ArgMatches) : Type 0 where
+  pub app : App
+  pub table : IsTable app
+  pub rows : subcommand_rows_of matches ≡ subcommand_of app words
+
+-- What a command line may be refused for: its words, with the text that says what is wrong with them, or want of memory.
+abbrev pub IsLineError : MuError → Type 0
+IsLineError (error.Arguments e) = Unit {0}
+IsLineError error.Memory = Unit {0}
+IsLineError e = ⊥
+
+-- The command is what the words ask for, read by the program's table: the first word is the program's own name.
+pub record IsAskedFor (words : List Text) (command : Command) : Type 0 where
+  pub app : App
+  pub table : IsTable app
+  pub read : IsRead (subcommand_of app words) command

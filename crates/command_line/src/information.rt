@@ -1,0 +1,84 @@
+// The texts that the program tells of itself.
+
+ghost use Rattle.std.specs.Prelude.{IfErr};
+ghost use Rattle.command_line.specs.CommandLine.{IsLineError};
+
+use crate::codes::entry_of;
+use crate::line::refusal;
+use crate::parser::parser;
+use crate::version::VERSION;
+use clap::Error as ClapError;
+use clap::error::ErrorKind;
+use requests::error::{ArgumentError, MuError};
+use std::alloc::{AllocError, Global};
+
+/// The help of a command, or of the program: what `--help` shows.
+///
+/// # Errors
+/// U1 where there is no such command, U4.
+pub fn help_text(alloc: Global, command: Option<&str>) -> Result<String, MuError>
+    ensures { IfErr result IsLineError }
+{
+    match command {
+        Some(name) => help_for(alloc, &["mucheck", name, "--help"]),
+        None => help_for(alloc, &["mucheck", "--help"]),
+    }
+}
+
+/// What the program answers to these words, which ask for help.
+fn help_for<'a>(alloc: Global, words: &'a [&'a str]) -> Result<String, MuError>
+    ensures { IfErr result IsLineError }
+{
+    let Ok(parser) = parser(alloc) else {
+        return Err(MuError::Memory);
+    };
+    match parser.try_get_matches_from(words) {
+        Ok(_matches) => Err(MuError::Arguments(ArgumentError::NoCommand)),
+        Err(error) => shown(alloc, &error),
+    }
+}
+
+/// The help that `clap` answers in place of matches.
+fn shown(alloc: Global, error: &ClapError) -> Result<String, MuError>
+    ensures { IfErr result IsLineError }
+{
+    match error.kind() {
+        ErrorKind::DisplayHelp => text(error.to_string(alloc)),
+        _ => Err(refusal(alloc, error)),
+    }
+}
+
+/// The program's version and what proved it: what `--version` shows.
+///
+/// # Errors
+/// U4.
+pub fn version_text(alloc: Global) -> Result<String, MuError>
+    ensures { IfErr result IsLineError }
+{
+    text(format!(in alloc; "mucheck {VERSION}\n"))
+}
+
+/// What a code means, and how it is mended.
+///
+/// # Errors
+/// U1 where there is no such code, U4.
+pub fn explanation(alloc: Global, code: &str) -> Result<String, MuError>
+    ensures { IfErr result IsLineError }
+{
+    match entry_of(code) {
+        Some(entry) => {
+            let (code, place, wrong, remedy) = (entry.code, entry.place, entry.wrong, entry.remedy);
+            text(format!(in alloc; "{code}{place}: {wrong}\nWhat to do: {remedy}\n"))
+        }
+        None => Err(MuError::Arguments(ArgumentError::UnknownCode)),
+    }
+}
+
+fn text(made: Result<String, AllocError>) -> Result<String, MuError>
+    ensures { IfErr result IsLineError }
+{
+    match made {
+        Ok(text) => Ok(text),
+        Err(AllocError) => Err(MuError::Memory),
+    }
+}
