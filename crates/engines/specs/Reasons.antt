@@ -7,8 +7,11 @@ use Rattle.systems.specs.Numbered.{system_with}
 use Rattle.calculus.specs.Tree.{Formula}
 use Rattle.calculus.specs.Meaning.{Satisfies}
 use Rattle.normal.specs.declared.priorities.Priorities.{Priorities}
+use Rattle.normal.specs.Normal.{normal_nodes}
 use Rattle.normal.specs.Rules.{nodes_with}
-use Rattle.witness.specs.Witness.{IsShown}
+use Rattle.witness.specs.Walk.{is_marked}
+use Rattle.witness.specs.Witness.{IsShownBy}
+use Rattle.why.specs.Lacks.{lack_text}
 use Rattle.why.specs.Story.{telling_text}
 use Rattle.why.specs.Telling.{IsTelling}
 use Rattle.why.specs.declared.line.Line.{Line}
@@ -21,19 +24,20 @@ use Rattle.requests.specs.Writers.{WitnessText, lent_for}
 use Rattle.engines.specs.declared.findings.Findings.{Findings}
 use Rattle.engines.specs.declared.reasons.Told.{Told}
 use Rattle.engines.specs.declared.reasons.TheConstants.{MOST_TOLD}
-use Rattle.engines.specs.Findings.{AreShown}
+use Rattle.engines.specs.Findings.{IsPlayShown, formula_of, system_of}
 
--- the formula, whether the initial state satisfies it, and what is told of a witness
-abbrev pub reasons : Formula → Bool → System → List Line → List ℕ
-reasons f answer part lines = formula_line f ++ (initial_line answer ++ telling_text part MOST_TOLD lines)
+-- the formula, whether the initial state satisfies it, and what is told of a witness, by what is lacking at each state
+abbrev pub reasons : Formula → Bool → (ℕ → List ℕ) → System → List Line → List ℕ
+reasons f answer lacks part lines = formula_line f ++ (initial_line answer ++ telling_text lacks part MOST_TOLD lines)
 
--- The text tells the answer and a witness.
+-- The text tells the answer and a witness, and at each state from which the witness has no step, what is lacking there of what the play reaches.
 pub record AreReasons (rule : Priorities) (l : System) (f : Formula) (answer : Bool) (text : List ℕ) : Type 0 where
   pub part : System
+  pub set : ℕ → Bool
   pub lines : List Line
-  pub shown : IsShown l f (nodes_with rule f) part
+  pub shown : IsShownBy l f (nodes_with rule f) part set
   pub telling : IsTelling part MOST_TOLD lines
-  pub told : text ≡ reasons f answer part lines
+  pub told : text ≡ reasons f answer (lack_text l (nodes_with rule f) set) part lines
 
 -- Both texts are spelled, the answer is that of the initial state in the formula's meaning, and what was written is this of a text that tells why.
 pub record HasReasons (rule : Priorities) (board : Option BoardKind) (first second : List ℕ) (answer : Bool) (Writes : List ℕ → Type 0) : Type 0 where
@@ -55,7 +59,12 @@ abbrev pub TellsReasons : Priorities → Option BoardKind → (first second : Li
 TellsReasons rule board first second old new result =
     MatchResult result (λ answer. HasReasons rule board first second answer (Appends old new)) (HasNoReasons rule board first second old new)
 
--- The transitions are a witness, and the lines tell them.
+-- The play is that of a witness, and the lines tell its transitions.
 pub record AreTold (x : Findings) (told : Told) : Type 0 where
-  pub shown : AreShown x told.part.items
-  pub telling : IsTelling (system_with x.texts.value.system told.part.items) MOST_TOLD told.lines.items
+  pub nodes : normal_nodes told.normal ≡ nodes_with x.solution.priorities (formula_of x)
+  pub shown : IsPlayShown x told.play
+  pub telling : IsTelling (system_with x.texts.value.system told.play.transitions.items) MOST_TOLD told.lines.items
+
+-- what is lacking at each state
+abbrev pub lacks_of : Findings → Told → ℕ → List ℕ
+lacks_of x told = lack_text (system_of x) (normal_nodes told.normal) (is_marked told.play.marks.items)

@@ -4,7 +4,8 @@ ghost use Rattle.std.specs.Prelude.{◌≡◌, ◌<◌, IfOk, IfErr, IfSome, IsT
 ghost use Rattle.std.specs.Arc.{arc_value};
 ghost use Rattle.std.specs.Option.{is_some};
 ghost use Rattle.engines.specs.declared.prepared.Shown.{Shown};
-ghost use Rattle.engines.specs.Findings.{AreFindings, ArePrepared, AreShown, IsPairOf, IsUnprepared, IsUnshown, IsWinning, formula_of, system_of};
+ghost use Rattle.engines.specs.Findings.{AreFindings, ArePrepared, AreShown, IsPairOf, IsPlayShown, IsUnprepared, IsUnshown, IsWinning, formula_of};
+ghost use Rattle.engines.specs.Findings.{system_of};
 ghost use Rattle.requests.specs.Report.{report_in};
 
 use crate::findings::{Findings, evidence_pair, odd_of};
@@ -21,7 +22,7 @@ use normal::make::normal_with;
 use requests::error::MuError;
 use requests::request::{ReportForm, Wanted, WitnessForm};
 use std::alloc::Global;
-use witness::part::witness;
+use witness::part::{Play, witness};
 
 /// A witness, and the form in which it is written.
 #[derive(Drop)]
@@ -91,6 +92,7 @@ fn pair_where(
 }
 
 /// A witness, if it is wanted, by what there is of evidence.
+#[tactic(auto, using(crate::proofs::Winning::shown_of_play))]
 fn shown_where(
     alloc: Global,
     found: &Findings,
@@ -106,25 +108,28 @@ fn shown_where(
     let Some(form) = form else {
         return Ok(None);
     };
-    let part = part_of(alloc, found, pair)?;
-    Ok(Some(Shown { form, part }))
+    let play = play_of(alloc, found, pair)?;
+    Ok(Some(Shown {
+        form,
+        part: play.transitions,
+    }))
 }
 
-/// The transitions that the answer rests on: those of a play that goes one way from each vertex, where one is found, and else what the play by
-/// the evidence of all that the winner wins takes.
-pub(crate) fn part_of(
+/// The play that the answer rests on: one that goes one way from each vertex, where one is found, and else that by the evidence of all that the
+/// winner wins.
+pub(crate) fn play_of(
     alloc: Global,
     found: &Findings,
     pair: &Option<EvidencePair>,
-) -> Result<Vec<Transition>, MuError>
+) -> Result<Play, MuError>
     requires found { AreFindings found.now }
     requires pair { IfSome pair.now (IsPairOf (arc_value found.now.solution.game)) }
-    ensures part { IfOk result (λ part. AreShown found.now part.items) }
+    ensures play { IfOk result (IsPlayShown found.now) }
     ensures refusal { IfErr result (IsUnshown found.now) }
 {
     match one_way(alloc, found) {
-        Ok(Some(evidence)) => part_by(alloc, found, &evidence),
-        Ok(None) => part_of_all(alloc, found, pair),
+        Ok(Some(evidence)) => play_by(alloc, found, &evidence),
+        Ok(None) => play_of_all(alloc, found, pair),
         Err(error) => Err(error),
     }
 }
@@ -152,47 +157,47 @@ fn one_way(alloc: Global, found: &Findings) -> Result<Option<Evidence>, MuError>
     }
 }
 
-/// The transitions that the answer rests on, by the evidence of all that the winner wins.
-fn part_of_all(
+/// The play that the answer rests on, by the evidence of all that the winner wins.
+fn play_of_all(
     alloc: Global,
     found: &Findings,
     pair: &Option<EvidencePair>,
-) -> Result<Vec<Transition>, MuError>
+) -> Result<Play, MuError>
     requires found { AreFindings found.now }
     requires pair { IfSome pair.now (IsPairOf (arc_value found.now.solution.game)) }
-    ensures part { IfOk result (λ part. AreShown found.now part.items) }
+    ensures play { IfOk result (IsPlayShown found.now) }
     ensures refusal { IfErr result (IsUnshown found.now) }
 {
     match pair {
-        Some(pair) => part_in(alloc, found, pair),
-        None => part_alone(alloc, found),
+        Some(pair) => play_in(alloc, found, pair),
+        None => play_alone(alloc, found),
     }
 }
 
-/// The transitions that the answer rests on, by the evidence of both players.
-fn part_in(alloc: Global, found: &Findings, pair: &EvidencePair) -> Result<Vec<Transition>, MuError>
+/// The play that the answer rests on, by the evidence of both players.
+fn play_in(alloc: Global, found: &Findings, pair: &EvidencePair) -> Result<Play, MuError>
     requires found { AreFindings found.now }
     requires pair { IsPairOf (arc_value found.now.solution.game) pair.now }
-    ensures part { IfOk result (λ part. AreShown found.now part.items) }
+    ensures play { IfOk result (IsPlayShown found.now) }
     ensures refusal { IfErr result (IsUnshown found.now) }
 {
     one_wins();
     found.solution.game.known();
     if initial_mark(found) {
-        part_by(alloc, found, &pair.even)
+        play_by(alloc, found, &pair.even)
     } else {
-        part_by(alloc, found, &pair.odd)
+        play_by(alloc, found, &pair.odd)
     }
 }
 
-/// The transitions that the answer rests on, where there is no evidence yet: that of the player who wins is made.
-fn part_alone(alloc: Global, found: &Findings) -> Result<Vec<Transition>, MuError>
+/// The play that the answer rests on, where there is no evidence yet: that of the player who wins is made.
+fn play_alone(alloc: Global, found: &Findings) -> Result<Play, MuError>
     requires { AreFindings found.now }
-    ensures part { IfOk result (λ part. AreShown found.now part.items) }
+    ensures play { IfOk result (IsPlayShown found.now) }
     ensures refusal { IfErr result (IsUnshown found.now) }
 {
     match winner_evidence(alloc, found) {
-        Ok(evidence) => part_by(alloc, found, &evidence),
+        Ok(evidence) => play_by(alloc, found, &evidence),
         Err(error) => Err(MuError::Evidence(error)),
     }
 }
@@ -213,11 +218,11 @@ fn winner_evidence(alloc: Global, found: &Findings) -> Result<Evidence, Evidence
     }
 }
 
-/// The transitions that the answer rests on, by evidence that has the initial state's vertex with the root node.
-fn part_by(alloc: Global, found: &Findings, evidence: &Evidence) -> Result<Vec<Transition>, MuError>
+/// The play that the answer rests on, by evidence that has the initial state's vertex with the root node.
+fn play_by(alloc: Global, found: &Findings, evidence: &Evidence) -> Result<Play, MuError>
     requires found { AreFindings found.now }
     requires winning { IsWinning found.now evidence.now }
-    ensures part { IfOk result (λ part. AreShown found.now part.items) }
+    ensures play { IfOk result (IsPlayShown found.now) }
     ensures refusal { IfErr result (IsUnshown found.now) }
 {
     chosen_is_admissible();
@@ -231,7 +236,7 @@ fn part_by(alloc: Global, found: &Findings, evidence: &Evidence) -> Result<Vec<T
             &found.solution.game,
             evidence,
         ) {
-            Ok(part) => Ok(part),
+            Ok(play) => Ok(play),
             Err(Memory) => Err(MuError::Memory),
         },
         Err(error) => Err(MuError::Normal(error)),

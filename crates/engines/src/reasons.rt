@@ -5,16 +5,20 @@ ghost use Rattle.systems.specs.Numbered.{system_with};
 ghost use Rattle.calculus.specs.Closed.{closed_formula};
 ghost use Rattle.text.specs.Wrote.{Wrote};
 ghost use Rattle.requests.specs.Check.{AreSpelled};
-ghost use Rattle.engines.specs.Findings.{AreFindings, AreShown, IsUnshown, formula_of, system_of};
-ghost use Rattle.engines.specs.Reasons.{AreTold, TellsReasons, reasons};
+ghost use Rattle.normal.specs.Normal.{normal_nodes};
+ghost use Rattle.normal.specs.Rules.{nodes_with};
+ghost use Rattle.engines.specs.Findings.{AreFindings, IsPlayShown, IsUnshown, formula_of, system_of};
+ghost use Rattle.engines.specs.Reasons.{AreTold, TellsReasons, lacks_of, reasons};
 ghost use Rattle.engines.specs.StrictReasons.{TellsWhyBy};
 
 use crate::findings::{Findings, find_in};
 use crate::outputs::answer;
-use crate::prepared::part_of;
+use crate::prepared::play_of;
 use crate::report::{write_formula_line, write_initial_line};
-use lts::{Memory, Transition, WriteFault};
+use lts::{Memory, WriteFault};
 use measures::observer::{Observer, Stage};
+use normal::form::Normal;
+use normal::make::normal_with;
 use requests::error::MuError;
 use requests::request::{Options, Why};
 use requests::texts::{Texts, read_asked};
@@ -24,16 +28,19 @@ use std::io::{Read, Write};
 use std::sync::Wait;
 use std::thread::Threads;
 use why::line::Line;
+use why::reached::Reached;
 use why::shown::tell_witness;
 use why::writer::write_telling;
+use witness::part::Play;
 
 /// How many transitions of a witness are told at most.
 pub const MOST_TOLD: usize = 200;
 
-/// A witness, and the lines that tell it.
+/// The play of a witness by a normal form, and the lines that tell its transitions.
 #[derive(Drop)]
 pub(crate) struct Told {
-    pub(crate) part: Vec<Transition>,
+    pub(crate) normal: Normal,
+    pub(crate) play: Play,
     pub(crate) lines: Vec<Line>,
 }
 
@@ -110,22 +117,56 @@ fn told_of(alloc: Global, found: &Findings) -> Result<Told, MuError>
     ensures told { IfOk result (AreTold found.now) }
     ensures refusal { IfErr result (IsUnshown found.now) }
 {
-    match part_of(alloc, found, &None) {
-        Ok(part) => told_by(alloc, found, part),
+    match play_of(alloc, found, &None) {
+        Ok(play) => told_by(alloc, found, play),
         Err(error) => Err(error),
     }
 }
 
-/// A witness with the lines that tell it.
-fn told_by(alloc: Global, found: &Findings, part: Vec<Transition>) -> Result<Told, MuError>
+/// A play with the normal form by which it goes, and the lines that tell its transitions.
+fn told_by(alloc: Global, found: &Findings, play: Play) -> Result<Told, MuError>
     requires found { AreFindings found.now }
-    requires shown { AreShown found.now part.items }
+    requires shown { IsPlayShown found.now play }
+    ensures told { IfOk result (AreTold found.now) }
+    ensures refusal { IfErr result (IsUnshown found.now) }
+{
+    match normal_with(alloc, &found.texts.formula, found.solution.priorities) {
+        Ok(normal) => told_with(alloc, found, normal, play),
+        Err(error) => Err(MuError::Normal(error)),
+    }
+}
+
+/// The same by this normal form.
+fn told_with(alloc: Global, found: &Findings, normal: Normal, play: Play) -> Result<Told, MuError>
+    requires found { AreFindings found.now }
+    requires nodes { normal_nodes normal ≡ nodes_with found.now.solution.priorities (formula_of found.now) }
+    requires shown { IsPlayShown found.now play }
     ensures told { IfOk result (AreTold found.now) }
     ensures refusal { IfErr result (λ e. e ≡ MuError.Memory) }
 {
-    match tell_witness(alloc, &found.texts.system, &part, MOST_TOLD) {
-        Ok(lines) => Ok(Told { part, lines }),
+    match tell_witness(alloc, &found.texts.system, &play.transitions, MOST_TOLD) {
+        Ok(lines) => Ok(Told {
+            normal,
+            play,
+            lines,
+        }),
         Err(Memory) => Err(MuError::Memory),
+    }
+}
+
+/// What the play reaches, in the game that was solved.
+fn reached_in<'a>(found: &'a Findings, told: &'a Told) -> Reached<'a>
+    requires found { AreFindings found.now }
+    requires told { AreTold found.now told.now }
+    ensures system { result.system.now ≡ found.now.texts.value.system }
+    ensures normal { normal_nodes result.normal.now ≡ normal_nodes told.now.normal }
+    ensures marks { result.marks.now ≡ told.now.play.marks.items }
+{
+    Reached {
+        system: &found.texts.system,
+        normal: &told.normal,
+        game: &found.solution.game,
+        marks: &told.play.marks,
     }
 }
 
@@ -134,11 +175,18 @@ fn put_reasons<W: Write>(found: &Findings, told: &Told, out: &mut W) -> Result<(
     requires found { AreFindings found.now }
     requires told { AreTold found.now told.now }
     ensures { let l = system_of found.now in Wrote (W.contents out.old) (W.contents out.new) result
-        (reasons (formula_of found.now) (slice_index_or found.now.marks.items l.initial false)
-        (system_with found.now.texts.value.system told.now.part.items) told.now.lines.items) }
+        (reasons (formula_of found.now) (slice_index_or found.now.marks.items l.initial false) (lacks_of found.now told.now)
+        (system_with found.now.texts.value.system told.now.play.transitions.items) told.now.lines.items) }
 {
     let system = &found.texts.system;
     write_formula_line(&found.texts.formula, out)?;
     write_initial_line(system, &found.marks, out)?;
-    write_telling(system, &told.part, MOST_TOLD, &told.lines, out)
+    let reached = reached_in(found, told);
+    write_telling(
+        &reached,
+        &told.play.transitions,
+        MOST_TOLD,
+        &told.lines,
+        out,
+    )
 }

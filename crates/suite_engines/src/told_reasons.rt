@@ -39,7 +39,7 @@ const REQUEST: &str =
     "des (0,6,5)\n(0,\"ask\",1)\n(1,\"a\",2)\n(1,\"b\",4)\n(2,\"a\",3)\n(3,\"a\",1)\n(4,\"b\",1)\n";
 
 /// A system, a formula, whether the initial state satisfies it, and what is told.
-const ROWS: [(&str, &str, bool, &str); 12] = [
+const ROWS: [(&str, &str, bool, &str); 16] = [
     (
         RING,
         "[true*]<true>true",
@@ -50,13 +50,41 @@ const ROWS: [(&str, &str, bool, &str); 12] = [
         RING,
         "<a><a>true",
         false,
-        "formula <a><a>true\ninitial no\n0 -a-> 1\n1: no step\n",
+        "formula <a><a>true\ninitial no\n0 -a-> 1\n1: no step, no a here\n",
     ),
     (
         RING,
         "<b>true",
         false,
-        "formula <b>true\ninitial no\n0: no step\n",
+        "formula <b>true\ninitial no\n0: no step, no b here\n",
+    ),
+    // A box holds where there is no step by its action.
+    (
+        RING,
+        "[b]false",
+        true,
+        "formula [b]false\ninitial yes\n0: no step, no b here\n",
+    ),
+    // Each action once, in the order of the formula, though two parts ask for `b`.
+    (
+        RING,
+        "<b>true || (<\"a b\">true || <b><a>true)",
+        false,
+        "formula (<b>true || (<\"a b\">true || <b><a>true))\ninitial no\n0: no step, no b or \"a b\" here\n",
+    ),
+    // Of two ways the attacker takes one, and only its action is named.
+    (
+        RING,
+        "<a><a || c>true && <a>true",
+        false,
+        "formula (<a><(a || c)>true && <a>true)\ninitial no\n0 -a-> 1\n1: no step, no (a || c) here\n",
+    ),
+    // What stands behind a constant is not asked.
+    (
+        RING,
+        "<a>true",
+        true,
+        "formula <a>true\ninitial yes\n0 -a-> 1\n1: no step\n",
     ),
     (
         RING,
@@ -68,7 +96,7 @@ const ROWS: [(&str, &str, bool, &str); 12] = [
         TABLE,
         "[true*]<true>true",
         false,
-        "formula [true*]<true>true\ninitial no\n0 -take(0)-> 1\n1 -take(1)-> 3\n3: no step\n",
+        "formula [true*]<true>true\ninitial no\n0 -take(0)-> 1\n1 -take(1)-> 3\n3: no step, no true here\n",
     ),
     (
         BRANCH,
@@ -80,7 +108,7 @@ const ROWS: [(&str, &str, bool, &str); 12] = [
         BRANCH,
         "[a]<b>true",
         false,
-        "formula [a]<b>true\ninitial no\n0 -a-> 2\n2: no step\n",
+        "formula [a]<b>true\ninitial no\n0 -a-> 2\n2: no step, no b here\n",
     ),
     (
         BESIDE,
@@ -92,7 +120,7 @@ const ROWS: [(&str, &str, bool, &str); 12] = [
         BESIDE,
         "[true*]<c>true",
         false,
-        "formula [true*]<c>true\ninitial no\n0: no step\n",
+        "formula [true*]<c>true\ninitial no\n0: no step, no c here\n",
     ),
     // The shortest path into a loop.
     (

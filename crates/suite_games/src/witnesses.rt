@@ -45,11 +45,13 @@ fn part_of_game(
     let settled = solve_one(rt.alloc(), game).expect(rt, "memory");
     let even = even_evidence(rt.alloc(), game, &settled).expect(rt, "memory");
     if has_root(system, normal, game, &even) {
-        return witness(rt.alloc(), system, normal, game, &even).expect(rt, "memory");
+        let play = witness(rt.alloc(), system, normal, game, &even).expect(rt, "memory");
+        return play.transitions;
     }
     let odd = odd_evidence(rt.alloc(), game).expect(rt, "memory");
     if has_root(system, normal, game, &odd) {
-        return witness(rt.alloc(), system, normal, game, &odd).expect(rt, "memory");
+        let play = witness(rt.alloc(), system, normal, game, &odd).expect(rt, "memory");
+        return play.transitions;
     }
     panic!(rt; "neither player has the initial state")
 }

@@ -6,3 +6,4 @@ pub mod Visits
 pub mod Numbered
 pub mod Connected
 pub mod Rising
+pub mod Lacking

@@ -1,4 +1,6 @@
 pub mod Telling
 pub mod Walk
 pub mod Story
+pub mod Lacks
+pub mod Naming
 pub mod Shown

@@ -20,13 +20,14 @@ step_end again = (if again then codes " (again)" else []) ++ line_end
 abbrev pub step_text : Arrow → Bool → List ℕ
 step_text a again = decimal a.source ++ (codes " -" ++ (a.label ++ (codes "-> " ++ (decimal a.target ++ step_end again))))
 
--- `state: no step`
-abbrev pub stop_text : ℕ → List ℕ
-stop_text s = decimal s ++ (codes ": no step" ++ line_end)
+-- `state: no step`, and what is lacking there
+abbrev pub stop_text : List ℕ → ℕ → List ℕ
+stop_text lack s = decimal s ++ (codes ": no step" ++ (lack ++ line_end))
 
-abbrev pub line_text : System → Line → List ℕ
-line_text l (Step number again blanks) = blanks_before blanks ++ step_text (arrow_at l number) again
-line_text l (Stop state blanks) = blanks_before blanks ++ stop_text state
+-- the text of a line, by what is lacking at each state
+abbrev pub line_text : (ℕ → List ℕ) → System → Line → List ℕ
+line_text lacks l (Step number again blanks) = blanks_before blanks ++ step_text (arrow_at l number) again
+line_text lacks l (Stop state blanks) = blanks_before blanks ++ stop_text (lacks state) state
 
 -- what stands before the lines, where there are more transitions than are told
 abbrev pub count_line : (transitions limit : ℕ) → List ℕ
@@ -35,25 +36,25 @@ count_line transitions limit = codes "witness " ++ (decimal transitions ++ (code
 abbrev pub count_text : (transitions limit : ℕ) → List ℕ
 count_text transitions limit = if nat_lt limit transitions then count_line transitions limit else []
 
-abbrev pub telling_text : System → (limit : ℕ) → List Line → List ℕ
-telling_text l limit lines = count_text (length l.arrows) limit ++ flat_map (line_text l) lines
+abbrev pub telling_text : (ℕ → List ℕ) → System → (limit : ℕ) → List Line → List ℕ
+telling_text lacks l limit lines = count_text (length l.arrows) limit ++ flat_map (line_text lacks l) lines
 
 -- the text of the line of this number
-abbrev pub text_of : System → Option Line → List ℕ
-text_of l None = []
-text_of l (Some line) = line_text l line
+abbrev pub text_of : (ℕ → List ℕ) → System → Option Line → List ℕ
+text_of lacks l None = []
+text_of lacks l (Some line) = line_text lacks l line
 
--- A step has the number of one of so many transitions.
-abbrev pub IsNumbered : ℕ → Line → Type 0
-IsNumbered transitions (Step number again blanks) = number < transitions
-IsNumbered transitions (Stop state blanks) = Unit {0}
+-- A step has the number of one of so many transitions, and a stop is at one of so many states.
+abbrev pub IsNumbered : (states transitions : ℕ) → Line → Type 0
+IsNumbered states transitions (Step number again blanks) = number < transitions
+IsNumbered states transitions (Stop state blanks) = state < states
 
-abbrev pub AreNumbered : ℕ → List Line → Type 0
-AreNumbered transitions lines = AllByRecursion (IsNumbered transitions) lines
+abbrev pub AreNumbered : (states transitions : ℕ) → List Line → Type 0
+AreNumbered states transitions lines = AllByRecursion (IsNumbered states transitions) lines
 
-pub AreNumbered-prop : (transitions : ℕ) (lines : List Line) → IsProp (AreNumbered transitions lines)
-AreNumbered-prop transitions lines = AllByRecursion-prop (IsNumbered transitions) one lines
+pub AreNumbered-prop : (states transitions : ℕ) (lines : List Line) → IsProp (AreNumbered states transitions lines)
+AreNumbered-prop states transitions lines = AllByRecursion-prop (IsNumbered states transitions) one lines
   where
-    one : (line : Line) → IsProp (IsNumbered transitions line)
+    one : (line : Line) → IsProp (IsNumbered states transitions line)
     one (Step number again blanks) p q i = le_prop p q i
-    one (Stop state blanks) p q i = tt
+    one (Stop state blanks) p q i = le_prop p q i

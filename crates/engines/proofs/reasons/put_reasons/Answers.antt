@@ -2,28 +2,37 @@ use Rattle.std.specs.Prelude.{List, [], false, length, slice_index_or}
 use Rattle.std.specs.Io.KnownBytes.{Appends}
 use Rattle.std.proofs.Common.{ap, subst, sym, ◌∙◌}
 use Rattle.std.proofs.lemmas.List.{length-map}
-use Rattle.text.specs.Wrote.{Wrote, WroteFront}
-use Rattle.text.proofs.Writing.{Wrote-after, Wrote-err, WroteFront-after, WroteFront-more}
-use Rattle.systems.specs.Numbered.{arrow_of, system_with}
-use Rattle.systems.specs.declared.system.Transition.{Transition}
+use Rattle.text.specs.Wrote.{WroteFront}
+use Rattle.text.proofs.Writing.{Wrote-after, Wrote-as, Wrote-err, WroteFront-after, WroteFront-more}
+use Rattle.systems.specs.Numbered.{IsInside, Numbered, arrow_of, system_with}
+use Rattle.normal.specs.Normal.{normal_nodes}
 use Rattle.calculus.specs.Closed.{closed_formula}
-use Rattle.why.specs.Story.{AreNumbered, telling_text}
+use Rattle.why.specs.Story.{AreNumbered}
 use Rattle.why.specs.declared.line.Line.{Line}
 use Rattle.why.proofs.Numbered.{each_numbered}
 use Rattle.requests.specs.Report.{formula_line, initial_line}
 use Rattle.requests.specs.declared.texts.Texts.{Texts}
 use Rattle.engines.specs.Findings.{formula_of, system_of}
-use Rattle.engines.specs.declared.reasons.TheConstants.{MOST_TOLD}
+use Rattle.engines.proofs.Reasoning.{telling_same}
 use Rattle.engines.proofs.reasons.put_reasons.Goals as goal
+
+pub write_telling-requires-clause-inside : goal.write_telling-requires-clause-inside
+write_telling-requires-clause-inside g c =
+    let x = c.args.found.now in
+    subst (λ (n : Numbered). IsInside n c.deref-4.result.now) (sym c.reached_in-reached.ensures.system)
+    (subst (IsInside x.texts.value.system) (sym c.deref-4.ensures.value) c.requires.told.shown.inside)
 
 pub write_telling-requires-clause-numbered : goal.write_telling-requires-clause-numbered
 write_telling-requires-clause-numbered g c =
     let told = c.args.told.now in
-    let l = system_with c.args.found.now.texts.value.system told.part.items in
-    let all = each_numbered l [] told.lines.items c.requires.told.telling.each in
-    let long = length-map told.part.items (arrow_of c.args.found.now.texts.value.system.labels) ∙ ap length (sym c.deref-4.ensures.value) in
-    subst (λ (lines : List Line). AreNumbered (length c.deref-4.result.now) lines) (sym c.deref-5.ensures.value)
-    (subst (λ n. AreNumbered n told.lines.items) long all)
+    let n = c.args.found.now.texts.value.system in
+    let part = told.play.transitions.items in
+    let l = system_with n part in
+    let all = each_numbered l [] told.lines.items c.requires.told.shown.shown.witness.system c.requires.told.telling.each in
+    let long = length-map part (arrow_of n.labels) ∙ ap length (sym c.deref-4.ensures.value) in
+    subst (λ (m : Numbered). AreNumbered m.system.states (length c.deref-4.result.now) c.deref-5.result.now) (sym c.reached_in-reached.ensures.system)
+    (subst (λ (lines : List Line). AreNumbered n.system.states (length c.deref-4.result.now) lines) (sym c.deref-5.ensures.value)
+    (subst (λ k. AreNumbered n.system.states k told.lines.items) long all))
 
 pub returns-in_err-write_formula_line : goal.returns-in_err-write_formula_line
 returns-in_err-write_formula_line g c =
@@ -55,11 +64,10 @@ returns g c =
     (initial_line (slice_index_or c.deref-3.result.now t.system.system.initial false))) c.deref.ensures c.in_ok-write_initial_line.ensures in
     let initial = subst (λ marks. Appends (g.W.Write.contents c.write_formula_line.new.out) (g.W.Write.contents c.write_initial_line.new.out)
     (initial_line (slice_index_or marks (system_of x).initial false))) c.deref-3.ensures.value by_texts in
-    let in_texts = subst (λ (t : Texts). Wrote (g.W.Write.contents c.write_initial_line.new.out) (g.W.Write.contents c.write_telling.new.out)
-    c.write_telling.result (telling_text (system_with t.system c.deref-4.result.now) MOST_TOLD c.deref-5.result.now)) c.deref.ensures c.write_telling.ensures in
-    let in_part = subst (λ (part : List Transition). Wrote (g.W.Write.contents c.write_initial_line.new.out) (g.W.Write.contents c.write_telling.new.out)
-    c.write_telling.result (telling_text (system_with x.texts.value.system part) MOST_TOLD c.deref-5.result.now)) c.deref-4.ensures.value in_texts in
-    let telling = subst (λ (lines : List Line). Wrote (g.W.Write.contents c.write_initial_line.new.out) (g.W.Write.contents c.write_telling.new.out)
-    c.write_telling.result (telling_text (system_with x.texts.value.system told.part.items) MOST_TOLD lines)) c.deref-5.ensures.value in_part in
+    let telling = Wrote-as _ _ _ _ _ (telling_same c.reached_in-reached.result.system.now x.texts.value.system
+    (normal_nodes c.reached_in-reached.result.normal.now) (normal_nodes told.normal)
+    c.reached_in-reached.result.marks.now told.play.marks.items c.deref-4.result.now told.play.transitions.items c.deref-5.result.now told.lines.items
+    c.reached_in-reached.ensures.system c.reached_in-reached.ensures.normal c.reached_in-reached.ensures.marks c.deref-4.ensures.value c.deref-5.ensures.value)
+    c.write_telling.ensures in
     Wrote-after _ _ _ (formula_line (formula_of x)) _ _ line
     (Wrote-after _ _ _ (initial_line (slice_index_or x.marks.items (system_of x).initial false)) _ _ initial telling)

@@ -1,12 +1,9 @@
-use Rattle.std.proofs.Common.{subst, sym}
+use Rattle.std.proofs.Common.{ap, ◌∙◌}
+use Rattle.calculus.specs.Closed.{closed_formula}
+use Rattle.normal.specs.Rules.{nodes_with}
 use Rattle.requests.specs.declared.texts.Texts.{Texts}
-use Rattle.why.specs.Shown.{AreWitness}
-use Rattle.engines.proofs.Reasoning.{shown_witness}
 use Rattle.engines.proofs.reasons.told_by.Goals as goal
 
-pub tell_witness-requires : goal.tell_witness-requires
-tell_witness-requires c =
-    let x = c.args.found.now in
-    let whole = shown_witness x c.args.part.items c.requires.found c.requires.shown in
-    subst (λ (t : Texts). AreWitness t.system c.deref-2.result.now) (sym c.deref.ensures)
-    (subst (AreWitness x.texts.value.system) (sym c.deref-2.ensures.value) whole)
+pub told_with-requires-clause-nodes : goal.told_with-requires-clause-nodes
+told_with-requires-clause-nodes c =
+    c.in-Ok.ensures.nodes ∙ ap (λ (t : Texts). nodes_with c.args.found.now.solution.priorities (closed_formula t.formula)) c.deref.ensures

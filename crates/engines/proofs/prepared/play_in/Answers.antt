@@ -1,16 +1,16 @@
 use Rattle.std.proofs.Common.{subst, sym, ◌∙◌}
 use Rattle.game.specs.Game.{IsGame}
 use Rattle.engines.proofs.Winning.{even_winning, odd_winning}
-use Rattle.engines.proofs.prepared.part_in.Goals as goal
+use Rattle.engines.proofs.prepared.play_in.Goals as goal
 
-pub part_by-requires-clause-winning : goal.part_by-requires-clause-winning
-part_by-requires-clause-winning c =
+pub play_by-requires-clause-winning : goal.play_by-requires-clause-winning
+play_by-requires-clause-winning c =
     let pair = c.requires.pair in
     even_winning c.args.found.now c.args.pair.now.even c.requires.found c.initial_mark.ensures.inside (sym c.initial_mark.ensures.mark ∙ c.if-initial_mark.true)
     pair.even_game pair.even pair.even_good pair.even_exact
 
-pub part_by-requires-else-initial_mark-clause-winning : goal.part_by-requires-else-initial_mark-clause-winning
-part_by-requires-else-initial_mark-clause-winning c =
+pub play_by-requires-else-initial_mark-clause-winning : goal.play_by-requires-else-initial_mark-clause-winning
+play_by-requires-else-initial_mark-clause-winning c =
     let pair = c.requires.pair in
     odd_winning c.args.found.now c.args.pair.now.odd c.requires.found c.initial_mark.ensures.inside c.one_wins.ensures
     (subst IsGame c.deref.ensures c.known.ensures)

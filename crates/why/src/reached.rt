@@ -1,0 +1,20 @@
+// What a play reaches.
+
+ghost use Rattle.std.specs.Prelude.{◌≡◌};
+ghost use Rattle.normal.specs.Normal.{normal_nodes};
+ghost use Rattle.game.specs.Arena.{arena};
+
+use game::graph::Game;
+use lts::Lts;
+use normal::form::Normal;
+
+/// Which vertices a play reaches, in the game of a system and a normal form.
+#[derive(Clone, Copy)]
+pub struct Reached<'a> {
+    pub system: &'a Lts,
+    pub normal: &'a Normal,
+    pub game: &'a Game,
+    /// A mark for each vertex, true where the play reaches it.
+    pub marks: &'a [bool],
+    ghost same: { game.now ≡ arena system.now.system (normal_nodes normal.now) },
+}
