@@ -2,7 +2,7 @@
 #![tactic(auto)]
 
 #[cfg(test)]
-mod claims;
+mod claims_by_hand;
 #[cfg(test)]
 mod guessed_columns;
 #[cfg(test)]
