@@ -1,14 +1,12 @@
 -- Labels that are added keep the arrows of the transitions so far.
-use Rattle.std.proofs.Common.{◌≡◌, ℕ, ◌<◌, ◌≤◌, ◌+◌, List, [], ◌∷◌, ◌++◌, length, map, get_or, Some, Bool, true, false, cond, append-nil, refl, sym, ap, ◌∙◌}
+use Rattle.std.proofs.Common.{◌≡◌, ℕ, ◌<◌, List, [], ◌∷◌, ◌++◌, length, map, get_or, true, refl, sym, ap, ◌∙◌}
 use Rattle.std.proofs.Common.{arith}
-use Rattle.std.specs.Prelude.{position, nat_eq, slice_get}
+use Rattle.std.specs.Prelude.{nat_eq}
 use Rattle.std.specs.List.{Contains, AllByRecursion}
 use Rattle.std.specs.Global.{Vec}
 use Rattle.std.specs.Cmp.Lexicographic.{pointwise}
 use Rattle.std.proofs.lemmas.List.{get_or_append_left, get_or-map, length-map, length-append, map-append}
 use Rattle.std.proofs.lemmas.List.Elements.{Contains-append_left, Contains-append_right}
-use Rattle.std.proofs.lemmas.List.Quantifiers.{position-Some}
-use Rattle.std.proofs.lemmas.Option.{get_or_from_slice_get, slice_get_within}
 use Rattle.std.proofs.lemmas.Slice.Eq.{bytes_eq-Decides}
 use Rattle.systems.specs.System.{Arrow}
 use Rattle.systems.specs.Numbered.{label_at, arrow_of, AreLabelsOf}
@@ -16,46 +14,13 @@ use Rattle.systems.specs.declared.system.Transition.{Transition}
 use Rattle.systems.specs.Label.{texts}
 use Rattle.lts.specs.Gathered.{HasLabel, Extends, Gathers}
 
--- the key that was found is the label
-pub found_label : (keys : List (Vec ℕ)) (label : List ℕ) (i : ℕ) → position (λ k. pointwise nat_eq label k.items) keys ≡ Some i → HasLabel (texts keys) i label
-found_label [] label i e = absurd cc
-found_label (k ∷ keys) label i e =
-    let found = position-Some (λ (k : Vec ℕ). pointwise nat_eq label k.items) (k ∷ keys) i k e in
-    let same : label ≡ (get_or (k ∷ keys) i k).items = (bytes_eq-Decides label (get_or (k ∷ keys) i k).items).0 found.1 in
-    record {
-      within = rw (length-map (k ∷ keys) (λ (v : Vec ℕ). v.items)) found.0;
-      is = get_or-map (λ (v : Vec ℕ). v.items) (k ∷ keys) i k [] found.0
-          ∙ sym same;
-    }
-
--- the key that was stored is the label
-pub stored_label : (keys : List (Vec ℕ)) (label : List ℕ) (i : ℕ) (k v : Vec ℕ) → i < length keys → slice_get keys i ≡ Some k
-    → pointwise nat_eq v.items k.items ≡ true → v.items ≡ label → HasLabel (texts keys) i label
-stored_label keys label i k v below there alike is = record {
-  within = omega (arith, length-map keys (λ (v : Vec ℕ). v.items), below);
-  is = get_or-map (λ (v : Vec ℕ). v.items) keys i k [] below ∙ ap (λ (v : Vec ℕ). v.items) (get_or_from_slice_get keys i k k there)
-      ∙ sym ((bytes_eq-Decides v.items k.items).0 alike) ∙ is;
+-- the piece of this number is the label
+pub label_here : (pieces : List (Vec ℕ)) (label : List ℕ) (i : ℕ) (piece : Vec ℕ) (bytes : List ℕ) → i < length pieces → piece ≡ get_or pieces i piece
+    → bytes ≡ piece.items → pointwise nat_eq bytes label ≡ true → HasLabel (texts pieces) i label
+label_here pieces label i piece bytes within there is alike = record {
+  within = omega (arith, length-map pieces (λ (v : Vec ℕ). v.items), within);
+  is = get_or-map (λ (v : Vec ℕ). v.items) pieces i piece [] within ∙ ap (λ (v : Vec ℕ). v.items) (sym there) ∙ sym is ∙ (bytes_eq-Decides bytes label).0 alike;
 }
-
--- the key of this number is the label
-pub label_here : (keys : List (Vec ℕ)) (label : List ℕ) (i : ℕ) (k : Vec ℕ) (bytes : List ℕ) → slice_get keys i ≡ Some k → bytes ≡ k.items
-    → pointwise nat_eq bytes label ≡ true → HasLabel (texts keys) i label
-label_here keys label i k bytes there is alike =
-    let below = slice_get_within keys i k there in
-    record {
-      within = omega (arith, length-map keys (λ (v : Vec ℕ). v.items), below);
-      is = get_or-map (λ (v : Vec ℕ). v.items) keys i k [] below ∙ ap (λ (v : Vec ℕ). v.items) (get_or_from_slice_get keys i k k there) ∙ sym is
-          ∙ (bytes_eq-Decides bytes label).0 alike;
-    }
-
--- the keys are the same, or one came at the end
-pub keys_grown : (b : Bool) (old new : List (Vec ℕ)) (v : Vec ℕ) → new ≡ cond b old (old ++ v ∷ []) → Extends (texts old) (texts new) v.items
-keys_grown true old new v is = record { more = []; is = ap texts is ∙ sym (append-nil (texts old)); only = tt }
-keys_grown false old new v is = record { more = v.items ∷ []; is = ap texts is ∙ map-append (λ (v : Vec ℕ). v.items) old (v ∷ []); only = (refl, tt) }
-
-pub keys_few : (b : Bool) (m n : ℕ) → m ≡ n + cond b 1 0 → m ≤ n + 1
-keys_few true m n is = omega arith
-keys_few false m n is = omega arith
 
 pub all_append : {X : Type 0} (P : X → Type 0) (xs ys : List X) → AllByRecursion P xs → AllByRecursion P ys → AllByRecursion P (xs ++ ys)
 all_append P [] ys p q = q

@@ -3,6 +3,7 @@
 
 mod assemble;
 pub mod error;
+mod index;
 mod intake;
 pub mod law;
 mod plain;

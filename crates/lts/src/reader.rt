@@ -92,13 +92,13 @@ fn read_row<B: BufRead>(
 ) -> Result<(), AutError>
     requires due { good < found.transitions }
     requires admitted { IsAdmitted found }
-    requires labels { length rows.old.labels.keys ≤ good }
+    requires labels { length rows.old.labels.items ≤ good }
     ensures row { OnOk result ((old : Option (List ℕ)) → SoFar found.states good old (B.remaining reader.old)
-        (texts rows.old.labels.keys) rows.old.transitions.items
-        → SoFar found.states (good + 1) old (B.remaining reader.new) (texts rows.new.labels.keys) rows.new.transitions.items) }
-    ensures labels { OnOk result (length rows.new.labels.keys ≤ good + 1) }
+        (texts rows.old.labels.items) rows.old.transitions.items
+        → SoFar found.states (good + 1) old (B.remaining reader.new) (texts rows.new.labels.items) rows.new.transitions.items) }
+    ensures labels { OnOk result (length rows.new.labels.items ≤ good + 1) }
     ensures fault { IfErr result (λ e. (old : Option (List ℕ))
-        → SoFar found.states good old (B.remaining reader.old) (texts rows.old.labels.keys) rows.old.transitions.items
+        → SoFar found.states good old (B.remaining reader.old) (texts rows.old.labels.items) rows.old.transitions.items
         → Refuses old (HasRestFault found) e) }
 {
     let line = u64::from(good) + 2;
@@ -144,14 +144,14 @@ fn read_rows<B: BufRead>(
     rows: &mut Rows,
 ) -> Result<(), AutError>
     requires admitted { IsAdmitted found }
-    requires none { Gathers (texts rows.old.labels.keys) rows.old.transitions.items [] }
-    requires unlabelled { length rows.old.labels.keys ≡ 0 }
+    requires none { Gathers (texts rows.old.labels.items) rows.old.transitions.items [] }
+    requires unlabelled { length rows.old.labels.items ≡ 0 }
     ensures rows { OnOk result ((arrows : List Arrow)
-        × Gathers (texts rows.new.labels.keys) rows.new.transitions.items arrows
+        × Gathers (texts rows.new.labels.items) rows.new.transitions.items arrows
         × AllByRecursion (IsArrow found.states) arrows
         × IfKnown (B.remaining reader.old) (B.remaining reader.new) (AreTransitions found arrows)) }
     ensures within { OnOk result (length rows.new.transitions.items ≤ MOST_TRANSITIONS) }
-    ensures labels { OnOk result (length rows.new.labels.keys ≤ MOST_TRANSITIONS) }
+    ensures labels { OnOk result (length rows.new.labels.items ≤ MOST_TRANSITIONS) }
     ensures fault { IfErr result (Refuses (B.remaining reader.old) (HasRestFault found)) }
 {
     for good in 0..found.transitions {
@@ -169,8 +169,8 @@ fn read_rest<B: BufRead>(
     rows: &mut Rows,
 ) -> Result<Lts, AutError>
     requires admitted { IsAdmitted found }
-    requires none { Gathers (texts rows.old.labels.keys) rows.old.transitions.items [] }
-    requires unlabelled { length rows.old.labels.keys ≡ 0 }
+    requires none { Gathers (texts rows.old.labels.items) rows.old.transitions.items [] }
+    requires unlabelled { length rows.old.labels.items ≡ 0 }
     ensures rest { IfOk result (λ l. (arrows : List Arrow)
         × AllByRecursion (IsArrow found.states) arrows
         × IfKnown (B.remaining reader.old) (B.remaining reader.new) (AreTransitions found arrows)
