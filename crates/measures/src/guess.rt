@@ -183,7 +183,7 @@ fn lifted<O: Observer>(alloc: Global, game: &Game, mut table: PlainTable, observ
     ensures least { IsLeastTable game.now result.values }
 {
     if !lift_ahead(game, &mut table) {
-        jump_ahead(alloc, game, &mut table);
+        jump_ahead(alloc, game, &mut table, observer);
     }
     settle_seen(game, &mut table, observer);
     settled(game, table)

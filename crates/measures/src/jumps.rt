@@ -9,6 +9,7 @@ use game::graph::Game;
 use progress::bounds::bounds;
 use progress::claim::Claim;
 use progress::measure::Measure;
+use progress::observer::{Observer, Stage};
 use progress::progs::is_measure;
 use progress::table::PlainTable;
 use search::layers::Layers;
@@ -138,13 +139,14 @@ fn are_left(game: &Game, table: &PlainTable, priority: u8) -> bool
 
 // The same of each odd priority, the greatest first: each is counted where the greater ones are equal.
 #[tactic(auto, using(progress::proofs::Rising::under_itself, progress::proofs::Rising::under_trans))]
-fn jump_to_all_counts(
+fn jump_to_all_counts<O: Observer>(
     alloc: Global,
     game: &Game,
     table: &mut PlainTable,
     claim: &mut Claim,
     lost: &Lost,
     rank: &mut [u32],
+    observer: &O,
 ) -> Result<(), Memory>
     requires same { table.old.game ≡ game.now }
     requires claim { claim.old.game ≡ game.now }
@@ -156,6 +158,10 @@ fn jump_to_all_counts(
     for back in 0..16u8 {
         let odd = 31 - 2 * back;
         if are_left(game, table, odd) {
+            observer.sees(Stage::Counting {
+                vertices: game.vertices(),
+                priority: odd,
+            });
             layers = layers.next(alloc, game, table.predecessors(), odd)?;
             jump_to_counts(game, table, claim, &layers, rank);
         }
@@ -165,7 +171,12 @@ fn jump_to_all_counts(
 
 // Raises the table as far as a search finds.
 #[tactic(auto, using(progress::proofs::Rising::under_itself, progress::proofs::Rising::under_trans))]
-fn search(alloc: Global, game: &Game, table: &mut PlainTable) -> Result<(), Memory>
+fn search<O: Observer>(
+    alloc: Global,
+    game: &Game,
+    table: &mut PlainTable,
+    observer: &O,
+) -> Result<(), Memory>
     requires { table.old.game ≡ game.now }
     ensures table { table.new.game ≡ game.now }
     ensures kept { LiesUnder table.old.values table.new.values }
@@ -174,7 +185,15 @@ fn search(alloc: Global, game: &Game, table: &mut PlainTable) -> Result<(), Memo
     let mut claim = Claim::new(alloc, game)?;
     let mut rank = vec![in alloc; 0; claim.width()]?;
     jump_to_top(game, table, &mut claim, &lost, rank.as_mut_slice());
-    jump_to_all_counts(alloc, game, table, &mut claim, &lost, rank.as_mut_slice())
+    jump_to_all_counts(
+        alloc,
+        game,
+        table,
+        &mut claim,
+        &lost,
+        rank.as_mut_slice(),
+        observer,
+    )
 }
 
 // Whether there are so many measures that lifting may climb for long.
@@ -183,14 +202,20 @@ fn can_climb(game: &Game) -> bool {
     bounds.len() > 2 || bounds.iter().any(|bound| *bound > 1)
 }
 
-/// Raises the table as far as a search finds, where measures can climb: lifting takes no time where none can.
+/// Raises the table as far as a search finds, where measures can climb: lifting takes no time where none can. An observer is told how far the
+/// search has come.
 #[tactic(auto, using(progress::proofs::Rising::under_itself))]
-pub(crate) fn jump_ahead(alloc: Global, game: &Game, table: &mut PlainTable)
+pub(crate) fn jump_ahead<O: Observer>(
+    alloc: Global,
+    game: &Game,
+    table: &mut PlainTable,
+    observer: &O,
+)
     requires { table.old.game ≡ game.now }
     ensures table { table.new.game ≡ game.now }
     ensures kept { LiesUnder table.old.values table.new.values }
 {
     if can_climb(game) {
-        let _ = search(alloc, game, table);
+        let _ = search(alloc, game, table, observer);
     }
 }

@@ -21,11 +21,26 @@ pub fn first_table(alloc: Global, game: &Game) -> Result<PlainTable, Memory>
     ensures game { IfOk result (λ t. t.game ≡ game.now) }
     ensures raised { IfOk result (λ t. LiesUnder (opening_of game.now) t.values) }
 {
+    first_table_seen(alloc, game, &Silent)
+}
+
+/// The same, told to an observer: how far the search has come.
+///
+/// # Errors
+/// Want of memory for the table itself.
+pub fn first_table_seen<O: Observer>(
+    alloc: Global,
+    game: &Game,
+    observer: &O,
+) -> Result<PlainTable, Memory>
+    ensures game { IfOk result (λ t. t.game ≡ game.now) }
+    ensures raised { IfOk result (λ t. LiesUnder (opening_of game.now) t.values) }
+{
     let mut table = opening(alloc, game)?;
     if lift_ahead(game, &mut table) {
         return Ok(table);
     }
-    jump_ahead(alloc, game, &mut table);
+    jump_ahead(alloc, game, &mut table, observer);
     Ok(table)
 }
 
@@ -40,7 +55,7 @@ pub fn solve_one(alloc: Global, game: &Game) -> Result<Settled, Memory>
     solve_one_seen(alloc, game, &Silent)
 }
 
-/// The same, told to an observer: that the search begins, that lifting does, and then every 4,096th lift.
+/// The same, told to an observer: that the search begins, how far it has come, that lifting begins, and then every 4,096th lift.
 ///
 /// # Errors
 /// Want of memory for the table itself.
@@ -55,7 +70,7 @@ pub fn solve_one_seen<O: Observer>(
     observer.sees(Stage::Searching {
         vertices: game.vertices(),
     });
-    let mut table = first_table(alloc, game)?;
+    let mut table = first_table_seen(alloc, game, observer)?;
     settle_seen(game, &mut table, observer);
     Ok(table.into_settled())
 }

@@ -1,12 +1,12 @@
 // The command `check`.
 
-use crate::files::{Files, evidence_names};
-use crate::input::{Counted, open};
-use crate::line::{Output, ProgressLine};
-use crate::refusal::Refusal;
-use crate::same::keep_apart;
-use crate::stats::Stats;
 use command_line::request::Outputs;
+use console::files::{Files, evidence_names};
+use console::input::{Counted, open};
+use console::line::{Output, ProgressLine};
+use console::refusal::Refusal;
+use console::same::keep_apart;
+use console::stats::Stats;
 use engines::engine::check_asked;
 use engines::error::MuError;
 use engines::request::{Check, ReportForm};

@@ -3,22 +3,12 @@
 #![tactic(auto)]
 
 mod check;
-mod files;
-mod input;
-mod line;
-mod notes;
 mod reasons;
-mod refusal;
-mod same;
-mod sight;
 mod solve;
-mod stats;
 mod table;
 
 use crate::check::run_check;
-use crate::input::open;
 use crate::reasons::run_why;
-use crate::refusal::{NO_SOURCES, Refusal, Sources, tell};
 use crate::solve::run_solve;
 use crate::table::run_table;
 use command_line::information::{explanation, help_text, version_text};
@@ -27,6 +17,8 @@ use command_line::request::Command;
 use commands::normal_text::normal_asked;
 use commands::replay_text::replay_asked;
 use commands::verify_text::{verify_both_text, verify_text};
+use console::input::open;
+use console::refusal::{NO_SOURCES, Refusal, Sources, tell};
 use engines::error::{ArgumentError, MuError};
 use engines::request::{Normalize, Replay, Verify};
 use engines::status::{error_status, status};

@@ -1,9 +1,9 @@
 // The command `why`.
 
-use crate::input::{Counted, open};
-use crate::line::{Output, ProgressLine};
-use crate::refusal::Refusal;
-use crate::stats::Stats;
+use console::input::{Counted, open};
+use console::line::{Output, ProgressLine};
+use console::refusal::Refusal;
+use console::stats::Stats;
 use engines::reasons::tell_why;
 use engines::request::Why;
 use std::sync::Wait;

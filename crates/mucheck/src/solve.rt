@@ -1,12 +1,12 @@
 // The command `solve`.
 
-use crate::files::{Files, evidence_names};
-use crate::input::{Counted, open};
-use crate::line::{Output, ProgressLine};
-use crate::refusal::Refusal;
-use crate::same::keep_game_apart;
-use crate::stats::{Stats, Step};
 use commands::solve_text::solve_asked;
+use console::files::{Files, evidence_names};
+use console::input::{Counted, open};
+use console::line::{Output, ProgressLine};
+use console::refusal::Refusal;
+use console::same::keep_game_apart;
+use console::stats::{Stats, Step};
 use engines::request::Solve;
 use std::sync::Wait;
 use std::thread::Threads;

@@ -1,9 +1,9 @@
 // The command `table`.
 
-use crate::input::{Counted, Input, open};
-use crate::line::{Output, ProgressLine};
-use crate::refusal::{NO_SOURCES, Refusal, tell};
-use crate::stats::Stats;
+use console::input::{Counted, Input, open};
+use console::line::{Output, ProgressLine};
+use console::refusal::{NO_SOURCES, Refusal, tell};
+use console::stats::Stats;
 use engines::error::MuError;
 use engines::request::Table;
 use engines::status::error_status;

@@ -16,6 +16,8 @@ mod lines_and_tokens;
 #[cfg(test)]
 mod meanings;
 #[cfg(test)]
+mod meeting_labels;
+#[cfg(test)]
 mod normal_forms;
 #[cfg(test)]
 mod normal_texts;

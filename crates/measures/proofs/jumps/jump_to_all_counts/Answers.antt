@@ -6,7 +6,7 @@ use Rattle.progress.proofs.Common.{Table, subst, sym}
 use Rattle.progress.proofs.Monotone.{LiesUnder}
 
 pub loop-back-preserved : goal.loop-back-preserved
-loop-back-preserved c =
+loop-back-preserved o c =
     let inv = c.loop-back.invariant in
     elim c.if-are_left.branch [
       | then-are_left+in_ok-layers-2 w ↦ record {

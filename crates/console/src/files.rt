@@ -2,9 +2,9 @@
 
 use crate::refusal::Refusal;
 use command_line::names::{EvidenceNames, is_drawing};
-use engines::error::MuError;
-use engines::request::{ReportForm, Wanted, WitnessForm};
-use engines::writers::Writers;
+use requests::error::MuError;
+use requests::request::{ReportForm, Wanted, WitnessForm};
+use requests::writers::Writers;
 use std::cell::OnceCell;
 use std::fs::File;
 use std::io;

@@ -41,7 +41,10 @@ impl Step {
     fn goes_on(self, other: Step) -> bool {
         match (self, other) {
             (Step::Seen(Stage::Lifting { .. }), Step::Seen(Stage::Lifting { .. }))
-            | (Step::Seen(Stage::Searching { .. }), Step::Seen(Stage::Searching { .. })) => true,
+            | (
+                Step::Seen(Stage::Searching { .. } | Stage::Counting { .. }),
+                Step::Seen(Stage::Searching { .. } | Stage::Counting { .. }),
+            ) => true,
             _ => false,
         }
     }
@@ -142,12 +145,17 @@ fn name_of(alloc: Global, step: Step) -> Result<String, AllocError> {
     }
 }
 
-fn name_of_stage(alloc: Global, stage: Stage) -> Result<String, AllocError> {
+/// What a stage does, and of how much.
+pub(crate) fn name_of_stage(alloc: Global, stage: Stage) -> Result<String, AllocError> {
     match stage {
         Stage::ReadingSystem => String::from_str(alloc, "reading the system"),
         Stage::ReadingFormula => String::from_str(alloc, "reading the formula"),
         Stage::Building { states } => format!(in alloc; "building, {states} states"),
-        Stage::Searching { vertices } => format!(in alloc; "searching, {vertices} vertices"),
+        Stage::Searching { vertices }
+        | Stage::Counting {
+            vertices,
+            priority: _,
+        } => format!(in alloc; "searching, {vertices} vertices"),
         Stage::Lifting { vertices, lifts } => {
             format!(in alloc; "lifting, {vertices} vertices, {lifts} lifts")
         }

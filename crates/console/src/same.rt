@@ -3,8 +3,8 @@
 use command_line::inputs::is_standard_input;
 use command_line::names::{EvidenceNames, is_device, over_game};
 use command_line::request::Outputs;
-use engines::error::{ArgumentError, CheckFile, MuError};
-use engines::request::{Check, ReportForm, Solve};
+use requests::error::{ArgumentError, CheckFile, MuError};
+use requests::request::{Check, ReportForm, Solve};
 use std::fs;
 use std::io::ErrorKind;
 use std::os::unix::fs::MetadataExt;

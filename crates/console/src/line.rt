@@ -2,11 +2,11 @@
 // done where that is asked for.
 
 use crate::notes::note_all;
-use crate::stats::{Running, Stats, Step, told_texts};
+use crate::stats::{Running, Stats, Step, name_of_stage, told_texts};
 use calculus::closed::Closed;
-use engines::watch::Watcher;
 use lts::system::Lts;
 use measures::observer::{Observer, Stage};
+use requests::watch::Watcher;
 use std::alloc::{AllocError, Global};
 use std::io::{IsTerminal, Write};
 use std::sync::atomic::{AtomicU64, Ordering};
@@ -41,13 +41,11 @@ struct Screen {
     is_over: bool,
 }
 
-/// What the run and the thread that writes the line share. The numbers tell where the run is; between two of them another
-/// stage may have come, which the next writing of the line mends.
+/// What the run and the thread that writes the line share.
 #[derive(Drop)]
 struct Place {
-    kind: AtomicU64,
-    count: AtomicU64,
-    lifts: AtomicU64,
+    /// What the run does.
+    step: Mutex<Step>,
     /// How many bytes of the text at hand are read, and how many it has.
     bytes: AtomicU64,
     size: AtomicU64,
@@ -58,9 +56,7 @@ struct Place {
 impl Place {
     fn new() -> Place {
         Place {
-            kind: AtomicU64::new(0),
-            count: AtomicU64::new(0),
-            lifts: AtomicU64::new(0),
+            step: Mutex::new(Step::Seen(Stage::ReadingSystem)),
             bytes: AtomicU64::new(0),
             size: AtomicU64::new(UNKNOWN),
             screen: Mutex::new(Screen {
@@ -71,51 +67,22 @@ impl Place {
         }
     }
 
-    fn store(&self, kind: u64, count: u64, lifts: u64) {
-        self.kind.store(kind, Ordering::Relaxed);
-        self.count.store(count, Ordering::Relaxed);
-        self.lifts.store(lifts, Ordering::Relaxed);
-    }
-
     fn has_bytes(&self, bytes: u64, size: Option<u64>) {
         self.bytes.store(bytes, Ordering::Relaxed);
         self.size.store(size.unwrap_or(UNKNOWN), Ordering::Relaxed);
     }
 
-    fn sees(&self, step: Step) {
+    fn sees<T: Wait>(&self, handle: &T, step: Step) {
+        *self.step.lock(handle) = step;
+    }
+
+    // What the line says of a step after so many seconds.
+    fn text(&self, alloc: Global, step: Step, seconds: u64) -> Result<String, AllocError> {
         match step {
-            Step::ReadingGame => self.store(7, 0, 0),
-            Step::Seen(stage) => self.sees_stage(stage),
-        }
-    }
-
-    fn sees_stage(&self, stage: Stage) {
-        match stage {
-            Stage::ReadingSystem => self.store(0, 0, 0),
-            Stage::ReadingFormula => self.store(1, 0, 0),
-            Stage::Building { states } => self.store(2, u64::from(states), 0),
-            Stage::Searching { vertices } => self.store(3, u64::from(vertices), 0),
-            Stage::Lifting { vertices, lifts } => self.store(4, u64::from(vertices), lifts),
-            Stage::Evaluating { states } => self.store(5, u64::from(states), 0),
-            Stage::Writing => self.store(6, 0, 0),
-        }
-    }
-
-    // What the line says after so many seconds.
-    fn text(&self, alloc: Global, seconds: u64) -> Result<String, AllocError> {
-        let count = self.count.load(Ordering::Relaxed);
-        let lifts = self.lifts.load(Ordering::Relaxed);
-        match self.kind.load(Ordering::Relaxed) {
-            0 => self.reading(alloc, "system", seconds),
-            1 => self.reading(alloc, "formula", seconds),
-            2 => format!(in alloc; "mucheck: building, {count} states, {seconds} s\n"),
-            3 => format!(in alloc; "mucheck: searching, {count} vertices, {seconds} s\n"),
-            4 => format!(in alloc;
-                "mucheck: lifting, {count} vertices, {lifts} lifts, {seconds} s\n"
-            ),
-            5 => format!(in alloc; "mucheck: evaluating by sets, {count} states, {seconds} s\n"),
-            7 => self.reading(alloc, "game", seconds),
-            _ => format!(in alloc; "mucheck: writing, {seconds} s\n"),
+            Step::ReadingGame => self.reading(alloc, "game", seconds),
+            Step::Seen(Stage::ReadingSystem) => self.reading(alloc, "system", seconds),
+            Step::Seen(Stage::ReadingFormula) => self.reading(alloc, "formula", seconds),
+            Step::Seen(stage) => text_of(alloc, stage, seconds),
         }
     }
 
@@ -130,6 +97,17 @@ impl Place {
             size / MEGABYTE,
         );
         format!(in alloc; "mucheck: reading the {text}, {read} of {whole} MB, {seconds} s\n")
+    }
+}
+
+// What the line says of a stage that reads nothing.
+fn text_of(alloc: Global, stage: Stage, seconds: u64) -> Result<String, AllocError> {
+    let name = name_of_stage(alloc, stage)?;
+    match stage {
+        Stage::Counting { priority, .. } => {
+            format!(in alloc; "mucheck: {name}, down to priority {priority}, {seconds} s\n")
+        }
+        _ => format!(in alloc; "mucheck: {name}, {seconds} s\n"),
     }
 }
 
@@ -149,15 +127,16 @@ fn tick<T: Wait + Clock>(rt: HostRuntime, handle: &T, place: &Place) {
             return;
         }
         if let Ok(elapsed) = start.elapsed(handle) {
-            screen.is_drawn = draw(rt, place, screen.is_drawn, elapsed.as_secs());
+            let step = *place.step.lock(handle);
+            screen.is_drawn = draw(rt, place, step, screen.is_drawn, elapsed.as_secs());
         }
         pause = NEXT;
     }
 }
 
 // Writes the line in place of the one that stands, if one does. Whether one stands afterwards.
-fn draw(rt: HostRuntime, place: &Place, is_drawn: bool, seconds: u64) -> bool {
-    let Ok(text) = place.text(rt.alloc(), seconds) else {
+fn draw(rt: HostRuntime, place: &Place, step: Step, is_drawn: bool, seconds: u64) -> bool {
+    let Ok(text) = place.text(rt.alloc(), step, seconds) else {
         return is_drawn;
     };
     if is_drawn && rt.stderr().write_all(CLEAR).is_err() {
@@ -286,7 +265,7 @@ impl<T: Wait + Clock> ProgressLine<'_, T> {
     /// The step begins, or goes on; what went on before has ended.
     pub fn step(&self, step: Step) {
         if let Some(place) = &self.place {
-            place.sees(step);
+            place.sees(self.handle, step);
         }
         if self.stats.are_told() {
             self.begin(step);

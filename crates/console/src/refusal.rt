@@ -3,7 +3,7 @@
 use crate::sight::{Location, Sight, look};
 use command_line::codes::entry_of;
 use command_line::request::Command;
-use engines::error::MuError;
+use requests::error::MuError;
 use std::io;
 use std::io::ErrorKind;
 

@@ -1,0 +1,12 @@
+// What the program has of files and a terminal: the files that it reads and makes, the line that says what it is doing, notes, and what is told of a
+// refusal.
+#![tactic(auto)]
+
+pub mod files;
+pub mod input;
+pub mod line;
+mod notes;
+pub mod refusal;
+pub mod same;
+mod sight;
+pub mod stats;
