@@ -77,6 +77,20 @@ pub record AreFindings (x : Findings) : Type 0 where
 abbrev pub IsTextFound : Findings → Kind → List ℕ → Type 0
 IsTextFound x = IsTextOf (way_in x) (system_of x) (formula_of x) x.marks.items
 
+-- evidence of all that Even wins, by the least progress table
+pub record IsEvens (g : Game) (e : Piece) : Type 0 where
+  pub game : e.game ≡ g
+  pub good : IsGood g e.evidence
+  pub exact : (v : ℕ) → IsTrue (has e.evidence v) ↔ Wins g v
+  pub best : IsEvenOf g e.evidence
+
+-- evidence of all that Odd wins, by the least progress table of the dual
+pub record IsOdds (g : Game) (e : Piece) : Type 0 where
+  pub game : e.game ≡ g
+  pub good : IsGood g e.evidence
+  pub exact : (v : ℕ) → IsTrue (has e.evidence v) ↔ OddWins g v
+  pub best : IsOddOf g e.evidence
+
 -- evidence of all that each player wins
 pub record IsPairOf (g : Game) (pair : EvidencePair) : Type 0 where
   pub even_game : pair.even.game ≡ g

@@ -13,7 +13,7 @@ use crate::findings::{Findings, find_alone, find_in, find_with};
 use crate::marks::{game_marks, plain_marks};
 use crate::no_writer::NoWriter;
 use crate::outputs::{answer, put_wanted};
-use crate::prepared::prepare;
+use crate::prepared::{prepare, prepare_by};
 use crate::report::report_text;
 use lts::put;
 use measures::observer::{Observer, Silent, Stage};
@@ -338,16 +338,7 @@ fn check_by_game<
     match find_in(rt, alloc, texts, options, watcher) {
         Ok(found) => {
             watcher.sees(Stage::Writing);
-            answer_wanted(
-                alloc,
-                &found,
-                wanted,
-                &mut writers.game,
-                &mut writers.even,
-                &mut writers.odd,
-                &mut writers.witness,
-                &mut writers.report,
-            )
+            answer_by(rt, alloc, &found, options.workers, wanted, writers)
         }
         Err(error) => Err(error),
     }
@@ -431,6 +422,37 @@ fn answer_wanted<G: Write, E: Write, O: Write, V: Write, W: Write>(
     match prepare(alloc, found, wanted) {
         Ok(prepared) => {
             let wrote = put_wanted(found, &prepared, game, even, odd, witness, out);
+            answer(found, wrote)
+        }
+        Err(error) => Err(error),
+    }
+}
+
+/// The same to all writers, where so many workers make what is wanted.
+fn answer_by<G: Write, E: Write, O: Write, V: Write, W: Write, H: Threads + Sync>(
+    rt: &H,
+    alloc: Global,
+    found: &Findings,
+    workers: u32,
+    wanted: Wanted,
+    writers: &mut Writers<G, E, O, V, W>,
+) -> Result<bool, MuError>
+    requires { AreFindings found.now }
+    ensures { (first second : List ℕ) → AreSpelled first second (system_of found.now) (formula_of found.now)
+        → Answers (way_in found.now) first second
+        (lent_writers G.contents E.contents O.contents V.contents W.contents wanted writers.old writers.new) result }
+{
+    match prepare_by(rt, alloc, found, wanted, workers) {
+        Ok(prepared) => {
+            let wrote = put_wanted(
+                found,
+                &prepared,
+                &mut writers.game,
+                &mut writers.even,
+                &mut writers.odd,
+                &mut writers.witness,
+                &mut writers.report,
+            );
             answer(found, wrote)
         }
         Err(error) => Err(error),

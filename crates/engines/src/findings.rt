@@ -8,16 +8,15 @@ ghost use Rattle.evidence.specs.Best.{IsOddOf};
 ghost use Rattle.evidence.specs.Evidence.{IsGood, has};
 ghost use Rattle.workers.specs.declared.team.BoardKind.{BoardKind};
 ghost use Rattle.requests.specs.Check.{ByGame, AreSpelled, HasRefused, IsBeyond};
-ghost use Rattle.engines.specs.Findings.{AreFindings, ArePosed, IsPairOf, formula_of, system_of, way_in};
+ghost use Rattle.engines.specs.Findings.{AreFindings, ArePosed, formula_of, system_of, way_in};
 ghost use Rattle.requests.specs.Solver.{IsFitting, IsUnsolved};
 ghost use Rattle.requests.specs.Writers.{AreKept, Lent};
 
 use crate::guessing::{dual_guess_of, guess_of};
 use crate::lifting::{SolvedGame, Winners, state_marks};
-use certify::pair::EvidencePair;
 use evidence::error::EvidenceError;
 use evidence::evidence::Evidence;
-use evidence::make::{even_evidence, odd_evidence_by};
+use evidence::make::odd_evidence_by;
 use game::graph::Game;
 use measures::guess::solve_one_by;
 use measures::observer::{Observer, Silent, Stage};
@@ -346,23 +345,4 @@ pub(crate) fn odd_of(alloc: Global, found: &Findings) -> Result<Evidence, Eviden
     let Texts { system, formula } = &*found.texts;
     let guess = dual_guess_of(alloc, system, formula, solution.priorities);
     odd_evidence_by(alloc, &solution.game, &guess)
-}
-
-/// The evidence of both players.
-///
-/// # Errors
-/// E5.
-pub fn evidence_pair(alloc: Global, found: &Findings) -> Result<EvidencePair, MuError>
-    requires { AreFindings found.now }
-    ensures pair { IfOk result (IsPairOf (arc_value found.now.solution.game)) }
-    ensures memory { IfErr result (λ e. e ≡ MuError.Evidence EvidenceError.Memory) }
-{
-    let game = &found.solution.game;
-    match even_evidence(alloc, game, &found.solution.settled) {
-        Ok(even) => match odd_of(alloc, found) {
-            Ok(odd) => Ok(EvidencePair { even, odd }),
-            Err(error) => Err(MuError::Evidence(error)),
-        },
-        Err(error) => Err(MuError::Evidence(error)),
-    }
 }

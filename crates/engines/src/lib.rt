@@ -10,6 +10,7 @@ mod lifting;
 mod marks;
 mod no_writer;
 mod outputs;
+mod pairs;
 mod prepared;
 mod ranked;
 pub mod reasons;

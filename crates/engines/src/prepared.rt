@@ -8,7 +8,8 @@ ghost use Rattle.engines.specs.Findings.{AreFindings, ArePrepared, AreShown, IsP
 ghost use Rattle.engines.specs.Findings.{system_of};
 ghost use Rattle.requests.specs.Report.{report_in};
 
-use crate::findings::{Findings, evidence_pair, odd_of};
+use crate::findings::{Findings, odd_of};
+use crate::pairs::{evidence_pair, evidence_side_by_side};
 use crate::report::report_text;
 use certify::pair::EvidencePair;
 use evidence::error::EvidenceError;
@@ -22,6 +23,7 @@ use normal::make::normal_with;
 use requests::error::MuError;
 use requests::request::{ReportForm, Wanted, WitnessForm};
 use std::alloc::Global;
+use std::thread::Threads;
 use witness::part::{Play, witness};
 
 /// A witness, and the form in which it is written.
@@ -51,6 +53,46 @@ pub(crate) fn prepare(alloc: Global, found: &Findings, wanted: Wanted) -> Result
     ensures refusal { IfErr result (IsUnprepared found.now wanted) }
 {
     let pair = pair_where(alloc, found, wanted.evidence)?;
+    prepare_beside(alloc, found, wanted, pair)
+}
+
+/// The same, where so many workers make the evidence of both players side by side.
+///
+/// # Errors
+/// Those of `prepare`.
+pub(crate) fn prepare_by<H: Threads + Sync>(
+    rt: &H,
+    alloc: Global,
+    found: &Findings,
+    wanted: Wanted,
+    workers: u32,
+) -> Result<Prepared, MuError>
+    requires { AreFindings found.now }
+    ensures prepared { IfOk result (ArePrepared found.now) }
+    ensures wanted { IfOk result (λ prepared. prepared.wanted ≡ wanted) }
+    ensures refusal { IfErr result (IsUnprepared found.now wanted) }
+{
+    if workers < 2 || !wanted.evidence {
+        return prepare(alloc, found, wanted);
+    }
+    let pair = evidence_side_by_side(rt, alloc, found)?;
+    prepare_beside(alloc, found, wanted, Some(pair))
+}
+
+/// Makes what is wanted beside the evidence of both players.
+fn prepare_beside(
+    alloc: Global,
+    found: &Findings,
+    wanted: Wanted,
+    pair: Option<EvidencePair>,
+) -> Result<Prepared, MuError>
+    requires found { AreFindings found.now }
+    requires pair { IfSome pair (IsPairOf (arc_value found.now.solution.game)) }
+    requires evidence { is_some pair ≡ wanted.evidence }
+    ensures prepared { IfOk result (ArePrepared found.now) }
+    ensures wanted { IfOk result (λ prepared. prepared.wanted ≡ wanted) }
+    ensures refusal { IfErr result (IsUnprepared found.now wanted) }
+{
     let shown = shown_where(alloc, found, wanted.witness, &pair)?;
     let report = report_of(alloc, found, wanted.report)?;
     Ok(Prepared {

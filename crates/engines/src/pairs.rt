@@ -1,0 +1,94 @@
+// The evidence of both players in a game that was solved.
+
+ghost use Rattle.std.specs.Prelude.{◌≡◌, IfOk, IfErr, MatchResult};
+ghost use Rattle.std.specs.Arc.{arc_value};
+ghost use Rattle.engines.specs.Findings.{AreFindings, IsEvens, IsOdds, IsPairOf};
+
+use crate::findings::{Findings, odd_of};
+use certify::pair::EvidencePair;
+use evidence::error::EvidenceError;
+use evidence::evidence::Evidence;
+use evidence::make::even_evidence;
+use requests::error::MuError;
+use std::alloc::Global;
+use std::thread::{Threads, join};
+
+/// The evidence of all that Even wins.
+fn evens(alloc: Global, found: &Findings) -> Result<Evidence, EvidenceError>
+    requires { AreFindings found.now }
+    ensures { MatchResult result (IsEvens (arc_value found.now.solution.game)) (λ e. e ≡ EvidenceError.Memory) }
+{
+    match even_evidence(alloc, &found.solution.game, &found.solution.settled) {
+        Ok(evidence) => Ok(evidence),
+        Err(error) => Err(error),
+    }
+}
+
+/// The evidence of all that Odd wins.
+fn odds(alloc: Global, found: &Findings) -> Result<Evidence, EvidenceError>
+    requires { AreFindings found.now }
+    ensures { MatchResult result (IsOdds (arc_value found.now.solution.game)) (λ e. e ≡ EvidenceError.Memory) }
+{
+    match odd_of(alloc, found) {
+        Ok(evidence) => Ok(evidence),
+        Err(error) => Err(error),
+    }
+}
+
+/// Both, where each was made.
+fn paired(
+    found: &Findings,
+    even: Result<Evidence, EvidenceError>,
+    odd: Result<Evidence, EvidenceError>,
+) -> Result<EvidencePair, MuError>
+    requires even { MatchResult even (IsEvens (arc_value found.now.solution.game)) (λ e. e ≡ EvidenceError.Memory) }
+    requires odd { MatchResult odd (IsOdds (arc_value found.now.solution.game)) (λ e. e ≡ EvidenceError.Memory) }
+    ensures pair { IfOk result (IsPairOf (arc_value found.now.solution.game)) }
+    ensures memory { IfErr result (λ e. e ≡ MuError.Evidence EvidenceError.Memory) }
+{
+    match (even, odd) {
+        (Ok(even), Ok(odd)) => Ok(EvidencePair { even, odd }),
+        (Err(error), _) | (_, Err(error)) => Err(MuError::Evidence(error)),
+    }
+}
+
+/// The evidence of both players.
+///
+/// # Errors
+/// E5.
+pub(crate) fn evidence_pair(alloc: Global, found: &Findings) -> Result<EvidencePair, MuError>
+    requires { AreFindings found.now }
+    ensures pair { IfOk result (IsPairOf (arc_value found.now.solution.game)) }
+    ensures memory { IfErr result (λ e. e ≡ MuError.Evidence EvidenceError.Memory) }
+{
+    let even = evens(alloc, found);
+    let odd = odds(alloc, found);
+    paired(found, even, odd)
+}
+
+/// The same, where each player's is made on a thread of its own.
+///
+/// # Errors
+/// E5.
+pub(crate) fn evidence_side_by_side<H: Threads + Sync>(
+    rt: &H,
+    alloc: Global,
+    found: &Findings,
+) -> Result<EvidencePair, MuError>
+    requires { AreFindings found.now }
+    ensures pair { IfOk result (IsPairOf (arc_value found.now.solution.game)) }
+    ensures memory { IfErr result (λ e. e ≡ MuError.Evidence EvidenceError.Memory) }
+{
+    let (even, odd) = join(
+        rt,
+        || -> Result<Evidence, EvidenceError>
+            requires { AreFindings found.entry.now }
+            ensures { MatchResult result (IsEvens (arc_value found.entry.now.solution.game)) (λ e. e ≡ EvidenceError.Memory) }
+        { evens(alloc, found) },
+        || -> Result<Evidence, EvidenceError>
+            requires { AreFindings found.entry.now }
+            ensures { MatchResult result (IsOdds (arc_value found.entry.now.solution.game)) (λ e. e ≡ EvidenceError.Memory) }
+        { odds(alloc, found) },
+    );
+    paired(found, even, odd)
+}
