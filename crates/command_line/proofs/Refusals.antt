@@ -16,14 +16,15 @@ use Rattle.requests.specs.declared.request.Solve.{Solve as SolveRequest}
 use Rattle.requests.specs.declared.request.Table.{Table as TableRequest}
 use Rattle.requests.specs.declared.request.Verify.{Verify as VerifyRequest}
 use Rattle.requests.specs.declared.request.Why.{Why as WhyRequest}
-use Rattle.command_line.specs.declared.request.Command.{Command}
-use Rattle.command_line.specs.declared.request.Command.TheVariants.{Check, Explain, Help, Normal, Replay, Solve, Table, Verify, Version, Why}
-use Rattle.command_line.specs.declared.request.Outputs.{Outputs}
-use Rattle.command_line.specs.Command.{IsComplete, IsForSome, IsPlainAlone, IsReportAlone, is_named}
+use Rattle.invocation.specs.declared.request.Command.{Command}
+use Rattle.invocation.specs.declared.request.Command.TheVariants.{Check, Explain, Help, Normal, Replay, Solve, Table, Verify, Version, Why}
+use Rattle.invocation.specs.declared.request.Outputs.{Outputs}
+use Rattle.invocation.specs.Command.{IsComplete, IsForSome, IsPlainAlone, IsReportAlone, is_named}
 use Rattle.command_line.specs.CommandLine.{AreOutputs, IsCheck, IsCommand, IsFile, IsFileIfAny, IsNormal, IsNumberIfAny, IsNumberOf, IsNumberOr}
 use Rattle.command_line.specs.CommandLine.{IsReplay, IsSolve, IsTable, IsTableRequest, IsVerify, IsWhy, answer_word, form_by, stands}
-use Rattle.command_line.specs.Names.{AreApart, KeepsNames, even_name, odd_name}
-use Rattle.command_line.specs.Refusals.{AsksForNone, HasNoForm, IfArguments, IsNoAnswer, IsUntaken}
+use Rattle.invocation.specs.Names.{AreApart, KeepsNames, even_name, odd_name}
+use Rattle.invocation.specs.Refused.{IfArguments}
+use Rattle.command_line.specs.Refusals.{AsksForNone, HasNoForm, IsNoAnswer, IsUntaken}
 
 -- ------------------------------------------------------------------ refusals
 
@@ -156,17 +157,6 @@ empty_if_any found name is empty None that named = let bad : Some name ≡ None 
 empty_if_any found name is empty (Some f) that named = let same : Some name ≡ Some f.now = sym is ∙ that in named (cc)
 
 -- what the names of a check's files are apart from, by the names of both files of evidence
-
-pub apart_without : (check : CheckRequest) (outputs : Outputs) → outputs.evidence ≡ None → KeepsNames check outputs
-    → AreApart (option_map (λ name. name.now) outputs.game ∷ None ∷ None ∷ option_map (λ name. name.now) outputs.witness ∷ [])
-    (Some check.system.now ∷ Some check.formula.now ∷ [])
-apart_without check outputs is kept = rw is at kept
-
-pub apart_with : (check : CheckRequest) (outputs : Outputs) (path : Bor Text) (even odd : Text) → outputs.evidence ≡ Some path → even ≡ even_name path.now
-    → odd ≡ odd_name path.now → KeepsNames check outputs
-    → AreApart (option_map (λ name. name.now) outputs.game ∷ Some even ∷ Some odd ∷ option_map (λ name. name.now) outputs.witness ∷ [])
-    (Some check.system.now ∷ Some check.formula.now ∷ [])
-apart_with check outputs path even odd is first second kept = rw (first, second) (rw is at kept)
 
 by_text : (xs : List (Bor Text)) → list_all is_named xs ≡ list_all (λ (t : Text). not (length t == 0)) (map (λ f. f.now) xs)
 by_text [] = refl

@@ -23,10 +23,10 @@ use Rattle.requests.specs.declared.request.ReportForm.{ReportForm}
 use Rattle.requests.specs.declared.request.ReportForm.TheVariants.{Whole, Summary, States, Nothing}
 use Rattle.requests.specs.declared.request.Table.{Table as TableRequest}
 use Rattle.requests.specs.declared.request.Why.{Why as WhyRequest}
-use Rattle.command_line.specs.declared.request.Command.{Command}
-use Rattle.command_line.specs.declared.request.Command.TheVariants.{Check, Explain, Help, Normal, Replay, Solve, Table, Verify, Version, Why}
+use Rattle.invocation.specs.declared.request.Command.{Command}
+use Rattle.invocation.specs.declared.request.Command.TheVariants.{Check, Explain, Help, Normal, Replay, Solve, Table, Verify, Version, Why}
 use Rattle.requests.specs.declared.request.Normalize.{Normalize}
-use Rattle.command_line.specs.declared.request.Outputs.{Outputs}
+use Rattle.invocation.specs.declared.request.Outputs.{Outputs}
 use Rattle.requests.specs.declared.request.Replay.{Replay as ReplayRequest}
 use Rattle.requests.specs.declared.request.Solve.{Solve as SolveRequest}
 use Rattle.requests.specs.declared.request.Verify.{Verify as VerifyRequest}
@@ -332,12 +332,6 @@ pub record AreMatchesOf (words : List Text) (matches : ArgMatches) : Type 0 wher
   pub app : App
   pub table : IsTable app
   pub rows : subcommand_rows_of matches ≡ subcommand_of app words
-
--- What a command line may be refused for: its words, with the text that says what is wrong with them, or want of memory.
-abbrev pub IsLineError : MuError → Type 0
-IsLineError (error.Arguments e) = Unit {0}
-IsLineError error.Memory = Unit {0}
-IsLineError e = ⊥
 
 -- The command is what the words ask for, read by the program's table: the first word is the program's own name.
 pub record IsAskedFor (words : List Text) (command : Command) : Type 0 where

@@ -6,13 +6,13 @@ use Rattle.requests.specs.declared.error.MuError.{MuError}
 use Rattle.requests.specs.declared.error.MuError.TheVariants as error
 use Rattle.requests.specs.declared.request.Options.{Options}
 use Rattle.requests.specs.declared.request.ReportForm.{ReportForm}
-use Rattle.command_line.specs.declared.request.Command.{Command}
-use Rattle.command_line.specs.declared.request.Outputs.{Outputs}
-use Rattle.command_line.specs.Command.{AreAllNamed, AreNamed, AreWithin, IsComplete, IsForSome, IsPlainAlone}
+use Rattle.invocation.specs.declared.request.Command.{Command}
+use Rattle.invocation.specs.declared.request.Outputs.{Outputs}
+use Rattle.invocation.specs.Command.{AreAllNamed, AreNamed, AreWithin, IsComplete, IsForSome, IsPlainAlone}
 use Rattle.command_line.specs.CommandLine.{AreFiles, AreOptions, AreOutputs, IsAskedFor, IsCommand, IsFile, IsFileIfAny, IsForm, IsNumberIfAny, IsNumberIn}
 use Rattle.command_line.specs.CommandLine.{IsRead, IsTable, answer_word}
-use Rattle.command_line.specs.Inputs.{ReadsItOnce}
-use Rattle.command_line.specs.Names.{KeepsFiles}
+use Rattle.invocation.specs.Inputs.{ReadsItOnce}
+use Rattle.invocation.specs.Names.{KeepsFiles}
 
 -- ------------------------------------------------------------------ the whole line
 
@@ -51,11 +51,6 @@ pub data IsRefusable (words : List Text) : Type 0 where
   incomplete : HaveNoCommand words → IsRefusable words
   destructive : WouldDestroy words → IsRefusable words
   repeated : WouldReadTwice words → IsRefusable words
-
--- where it is the words that are refused, and not memory that is wanting, this holds
-abbrev pub IfArguments : MuError → Type 0 → Type 0
-IfArguments (error.Arguments e) P = P
-IfArguments e P = Unit {0}
 
 -- ------------------------------------------------------------------ what is read of the matches
 

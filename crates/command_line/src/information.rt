@@ -1,14 +1,14 @@
 // The texts that the program tells of itself.
 
 ghost use Rattle.std.specs.Prelude.{IfErr};
-ghost use Rattle.command_line.specs.CommandLine.{IsLineError};
+ghost use Rattle.invocation.specs.Refused.{IsLineError};
 
-use crate::codes::entry_of;
 use crate::line::refusal;
 use crate::parser::parser;
 use crate::version::VERSION;
 use clap::Error as ClapError;
 use clap::error::ErrorKind;
+use invocation::codes::entry_of;
 use requests::error::{ArgumentError, MuError};
 use std::alloc::{AllocError, Global};
 

@@ -1,11 +1,7 @@
-// The command line: what the words of a line ask for, what the program tells of itself, and its codes.
+// The command line: what the words of a line ask for, and what the program tells of itself.
 #![tactic(auto)]
 
-pub mod codes;
 pub mod information;
-pub mod inputs;
 pub mod line;
-pub mod names;
 mod parser;
-pub mod request;
 pub mod version;

@@ -4,7 +4,7 @@ ghost use Rattle.std.specs.Prelude.{◌≡◌, ◌<◌, ◌≤◌, ◌≢◌, �
 ghost use Rattle.std.specs.List.{list_all};
 ghost use Rattle.std.specs.String.{string_bytes};
 ghost use Rattle.clap.specs.Words.{first_of, found_of, kind_of, rows_of, subcommand_rows_of};
-ghost use Rattle.command_line.specs.Command.{AreAllNamed, AreNamed, AreWithin, IsComplete, IsForSome, IsPlainAlone, is_named};
+ghost use Rattle.invocation.specs.Command.{AreAllNamed, AreNamed, AreWithin, IsComplete, IsForSome, IsPlainAlone, is_named};
 ghost use Rattle.command_line.specs.CommandLine.{
   AreFiles,
   AreMatchesOf,
@@ -16,7 +16,6 @@ ghost use Rattle.command_line.specs.CommandLine.{
   IsFile,
   IsFileIfAny,
   IsForm,
-  IsLineError,
   IsNumberIfAny,
   IsNumberIn,
   IsRead,
@@ -26,8 +25,9 @@ ghost use Rattle.command_line.specs.CommandLine.{
   has_value,
   priorities_in,
 };
-ghost use Rattle.command_line.specs.Inputs.{ReadsItOnce};
-ghost use Rattle.command_line.specs.Names.{KeepsFiles};
+ghost use Rattle.invocation.specs.Inputs.{ReadsItOnce};
+ghost use Rattle.invocation.specs.Names.{KeepsFiles};
+ghost use Rattle.invocation.specs.Refused.{IfArguments, IsLineError};
 ghost use Rattle.command_line.specs.Refusals.{
   AreUnnamed,
   AsksForNone,
@@ -36,7 +36,6 @@ ghost use Rattle.command_line.specs.Refusals.{
   HasNoNumberIfAny,
   HasNoOptions,
   HasNoOutputs,
-  IfArguments,
   IsNoAnswer,
   IsRefusable,
   IsUnnamed,
@@ -45,16 +44,16 @@ ghost use Rattle.command_line.specs.Refusals.{
   ReadsNone,
 };
 
-use crate::inputs::read_once;
-use crate::names::keep_files;
 use crate::parser::{
     BOARD, CODE, COMMAND, EVIDENCE, EVIDENCE_FILES, FORMULA, GAME, GAME_FILE, LIMIT, OTHER, PLAIN,
     PRIORITIES, QUIET, SCHEDULE, SHARDS, STATES, STATS, STRICT, SUMMARY, SYSTEM, WITNESS_FILE,
     WORKERS, parser,
 };
-use crate::request::{Command, Outputs};
 use clap::error::ErrorKind;
 use clap::{ArgMatches, Error as ClapError};
+use invocation::inputs::read_once;
+use invocation::names::keep_files;
+use invocation::request::{Command, Outputs};
 use normal::priorities::Priorities;
 use requests::error::{ArgumentError, MuError};
 use requests::request::{

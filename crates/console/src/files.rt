@@ -1,7 +1,7 @@
 // The files that a command writes beside its report.
 
 use crate::refusal::Refusal;
-use command_line::names::{EvidenceNames, is_drawing};
+use invocation::names::{EvidenceNames, is_drawing};
 use requests::error::MuError;
 use requests::request::{ReportForm, Wanted, WitnessForm};
 use requests::writers::Writers;

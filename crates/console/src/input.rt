@@ -2,7 +2,7 @@
 
 use crate::line::ProgressLine;
 use crate::refusal::Refusal;
-use command_line::inputs::is_standard_input;
+use invocation::inputs::is_standard_input;
 use std::fs::File;
 use std::io::{Read, Stdin};
 use std::{fs, io};

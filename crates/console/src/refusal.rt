@@ -1,8 +1,8 @@
 // What is told of a refusal on standard error.
 
 use crate::sight::{Location, Sight, look};
-use command_line::codes::entry_of;
-use command_line::request::Command;
+use invocation::codes::entry_of;
+use invocation::request::Command;
 use requests::error::MuError;
 use std::io;
 use std::io::ErrorKind;

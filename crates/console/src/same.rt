@@ -1,8 +1,8 @@
 // The same file under two names: links, and names with other folders in front.
 
-use command_line::inputs::is_standard_input;
-use command_line::names::{EvidenceNames, is_device, over_game};
-use command_line::request::Outputs;
+use invocation::inputs::is_standard_input;
+use invocation::names::{EvidenceNames, is_device, over_game};
+use invocation::request::Outputs;
 use requests::error::{ArgumentError, CheckFile, MuError};
 use requests::request::{Check, ReportForm, Solve};
 use std::fs;

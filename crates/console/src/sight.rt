@@ -1,7 +1,7 @@
 // The line of a text at which a refusal points. The file is read anew, up to that line and no further, and no more of it is kept than is shown.
 
-use command_line::codes::{BARE_LABEL, BLANK_LINE, BYTE_ORDER_MARK};
-use command_line::inputs::is_standard_input;
+use invocation::codes::{BARE_LABEL, BLANK_LINE, BYTE_ORDER_MARK};
+use invocation::inputs::is_standard_input;
 use std::alloc::Global;
 use std::fs::File;
 use std::io::{BufRead, BufReader, Read, Seek, SeekFrom, Write};

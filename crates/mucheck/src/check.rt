@@ -1,6 +1,5 @@
 // The command `check`.
 
-use command_line::request::Outputs;
 use console::files::{Files, evidence_names};
 use console::input::{Counted, open};
 use console::line::{Output, ProgressLine};
@@ -10,6 +9,7 @@ use console::stats::Stats;
 use engines::engine::check_asked;
 use engines::error::MuError;
 use engines::request::{Check, ReportForm};
+use invocation::request::Outputs;
 use std::sync::Wait;
 use std::thread::Threads;
 use std::time::Clock;

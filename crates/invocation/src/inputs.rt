@@ -1,8 +1,8 @@
 // The files that a command reads, of which one may be standard input.
 
 ghost use Rattle.std.specs.Prelude.{◌≡◌, ◌<◌, ◌≤◌, ◌∷◌, IfErr, IfOk, count_by};
-ghost use Rattle.command_line.specs.CommandLine.{IsLineError};
-ghost use Rattle.command_line.specs.Inputs.{HaveOneInput, ReadsItOnce, is_standard_input};
+ghost use Rattle.invocation.specs.Refused.{IsLineError};
+ghost use Rattle.invocation.specs.Inputs.{HaveOneInput, ReadsItOnce, is_standard_input};
 
 use crate::request::Command;
 use requests::error::{ArgumentError, MuError};
@@ -11,7 +11,7 @@ use requests::error::{ArgumentError, MuError};
 ///
 /// # Errors
 /// U1.
-pub(crate) fn read_once(command: &Command<'_>) -> Result<(), MuError>
+pub fn read_once(command: &Command<'_>) -> Result<(), MuError>
     ensures once { IfOk result (λ _. ReadsItOnce command.now) }
     ensures refused { IfErr result IsLineError }
     ensures only { IfErr result (λ _. ReadsItOnce command.now → ⊥) }

@@ -5,9 +5,9 @@ use Rattle.std.specs.Borrow.{Bor}
 use Rattle.requests.specs.declared.request.Options.{Options}
 use Rattle.requests.specs.declared.request.ReportForm.{ReportForm}
 use Rattle.requests.specs.declared.request.ReportForm.TheVariants.{States}
-use Rattle.command_line.specs.declared.request.Outputs.{Outputs}
-use Rattle.command_line.specs.declared.request.Command.{Command}
-use Rattle.command_line.specs.declared.request.Command.TheVariants.{Check, Explain, Help, Normal, Replay, Solve, Table, Verify, Version, Why}
+use Rattle.invocation.specs.declared.request.Outputs.{Outputs}
+use Rattle.invocation.specs.declared.request.Command.{Command}
+use Rattle.invocation.specs.declared.request.Command.TheVariants.{Check, Explain, Help, Normal, Replay, Solve, Table, Verify, Version, Why}
 
 -- the numbers of workers and of shards are within the limits
 abbrev pub AreWithin : Options → Type 0

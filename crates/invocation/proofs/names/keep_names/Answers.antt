@@ -1,8 +1,8 @@
 use Rattle.std.proofs.Common.{◌∙◌, sym}
 use Rattle.std.proofs.lemmas.Result.{IfErr-at_err}
-use Rattle.command_line.proofs.Refusals.{apart_with, apart_without}
-use Rattle.command_line.proofs.names.keep_names.Goals as goal
-use Rattle.command_line.proofs.names.keep_names.Goals.{in-None, in-Some+in-Ok}
+use Rattle.invocation.proofs.Apart.{apart_with, apart_without}
+use Rattle.invocation.proofs.names.keep_names.Goals as goal
+use Rattle.invocation.proofs.names.keep_names.Goals.{in-None, in-Some+in-Ok}
 
 pub returns-in-Err-clause-only : goal.returns-in-Err-clause-only
 returns-in-Err-clause-only c = λ kept.

@@ -2,8 +2,8 @@
 use Rattle.std.specs.Prelude.{ℕ, ◌≤◌, Bool, List, [], ◌∷◌, Option, None, Some, codes, count_by}
 use Rattle.std.specs.Borrow.{Bor}
 use Rattle.std.specs.Str.{bytes_eq}
-use Rattle.command_line.specs.declared.request.Command.{Command}
-use Rattle.command_line.specs.declared.request.Command.TheVariants.{Check, Explain, Help, Normal, Replay, Solve, Table, Verify, Version, Why}
+use Rattle.invocation.specs.declared.request.Command.{Command}
+use Rattle.invocation.specs.declared.request.Command.TheVariants.{Check, Explain, Help, Normal, Replay, Solve, Table, Verify, Version, Why}
 
 -- `-` names it
 abbrev pub is_standard_input : List ℕ → Bool

@@ -1,9 +1,9 @@
 use Rattle.std.proofs.Common.{◌≡◌, ◌∙◌, false, map, option_map, rules, subst, sym, true, true≢false}
 use Rattle.std.specs.List.{list_any}
 use Rattle.clap.proofs.WalkLemmas.{list_any-map}
-use Rattle.command_line.specs.Named.{name_of}
-use Rattle.command_line.specs.Names.{IsApart, has_name, is_device}
-use Rattle.command_line.proofs.names.apart.Goals as goal
+use Rattle.invocation.specs.Named.{name_of}
+use Rattle.invocation.specs.Names.{IsApart, has_name, is_device}
+use Rattle.invocation.proofs.names.apart.Goals as goal
 
 pub returns-then-not-is_among-clause-apart : goal.returns-then-not-is_among-clause-apart
 returns-then-not-is_among-clause-apart c =

@@ -1,7 +1,7 @@
 // What the program can be asked to do. The files are named as on the command line.
 
 ghost use Rattle.std.specs.Prelude.{◌↔◌, IsTrue};
-ghost use Rattle.command_line.specs.Command.{IsReportAlone};
+ghost use Rattle.invocation.specs.Command.{IsReportAlone};
 
 use requests::request::{Check, Normalize, Replay, ReportForm, Solve, Table, Verify, Why};
 

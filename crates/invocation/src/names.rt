@@ -3,10 +3,10 @@
 ghost use Rattle.std.specs.Prelude.{◌≡◌, ◌↔◌, ◌⊎◌, ◌∷◌, ◌++◌, [], IfErr, IfOk, IsTrue, Some, codes, map, option_map};
 ghost use Rattle.std.specs.List.{list_any};
 ghost use Rattle.std.specs.String.{string_bytes};
-ghost use Rattle.command_line.specs.CommandLine.{IsLineError};
-ghost use Rattle.command_line.specs.Named.{name_of};
-ghost use Rattle.command_line.specs.Names.{AreApart, IsApart, KeepsFiles, KeepsGame, KeepsNames, HasEnding, even_name, has_name, is_device, odd_name};
-ghost use Rattle.command_line.specs.Refusals.{IfArguments};
+ghost use Rattle.invocation.specs.Refused.{IsLineError};
+ghost use Rattle.invocation.specs.Named.{name_of};
+ghost use Rattle.invocation.specs.Names.{AreApart, IsApart, KeepsFiles, KeepsGame, KeepsNames, HasEnding, even_name, has_name, is_device, odd_name};
+ghost use Rattle.invocation.specs.Refused.{IfArguments};
 
 use crate::request::{Command, Outputs};
 use requests::error::{ArgumentError, CheckFile, MuError};
@@ -51,7 +51,7 @@ pub struct Named<'a> {
 ///
 /// # Errors
 /// U1, with both files; U4.
-pub(crate) fn keep_files(alloc: Global, command: &Command<'_>) -> Result<(), MuError>
+pub fn keep_files(alloc: Global, command: &Command<'_>) -> Result<(), MuError>
     ensures kept { IfOk result (λ _. KeepsFiles command.now) }
     ensures refused { IfErr result IsLineError }
     ensures only { IfErr result (λ e. IfArguments e (KeepsFiles command.now → ⊥)) }

@@ -6,9 +6,9 @@ use Rattle.std.specs.Str.{bytes_eq}
 use Rattle.std.specs.Char.{to_ascii_lowercase}
 use Rattle.clap.specs.Words.{Text}
 use Rattle.requests.specs.declared.request.Check.{Check as CheckRequest}
-use Rattle.command_line.specs.declared.request.Command.{Command}
-use Rattle.command_line.specs.declared.request.Command.TheVariants.{Check, Solve}
-use Rattle.command_line.specs.declared.request.Outputs.{Outputs}
+use Rattle.invocation.specs.declared.request.Command.{Command}
+use Rattle.invocation.specs.declared.request.Command.TheVariants.{Check, Solve}
+use Rattle.invocation.specs.declared.request.Outputs.{Outputs}
 use Rattle.requests.specs.declared.request.Solve.{Solve as SolveRequest}
 
 -- any number of texts may go there, as nothing is kept there that they could destroy
