@@ -11,7 +11,7 @@ use Rattle.normal.specs.Nodes.{Node}
 use Rattle.normal.specs.Rules.{nodes_with}
 use Rattle.normal.proofs.Numbers.{is_form}
 use Rattle.witness.specs.Walk.{is_marked}
-use Rattle.why.specs.Lacks.{lack_text}
+use Rattle.why.specs.Remarks.{remarks}
 use Rattle.why.specs.Shown.{AreWitness}
 use Rattle.why.specs.Story.{telling_text}
 use Rattle.why.specs.declared.line.Line.{Line}
@@ -28,7 +28,7 @@ use Rattle.engines.specs.declared.findings.Findings.{Findings}
 use Rattle.engines.specs.declared.reasons.Told.{Told}
 use Rattle.engines.specs.declared.reasons.TheConstants.{MOST_TOLD}
 use Rattle.engines.specs.Findings.{AreFindings, AreShown, IsUnshown, formula_of, system_of, way_in}
-use Rattle.engines.specs.Reasons.{AreReasons, AreTold, HasNoReasons, TellsReasons, lacks_of, reasons}
+use Rattle.engines.specs.Reasons.{AreReasons, AreTold, HasNoReasons, TellsReasons, reasons, remarks_of}
 use Rattle.engines.specs.StrictReasons.{HasNoReasonsBy, TellsReasonsBy}
 use Rattle.engines.proofs.Checks.{unprepared_of}
 
@@ -126,15 +126,15 @@ shown_witness x part found shown =
 -- the same telling of the same
 pub telling_same : (n m : Numbered) (ns ks : List Node) (marks others : List Bool) (p q : List Transition) (lines more : List Line) → n ≡ m → ns ≡ ks
     → marks ≡ others → p ≡ q → lines ≡ more
-    → telling_text (lack_text n.system ns (is_marked marks)) (system_with n p) MOST_TOLD lines
-    ≡ telling_text (lack_text m.system ks (is_marked others)) (system_with m q) MOST_TOLD more
+    → telling_text (remarks n.system ns (is_marked marks)) (system_with n p) MOST_TOLD lines
+    ≡ telling_text (remarks m.system ks (is_marked others)) (system_with m q) MOST_TOLD more
 telling_same n m ns ks marks others p q lines more en ens em ep el =
-    λ j. telling_text (lack_text (en j).system (ens j) (is_marked (em j))) (system_with (en j) (ep j)) MOST_TOLD (el j)
+    λ j. telling_text (remarks (en j).system (ens j) (is_marked (em j))) (system_with (en j) (ep j)) MOST_TOLD (el j)
 
 -- What is told is the answer and a witness.
 why_told : (x : Findings) (told : Told) → AreTold x told
     → AreReasons x.solution.priorities (system_of x) (formula_of x) (slice_index_or x.marks.items (system_of x).initial false)
-    (reasons (formula_of x) (slice_index_or x.marks.items (system_of x).initial false) (lacks_of x told)
+    (reasons (formula_of x) (slice_index_or x.marks.items (system_of x).initial false) (remarks_of x told)
     (system_with x.texts.value.system told.play.transitions.items) told.lines.items)
 why_told x told is = record {
   part = system_with x.texts.value.system told.play.transitions.items;
@@ -143,13 +143,13 @@ why_told x told is = record {
   shown = is.shown.shown;
   telling = is.telling;
   told = ap (λ (ns : List Node). reasons (formula_of x) (slice_index_or x.marks.items (system_of x).initial false)
-      (lack_text (system_of x) ns (is_marked told.play.marks.items)) (system_with x.texts.value.system told.play.transitions.items) told.lines.items) is.nodes;
+      (remarks (system_of x) ns (is_marked told.play.marks.items)) (system_with x.texts.value.system told.play.transitions.items) told.lines.items) is.nodes;
 }
 
 -- All was written, or a beginning.
 pub reasoned : (x : Findings) (told : Told) (first second : List ℕ) (old new : Option (List ℕ)) (wrote : Result Unit WriteFault) (r : Result Bool MuError)
     → AreFindings x → (system_of x).initial < (system_of x).states → AreSpelled first second (system_of x) (formula_of x) → AreTold x told
-    → Wrote old new wrote (reasons (formula_of x) (slice_index_or x.marks.items (system_of x).initial false) (lacks_of x told)
+    → Wrote old new wrote (reasons (formula_of x) (slice_index_or x.marks.items (system_of x).initial false) (remarks_of x told)
     (system_with x.texts.value.system told.play.transitions.items) told.lines.items)
     → MatchResult wrote (λ _. r ≡ Ok (slice_index_or x.marks.items (system_of x).initial false)) (λ fault. r ≡ Err (error.Write fault))
     → TellsReasons x.solution.priorities x.solution.board first second old new r

@@ -11,7 +11,7 @@ use Rattle.normal.specs.Normal.{normal_nodes}
 use Rattle.normal.specs.Rules.{nodes_with}
 use Rattle.witness.specs.Walk.{is_marked}
 use Rattle.witness.specs.Witness.{IsShownBy}
-use Rattle.why.specs.Lacks.{lack_text}
+use Rattle.why.specs.Remarks.{Remarks, remarks}
 use Rattle.why.specs.Story.{telling_text}
 use Rattle.why.specs.Telling.{IsTelling}
 use Rattle.why.specs.declared.line.Line.{Line}
@@ -26,18 +26,19 @@ use Rattle.engines.specs.declared.reasons.Told.{Told}
 use Rattle.engines.specs.declared.reasons.TheConstants.{MOST_TOLD}
 use Rattle.engines.specs.Findings.{IsPlayShown, formula_of, system_of}
 
--- the formula, whether the initial state satisfies it, and what is told of a witness, by what is lacking at each state
-abbrev pub reasons : Formula → Bool → (ℕ → List ℕ) → System → List Line → List ℕ
-reasons f answer lacks part lines = formula_line f ++ (initial_line answer ++ telling_text lacks part MOST_TOLD lines)
+-- the formula, whether the initial state satisfies it, and what is told of a witness, with what is remarked of its states and steps
+abbrev pub reasons : Formula → Bool → Remarks → System → List Line → List ℕ
+reasons f answer remarks part lines = formula_line f ++ (initial_line answer ++ telling_text remarks part MOST_TOLD lines)
 
--- The text tells the answer and a witness, and at each state from which the witness has no step, what is lacking there of what the play reaches.
+-- The text tells the answer and a witness, of what the play reaches by which modalities it takes each step, and at each state from which the witness has no
+-- step, what is lacking there.
 pub record AreReasons (rule : Priorities) (l : System) (f : Formula) (answer : Bool) (text : List ℕ) : Type 0 where
   pub part : System
   pub set : ℕ → Bool
   pub lines : List Line
   pub shown : IsShownBy l f (nodes_with rule f) part set
   pub telling : IsTelling part MOST_TOLD lines
-  pub told : text ≡ reasons f answer (lack_text l (nodes_with rule f) set) part lines
+  pub told : text ≡ reasons f answer (remarks l (nodes_with rule f) set) part lines
 
 -- Both texts are spelled, the answer is that of the initial state in the formula's meaning, and what was written is this of a text that tells why.
 pub record HasReasons (rule : Priorities) (board : Option BoardKind) (first second : List ℕ) (answer : Bool) (Writes : List ℕ → Type 0) : Type 0 where
@@ -65,6 +66,6 @@ pub record AreTold (x : Findings) (told : Told) : Type 0 where
   pub shown : IsPlayShown x told.play
   pub telling : IsTelling (system_with x.texts.value.system told.play.transitions.items) MOST_TOLD told.lines.items
 
--- what is lacking at each state
-abbrev pub lacks_of : Findings → Told → ℕ → List ℕ
-lacks_of x told = lack_text (system_of x) (normal_nodes told.normal) (is_marked told.play.marks.items)
+-- what is remarked of states and steps
+abbrev pub remarks_of : Findings → Told → Remarks
+remarks_of x told = remarks (system_of x) (normal_nodes told.normal) (is_marked told.play.marks.items)

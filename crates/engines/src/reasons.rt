@@ -8,7 +8,7 @@ ghost use Rattle.requests.specs.Check.{AreSpelled};
 ghost use Rattle.normal.specs.Normal.{normal_nodes};
 ghost use Rattle.normal.specs.Rules.{nodes_with};
 ghost use Rattle.engines.specs.Findings.{AreFindings, IsPlayShown, IsUnshown, formula_of, system_of};
-ghost use Rattle.engines.specs.Reasons.{AreTold, TellsReasons, lacks_of, reasons};
+ghost use Rattle.engines.specs.Reasons.{AreTold, TellsReasons, reasons, remarks_of};
 ghost use Rattle.engines.specs.StrictReasons.{TellsWhyBy};
 
 use crate::findings::{Findings, find_in};
@@ -175,7 +175,7 @@ fn put_reasons<W: Write>(found: &Findings, told: &Told, out: &mut W) -> Result<(
     requires found { AreFindings found.now }
     requires told { AreTold found.now told.now }
     ensures { let l = system_of found.now in Wrote (W.contents out.old) (W.contents out.new) result
-        (reasons (formula_of found.now) (slice_index_or found.now.marks.items l.initial false) (lacks_of found.now told.now)
+        (reasons (formula_of found.now) (slice_index_or found.now.marks.items l.initial false) (remarks_of found.now told.now)
         (system_with found.now.texts.value.system told.now.play.transitions.items) told.now.lines.items) }
 {
     let system = &found.texts.system;

@@ -1,4 +1,5 @@
-// What is told of why an answer is so: whole texts, worked out by hand from the witnesses, which have the winner's moves and all of the opponent's.
+// What is told of why an answer is so: whole texts, worked out by hand from the witnesses, which have the winner's moves and all of the opponent's. A step is
+// taken by the modalities of those moves.
 
 use crate::common::same;
 use engines::error::MuError;
@@ -39,18 +40,18 @@ const REQUEST: &str =
     "des (0,6,5)\n(0,\"ask\",1)\n(1,\"a\",2)\n(1,\"b\",4)\n(2,\"a\",3)\n(3,\"a\",1)\n(4,\"b\",1)\n";
 
 /// A system, a formula, whether the initial state satisfies it, and what is told.
-const ROWS: [(&str, &str, bool, &str); 16] = [
+const ROWS: [(&str, &str, bool, &str); 18] = [
     (
         RING,
         "[true*]<true>true",
         true,
-        "formula [true*]<true>true\ninitial yes\n0 -a-> 1\n1 -b-> 0 (again)\n",
+        "formula [true*]<true>true\ninitial yes\n0 -a-> 1 by <true> or [true]\n1 -b-> 0 (again)\n",
     ),
     (
         RING,
         "<a><a>true",
         false,
-        "formula <a><a>true\ninitial no\n0 -a-> 1\n1: no step, no a here\n",
+        "formula <a><a>true\ninitial no\n0 -a-> 1 by <a>\n1: no step, no a here\n",
     ),
     (
         RING,
@@ -77,44 +78,58 @@ const ROWS: [(&str, &str, bool, &str); 16] = [
         RING,
         "<a><a || c>true && <a>true",
         false,
-        "formula (<a><(a || c)>true && <a>true)\ninitial no\n0 -a-> 1\n1: no step, no (a || c) here\n",
+        "formula (<a><(a || c)>true && <a>true)\ninitial no\n0 -a-> 1 by <a>\n1: no step, no (a || c) here\n",
     ),
     // What stands behind a constant is not asked.
     (
         RING,
         "<a>true",
         true,
-        "formula <a>true\ninitial yes\n0 -a-> 1\n1: no step\n",
+        "formula <a>true\ninitial yes\n0 -a-> 1 by <a>\n1: no step\n",
+    ),
+    // A label in quotes, and two modalities of the same text.
+    (
+        RING,
+        "<\"a\">true && <\"a\"><b>true",
+        true,
+        "formula (<\"a\">true && <\"a\"><b>true)\ninitial yes\n0 -a-> 1 by <\"a\">\n1 -b-> 0 (again) by <b>\n",
     ),
     (
         RING,
         "nu X. mu Y. (<a>X || <b>Y)",
         true,
-        "formula (nu X. (mu Y. (<a>X || <b>Y)))\ninitial yes\n0 -a-> 1\n1 -b-> 0 (again)\n",
+        "formula (nu X. (mu Y. (<a>X || <b>Y)))\ninitial yes\n0 -a-> 1 by <a>\n1 -b-> 0 (again) by <b>\n",
     ),
     (
         TABLE,
         "[true*]<true>true",
         false,
-        "formula [true*]<true>true\ninitial no\n0 -take(0)-> 1\n1 -take(1)-> 3\n3: no step, no true here\n",
+        "formula [true*]<true>true\ninitial no\n0 -take(0)-> 1 by [true]\n1 -take(1)-> 3\n3: no step, no true here\n",
     ),
     (
         BRANCH,
         "[a]true && <a><b>true",
         true,
-        "formula ([a]true && <a><b>true)\ninitial yes\n  0 -a-> 1\n  1 -b-> 2\n  2: no step\n  0 -a-> 2 (again)\n",
+        "formula ([a]true && <a><b>true)\ninitial yes\n  0 -a-> 1 by [a] or <a>\n  1 -b-> 2 by <b>\n  2: no step\n  0 -a-> 2 (again) by [a]\n",
+    ),
+    // Behind a line that is no step the same is said again.
+    (
+        BRANCH,
+        "[a]true",
+        true,
+        "formula [a]true\ninitial yes\n  0 -a-> 1 by [a]\n  1: no step\n  0 -a-> 2 by [a]\n  2: no step\n",
     ),
     (
         BRANCH,
         "[a]<b>true",
         false,
-        "formula [a]<b>true\ninitial no\n0 -a-> 2\n2: no step, no b here\n",
+        "formula [a]<b>true\ninitial no\n0 -a-> 2 by [a]\n2: no step, no b here\n",
     ),
     (
         BESIDE,
         "<true*><c>true",
         true,
-        "formula <true*><c>true\ninitial yes\n0 -a-> 1\n0 -b-> 1 (again)\n1 -c-> 0 (again)\n",
+        "formula <true*><c>true\ninitial yes\n0 -a-> 1 by <true>\n0 -b-> 1 (again)\n1 -c-> 0 (again) by <c>\n",
     ),
     (
         BESIDE,
@@ -127,20 +142,20 @@ const ROWS: [(&str, &str, bool, &str); 16] = [
         LOOPS,
         "mu X. [!b]X",
         false,
-        "formula (mu X. [!b]X)\ninitial no\n0 -a-> 4\n4 -a-> 4 (again)\n",
+        "formula (mu X. [!b]X)\ninitial no\n0 -a-> 4 by [!b]\n4 -a-> 4 (again)\n",
     ),
     (
         LOOPS,
         "nu X. <a>X",
         true,
-        "formula (nu X. <a>X)\ninitial yes\n0 -a-> 4\n4 -a-> 4 (again)\n",
+        "formula (nu X. <a>X)\ninitial yes\n0 -a-> 4 by <a>\n4 -a-> 4 (again)\n",
     ),
     // The shorter loop.
     (
         REQUEST,
         "[true*][ask] mu X. [!answer]X",
         false,
-        "formula [true*][ask](mu X. [!answer]X)\ninitial no\n0 -ask-> 1\n1 -b-> 4\n4 -b-> 1 (again)\n",
+        "formula [true*][ask](mu X. [!answer]X)\ninitial no\n0 -ask-> 1 by [ask]\n1 -b-> 4 by [!answer]\n4 -b-> 1 (again)\n",
     ),
 ];
 
@@ -209,6 +224,8 @@ fn two_hundred_steps_are_told(rt: HostRuntime) {
             let label = if state == 0 { "a" } else { "b" };
             let (next, end) = if state + 1 == states {
                 (0, " (again)")
+            } else if state == 0 {
+                (1, " by <true>")
             } else {
                 (state + 1, "")
             };
@@ -231,7 +248,7 @@ fn refusals_and_failed_writes_are_told(rt: HostRuntime) {
     out.at_end = AtEnd::TakesNothing;
     let answer = told(&rt, RING, "<a><a>true", &mut out);
     assert!(rt; matches!(answer, Err(MuError::Write(_))));
-    assert!(rt; out.taken.as_slice() == b"formula <a><a>true\ninitial no\n0 -a-> 1\n1".as_slice());
+    assert!(rt; out.taken.as_slice() == b"formula <a><a>true\ninitial no\n0 -a-> 1 b".as_slice());
 }
 
 /// A formula on the ring, and what comes of it where it is asked about strictly. Which words are on no transition was read off the system.

@@ -118,7 +118,8 @@ module _ (l : System) (nodes : List Node) (e : Evidence) (set : ℕ → Bool) (f
 
   -- a vertex with this state
   come_at : (s j u : ℕ) → j < n → u ≡ place n s j → ((others : List ℕ) × IsPath (LeadsTo taken) l.initial others s) → IsCome u
-  come_at s j u few at path t k h is = subst (λ z. (others : List ℕ) × IsPath (LeadsTo taken) l.initial others z) (same_state n s j t k few h (sym at ∙ is)) path
+  come_at s j u few at path t k h is =
+      subst (λ z. (others : List ℕ) × IsPath (LeadsTo taken) l.initial others z) (same_state n s j t k few h (sym at ∙ is)) path
 
   -- a sink has no state
   come_sink : (u : ℕ) → u < 2 → IsCome u
@@ -176,9 +177,12 @@ module _ (l : System) (nodes : List Node) (e : Evidence) (set : ℕ → Bool) (f
 
   step_on : (u t : ℕ) → IsTrue (set u) → IsCome u → Goes (arena l nodes) e u t → IsCome t
   step_on zero t marked come go =
-      come_sink t (let q = only_in 0 t (subst (λ (v : Vertex). Contains v.successors t) (sym (some_vertex _ go.1 go.3)) (goes_on zero t go)) in omega (arith, q))
+      come_sink t
+      (let q = only_in 0 t (subst (λ (v : Vertex). Contains v.successors t) (sym (some_vertex _ go.1 go.3)) (goes_on zero t go))
+      in omega (arith, q))
   step_on (suc zero) t marked come go =
-      come_sink t (let q = only_in 1 t (subst (λ (v : Vertex). Contains v.successors t) (sym (some_vertex _ go.1 go.3)) (goes_on (suc zero) t go))
+      come_sink t
+      (let q = only_in 1 t (subst (λ (v : Vertex). Contains v.successors t) (sym (some_vertex _ go.1 go.3)) (goes_on (suc zero) t go))
       in omega (arith, q))
   step_on (suc (suc u)) t marked come go =
       let h = slice_get_within (arena l nodes).vertices (suc (suc u)) go.1 go.3 in
@@ -211,7 +215,8 @@ module _ (l : System) (nodes : List Node) (e : Evidence) (set : ℕ → Bool) (f
       by : (sh : Shape) → is_taken n e set arrow k sh ≡ true → IsTrue (set (place n arrow.source k))
       by (ConstantNode flag) q = absurd (true≢false (sym q))
       by (JunctionNode flag a b) q = absurd (true≢false (sym q))
-      by (ModalityNode flag a child) q = (both (set (place n arrow.source k)) (holds a arrow.label) (both (set (place n arrow.source k) && holds a arrow.label) _ q).0).0
+      by (ModalityNode flag a child) q =
+          (both (set (place n arrow.source k)) (holds a arrow.label) (both (set (place n arrow.source k) && holds a arrow.label) _ q).0).0
       by (FixpointNode flag child) q = absurd (true≢false (sym q))
       by (VariableNode b) q = absurd (true≢false (sym q))
 

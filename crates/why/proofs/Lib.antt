@@ -6,4 +6,7 @@ pub mod Visits
 pub mod Numbered
 pub mod Connected
 pub mod Rising
+pub mod SameNames
+pub mod Mentioned
 pub mod Lacking
+pub mod Staked

@@ -1,4 +1,4 @@
--- A walk over a part of a system.
+-- A walk over an excerpt of a system.
 use Rattle.std.proofs.Common.{◌≡◌, ℕ, ◌-◌, ◌<◌, ◌⊎◌, Bool, true, false, List, [], ◌∷◌, ◌++◌, length, refl, sym, subst, ◌∙◌, inl, inr, arith, Contains}
 use Rattle.std.proofs.Common.{Option, Some, None, Vec}
 use Rattle.std.specs.Prelude.{MatchOption}
@@ -8,7 +8,7 @@ use Rattle.systems.specs.declared.system.Transition.{Transition}
 use Rattle.why.specs.Telling.{HasNoStep, arrow_at, steps}
 use Rattle.why.specs.Walk.{HasLetBlockWait, HasLetWait, HasTold, HasToldMore, IsBlockOf, IsFull, IsWalk, told_of}
 use Rattle.why.specs.declared.walk.Block.{Block}
-use Rattle.why.specs.declared.walk.Part.{Part}
+use Rattle.why.specs.declared.walk.Excerpt.{Excerpt}
 use Rattle.why.specs.declared.walk.Walk.{Walk}
 use Rattle.why.specs.declared.walk.Way.{Way}
 use Rattle.why.proofs.Arrows.{arrows_long, source_is}
@@ -17,33 +17,34 @@ use Rattle.why.proofs.Walking.{walk_drops, walk_waits}
 -- ------------------------------------------------------------------ a state's transitions
 
 -- where the block is empty, no step leads on
-pub empty_block : (part : Part) (s : ℕ) (block : Block) → IsBlockOf part.transitions.now s block → block.start ≡ block.end → HasNoStep (told_of part) s
-empty_block part s block is empty = λ n lt e.
+pub empty_block : (excerpt : Excerpt) (s : ℕ) (block : Block) → IsBlockOf excerpt.transitions.now s block → block.start ≡ block.end
+    → HasNoStep (told_of excerpt) s
+empty_block excerpt s block is empty = λ n lt e.
     let d : Transition = record { source = 0; label = 0; target = 0 } in
-    let below : n < length part.transitions.now = subst (λ k. n < k) (arrows_long part) lt in
-    let b = is.all n d below (sym (source_is part n d below) ∙ e) in
+    let below : n < length excerpt.transitions.now = subst (λ k. n < k) (arrows_long excerpt) lt in
+    let b = is.all n d below (sym (source_is excerpt n d below) ∙ e) in
     let low = b.0 in
     let high = b.1 in
     omega (arith, empty, low, high)
 
-pub walk_blocks : (part : Part) (old new : Walk) (s : ℕ) (block : Block) → IsBlockOf part.transitions.now s block → (block.start ≡ block.end → ⊥)
+pub walk_blocks : (excerpt : Excerpt) (old new : Walk) (s : ℕ) (block : Block) → IsBlockOf excerpt.transitions.now s block → (block.start ≡ block.end → ⊥)
     → HasLetWait old new
     → HasLetBlockWait old.waiting.items new.waiting.items block.end (block.end - block.start)
-    → IsWalk (told_of part) part.most old old.waiting.items (Some s)
-    → IsWalk (told_of part) part.most new new.waiting.items None
-walk_blocks part old new s block is some same wait w =
+    → IsWalk (told_of excerpt) excerpt.most old old.waiting.items (Some s)
+    → IsWalk (told_of excerpt) excerpt.most new new.waiting.items None
+walk_blocks excerpt old new s block is some same wait w =
     let d : Transition = record { source = 0; label = 0; target = 0 } in
     let rises = is.rises in
     let within = is.within in
-    let long = arrows_long part in
+    let long = arrows_long excerpt in
     let below : block.start < block.end = omega (arith, rises, some) in
-    let first : block.start < length part.transitions.now = omega (arith, below, within) in
-    walk_waits (told_of part) part.most old new old.waiting.items new.waiting.items s block.start same (subst (λ k. block.start < k) (sym long) first)
-    (source_is part block.start d first ∙ is.inside block.start d (omega arith) below)
+    let first : block.start < length excerpt.transitions.now = omega (arith, below, within) in
+    walk_waits (told_of excerpt) excerpt.most old new old.waiting.items new.waiting.items s block.start same (subst (λ k. block.start < k) (sym long) first)
+    (source_is excerpt block.start d first ∙ is.inside block.start d (omega arith) below)
     wait.stays
     (λ m lt e. (
-    let low : m < length part.transitions.now = subst (λ k. m < k) long lt in
-    let b = is.all m d low (sym (source_is part m d low) ∙ e) in
+    let low : m < length excerpt.transitions.now = subst (λ k. m < k) long lt in
+    let b = is.all m d low (sym (source_is excerpt m d low) ∙ e) in
     let from = b.0 in
     wait.all m (omega (arith, from, rises)) b.1))
     (λ m h. elim (wait.only m h) [
@@ -51,8 +52,8 @@ walk_blocks part old new s block is some same wait w =
       | inr b ↦ (
           let from = b.0 in
           let to = b.1 in
-          let low : m < length part.transitions.now = omega (arith, to, within) in
-          inr (subst (λ k. m < k) (sym long) low, source_is part m d low ∙ is.inside m d (omega (arith, from, rises)) to))
+          let low : m < length excerpt.transitions.now = omega (arith, to, within) in
+          inr (subst (λ k. m < k) (sym long) low, source_is excerpt m d low ∙ is.inside m d (omega (arith, from, rises)) to))
     ])
     w
 

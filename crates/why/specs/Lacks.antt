@@ -1,14 +1,13 @@
 -- What would have been needed at a state: the actions of the modalities at which the play stands there and by which no step is possible.
-use Rattle.std.specs.Prelude.{ℕ, Bool, true, false, not, ◌&&◌, List, [], ◌∷◌, ◌++◌, Option, Some, None, length, filter, codes, slice_get}
-use Rattle.std.specs.List.{flat_map, list_any, range_with_len}
-use Rattle.std.specs.Cmp.Lexicographic.{pointwise}
-use Rattle.std.specs.Str.{bytes_eq}
+use Rattle.std.specs.Prelude.{ℕ, Bool, true, false, ◌&&◌, List, [], ◌∷◌, Option, Some, None, length, codes, slice_get}
 use Rattle.systems.specs.System.{System}
-use Rattle.calculus.specs.Tree.{Action, Anything, Nothing, Names, Quoted, NotAct, AndAct, OrAct, ImpliesAct}
+use Rattle.calculus.specs.Tree.{Action}
 use Rattle.calculus.specs.Canon.{action_text}
 use Rattle.normal.specs.Nodes.{Node}
-use Rattle.normal.specs.Tree.{Shape, ConstantNode, JunctionNode, ModalityNode, FixpointNode, VariableNode}
+use Rattle.normal.specs.Tree.{Shape, ModalityNode}
 use Rattle.game.specs.Arena.{place, targets}
+use Rattle.why.specs.Actions.{is_same}
+use Rattle.why.specs.Mentions.{mentions}
 
 -- the action formula of a modality
 abbrev pub action_in : Shape → Option Action
@@ -35,34 +34,14 @@ is_barred l s (Some a) = is_none (targets l a s)
 abbrev pub is_lacking : System → List Node → (ℕ → Bool) → (state node : ℕ) → Bool
 is_lacking l nodes set s k = is_barred l s (action_at nodes k) && set (place (length nodes) s k)
 
--- the same action formula
-abbrev pub is_same : Action → Action → Bool
-is_same Anything Anything = true
-is_same Nothing Nothing = true
-is_same (Names names) (Names others) = pointwise bytes_eq names others
-is_same (Quoted bytes) (Quoted others) = bytes_eq bytes others
-is_same (NotAct a) (NotAct b) = is_same a b
-is_same (AndAct a b) (AndAct c d) = is_same a c && is_same b d
-is_same (OrAct a b) (OrAct c d) = is_same a c && is_same b d
-is_same (ImpliesAct a b) (ImpliesAct c d) = is_same a c && is_same b d
-is_same _ _ = false
+abbrev pub are_same : Option Action → Option Action → Bool
+are_same None other = false
+are_same (Some a) None = false
+are_same (Some a) (Some b) = is_same a b
 
-abbrev pub have_same : Option Action → Option Action → Bool
-have_same None other = false
-have_same (Some a) None = false
-have_same (Some a) (Some b) = is_same a b
-
--- Another node is lacking, and has the same action.
-abbrev pub is_named_for : System → List Node → (ℕ → Bool) → (state node other : ℕ) → Bool
-is_named_for l nodes set s k j = is_lacking l nodes set s j && have_same (action_at nodes j) (action_at nodes k)
-
--- A node below this one is so.
-abbrev pub is_told : System → List Node → (ℕ → Bool) → (state node : ℕ) → Bool
-is_told l nodes set s k = list_any (is_named_for l nodes set s k) (range_with_len 0 k)
-
--- It is lacking, and the first one of its action.
-abbrev pub is_named : System → List Node → (ℕ → Bool) → (state node : ℕ) → Bool
-is_named l nodes set s k = is_lacking l nodes set s k && not (is_told l nodes set s k)
+-- The nodes of these numbers are modalities of the same action formula.
+abbrev pub have_same : List Node → (node other : ℕ) → Bool
+have_same nodes j k = are_same (action_at nodes j) (action_at nodes k)
 
 abbrev pub name_of : Option Action → List ℕ
 name_of None = []
@@ -72,11 +51,6 @@ name_of (Some a) = action_text a
 abbrev pub name_at : List Node → ℕ → List ℕ
 name_at nodes k = name_of (action_at nodes k)
 
--- `, no ACTION or ACTION .. here`, where there is one
-abbrev pub names_text : List Node → List ℕ → List ℕ
-names_text nodes [] = []
-names_text nodes (k ∷ ks) = codes ", no " ++ (name_at nodes k ++ (flat_map (λ j. codes " or " ++ name_at nodes j) ks ++ codes " here"))
-
--- each action once, in the order of the nodes
+-- `, no ACTION or ACTION .. here`, where there is one: each action once, in the order of the nodes
 abbrev pub lack_text : System → List Node → (ℕ → Bool) → (state : ℕ) → List ℕ
-lack_text l nodes set s = names_text nodes (filter (is_named l nodes set s) (range_with_len 0 (length nodes)))
+lack_text l nodes set s = mentions (codes ", no ") (codes " here") (is_lacking l nodes set s) (have_same nodes) (name_at nodes) (length nodes)

@@ -1,9 +1,11 @@
 -- The text of a telling.
-use Rattle.std.specs.Prelude.{ℕ, ◌<◌, Bool, List, [], ◌++◌, Option, None, Some, length, take, replicate, codes, decimal, nat_lt, if◌then◌else◌}
-use Rattle.std.specs.List.{AllByRecursion, AllByRecursion-prop, flat_map}
+use Rattle.std.specs.Prelude.{ℕ, zero, suc, ◌<◌, Bool, List, [], ◌∷◌, ◌++◌, Option, None, Some, length, take, replicate, codes, decimal, nat_lt, slice_get}
+use Rattle.std.specs.Prelude.{if◌then◌else◌}
+use Rattle.std.specs.List.{AllByRecursion, AllByRecursion-prop}
 use Rattle.std.specs.Coded.{le_prop}
 use Rattle.systems.specs.System.{Arrow, System}
 use Rattle.lts.specs.Canon.{line_end}
+use Rattle.why.specs.Remarks.{Remarks}
 use Rattle.why.specs.Telling.{arrow_at}
 use Rattle.why.specs.declared.line.Line.{Line}
 use Rattle.why.specs.declared.line.Line.TheVariants.{Step, Stop}
@@ -12,22 +14,32 @@ use Rattle.why.specs.declared.line.TheConstants.{MOST_BLANKS}
 abbrev pub blanks_before : ℕ → List ℕ
 blanks_before n = take n (replicate MOST_BLANKS 32)
 
--- the end of a step's line
-abbrev pub step_end : Bool → List ℕ
-step_end again = (if again then codes " (again)" else []) ++ line_end
+abbrev pub again_text : Bool → List ℕ
+again_text again = if again then codes " (again)" else []
 
--- `source -label-> target`, and ` (again)` where the target was told of before
-abbrev pub step_text : Arrow → Bool → List ℕ
-step_text a again = decimal a.source ++ (codes " -" ++ (a.label ++ (codes "-> " ++ (decimal a.target ++ step_end again))))
+-- `source -label-> target`, ` (again)` where the target was told of before, and what is at stake
+abbrev pub step_text : List ℕ → Arrow → Bool → List ℕ
+step_text stake a again =
+    decimal a.source ++ (codes " -" ++ (a.label ++ (codes "-> " ++ (decimal a.target ++ (again_text again ++ (stake ++ line_end))))))
 
 -- `state: no step`, and what is lacking there
 abbrev pub stop_text : List ℕ → ℕ → List ℕ
 stop_text lack s = decimal s ++ (codes ": no step" ++ (lack ++ line_end))
 
--- the text of a line, by what is lacking at each state
-abbrev pub line_text : (ℕ → List ℕ) → System → Line → List ℕ
-line_text lacks l (Step number again blanks) = blanks_before blanks ++ step_text (arrow_at l number) again
-line_text lacks l (Stop state blanks) = blanks_before blanks ++ stop_text (lacks state) state
+-- the step that a line tells
+abbrev pub step_of : System → Option Line → Option Arrow
+step_of l None = None
+step_of l (Some (Step number again blanks)) = Some (arrow_at l number)
+step_of l (Some (Stop state blanks)) = None
+
+-- the text of a line behind the line before it
+abbrev pub line_text : Remarks → System → Option Line → Line → List ℕ
+line_text r l before (Step number again blanks) = blanks_before blanks ++ step_text (r.stake (step_of l before) (arrow_at l number)) (arrow_at l number) again
+line_text r l before (Stop state blanks) = blanks_before blanks ++ stop_text (r.lack state) state
+
+abbrev pub lines_text : Remarks → System → Option Line → List Line → List ℕ
+lines_text r l before [] = []
+lines_text r l before (line ∷ lines) = line_text r l before line ++ lines_text r l (Some line) lines
 
 -- what stands before the lines, where there are more transitions than are told
 abbrev pub count_line : (transitions limit : ℕ) → List ℕ
@@ -36,13 +48,21 @@ count_line transitions limit = codes "witness " ++ (decimal transitions ++ (code
 abbrev pub count_text : (transitions limit : ℕ) → List ℕ
 count_text transitions limit = if nat_lt limit transitions then count_line transitions limit else []
 
-abbrev pub telling_text : (ℕ → List ℕ) → System → (limit : ℕ) → List Line → List ℕ
-telling_text lacks l limit lines = count_text (length l.arrows) limit ++ flat_map (line_text lacks l) lines
+abbrev pub telling_text : Remarks → System → (limit : ℕ) → List Line → List ℕ
+telling_text r l limit lines = count_text (length l.arrows) limit ++ lines_text r l None lines
+
+-- the line before the one of this number
+abbrev pub line_before : List Line → ℕ → Option Line
+line_before lines zero = None
+line_before lines (suc n) = slice_get lines n
+
+abbrev pub text_of : Remarks → System → (before : Option Line) → Option Line → List ℕ
+text_of r l before None = []
+text_of r l before (Some line) = line_text r l before line
 
 -- the text of the line of this number
-abbrev pub text_of : (ℕ → List ℕ) → System → Option Line → List ℕ
-text_of lacks l None = []
-text_of lacks l (Some line) = line_text lacks l line
+abbrev pub text_at : Remarks → System → List Line → ℕ → List ℕ
+text_at r l lines n = text_of r l (line_before lines n) (slice_get lines n)
 
 -- A step has the number of one of so many transitions, and a stop is at one of so many states.
 abbrev pub IsNumbered : (states transitions : ℕ) → Line → Type 0

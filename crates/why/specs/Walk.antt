@@ -8,13 +8,13 @@ use Rattle.systems.specs.Numbered.{IsInside, system_with}
 use Rattle.systems.specs.declared.system.Transition.{Transition}
 use Rattle.why.specs.Telling.{EachFollows, HasNoStep, IsReached, arrow_at, steps, stops}
 use Rattle.why.specs.declared.walk.Block.{Block}
-use Rattle.why.specs.declared.walk.Part.{Part}
+use Rattle.why.specs.declared.walk.Excerpt.{Excerpt}
 use Rattle.why.specs.declared.walk.Walk.{Walk}
 use Rattle.why.specs.declared.walk.Way.{Way}
 
 -- the system that is told
-abbrev pub told_of : Part → System
-told_of part = system_with part.system.now part.transitions.now
+abbrev pub told_of : Excerpt → System
+told_of excerpt = system_with excerpt.system.now excerpt.transitions.now
 
 abbrev pub is_marked : List Bool → ℕ → Bool
 is_marked marks i = slice_index_or marks i false
@@ -102,6 +102,6 @@ abbrev pub left : Walk → List Way → ℕ → ℕ
 left w waiting arrows = unmarked w.reached.items * (arrows + 1) + length waiting
 
 -- The transitions are those of the system, ascending by source.
-pub record IsOrdered (part : Part) : Type 0 where
-  pub inside : IsInside part.system.now part.transitions.now
-  pub rising : IsNonDecreasingBy (λ (t : Transition). t.source) part.transitions.now
+pub record IsOrdered (excerpt : Excerpt) : Type 0 where
+  pub inside : IsInside excerpt.system.now excerpt.transitions.now
+  pub rising : IsNonDecreasingBy (λ (t : Transition). t.source) excerpt.transitions.now

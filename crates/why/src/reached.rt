@@ -3,6 +3,7 @@
 ghost use Rattle.std.specs.Prelude.{◌≡◌};
 ghost use Rattle.normal.specs.Normal.{normal_nodes};
 ghost use Rattle.game.specs.Arena.{arena};
+ghost use Rattle.witness.specs.Walk.{is_marked as is_marked_in};
 
 use game::graph::Game;
 use lts::Lts;
@@ -17,4 +18,11 @@ pub struct Reached<'a> {
     /// A mark for each vertex, true where the play reaches it.
     pub marks: &'a [bool],
     ghost same: { game.now ≡ arena system.now.system (normal_nodes normal.now) },
+}
+
+/// Whether a vertex is marked.
+pub(crate) fn is_marked(marks: &[bool], v: u32) -> bool
+    ensures { result ≡ is_marked_in marks.now v }
+{
+    marks.get(v as usize).copied().unwrap_or(false)
 }

@@ -6,7 +6,7 @@ ghost use Rattle.why.specs.Shown.{AreWitness};
 ghost use Rattle.why.specs.Telling.{IsTelling};
 
 use crate::line::Line;
-use crate::walk::{Part, telling};
+use crate::walk::{Excerpt, telling};
 use lts::{Lts, Transition};
 use std::alloc::Global;
 use text::Memory;
@@ -25,10 +25,10 @@ pub fn tell_witness(
     ensures { IfOk result (λ lines. IsTelling (system_with system.now witness.now) most lines.items) }
 {
     let _known = system.states();
-    let part = Part {
+    let excerpt = Excerpt {
         system,
         transitions: witness,
         most,
     };
-    telling(alloc, &part)
+    telling(alloc, &excerpt)
 }

@@ -29,7 +29,7 @@ pub(crate) struct Block {
 
 /// Transitions of a system, which are told, and how many of them at most.
 #[derive(Clone, Copy)]
-pub struct Part<'a> {
+pub struct Excerpt<'a> {
     pub system: &'a Lts,
     pub transitions: &'a [Transition],
     pub most: usize,
@@ -48,32 +48,32 @@ pub(crate) struct Walk {
     pub lines: Vec<Line>,
 }
 
-/// Tells the part's transitions from the initial state on, depth first: all of them, or so many as may be told. Transitions from one state to
+/// Tells the excerpt's transitions from the initial state on, depth first: all of them, or so many as may be told. Transitions from one state to
 /// another are told together. A line begins with two blanks more where there is more than one way on.
 ///
 /// # Errors
 /// Want of memory.
-pub fn telling(alloc: Global, part: &Part<'_>) -> Result<Vec<Line>, Memory>
-    requires ordered { IsOrdered part.now }
-    requires connected { IsConnected (told_of part.now) }
-    ensures { IfOk result (λ lines. IsTelling (told_of part.now) part.now.most lines.items) }
+pub fn telling(alloc: Global, excerpt: &Excerpt<'_>) -> Result<Vec<Line>, Memory>
+    requires ordered { IsOrdered excerpt.now }
+    requires connected { IsConnected (told_of excerpt.now) }
+    ensures { IfOk result (λ lines. IsTelling (told_of excerpt.now) excerpt.now.most lines.items) }
 {
-    let mut walk = begin(alloc, part)?;
-    visit(part, part.system.initial(), 0, &mut walk)?;
+    let mut walk = begin(alloc, excerpt)?;
+    visit(excerpt, excerpt.system.initial(), 0, &mut walk)?;
     while let Some(way) = walk.waiting.pop() {
-        go_on(part, way, &mut walk)?;
+        go_on(excerpt, way, &mut walk)?;
     }
     Ok(walk.lines)
 }
 
 /// The walk stands at the initial state, and nothing is told.
-fn begin(alloc: Global, part: &Part<'_>) -> Result<Walk, Memory>
-    requires { IsOrdered part.now }
-    ensures { let l = told_of part.now in IfOk result (λ w. IsWalk l part.now.most w w.waiting.items (Some l.initial)) }
+fn begin(alloc: Global, excerpt: &Excerpt<'_>) -> Result<Walk, Memory>
+    requires { IsOrdered excerpt.now }
+    ensures { let l = told_of excerpt.now in IfOk result (λ w. IsWalk l excerpt.now.most w w.waiting.items (Some l.initial)) }
 {
-    let mut reached = vec![in alloc; false; part.system.states() as usize]?;
-    reached[part.system.initial() as usize] = true;
-    let told = vec![in alloc; false; part.transitions.len()]?;
+    let mut reached = vec![in alloc; false; excerpt.system.states() as usize]?;
+    reached[excerpt.system.initial() as usize] = true;
+    let told = vec![in alloc; false; excerpt.transitions.len()]?;
     Ok(Walk {
         reached,
         told,
@@ -84,66 +84,68 @@ fn begin(alloc: Global, part: &Part<'_>) -> Result<Walk, Memory>
 }
 
 /// Tells a transition that waited, unless it is told or no more may be.
-fn go_on(part: &Part<'_>, way: Way, walk: &mut Walk) -> Result<(), Memory>
-    requires ordered { IsOrdered part.now }
-    requires walk { IsWalk (told_of part.now) part.now.most walk.old (walk.old.waiting.items ++ way ∷ []) None }
-    ensures walk { OnOk result (IsWalk (told_of part.now) part.now.most walk.new walk.new.waiting.items None) }
-    ensures falls { let n = length part.now.transitions.now in OnOk result (left walk.new walk.new.waiting.items n ≤ left walk.old walk.old.waiting.items n) }
+fn go_on(excerpt: &Excerpt<'_>, way: Way, walk: &mut Walk) -> Result<(), Memory>
+    requires ordered { IsOrdered excerpt.now }
+    requires walk { IsWalk (told_of excerpt.now) excerpt.now.most walk.old (walk.old.waiting.items ++ way ∷ []) None }
+    ensures walk { OnOk result (IsWalk (told_of excerpt.now) excerpt.now.most walk.new walk.new.waiting.items None) }
+    ensures falls { let n = length excerpt.now.transitions.now in
+        OnOk result (left walk.new walk.new.waiting.items n ≤ left walk.old walk.old.waiting.items n) }
 {
-    if may_tell(part, way.number, walk) {
-        tell_way(part, way, walk)
+    if may_tell(excerpt, way.number, walk) {
+        tell_way(excerpt, way, walk)
     } else {
         Ok(())
     }
 }
 
 /// Tells a transition, and those beside it. If its target is new, the transitions from there wait.
-fn tell_way(part: &Part<'_>, way: Way, walk: &mut Walk) -> Result<(), Memory>
-    requires ordered { IsOrdered part.now }
-    requires within { way.number < length part.now.transitions.now }
-    requires walk { IsWalk (told_of part.now) part.now.most walk.old (walk.old.waiting.items ++ way ∷ []) None }
-    requires from { IsReached (told_of part.now) walk.old.lines.items (arrow_at (told_of part.now) way.number).source }
-    requires may { MayTell (told_of part.now) part.now.most walk.old way.number }
-    ensures walk { OnOk result (IsWalk (told_of part.now) part.now.most walk.new walk.new.waiting.items None) }
-    ensures falls { let n = length part.now.transitions.now in OnOk result (left walk.new walk.new.waiting.items n ≤ left walk.old walk.old.waiting.items n) }
+fn tell_way(excerpt: &Excerpt<'_>, way: Way, walk: &mut Walk) -> Result<(), Memory>
+    requires ordered { IsOrdered excerpt.now }
+    requires within { way.number < length excerpt.now.transitions.now }
+    requires walk { IsWalk (told_of excerpt.now) excerpt.now.most walk.old (walk.old.waiting.items ++ way ∷ []) None }
+    requires from { IsReached (told_of excerpt.now) walk.old.lines.items (arrow_at (told_of excerpt.now) way.number).source }
+    requires may { MayTell (told_of excerpt.now) excerpt.now.most walk.old way.number }
+    ensures walk { OnOk result (IsWalk (told_of excerpt.now) excerpt.now.most walk.new walk.new.waiting.items None) }
+    ensures falls { let n = length excerpt.now.transitions.now in
+        OnOk result (left walk.new walk.new.waiting.items n ≤ left walk.old walk.old.waiting.items n) }
 {
-    let target = part.transitions[way.number].target;
-    let new = tell(part, way, walk)?;
-    tell_others(part, way, walk)?;
+    let target = excerpt.transitions[way.number].target;
+    let new = tell(excerpt, way, walk)?;
+    tell_others(excerpt, way, walk)?;
     if new {
-        visit(part, target, way.blanks, walk)
+        visit(excerpt, target, way.blanks, walk)
     } else {
         Ok(())
     }
 }
 
 /// Whether a transition isn't told and may be.
-fn may_tell(part: &Part<'_>, number: usize, walk: &Walk) -> bool
-    requires within { number < length part.now.transitions.now }
-    requires walk { (waiting : List Way) × (open_state : Option ℕ) × IsWalk (told_of part.now) part.now.most walk.now waiting open_state }
-    ensures { let l = told_of part.now in MatchBool result (MayTell l part.now.most walk.now number)
-        (Contains (steps walk.now.lines.items) number ⊎ IsFull l part.now.most walk.now.count) }
+fn may_tell(excerpt: &Excerpt<'_>, number: usize, walk: &Walk) -> bool
+    requires within { number < length excerpt.now.transitions.now }
+    requires walk { (waiting : List Way) × (open_state : Option ℕ) × IsWalk (told_of excerpt.now) excerpt.now.most walk.now waiting open_state }
+    ensures { let l = told_of excerpt.now in MatchBool result (MayTell l excerpt.now.most walk.now number)
+        (Contains (steps walk.now.lines.items) number ⊎ IsFull l excerpt.now.most walk.now.count) }
 {
-    !walk.told[number] && !is_full(part, walk)
+    !walk.told[number] && !is_full(excerpt, walk)
 }
 
 /// Whether no more may be told.
-fn is_full(part: &Part<'_>, walk: &Walk) -> bool
-    ensures { IsTrue result ↔ IsFull (told_of part.now) part.now.most walk.now.count }
+fn is_full(excerpt: &Excerpt<'_>, walk: &Walk) -> bool
+    ensures { IsTrue result ↔ IsFull (told_of excerpt.now) excerpt.now.most walk.now.count }
 {
-    part.most < part.transitions.len() && part.most <= walk.count
+    excerpt.most < excerpt.transitions.len() && excerpt.most <= walk.count
 }
 
 /// Tells a transition, and answers whether its target is new.
-fn tell(part: &Part<'_>, way: Way, walk: &mut Walk) -> Result<bool, Memory>
-    requires ordered { IsOrdered part.now }
-    requires within { way.number < length part.now.transitions.now }
-    requires walk { (waiting : List Way) × (open_state : Option ℕ) × IsWalk (told_of part.now) part.now.most walk.old waiting open_state }
-    requires from { IsReached (told_of part.now) walk.old.lines.items (arrow_at (told_of part.now) way.number).source }
-    requires may { MayTell (told_of part.now) part.now.most walk.old way.number }
-    ensures { IfOk result (HasTold (told_of part.now) part.now.most way.number walk.old walk.new) }
+fn tell(excerpt: &Excerpt<'_>, way: Way, walk: &mut Walk) -> Result<bool, Memory>
+    requires ordered { IsOrdered excerpt.now }
+    requires within { way.number < length excerpt.now.transitions.now }
+    requires walk { (waiting : List Way) × (open_state : Option ℕ) × IsWalk (told_of excerpt.now) excerpt.now.most walk.old waiting open_state }
+    requires from { IsReached (told_of excerpt.now) walk.old.lines.items (arrow_at (told_of excerpt.now) way.number).source }
+    requires may { MayTell (told_of excerpt.now) excerpt.now.most walk.old way.number }
+    ensures { IfOk result (HasTold (told_of excerpt.now) excerpt.now.most way.number walk.old walk.new) }
 {
-    let target = part.transitions[way.number].target as usize;
+    let target = excerpt.transitions[way.number].target as usize;
     let again = walk.reached[target];
     walk.reached[target] = true;
     walk.told[way.number] = true;
@@ -157,54 +159,54 @@ fn tell(part: &Part<'_>, way: Way, walk: &mut Walk) -> Result<bool, Memory>
 }
 
 /// Tells the other transitions with the source and the target of this one.
-fn tell_others(part: &Part<'_>, way: Way, walk: &mut Walk) -> Result<(), Memory>
-    requires ordered { IsOrdered part.now }
-    requires within { way.number < length part.now.transitions.now }
-    requires walk { (waiting : List Way) × (open_state : Option ℕ) × IsWalk (told_of part.now) part.now.most walk.old waiting open_state }
-    requires from { IsReached (told_of part.now) walk.old.lines.items (arrow_at (told_of part.now) way.number).source }
-    requires to { IsReached (told_of part.now) walk.old.lines.items (arrow_at (told_of part.now) way.number).target }
-    ensures { OnOk result (HasToldMore (told_of part.now) part.now.most walk.old walk.new) }
+fn tell_others(excerpt: &Excerpt<'_>, way: Way, walk: &mut Walk) -> Result<(), Memory>
+    requires ordered { IsOrdered excerpt.now }
+    requires within { way.number < length excerpt.now.transitions.now }
+    requires walk { (waiting : List Way) × (open_state : Option ℕ) × IsWalk (told_of excerpt.now) excerpt.now.most walk.old waiting open_state }
+    requires from { IsReached (told_of excerpt.now) walk.old.lines.items (arrow_at (told_of excerpt.now) way.number).source }
+    requires to { IsReached (told_of excerpt.now) walk.old.lines.items (arrow_at (told_of excerpt.now) way.number).target }
+    ensures { OnOk result (HasToldMore (told_of excerpt.now) excerpt.now.most walk.old walk.new) }
 {
-    let first = part.transitions[way.number];
-    for number in way.number + 1..part.transitions.len() {
-        if part.transitions[number].source != first.source {
+    let first = excerpt.transitions[way.number];
+    for number in way.number + 1..excerpt.transitions.len() {
+        if excerpt.transitions[number].source != first.source {
             return Ok(());
         }
         let blanks = way.blanks;
-        tell_other(part, first.target, Way { number, blanks }, walk)?;
+        tell_other(excerpt, first.target, Way { number, blanks }, walk)?;
     }
     Ok(())
 }
 
 /// Tells a transition if it leads to this state, to which the walk has come, and may be told.
-fn tell_other(part: &Part<'_>, target: u32, way: Way, walk: &mut Walk) -> Result<(), Memory>
-    requires ordered { IsOrdered part.now }
-    requires within { way.number < length part.now.transitions.now }
-    requires walk { (waiting : List Way) × (open_state : Option ℕ) × IsWalk (told_of part.now) part.now.most walk.old waiting open_state }
-    requires from { IsReached (told_of part.now) walk.old.lines.items (arrow_at (told_of part.now) way.number).source }
-    requires to { IsReached (told_of part.now) walk.old.lines.items target }
-    ensures { OnOk result (HasToldMore (told_of part.now) part.now.most walk.old walk.new) }
+fn tell_other(excerpt: &Excerpt<'_>, target: u32, way: Way, walk: &mut Walk) -> Result<(), Memory>
+    requires ordered { IsOrdered excerpt.now }
+    requires within { way.number < length excerpt.now.transitions.now }
+    requires walk { (waiting : List Way) × (open_state : Option ℕ) × IsWalk (told_of excerpt.now) excerpt.now.most walk.old waiting open_state }
+    requires from { IsReached (told_of excerpt.now) walk.old.lines.items (arrow_at (told_of excerpt.now) way.number).source }
+    requires to { IsReached (told_of excerpt.now) walk.old.lines.items target }
+    ensures { OnOk result (HasToldMore (told_of excerpt.now) excerpt.now.most walk.old walk.new) }
 {
-    if part.transitions[way.number].target == target && may_tell(part, way.number, walk) {
-        tell(part, way, walk)?;
+    if excerpt.transitions[way.number].target == target && may_tell(excerpt, way.number, walk) {
+        tell(excerpt, way, walk)?;
     }
     Ok(())
 }
 
 /// Lets the transitions from a state that is new wait, or tells that there are none.
-fn visit(part: &Part<'_>, state: u32, blanks: usize, walk: &mut Walk) -> Result<(), Memory>
-    requires ordered { IsOrdered part.now }
-    requires walk { IsWalk (told_of part.now) part.now.most walk.old walk.old.waiting.items (Some state) }
-    ensures walk { OnOk result (IsWalk (told_of part.now) part.now.most walk.new walk.new.waiting.items None) }
+fn visit(excerpt: &Excerpt<'_>, state: u32, blanks: usize, walk: &mut Walk) -> Result<(), Memory>
+    requires ordered { IsOrdered excerpt.now }
+    requires walk { IsWalk (told_of excerpt.now) excerpt.now.most walk.old walk.old.waiting.items (Some state) }
+    ensures walk { OnOk result (IsWalk (told_of excerpt.now) excerpt.now.most walk.new walk.new.waiting.items None) }
     ensures reached { OnOk result (walk.new.reached.items ≡ walk.old.reached.items) }
-    ensures few { OnOk result (length walk.new.waiting.items ≤ length walk.old.waiting.items + length part.now.transitions.now) }
+    ensures few { OnOk result (length walk.new.waiting.items ≤ length walk.old.waiting.items + length excerpt.now.transitions.now) }
 {
-    let block = block_from(part.transitions, state);
+    let block = block_from(excerpt.transitions, state);
     if block.start == block.end {
         walk.lines.push(Line::Stop { state, blanks })?;
         Ok(())
     } else {
-        let ways = &part.transitions[block.start..block.end];
+        let ways = &excerpt.transitions[block.start..block.end];
         let_wait(block, blanks_below(ways, blanks), &mut walk.waiting)?;
         Ok(())
     }

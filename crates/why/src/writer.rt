@@ -1,26 +1,26 @@
 // The text of a telling.
 
-ghost use Rattle.std.specs.Prelude.{◌≡◌, ◌<◌, ◌++◌, length};
-ghost use Rattle.std.specs.List.{flat_map};
-ghost use Rattle.systems.specs.Numbered.{IsInside, IsInside-prop, arrow_of, system_with};
+ghost use Rattle.std.specs.Prelude.{◌≡◌, ◌<◌, ◌++◌, IfSome, None, length, option_map};
+ghost use Rattle.systems.specs.Numbered.{IsInside, IsInside-prop, IsTransitionOf, arrow_of, system_with};
 ghost use Rattle.text.specs.Wrote.{Wrote};
-ghost use Rattle.why.specs.Story.{AreNumbered, AreNumbered-prop, IsNumbered, blanks_before, count_text, line_text, step_end, step_text};
-ghost use Rattle.why.specs.Naming.{lack_in, system_in};
-ghost use Rattle.why.specs.Story.{stop_text, telling_text};
+ghost use Rattle.why.specs.Naming.{remarks_in, system_in};
+ghost use Rattle.why.specs.Story.{AreNumbered, AreNumbered-prop, IsNumbered, again_text, blanks_before, count_text, line_before, line_text, lines_text};
+ghost use Rattle.why.specs.Story.{step_of, step_text, stop_text, telling_text};
 
 use crate::lacks::put_lacks;
 use crate::line::{Line, MOST_BLANKS};
 use crate::reached::Reached;
-use lts::{Lts, Transition};
+use crate::stakes::put_stakes;
+use lts::Transition;
 use std::io::Write;
 use text::{Lines, Piece, WriteFault, put, put_lines, put_pieces};
 
 /// With what lines begin.
 static BLANKS: [u8; MOST_BLANKS] = [b' '; MOST_BLANKS];
 
-/// Writes the lines that tell these transitions of the system, and before them how many transitions there are, where at most a number of them is told and there
-/// are more. Where no step leads on, the line says which actions would have been needed there, of those modalities at which the play stands. It takes no
-/// memory.
+/// Writes the lines that tell these transitions of the system, and before them how many transitions there are, where at most a number of them is told and
+/// there are more. Beside a step stand the modalities by which the play takes it, where the line before isn't a step by the same ones. Where no step leads on,
+/// the line says which actions would have been needed there, of those modalities at which the play stands. It takes no memory.
 ///
 /// # Errors
 /// After a fault the writer holds a beginning of the text.
@@ -34,7 +34,7 @@ pub fn write_telling<W: Write>(
     requires inside { IsInside reached.now.system.now part.now }
     requires numbered { AreNumbered (system_in reached.now).states (length part.now) lines.now }
     ensures { let r = reached.now in Wrote (W.contents out.old) (W.contents out.new) result
-        (telling_text (lack_in r) (system_with r.system.now part.now) most lines.now) }
+        (telling_text (remarks_in r) (system_with r.system.now part.now) most lines.now) }
 {
     put_count(part.len(), most, out)?;
     put_told(reached, part, lines, out)
@@ -67,26 +67,26 @@ struct Told<'a> {
     part: &'a [Transition],
     lines: &'a [Line],
     ghost inside: { IsInside reached.system.now part.now } by { IsInside-prop reached.system.now part.now },
-    ghost numbered: { AreNumbered (system_in reached).states (length part.now) lines.now } by { AreNumbered-prop (system_in reached).states (length part.now) lines.now },
+    ghost numbered: { AreNumbered (system_in reached).states (length part.now) lines.now } by { AreNumbered-prop _ _ lines.now },
 }
 
 impl Lines for Told<'_> {
-    ghost use Rattle.std.specs.Prelude.{length, slice_get};
+    ghost use Rattle.std.specs.Prelude.{length};
     ghost use Rattle.systems.specs.Numbered.{system_with};
-    ghost use Rattle.why.specs.Naming.{lack_in};
-    ghost use Rattle.why.specs.Story.{text_of};
+    ghost use Rattle.why.specs.Naming.{remarks_in};
+    ghost use Rattle.why.specs.Story.{text_at};
 
     ghost count = { λ told. length told.lines.now };
 
-    ghost line = { λ told number.
-        text_of (lack_in told.reached) (system_with told.reached.system.now told.part.now) (slice_get told.lines.now number) };
+    ghost line = { λ told. text_at (remarks_in told.reached) (system_with told.reached.system.now told.part.now) told.lines.now };
 
     fn count(&self) -> usize {
         self.lines.len()
     }
 
     fn put_line<W: Write>(&self, number: usize, writer: &mut W) -> Result<(), WriteFault> {
-        put_line(&self.reached, self.part, self.lines[number], writer)
+        let before = line_ahead(self.lines, number);
+        put_line(&self.reached, self.part, before, self.lines[number], writer)
     }
 }
 
@@ -100,7 +100,7 @@ fn put_told<W: Write>(
     requires inside { IsInside reached.now.system.now part.now }
     requires numbered { AreNumbered (system_in reached.now).states (length part.now) lines.now }
     ensures { let r = reached.now in Wrote (W.contents out.old) (W.contents out.new) result
-        (flat_map (line_text (lack_in r) (system_with r.system.now part.now)) lines.now) }
+        (lines_text (remarks_in r) (system_with r.system.now part.now) None lines.now) }
 {
     let told = Told {
         reached: *reached,
@@ -110,38 +110,69 @@ fn put_told<W: Write>(
     put_lines(&told, out)
 }
 
-/// Writes a line.
+/// The line before the one of this number.
+fn line_ahead(lines: &[Line], number: usize) -> Option<Line>
+    ensures { result ≡ line_before lines.now number }
+{
+    match number.checked_sub(1) {
+        Some(before) => lines.get(before).copied(),
+        None => None,
+    }
+}
+
+/// Writes a line behind the line before it.
 fn put_line<W: Write>(
     reached: &Reached<'_>,
     part: &[Transition],
+    before: Option<Line>,
     line: Line,
     out: &mut W,
 ) -> Result<(), WriteFault>
     requires inside { IsInside reached.now.system.now part.now }
+    requires before { IfSome before (IsNumbered (system_in reached.now).states (length part.now)) }
     requires numbered { IsNumbered (system_in reached.now).states (length part.now) line }
     ensures { let r = reached.now in Wrote (W.contents out.old) (W.contents out.new) result
-        (line_text (lack_in r) (system_with r.system.now part.now) line) }
+        (line_text (remarks_in r) (system_with r.system.now part.now) before line) }
 {
     match line {
         Line::Step {
             number,
             again,
             blanks,
-        } => put_step(reached.system, part[number], again, blanks, out),
+        } => {
+            let before = step_in(reached, part, before);
+            put_step(reached, before, part[number], again, blanks, out)
+        }
         Line::Stop { state, blanks } => put_stop(reached, state, blanks, out),
     }
 }
 
-/// Writes the line of a step.
+/// The step that a line tells.
+fn step_in(reached: &Reached<'_>, part: &[Transition], line: Option<Line>) -> Option<Transition>
+    requires inside { IsInside reached.now.system.now part.now }
+    requires numbered { IfSome line (IsNumbered (system_in reached.now).states (length part.now)) }
+    ensures inside { IfSome result (IsTransitionOf reached.now.system.now) }
+    ensures step { let l = reached.now.system.now in option_map (arrow_of l.labels) result ≡ step_of (system_with l part.now) line }
+{
+    match line {
+        Some(Line::Step { number, .. }) => Some(part[number]),
+        _ => None,
+    }
+}
+
+/// Writes the line of a step, behind the step that the line before it tells.
 fn put_step<W: Write>(
-    system: &Lts,
+    reached: &Reached<'_>,
+    before: Option<Transition>,
     step: Transition,
     again: bool,
     blanks: usize,
     out: &mut W,
 ) -> Result<(), WriteFault>
-    requires { step.label < length system.now.labels }
-    ensures { Wrote (W.contents out.old) (W.contents out.new) result (blanks_before blanks ++ step_text (arrow_of system.now.labels step) again) }
+    requires before { IfSome before (IsTransitionOf reached.now.system.now) }
+    requires step { IsTransitionOf reached.now.system.now step }
+    ensures { let labels = reached.now.system.now.labels in Wrote (W.contents out.old) (W.contents out.new) result (blanks_before blanks
+        ++ step_text ((remarks_in reached.now).stake (option_map (arrow_of labels) before) (arrow_of labels step)) (arrow_of labels step) again) }
 {
     put_pieces(
         out,
@@ -149,12 +180,14 @@ fn put_step<W: Write>(
             Piece::Bytes(blanks_of(blanks)),
             Piece::Number(u64::from(step.source)),
             Piece::Bytes(b" -"),
-            Piece::Bytes(system.label(step.label).bytes),
+            Piece::Bytes(reached.system.label(step.label).bytes),
             Piece::Bytes(b"-> "),
             Piece::Number(u64::from(step.target)),
-            Piece::Bytes(end_of_step(again)),
+            Piece::Bytes(if_again(again)),
         ],
-    )
+    )?;
+    put_stakes(reached, before, step, out)?;
+    put(out, b"\n")
 }
 
 /// Writes that no step leads on from a state, and what would have been needed there.
@@ -165,7 +198,7 @@ fn put_stop<W: Write>(
     out: &mut W,
 ) -> Result<(), WriteFault>
     requires { state < (system_in reached.now).states }
-    ensures { Wrote (W.contents out.old) (W.contents out.new) result (blanks_before blanks ++ stop_text (lack_in reached.now state) state) }
+    ensures { Wrote (W.contents out.old) (W.contents out.new) result (blanks_before blanks ++ stop_text ((remarks_in reached.now).lack state) state) }
 {
     put_pieces(
         out,
@@ -179,11 +212,11 @@ fn put_stop<W: Write>(
     put(out, b"\n")
 }
 
-/// The end of a step's line.
-fn end_of_step(again: bool) -> &'static [u8]
-    ensures { result.now ≡ step_end again }
+/// What stands behind a step whose target was told of before.
+fn if_again(again: bool) -> &'static [u8]
+    ensures { result.now ≡ again_text again }
 {
-    if again { b" (again)\n" } else { b"\n" }
+    if again { b" (again)" } else { b"" }
 }
 
 /// So many blanks, or as many as a line begins with at most.

@@ -5,11 +5,11 @@ use Rattle.why.proofs.walk.go_on.Goals as goal
 
 pub may_tell-requires-clause-within : goal.may_tell-requires-clause-within
 may_tell-requires-clause-within c =
-    subst (λ k. c.args.way.number < k) (arrows_long c.args.part.now) (c.requires.walk.waits c.args.way.number (waits_last _ c.args.way)).0
+    subst (λ k. c.args.way.number < k) (arrows_long c.args.excerpt.now) (c.requires.walk.waits c.args.way.number (waits_last _ c.args.way)).0
 
 pub tell_way-requires-clause-within : goal.tell_way-requires-clause-within
 tell_way-requires-clause-within c =
-    subst (λ k. c.args.way.number < k) (arrows_long c.args.part.now) (c.requires.walk.waits c.args.way.number (waits_last _ c.args.way)).0
+    subst (λ k. c.args.way.number < k) (arrows_long c.args.excerpt.now) (c.requires.walk.waits c.args.way.number (waits_last _ c.args.way)).0
 
 pub tell_way-requires-clause-from : goal.tell_way-requires-clause-from
 tell_way-requires-clause-from c = (c.requires.walk.waits c.args.way.number (waits_last _ c.args.way)).1

@@ -8,8 +8,8 @@ use Rattle.why.proofs.walk.tell_other.Goals as goal
 
 pub returns-in_ok-tell : goal.returns-in_ok-tell
 returns-in_ok-tell c =
-    let part = c.args.part.now in
+    let excerpt = c.args.excerpt.now in
     let d : Transition = record { source = 0; label = 0; target = 0 } in
     one_told _ _ _ _ _ _ _ (none_told _ _ _) c.in_ok-tell.ensures
-    (subst (λ s. IsReached (told_of part) c.args.walk.now.lines.items s)
-    (sym (target_is part c.args.way.number d c.requires.within ∙ c.if-part-way.true)) c.requires.to)
+    (subst (λ s. IsReached (told_of excerpt) c.args.walk.now.lines.items s)
+    (sym (target_is excerpt c.args.way.number d c.requires.within ∙ c.if-excerpt-way.true)) c.requires.to)

@@ -18,17 +18,17 @@ tell_other-requires-clause-walk c =
 
 pub tell_other-requires-clause-from : goal.tell_other-requires-clause-from
 tell_other-requires-clause-from c =
-    let part = c.args.part.now in
+    let excerpt = c.args.excerpt.now in
     let d : Transition = record { source = 0; label = 0; target = 0 } in
-    let first = source_is part c.args.way.number d c.requires.within in
-    let other = source_is part c.loop-number.number d c.loop-number-test.true in
-    let same : (arrow_at (told_of part) c.args.way.number).source ≡ (arrow_at (told_of part) c.loop-number.number).source = omega (arith, first, other) in
-    subst (λ s. IsReached (told_of part) c.loop-number.walk.lines.items s) same
-    (c.loop-number.invariant.stays (arrow_at (told_of part) c.args.way.number).source c.requires.from)
+    let first = source_is excerpt c.args.way.number d c.requires.within in
+    let other = source_is excerpt c.loop-number.number d c.loop-number-test.true in
+    let same : (arrow_at (told_of excerpt) c.args.way.number).source ≡ (arrow_at (told_of excerpt) c.loop-number.number).source = omega (arith, first, other) in
+    subst (λ s. IsReached (told_of excerpt) c.loop-number.walk.lines.items s) same
+    (c.loop-number.invariant.stays (arrow_at (told_of excerpt) c.args.way.number).source c.requires.from)
 
 pub tell_other-requires-clause-to : goal.tell_other-requires-clause-to
 tell_other-requires-clause-to c =
-    let part = c.args.part.now in
+    let excerpt = c.args.excerpt.now in
     let d : Transition = record { source = 0; label = 0; target = 0 } in
-    subst (λ s. IsReached (told_of part) c.loop-number.walk.lines.items s) (target_is part c.args.way.number d c.requires.within)
-    (c.loop-number.invariant.stays (arrow_at (told_of part) c.args.way.number).target c.requires.to)
+    subst (λ s. IsReached (told_of excerpt) c.loop-number.walk.lines.items s) (target_is excerpt c.args.way.number d c.requires.within)
+    (c.loop-number.invariant.stays (arrow_at (told_of excerpt) c.args.way.number).target c.requires.to)

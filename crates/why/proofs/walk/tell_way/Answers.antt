@@ -13,7 +13,7 @@ pub visit-requires-clause-walk : goal.visit-requires-clause-walk
 visit-requires-clause-walk c =
     let d : Transition = record { source = 0; label = 0; target = 0 } in
     told_fresh _ _ _ _ _ _ _ c.in_ok-new.ensures c.in_ok-tell_others.ensures c.requires.walk c.if-new.true _
-    (target_is c.args.part.now c.args.way.number d c.requires.within)
+    (target_is c.args.excerpt.now c.args.way.number d c.requires.within)
 
 pub returns-else-new-clause-walk : goal.returns-else-new-clause-walk
 returns-else-new-clause-walk c = told_again _ _ _ _ _ _ _ c.in_ok-new.ensures c.in_ok-tell_others.ensures c.requires.walk c.if-new.false

@@ -3,7 +3,7 @@ use Rattle.why.specs.Walk.{IsWalk, left, told_of}
 use Rattle.why.proofs.walk.telling.Given as goal
 
 abbrev pub invariant-loop-way : goal.invariant-loop-way
-invariant-loop-way l = IsWalk (told_of l.part) l.part.most l.walk l.walk.waiting.items None
+invariant-loop-way l = IsWalk (told_of l.excerpt) l.excerpt.most l.walk l.walk.waiting.items None
 
 abbrev pub decreases-loop-way : goal.decreases-loop-way
-decreases-loop-way l = left l.walk l.walk.waiting.items (length l.part.transitions.now)
+decreases-loop-way l = left l.walk l.walk.waiting.items (length l.excerpt.transitions.now)
