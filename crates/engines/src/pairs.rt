@@ -82,11 +82,11 @@ pub(crate) fn evidence_side_by_side<H: Threads + Sync>(
     let (even, odd) = join(
         rt,
         || -> Result<Evidence, EvidenceError>
-            requires { AreFindings found.entry.now }
+            requires { AreFindings found.now }
             ensures { MatchResult result (IsEvens (arc_value found.entry.now.solution.game)) (λ e. e ≡ EvidenceError.Memory) }
         { evens(alloc, found) },
         || -> Result<Evidence, EvidenceError>
-            requires { AreFindings found.entry.now }
+            requires { AreFindings found.now }
             ensures { MatchResult result (IsOdds (arc_value found.entry.now.solution.game)) (λ e. e ≡ EvidenceError.Memory) }
         { odds(alloc, found) },
     );

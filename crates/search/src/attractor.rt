@@ -3,9 +3,9 @@
 use crate::edges::{is_odds, priority};
 use crate::field::{Field, NONE, Tops, Won};
 use crate::numbers::{Numbers, Queue, Span};
+use crate::stock::Stock;
 use game::graph::Game;
 use game::predecessors::Predecessors;
-use std::alloc::{AllocError, Global};
 
 /// Attractors, with the memory to find them.
 #[derive(Drop)]
@@ -23,23 +23,35 @@ pub(crate) struct Attractors<'p> {
 
 impl<'p> Attractors<'p> {
     pub(crate) fn new(
-        alloc: Global,
+        stock: &mut Stock,
         game: &Game,
         predecessors: &'p Predecessors,
         keys: Numbers,
-    ) -> Result<Self, AllocError> {
-        Ok(Attractors {
+    ) -> Self {
+        Attractors {
             predecessors,
-            left: Numbers::zeros(alloc, game.vertices())?,
-            queue: Queue::new(alloc, game.vertices())?,
+            left: Numbers::zeros(stock, game.vertices()),
+            queue: Queue::new(stock, game.vertices()),
             keys,
             work: 0,
-        })
+        }
     }
 
     /// A vertex has been looked at, with so many edges.
     pub(crate) fn toil(&mut self, edges: usize) {
         self.work = self.work.saturating_add(1).saturating_add(edges as u64);
+    }
+
+    /// Nothing is in the queue, and so many vertices are to be looked at.
+    pub(crate) fn begin(&mut self, vertices: u32) {
+        self.queue.clear();
+        self.toil(vertices as usize);
+    }
+
+    /// So many successors keep a vertex, which has been looked at.
+    pub(crate) fn keep(&mut self, v: u32, left: u32) {
+        self.left.set(v, left);
+        self.toil(left as usize);
     }
 
     /// Decides what the decided vertices around a part decide. The answer is what is left.
@@ -65,8 +77,7 @@ impl<'p> Attractors<'p> {
     fn look(&mut self, game: &Game, field: &mut Field, v: u32, id: u32, won: Won) {
         let next = field.winning(game, v, won.by(is_odds(game, v)));
         let left = field.inside(game, v, id);
-        self.left.set(v, left);
-        self.toil(left as usize);
+        self.keep(v, left);
         if next != NONE || left == 0 {
             field.moves.set(v, next);
             self.queue.push(v);
@@ -128,9 +139,7 @@ impl<'p> Attractors<'p> {
     fn count(&mut self, game: &Game, field: &Field, span: Span, id: u32) {
         for place in span.from..span.to {
             let v = field.list.get(place);
-            let left = field.inside(game, v, id);
-            self.left.set(v, left);
-            self.toil(left as usize);
+            self.keep(v, field.inside(game, v, id));
         }
     }
 

@@ -4,8 +4,8 @@ use crate::edges::successors;
 use crate::numbers::{Numbers, Span};
 use crate::order::Order;
 use crate::part::Part;
+use crate::stock::Stock;
 use game::graph::Game;
-use std::alloc::{AllocError, Global};
 
 // The low number of a vertex whose component is known.
 const CLOSED: u32 = u32::MAX;
@@ -20,13 +20,13 @@ struct Path {
 }
 
 impl Path {
-    fn new(alloc: Global, vertices: u32) -> Result<Self, AllocError> {
-        Ok(Path {
-            list: Numbers::zeros(alloc, vertices)?,
+    fn new(stock: &mut Stock, vertices: u32) -> Self {
+        Path {
+            list: Numbers::zeros(stock, vertices),
             depth: 0,
             waiting: vertices,
             vertices,
-        })
+        }
     }
 
     fn push(&mut self, v: u32) {
@@ -68,15 +68,15 @@ pub(crate) struct Components {
 }
 
 impl Components {
-    pub(crate) fn new(alloc: Global, vertices: u32) -> Result<Self, AllocError> {
-        Ok(Components {
-            number: Numbers::zeros(alloc, vertices)?,
-            low: Numbers::zeros(alloc, vertices)?,
-            seen: Numbers::zeros(alloc, vertices)?,
-            path: Path::new(alloc, vertices)?,
-            order: Order::new(alloc, vertices)?,
+    pub(crate) fn new(stock: &mut Stock, vertices: u32) -> Self {
+        Components {
+            number: Numbers::zeros(stock, vertices),
+            low: Numbers::zeros(stock, vertices),
+            seen: Numbers::zeros(stock, vertices),
+            path: Path::new(stock, vertices),
+            order: Order::new(stock, vertices),
             last: 0,
-        })
+        }
     }
 
     /// Puts the vertices between two places of the list in the order of their components.

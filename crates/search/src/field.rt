@@ -2,8 +2,8 @@
 
 use crate::edges::{is_odds, priority, successors};
 use crate::numbers::{Numbers, Span};
+use crate::stock::Stock;
 use game::graph::Game;
-use std::alloc::{AllocError, Global};
 
 /// No vertex.
 pub(crate) const NONE: u32 = u32::MAX;
@@ -45,20 +45,15 @@ pub(crate) struct Field {
 }
 
 impl Field {
-    pub(crate) fn new(
-        alloc: Global,
-        vertices: u32,
-        moves: Numbers,
-        classes: Numbers,
-    ) -> Result<Self, AllocError> {
-        Ok(Field {
-            ids: Numbers::zeros(alloc, vertices)?,
+    pub(crate) fn new(stock: &mut Stock, vertices: u32, moves: Numbers, classes: Numbers) -> Self {
+        Field {
+            ids: Numbers::zeros(stock, vertices),
             moves,
-            list: Numbers::places(alloc, vertices)?,
-            places: Numbers::zeros(alloc, vertices)?,
+            list: Numbers::places(stock, vertices),
+            places: Numbers::zeros(stock, vertices),
             classes,
             last: 0,
-        })
+        }
     }
 
     /// A number that no vertex has.
@@ -78,6 +73,13 @@ impl Field {
         for place in span.from..span.to {
             self.ids.set(self.list.get(place), id);
         }
+    }
+
+    /// Gives a vertex this number, and puts it after those at these places of the list.
+    pub(crate) fn enter(&mut self, span: &mut Span, v: u32, id: u32) {
+        self.ids.set(v, id);
+        self.list.set(span.to, v);
+        span.to = span.to.saturating_add(1);
     }
 
     /// Moves the vertices of this number to the front, and tells where they stand.

@@ -5,8 +5,8 @@ use crate::edges::{is_odds, priority, successors};
 use crate::field::{NONE, Won};
 use crate::layering::Layering;
 use crate::numbers::{Numbers, Span};
+use crate::stock::Stock;
 use game::graph::Game;
-use std::alloc::{AllocError, Global};
 
 /// Counts under trial. The vertices have keys: classes and counts, in their order.
 #[derive(Drop)]
@@ -18,29 +18,24 @@ pub(crate) struct Judging<'p> {
 }
 
 impl<'p> Judging<'p> {
-    pub(crate) fn new(
-        alloc: Global,
-        game: &Game,
-        layering: Layering<'p>,
-    ) -> Result<Self, AllocError> {
-        Ok(Judging {
+    pub(crate) fn new(stock: &mut Stock, game: &Game, layering: Layering<'p>) -> Self {
+        Judging {
             layering,
-            sorted: Sorted::new(alloc, game.vertices())?,
-            before: Numbers::zeros(alloc, game.vertices())?,
-        })
+            sorted: Sorted::new(stock, game.vertices()),
+            before: Numbers::zeros(stock, game.vertices()),
+        }
     }
 
     /// Sorts the vertices by classes and counts, and tells how many Even does better at, where the counts are above zero and the
     /// priorities less; or none, where it was not found out.
     pub(crate) fn judge(&mut self, game: &Game) -> Option<u32> {
         self.layering.find_keys(&mut self.sorted);
-        let id = self.layering.winners.field.fresh();
-        let won = self.layering.winners.field.fresh_won();
+        let field = &mut self.layering.winners.field;
+        let id = field.fresh();
+        let won = field.fresh_won();
         let low = self.gather_low(game, id);
         self.look_at_all(game, low, won);
-        let winners = &mut self.layering.winners;
-        winners.attractors.spread(game, &mut winners.field, id, won);
-        let rest = winners.field.gather(low, id);
+        let rest = self.layering.winners.spread(game, low, id, won);
         if self.decide_rest(game, rest, won) {
             Some(self.count_evens(low, won))
         } else {
@@ -51,19 +46,19 @@ impl<'p> Judging<'p> {
     // What is judged, in the order of the keys.
     fn gather_low(&mut self, game: &Game, id: u32) -> Span {
         let mut low = Span { from: 0, to: 0 };
+        let layering = &mut self.layering;
+        let field = &mut layering.winners.field;
         for place in 0..self.sorted.length {
             let v = self.sorted.list.get(place);
-            if self.layering.counts.get(v) > 0 && priority(game, v) < self.layering.odd {
-                self.layering.winners.field.ids.set(v, id);
-                self.layering.winners.field.list.set(low.to, v);
-                low.to = low.to.saturating_add(1);
+            if layering.counts.get(v) > 0 && priority(game, v) < layering.odd {
+                field.enter(&mut low, v, id);
             }
         }
         low
     }
 
     fn look_at_all(&mut self, game: &Game, low: Span, won: Won) {
-        self.layering.winners.attractors.queue.clear();
+        self.layering.winners.begin_anew();
         for place in low.from..low.to {
             let v = self.layering.winners.field.list.get(place);
             self.look(game, v, won);
@@ -85,19 +80,14 @@ impl<'p> Judging<'p> {
                 better = *t;
             }
         }
-        self.layering.winners.attractors.left.set(v, same);
-        self.layering.winners.attractors.toil(same as usize);
+        let winners = &mut self.layering.winners;
+        winners.attractors.keep(v, same);
         if better != NONE {
-            self.layering.winners.field.moves.set(v, better);
-            self.decide(v, won.by(odd));
+            winners.field.moves.set(v, better);
+            winners.decide_at(v, won.by(odd));
         } else if same == 0 {
-            self.decide(v, won.by(!odd));
+            winners.decide_at(v, won.by(!odd));
         }
-    }
-
-    fn decide(&mut self, v: u32, mark: u32) {
-        self.layering.winners.field.ids.set(v, mark);
-        self.layering.winners.attractors.queue.push(v);
     }
 
     // What nobody can be driven out of is decided key by key. Below one Even stays.
@@ -113,32 +103,24 @@ impl<'p> Judging<'p> {
     }
 
     fn stay(&mut self, game: &Game, rest: Span, won: Won) {
-        self.layering.winners.field.mark(rest, won.even);
-        for place in rest.from..rest.to {
-            let v = self.layering.winners.field.list.get(place);
-            let next = self.next_of_key(game, v, won.even);
-            if next != NONE && !is_odds(game, v) {
-                self.layering.winners.field.moves.set(v, next);
-            }
-        }
-    }
-
-    // A successor of this number with the same key.
-    fn next_of_key(&self, game: &Game, v: u32, id: u32) -> u32 {
-        let winners = &self.layering.winners;
+        let winners = &mut self.layering.winners;
         let keys = &winners.attractors.keys;
-        for t in successors(game, v) {
-            if winners.field.ids.get(*t) == id && keys.get(*t) == keys.get(v) {
-                return *t;
+        let field = &mut winners.field;
+        field.mark(rest, won.even);
+        for place in rest.from..rest.to {
+            let v = field.list.get(place);
+            let next = next_of_key(game, &field.ids, keys, v, won.even);
+            if next != NONE && !is_odds(game, v) {
+                field.moves.set(v, next);
             }
         }
-        NONE
     }
 
     fn remember(&mut self, rest: Span) {
+        let field = &self.layering.winners.field;
         for place in rest.from..rest.to {
-            let v = self.layering.winners.field.list.get(place);
-            self.before.set(v, self.layering.winners.field.moves.get(v));
+            let v = field.list.get(place);
+            self.before.set(v, field.moves.get(v));
         }
     }
 
@@ -184,9 +166,10 @@ impl<'p> Judging<'p> {
     }
 
     fn decide_key(&mut self, game: &Game, span: Span, won: Won) -> bool {
-        let inner = self.layering.winners.field.fresh_won();
-        let is_done = self.layering.winners.find_in(game, span, inner);
-        let field = &mut self.layering.winners.field;
+        let winners = &mut self.layering.winners;
+        let inner = winners.field.fresh_won();
+        let is_done = winners.find_in(game, span, inner);
+        let field = &mut winners.field;
         for place in span.from..span.to {
             let v = field.list.get(place);
             let odd = field.ids.get(v) == inner.odd;
@@ -205,4 +188,14 @@ impl<'p> Judging<'p> {
         }
         count
     }
+}
+
+// A successor of this number with the same key.
+fn next_of_key(game: &Game, ids: &Numbers, keys: &Numbers, v: u32, id: u32) -> u32 {
+    for t in successors(game, v) {
+        if ids.get(*t) == id && keys.get(*t) == keys.get(v) {
+            return *t;
+        }
+    }
+    NONE
 }

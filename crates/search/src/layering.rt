@@ -6,9 +6,9 @@ use crate::edges::{is_odds, priority, successors};
 use crate::field::NONE;
 use crate::numbers::{Numbers, Queue, Span};
 use crate::rooms::{Rooms, Stay};
+use crate::stock::Stock;
 use crate::winners::Winners;
 use game::graph::Game;
-use std::alloc::{AllocError, Global};
 
 // The count of a vertex that has none yet.
 const OPEN: u32 = u32::MAX;
@@ -25,28 +25,22 @@ pub(crate) struct Layering<'p> {
 }
 
 impl<'p> Layering<'p> {
-    pub(crate) fn new(
-        alloc: Global,
-        game: &Game,
-        winners: Winners<'p>,
-        odd: u8,
-    ) -> Result<Self, AllocError> {
+    pub(crate) fn new(stock: &mut Stock, game: &Game, winners: Winners<'p>, odd: u8) -> Self {
         let vertices = game.vertices();
-        Ok(Layering {
+        Layering {
             winners,
-            counts: Numbers::zeros(alloc, vertices)?,
+            counts: Numbers::zeros(stock, vertices),
             odd,
-            rooms: Rooms::new(alloc, vertices)?,
-            later: Queue::new(alloc, vertices)?,
-        })
+            rooms: Rooms::new(stock, vertices),
+            later: Queue::new(stock, vertices),
+        }
     }
 
     /// Counts anew. The answer is whether each vertex that Even wins got a count; then they stand in the queue in that order.
     pub(crate) fn count(&mut self, game: &Game, stay: Stay) -> bool {
-        self.winners.attractors.queue.clear();
+        self.winners.attractors.begin(game.vertices());
         self.later.clear();
         self.rooms.clear(stay);
-        self.winners.attractors.toil(game.vertices() as usize);
         let evens = self.open_all(game);
         if stay != Stay::Nowhere {
             self.settle_shut_rooms(game);
@@ -140,11 +134,10 @@ impl<'p> Layering<'p> {
     // The open vertices of lesser priorities.
     fn gather_low(&mut self, game: &Game, id: u32) -> Span {
         let mut low = Span { from: 0, to: 0 };
+        let field = &mut self.winners.field;
         for v in 0..game.vertices() {
             if self.counts.get(v) == OPEN && priority(game, v) < self.odd {
-                self.winners.field.ids.set(v, id);
-                self.winners.field.list.set(low.to, v);
-                low.to = low.to.saturating_add(1);
+                field.enter(&mut low, v, id);
             }
         }
         low
@@ -184,8 +177,9 @@ impl<'p> Layering<'p> {
     }
 
     fn go_up(&mut self) {
+        let queue = &mut self.winners.attractors.queue;
         for place in 0..self.later.len() {
-            self.winners.attractors.queue.push(self.later.get(place));
+            queue.push(self.later.get(place));
         }
         self.later.clear();
     }
@@ -215,12 +209,9 @@ impl<'p> Layering<'p> {
 
     // Whether Even comes to this successor, which is the last one where Odd chooses.
     fn falls(&mut self, game: &Game, u: u32, v: u32) -> bool {
-        if !is_odds(game, u) {
-            self.winners.field.moves.set(u, v);
-            return true;
-        }
-        let left = self.winners.attractors.left.get(u).saturating_sub(1);
-        self.winners.attractors.left.set(u, left);
-        left == 0
+        let winners = &mut self.winners;
+        winners
+            .attractors
+            .falls(game, &mut winners.field, u, v, false)
     }
 }

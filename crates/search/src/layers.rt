@@ -6,6 +6,7 @@ use crate::lost::Lost;
 use crate::numbers::Numbers;
 use crate::ranks::Ranks;
 use crate::rounds::{Counted, Rounds};
+use crate::stock::Stock;
 use crate::winners::Winners;
 use game::graph::Game;
 use game::predecessors::Predecessors;
@@ -25,20 +26,32 @@ pub struct Layers {
     ranks: Ranks,
 }
 
+fn rounds_of<'p>(stock: &mut Stock, game: &Game, winners: Winners<'p>, odd: u8) -> Rounds<'p> {
+    let layering = Layering::new(stock, game, winners, odd);
+    let judging = Judging::new(stock, game, layering);
+    Rounds::new(stock, judging)
+}
+
 impl Layers {
     /// Nothing has been counted yet.
     ///
     /// # Errors
     /// Want of memory, and nothing else.
     pub fn none(alloc: Global, game: &Game, lost: &Lost) -> Result<Self, Memory> {
-        Ok(Layers {
+        let mut stock = Stock::new(alloc);
+        let layers = Layers {
             odd: 1,
             is_whole: true,
-            classes: Numbers::copied(alloc, &lost.classes)?,
-            counts: Numbers::zeros(alloc, 0)?,
-            moves: Numbers::copied(alloc, &lost.moves)?,
-            ranks: Ranks::none(alloc, game)?,
-        })
+            classes: Numbers::copied(&mut stock, &lost.classes),
+            counts: Numbers::zeros(&mut stock, 0),
+            moves: Numbers::copied(&mut stock, &lost.moves),
+            ranks: Ranks::none(&mut stock, game),
+        };
+        if stock.is_whole() {
+            Ok(layers)
+        } else {
+            Err(Memory)
+        }
     }
 
     /// Counts an odd priority, less than those that were counted before. It may find nothing, and then finds no more.
@@ -55,35 +68,39 @@ impl Layers {
         if !self.is_whole {
             return Ok(self);
         }
-        let winners = Winners::of(alloc, game, predecessors, self.moves, self.classes)?;
-        let layering = Layering::new(alloc, game, winners, odd)?;
-        let judging = Judging::new(alloc, game, layering)?;
-        let mut rounds = Rounds::new(alloc, judging)?;
-        let is_whole = rounds.find(game);
-        let counted = rounds.into_counted(game);
-        Layers::of(alloc, game, odd, is_whole, counted)
+        let mut stock = Stock::new(alloc);
+        let winners = Winners::of(&mut stock, game, predecessors, self.moves, self.classes);
+        let rounds = rounds_of(&mut stock, game, winners, odd);
+        let layers = Layers::found(&mut stock, game, odd, rounds);
+        if stock.is_whole() {
+            Ok(layers)
+        } else {
+            Err(Memory)
+        }
     }
 
-    fn of(
-        alloc: Global,
-        game: &Game,
-        odd: u8,
-        is_whole: bool,
-        counted: Counted,
-    ) -> Result<Self, Memory> {
+    // What rounds find.
+    fn found(stock: &mut Stock, game: &Game, odd: u8, rounds: Rounds) -> Self {
+        let ranks = Ranks::none(stock, game);
+        let mut rounds = rounds;
+        let is_whole = stock.is_whole() && rounds.find(game);
+        Layers::of(game, odd, is_whole, rounds.into_counted(game), ranks)
+    }
+
+    fn of(game: &Game, odd: u8, is_whole: bool, counted: Counted, ranks: Ranks) -> Self {
         let mut ways = counted.ways;
-        let mut ranks = Ranks::none(alloc, game)?;
+        let mut ranks = ranks;
         if is_whole {
             ranks.find(game, &mut ways);
         }
-        Ok(Layers {
+        Layers {
             odd,
             is_whole,
             classes: counted.keys,
             counts: counted.counts,
             moves: ways.field.moves,
             ranks,
-        })
+        }
     }
 
     /// Whether something was found of a vertex.

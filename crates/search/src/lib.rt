@@ -17,6 +17,7 @@ mod ranks;
 mod repair;
 mod rooms;
 mod rounds;
+mod stock;
 mod tasks;
 mod ways;
 mod winners;

@@ -2,6 +2,7 @@
 
 use crate::numbers::Numbers;
 use crate::ranks::Ranks;
+use crate::stock::Stock;
 use crate::winners::Winners;
 use game::graph::Game;
 use game::predecessors::Predecessors;
@@ -24,15 +25,27 @@ impl Lost {
     /// # Errors
     /// Want of memory, and nothing else.
     pub fn of(alloc: Global, game: &Game, predecessors: &Predecessors) -> Result<Self, Memory> {
-        let mut classes = Numbers::zeros(alloc, game.vertices())?;
-        let mut ways = Winners::new(alloc, game, predecessors)?.find(game, &mut classes);
-        let mut ranks = Ranks::none(alloc, game)?;
+        let mut stock = Stock::new(alloc);
+        let winners = Winners::new(&mut stock, game, predecessors);
+        let lost = Lost::found(&mut stock, game, winners);
+        if stock.is_whole() {
+            Ok(lost)
+        } else {
+            Err(Memory)
+        }
+    }
+
+    // What is found with this memory.
+    fn found(stock: &mut Stock, game: &Game, winners: Winners) -> Self {
+        let mut classes = Numbers::zeros(stock, game.vertices());
+        let mut ranks = Ranks::none(stock, game);
+        let mut ways = winners.find(game, &mut classes);
         ranks.find(game, &mut ways);
-        Ok(Lost {
+        Lost {
             moves: ways.field.moves,
             classes,
             ranks,
-        })
+        }
     }
 
     /// Whether Odd was found to win a vertex.

@@ -1,6 +1,6 @@
 // Lists of numbers that are never read or written out of bounds.
 
-use std::alloc::{AllocError, Global};
+use crate::stock::Stock;
 
 /// A number for each place. Past the last place all are zero, and nothing is written.
 #[derive(Drop)]
@@ -9,32 +9,32 @@ pub(crate) struct Numbers {
 }
 
 impl Numbers {
-    pub(crate) fn zeros(alloc: Global, length: u32) -> Result<Self, AllocError> {
-        Ok(Numbers {
-            items: vec![in alloc; 0; length as usize]?,
-        })
+    pub(crate) fn zeros(stock: &mut Stock, length: u32) -> Self {
+        Numbers {
+            items: stock.zeros(length),
+        }
     }
 
     /// Each place's own number.
-    pub(crate) fn places(alloc: Global, length: u32) -> Result<Self, AllocError> {
-        let mut numbers = Numbers::zeros(alloc, length)?;
+    pub(crate) fn places(stock: &mut Stock, length: u32) -> Self {
+        let mut numbers = Numbers::zeros(stock, length);
         for place in 0..length {
             numbers.set(place, place);
         }
-        Ok(numbers)
+        numbers
     }
 
     /// The same numbers again.
-    pub(crate) fn copied(alloc: Global, other: &Numbers) -> Result<Self, AllocError> {
-        Ok(Numbers {
-            items: Vec::from_slice(alloc, other.items.as_slice())?,
-        })
+    pub(crate) fn copied(stock: &mut Stock, other: &Numbers) -> Self {
+        Numbers {
+            items: stock.copied(other.items.as_slice()),
+        }
     }
 
     /// Writes these numbers as far as there are places.
     pub(crate) fn copy(&mut self, other: &Numbers) {
-        for (item, number) in self.items.iter_mut().zip(other.items.iter()) {
-            *item = *number;
+        for place in 0..self.items.len().min(other.items.len()) {
+            self.items[place] = other.items[place];
         }
     }
 
@@ -49,8 +49,9 @@ impl Numbers {
     }
 
     pub(crate) fn set(&mut self, place: u32, number: u32) {
-        if let Some(item) = self.items.get_mut(place as usize) {
-            *item = number;
+        let place = place as usize;
+        if place < self.items.len() {
+            self.items[place] = number;
         }
     }
 
@@ -96,11 +97,11 @@ pub(crate) struct Queue {
 
 impl Queue {
     /// Nothing yet, with the memory for so many.
-    pub(crate) fn new(alloc: Global, most: u32) -> Result<Self, AllocError> {
-        Ok(Queue {
-            list: Numbers::zeros(alloc, most)?,
+    pub(crate) fn new(stock: &mut Stock, most: u32) -> Self {
+        Queue {
+            list: Numbers::zeros(stock, most),
             length: 0,
-        })
+        }
     }
 
     pub(crate) fn len(&self) -> u32 {

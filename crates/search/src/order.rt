@@ -1,7 +1,7 @@
 // Lists of components.
 
 use crate::numbers::{Numbers, Span};
-use std::alloc::{AllocError, Global};
+use crate::stock::Stock;
 
 /// Components one after another.
 #[derive(Drop)]
@@ -12,12 +12,12 @@ pub(crate) struct Order {
 }
 
 impl Order {
-    pub(crate) fn new(alloc: Global, vertices: u32) -> Result<Self, AllocError> {
-        Ok(Order {
-            list: Numbers::zeros(alloc, vertices)?,
-            ends: Numbers::zeros(alloc, vertices)?,
+    pub(crate) fn new(stock: &mut Stock, vertices: u32) -> Self {
+        Order {
+            list: Numbers::zeros(stock, vertices),
+            ends: Numbers::zeros(stock, vertices),
             length: 0,
-        })
+        }
     }
 
     /// The first component of a part that was sorted.

@@ -1,8 +1,8 @@
 // Ranks: a count for each even number.
 
+use crate::stock::Stock;
 use crate::ways::Ways;
 use game::graph::Game;
-use std::alloc::{AllocError, Global};
 
 // How many even numbers are a priority.
 const EVEN: u8 = 17;
@@ -24,11 +24,11 @@ pub(crate) struct Ranks {
 
 impl Ranks {
     /// No vertex has counts.
-    pub(crate) fn none(alloc: Global, game: &Game) -> Result<Self, AllocError> {
-        Ok(Ranks {
-            sums: vec![in alloc; 0; game.vertices() as usize]?,
+    pub(crate) fn none(stock: &mut Stock, game: &Game) -> Self {
+        Ranks {
+            sums: stock.sums(game.vertices()),
             digits: [Digit { unit: 1, radix: 1 }; 17],
-        })
+        }
     }
 
     pub(crate) fn has(&self, v: u32) -> bool {

@@ -4,8 +4,8 @@ use crate::attractor::Attractors;
 use crate::edges::{is_odds, priority, successors};
 use crate::field::{Field, NONE, Tops, Won};
 use crate::numbers::{Numbers, Queue, Span};
+use crate::stock::Stock;
 use game::graph::Game;
-use std::alloc::{AllocError, Global};
 
 /// A part that is its own game, whose winners get these numbers. What can be forced to the greatest priorities has the number
 /// `near`, and in the rest that their player wins the number that it has within.
@@ -59,12 +59,12 @@ pub(crate) struct Repair {
 }
 
 impl Repair {
-    pub(crate) fn new(alloc: Global, vertices: u32) -> Result<Self, AllocError> {
-        Ok(Repair {
-            calls: Numbers::zeros(alloc, vertices)?,
-            off: Queue::new(alloc, vertices)?,
-            shaken: Queue::new(alloc, vertices)?,
-        })
+    pub(crate) fn new(stock: &mut Stock, vertices: u32) -> Self {
+        Repair {
+            calls: Numbers::zeros(stock, vertices),
+            off: Queue::new(stock, vertices),
+            shaken: Queue::new(stock, vertices),
+        }
     }
 
     /// What stood elsewhere, and was counted for others.

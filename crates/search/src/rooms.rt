@@ -5,8 +5,8 @@ use crate::field::{Field, NONE};
 use crate::numbers::{Numbers, Span};
 use crate::order::Order;
 use crate::part::{Part, Taken};
+use crate::stock::Stock;
 use game::graph::Game;
-use std::alloc::{AllocError, Global};
 
 /// How Even may stay.
 #[derive(Clone, Copy, PartialEq)]
@@ -41,13 +41,13 @@ pub(crate) struct Rooms {
 }
 
 impl Rooms {
-    pub(crate) fn new(alloc: Global, vertices: u32) -> Result<Self, AllocError> {
-        Ok(Rooms {
+    pub(crate) fn new(stock: &mut Stock, vertices: u32) -> Self {
+        Rooms {
             stay: Stay::Nowhere,
             vertices,
-            of: Numbers::zeros(alloc, vertices)?,
-            exits: Numbers::zeros(alloc, vertices)?,
-        })
+            of: Numbers::zeros(stock, vertices),
+            exits: Numbers::zeros(stock, vertices),
+        }
     }
 
     /// No vertex is in a room.

@@ -4,9 +4,9 @@ use crate::edges::{is_odds, priority, successors};
 use crate::judging::Judging;
 use crate::numbers::{Numbers, Span};
 use crate::rooms::Stay;
+use crate::stock::Stock;
 use crate::ways::Ways;
 use game::graph::Game;
-use std::alloc::{AllocError, Global};
 
 /// What came of a round.
 #[derive(Clone, Copy, PartialEq)]
@@ -38,9 +38,9 @@ pub(crate) struct Counted {
 }
 
 impl<'p> Rounds<'p> {
-    pub(crate) fn new(alloc: Global, judging: Judging<'p>) -> Result<Self, AllocError> {
-        let moves = Numbers::copied(alloc, &judging.layering.winners.field.moves)?;
-        Ok(Rounds { judging, moves })
+    pub(crate) fn new(stock: &mut Stock, judging: Judging<'p>) -> Self {
+        let moves = Numbers::copied(stock, &judging.layering.winners.field.moves);
+        Rounds { judging, moves }
     }
 
     /// Counts what Odd can force, as far as a budget goes. The answer is whether it was found.
@@ -105,9 +105,11 @@ impl<'p> Rounds<'p> {
 
     fn gather(&mut self, game: &Game) -> Span {
         let mut span = Span { from: 0, to: 0 };
+        let layering = &mut self.judging.layering;
+        let list = &mut layering.winners.field.list;
         for v in 0..game.vertices() {
-            if self.judging.layering.counts.get(v) > 0 {
-                self.judging.layering.winners.field.list.set(span.to, v);
+            if layering.counts.get(v) > 0 {
+                list.set(span.to, v);
                 span.to = span.to.saturating_add(1);
             }
         }
@@ -115,26 +117,28 @@ impl<'p> Rounds<'p> {
     }
 
     fn move_on(&mut self, game: &Game, span: Span) {
+        let odd = self.judging.layering.odd;
+        let winners = &mut self.judging.layering.winners;
+        let keys = &winners.attractors.keys;
+        let field = &mut winners.field;
         for place in span.from..span.to {
-            let v = self.judging.layering.winners.field.list.get(place);
-            if is_odds(game, v) && priority(game, v) == self.judging.layering.odd {
-                let next = self.greatest(game, v);
-                self.judging.layering.winners.field.moves.set(v, next);
+            let v = field.list.get(place);
+            if is_odds(game, v) && priority(game, v) == odd {
+                field.moves.set(v, greatest(game, keys, v));
             }
         }
     }
+}
 
-    // The successor with the greatest key.
-    fn greatest(&self, game: &Game, v: u32) -> u32 {
-        let keys = &self.judging.layering.winners.attractors.keys;
-        let mut greatest = 0;
-        let mut next = v;
-        for t in successors(game, v) {
-            if keys.get(*t) >= greatest {
-                greatest = keys.get(*t);
-                next = *t;
-            }
+// The successor with the greatest key.
+fn greatest(game: &Game, keys: &Numbers, v: u32) -> u32 {
+    let mut greatest = 0;
+    let mut next = v;
+    for t in successors(game, v) {
+        if keys.get(*t) >= greatest {
+            greatest = keys.get(*t);
+            next = *t;
         }
-        next
     }
+    next
 }

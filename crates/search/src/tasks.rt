@@ -3,7 +3,7 @@
 use crate::field::Won;
 use crate::numbers::Span;
 use crate::repair::Core;
-use std::alloc::Global;
+use crate::stock::Stock;
 
 /// What a recursion still has to do.
 #[derive(Clone, Copy)]
@@ -22,10 +22,11 @@ pub(crate) struct Tasks {
 }
 
 impl Tasks {
-    pub(crate) fn new(alloc: Global) -> Self {
+    /// None yet. Where memory was wanting for what they need, nothing is begun.
+    pub(crate) fn new(stock: &Stock) -> Self {
         Tasks {
-            list: Vec::new(alloc),
-            spent: false,
+            list: Vec::new(stock.alloc),
+            spent: !stock.is_whole(),
         }
     }
 

@@ -9,11 +9,11 @@ use crate::numbers::{Numbers, Span};
 use crate::part::{Part, Taken};
 use crate::repair::{Core, Repair};
 use crate::rooms::Rooms;
+use crate::stock::Stock;
 use crate::tasks::{Task, Tasks};
 use crate::ways::Ways;
 use game::graph::Game;
 use game::predecessors::Predecessors;
-use std::alloc::{AllocError, Global};
 
 // How many vertices and edges are looked at: this many, and so many times those of the game.
 const LEAST_BUDGET: u64 = 67_108_864;
@@ -32,33 +32,29 @@ pub(crate) struct Winners<'p> {
 }
 
 impl<'p> Winners<'p> {
-    pub(crate) fn new(
-        alloc: Global,
-        game: &Game,
-        predecessors: &'p Predecessors,
-    ) -> Result<Self, AllocError> {
-        let moves = Numbers::zeros(alloc, game.vertices())?;
-        let classes = Numbers::zeros(alloc, 0)?;
-        Winners::of(alloc, game, predecessors, moves, classes)
+    pub(crate) fn new(stock: &mut Stock, game: &Game, predecessors: &'p Predecessors) -> Self {
+        let moves = Numbers::zeros(stock, game.vertices());
+        let classes = Numbers::zeros(stock, 0);
+        Winners::of(stock, game, predecessors, moves, classes)
     }
 
     /// Where these are the winners' moves, and the classes of vertices.
     pub(crate) fn of(
-        alloc: Global,
+        stock: &mut Stock,
         game: &Game,
         predecessors: &'p Predecessors,
         moves: Numbers,
         classes: Numbers,
-    ) -> Result<Self, AllocError> {
-        let keys = Numbers::copied(alloc, &classes)?;
-        Ok(Winners {
-            field: Field::new(alloc, game.vertices(), moves, classes)?,
-            attractors: Attractors::new(alloc, game, predecessors, keys)?,
-            components: Components::new(alloc, game.vertices())?,
-            repair: Repair::new(alloc, game.vertices())?,
-            tasks: Tasks::new(alloc),
+    ) -> Self {
+        let keys = Numbers::copied(stock, &classes);
+        Winners {
+            field: Field::new(stock, game.vertices(), moves, classes),
+            attractors: Attractors::new(stock, game, predecessors, keys),
+            components: Components::new(stock, game.vertices()),
+            repair: Repair::new(stock, game.vertices()),
+            tasks: Tasks::new(stock),
             budget: budget(game),
-        })
+        }
     }
 
     /// Decides who wins the game, writes the class of each vertex, and leaves those that Odd wins.
@@ -119,6 +115,23 @@ impl<'p> Winners<'p> {
             None => return false,
         }
         true
+    }
+
+    /// No vertex is decided yet.
+    pub(crate) fn begin_anew(&mut self) {
+        self.attractors.queue.clear();
+    }
+
+    /// Decides a vertex, and puts it into the queue.
+    pub(crate) fn decide_at(&mut self, v: u32, mark: u32) {
+        self.field.ids.set(v, mark);
+        self.attractors.queue.push(v);
+    }
+
+    /// Decides what the vertices in the queue decide of a part. The answer is what is left.
+    pub(crate) fn spread(&mut self, game: &Game, span: Span, id: u32, won: Won) -> Span {
+        self.attractors.spread(game, &mut self.field, id, won);
+        self.field.gather(span, id)
     }
 
     fn settle(&mut self, game: &Game, span: Span, id: u32, won: Won) -> Span {

@@ -125,20 +125,25 @@ pub(crate) struct Cells {
 
 impl Cells {
     pub(crate) fn new(alloc: Global, arena: Arena) -> Result<Self, AllocError> {
-        let vertices = arena.vertices();
-        let mut cells = Vec::with_capacity(alloc, vertices as usize)?;
-        for v in 0..vertices {
-            cells.push(Cell {
-                owner: arena.owner(v),
-                priority: arena.priority(v),
-                ..BLANK
-            })?;
-        }
-        Ok(Cells {
-            cells,
-            moves: Numbers::filled(alloc, vertices as usize, NONE)?,
+        let vertices = arena.vertices() as usize;
+        let mut cells = Cells {
+            cells: vec![in alloc; BLANK; vertices]?,
+            moves: Numbers::filled(alloc, vertices, NONE),
             last: 0,
-        })
+        };
+        cells.open(arena);
+        Ok(cells)
+    }
+
+    // Notes who owns each vertex, and its priority.
+    fn open(&mut self, arena: Arena) {
+        for v in 0..arena.vertices() {
+            let place = v as usize;
+            if place < self.cells.len() {
+                self.cells[place].owner = arena.owner(v);
+                self.cells[place].priority = arena.priority(v);
+            }
+        }
     }
 
     fn fresh(&mut self) -> u32 {
@@ -172,16 +177,18 @@ impl Cells {
     }
 
     pub(crate) fn set_region(&mut self, v: u32, region: Region) {
-        if let Some(cell) = self.cells.get_mut(v as usize) {
-            cell.region = region;
+        let place = v as usize;
+        if place < self.cells.len() {
+            self.cells[place].region = region;
         }
     }
 
     /// The move at a vertex, or `NONE`.
     pub(crate) fn next(&self, v: u32) -> u32 {
-        match self.moves.only(v) {
-            [next] => *next,
-            _ => NONE,
+        if (v as usize) < self.moves.len() {
+            self.moves.get(v as usize)
+        } else {
+            NONE
         }
     }
 
@@ -190,9 +197,10 @@ impl Cells {
     }
 
     pub(crate) fn set_left(&mut self, v: u32, stamp: Stamp, left: u32) {
-        if let Some(cell) = self.cells.get_mut(v as usize) {
-            cell.left = left;
-            cell.stamp = stamp;
+        let place = v as usize;
+        if place < self.cells.len() {
+            self.cells[place].left = left;
+            self.cells[place].stamp = stamp;
         }
     }
 
@@ -203,18 +211,13 @@ impl Cells {
     }
 
     /// Those of these vertices that are in the region.
-    pub(crate) fn those_in(
-        &self,
-        alloc: Global,
-        vertices: &[u32],
-        region: Region,
-    ) -> Result<Numbers, AllocError> {
+    pub(crate) fn those_in(&self, alloc: Global, vertices: &[u32], region: Region) -> Numbers {
         let mut found = Numbers::none(alloc);
         for v in vertices {
             if self.region(*v) == region {
-                found.push(*v)?;
+                found.push(*v);
             }
         }
-        Ok(found)
+        found
     }
 }
