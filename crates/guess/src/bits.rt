@@ -1,6 +1,6 @@
 // Sets of states, one for each node, as bits.
 
-use std::alloc::{AllocError, Global};
+use crate::stock::Stock;
 
 /// How many states have their bits in one word.
 pub(crate) const WORD: u32 = 64;
@@ -26,7 +26,7 @@ pub(crate) struct Sheet {
 
 impl Sheet {
     /// Empty sets of states below this number, for so many nodes.
-    pub(crate) fn new(alloc: Global, nodes: u32, states: u32) -> Result<Self, AllocError> {
+    pub(crate) fn new(stock: &mut Stock, nodes: u32, states: u32) -> Self {
         let width = words_for(states);
         let length = (nodes as usize).saturating_mul(width as usize);
         let rest = states % WORD;
@@ -35,11 +35,11 @@ impl Sheet {
         } else {
             bit(rest).wrapping_sub(1)
         };
-        Ok(Sheet {
-            words: vec![in alloc; 0; length]?,
+        Sheet {
+            words: stock.words(0, length),
             width,
             tail,
-        })
+        }
     }
 
     /// How many words a set has.
@@ -67,24 +67,24 @@ impl Sheet {
 
     pub(crate) fn set_word(&mut self, node: u32, word: u32, bits: u64) {
         let place = self.place(node, word);
-        if let Some(item) = self.words.get_mut(place) {
-            *item = bits;
+        if place < self.words.len() {
+            self.words[place] = bits;
         }
     }
 
     /// Adds the states of a word.
     pub(crate) fn add(&mut self, node: u32, word: u32, bits: u64) {
         let place = self.place(node, word);
-        if let Some(item) = self.words.get_mut(place) {
-            *item |= bits;
+        if place < self.words.len() {
+            self.words[place] |= bits;
         }
     }
 
     /// Takes the states of a word away.
     pub(crate) fn remove(&mut self, node: u32, word: u32, bits: u64) {
         let place = self.place(node, word);
-        if let Some(item) = self.words.get_mut(place) {
-            *item &= !bits;
+        if place < self.words.len() {
+            self.words[place] &= !bits;
         }
     }
 
@@ -122,13 +122,13 @@ pub(crate) struct Fronts {
 }
 
 impl Fronts {
-    pub(crate) fn new(alloc: Global, nodes: u32, states: u32) -> Result<Self, AllocError> {
+    pub(crate) fn new(stock: &mut Stock, nodes: u32, states: u32) -> Self {
         let words = words_for(states);
-        Ok(Fronts {
-            bits: Sheet::new(alloc, nodes, states)?,
-            words: Sheet::new(alloc, nodes, words)?,
-            blocks: Sheet::new(alloc, nodes, words_for(words))?,
-        })
+        Fronts {
+            bits: Sheet::new(stock, nodes, states),
+            words: Sheet::new(stock, nodes, words),
+            blocks: Sheet::new(stock, nodes, words_for(words)),
+        }
     }
 
     pub(crate) fn word(&self, node: u32, word: u32) -> u64 {

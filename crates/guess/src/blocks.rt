@@ -34,8 +34,9 @@ impl Blocks {
             greatest: [0; PRIORITIES],
             count: 0,
         };
-        for (priority, is_there) in (0..PRIORITIES as u8).zip(priorities(form, root)) {
-            if is_there {
+        let are_there = priorities(form, root);
+        for priority in 0..PRIORITIES as u8 {
+            if are_there[usize::from(priority)] {
                 blocks.add(priority);
             }
         }

@@ -1,11 +1,12 @@
 // What is known of each node at each state.
 
 use crate::bits::{Sheet, WORD};
-use crate::edges::Edges;
+use crate::edges::{Edges, takes};
 use crate::form::{Form, Side};
 use crate::numbers::{Numbers, Words};
 use crate::scale::{Scale, TOP, ZERO};
-use std::alloc::{AllocError, Global};
+use crate::stock::Stock;
+use std::alloc::Global;
 
 /// The level of what was never reached.
 pub(crate) const NEVER: u32 = u32::MAX;
@@ -47,23 +48,42 @@ pub(crate) struct Board {
     rounds: Vec<Numbers>,
     /// The value of each level, one part after another.
     pub(crate) values: Vec<u64>,
+    /// Whether there was memory for all.
+    pub(crate) is_whole: bool,
 }
 
-// No numbers yet for each of so many nodes.
-fn no_numbers(alloc: Global, nodes: u32) -> Result<Vec<Numbers>, AllocError> {
-    let mut lists = Vec::new(alloc);
+/// No numbers yet for each of so many nodes.
+pub(crate) fn no_numbers(stock: &mut Stock, nodes: u32) -> Vec<Numbers> {
+    let mut lists = Vec::new(stock.alloc);
     for _ in 0..nodes {
-        lists.push(Numbers::filled(alloc, 0, 0)?)?;
+        stock.note(lists.push(Numbers::none(stock.alloc)).is_ok());
     }
-    Ok(lists)
+    lists
 }
 
-fn no_words(alloc: Global, nodes: u32) -> Result<Vec<Words>, AllocError> {
-    let mut lists = Vec::new(alloc);
+fn no_words(stock: &mut Stock, nodes: u32) -> Vec<Words> {
+    let mut lists = Vec::new(stock.alloc);
     for _ in 0..nodes {
-        lists.push(Words::filled(alloc, 0, 0)?)?;
+        stock.note(lists.push(Words::none(stock.alloc)).is_ok());
     }
-    Ok(lists)
+    lists
+}
+
+fn no_knowledge(stock: &mut Stock, nodes: u32) -> Vec<Known> {
+    let mut known = Vec::new(stock.alloc);
+    for _ in 0..nodes {
+        stock.note(known.push(Known::Tops).is_ok());
+    }
+    known
+}
+
+// Makes room for so many numbers, all `NEVER` if they are to be read before they are written. The answer is whether there was memory for them.
+fn open_numbers(numbers: &mut Numbers, alloc: Global, length: usize, are_read: bool) -> bool {
+    if are_read {
+        numbers.refill(alloc, NEVER, length)
+    } else {
+        numbers.make_room(alloc, length)
+    }
 }
 
 // Writes a number at these states of a word.
@@ -80,28 +100,29 @@ fn put_number(numbers: &mut Numbers, word: u32, mut bits: u64, number: u32) {
 
 impl Board {
     pub(crate) fn new(
-        alloc: Global,
+        stock: &mut Stock,
         states: u32,
         forth: Edges,
         form: Form,
         scale: Scale,
         exits: Exits,
-    ) -> Result<Self, AllocError> {
+    ) -> Self {
         let count = form.count();
-        Ok(Board {
+        Board {
             states,
             forth,
             back: None,
             scale,
             exits,
-            tops: Sheet::new(alloc, count, states)?,
-            known: vec![in alloc; Known::Tops; count as usize]?,
-            words: no_words(alloc, count)?,
-            levels: no_numbers(alloc, count)?,
-            rounds: no_numbers(alloc, count)?,
-            values: Vec::new(alloc),
+            tops: Sheet::new(stock, count, states),
+            known: no_knowledge(stock, count),
+            words: no_words(stock, count),
+            levels: no_numbers(stock, count),
+            rounds: no_numbers(stock, count),
+            values: Vec::new(stock.alloc),
+            is_whole: true,
             form,
-        })
+        }
     }
 
     pub(crate) fn has_back(&self) -> bool {
@@ -109,11 +130,12 @@ impl Board {
     }
 
     /// Makes the edges back from each state, if they aren't there yet.
-    pub(crate) fn open_back(&mut self, alloc: Global) -> Result<(), AllocError> {
+    pub(crate) fn open_back(&mut self, alloc: Global) {
         if self.back.is_none() {
-            self.back = Some(self.forth.reversed(alloc, self.states)?);
+            let mut stock = Stock::new(alloc);
+            self.back = Some(self.forth.reversed(&mut stock, self.states));
+            self.is_whole &= stock.is_whole();
         }
-        Ok(())
     }
 
     /// The edges back from a state, where they were made.
@@ -122,6 +144,16 @@ impl Board {
             Some(edges) => edges.row(state),
             None => &[],
         }
+    }
+
+    /// Whether an edge from a state is of a kind in a mask.
+    pub(crate) fn has_step(&self, state: u32, mask: u64) -> bool {
+        for edge in self.forth.row(state) {
+            if takes(mask, *edge) {
+                return true;
+            }
+        }
+        false
     }
 
     pub(crate) fn known(&self, node: u32) -> Known {
@@ -182,12 +214,11 @@ impl Board {
     }
 
     /// Forgets a node's levels. Where winners alone are looked for, they are read only where the node is final.
-    pub(crate) fn clear_levels(&mut self, alloc: Global, node: u32) -> Result<(), AllocError> {
+    pub(crate) fn clear_levels(&mut self, alloc: Global, node: u32) {
         let is_read = self.exits == Exits::Values;
-        match self.levels.get_mut(node as usize) {
-            Some(levels) if is_read => levels.refill(alloc, NEVER, self.states as usize),
-            Some(levels) => levels.make_room(alloc, self.states as usize),
-            None => Ok(()),
+        let length = self.states as usize;
+        if let Some(levels) = self.levels.get_mut(node as usize) {
+            self.is_whole &= open_numbers(levels, alloc, length, is_read);
         }
     }
 
@@ -213,12 +244,11 @@ impl Board {
     }
 
     /// Forgets a node's rounds. Where winners alone are looked for, they are read only where they are noted.
-    pub(crate) fn clear_rounds(&mut self, alloc: Global, node: u32) -> Result<(), AllocError> {
+    pub(crate) fn clear_rounds(&mut self, alloc: Global, node: u32) {
         let is_read = self.exits == Exits::Values;
-        match self.rounds.get_mut(node as usize) {
-            Some(rounds) if is_read => rounds.refill(alloc, NEVER, self.states as usize),
-            Some(rounds) => rounds.make_room(alloc, self.states as usize),
-            None => Ok(()),
+        let length = self.states as usize;
+        if let Some(rounds) = self.rounds.get_mut(node as usize) {
+            self.is_whole &= open_numbers(rounds, alloc, length, is_read);
         }
     }
 
@@ -252,33 +282,25 @@ impl Board {
     }
 
     /// Gives a node a word for each state, at first this one.
-    pub(crate) fn fill_words(
-        &mut self,
-        alloc: Global,
-        node: u32,
-        word: u64,
-    ) -> Result<(), AllocError> {
-        if let Some(words) = self.words.get_mut(node as usize) {
-            *words = Words::filled(alloc, word, self.states as usize)?;
-        }
+    pub(crate) fn fill_words(&mut self, alloc: Global, node: u32, word: u64) {
         self.set_known(node, Known::Words);
-        Ok(())
+        self.refill_words(alloc, node, word)
     }
 
     /// Makes room for a word for each state of a node.
-    pub(crate) fn make_words(&mut self, alloc: Global, node: u32) -> Result<(), AllocError> {
-        if let Some(words) = self.words.get_mut(node as usize) {
-            *words = Words::filled(alloc, 0, self.states as usize)?;
-        }
-        Ok(())
+    pub(crate) fn make_words(&mut self, alloc: Global, node: u32) {
+        self.refill_words(alloc, node, 0)
     }
 
     /// Gives a node a word for each state, top, though its values are still those that were known.
-    pub(crate) fn make_tops(&mut self, alloc: Global, node: u32) -> Result<(), AllocError> {
+    pub(crate) fn make_tops(&mut self, alloc: Global, node: u32) {
+        self.refill_words(alloc, node, TOP)
+    }
+
+    fn refill_words(&mut self, alloc: Global, node: u32, word: u64) {
         if let Some(words) = self.words.get_mut(node as usize) {
-            *words = Words::filled(alloc, TOP, self.states as usize)?;
+            self.is_whole &= words.refill(alloc, word, self.states as usize);
         }
-        Ok(())
     }
 
     /// The word of a node at a state, where it has words.

@@ -6,9 +6,9 @@ use crate::edges::{state_of, takes};
 use crate::form::{Form, Shape};
 use crate::numbers::Numbers;
 use crate::order::{Order, Wait};
+use crate::places::{Place, Places};
 use crate::sets::{Sets, Step};
-use crate::withdraw::Place;
-use std::alloc::{AllocError, Global};
+use crate::stock::Stock;
 
 // A level begins at few states where they are at most this part of all, or as few as this.
 const PART: u32 = 64;
@@ -40,6 +40,8 @@ struct Link {
 #[derive(Drop)]
 struct Links {
     list: Vec<Link>,
+    // Whether there was memory for all.
+    is_whole: bool,
     // For each node the first link from it, and for the one after the last how many there are.
     starts: Numbers,
 }
@@ -49,9 +51,9 @@ struct Links {
 pub(crate) struct Few {
     links: Links,
     /// Places that have become final, and aren't carried on yet.
-    found: Vec<Place>,
+    found: Places,
     /// Binders that become final in the next level.
-    next: Vec<Place>,
+    next: Places,
 }
 
 /// Whether so many of all states are few.
@@ -60,19 +62,12 @@ pub(crate) fn are_few(many: usize, states: u32) -> bool {
 }
 
 impl Links {
-    fn push(&mut self, under: u32, over: u32, way: Way) -> Result<(), AllocError> {
-        self.list.push(Link { under, over, way })?;
-        Ok(())
+    fn push(&mut self, under: u32, over: u32, way: Way) {
+        self.is_whole &= self.list.push(Link { under, over, way }).is_ok();
     }
 
     // The links to a junction from one of its children.
-    fn push_joined(
-        &mut self,
-        wait: Wait,
-        over: u32,
-        under: u32,
-        other: u32,
-    ) -> Result<(), AllocError> {
+    fn push_joined(&mut self, wait: Wait, over: u32, under: u32, other: u32) {
         match wait {
             Wait::Both => self.push(under, over, Way::With(other)),
             _ => self.push(under, over, Way::Now),
@@ -81,14 +76,11 @@ impl Links {
 
     fn order(&mut self) {
         self.list.sort_unstable_by_key(|link| link.under);
-        let nodes = u32::try_from(self.starts.as_slice().len()).unwrap_or(0);
-        let mut at = 0_u32;
-        for node in 0..nodes {
-            let rest = self.list.iter().skip(at as usize);
-            let before = rest.take_while(|link| link.under < node).count();
-            at = at.saturating_add(u32::try_from(before).unwrap_or(0));
-            self.starts.set(node, at);
+        self.starts.fill(0);
+        for link in &self.list {
+            self.starts.count_up(link.under.saturating_add(1));
         }
+        self.starts.sum_up();
     }
 
     // The links from a node.
@@ -105,15 +97,21 @@ impl Links {
 
 impl Few {
     /// Nothing, for so many nodes.
-    pub(crate) fn new(alloc: Global, nodes: u32) -> Result<Self, AllocError> {
-        Ok(Few {
+    pub(crate) fn new(stock: &mut Stock, nodes: u32) -> Self {
+        Few {
             links: Links {
-                list: Vec::new(alloc),
-                starts: Numbers::filled(alloc, 0, (nodes as usize).saturating_add(1))?,
+                list: Vec::new(stock.alloc),
+                is_whole: true,
+                starts: Numbers::filled(stock, 0, (nodes as usize).saturating_add(1)),
             },
-            found: Vec::new(alloc),
-            next: Vec::new(alloc),
-        })
+            found: Places::new(stock.alloc),
+            next: Places::new(stock.alloc),
+        }
+    }
+
+    /// Whether there was memory for all.
+    pub(crate) fn is_whole(&self) -> bool {
+        self.links.is_whole && self.found.is_whole() && self.next.is_whole()
     }
 
     /// Forgets all nodes and places.
@@ -124,13 +122,13 @@ impl Few {
     }
 
     /// Adds the links to a node from its children.
-    pub(crate) fn link(&mut self, form: &Form, order: Order, node: u32) -> Result<(), AllocError> {
+    pub(crate) fn link(&mut self, form: &Form, order: Order, node: u32) {
         let [left, right] = form.operands(node);
         let shape = form.node(node).shape;
         let wait = order.wait(shape);
         match shape {
             Shape::And | Shape::Or => {
-                self.links.push_joined(wait, node, left, right)?;
+                self.links.push_joined(wait, node, left, right);
                 self.links.push_joined(wait, node, right, left)
             }
             Shape::Dia | Shape::Box => {
@@ -143,7 +141,7 @@ impl Few {
                 self.links.push(left, node, Way::Back(step))
             }
             Shape::Binder => self.links.push(left, node, Way::Later),
-            _ => Ok(()),
+            _ => {}
         }
     }
 
@@ -158,14 +156,13 @@ impl Few {
     }
 
     /// A place becomes final.
-    pub(crate) fn add(&mut self, sets: &mut Sets, place: Place) -> Result<(), AllocError> {
+    pub(crate) fn add(&mut self, sets: &mut Sets, place: Place) {
         add_to(&mut self.found, sets, place)
     }
 
     /// A binder becomes final in the next level, where it still can.
-    pub(crate) fn put_off(&mut self, place: Place) -> Result<(), AllocError> {
-        self.next.push(place)?;
-        Ok(())
+    pub(crate) fn put_off(&mut self, place: Place) {
+        self.next.push(place.node, place.state);
     }
 
     /// The binder that was put off last.
@@ -174,12 +171,7 @@ impl Few {
     }
 
     /// Carries what has become final on to all that does so with it, and gives that a level.
-    pub(crate) fn spread(
-        &mut self,
-        board: &mut Board,
-        sets: &mut Sets,
-        level: u32,
-    ) -> Result<(), AllocError> {
+    pub(crate) fn spread(&mut self, board: &mut Board, sets: &mut Sets, level: u32) {
         for _ in 0..u64::MAX {
             let Some(place) = self.found.pop() else {
                 break;
@@ -191,42 +183,32 @@ impl Few {
                     state: place.state,
                 };
                 match link.way {
-                    Way::Later => self.next.push(next)?,
+                    Way::Later => self.next.push(next.node, next.state),
                     Way::Back(step) => {
-                        carry_back(&mut self.found, sets, board, step, place.state)?;
+                        carry_back(&mut self.found, sets, board, step, place.state);
                     }
                     Way::With(other) if !sets.done.has(other, place.state) => {}
-                    Way::Now | Way::With(_) => try_add_to(&mut self.found, sets, next)?,
+                    Way::Now | Way::With(_) => try_add_to(&mut self.found, sets, next),
                 }
             }
         }
-        Ok(())
     }
 }
 
-fn add_to(found: &mut Vec<Place>, sets: &mut Sets, place: Place) -> Result<(), AllocError> {
+fn add_to(found: &mut Places, sets: &mut Sets, place: Place) {
     sets.settle(place.node, place.state / WORD, bit(place.state));
-    found.push(place)?;
-    Ok(())
+    found.push(place.node, place.state);
 }
 
 // A place becomes final where it still can.
-fn try_add_to(found: &mut Vec<Place>, sets: &mut Sets, place: Place) -> Result<(), AllocError> {
+fn try_add_to(found: &mut Places, sets: &mut Sets, place: Place) {
     if sets.is_left(place.node, place.state) {
         add_to(found, sets, place)
-    } else {
-        Ok(())
-    }
+    } else {}
 }
 
 // Carries a state on by the edges back from it.
-fn carry_back(
-    found: &mut Vec<Place>,
-    sets: &mut Sets,
-    board: &Board,
-    step: Step,
-    state: u32,
-) -> Result<(), AllocError> {
+fn carry_back(found: &mut Places, sets: &mut Sets, board: &Board, step: Step, state: u32) {
     let node = step.node;
     for edge in board.back(state) {
         let source = state_of(*edge);
@@ -241,8 +223,7 @@ fn carry_back(
                     node,
                     state: source,
                 },
-            )?;
+            );
         }
     }
-    Ok(())
 }

@@ -2,9 +2,9 @@
 
 use crate::edges::Kinds;
 use crate::numbers::Numbers;
+use crate::stock::Stock;
 use normal::form::Normal;
 use normal::node::Kind;
-use std::alloc::{AllocError, Global};
 
 /// No node.
 pub(crate) const NONE: u32 = u32::MAX;
@@ -100,28 +100,30 @@ pub(crate) struct Form {
     heights: Numbers,
 }
 
+fn nodes_of(stock: &mut Stock, normal: &Normal, kinds: &Kinds, side: Side) -> Vec<Node> {
+    let mut nodes = Vec::new(stock.alloc);
+    let mut number = 0_u32;
+    for node in normal.nodes() {
+        let own = Node::of(&node.kind, node.priority, kinds.mask(number));
+        stock.note(nodes.push(own.on(side)).is_ok());
+        number = number.saturating_add(1);
+    }
+    nodes
+}
+
 impl Form {
-    pub(crate) fn of(
-        alloc: Global,
-        normal: &Normal,
-        kinds: &Kinds,
-        side: Side,
-    ) -> Result<Self, AllocError> {
-        let mut nodes = Vec::new(alloc);
-        for (number, node) in (0..u32::MAX).zip(normal.nodes()) {
-            let own = Node::of(&node.kind, node.priority, kinds.mask(number));
-            nodes.push(own.on(side))?;
-        }
+    pub(crate) fn of(stock: &mut Stock, normal: &Normal, kinds: &Kinds, side: Side) -> Self {
+        let nodes = nodes_of(stock, normal, kinds, side);
         let count = nodes.len();
         let mut form = Form {
             side,
             nodes,
-            roots: Numbers::filled(alloc, NONE, count)?,
-            heights: Numbers::filled(alloc, 0, count)?,
+            roots: Numbers::filled(stock, NONE, count),
+            heights: Numbers::filled(stock, 0, count),
         };
-        form.find_roots(alloc)?;
+        form.find_roots(stock);
         form.find_heights();
-        Ok(form)
+        form
     }
 
     pub(crate) fn count(&self) -> u32 {
@@ -188,8 +190,8 @@ impl Form {
     }
 
     // A node is in its parent's component where a variable inside it is bound above it.
-    fn find_roots(&mut self, alloc: Global) -> Result<(), AllocError> {
-        let mut reached = Numbers::filled(alloc, NONE, self.nodes.len())?;
+    fn find_roots(&mut self, stock: &mut Stock) {
+        let mut reached = Numbers::filled(stock, NONE, self.nodes.len());
         for number in (0..self.count()).rev() {
             let node = self.node(number);
             let inside = reached.get(node.left).min(reached.get(node.right));
@@ -203,7 +205,6 @@ impl Form {
         for number in 0..self.count() {
             self.find_root(&reached, number);
         }
-        Ok(())
     }
 
     // Gives a node, and then its children, their components.

@@ -1,7 +1,7 @@
 // States at which a binder's value comes later.
 
 use crate::numbers::Numbers;
-use std::alloc::{AllocError, Global};
+use std::alloc::Global;
 
 /// The states that came one after another, up to an end, and have a value.
 #[derive(Clone, Copy)]
@@ -18,26 +18,33 @@ pub(crate) struct Later {
     head: u32,
     runs: Vec<Run>,
     seen: usize,
+    is_whole: bool,
 }
 
 impl Later {
     /// Nothing yet, with the memory for no state.
-    pub(crate) fn new(alloc: Global) -> Result<Self, AllocError> {
-        Ok(Later {
-            states: Numbers::filled(alloc, 0, 0)?,
+    pub(crate) fn new(alloc: Global) -> Self {
+        Later {
+            states: Numbers::none(alloc),
             length: 0,
             head: 0,
             runs: Vec::new(alloc),
             seen: 0,
-        })
+            is_whole: true,
+        }
     }
 
     /// Nothing, with the memory for so many states, each twice.
-    pub(crate) fn clear(&mut self, alloc: Global, states: u32) -> Result<(), AllocError> {
-        self.states
-            .make_room(alloc, (states as usize).saturating_mul(2))?;
+    pub(crate) fn clear(&mut self, alloc: Global, states: u32) {
+        self.is_whole &= self
+            .states
+            .make_room(alloc, (states as usize).saturating_mul(2));
         self.restart();
-        Ok(())
+    }
+
+    /// Whether there was memory for all.
+    pub(crate) fn is_whole(&self) -> bool {
+        self.is_whole
     }
 
     /// Nothing.
@@ -54,7 +61,7 @@ impl Later {
     }
 
     /// Gives a value to the states that were pushed since the last time.
-    pub(crate) fn close(&mut self, value: u64) -> Result<(), AllocError> {
+    pub(crate) fn close(&mut self, value: u64) {
         let end = self.length;
         let waits = self.seen < self.runs.len();
         if let Some(run) = self.runs.last_mut()
@@ -62,10 +69,9 @@ impl Later {
             && run.value == value
         {
             run.end = end;
-            return Ok(());
+            return;
         }
-        self.runs.push(Run { value, end })?;
-        Ok(())
+        self.is_whole &= self.runs.push(Run { value, end }).is_ok();
     }
 
     /// The value that comes next.

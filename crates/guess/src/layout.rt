@@ -3,7 +3,6 @@
 use crate::blocks::Blocks;
 use crate::form::Form;
 use crate::scale::PRIORITIES;
-use std::alloc::{AllocError, Global};
 
 // How many bits a word has, and which one says that Odd wins.
 const BITS: u32 = 64;
@@ -146,11 +145,4 @@ impl Layout {
             odd,
         })
     }
-}
-
-/// A list of shifts.
-pub(crate) fn shifts(alloc: Global, kept: &[u32; PRIORITIES]) -> Result<Vec<u32>, AllocError> {
-    let mut list = Vec::with_capacity(alloc, PRIORITIES)?;
-    list.extend_from_slice(kept)?;
-    Ok(list)
 }

@@ -1,16 +1,16 @@
 // Components of nodes whose binders have one parity, value by value (Knuth 1977), over sets of states.
 
-use crate::bits::{Fronts, WORD, bit};
+use crate::bits::{Fronts, Sheet, WORD};
 use crate::board::{Board, Exits, Known};
 use crate::few::{Few, are_few};
 use crate::form::{NONE, Node, Shape};
 use crate::later::Later;
 use crate::numbers::Numbers;
 use crate::order::{Order, Wait};
+use crate::places::{Place, Places};
 use crate::sets::{Sets, Step, Way};
-use crate::withdraw::Place;
-use std::alloc::{AllocError, Global};
-use text::Memory;
+use crate::stock::Stock;
+use std::alloc::Global;
 
 /// A value that comes from outside a part, with its place among others in the part's order.
 #[derive(Clone, Copy)]
@@ -60,35 +60,43 @@ pub(crate) struct Levels {
     pub(crate) is_listed: bool,
     /// The last time at which a held binder lost a state, in the rounds at hand.
     pub(crate) last_time: u32,
+    // Whether there was memory for all nodes and events.
+    is_whole: bool,
 }
 
-fn no_later(alloc: Global, nodes: u32) -> Result<Vec<Later>, AllocError> {
-    let mut later = Vec::new(alloc);
+fn no_later(stock: &mut Stock, nodes: u32) -> Vec<Later> {
+    let mut later = Vec::new(stock.alloc);
     for _ in 0..nodes {
-        later.push(Later::new(alloc)?)?;
+        stock.note(later.push(Later::new(stock.alloc)).is_ok());
     }
-    Ok(later)
+    later
+}
+
+fn roots_of(stock: &mut Stock, board: &Board) -> Numbers {
+    let count = board.form.count();
+    let mut roots = Numbers::filled(stock, 0, count as usize);
+    for number in 0..count {
+        roots.set(number, board.form.root(number));
+    }
+    roots
 }
 
 impl Levels {
-    pub(crate) fn new(alloc: Global, board: Board) -> Result<Self, Memory> {
+    pub(crate) fn new(stock: &mut Stock, board: Board) -> Self {
+        let alloc = stock.alloc;
         let count = board.form.count();
-        let mut parts = Numbers::filled(alloc, 0, count as usize)?;
-        for number in 0..count {
-            parts.set(number, board.form.root(number));
-        }
         let marked = match board.exits {
             Exits::Values => 0,
             Exits::Marks => count,
         };
-        Ok(Levels {
+        Levels {
             alloc,
-            parts,
-            sets: Sets::new(alloc, count, board.states, board.exits)?,
-            later: no_later(alloc, count)?,
+            parts: roots_of(stock, &board),
+            sets: Sets::new(stock, count, board.states, board.exits),
+            later: no_later(stock, count),
             members: Vec::new(alloc),
             sources: Vec::new(alloc),
-            used: Numbers::filled(alloc, 0, count as usize)?,
+            used: Numbers::filled(stock, 0, count as usize),
             runs: 0,
             events: Vec::new(alloc),
             seen: 0,
@@ -97,25 +105,31 @@ impl Levels {
             value: 0,
             first: 0,
             depth: 0,
-            next: Fronts::new(alloc, marked, board.states)?,
-            few: Few::new(alloc, count)?,
+            next: Fronts::new(stock, marked, board.states),
+            few: Few::new(stock, count),
             is_listed: false,
             last_time: 0,
+            is_whole: true,
             board,
-        })
+        }
     }
 
     /// Finds the values of a part, whose binders have the parity of this order, from those of the nodes outside.
-    pub(crate) fn run(&mut self, alloc: Global, part: u32, order: Order) -> Result<(), Memory> {
+    pub(crate) fn run(&mut self, alloc: Global, part: u32, order: Order) {
         self.part = part;
         self.order = order;
         self.value = order.first();
         self.depth = 0;
         self.first = self.board.values.len();
-        self.begin(alloc)?;
-        self.climb()?;
+        self.begin(alloc);
+        self.climb();
         self.finish();
-        Ok(())
+    }
+
+    /// Whether there was memory for all.
+    pub(crate) fn is_whole(&self) -> bool {
+        let are_sets = self.sets.is_whole && self.few.is_whole();
+        self.is_whole && self.board.is_whole && are_sets && are_whole(&self.later)
     }
 
     /// How many levels there are, and so one more than the greatest.
@@ -128,7 +142,7 @@ impl Levels {
         !self.events.is_empty()
     }
 
-    fn begin(&mut self, alloc: Global) -> Result<(), AllocError> {
+    fn begin(&mut self, alloc: Global) {
         self.members.clear();
         self.sources.clear();
         self.events.clear();
@@ -138,20 +152,23 @@ impl Levels {
         self.runs = self.runs.saturating_add(1);
         for number in 0..self.board.form.count() {
             if self.is_inside(number) {
-                self.open(alloc, number)?;
+                self.open(alloc, number);
             } else if self.is_held(number) {
-                self.see(number)?;
+                self.see(number);
             }
         }
         self.members.sort_unstable_by_key(|member| member.height);
         self.few.order_links();
+        self.enter_all();
+        self.events.sort_unstable_by_key(|event| event.key);
+    }
+
+    fn enter_all(&mut self) {
         for at in 0..self.sources.len() {
             if let Some(source) = self.sources.get(at).copied() {
-                self.enter(source)?;
+                self.enter(source);
             }
         }
-        self.events.sort_unstable_by_key(|event| event.key);
-        Ok(())
     }
 
     pub(crate) fn is_inside(&self, number: u32) -> bool {
@@ -165,107 +182,103 @@ impl Levels {
     }
 
     // Takes a node into the part, and forgets what was known of it.
-    fn open(&mut self, alloc: Global, node: u32) -> Result<(), AllocError> {
+    fn open(&mut self, alloc: Global, node: u32) {
         let height = self.board.form.height(node);
-        self.members.push(Member { node, height })?;
-        self.few.link(&self.board.form, self.order, node)?;
+        self.is_whole &= self.members.push(Member { node, height }).is_ok();
+        self.few.link(&self.board.form, self.order, node);
         self.sets.clear(node);
         self.sets.add_given(node);
-        self.board.clear_levels(alloc, node)?;
+        self.board.clear_levels(alloc, node);
         for operand in self.board.form.operands(node) {
-            self.see(operand)?;
+            self.see(operand);
         }
-        let states = self.board.states;
-        let is_marked = self.board.exits == Exits::Marks;
         let shape = self.board.form.node(node).shape;
         if self.order.wait(shape) == Wait::All {
-            self.sets.clear_cursors(alloc, node, states)?;
+            self.sets.clear_cursors(alloc, node, self.board.states);
             self.sets.add_stuck(&self.board, node);
         }
-        match self.later.get_mut(node as usize) {
-            Some(later) if shape == Shape::Binder && !is_marked => later.clear(alloc, states),
-            _ => Ok(()),
+        if shape == Shape::Binder && self.board.exits == Exits::Values {
+            self.clear_later(alloc, node);
+        }
+    }
+
+    fn clear_later(&mut self, alloc: Global, node: u32) {
+        let place = node as usize;
+        if place < self.later.len() {
+            self.later[place].clear(alloc, self.board.states);
         }
     }
 
     // A child is a source, where it isn't inside.
-    fn see(&mut self, operand: u32) -> Result<(), AllocError> {
+    fn see(&mut self, operand: u32) {
         let is_new = self.used.get(operand) != self.runs && operand != NONE;
         if is_new && !self.is_inside(operand) {
             self.used.set(operand, self.runs);
-            self.sources.push(operand)?;
+            self.is_whole &= self.sources.push(operand).is_ok();
         }
-        Ok(())
     }
 
     // Values from outside: the first are there at once, others when their turn comes.
-    fn enter(&mut self, source: u32) -> Result<(), AllocError> {
+    fn enter(&mut self, source: u32) {
         self.sets.clear(source);
         if self.board.known(source) == Known::Tops {
-            self.enter_tops(source);
-            return Ok(());
+            enter_tops(&mut self.sets, &self.board.tops, self.order, source);
+        } else {
+            self.enter_values(source);
         }
+    }
+
+    fn enter_values(&mut self, source: u32) {
         for state in 0..self.board.states {
             let value = self.board.plain_value(source, state);
             if value == self.order.first() {
                 self.sets.add_state(source, state);
             } else if value != self.order.last() {
-                self.events.push(Event {
-                    key: self.order.key(value),
-                    node: source,
-                    state,
-                })?;
+                self.wait_for(source, state, value);
             }
         }
-        Ok(())
     }
 
-    fn enter_tops(&mut self, source: u32) {
-        for word in 0..self.sets.done.width() {
-            let tops = self.board.tops.word(source, word);
-            let bits = match self.order {
-                Order::Rising => self.sets.done.full(word) & !tops,
-                Order::Falling => tops,
-            };
-            self.sets.add(source, word, bits);
-        }
+    fn wait_for(&mut self, node: u32, state: u32, value: u64) {
+        let key = self.order.key(value);
+        let event = Event { key, node, state };
+        self.is_whole &= self.events.push(event).is_ok();
     }
 
-    pub(crate) fn climb(&mut self) -> Result<(), AllocError> {
+    pub(crate) fn climb(&mut self) {
         for _ in 0..u64::MAX {
             if self.is_listed {
                 let level = self.depth;
-                self.few.spread(&mut self.board, &mut self.sets, level)?;
-                self.end_level()?;
+                self.few.spread(&mut self.board, &mut self.sets, level);
+                self.end_level();
             } else {
-                self.spread()?;
-                self.put_off()?;
-                self.record()?;
+                self.spread();
+                self.put_off();
+                self.record();
             }
-            if !self.go_on()? {
+            if !self.go_on() {
                 break;
             }
         }
-        Ok(())
     }
 
     // Goes on to the next level, where there is one.
-    fn go_on(&mut self) -> Result<bool, AllocError> {
+    fn go_on(&mut self) -> bool {
         if self.board.exits == Exits::Marks {
             return self.pass_on();
         }
-        Ok(match self.next_value() {
+        match self.next_value() {
             Some(value) => {
                 self.value = value;
                 self.release();
                 true
             }
             None => false,
-        })
+        }
     }
 
     // Where winners alone are looked for, a binder comes a level after its operand. The answer is whether one does.
-    fn pass_on(&mut self) -> Result<bool, AllocError> {
+    fn pass_on(&mut self) -> bool {
         let was_listed = self.is_listed;
         self.is_listed = self.board.has_back() && are_few(self.waiting(), self.board.states);
         if was_listed {
@@ -274,19 +287,18 @@ impl Levels {
         let mut some = false;
         for at in 0..self.members.len() {
             if let Some(member) = self.members.get(at).copied() {
-                some |= self.pass_binder(member.node)?;
+                some |= self.pass_binder(member.node);
             }
         }
-        Ok(some)
+        some
     }
 
     // One more level has its value.
-    fn end_level(&mut self) -> Result<(), AllocError> {
+    fn end_level(&mut self) {
         self.depth = self.depth.saturating_add(1);
         if self.board.exits == Exits::Values {
-            self.board.values.push(self.value)?;
+            self.is_whole &= self.board.values.push(self.value).is_ok();
         }
-        Ok(())
     }
 
     // How many states of binders come next.
@@ -302,7 +314,7 @@ impl Levels {
     }
 
     // Binders that are listed become final. The answer is whether there are some.
-    fn pass_list(&mut self) -> Result<bool, AllocError> {
+    fn pass_list(&mut self) -> bool {
         let mut some = false;
         if !self.is_listed {
             self.recount();
@@ -313,10 +325,10 @@ impl Levels {
             };
             if self.sets.is_left(place.node, place.state) {
                 some = true;
-                self.add_place(place)?;
+                self.add_place(place);
             }
         }
-        Ok(some)
+        some
     }
 
     // Sizes aren't kept while places are listed.
@@ -327,19 +339,18 @@ impl Levels {
     }
 
     /// A place becomes final.
-    pub(crate) fn add_place(&mut self, place: Place) -> Result<(), AllocError> {
+    pub(crate) fn add_place(&mut self, place: Place) {
         if self.is_listed {
             self.few.add(&mut self.sets, place)
         } else {
             self.sets.add_state(place.node, place.state);
-            Ok(())
         }
     }
 
     // The states of a binder that come next become final. The answer is whether there are some.
-    fn pass_binder(&mut self, binder: u32) -> Result<bool, AllocError> {
+    fn pass_binder(&mut self, binder: u32) -> bool {
         if !self.is_listed {
-            return Ok(pass_in(&mut self.next, &mut self.sets, binder));
+            return pass_in(&mut self.next, &mut self.sets, binder);
         }
         let mut some = false;
         let mut from = 0;
@@ -349,37 +360,35 @@ impl Levels {
             };
             let bits = self.next.word(binder, word) & self.sets.left(binder, word);
             some |= bits != 0;
-            self.list_word(binder, word, bits)?;
+            self.list_word(binder, word, bits);
             from = word.saturating_add(1);
         }
         self.next.clear(binder);
-        Ok(some)
+        some
     }
 
     // Lists a binder at these states of a word.
-    fn list_word(&mut self, node: u32, word: u32, mut bits: u64) -> Result<(), AllocError> {
+    fn list_word(&mut self, node: u32, word: u32, mut bits: u64) {
         for _ in 0..WORD {
             if bits == 0 {
                 break;
             }
             let state = word.wrapping_mul(WORD).wrapping_add(bits.trailing_zeros());
             bits &= bits.wrapping_sub(1);
-            self.few.add(&mut self.sets, Place { node, state })?;
+            self.few.add(&mut self.sets, Place { node, state });
         }
-        Ok(())
     }
 
     // Carries what is final from children to parents, up to the binders.
-    fn spread(&mut self) -> Result<(), AllocError> {
+    fn spread(&mut self) {
         for at in 0..self.members.len() {
             if let Some(member) = self.members.get(at).copied() {
-                self.spread_to(member.node)?;
+                self.spread_to(member.node);
             }
         }
-        Ok(())
     }
 
-    fn spread_to(&mut self, number: u32) -> Result<(), AllocError> {
+    fn spread_to(&mut self, number: u32) {
         let node = self.board.form.node(number);
         let wait = self.order.wait(node.shape);
         let [left, right] = self.board.form.operands(number);
@@ -389,31 +398,26 @@ impl Levels {
                 operand: left,
                 mask: node.mask,
                 wait,
-            })?,
-            Shape::And | Shape::Or => {
-                self.sets.join(number, left, right, wait);
-                self.sets.join(number, right, left, wait);
-            }
+            }),
+            Shape::And | Shape::Or => self.sets.join_both(number, left, right, wait),
             _ => {}
         }
-        Ok(())
     }
 
     // Carries an operand's states on to a modality.
-    fn step(&mut self, step: Step) -> Result<(), AllocError> {
+    fn step(&mut self, step: Step) {
         match self.sets.way(&self.board, step) {
             Way::None => {}
             Way::Pull => self.sets.pull(&self.board, step),
             Way::Push => {
-                self.board.open_back(self.alloc)?;
+                self.board.open_back(self.alloc);
                 self.sets.push(&self.board, step);
             }
         }
-        Ok(())
     }
 
     // A binder's value comes later.
-    fn put_off(&mut self) -> Result<(), AllocError> {
+    fn put_off(&mut self) {
         for Member { node, .. } in self.members.as_slice() {
             let Node {
                 shape,
@@ -428,50 +432,38 @@ impl Levels {
             if self.board.exits == Exits::Marks {
                 put_in(&mut self.next, &self.sets, *node, operand);
             } else if let Some(later) = self.later.get_mut(*node as usize) {
-                wait_in(later, &self.sets, operand, value)?;
+                wait_in(later, &self.sets, operand, value);
             }
         }
-        Ok(())
     }
 
     // Keeps the level of what has become final.
-    fn record(&mut self) -> Result<(), AllocError> {
+    fn record(&mut self) {
         let level = self.count();
-        self.end_level()?;
-        for at in 0..self.members.len() {
-            if let Some(member) = self.members.get(at).copied() {
-                self.record_node(member.node, level);
-                self.sets.fronts.clear(member.node);
-            }
+        self.end_level();
+        for member in &self.members {
+            record_node(&mut self.board, &mut self.sets, member.node, level);
         }
-        for source in self.sources.as_slice() {
-            self.sets.fronts.clear(*source);
-        }
-        Ok(())
-    }
-
-    fn record_node(&mut self, node: u32, level: u32) {
-        let mut from = 0;
-        for _ in 0..=self.sets.done.width() {
-            let Some(word) = self.sets.fronts.next(node, from) else {
-                return;
-            };
-            let bits = self.sets.fronts.word(node, word);
-            self.sets.count(node, bits.count_ones());
-            self.board.set_levels(node, word, bits, level);
-            from = word.saturating_add(1);
+        for source in &self.sources {
+            self.sets.clear_front(*source);
         }
     }
 
     fn next_value(&self) -> Option<u64> {
         let mut next = self.event();
         for member in &self.members {
-            let later = self.later.get(member.node as usize);
-            if let Some(value) = later.and_then(|later| later.value()) {
+            if let Some(value) = self.later_value(member.node) {
                 next = Some(self.sooner(next, value));
             }
         }
         next
+    }
+
+    fn later_value(&self, node: u32) -> Option<u64> {
+        match self.later.get(node as usize) {
+            Some(later) => later.value(),
+            None => None,
+        }
     }
 
     // The one of two values that comes first.
@@ -524,24 +516,63 @@ impl Levels {
                 last: self.order.last(),
             }
         };
-        for at in 0..self.members.len() {
-            if let Some(member) = self.members.get(at).copied() {
-                self.board.set_known(member.node, known);
-                self.keep_tops(member.node);
-            }
+        for member in &self.members {
+            self.board.set_known(member.node, known);
+            keep_tops(
+                &mut self.board.tops,
+                &self.sets.done,
+                self.order,
+                member.node,
+            );
         }
     }
+}
 
-    fn keep_tops(&mut self, node: u32) {
-        for word in 0..self.sets.done.width() {
-            let done = self.sets.done.word(node, word);
-            let tops = match self.order {
-                Order::Rising => self.sets.done.full(word) & !done,
-                Order::Falling => done,
-            };
-            self.board.tops.set_word(node, word, tops);
+fn are_whole(lists: &[Later]) -> bool {
+    for later in lists {
+        if !later.is_whole() {
+            return false;
         }
     }
+    true
+}
+
+// The states of a source at which it has top, or has not, are final.
+fn enter_tops(sets: &mut Sets, tops: &Sheet, order: Order, source: u32) {
+    for word in 0..tops.width() {
+        let bits = tops.word(source, word);
+        let bits = match order {
+            Order::Rising => tops.full(word) & !bits,
+            Order::Falling => bits,
+        };
+        sets.add(source, word, bits);
+    }
+}
+
+fn keep_tops(tops: &mut Sheet, done: &Sheet, order: Order, node: u32) {
+    for word in 0..done.width() {
+        let bits = done.word(node, word);
+        let bits = match order {
+            Order::Rising => done.full(word) & !bits,
+            Order::Falling => bits,
+        };
+        tops.set_word(node, word, bits);
+    }
+}
+
+// Keeps the level of what has become final of a node.
+fn record_node(board: &mut Board, sets: &mut Sets, node: u32, level: u32) {
+    let mut from = 0;
+    for _ in 0..=sets.done.width() {
+        let Some(word) = sets.fronts.next(node, from) else {
+            break;
+        };
+        let bits = sets.fronts.word(node, word);
+        sets.count(node, bits.count_ones());
+        board.set_levels(node, word, bits, level);
+        from = word.saturating_add(1);
+    }
+    sets.clear_front(node);
 }
 
 // The states at which a binder's operand has become final.
@@ -574,7 +605,7 @@ fn pass_in(next: &mut Fronts, sets: &mut Sets, binder: u32) -> bool {
 }
 
 // Puts off the states of a binder's operand that have become final.
-fn wait_in(later: &mut Later, sets: &Sets, operand: u32, value: u64) -> Result<(), AllocError> {
+fn wait_in(later: &mut Later, sets: &Sets, operand: u32, value: u64) {
     let mut from = 0;
     let mut some = false;
     for _ in 0..=sets.done.width() {
@@ -585,7 +616,9 @@ fn wait_in(later: &mut Later, sets: &Sets, operand: u32, value: u64) -> Result<(
         some = true;
         from = word.saturating_add(1);
     }
-    if some { later.close(value) } else { Ok(()) }
+    if some {
+        later.close(value);
+    }
 }
 
 fn push_word(later: &mut Later, word: u32, mut bits: u64) {

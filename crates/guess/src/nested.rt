@@ -5,11 +5,11 @@ use crate::bits::{Sheet, WORD, bit};
 use crate::blocks::Blocks;
 use crate::layout::Layout;
 use crate::levels::Levels;
+use crate::places::{Place, Places};
 use crate::rounds::{Held, inner_time, outer_time};
 use crate::set_rounds::push_word;
-use crate::withdraw::Place;
-use std::alloc::{AllocError, Global};
-use text::Memory;
+use crate::stock::Stock;
+use std::alloc::Global;
 
 /// A block above the two lowest ones.
 #[derive(Drop)]
@@ -31,6 +31,8 @@ struct Nest {
     layout: Layout,
     /// Whether all counts fit their fields.
     fits: bool,
+    /// Whether there was memory for all blocks.
+    is_whole: bool,
 }
 
 impl Outer {
@@ -51,90 +53,87 @@ impl Levels {
         part: u32,
         blocks: &Blocks,
         layout: &Layout,
-    ) -> Result<bool, Memory> {
-        let mut nest = self.nest(alloc, part, blocks, layout)?;
-        let mut gone = Vec::new(alloc);
+    ) -> bool {
+        let mut nest = self.nest(alloc, part, blocks, layout);
+        let mut gone = Places::new(alloc);
         let mut budget = self.budget();
         for _ in 0..u32::MAX {
             budget = budget.saturating_sub(self.size());
-            self.run(alloc, part, blocks.order())?;
-            if !self.run_sets(alloc, nest.inner, &mut budget)? {
-                return Ok(false);
+            self.run(alloc, part, blocks.order());
+            if !self.run_sets(alloc, nest.inner, &mut budget) {
+                return false;
             }
-            if !nest.turn(self, &mut gone)? {
+            if !nest.turn(self, &mut gone) {
                 break;
             }
         }
         nest.end(self);
-        Ok(nest.fits)
+        nest.fits && nest.is_whole && gone.is_whole()
     }
 
     // Finds the states that the held binders of any block lose to their operands.
-    fn find_lost(&self, held: Held, lost: &mut Vec<Place>) -> Result<(), AllocError> {
+    fn find_lost(&self, held: Held, lost: &mut Places) {
         for node in held.part..self.board.form.count() {
             if self.parts.get(node) != held.held {
                 continue;
             }
-            self.find_lost_of(held, node, lost)?;
+            self.find_lost_of(held, node, lost);
         }
-        Ok(())
     }
 
-    fn find_lost_of(&self, held: Held, node: u32, lost: &mut Vec<Place>) -> Result<(), AllocError> {
+    fn find_lost_of(&self, held: Held, node: u32, lost: &mut Places) {
         let [operand, _] = self.board.form.operands(node);
         for word in 0..self.sets.noted.width() {
             let bits = self.gained(held, operand, word) & !self.gained(held, node, word);
-            push_word(lost, node, word, bits)?;
+            push_word(lost, node, word, bits);
         }
-        Ok(())
     }
 
     // Holds the binders of all blocks but the lowest.
-    fn nest(
-        &mut self,
-        alloc: Global,
-        part: u32,
-        blocks: &Blocks,
-        layout: &Layout,
-    ) -> Result<Nest, Memory> {
+    fn nest(&mut self, alloc: Global, part: u32, blocks: &Blocks, layout: &Layout) -> Nest {
         let nodes = self.board.form.count();
         let inner = Held::of(&self.board.form, part, blocks, 1);
-        self.hold(alloc, inner)?;
-        self.sets.open_given(alloc, nodes, self.board.states)?;
+        self.hold(alloc, inner);
+        self.sets.open_given(alloc, nodes, self.board.states);
         for number in part..nodes {
             if self.is_real(part, number) {
-                self.board.make_words(alloc, number)?;
+                self.board.make_words(alloc, number);
             }
         }
-        Ok(Nest {
+        let mut nest = Nest {
             part,
             nodes,
             low: blocks.priority(0),
             inner,
-            outers: self.outers(alloc, part, blocks)?,
+            outers: Vec::new(alloc),
             layout: *layout,
             fits: true,
-        })
-    }
-
-    fn outers(&mut self, alloc: Global, part: u32, blocks: &Blocks) -> Result<Vec<Outer>, Memory> {
-        let mut outers = Vec::new(alloc);
+            is_whole: true,
+        };
         for block in 2..blocks.count() {
             let held = Held::of(&self.board.form, part, blocks, block);
-            self.hold(alloc, held)?;
-            outers.push(Outer {
-                held,
-                won: Sheet::new(alloc, self.board.form.count(), self.board.states)?,
-                round: 0,
-            })?;
+            self.hold(alloc, held);
+            nest.push(alloc, held, self.board.states);
         }
-        Ok(outers)
+        nest
     }
 }
 
 impl Nest {
+    // One more block, of binders that are held.
+    fn push(&mut self, alloc: Global, held: Held, states: u32) {
+        let mut stock = Stock::new(alloc);
+        let outer = Outer {
+            held,
+            won: Sheet::new(&mut stock, self.nodes, states),
+            round: 0,
+        };
+        stock.note(self.outers.push(outer).is_ok());
+        self.is_whole &= stock.is_whole();
+    }
+
     // Another round of the lowest block whose binders lose states. The answer is whether there is one.
-    fn turn(&mut self, levels: &mut Levels, gone: &mut Vec<Place>) -> Result<bool, AllocError> {
+    fn turn(&mut self, levels: &mut Levels, gone: &mut Places) -> bool {
         for at in 0..self.outers.len() {
             let Some(outer) = self.outers.get(at) else {
                 break;
@@ -142,15 +141,15 @@ impl Nest {
             let held = outer.held;
             self.keep(levels, at, held);
             gone.clear();
-            levels.find_lost(held, gone)?;
+            levels.find_lost(held, gone);
             if !gone.is_empty() {
                 self.lose(levels, at, gone.as_slice());
                 self.restart(levels, at);
                 self.give(levels);
-                return Ok(true);
+                return true;
             }
         }
-        Ok(false)
+        false
     }
 
     // The states of a word whose words are known from a block on.

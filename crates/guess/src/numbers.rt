@@ -1,6 +1,7 @@
 // Lists that are never read or written out of bounds.
 
-use std::alloc::{AllocError, Global};
+use crate::stock::Stock;
+use std::alloc::Global;
 
 /// An item for each place. Past the last place nothing is read but a given one, and nothing is written.
 #[derive(Drop)]
@@ -9,10 +10,16 @@ pub(crate) struct Numbers {
 }
 
 impl Numbers {
-    pub(crate) fn filled(alloc: Global, number: u32, length: usize) -> Result<Self, AllocError> {
-        Ok(Numbers {
-            items: vec![in alloc; number; length]?,
-        })
+    pub(crate) fn none(alloc: Global) -> Self {
+        Numbers {
+            items: Vec::new(alloc),
+        }
+    }
+
+    pub(crate) fn filled(stock: &mut Stock, number: u32, length: usize) -> Self {
+        Numbers {
+            items: stock.numbers(number, length),
+        }
     }
 
     pub(crate) fn as_slice(&self) -> &[u32] {
@@ -24,38 +31,51 @@ impl Numbers {
     }
 
     pub(crate) fn set(&mut self, place: u32, number: u32) {
-        if let Some(item) = self.items.get_mut(place as usize) {
-            *item = number;
+        let place = place as usize;
+        if place < self.items.len() {
+            self.items[place] = number;
         }
     }
 
-    pub(crate) fn copy(&self, alloc: Global) -> Result<Self, AllocError> {
-        let mut items = Vec::with_capacity(alloc, self.items.len())?;
-        items.extend_from_slice(&self.items)?;
-        Ok(Numbers { items })
+    pub(crate) fn copy(&self, stock: &mut Stock) -> Self {
+        let mut items = Vec::new(stock.alloc);
+        stock.note(items.extend_from_slice(&self.items).is_ok());
+        Numbers { items }
     }
 
-    /// Makes all numbers this one, of which there are so many from now on.
-    pub(crate) fn refill(
-        &mut self,
-        alloc: Global,
-        number: u32,
-        length: usize,
-    ) -> Result<(), AllocError> {
+    /// Makes all numbers this one, of which there are so many from now on. The answer is whether there was memory for them.
+    pub(crate) fn refill(&mut self, alloc: Global, number: u32, length: usize) -> bool {
         if self.items.len() == length {
             self.items.fill(number);
-        } else {
-            self.items = vec![in alloc; number; length]?;
+            return true;
         }
-        Ok(())
+        let mut stock = Stock::new(alloc);
+        self.items = stock.numbers(number, length);
+        stock.is_whole()
     }
 
-    /// Makes room for so many numbers, whatever they are.
-    pub(crate) fn make_room(&mut self, alloc: Global, length: usize) -> Result<(), AllocError> {
-        if self.items.len() < length {
-            self.items = vec![in alloc; 0; length]?;
+    /// Makes room for so many numbers, whatever they are. The answer is whether there was memory for them.
+    pub(crate) fn make_room(&mut self, alloc: Global, length: usize) -> bool {
+        if self.items.len() >= length {
+            return true;
         }
-        Ok(())
+        let mut stock = Stock::new(alloc);
+        self.items = stock.numbers(0, length);
+        stock.is_whole()
+    }
+
+    /// Makes all numbers this one.
+    pub(crate) fn fill(&mut self, number: u32) {
+        self.items.fill(number);
+    }
+
+    /// Makes each number the sum of those up to it.
+    pub(crate) fn sum_up(&mut self) {
+        let mut sum = 0_u32;
+        for place in 0..self.items.len() {
+            sum = sum.saturating_add(self.items[place]);
+            self.items[place] = sum;
+        }
     }
 
     /// Adds one, and answers what was there.
@@ -73,10 +93,23 @@ pub(crate) struct Words {
 }
 
 impl Words {
-    pub(crate) fn filled(alloc: Global, word: u64, length: usize) -> Result<Self, AllocError> {
-        Ok(Words {
-            items: vec![in alloc; word; length]?,
-        })
+    pub(crate) fn none(alloc: Global) -> Self {
+        Words {
+            items: Vec::new(alloc),
+        }
+    }
+
+    pub(crate) fn filled(stock: &mut Stock, word: u64, length: usize) -> Self {
+        Words {
+            items: stock.words(word, length),
+        }
+    }
+
+    /// Makes all words this one, of which there are so many from now on. The answer is whether there was memory for them.
+    pub(crate) fn refill(&mut self, alloc: Global, word: u64, length: usize) -> bool {
+        let mut stock = Stock::new(alloc);
+        self.items = stock.words(word, length);
+        stock.is_whole()
     }
 
     pub(crate) fn as_slice(&self) -> &[u64] {
@@ -88,8 +121,9 @@ impl Words {
     }
 
     pub(crate) fn set(&mut self, place: u32, word: u64) {
-        if let Some(item) = self.items.get_mut(place as usize) {
-            *item = word;
+        let place = place as usize;
+        if place < self.items.len() {
+            self.items[place] = word;
         }
     }
 }

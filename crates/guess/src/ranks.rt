@@ -1,16 +1,17 @@
 // Who wins each node at each state, with a ranking, component by component, bottom up. Of those below it a component takes the winners alone.
 
 use crate::blocks::Blocks;
-use crate::board::{Board, Exits};
+use crate::board::Exits;
 use crate::columns::Columns;
 use crate::crew::{Task, do_by, whole};
 use crate::form::{Form, NONE, Side};
-use crate::layout::{Fields, Layout, MARK, shifts};
+use crate::layout::{Fields, Layout, MARK};
 use crate::levels::Levels;
 use crate::numbers::Numbers;
 use crate::rounds::Held;
 use crate::scale::Scale;
-use crate::whole::board_of;
+use crate::stock::Stock;
+use crate::whole::levels_of;
 use normal::form::Normal;
 use std::alloc::{AllocError, Global};
 use std::thread::Threads;
@@ -97,37 +98,53 @@ fn same(root: u32, count: Count) -> Ranked {
 }
 
 // Finds who wins in a component. The answer is nothing where that takes too long, or where a count doesn't fit.
-fn solve(
-    alloc: Global,
-    levels: &mut Levels,
-    layout: &Layout,
-    root: u32,
-) -> Result<Option<Ranked>, Memory> {
+fn solve(alloc: Global, levels: &mut Levels, layout: &Layout, root: u32) -> Option<Ranked> {
     if size(&levels.board.form, root) <= 1 {
-        levels.board.lift(alloc, root)?;
-        return Ok(Some(same(root, Count::Nothing)));
+        levels.board.lift(alloc, root);
+        return Some(same(root, Count::Nothing));
     }
     let blocks = Blocks::of(&levels.board.form, root);
     let held = Held::of(&levels.board.form, root, &blocks, 1);
     let is_done = match blocks.count() {
         0 => false,
         1 => {
-            levels.run(alloc, root, blocks.order())?;
+            levels.run(alloc, root, blocks.order());
             true
         }
-        2 => levels.run_two(alloc, held)?,
-        _ => levels.run_blocks(alloc, root, &blocks, layout)?,
+        2 => levels.run_two(alloc, held),
+        _ => levels.run_blocks(alloc, root, &blocks, layout),
     };
     let (times, ends) = (levels.most_time(), levels.count());
     let fits = layout.even.holds(times.max(ends)) && layout.odd.holds(times.max(ends));
-    Ok(match blocks.count() {
+    match blocks.count() {
         _ if !is_done || !fits => None,
         1 | 2 => Some(counted(root, blocks)),
         _ => Some(same(root, Count::Fields)),
-    })
+    }
 }
 
 impl Ranks {
+    // Finds who wins in each component, bottom up. The answer is whether it was found of all.
+    fn solve_all(&mut self, alloc: Global) -> bool {
+        for root in (0..self.levels.board.form.count()).rev() {
+            if self.levels.board.form.root(root) == root && !self.solve(alloc, root) {
+                return false;
+            }
+        }
+        self.levels.is_whole()
+    }
+
+    fn solve(&mut self, alloc: Global, root: u32) -> bool {
+        match solve(alloc, &mut self.levels, &self.layout, root) {
+            Some(part) => {
+                let place = u32::try_from(self.parts.len()).unwrap_or(NONE);
+                self.places.set(root, place);
+                self.parts.push(part).is_ok()
+            }
+            None => false,
+        }
+    }
+
     // The words of a node where a player wins, from what is counted, above a group and what is always there.
     fn rule(&self, fields: &Fields, count: Count, number: u32, base: u64) -> Rule<'_> {
         let real = self.levels.board.form.real(number);
@@ -189,36 +206,59 @@ impl Ranks {
         }
     }
 
-    fn into_columns<R: Threads + Sync>(
-        self,
+    // The columns of all nodes, by so many threads.
+    fn columns<R: Threads + Sync>(
+        &self,
         rt: &R,
         alloc: Global,
         workers: u32,
-    ) -> Result<Option<Columns>, AllocError> {
-        let mut places = Vec::new(alloc);
-        for _ in 0..self.levels.board.form.count() {
-            places.push(None)?;
-        }
+    ) -> Result<Columns, AllocError> {
+        let mut places = no_columns(alloc, self.levels.board.form.count())?;
         let task = ColumnTask {
-            ranks: &self,
+            ranks: self,
             alloc,
             first: 0,
             places: &mut places,
         };
         do_by(rt, task, workers);
-        let mut words = Vec::new(alloc);
-        for column in places {
-            match column {
-                Some(column) => words.push(column)?,
-                None => return Ok(None),
-            }
-        }
-        Ok(Some(Columns {
-            words,
-            even_shifts: shifts(alloc, &self.layout.even.kept)?,
-            odd_shifts: shifts(alloc, &self.layout.odd.kept)?,
-        }))
+        let mut columns = Columns {
+            words: Vec::new(alloc),
+            even_shifts: Vec::new(alloc),
+            odd_shifts: Vec::new(alloc),
+        };
+        self.put_columns(places, &mut columns)?;
+        Ok(columns)
     }
+
+    // A column that is not there wants memory.
+    fn put_columns(
+        &self,
+        places: Vec<Option<Vec<u64>>>,
+        columns: &mut Columns,
+    ) -> Result<(), AllocError> {
+        push_all(&mut columns.words, places)?;
+        let Layout { even, odd } = &self.layout;
+        columns.even_shifts.extend_from_slice(&even.kept)?;
+        columns.odd_shifts.extend_from_slice(&odd.kept)
+    }
+}
+
+fn push_all(words: &mut Vec<Vec<u64>>, places: Vec<Option<Vec<u64>>>) -> Result<(), AllocError> {
+    for column in places {
+        match column {
+            Some(column) => words.push(column)?,
+            None => return Err(AllocError),
+        }
+    }
+    Ok(())
+}
+
+fn no_columns(alloc: Global, nodes: u32) -> Result<Vec<Option<Vec<u64>>>, AllocError> {
+    let mut places = Vec::new(alloc);
+    for _ in 0..nodes {
+        places.push(None)?;
+    }
+    Ok(places)
 }
 
 /// The columns of the nodes from the first one on, none of which is there yet.
@@ -272,16 +312,20 @@ fn put_columns(ranks: &Ranks, alloc: Global, first: u32, places: &mut [Option<Ve
 // The words of a rule, for so many states.
 fn filled(alloc: Global, rule: Rule<'_>, states: u32) -> Result<Vec<u64>, AllocError> {
     let mut words = vec![in alloc; rule.base; states as usize]?;
-    for (word, number) in words.iter_mut().zip(rule.numbers.iter()) {
-        *word = word.wrapping_add(u64::from(*number).wrapping_mul(rule.unit));
-    }
+    count_all(&mut words, rule.numbers, rule.unit);
     add_all(&mut words, rule.words);
     Ok(words)
 }
 
+fn count_all(words: &mut [u64], numbers: &[u32], unit: u64) {
+    for at in 0..words.len().min(numbers.len()) {
+        words[at] = words[at].wrapping_add(u64::from(numbers[at]).wrapping_mul(unit));
+    }
+}
+
 fn add_all(words: &mut [u64], more: &[u64]) {
-    for (word, more) in words.iter_mut().zip(more.iter()) {
-        *word = word.wrapping_add(*more);
+    for at in 0..words.len().min(more.len()) {
+        words[at] = words[at].wrapping_add(more[at]);
     }
 }
 
@@ -309,49 +353,54 @@ fn put_base(words: &mut [u64], mut bits: u64, base: u64) {
 }
 
 fn put_numbers(words: &mut [u64], mut bits: u64, numbers: &[u32], unit: u64) {
-    for (word, number) in words.iter_mut().zip(numbers.iter()) {
-        let count = u64::from(*number).wrapping_mul(unit);
-        *word = word.wrapping_add(if bits & 1 != 0 { count } else { 0 });
+    for at in 0..words.len().min(numbers.len()) {
+        let count = u64::from(numbers[at]).wrapping_mul(unit);
+        words[at] = words[at].wrapping_add(if bits & 1 != 0 { count } else { 0 });
         bits >>= 1;
     }
 }
 
 fn put_more(words: &mut [u64], mut bits: u64, more: &[u64]) {
-    for (word, more) in words.iter_mut().zip(more.iter()) {
-        *word = word.wrapping_add(if bits & 1 != 0 { *more } else { 0 });
+    for at in 0..words.len().min(more.len()) {
+        words[at] = words[at].wrapping_add(if bits & 1 != 0 { more[at] } else { 0 });
         bits >>= 1;
     }
 }
 
-// The components of these nodes, up to the first whose winners aren't found.
-fn find(alloc: Global, board: Board) -> Result<Option<Ranks>, Memory> {
-    let Some(layout) = Layout::of(&board.form) else {
-        return Ok(None);
-    };
-    let count = board.form.count();
-    let mut levels = Levels::new(alloc, board)?;
-    let mut parts = Vec::new(alloc);
-    let mut places = Numbers::filled(alloc, NONE, count as usize)?;
-    for root in (0..count).rev() {
-        if levels.board.form.root(root) != root {
-            continue;
-        }
-        let Some(part) = solve(alloc, &mut levels, &layout, root)? else {
-            return Ok(None);
-        };
-        places.set(root, u32::try_from(parts.len()).unwrap_or(NONE));
-        parts.push(part)?;
-    }
-    Ok(Some(Ranks {
+// What is not known yet of the components of these levels. There is nothing for want of memory.
+fn open(alloc: Global, levels: Levels, layout: Layout) -> Option<Ranks> {
+    let mut stock = Stock::new(alloc);
+    let ranks = Ranks {
+        places: Numbers::filled(&mut stock, NONE, levels.board.form.count() as usize),
         levels,
         layout,
-        parts,
-        places,
-    }))
+        parts: Vec::new(alloc),
+    };
+    if stock.is_whole() { Some(ranks) } else { None }
+}
+
+// The components of these levels. There is nothing where the winners of one aren't found.
+fn find(alloc: Global, levels: Levels) -> Option<Ranks> {
+    match Layout::of(&levels.board.form) {
+        Some(layout) => match open(alloc, levels, layout) {
+            Some(ranks) => solved(alloc, ranks),
+            None => None,
+        },
+        None => None,
+    }
+}
+
+fn solved(alloc: Global, ranks: Ranks) -> Option<Ranks> {
+    let mut ranks = ranks;
+    if ranks.solve_all(alloc) {
+        Some(ranks)
+    } else {
+        None
+    }
 }
 
 /// Guesses who wins each node of a normal form at each state of a system, as a ranking. The answer is nothing where that takes too long,
-/// or where its counts don't fit a word.
+/// where its counts don't fit a word, or for want of memory.
 ///
 /// # Errors
 /// Want of memory, and nothing else.
@@ -362,11 +411,15 @@ pub fn columns<R: Threads + Sync>(
     normal: &Normal,
     workers: u32,
 ) -> Result<Option<Columns>, Memory> {
-    let Some(board) = board_of(alloc, lts, normal, Side::Own, Scale::none(), Exits::Marks)? else {
-        return Ok(None);
-    };
-    match find(alloc, board)? {
-        Some(ranks) => Ok(ranks.into_columns(rt, alloc, workers)?),
+    match find_in(alloc, lts, normal) {
+        Some(ranks) => Ok(Some(ranks.columns(rt, alloc, workers)?)),
         None => Ok(None),
+    }
+}
+
+fn find_in(alloc: Global, lts: &Lts, normal: &Normal) -> Option<Ranks> {
+    match levels_of(alloc, lts, normal, Side::Own, Scale::none(), Exits::Marks) {
+        Some(levels) => find(alloc, levels),
+        None => None,
     }
 }

@@ -2,13 +2,12 @@
 
 use crate::bits::{WORD, bit};
 use crate::blocks::Blocks;
-use crate::board::{Exits, Known, NEVER};
+use crate::board::{Board, Exits, Known, NEVER};
 use crate::form::{Form, Shape};
 use crate::levels::Levels;
 use crate::order::Order;
 use crate::scale::{TOP, ZERO};
 use std::alloc::Global;
-use text::Memory;
 
 // How many rounds there are at most, and at how many places at least.
 const MOST_ROUNDS: u32 = 64;
@@ -70,15 +69,10 @@ impl Held {
 
 impl Levels {
     /// Finds the values of a part. The answer is whether the rounds came to an end.
-    pub(crate) fn run_rounds(
-        &mut self,
-        alloc: Global,
-        part: u32,
-        priority: u8,
-    ) -> Result<bool, Memory> {
+    pub(crate) fn run_rounds(&mut self, alloc: Global, part: u32, priority: u8) -> bool {
         let held = Held::greatest(&self.board.form, part, priority);
-        self.hold(alloc, held)?;
-        self.run(alloc, part, held.order())?;
+        self.hold(alloc, held);
+        self.run(alloc, part, held.order());
         if self.has_events() {
             self.run_values(alloc, held)
         } else {
@@ -88,29 +82,29 @@ impl Levels {
     }
 
     /// Finds who wins in a part of two blocks, of which the greater is held. The answer is whether the rounds came to an end.
-    pub(crate) fn run_two(&mut self, alloc: Global, held: Held) -> Result<bool, Memory> {
-        self.hold(alloc, held)?;
-        self.run(alloc, held.part, held.order())?;
+    pub(crate) fn run_two(&mut self, alloc: Global, held: Held) -> bool {
+        self.hold(alloc, held);
+        self.run(alloc, held.part, held.order());
         let mut budget = self.budget();
         self.run_sets(alloc, held, &mut budget)
     }
 
     // Rounds over values.
-    fn run_values(&mut self, alloc: Global, held: Held) -> Result<bool, Memory> {
+    fn run_values(&mut self, alloc: Global, held: Held) -> bool {
         for number in held.part..self.board.form.count() {
             if self.parts.get(number) == held.held {
-                self.board.fill_words(alloc, number, held.first())?;
+                self.board.fill_words(alloc, number, held.first());
             }
         }
         for round in 0..self.most_rounds() {
-            self.run(alloc, held.part, held.order())?;
+            self.run(alloc, held.part, held.order());
             self.note(held, round);
             if !self.turn(held, round) {
                 self.keep(held, round);
-                return Ok(true);
+                return true;
             }
         }
-        Ok(false)
+        false
     }
 
     /// How many places and transitions there are.
@@ -150,7 +144,7 @@ impl Levels {
     }
 
     /// Holds binders.
-    pub(crate) fn hold(&mut self, alloc: Global, held: Held) -> Result<(), Memory> {
+    pub(crate) fn hold(&mut self, alloc: Global, held: Held) {
         for number in held.part..self.board.form.count() {
             if !self.is_real(held.part, number) {
                 continue;
@@ -160,10 +154,9 @@ impl Levels {
                 self.parts.set(number, held.held);
                 self.board.set_known(number, Known::Tops);
             }
-            self.board.clear_rounds(alloc, number)?;
+            self.board.clear_rounds(alloc, number);
         }
         self.restart(held);
-        Ok(())
     }
 
     /// Gives held binders all states again, and forgets the rounds.
@@ -171,10 +164,10 @@ impl Levels {
         self.last_time = 0;
         for number in held.part..self.board.form.count() {
             if self.parts.get(number) == held.held {
-                self.board.tops.fill(number, held.is_odd());
-                self.sets.noted.fill(number, false);
+                self.board.refill_held(held, number);
+                self.sets.forget_noted(number);
             } else if self.is_below(held, number) {
-                self.sets.noted.fill(number, false);
+                self.sets.forget_noted(number);
             }
         }
     }
@@ -215,39 +208,15 @@ impl Levels {
         self.board.set_round(number, state, time);
     }
 
-    // The same of what has top.
-    fn note_tops(&mut self, number: u32, time: u32) {
-        for state in 0..self.board.states {
-            if self.board.value(number, state) == TOP && self.board.round(number, state) == NEVER {
-                self.board.set_round(number, state, time);
-            }
-        }
-    }
-
     // Lifts the held binders. The answer is whether one changed.
     fn turn(&mut self, held: Held, round: u32) -> bool {
         let mut changed = false;
         for number in held.part..self.board.form.count() {
-            if self.parts.get(number) == held.held && self.turn_node(number) {
+            if self.parts.get(number) == held.held && self.board.turn_node(number) {
                 changed = true;
                 if !held.is_odd() {
-                    self.note_tops(number, outer_time(round));
+                    self.board.note_tops(number, outer_time(round));
                 }
-            }
-        }
-        changed
-    }
-
-    fn turn_node(&mut self, number: u32) -> bool {
-        let priority = self.board.form.node(number).priority;
-        let [operand, _] = self.board.form.operands(number);
-        let mut changed = false;
-        for state in 0..self.board.states {
-            let value = self.board.value(operand, state);
-            let word = self.board.scale.prog(priority, value);
-            if self.board.value(number, state) != word {
-                self.board.set_word(number, state, word);
-                changed = true;
             }
         }
         changed
@@ -260,19 +229,52 @@ impl Levels {
         }
         for number in held.part..self.board.form.count() {
             if self.parts.get(number) == held.held {
-                self.keep_node(number, outer_time(round));
+                self.board.keep_node(number, outer_time(round));
             } else if self.is_below(held, number) {
-                self.keep_node(number, inner_time(round));
+                self.board.keep_node(number, inner_time(round));
+            }
+        }
+    }
+}
+
+impl Board {
+    // Lifts a held binder. The answer is whether it changed.
+    fn turn_node(&mut self, number: u32) -> bool {
+        let priority = self.form.node(number).priority;
+        let [operand, _] = self.form.operands(number);
+        let mut changed = false;
+        for state in 0..self.states {
+            let value = self.value(operand, state);
+            let word = self.scale.prog(priority, value);
+            if self.value(number, state) != word {
+                self.set_word(number, state, word);
+                changed = true;
+            }
+        }
+        changed
+    }
+
+    // Notes the round of the states at which a node has come to top.
+    fn note_tops(&mut self, number: u32, time: u32) {
+        for state in 0..self.states {
+            if self.value(number, state) == TOP && self.round(number, state) == NEVER {
+                self.set_round(number, state, time);
             }
         }
     }
 
+    // Gives this round to the states that have none.
     fn keep_node(&mut self, number: u32, rest: u32) {
-        for state in 0..self.board.states {
-            if self.board.round(number, state) == NEVER {
-                self.board.set_round(number, state, rest);
+        for state in 0..self.states {
+            if self.round(number, state) == NEVER {
+                self.set_round(number, state, rest);
             }
         }
+    }
+
+    // What held binders have at first.
+    fn refill_held(&mut self, held: Held, number: u32) {
+        self.tops.fill(number, held.is_odd());
     }
 }
 

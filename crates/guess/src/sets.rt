@@ -1,11 +1,12 @@
 // At which states each node's value is final, and those from which that isn't carried on yet.
 
 use crate::bits::{Fronts, Sheet, WORD, bit};
-use crate::board::{Board, Exits};
+use crate::board::{Board, Exits, no_numbers};
 use crate::edges::{state_of, takes};
 use crate::numbers::Numbers;
 use crate::order::Wait;
-use std::alloc::{AllocError, Global};
+use crate::stock::Stock;
+use std::alloc::Global;
 
 // Up to so many states are carried on by the edges back from them.
 const FEW: u32 = 2000;
@@ -54,33 +55,27 @@ pub(crate) struct Sets {
     // Where a modality has no step, for those of which this is known.
     stuck: Sheet,
     seen: Numbers,
+    /// Whether there was memory for all.
+    pub(crate) is_whole: bool,
 }
 
 impl Sets {
-    pub(crate) fn new(
-        alloc: Global,
-        nodes: u32,
-        states: u32,
-        exits: Exits,
-    ) -> Result<Self, AllocError> {
-        let mut cursors = Vec::new(alloc);
-        for _ in 0..nodes {
-            cursors.push(Numbers::filled(alloc, 0, 0)?)?;
-        }
-        Ok(Sets {
-            done: Sheet::new(alloc, nodes, states)?,
-            open: Sheet::new(alloc, nodes, states)?,
-            fronts: Fronts::new(alloc, nodes, states)?,
-            sizes: Numbers::filled(alloc, 0, nodes as usize)?,
-            cursors,
+    pub(crate) fn new(stock: &mut Stock, nodes: u32, states: u32, exits: Exits) -> Self {
+        Sets {
+            done: Sheet::new(stock, nodes, states),
+            open: Sheet::new(stock, nodes, states),
+            fronts: Fronts::new(stock, nodes, states),
+            sizes: Numbers::filled(stock, 0, nodes as usize),
+            cursors: no_numbers(stock, nodes),
             spent: 0,
-            noted: Sheet::new(alloc, nodes, states)?,
+            noted: Sheet::new(stock, nodes, states),
             bars: exits == Exits::Marks,
-            given: Sheet::new(alloc, 0, states)?,
-            barred: Sheet::new(alloc, 0, states)?,
-            stuck: Sheet::new(alloc, nodes, states)?,
-            seen: Numbers::filled(alloc, 0, nodes as usize)?,
-        })
+            given: Sheet::new(stock, 0, states),
+            barred: Sheet::new(stock, 0, states),
+            stuck: Sheet::new(stock, nodes, states),
+            seen: Numbers::filled(stock, 0, nodes as usize),
+            is_whole: true,
+        }
     }
 
     /// Forgets what is known of a node, but for what was noted, and what never is final.
@@ -113,15 +108,11 @@ impl Sets {
     }
 
     /// Makes room for what is final from the beginning, and for what never is.
-    pub(crate) fn open_given(
-        &mut self,
-        alloc: Global,
-        nodes: u32,
-        states: u32,
-    ) -> Result<(), AllocError> {
-        self.given = Sheet::new(alloc, nodes, states)?;
-        self.barred = Sheet::new(alloc, nodes, states)?;
-        Ok(())
+    pub(crate) fn open_given(&mut self, alloc: Global, nodes: u32, states: u32) {
+        let mut stock = Stock::new(alloc);
+        self.given = Sheet::new(&mut stock, nodes, states);
+        self.barred = Sheet::new(&mut stock, nodes, states);
+        self.is_whole &= stock.is_whole();
     }
 
     /// A node is final where that is given.
@@ -135,15 +126,9 @@ impl Sets {
     }
 
     /// Forgets for which successors a node waits.
-    pub(crate) fn clear_cursors(
-        &mut self,
-        alloc: Global,
-        node: u32,
-        states: u32,
-    ) -> Result<(), AllocError> {
-        match self.cursors.get_mut(node as usize) {
-            Some(cursors) => cursors.refill(alloc, 0, states as usize),
-            None => Ok(()),
+    pub(crate) fn clear_cursors(&mut self, alloc: Global, node: u32, states: u32) {
+        if let Some(cursors) = self.cursors.get_mut(node as usize) {
+            self.is_whole &= cursors.refill(alloc, 0, states as usize);
         }
     }
 
@@ -211,14 +196,30 @@ impl Sets {
         self.sizes.set(node, size);
     }
 
+    /// What is final of a node has been carried on.
+    pub(crate) fn clear_front(&mut self, node: u32) {
+        self.fronts.clear(node);
+    }
+
+    /// Forgets what was noted of a node.
+    pub(crate) fn forget_noted(&mut self, node: u32) {
+        self.noted.fill(node, false);
+    }
+
     /// Notes that so many more states are final.
     pub(crate) fn count(&mut self, node: u32, more: u32) {
         let size = self.sizes.get(node).saturating_add(more);
         self.sizes.set(node, size);
     }
 
-    /// Carries a child's states on to a node that waits for one child or for both.
-    pub(crate) fn join(&mut self, node: u32, child: u32, other: u32, wait: Wait) {
+    /// Carries the states of both children on to a node.
+    pub(crate) fn join_both(&mut self, node: u32, left: u32, right: u32, wait: Wait) {
+        self.join(node, left, right, wait);
+        self.join(node, right, left, wait);
+    }
+
+    // Carries a child's states on to a node that waits for one child or for both.
+    fn join(&mut self, node: u32, child: u32, other: u32, wait: Wait) {
         let mut from = 0;
         for _ in 0..=self.done.width() {
             let Some(word) = self.fronts.next(child, from) else {
@@ -295,19 +296,16 @@ impl Sets {
         let Some(cursors) = self.cursors.get_mut(step.node as usize) else {
             return false;
         };
-        let done = &self.done;
         let first = cursors.get(state);
-        let mut row = board.forth.row_from(state, first).iter();
-        let waits = |edge: &u32| takes(step.mask, *edge)
-            && !done.has(step.operand, state_of(*edge));
-        match row.position(waits) {
-            Some(passed) => {
-                let passed = u32::try_from(passed).unwrap_or(0);
-                cursors.set(state, first.saturating_add(passed));
-                false
+        let mut passed = first;
+        for edge in board.forth.row_from(state, first) {
+            if takes(step.mask, *edge) && !self.done.has(step.operand, state_of(*edge)) {
+                cursors.set(state, passed);
+                return false;
             }
-            None => true,
+            passed = passed.saturating_add(1);
         }
+        true
     }
 
     /// Carries states on from those that are left.
@@ -342,10 +340,12 @@ impl Sets {
         if step.wait == Wait::All {
             return self.has_all(board, step, state);
         }
-        let mut row = board.forth.row(state).iter();
-        row.any(|edge| {
-            takes(step.mask, *edge) && self.fronts.has(step.operand, state_of(*edge))
-        })
+        for edge in board.forth.row(state) {
+            if takes(step.mask, *edge) && self.fronts.has(step.operand, state_of(*edge)) {
+                return true;
+            }
+        }
+        false
     }
 }
 
@@ -354,8 +354,7 @@ fn stuck_in(board: &Board, node: u32, word: u32) -> u64 {
     let mask = board.form.node(node).mask;
     let mut bits = 0;
     for state in board.states_of(word) {
-        let mut row = board.forth.row(state).iter();
-        if !row.any(|edge| takes(mask, *edge)) {
+        if !board.has_step(state, mask) {
             bits |= bit(state);
         }
     }

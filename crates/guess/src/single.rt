@@ -5,20 +5,19 @@ use crate::board::{Board, Exits, Known};
 use crate::edges::{state_of, takes};
 use crate::form::{Node, Shape};
 use crate::scale::{TOP, ZERO};
-use std::alloc::{AllocError, Global};
+use std::alloc::Global;
 
 impl Board {
     /// Lifts a node at each state.
-    pub(crate) fn lift(&mut self, alloc: Global, number: u32) -> Result<(), AllocError> {
+    pub(crate) fn lift(&mut self, alloc: Global, number: u32) {
         let node = self.form.node(number);
         if self.has_tops(number, node) {
             self.lift_sets(number, node);
-            return Ok(());
+            return;
         }
-        self.fill_words(alloc, number, ZERO)?;
+        self.fill_words(alloc, number, ZERO);
         let [left, right] = self.form.operands(number);
         self.lift_words(number, node, left, right);
-        Ok(())
     }
 
     /// The word of a node at each state, by those of its children.
@@ -37,8 +36,8 @@ impl Board {
             _ if node.priority % 2 == 1 => false,
             Shape::True => true,
             _ => {
-                let mut operands = self.form.operands(number).into_iter();
-                operands.all(|operand| self.known(operand) == Known::Tops)
+                let [left, right] = self.form.operands(number);
+                self.known(left) == Known::Tops && self.known(right) == Known::Tops
             }
         }
     }
@@ -62,20 +61,38 @@ impl Board {
 
     // At which states of a word a modality has top.
     fn stepped(&self, node: Node, operand: u32, word: u32) -> u64 {
-        let is_top = |edge: u32| self.tops.has(operand, state_of(edge));
         let mut bits = 0;
         for state in self.states_of(word) {
-            let mut row = self.forth.row(state).iter();
             let has_top = if node.shape == Shape::Dia {
-                row.all(|edge| !takes(node.mask, *edge) || is_top(*edge))
+                self.has_tops_after(node.mask, operand, state)
             } else {
-                row.any(|edge| takes(node.mask, *edge) && is_top(*edge))
+                self.has_top_after(node.mask, operand, state)
             };
             if has_top {
                 bits |= bit(state);
             }
         }
         bits
+    }
+
+    // Whether a node has top after each edge of a kind in a mask.
+    fn has_tops_after(&self, mask: u64, node: u32, state: u32) -> bool {
+        for edge in self.forth.row(state) {
+            if takes(mask, *edge) && !self.tops.has(node, state_of(*edge)) {
+                return false;
+            }
+        }
+        true
+    }
+
+    // The same after some edge.
+    fn has_top_after(&self, mask: u64, node: u32, state: u32) -> bool {
+        for edge in self.forth.row(state) {
+            if takes(mask, *edge) && self.tops.has(node, state_of(*edge)) {
+                return true;
+            }
+        }
+        false
     }
 
     fn lifted(&self, node: Node, left: u32, right: u32, state: u32) -> u64 {

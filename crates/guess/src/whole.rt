@@ -7,9 +7,10 @@ use crate::levels::Levels;
 use crate::numbers::Numbers;
 use crate::order::Order;
 use crate::scale::{PRIORITIES, Scale, ZERO};
+use crate::stock::Stock;
 use game::build::label_sets;
 use normal::form::Normal;
-use std::alloc::{AllocError, Global};
+use std::alloc::Global;
 use systems::system::Lts;
 use text::Memory;
 
@@ -78,26 +79,54 @@ fn add_vertices(counts: &mut [u32; PRIORITIES], own: u32, side: Side, more: u32)
     }
 }
 
-/// A board for the nodes of a normal form at the states of a system. There is none where states or kinds of labels are too many.
+// The kinds of the labels of a system, where they aren't too many, and there is memory for them.
+fn kinds_of(stock: &mut Stock, lts: &Lts, normal: &Normal) -> Option<Kinds> {
+    match label_sets(stock.alloc, lts, normal) {
+        Ok(sets) => Kinds::of(stock, lts.labels(), &sets),
+        Err(_) => None,
+    }
+}
+
+/// A board for the nodes of a normal form at the states of a system. There is none where states or kinds of labels are too many, or for want
+/// of memory.
 pub(crate) fn board_of(
+    stock: &mut Stock,
+    lts: &Lts,
+    normal: &Normal,
+    side: Side,
+    scale: Scale,
+    exits: Exits,
+) -> Option<Board> {
+    if !fits(lts) {
+        return None;
+    }
+    match kinds_of(stock, lts, normal) {
+        Some(kinds) => {
+            let forth = Edges::forth(stock, lts, &kinds);
+            let form = Form::of(stock, normal, &kinds, side);
+            Some(Board::new(stock, lts.states(), forth, form, scale, exits))
+        }
+        None => None,
+    }
+}
+
+/// Levels over such a board.
+pub(crate) fn levels_of(
     alloc: Global,
     lts: &Lts,
     normal: &Normal,
     side: Side,
     scale: Scale,
     exits: Exits,
-) -> Result<Option<Board>, Memory> {
-    if !fits(lts) {
-        return Ok(None);
+) -> Option<Levels> {
+    let mut stock = Stock::new(alloc);
+    match board_of(&mut stock, lts, normal, side, scale, exits) {
+        Some(board) => {
+            let levels = Levels::new(&mut stock, board);
+            if stock.is_whole() { Some(levels) } else { None }
+        }
+        None => None,
     }
-    let sets = label_sets(alloc, lts, normal)?;
-    let Some(kinds) = Kinds::of(alloc, lts.labels(), &sets)? else {
-        return Ok(None);
-    };
-    let forth = Edges::forth(alloc, lts, &kinds)?;
-    let form = Form::of(alloc, normal, &kinds, side)?;
-    let board = Board::new(alloc, lts.states(), forth, form, scale, exits)?;
-    Ok(Some(board))
 }
 
 // The binders of the component that has this root.
@@ -131,35 +160,38 @@ fn see(found: &mut Binders, node: Node) {
 
 // Whether a component has a binder of the parity of its greatest priority, but of a lesser one.
 fn is_nested(form: &Form, root: u32, binders: Binders) -> bool {
-    (root..form.count()).any(|number| {
+    for number in root..form.count() {
         let node = form.node(number);
         let is_less = node.priority < binders.greatest;
         let is_alike = node.priority % 2 == binders.greatest % 2;
-        form.root(number) == root && node.shape == Shape::Binder && is_less && is_alike
-    })
+        if form.root(number) == root && node.shape == Shape::Binder && is_less && is_alike {
+            return true;
+        }
+    }
+    false
 }
 
 // Finds the values of a component. The answer is nothing where they are not found.
-fn solve(alloc: Global, levels: &mut Levels, root: u32) -> Result<Option<Component>, Memory> {
+fn solve(alloc: Global, levels: &mut Levels, root: u32) -> Option<Component> {
     let binders = survey(&levels.board.form, root);
     let greatest = binders.greatest;
     let falls = match (binders.nodes, binders.odd, binders.even) {
         (1, _, _) => {
-            levels.board.lift(alloc, root)?;
+            levels.board.lift(alloc, root);
             Falls::Heights
         }
         (_, true, false) => {
-            levels.run(alloc, root, Order::Rising)?;
+            levels.run(alloc, root, Order::Rising);
             Falls::Heights
         }
         (_, false, true) => {
-            levels.run(alloc, root, Order::Falling)?;
+            levels.run(alloc, root, Order::Falling);
             Falls::Times(greatest)
         }
         _ => {
             let is_nested = is_nested(&levels.board.form, root, binders);
-            if is_nested || !levels.run_rounds(alloc, root, greatest)? {
-                return Ok(None);
+            if is_nested || !levels.run_rounds(alloc, root, greatest) {
+                return None;
             }
             if greatest % 2 == 1 {
                 Falls::Times(greatest - 1)
@@ -169,39 +201,42 @@ fn solve(alloc: Global, levels: &mut Levels, root: u32) -> Result<Option<Compone
         }
     };
     if levels.board.form.side == Side::Dual && binders.nodes > 1 {
-        levels.board.count_steps(alloc, root)?;
+        levels.board.count_steps(alloc, root);
     }
-    Ok(Some(Component {
+    Some(Component {
         root,
         end: binders.end,
         nodes: binders.nodes,
         falls,
         turns: binders.turns,
-    }))
+    })
 }
 
-// Finds the values of all components bottom up, up to the first that takes too long.
-fn solve_all(alloc: Global, levels: &mut Levels) -> Result<Vec<Component>, Memory> {
-    let mut parts = Vec::new(alloc);
+// Finds the values of all components bottom up, up to the first that takes too long. The answer is whether there was memory for them.
+fn solve_all(alloc: Global, levels: &mut Levels, parts: &mut Vec<Component>) -> bool {
     for root in (0..levels.board.form.count()).rev() {
         if levels.board.form.root(root) != root {
             continue;
         }
-        match solve(alloc, levels, root)? {
-            Some(part) => parts.push(part)?,
-            None => break,
+        let Some(part) = solve(alloc, levels, root) else {
+            break;
+        };
+        if parts.push(part).is_err() {
+            return false;
         }
     }
-    Ok(parts)
+    levels.is_whole()
 }
 
 // For the root of each component, of so many nodes, its place among the parts.
-fn places(alloc: Global, nodes: u32, parts: &[Component]) -> Result<Numbers, AllocError> {
-    let mut places = Numbers::filled(alloc, NONE, nodes as usize)?;
-    for (place, part) in (0..NONE).zip(parts) {
+fn places(stock: &mut Stock, nodes: u32, parts: &[Component]) -> Numbers {
+    let mut places = Numbers::filled(stock, NONE, nodes as usize);
+    let mut place = 0_u32;
+    for part in parts {
         places.set(part.root, place);
+        place = place.saturating_add(1);
     }
-    Ok(places)
+    places
 }
 
 /// Which values are meant.
@@ -240,7 +275,7 @@ impl<'a> Whole<'a> {
     /// # Errors
     /// Want of memory, and nothing else.
     pub fn of(alloc: Global, lts: &'a Lts, normal: &Normal) -> Result<Option<Self>, Memory> {
-        Whole::on(alloc, lts, normal, Side::Own)
+        Ok(Whole::on(alloc, lts, normal, Side::Own))
     }
 
     /// The same of the dual of that game.
@@ -248,30 +283,36 @@ impl<'a> Whole<'a> {
     /// # Errors
     /// Want of memory, and nothing else.
     pub fn of_dual(alloc: Global, lts: &'a Lts, normal: &Normal) -> Result<Option<Self>, Memory> {
-        Whole::on(alloc, lts, normal, Side::Dual)
+        Ok(Whole::on(alloc, lts, normal, Side::Dual))
     }
 
-    fn on(
-        alloc: Global,
-        lts: &'a Lts,
-        normal: &Normal,
-        side: Side,
-    ) -> Result<Option<Self>, Memory> {
-        let Some(scale) = Scale::of(&vertices(lts, normal, side)) else {
-            return Ok(None);
-        };
-        let Some(board) = board_of(alloc, lts, normal, side, scale, Exits::Values)? else {
-            return Ok(None);
-        };
-        let mut levels = Levels::new(alloc, board)?;
-        let parts = solve_all(alloc, &mut levels)?;
-        let places = places(alloc, levels.board.form.count(), &parts)?;
-        Ok(Some(Whole {
-            lts,
-            board: levels.board,
-            parts,
-            places,
-        }))
+    fn on(alloc: Global, lts: &'a Lts, normal: &Normal, side: Side) -> Option<Self> {
+        match Scale::of(&vertices(lts, normal, side)) {
+            Some(scale) => match levels_of(alloc, lts, normal, side, scale, Exits::Values) {
+                Some(levels) => Whole::solved(alloc, lts, levels),
+                None => None,
+            },
+            None => None,
+        }
+    }
+
+    // What is found by these levels. There is nothing for want of memory.
+    fn solved(alloc: Global, lts: &'a Lts, levels: Levels) -> Option<Self> {
+        let mut levels = levels;
+        let mut parts = Vec::new(alloc);
+        let mut stock = Stock::new(alloc);
+        stock.note(solve_all(alloc, &mut levels, &mut parts));
+        let places = places(&mut stock, levels.board.form.count(), &parts);
+        if stock.is_whole() {
+            Some(Whole {
+                lts,
+                board: levels.board,
+                parts,
+                places,
+            })
+        } else {
+            None
+        }
     }
 
     /// The components that are known.
@@ -363,10 +404,11 @@ impl<'a> Whole<'a> {
             }
             Steps::LeftOut => self.value(child, target, steps),
         };
-        let falls = || form.root(child) != part.root
-            || self.counts_steps(steps)
-            || self.rank(part, child, target) < self.rank(part, number, state);
-        asked >= self.value(number, state, steps) && falls()
+        if asked < self.value(number, state, steps) {
+            return false;
+        }
+        let is_free = form.root(child) != part.root || self.counts_steps(steps);
+        is_free || self.rank(part, child, target) < self.rank(part, number, state)
     }
 
     // Whether values have steps.

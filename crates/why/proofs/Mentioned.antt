@@ -110,24 +110,15 @@ one_fails p n k h fails = elim (cases (list_all p (range_with_len 0 n))) [
 ]
 
 abbrev is_covered : (one other : ℕ → Bool) (same : ℕ → ℕ → Bool) (count k : ℕ) → Bool
-is_covered one other same n k = not (one k) || has_like other same k n
+is_covered one other same n k = not (one k) || other k || has_like other same k n
 
 -- so many are all of them
 pub all_covered : (one other : ℕ → Bool) (same : ℕ → ℕ → Bool) (count n : ℕ) → count ≡ n
     → ((k : ℕ) → k < count → is_covered one other same count k ≡ true) → covers one other same n ≡ true
 all_covered one other same count n e all = subst (λ m. covers one other same m ≡ true) e (all_pass (is_covered one other same count) count all)
 
-pub not_covered : (one other : ℕ → Bool) (same : ℕ → ℕ → Bool) (count n k : ℕ) → count ≡ n → k < count → one k ≡ true
+pub not_covered : (one other : ℕ → Bool) (same : ℕ → ℕ → Bool) (count n k : ℕ) → count ≡ n → k < count → one k ≡ true → other k ≡ false
     → has_like other same k count ≡ false → covers one other same n ≡ false
-not_covered one other same count n k e h passes none =
+not_covered one other same count n k e h passes fails none =
     subst (λ m. covers one other same m ≡ false) e
-    (one_fails (is_covered one other same count) count k h (ap₂ (λ a b. not a || b) passes none))
-
-pub covered_so : (one other : ℕ → Bool) (same : ℕ → ℕ → Bool) (n k : ℕ) → has_like other same k n ≡ true → is_covered one other same n k ≡ true
-covered_so one other same n k like = elim (cases (one k)) [
-  | inl e ↦ ap₂ (λ a b. not a || b) e like
-  | inr e ↦ ap (λ a. not a || has_like other same k n) e
-]
-
-pub covered_not : (one other : ℕ → Bool) (same : ℕ → ℕ → Bool) (n k : ℕ) → one k ≡ false → is_covered one other same n k ≡ true
-covered_not one other same n k e = ap (λ a. not a || has_like other same k n) e
+    (one_fails (is_covered one other same count) count k h (λ j. not (passes j) || fails j || none j))

@@ -19,9 +19,9 @@ joined front end text (k ∷ ks) = front ++ (text k ++ (flat_map (λ j. codes " 
 abbrev pub mentions : (front end : List ℕ) → (passes : ℕ → Bool) → (have_same : ℕ → ℕ → Bool) → (text : ℕ → List ℕ) → (count : ℕ) → List ℕ
 mentions front end passes have_same text n = joined front end text (filter (is_mentioned passes have_same) (range_with_len 0 n))
 
--- Each number that passes the one test has the text of one that passes the other.
+-- Each number that passes the one test passes the other, or has the text of one that does.
 abbrev pub covers : (one other : ℕ → Bool) → (have_same : ℕ → ℕ → Bool) → (count : ℕ) → Bool
-covers one other have_same n = list_all (λ k. not (one k) || has_like other have_same k n) (range_with_len 0 n)
+covers one other have_same n = list_all (λ k. not (one k) || other k || has_like other have_same k n) (range_with_len 0 n)
 
 -- ------------------------------------------------------------------ as it is written, number by number
 

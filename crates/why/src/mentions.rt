@@ -60,14 +60,14 @@ pub(crate) fn put_mentions<M: Mentions, W: Write>(
     put(out, close(end, is_begun(numbers, numbers.count())))
 }
 
-/// Whether each number of one that passes has the text of one of the other that passes.
+/// Whether each number that passes the one test passes the other, or has the text of one that does. Where all pass the other it looks at each once.
 pub(crate) fn covers<M: Mentions>(one: &M, other: &M) -> bool
     requires { M.count one.now ≡ M.count other.now }
     ensures { result ≡ covers_of (M.passes one.now) (M.passes other.now) (M.have_same other.now) (M.count other.now) }
 {
     let count = other.count();
     for k in 0..count {
-        if one.passes(k) && !has_like(other, k, count) {
+        if one.passes(k) && !other.passes(k) && !has_like(other, k, count) {
             return false;
         }
     }

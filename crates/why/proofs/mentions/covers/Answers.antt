@@ -8,6 +8,7 @@ returns-then-not-has_like g c =
     let other = c.args.other.now in
     sym (not_covered (g.M.Mentions.passes one) (g.M.Mentions.passes other) (g.M.Mentions.have_same other) c.count-count.result
     (g.M.Mentions.count other) c.loop-k.k c.count-count.ensures c.loop-k-test.true (sym c.passes.ensures ∙ c.if-passes.true)
+    (sym c.passes-then-passes.ensures ∙ c.if-not-passes.true)
     (sym c.has_like.ensures ∙ c.if-not-has_like.true))
 
 pub returns : goal.returns
