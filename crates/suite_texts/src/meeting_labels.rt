@@ -44,6 +44,9 @@ fn ring(alloc: Global) -> Result<String, AllocError> {
 
 // The label of the only step from a state.
 fn label_from(system: &Lts, state: u32) -> Option<&[u8]> {
+    if state >= system.states() {
+        return None;
+    }
     let step = system.from(state).first()?;
     Some(system.label(step.label).bytes)
 }
