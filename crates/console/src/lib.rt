@@ -9,4 +9,5 @@ mod notes;
 pub mod refusal;
 pub mod same;
 mod sight;
+mod size;
 pub mod stats;

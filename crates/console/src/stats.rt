@@ -1,5 +1,6 @@
 // What `--stats` tells of a run: for each of its stages the time, how much there was, and the greatest memory so far.
 
+use crate::size::Size;
 use calculus::closed::Closed;
 use lts::system::Lts;
 use measures::observer::Stage;
@@ -90,7 +91,7 @@ impl Running {
 pub fn told_texts(alloc: Global, stats: Stats, system: &Lts, formula: &Closed) -> Option<String> {
     let (states, transitions) = (system.states(), system.transitions());
     let game = match stats {
-        Stats::StagesAndGame(rule) => told_game(alloc, states, formula, rule),
+        Stats::StagesAndGame(rule) => told_game(alloc, system, formula, rule),
         _ => None,
     };
     match game {
@@ -101,15 +102,13 @@ pub fn told_texts(alloc: Global, stats: Stats, system: &Lts, formula: &Closed) -
     }
 }
 
-/// What is told of the game of a system with so many states; nothing where the formula has no normal form.
-fn told_game(alloc: Global, states: u32, formula: &Closed, rule: Priorities) -> Option<String> {
+/// What is told of the game of both texts; nothing where the formula has no normal form.
+fn told_game(alloc: Global, system: &Lts, formula: &Closed, rule: Priorities) -> Option<String> {
     let normal = normal_with(alloc, formula, rule).ok()?;
     let (nodes, priority) = (normal.count(), greatest_priority(&normal));
-    let vertices = u64::from(states)
-        .saturating_mul(u64::from(nodes))
-        .saturating_add(2);
+    let Size { vertices, edges } = Size::of(alloc, system, &normal).ok()?;
     format!(in alloc;
-        "mucheck: {nodes} nodes, greatest priority {priority}, {vertices} vertices\n"
+        "mucheck: {nodes} nodes, greatest priority {priority}, {vertices} vertices, {edges} edges\n"
     ).ok()
 }
 
