@@ -35,7 +35,7 @@ impl Ball {
             vertices: Numbers::none(alloc),
             far: Numbers::none(alloc),
             before: Numbers::none(alloc),
-            places: Numbers::filled(alloc, field.game.vertices() as usize, 0),
+            places: Numbers::filled(alloc, field.game.vertices() as usize, 0)?,
             level: 0,
             near: Vec::new(alloc),
             later: Vec::new(alloc),
@@ -65,17 +65,7 @@ impl Ball {
             self.near.clear();
             mem::swap(&mut self.near, &mut self.later);
         }
-        self.check()
-    }
-
-    // Tells want of memory for a list.
-    fn check(&self) -> Result<(), AllocError> {
-        let is_known = self.far.is_whole() && self.before.is_whole() && self.places.is_whole();
-        if self.vertices.is_whole() && is_known {
-            Ok(())
-        } else {
-            Err(AllocError)
-        }
+        Ok(())
     }
 
     // Adds the vertices that are near, and those to which they lead without a step.
@@ -93,9 +83,9 @@ impl Ball {
 
     fn add(&mut self, field: Field, found: Found) -> Result<(), AllocError> {
         let from = u32::try_from(self.vertices.len()).unwrap_or(u32::MAX);
-        self.vertices.push(found.v);
-        self.far.push(self.level);
-        self.before.push(found.from);
+        self.vertices.push(found.v)?;
+        self.far.push(self.level)?;
+        self.before.push(found.from)?;
         self.places.set(found.v as usize, from.saturating_add(1));
         let is_step = field.is_step(found.v);
         for t in field.ways(found.v) {

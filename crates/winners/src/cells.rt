@@ -125,25 +125,20 @@ pub(crate) struct Cells {
 
 impl Cells {
     pub(crate) fn new(alloc: Global, arena: Arena) -> Result<Self, AllocError> {
-        let vertices = arena.vertices() as usize;
-        let mut cells = Cells {
-            cells: vec![in alloc; BLANK; vertices]?,
-            moves: Numbers::filled(alloc, vertices, NONE),
-            last: 0,
-        };
-        cells.open(arena);
-        Ok(cells)
-    }
-
-    // Notes who owns each vertex, and its priority.
-    fn open(&mut self, arena: Arena) {
-        for v in 0..arena.vertices() {
-            let place = v as usize;
-            if place < self.cells.len() {
-                self.cells[place].owner = arena.owner(v);
-                self.cells[place].priority = arena.priority(v);
-            }
+        let vertices = arena.vertices();
+        let mut cells = Vec::with_capacity(alloc, vertices as usize)?;
+        for v in 0..vertices {
+            cells.push(Cell {
+                owner: arena.owner(v),
+                priority: arena.priority(v),
+                ..BLANK
+            })?;
         }
+        Ok(Cells {
+            cells,
+            moves: Numbers::filled(alloc, vertices as usize, NONE)?,
+            last: 0,
+        })
     }
 
     fn fresh(&mut self) -> u32 {
@@ -177,18 +172,16 @@ impl Cells {
     }
 
     pub(crate) fn set_region(&mut self, v: u32, region: Region) {
-        let place = v as usize;
-        if place < self.cells.len() {
-            self.cells[place].region = region;
+        if let Some(cell) = self.cells.get_mut(v as usize) {
+            cell.region = region;
         }
     }
 
     /// The move at a vertex, or `NONE`.
     pub(crate) fn next(&self, v: u32) -> u32 {
-        if (v as usize) < self.moves.len() {
-            self.moves.get(v as usize)
-        } else {
-            NONE
+        match self.moves.only(v) {
+            [next] => *next,
+            _ => NONE,
         }
     }
 
@@ -197,10 +190,9 @@ impl Cells {
     }
 
     pub(crate) fn set_left(&mut self, v: u32, stamp: Stamp, left: u32) {
-        let place = v as usize;
-        if place < self.cells.len() {
-            self.cells[place].left = left;
-            self.cells[place].stamp = stamp;
+        if let Some(cell) = self.cells.get_mut(v as usize) {
+            cell.left = left;
+            cell.stamp = stamp;
         }
     }
 
@@ -211,13 +203,18 @@ impl Cells {
     }
 
     /// Those of these vertices that are in the region.
-    pub(crate) fn those_in(&self, alloc: Global, vertices: &[u32], region: Region) -> Numbers {
+    pub(crate) fn those_in(
+        &self,
+        alloc: Global,
+        vertices: &[u32],
+        region: Region,
+    ) -> Result<Numbers, AllocError> {
         let mut found = Numbers::none(alloc);
         for v in vertices {
             if self.region(*v) == region {
-                found.push(*v);
+                found.push(*v)?;
             }
         }
-        found
+        Ok(found)
     }
 }

@@ -14,7 +14,7 @@ use crate::share::Crew;
 use crate::winning::Winners;
 use game::graph::Game;
 use game::player::Player;
-use std::alloc::Global;
+use std::alloc::{AllocError, Global};
 use std::thread::{Threads, join};
 use text::Memory;
 
@@ -52,8 +52,7 @@ impl Guessed {
     }
 }
 
-/// Guesses the winners of a game, within a number of steps that is about linear in its size. `None` where that did not suffice, or for want of
-/// memory.
+/// Guesses the winners of a game, within a number of steps that is about linear in its size. `None` where that did not suffice.
 ///
 /// # Errors
 /// Want of memory, and nothing else.
@@ -63,10 +62,12 @@ pub fn guess_winners(alloc: Global, game: &Game) -> Result<Option<Guessed>, Memo
         game,
         before: &before,
     };
-    Ok(match find_winners(alloc, arena) {
-        Some(winners) => with_ranks(alloc, game, winners),
-        None => None,
-    })
+    let Some(winners) = find_winners(alloc, arena)? else {
+        return Ok(None);
+    };
+    let even = put_in_order(alloc, game, &winners, Player::Even)?;
+    let odd = put_in_order(alloc, game, &winners, Player::Odd)?;
+    Ok(with_orders(alloc, game, winners, even, odd)?)
 }
 
 /// The same by so many threads, where the game is large.
@@ -84,10 +85,16 @@ pub fn guess_winners_by<R: Threads + Sync>(
     }
     let before = Before::of_by(rt, alloc, game, workers)?;
     let crew = Crew { rt, alloc, workers };
-    Ok(match find_winners_by(&crew, game, &before) {
-        Some(winners) => with_ranks_by(rt, alloc, game, winners),
-        None => None,
-    })
+    let Some(winners) = find_winners_by(&crew, game, &before)? else {
+        return Ok(None);
+    };
+    let (even, odd) = join(
+        rt,
+        || put_in_order(alloc, game, &winners, Player::Even),
+        || put_in_order(alloc, game, &winners, Player::Odd),
+    );
+    let (even, odd) = (even?, odd?);
+    Ok(with_orders(alloc, game, winners, even, odd)?)
 }
 
 // What a player wins, in an order and with ranks by it.
@@ -98,34 +105,17 @@ struct Ordered {
 }
 
 // What a player wins in an order. `None` where its moves don't win.
-fn put_in_order(alloc: Global, game: &Game, winners: &Winners, player: Player) -> Option<Ordered> {
-    match order_of(alloc, game, winners, player) {
-        Some(order) => {
-            let ranks = Ranks::of(alloc, game, order.as_slice(), Counted::of(game, player));
-            Some(Ordered { order, ranks })
-        }
-        None => None,
-    }
-}
-
-fn with_ranks(alloc: Global, game: &Game, winners: Winners) -> Option<Guessed> {
-    let even = put_in_order(alloc, game, &winners, Player::Even);
-    let odd = put_in_order(alloc, game, &winners, Player::Odd);
-    with_orders(alloc, game, winners, even, odd)
-}
-
-fn with_ranks_by<R: Threads + Sync>(
-    rt: &R,
+fn put_in_order(
     alloc: Global,
     game: &Game,
-    winners: Winners,
-) -> Option<Guessed> {
-    let (even, odd) = join(
-        rt,
-        || put_in_order(alloc, game, &winners, Player::Even),
-        || put_in_order(alloc, game, &winners, Player::Odd),
-    );
-    with_orders(alloc, game, winners, even, odd)
+    winners: &Winners,
+    player: Player,
+) -> Result<Option<Ordered>, AllocError> {
+    let Some(order) = order_of(alloc, game, winners, player)? else {
+        return Ok(None);
+    };
+    let ranks = Ranks::of(alloc, game, order.as_slice(), Counted::of(game, player))?;
+    Ok(Some(Ordered { order, ranks }))
 }
 
 // What is guessed, with ranks by the orders of what both win. `None` where the moves of one don't win.
@@ -135,37 +125,17 @@ fn with_orders(
     winners: Winners,
     even: Option<Ordered>,
     odd: Option<Ordered>,
-) -> Option<Guessed> {
-    match (even, odd) {
-        (Some(even), Some(odd)) => whole(with_places(alloc, game, winners, even, odd)),
-        _ => None,
-    }
-}
-
-fn with_places(
-    alloc: Global,
-    game: &Game,
-    winners: Winners,
-    even: Ordered,
-    odd: Ordered,
-) -> Guessed {
+) -> Result<Option<Guessed>, AllocError> {
+    let (Some(even), Some(odd)) = (even, odd) else {
+        return Ok(None);
+    };
     let (first, second) = (even.order.as_slice(), odd.order.as_slice());
-    Guessed {
+    Ok(Some(Guessed {
         winners,
-        places: places_of(alloc, game.vertices(), first, second),
+        places: places_of(alloc, game.vertices(), first, second)?,
         even: even.ranks,
         odd: odd.ranks,
-    }
-}
-
-// What is guessed, if there was memory for all.
-fn whole(guessed: Guessed) -> Option<Guessed> {
-    let are_ranks = guessed.even.is_whole() && guessed.odd.is_whole();
-    if guessed.winners.is_whole() && guessed.places.is_whole() && are_ranks {
-        Some(guessed)
-    } else {
-        None
-    }
+    }))
 }
 
 // The same by several threads: the first try on one of them, and beside it a recursion that the others share.
@@ -173,15 +143,18 @@ fn find_winners_by<'x, R: Threads + Sync>(
     crew: &'x Crew<'x, R>,
     game: &'x Game,
     before: &'x Before,
-) -> Option<Winners> {
+) -> Result<Option<Winners>, AllocError> {
     let arena = Arena {
         game: &*game,
         before: &*before,
     };
     let race = Race::new();
     let (first, other) = find_both(&*crew, arena, &race);
-    match first.or(other) {
-        Some(winners) => Some(winners),
+    if let Some(winners) = first? {
+        return Ok(Some(winners));
+    }
+    match other? {
+        Some(winners) => Ok(Some(winners)),
         None => find_last(crew.alloc, arena),
     }
 }
@@ -191,30 +164,33 @@ fn find_both<'g, R: Threads + Sync>(
     crew: &'g Crew<'g, R>,
     arena: Arena<'g>,
     race: &'g Race,
-) -> (Option<Winners>, Option<Winners>) {
+) -> (
+    Result<Option<Winners>, AllocError>,
+    Result<Option<Winners>, AllocError>,
+) {
     join(
         crew.rt,
-        || find_first_in(crew.alloc, arena, race),
-        || find_shared_in(crew, arena, race),
+        || told(
+            race,
+            find_first(crew.alloc, arena, Meter::first().beside(race)),
+        ),
+        || told(
+            race,
+            find_shared(
+                crew,
+                arena,
+                Meter::of_vertices(arena.vertices()).beside(race),
+            ),
+        ),
     )
 }
 
-fn find_first_in<'g>(alloc: Global, arena: Arena<'g>, race: &'g Race) -> Option<Winners> {
-    told(race, find_first(alloc, arena, Meter::first().beside(race)))
-}
-
-fn find_shared_in<'g, R: Threads + Sync>(
-    crew: &'g Crew<'g, R>,
-    arena: Arena<'g>,
-    race: &'g Race,
-) -> Option<Winners> {
-    let meter = Meter::of_vertices(arena.vertices()).beside(race);
-    told(race, find_shared(crew, arena, meter))
-}
-
 // Ends the race where something was found.
-fn told(race: &Race, found: Option<Winners>) -> Option<Winners> {
-    if found.is_some() {
+fn told(
+    race: &Race,
+    found: Result<Option<Winners>, AllocError>,
+) -> Result<Option<Winners>, AllocError> {
+    if let Ok(Some(_)) = &found {
         race.end();
     }
     found
@@ -225,46 +201,31 @@ fn find_shared<'g, R: Threads + Sync>(
     crew: &'g Crew<'g, R>,
     arena: Arena<'g>,
     meter: Meter<'g>,
-) -> Option<Winners> {
-    match Crowd::new(crew, arena, meter) {
-        Ok(mut crowd) => crowd.find(),
-        Err(_) => None,
-    }
+) -> Result<Option<Winners>, AllocError> {
+    Crowd::new(crew, arena, meter)?.find()
 }
 
-fn find_winners(alloc: Global, arena: Arena) -> Option<Winners> {
-    match find_first(alloc, arena, Meter::first()) {
-        Some(winners) => Some(winners),
+fn find_winners(alloc: Global, arena: Arena) -> Result<Option<Winners>, AllocError> {
+    match find_first(alloc, arena, Meter::first())? {
+        Some(winners) => Ok(Some(winners)),
         None => find_last(alloc, arena),
     }
 }
 
 // A first try by justifications: on most games that are not random they look at each vertex about twice.
-fn find_first<'g>(alloc: Global, arena: Arena<'g>, meter: Meter<'g>) -> Option<Winners> {
-    match Justification::new(alloc, arena, meter) {
-        Ok(mut justification) => justification.find_within(&first_looks(arena)),
-        Err(_) => None,
-    }
+fn find_first<'g>(
+    alloc: Global,
+    arena: Arena<'g>,
+    meter: Meter<'g>,
+) -> Result<Option<Winners>, AllocError> {
+    let looks = first_looks(alloc, arena)?;
+    Justification::new(alloc, arena, meter)?.find_within(looks.as_slice())
 }
 
 // By recursion, and where that takes too long by justifications.
-fn find_last(alloc: Global, arena: Arena) -> Option<Winners> {
-    match find_by_recursion(alloc, arena) {
-        Some(winners) => Some(winners),
-        None => find_by_justification(alloc, arena),
-    }
-}
-
-fn find_by_recursion(alloc: Global, arena: Arena) -> Option<Winners> {
-    match Recursion::new(alloc, arena, Meter::new(arena.size())) {
-        Ok(mut recursion) => recursion.find(),
-        Err(_) => None,
-    }
-}
-
-fn find_by_justification(alloc: Global, arena: Arena) -> Option<Winners> {
-    match Justification::new(alloc, arena, Meter::new(arena.size())) {
-        Ok(mut justification) => justification.find(),
-        Err(_) => None,
+fn find_last(alloc: Global, arena: Arena) -> Result<Option<Winners>, AllocError> {
+    match Recursion::new(alloc, arena, Meter::new(arena.size()))?.find()? {
+        Some(winners) => Ok(Some(winners)),
+        None => Justification::new(alloc, arena, Meter::new(arena.size()))?.find(),
     }
 }

@@ -32,8 +32,6 @@ pub(crate) struct Justification<'g> {
     standings: Standings,
     moves: Numbers,
     meter: Meter<'g>,
-    // Whether there was memory for all that turned or was shaken.
-    is_whole: bool,
 }
 
 impl<'g> Justification<'g> {
@@ -46,32 +44,23 @@ impl<'g> Justification<'g> {
             alloc,
             arena,
             standings: Standings::new(alloc, arena)?,
-            moves: Numbers::filled(alloc, arena.vertices() as usize, NONE),
+            moves: Numbers::filled(alloc, arena.vertices() as usize, NONE)?,
             meter,
-            is_whole: true,
         })
     }
 
-    /// Decides who wins. `None` where the budget was spent, or for want of memory.
-    pub(crate) fn find(&mut self) -> Option<Winners> {
+    /// Decides who wins. `None` where the budget was spent.
+    pub(crate) fn find(self) -> Result<Option<Winners>, AllocError> {
         self.find_within(&[])
     }
 
     /// The same, where the budget grows by so many looks as a priority is come to for the first time.
-    pub(crate) fn find_within(&mut self, more: &[u64]) -> Option<Winners> {
-        if self.justify_all(more) {
-            Some(self.winners())
-        } else {
-            None
-        }
-    }
-
-    fn justify_all(&mut self, more: &[u64]) -> bool {
+    pub(crate) fn find_within(mut self, more: &[u64]) -> Result<Option<Winners>, AllocError> {
         let greatest = self.arena.greatest();
         let (mut priority, mut reached) = (0_u8, 0_u8);
         for _ in 0..u64::MAX {
-            if self.meter.is_spent() || !self.is_whole {
-                return false;
+            if self.meter.is_spent() {
+                return Ok(None);
             }
             if priority > greatest {
                 break;
@@ -81,51 +70,45 @@ impl<'g> Justification<'g> {
                     .allow(more.get(usize::from(priority)).copied().unwrap_or(0));
                 reached = priority.saturating_add(1);
             }
-            priority = self.justify_or_turn(priority);
+            let turned = self.look(priority)?;
+            if turned.is_empty() {
+                self.justify(priority);
+                priority = priority.saturating_add(1);
+            } else {
+                priority = self.turn(priority, turned.as_slice())?;
+            }
         }
-        self.is_whole && self.moves.is_whole() && self.standings.are_whole()
+        Ok(Some(self.winners()?))
     }
 
-    // Justifies the vertices of a priority, or turns some. The answer is the least priority to be looked at.
-    fn justify_or_turn(&mut self, priority: u8) -> u8 {
-        let turned = self.look(priority);
-        self.is_whole &= turned.is_whole();
-        if turned.is_empty() {
-            self.justify(priority);
-            priority.saturating_add(1)
-        } else {
-            self.turn(priority, turned.as_slice())
-        }
-    }
-
-    fn winners(&self) -> Winners {
+    fn winners(&self) -> Result<Winners, AllocError> {
         let mut winners = Winners::none(self.alloc);
         for v in 0..self.arena.vertices() {
             let next = self.moves.get(v as usize);
-            winners.add(self.arena, v, self.standings.player(v), next);
+            winners.add(self.arena, v, self.standings.player(v), next)?;
         }
-        winners
+        Ok(winners)
     }
 
     // Looks at open vertices of a priority, the last first. The answer is which turn.
-    fn look(&mut self, priority: u8) -> Numbers {
+    fn look(&mut self, priority: u8) -> Result<Numbers, AllocError> {
         let mut turned = Numbers::none(self.alloc);
         for _ in 0..u64::MAX {
             if turned.len() >= TURNED_AT_ONCE {
                 break;
             }
             match self.standings.pop_open(priority) {
-                Some(v) => self.look_at(v, priority, &mut turned),
+                Some(v) => self.look_at(v, priority, &mut turned)?,
                 None => break,
             }
         }
-        turned
+        Ok(turned)
     }
 
-    fn look_at(&mut self, v: u32, priority: u8, turned: &mut Numbers) {
+    fn look_at(&mut self, v: u32, priority: u8, turned: &mut Numbers) -> Result<(), AllocError> {
         let Standing { state, owner, .. } = self.standings.get(v);
         if state != State::Open {
-            return;
+            return Ok(());
         }
         let next = self.next_of(v, owner);
         self.moves.set(v as usize, next.unwrap_or(NONE));
@@ -134,9 +117,9 @@ impl<'g> Justification<'g> {
             None => opponent(owner),
         };
         if player == winner_by(priority) {
-            self.standings.push_calm(v, priority);
+            self.standings.push_calm(v, priority)
         } else {
-            turned.push(v);
+            turned.push(v)
         }
     }
 
@@ -166,50 +149,42 @@ impl<'g> Justification<'g> {
     }
 
     // Turns these, and takes the reasons from all that rest on them. The answer is the least priority to be looked at.
-    fn turn(&mut self, priority: u8, turned: &[u32]) -> u8 {
+    fn turn(&mut self, priority: u8, turned: &[u32]) -> Result<u8, AllocError> {
         let mut list = Vec::new(self.alloc);
-        let player = opponent(winner_by(priority));
         for v in turned {
             self.standings.set_state(*v, State::Justified);
-            self.standings.set_player(*v, player);
-            let shaken = Shaken {
+            self.standings.set_player(*v, opponent(winner_by(priority)));
+            list.push(Shaken {
                 v: *v,
                 is_other: true,
-            };
-            self.is_whole &= list.push(shaken).is_ok();
+            })?;
         }
-        self.shake_all(&mut list).min(priority)
-    }
-
-    // Shakes all of a list, to which more is added. The answer is the least priority of what was opened.
-    fn shake_all(&mut self, list: &mut Vec<Shaken>) -> u8 {
-        let mut least = u8::MAX;
+        let mut least = priority;
         for place in 0..usize::MAX {
             match list.get(place).copied() {
-                Some(shaken) => least = self.shake(shaken, list).min(least),
+                Some(shaken) => least = self.shake(shaken, &mut list)?.min(least),
                 None => break,
             }
         }
-        least
+        Ok(least)
     }
 
     // Opens what rested on a vertex, or was calm by it. The answer is the least priority of what was opened.
-    fn shake(&mut self, shaken: Shaken, list: &mut Vec<Shaken>) -> u8 {
+    fn shake(&mut self, shaken: Shaken, list: &mut Vec<Shaken>) -> Result<u8, AllocError> {
         let mut least = u8::MAX;
         let before = self.arena.predecessors(shaken.v);
         self.meter.count(before.len());
         for u in before {
             let standing = self.standings.get(*u);
             if standing.state == State::Justified && self.rests(*u, standing, shaken.v) {
-                let favoured = self.favour(*u, standing);
-                self.is_whole &= list.push(favoured).is_ok();
+                list.push(self.favour(*u, standing))?;
             } else if standing.state != State::Calm || !shaken.is_other {
                 continue;
             }
-            self.standings.open(*u, standing.priority);
+            self.standings.open(*u, standing.priority)?;
             least = standing.priority.min(least);
         }
-        least
+        Ok(least)
     }
 
     // Whether a justified vertex has its reason by this successor.

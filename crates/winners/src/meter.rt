@@ -2,6 +2,7 @@
 
 use crate::arena::{Arena, PRIORITIES};
 use crate::race::Race;
+use std::alloc::{AllocError, Global};
 
 // How many looks there may be: this many, and so many times those that see the game once.
 const LEAST_BUDGET: u64 = 67_108_864;
@@ -103,15 +104,14 @@ impl<'r> Meter<'r> {
 }
 
 /// For each priority how many looks at its vertices a first try may take.
-pub(crate) fn first_looks(arena: Arena) -> [u64; PRIORITIES] {
-    let mut looks = [0_u64; PRIORITIES];
+pub(crate) fn first_looks(alloc: Global, arena: Arena) -> Result<Vec<u64>, AllocError> {
+    let mut looks = vec![in alloc; 0_u64; PRIORITIES]?;
     for v in 0..arena.vertices() {
-        let place = usize::from(arena.priority(v));
-        if place < PRIORITIES {
-            looks[place] = looks[place].saturating_add(looks_at(arena, v));
+        if let Some(sum) = looks.get_mut(usize::from(arena.priority(v))) {
+            *sum = sum.saturating_add(looks_at(arena, v));
         }
     }
-    looks
+    Ok(looks)
 }
 
 fn looks_at(arena: Arena, v: u32) -> u64 {

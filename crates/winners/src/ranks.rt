@@ -11,7 +11,7 @@ use crate::arena::{greatest, priority, winner_by};
 use crate::numbers::{Numbers, Span};
 use game::graph::Game;
 use game::player::Player;
-use std::alloc::Global;
+use std::alloc::{AllocError, Global};
 
 /// Which priorities are counted of a player's vertices: those that are not of its parity, up to the greatest of a game.
 #[derive(Clone, Copy)]
@@ -66,22 +66,22 @@ pub(crate) struct Ranks {
 impl Ranks {
     /// Those of a player's vertices, in their order. Of a priority that is not less than the vertex's own the count is of the
     /// vertices that have it, up to this one; of a lesser one it is zero.
-    pub(crate) fn of(alloc: Global, game: &Game, order: &[u32], counted: Counted) -> Self {
+    pub(crate) fn of(
+        alloc: Global,
+        game: &Game,
+        order: &[u32],
+        counted: Counted,
+    ) -> Result<Self, AllocError> {
         let length = order.len().saturating_mul(counted.width());
         let mut ranks = Ranks {
             counted,
-            counts: Numbers::filled(alloc, length, 0),
+            counts: Numbers::filled(alloc, length, 0)?,
         };
-        let mut counts = Numbers::filled(alloc, counted.width(), 0);
-        for place in 0..order.len() {
-            ranks.add(place, priority(game, order[place]), &mut counts);
+        let mut counts = Numbers::filled(alloc, counted.width(), 0)?;
+        for (place, v) in (0..usize::MAX).zip(order) {
+            ranks.add(place, priority(game, *v), &mut counts);
         }
-        ranks
-    }
-
-    /// Whether there was memory for all.
-    pub(crate) fn is_whole(&self) -> bool {
-        self.counts.is_whole()
+        Ok(ranks)
     }
 
     // The rank of the vertex at a place, after so many of each priority.
@@ -99,25 +99,27 @@ impl Ranks {
     /// Writes the rank of the vertex at a place of the order, as far as there is room.
     pub(crate) fn put(&self, place: usize, rank: &mut [u32]) {
         let span = self.counted.span(place, self.counted.width());
-        let counts = self.counts.slice(span);
-        for at in 0..rank.len().min(counts.len()) {
-            rank[at] = counts[at];
+        for (count, found) in rank.iter_mut().zip(self.counts.slice(span)) {
+            *count = *found;
         }
     }
 }
 
 /// For each vertex where it stands in the order of what its winner wins.
-pub(crate) fn places_of(alloc: Global, vertices: u32, even: &[u32], odd: &[u32]) -> Numbers {
-    let mut places = Numbers::filled(alloc, vertices as usize, 0);
+pub(crate) fn places_of(
+    alloc: Global,
+    vertices: u32,
+    even: &[u32],
+    odd: &[u32],
+) -> Result<Numbers, AllocError> {
+    let mut places = Numbers::filled(alloc, vertices as usize, 0)?;
     enter_all(&mut places, even);
     enter_all(&mut places, odd);
-    places
+    Ok(places)
 }
 
 fn enter_all(places: &mut Numbers, order: &[u32]) {
-    let mut place = 0_u32;
-    for v in order {
+    for (place, v) in (0..u32::MAX).zip(order) {
         places.set(*v as usize, place);
-        place = place.saturating_add(1);
     }
 }

@@ -50,37 +50,20 @@ impl Standings {
     /// All vertices are open, and of the players that their priorities favour.
     pub(crate) fn new(alloc: Global, arena: Arena) -> Result<Self, AllocError> {
         let mut standings = Standings {
-            list: vec![in alloc; NOBODY; arena.vertices() as usize]?,
+            list: Vec::new(alloc),
             layers: layers(alloc, arena.greatest())?,
         };
-        standings.open_all(arena);
-        Ok(standings)
-    }
-
-    fn open_all(&mut self, arena: Arena) {
         for v in 0..arena.vertices() {
             let priority = arena.priority(v);
-            let place = v as usize;
-            if place < self.list.len() {
-                self.list[place] = Standing {
-                    player: winner_by(priority),
-                    state: State::Open,
-                    owner: arena.owner(v),
-                    priority,
-                };
-            }
-            self.open(v, priority);
+            standings.list.push(Standing {
+                player: winner_by(priority),
+                state: State::Open,
+                owner: arena.owner(v),
+                priority,
+            })?;
+            standings.open(v, priority)?;
         }
-    }
-
-    /// Whether there was memory for all that were open or calm.
-    pub(crate) fn are_whole(&self) -> bool {
-        for layer in &self.layers {
-            if !layer.open.is_whole() || !layer.calm.is_whole() {
-                return false;
-            }
-        }
-        true
+        Ok(standings)
     }
 
     pub(crate) fn get(&self, v: u32) -> Standing {
@@ -96,55 +79,43 @@ impl Standings {
     }
 
     pub(crate) fn set_player(&mut self, v: u32, player: Player) {
-        let place = v as usize;
-        if place < self.list.len() {
-            self.list[place].player = player;
+        if let Some(standing) = self.list.get_mut(v as usize) {
+            standing.player = player;
         }
     }
 
     pub(crate) fn set_state(&mut self, v: u32, state: State) {
-        let place = v as usize;
-        if place < self.list.len() {
-            self.list[place].state = state;
+        if let Some(standing) = self.list.get_mut(v as usize) {
+            standing.state = state;
         }
     }
 
     /// A vertex of this priority is to be looked at.
-    pub(crate) fn open(&mut self, v: u32, priority: u8) {
+    pub(crate) fn open(&mut self, v: u32, priority: u8) -> Result<(), AllocError> {
         self.set_state(v, State::Open);
-        let place = usize::from(priority);
-        if place < self.layers.len() {
-            self.layers[place].open.push(v);
+        match self.layers.get_mut(usize::from(priority)) {
+            Some(layer) => layer.open.push(v),
+            None => Ok(()),
         }
     }
 
     /// The last vertex of this priority that was opened, if it is not looked at yet, or one that is no longer open.
     pub(crate) fn pop_open(&mut self, priority: u8) -> Option<u32> {
-        let place = usize::from(priority);
-        if place < self.layers.len() {
-            self.layers[place].open.pop()
-        } else {
-            None
-        }
+        self.layers.get_mut(usize::from(priority))?.open.pop()
     }
 
     /// A vertex of this priority is calm.
-    pub(crate) fn push_calm(&mut self, v: u32, priority: u8) {
+    pub(crate) fn push_calm(&mut self, v: u32, priority: u8) -> Result<(), AllocError> {
         self.set_state(v, State::Calm);
-        let place = usize::from(priority);
-        if place < self.layers.len() {
-            self.layers[place].calm.push(v);
+        match self.layers.get_mut(usize::from(priority)) {
+            Some(layer) => layer.calm.push(v),
+            None => Ok(()),
         }
     }
 
     /// The last vertex of this priority that was calm, or one that no longer is.
     pub(crate) fn pop_calm(&mut self, priority: u8) -> Option<u32> {
-        let place = usize::from(priority);
-        if place < self.layers.len() {
-            self.layers[place].calm.pop()
-        } else {
-            None
-        }
+        self.layers.get_mut(usize::from(priority))?.calm.pop()
     }
 }
 

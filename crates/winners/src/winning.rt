@@ -4,15 +4,13 @@ use crate::arena::Arena;
 use crate::cells::NONE;
 use crate::numbers::Numbers;
 use game::player::Player;
-use std::alloc::Global;
+use std::alloc::{AllocError, Global};
 
 /// Who wins each vertex, and the winners' moves.
 #[derive(Drop)]
 pub(crate) struct Winners {
     players: Vec<Player>,
     moves: Numbers,
-    // Whether there was memory for all players.
-    is_whole: bool,
 }
 
 impl Winners {
@@ -21,20 +19,20 @@ impl Winners {
         Winners {
             players: Vec::new(alloc),
             moves: Numbers::none(alloc),
-            is_whole: true,
         }
     }
 
     /// The next vertex, its winner, and the move that it has if it is the winner's own.
-    pub(crate) fn add(&mut self, arena: Arena, v: u32, player: Player, next: u32) {
-        self.is_whole &= self.players.push(player).is_ok();
+    pub(crate) fn add(
+        &mut self,
+        arena: Arena,
+        v: u32,
+        player: Player,
+        next: u32,
+    ) -> Result<(), AllocError> {
+        self.players.push(player)?;
         let owns = arena.owner(v) == player;
-        self.moves.push(if owns { next } else { NONE });
-    }
-
-    /// Whether there was memory for all.
-    pub(crate) fn is_whole(&self) -> bool {
-        self.is_whole && self.moves.is_whole()
+        self.moves.push(if owns { next } else { NONE })
     }
 
     pub(crate) fn player(&self, v: u32) -> Player {
