@@ -16,6 +16,7 @@ use evidence::law::canon_spells;
 use evidence::verdict::Both;
 use evidence::verify::check_both;
 use game::graph::Game;
+use gauge::Gauge;
 use std::alloc::{AllocError, Global};
 
 /// A mark for each vertex that Even's evidence has.
@@ -49,11 +50,11 @@ fn checked_marks(alloc: Global, game: &Game, pair: &EvidencePair) -> Option<Vec<
 }
 
 /// A mark for each vertex, true where Even wins it, by a guess of winners, moves and ranks. There is none where the checker
-/// refuses the evidence that is made of the guess, where the guess took too long, or for want of memory.
-pub fn certified_winners(alloc: Global, game: &Game) -> Option<Vec<bool>>
+/// refuses the evidence that is made of the guess, where the guess took too long, or for want of memory. A gauge shows how far the guess has come.
+pub fn certified_winners(alloc: Global, game: &Game, gauge: Option<&Gauge>) -> Option<Vec<bool>>
     ensures { IfSome result (λ marks. Marks (length game.now.vertices) marks.items (Wins game.now)) }
 {
-    let pair = guessed_pair(alloc, game)?;
+    let pair = guessed_pair(alloc, game, gauge)?;
     checked_marks(alloc, game, &pair)
 }
 
@@ -85,10 +86,11 @@ fn are_small(game: &Game, pair: &EvidencePair) -> bool
 }
 
 /// Evidence of all that each player wins, by a guess of winners, moves and ranks. There is none where the checker refuses the evidence that is
-/// made of the guess, where a count is too great for its text, where the guess took too long, or for want of memory.
-pub fn certified_evidence(alloc: Global, game: &Game) -> Option<EvidencePair>
+/// made of the guess, where a count is too great for its text, where the guess took too long, or for want of memory. A gauge shows how far the
+/// guess has come.
+pub fn certified_evidence(alloc: Global, game: &Game, gauge: Option<&Gauge>) -> Option<EvidencePair>
     ensures { IfSome result (AreFull game.now) }
 {
-    let pair = guessed_pair(alloc, game)?;
+    let pair = guessed_pair(alloc, game, gauge)?;
     checked_pair(game, pair)
 }

@@ -9,9 +9,10 @@ use evidence::draft::Draft;
 use evidence::evidence::Evidence;
 use game::graph::Game;
 use game::player::Player;
+use gauge::Gauge;
 use std::alloc::Global;
 use text::Memory;
-use winners::guess::{Guessed, guess_winners};
+use winners::guess::{Guessed, guess_winners_seen};
 
 // Puts what is guessed of a vertex into the evidence of its winner. A move to no vertex of the game is left out.
 fn put_guessed(game: &Game, guessed: &Guessed, draft: &mut Draft, v: u32, rank: &mut [u32])
@@ -49,10 +50,14 @@ pub(crate) fn evidence_of(
 }
 
 // Evidence of all that each player is guessed to win. There is none where the guess took too long, or for want of memory.
-pub(crate) fn guessed_pair(alloc: Global, game: &Game) -> Option<EvidencePair>
+pub(crate) fn guessed_pair(
+    alloc: Global,
+    game: &Game,
+    gauge: Option<&Gauge>,
+) -> Option<EvidencePair>
     ensures { IfSome result (AreOf game.now) }
 {
-    let guessed = guess_winners(alloc, game).ok()??;
+    let guessed = guess_winners_seen(alloc, game, gauge).ok()??;
     let even = evidence_of(alloc, game, &guessed, Player::Even).ok()?;
     let odd = evidence_of(alloc, game, &guessed, Player::Odd).ok()?;
     Some(EvidencePair { even, odd })

@@ -11,10 +11,11 @@ use evidence::spans::check_both_by;
 use evidence::verdict::Both;
 use game::graph::Game;
 use game::player::Player;
+use gauge::Gauge;
 use std::alloc::{AllocError, Global};
 use std::thread::{Threads, join};
 use text::Memory;
-use winners::guess::{Guessed, guess_winners_by};
+use winners::guess::{Guessed, guess_winners_by_seen};
 
 // Evidence of all that each player is guessed to win, side by side.
 fn both_evidence<R: Threads + Sync>(
@@ -62,19 +63,20 @@ fn checked_marks_by<R: Threads + Sync>(
 
 /// A mark for each vertex, true where Even wins it, as `certified_winners` finds it, by so many threads where the game is large.
 /// There is none where the checker refuses the evidence that is made of the guess, where the guess took too long, or for want of
-/// memory.
+/// memory. A gauge shows how far the guess has come.
 pub fn certified_winners_by<R: Threads + Sync>(
     rt: &R,
     alloc: Global,
     game: &Game,
     workers: usize,
+    gauge: Option<&Gauge>,
 ) -> Option<Vec<bool>>
     ensures { IfSome result (λ marks. Marks (length game.now.vertices) marks.items (Wins game.now)) }
 {
     if workers < 2 {
-        return certified_winners(alloc, game);
+        return certified_winners(alloc, game, gauge);
     }
-    let guessed = guess_winners_by(rt, alloc, game, workers).ok()??;
+    let guessed = guess_winners_by_seen(rt, alloc, game, workers, gauge).ok()??;
     let (even, odd) = both_evidence(rt, alloc, game, &guessed);
     let even = even.ok()?;
     let odd = odd.ok()?;

@@ -84,7 +84,14 @@ fn replay_of<T: Read + Drop, W: Write, H: Threads + Sync>(
         → T.remaining schedule ≡ Some third
         → Answers workers first second third (W.contents out.old) (W.contents out.new) result }
 {
-    match arena_of(rt, alloc, &texts.system, &texts.formula, Priorities::Nested) {
+    match arena_of(
+        rt,
+        alloc,
+        &texts.system,
+        &texts.formula,
+        Priorities::Nested,
+        None,
+    ) {
         Ok(game) => replay_in(alloc, &game, schedule, workers, out),
         Err(error) => Err(error),
     }

@@ -46,7 +46,7 @@ pub(crate) fn winners_by<O: Observer + Sync, H: Threads + Wait + Clone + Copy + 
         vertices: game.vertices(),
     });
     require_board(game, options.board)?;
-    if let Some(marks) = guessed_winners(rt, alloc, game, options.workers) {
+    if let Some(marks) = guessed_winners(rt, alloc, game, options.workers, observer.gauge()) {
         return Ok(marks);
     }
     match solve_seen(rt, alloc, game, options, &NoGate, observer, &NoGuess) {
@@ -77,7 +77,7 @@ pub(crate) fn evidence_by<
         vertices: game.vertices(),
     });
     match require_board(game, options.board) {
-        Ok(()) => match certified_evidence(alloc, game) {
+        Ok(()) => match certified_evidence(alloc, game, observer.gauge()) {
             Some(pair) => Ok(pair),
             None => evidence_by_lifting(rt, alloc, game, options, observer),
         },

@@ -12,6 +12,7 @@ use certify::shared::certified_winners_by;
 use evidence::evidence::Evidence;
 use game::graph::Game;
 use game::player::Player;
+use gauge::Gauge;
 use laws::games::{not_both_win, one_wins};
 use lts::{Piece, WriteFault, put_pieces};
 use measures::settle::even_wins;
@@ -40,19 +41,20 @@ pub(crate) fn winners(alloc: Global, game: &Game, settled: &Settled) -> Result<V
 }
 
 /// A mark for each vertex, true where Even wins it, by evidence of both players that was guessed, and by so many threads where the
-/// game is large. There is none where none is found.
+/// game is large. There is none where none is found. A gauge shows how far the guess has come.
 pub(crate) fn guessed_winners<R: Threads + Sync>(
     rt: &R,
     alloc: Global,
     game: &Game,
     workers: u32,
+    gauge: Option<&Gauge>,
 ) -> Option<Vec<bool>>
     ensures { IfSome result (λ marks. AreWinners game.now marks.items) }
 {
     game.known();
     not_both_win();
     one_wins();
-    certified_winners_by(rt, alloc, game, workers as usize)
+    certified_winners_by(rt, alloc, game, workers as usize, gauge)
 }
 
 /// A mark for each vertex, true where Even wins it, by evidence of all that Even wins.

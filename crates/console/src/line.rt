@@ -2,14 +2,14 @@
 // done where that is asked for.
 
 use crate::notes::note_all;
-use crate::stats::{Running, Stats, Step, name_of_stage, told_texts};
+use crate::stats::{Running, Stats, Step, name_of, told_texts};
 use calculus::closed::Closed;
+use gauge::{Gauge, Reading};
 use lts::system::Lts;
 use measures::observer::{Observer, Stage};
 use requests::watch::Watcher;
 use std::alloc::{AllocError, Global};
 use std::io::{IsTerminal, Write};
-use std::sync::atomic::{AtomicU64, Ordering};
 use std::sync::{Arc, Condvar, Mutex, Wait};
 use std::thread::{JoinHandle, Threads};
 use std::time::{Clock, Duration, Instant};
@@ -29,8 +29,8 @@ const CLEAR: &[u8] = b"\x1b[A\r\x1b[K";
 /// How many bytes are a megabyte.
 const MEGABYTE: u64 = 1_000_000;
 
-/// What is told of a size that isn't known.
-const UNKNOWN: u64 = 0;
+/// How many hundredths a budget has.
+const HUNDREDTHS: u64 = 100;
 
 /// What has become of the line.
 #[derive(Drop)]
@@ -46,9 +46,8 @@ struct Screen {
 struct Place {
     /// What the run does.
     step: Mutex<Step>,
-    /// How many bytes of the text at hand are read, and how many it has.
-    bytes: AtomicU64,
-    size: AtomicU64,
+    /// How far that has come.
+    gauge: Gauge,
     screen: Mutex<Screen>,
     over: Condvar,
 }
@@ -57,8 +56,7 @@ impl Place {
     fn new() -> Place {
         Place {
             step: Mutex::new(Step::Seen(Stage::ReadingSystem)),
-            bytes: AtomicU64::new(0),
-            size: AtomicU64::new(UNKNOWN),
+            gauge: Gauge::new(),
             screen: Mutex::new(Screen {
                 is_drawn: false,
                 is_over: false,
@@ -67,47 +65,49 @@ impl Place {
         }
     }
 
-    fn has_bytes(&self, bytes: u64, size: Option<u64>) {
-        self.bytes.store(bytes, Ordering::Relaxed);
-        self.size.store(size.unwrap_or(UNKNOWN), Ordering::Relaxed);
-    }
-
     fn sees<T: Wait>(&self, handle: &T, step: Step) {
         *self.step.lock(handle) = step;
+        self.gauge.clear();
     }
 
     // What the line says of a step after so many seconds.
     fn text(&self, alloc: Global, step: Step, seconds: u64) -> Result<String, AllocError> {
-        match step {
-            Step::ReadingGame => self.reading(alloc, "game", seconds),
-            Step::Seen(Stage::ReadingSystem) => self.reading(alloc, "system", seconds),
-            Step::Seen(Stage::ReadingFormula) => self.reading(alloc, "formula", seconds),
-            Step::Seen(stage) => text_of(alloc, stage, seconds),
+        let name = name_of(alloc, step)?;
+        match self.progress(alloc, step)? {
+            Some(progress) => format!(in alloc; "mucheck: {name}, {progress}, {seconds} s\n"),
+            None => format!(in alloc; "mucheck: {name}, {seconds} s\n"),
         }
     }
 
-    // How much of this text is read, where it is known how much there is.
-    fn reading(&self, alloc: Global, text: &str, seconds: u64) -> Result<String, AllocError> {
-        let size = self.size.load(Ordering::Relaxed);
-        if size == UNKNOWN {
-            return format!(in alloc; "mucheck: reading the {text}, {seconds} s\n");
+    // How far a step has come, where that is known.
+    fn progress(&self, alloc: Global, step: Step) -> Result<Option<String>, AllocError> {
+        if let Step::Seen(Stage::Counting { priority, .. }) = step {
+            return Ok(Some(format!(in alloc; "down to priority {priority}")?));
         }
-        let (read, whole) = (
-            self.bytes.load(Ordering::Relaxed) / MEGABYTE,
-            size / MEGABYTE,
-        );
-        format!(in alloc; "mucheck: reading the {text}, {read} of {whole} MB, {seconds} s\n")
+        match self.gauge.reading() {
+            Some(reading) => shown(alloc, step, reading),
+            None => Ok(None),
+        }
     }
 }
 
-// What the line says of a stage that reads nothing.
-fn text_of(alloc: Global, stage: Stage, seconds: u64) -> Result<String, AllocError> {
-    let name = name_of_stage(alloc, stage)?;
-    match stage {
-        Stage::Counting { priority, .. } => {
-            format!(in alloc; "mucheck: {name}, down to priority {priority}, {seconds} s\n")
+// What a gauge shows in a step, in the step's words.
+fn shown(alloc: Global, step: Step, reading: Reading) -> Result<Option<String>, AllocError> {
+    let Reading { done, whole } = reading;
+    match step {
+        Step::ReadingGame | Step::Seen(Stage::ReadingSystem | Stage::ReadingFormula) => {
+            let (read, size) = (done / MEGABYTE, whole / MEGABYTE);
+            Ok(Some(format!(in alloc; "{read} of {size} MB")?))
         }
-        _ => format!(in alloc; "mucheck: {name}, {seconds} s\n"),
+        Step::Seen(Stage::Building { .. }) => {
+            Ok(Some(format!(in alloc; "{done} of {whole} vertices")?))
+        }
+        Step::Seen(Stage::Searching { .. }) => {
+            let spent = done.saturating_mul(HUNDREDTHS).checked_div(whole);
+            let spent = spent.unwrap_or(0);
+            Ok(Some(format!(in alloc; "{spent} % of the budget spent")?))
+        }
+        _ => Ok(None),
     }
 }
 
@@ -196,8 +196,8 @@ impl<'a, T: Threads + Wait + Clock + Clone + Copy + Drop + Send + Sync + 'static
 impl<T> ProgressLine<'_, T> {
     /// So many bytes of the text at hand are read, of so many where that is known.
     pub fn has_bytes(&self, bytes: u64, size: Option<u64>) {
-        if let Some(place) = &self.place {
-            place.has_bytes(bytes, size);
+        if let (Some(place), Some(size)) = (&self.place, size) {
+            place.gauge.show(bytes, size);
         }
     }
 }
@@ -303,6 +303,13 @@ impl<T: Wait + Clock> ProgressLine<'_, T> {
 impl<T: Wait + Clock> Observer for ProgressLine<'_, T> {
     fn sees(&self, stage: Stage) {
         self.step(Step::Seen(stage));
+    }
+
+    fn gauge(&self) -> Option<&Gauge> {
+        match &self.place {
+            Some(place) => Some(&place.gauge),
+            None => None,
+        }
     }
 }
 

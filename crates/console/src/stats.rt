@@ -137,7 +137,7 @@ fn told_step(rt: HostRuntime, step: Step, elapsed: Duration) -> Result<String, A
 }
 
 /// What a step does, and of how much.
-fn name_of(alloc: Global, step: Step) -> Result<String, AllocError> {
+pub(crate) fn name_of(alloc: Global, step: Step) -> Result<String, AllocError> {
     match step {
         Step::ReadingGame => String::from_str(alloc, "reading the game"),
         Step::Seen(stage) => name_of_stage(alloc, stage),
@@ -145,7 +145,7 @@ fn name_of(alloc: Global, step: Step) -> Result<String, AllocError> {
 }
 
 /// What a stage does, and of how much.
-pub(crate) fn name_of_stage(alloc: Global, stage: Stage) -> Result<String, AllocError> {
+fn name_of_stage(alloc: Global, stage: Stage) -> Result<String, AllocError> {
     match stage {
         Stage::ReadingSystem => String::from_str(alloc, "reading the system"),
         Stage::ReadingFormula => String::from_str(alloc, "reading the formula"),
@@ -159,6 +159,9 @@ pub(crate) fn name_of_stage(alloc: Global, stage: Stage) -> Result<String, Alloc
             format!(in alloc; "lifting, {vertices} vertices, {lifts} lifts")
         }
         Stage::Evaluating { states } => format!(in alloc; "evaluating by sets, {states} states"),
+        Stage::MakingEvidence { vertices } => {
+            format!(in alloc; "making evidence, {vertices} vertices")
+        }
         Stage::Writing => String::from_str(alloc, "writing"),
     }
 }

@@ -337,8 +337,8 @@ fn check_by_game<
     }
     match find_in(rt, alloc, texts, options, watcher) {
         Ok(found) => {
-            watcher.sees(Stage::Writing);
-            answer_by(rt, alloc, &found, options.workers, wanted, writers)
+            tell_making(&found, wanted, watcher);
+            answer_by(rt, alloc, &found, options.workers, wanted, writers, watcher)
         }
         Err(error) => Err(error),
     }
@@ -428,14 +428,24 @@ fn answer_wanted<G: Write, E: Write, O: Write, V: Write, W: Write>(
     }
 }
 
+/// Tells that evidence or a witness is made, where one is wanted.
+fn tell_making<U: Watcher>(found: &Findings, wanted: Wanted, watcher: &U) {
+    if wanted.evidence || wanted.witness.is_some() {
+        watcher.sees(Stage::MakingEvidence {
+            vertices: found.solution.game.vertices(),
+        });
+    }
+}
+
 /// The same to all writers, where so many workers make what is wanted.
-fn answer_by<G: Write, E: Write, O: Write, V: Write, W: Write, H: Threads + Sync>(
+fn answer_by<G: Write, E: Write, O: Write, V: Write, W: Write, U: Watcher, H: Threads + Sync>(
     rt: &H,
     alloc: Global,
     found: &Findings,
     workers: u32,
     wanted: Wanted,
     writers: &mut Writers<G, E, O, V, W>,
+    watcher: &U,
 ) -> Result<bool, MuError>
     requires { AreFindings found.now }
     ensures { (first second : List ℕ) → AreSpelled first second (system_of found.now) (formula_of found.now)
@@ -444,6 +454,7 @@ fn answer_by<G: Write, E: Write, O: Write, V: Write, W: Write, H: Threads + Sync
 {
     match prepare_by(rt, alloc, found, wanted, workers) {
         Ok(prepared) => {
+            watcher.sees(Stage::Writing);
             let wrote = put_wanted(
                 found,
                 &prepared,

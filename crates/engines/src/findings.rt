@@ -205,7 +205,14 @@ fn build_of<O: Observer, H: Threads + Sync>(
     observer.sees(Stage::Building {
         states: texts.system.states(),
     });
-    match arena_of(rt, alloc, &texts.system, &texts.formula, priorities) {
+    match arena_of(
+        rt,
+        alloc,
+        &texts.system,
+        &texts.formula,
+        priorities,
+        observer.gauge(),
+    ) {
         Ok(game) => match Arc::new(alloc, game) {
             Ok(game) => Ok(Posed {
                 texts,

@@ -109,7 +109,14 @@ fn stored_marks<O: Observer + Sync, H: Threads + Wait + Clone + Copy + Drop + Se
     observer.sees(Stage::Building {
         states: system.states(),
     });
-    match arena_of(rt, alloc, system, formula, options.priorities) {
+    match arena_of(
+        rt,
+        alloc,
+        system,
+        formula,
+        options.priorities,
+        observer.gauge(),
+    ) {
         Ok(game) => match Arc::new(alloc, game) {
             Ok(game) => marks_in(rt, alloc, system, formula, &game, options, observer),
             Err(_) => Err(MuError::Memory),
@@ -164,7 +171,13 @@ fn solution_of<O: Observer + Sync, H: Threads + Wait + Clone + Copy + Drop + Sen
     if let Some(settled) = settled_by_guess(alloc, game, &guess) {
         return Ok(Solution::Table(settled));
     }
-    if let Some(marks) = certified_winners_by(rt, alloc, game, options.workers as usize) {
+    if let Some(marks) = certified_winners_by(
+        rt,
+        alloc,
+        game,
+        options.workers as usize,
+        observer.gauge(),
+    ) {
         return Ok(Solution::Marks(marks));
     }
     let settled = solve_seen(rt, alloc, game, options, &NoGate, observer, &guess)?;

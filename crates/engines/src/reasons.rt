@@ -88,21 +88,29 @@ fn tell_read<W: Write, U: Watcher + Sync, H: Threads + Wait + Clone + Copy + Dro
 {
     match find_in(rt, alloc, texts, options, watcher) {
         Ok(found) => {
-            watcher.sees(Stage::Writing);
-            tell_found(alloc, &found, out)
+            watcher.sees(Stage::MakingEvidence {
+                vertices: found.solution.game.vertices(),
+            });
+            tell_found(alloc, &found, out, watcher)
         }
         Err(error) => Err(error),
     }
 }
 
 /// Tells why, where this was found out.
-fn tell_found<W: Write>(alloc: Global, found: &Findings, out: &mut W) -> Result<bool, MuError>
+fn tell_found<W: Write, U: Watcher>(
+    alloc: Global,
+    found: &Findings,
+    out: &mut W,
+    watcher: &U,
+) -> Result<bool, MuError>
     requires { AreFindings found.now }
     ensures { (first second : List ℕ) → AreSpelled first second (system_of found.now) (formula_of found.now)
         → TellsReasons found.now.solution.priorities found.now.solution.board first second (W.contents out.old) (W.contents out.new) result }
 {
     match told_of(alloc, found) {
         Ok(told) => {
+            watcher.sees(Stage::Writing);
             let _initial = found.texts.system.initial();
             let wrote = put_reasons(found, &told, out);
             answer(found, wrote)

@@ -18,6 +18,7 @@ use crate::limits::MOST_VERTICES;
 use crate::player::Player;
 use calculus::holds;
 use calculus::tree::Act;
+use gauge::Gauge;
 use normal::form::Normal;
 use normal::limits::{GREATEST_PRIORITY, MOST_NODES};
 use normal::node::{Kind, Node};
@@ -32,6 +33,9 @@ const RANGES: u32 = 64;
 
 // A game of fewer vertices is made in one thread, since more of them cost more than they save.
 const LEAST_SPLIT: u64 = 65_536;
+
+// The vertices of how many states are made from one telling to the next.
+const STATES_APART: u32 = 1_024;
 
 // For each label whether the action formula holds of it.
 fn set_of(alloc: Global, lts: &Lts, action: &Act) -> Result<Vec<bool>, AllocError>
@@ -186,6 +190,15 @@ fn push_state(
     Ok(())
 }
 
+// Tells now and then that the vertices of another state are made.
+fn tell(gauge: Option<&Gauge>, state: u32, nodes: u32) {
+    if state % STATES_APART == 0 {
+        if let Some(gauge) = gauge {
+            gauge.add(u64::from(STATES_APART) * u64::from(nodes));
+        }
+    }
+}
+
 // The vertices of the states from the first one up to the end, with each node.
 fn push_states(
     builder: &mut GameBuilder,
@@ -195,6 +208,7 @@ fn push_states(
     sets: &[Vec<bool>],
     first: u32,
     end: u32,
+    gauge: Option<&Gauge>,
 ) -> Result<(), AllocError>
     requires states { (first ≤ end) × (end ≤ lts.now.system.states) }
     requires sets { AreSets lts.now.labels (normal_nodes form.now) (map (λ set. set.items) sets.now) }
@@ -206,6 +220,7 @@ fn push_states(
     let mut reached = Vec::new(alloc);
     for state in first..end {
         push_state(builder, lts, form, sets, state, &mut row, &mut reached)?;
+        tell(gauge, state, form.count());
     }
     Ok(())
 }
@@ -226,6 +241,7 @@ fn whole(
     lts: &Lts,
     form: &Normal,
     sets: &[Vec<bool>],
+    gauge: Option<&Gauge>,
 ) -> Result<GameBuilder, AllocError>
     requires sets { AreSets lts.now.labels (normal_nodes form.now) (map (λ set. set.items) sets.now) }
     requires count { length sets.now ≡ length (normal_nodes form.now) }
@@ -234,7 +250,7 @@ fn whole(
 {
     let states = lts.states();
     let mut builder = sinks(alloc, 2 + states * form.count())?;
-    push_states(&mut builder, alloc, lts, form, sets, 0, states)?;
+    push_states(&mut builder, alloc, lts, form, sets, 0, states, gauge)?;
     Ok(builder)
 }
 
@@ -246,6 +262,7 @@ fn part(
     sets: &[Vec<bool>],
     size: u32,
     range: u32,
+    gauge: Option<&Gauge>,
 ) -> Result<GameBuilder, AllocError>
     requires sets { AreSets lts.now.labels (normal_nodes form.now) (map (λ set. set.items) sets.now) }
     requires count { length sets.now ≡ length (normal_nodes form.now) }
@@ -257,7 +274,7 @@ fn part(
     let end = first + size.min(states - first);
     let room = (end - first) * form.count();
     let mut builder = GameBuilder::with_room(alloc, room as usize)?;
-    push_states(&mut builder, alloc, lts, form, sets, first, end)?;
+    push_states(&mut builder, alloc, lts, form, sets, first, end, gauge)?;
     Ok(builder)
 }
 
@@ -270,6 +287,7 @@ fn parts(
     sets: &[Vec<bool>],
     size: u32,
     ranges: u32,
+    gauge: Option<&Gauge>,
 ) -> Result<Vec<GameBuilder>, AllocError>
     requires sets { AreSets lts.now.labels (normal_nodes form.now) (map (λ set. set.items) sets.now) }
     requires count { length sets.now ≡ length (normal_nodes form.now) }
@@ -285,7 +303,7 @@ fn parts(
                 requires count { length sets.now ≡ length (normal_nodes form.now) }
                 requires few { 2 + lts.now.system.states * length (normal_nodes form.now) ≤ MOST_VERTICES }
                 ensures { IfOk result (λ builder. builder ≡ part_of lts.entry.now.system (normal_nodes form.entry.now) size range) }
-            { part(alloc, lts, form, sets, size, range) },
+            { part(alloc, lts, form, sets, size, range, gauge) },
         )
         .collect::<Result<Vec<GameBuilder>, AllocError>>(rt, alloc)?
 }
@@ -310,6 +328,7 @@ fn split(
     form: &Normal,
     sets: &[Vec<bool>],
     ranges: u32,
+    gauge: Option<&Gauge>,
 ) -> Result<GameBuilder, AllocError>
     requires ranges { 1 ≤ ranges }
     requires sets { AreSets lts.now.labels (normal_nodes form.now) (map (λ set. set.items) sets.now) }
@@ -319,7 +338,7 @@ fn split(
 {
     let states = lts.states();
     let size = states.div_ceil(ranges);
-    let parts = parts(rt, alloc, lts, form, sets, size, ranges)?;
+    let parts = parts(rt, alloc, lts, form, sets, size, ranges, gauge)?;
     match sinks(alloc, 2 + states * form.count()) {
         Ok(first) => join_all(first, parts),
         Err(error) => Err(error),
@@ -343,14 +362,36 @@ pub fn build(
     ensures low { IfOk result (λ g. greatest g ≤ GREATEST_PRIORITY) }
     ensures refused { IfErr result (HasRefusal lts.now.system.states (length (normal_nodes form.now))) }
 {
+    build_seen(rt, alloc, lts, form, None)
+}
+
+/// The same game. A gauge shows about how many of its vertices are made.
+///
+/// # Errors
+/// Those of `build`.
+pub fn build_seen(
+    rt: &(impl Threads + Sync),
+    alloc: Global,
+    lts: &Lts,
+    form: &Normal,
+    gauge: Option<&Gauge>,
+) -> Result<Game, BuildError>
+    ensures game { IfOk result (λ g. g ≡ arena lts.now.system (normal_nodes form.now)) }
+    ensures within { OnOk result (2 + lts.now.system.states * length (normal_nodes form.now) ≤ MOST_VERTICES) }
+    ensures low { IfOk result (λ g. greatest g ≤ GREATEST_PRIORITY) }
+    ensures refused { IfErr result (HasRefusal lts.now.system.states (length (normal_nodes form.now))) }
+{
     form.known();
     let vertices = u64::from(lts.states()) * u64::from(form.count());
+    if let Some(gauge) = gauge {
+        gauge.begin(vertices);
+    }
     let ranges = if vertices < LEAST_SPLIT || current_num_threads(rt) == 1 {
         1
     } else {
         RANGES
     };
-    build_split(rt, alloc, lts, form, ranges)
+    build_split(rt, alloc, lts, form, ranges, gauge)
 }
 
 /// The same game, whose states are cut into so many ranges of one size. Threads share the ranges where there are several.
@@ -363,6 +404,7 @@ pub fn build_split(
     lts: &Lts,
     form: &Normal,
     ranges: u32,
+    gauge: Option<&Gauge>,
 ) -> Result<Game, BuildError>
     requires { 1 ≤ ranges }
     ensures game { IfOk result (λ g. g ≡ arena lts.now.system (normal_nodes form.now)) }
@@ -378,9 +420,9 @@ pub fn build_split(
     }
     let sets = label_sets(alloc, lts, form)?;
     let builder = if ranges == 1 {
-        whole(alloc, lts, form, &sets)?
+        whole(alloc, lts, form, &sets, gauge)?
     } else {
-        split(rt, alloc, lts, form, &sets, ranges)?
+        split(rt, alloc, lts, form, &sets, ranges, gauge)?
     };
     Ok(builder.into_named(Some((states, nodes))))
 }

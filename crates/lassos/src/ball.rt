@@ -35,12 +35,14 @@ impl Ball {
             vertices: Numbers::none(alloc),
             far: Numbers::none(alloc),
             before: Numbers::none(alloc),
-            places: Numbers::filled(alloc, field.game.vertices() as usize, 0)?,
+            places: Numbers::filled(alloc, field.game.vertices() as usize, 0),
             level: 0,
             near: Vec::new(alloc),
             later: Vec::new(alloc),
         };
         ball.near.push(Found { v: center, from: 0 })?;
+        // Without places no vertex would be known to be in the ball, and it would grow for ever.
+        ball.check()?;
         Ok(ball)
     }
 
@@ -54,7 +56,7 @@ impl Ball {
         self.near.is_empty()
     }
 
-    /// Adds all vertices to which at most so many steps lead.
+    /// Adds all vertices to which at most so many steps lead. Each is added once, so the ball is whole some time.
     pub(crate) fn grow(&mut self, field: Field, steps: u32) -> Result<(), AllocError> {
         for _ in 0..u32::MAX {
             if self.level > steps || self.is_whole() {
@@ -65,7 +67,17 @@ impl Ball {
             self.near.clear();
             mem::swap(&mut self.near, &mut self.later);
         }
-        Ok(())
+        self.check()
+    }
+
+    // Tells want of memory for a list.
+    fn check(&self) -> Result<(), AllocError> {
+        let is_known = self.far.is_whole() && self.before.is_whole() && self.places.is_whole();
+        if self.vertices.is_whole() && is_known {
+            Ok(())
+        } else {
+            Err(AllocError)
+        }
     }
 
     // Adds the vertices that are near, and those to which they lead without a step.
@@ -83,9 +95,9 @@ impl Ball {
 
     fn add(&mut self, field: Field, found: Found) -> Result<(), AllocError> {
         let from = u32::try_from(self.vertices.len()).unwrap_or(u32::MAX);
-        self.vertices.push(found.v)?;
-        self.far.push(self.level)?;
-        self.before.push(found.from)?;
+        self.vertices.push(found.v);
+        self.far.push(self.level);
+        self.before.push(found.from);
         self.places.set(found.v as usize, from.saturating_add(1));
         let is_step = field.is_step(found.v);
         for t in field.ways(found.v) {

@@ -76,16 +76,21 @@ impl Closing {
     pub(crate) fn new(alloc: Global, graph: &Graph) -> Result<Self, AllocError> {
         let closed = Stage::of(u32::try_from(graph.len()).unwrap_or(u32::MAX), false);
         let stages = (closed.0 as usize).saturating_add(1);
-        Ok(Closing {
+        let closing = Closing {
             alloc,
-            clocks: Numbers::filled(alloc, stages, 0)?,
-            before: Numbers::filled(alloc, stages, 0)?,
+            clocks: Numbers::filled(alloc, stages, 0),
+            before: Numbers::filled(alloc, stages, 0),
             clock: 0,
             near: Vec::new(alloc),
             later: Vec::new(alloc),
             closed,
             looks: 0,
-        })
+        };
+        if closing.clocks.is_whole() && closing.before.is_whole() {
+            Ok(closing)
+        } else {
+            Err(AllocError)
+        }
     }
 
     /// A shortest loop of those that are asked for.
@@ -173,10 +178,13 @@ impl Closing {
         let mut stage = self.closed;
         for _ in 0..self.clocks.len() {
             stage = Stage(self.before.get(stage.0 as usize));
-            places.push(stage.place())?;
+            places.push(stage.place());
             if stage.place() == asked.start {
                 break;
             }
+        }
+        if !places.is_whole() {
+            return Err(AllocError);
         }
         places.reverse();
         if self.is_simple(places.as_slice()) {

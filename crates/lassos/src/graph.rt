@@ -32,28 +32,38 @@ impl Edges for Graph {
 impl Graph {
     pub(crate) fn of(alloc: Global, field: Field, ball: &Ball) -> Result<Self, AllocError> {
         let mut graph = Graph {
-            starts: Numbers::copied(alloc, &[0])?,
+            starts: Numbers::copied(alloc, &[0]),
             targets: Numbers::none(alloc),
             priorities: Numbers::none(alloc),
             lengths: Numbers::none(alloc),
         };
         for v in ball.vertices.as_slice() {
-            graph.add(field, ball, *v)?;
+            graph.add(field, ball, *v);
         }
-        Ok(graph)
+        graph.whole()
+    }
+
+    // It, where there was memory for all.
+    fn whole(self) -> Result<Self, AllocError> {
+        let are_ways = self.starts.is_whole() && self.targets.is_whole();
+        if are_ways && self.priorities.is_whole() && self.lengths.is_whole() {
+            Ok(self)
+        } else {
+            Err(AllocError)
+        }
     }
 
     // One more vertex, with its ways to those of the ball.
-    fn add(&mut self, field: Field, ball: &Ball, v: u32) -> Result<(), AllocError> {
+    fn add(&mut self, field: Field, ball: &Ball, v: u32) {
         for t in field.ways(v) {
             if let Some(place) = ball.place(*t) {
-                self.targets.push(place)?;
+                self.targets.push(place);
             }
         }
         self.starts
-            .push(u32::try_from(self.targets.len()).unwrap_or(u32::MAX))?;
-        self.priorities.push(u32::from(priority(field.game, v)))?;
-        self.lengths.push(u32::from(field.is_step(v)))
+            .push(u32::try_from(self.targets.len()).unwrap_or(u32::MAX));
+        self.priorities.push(u32::from(priority(field.game, v)));
+        self.lengths.push(u32::from(field.is_step(v)));
     }
 
     /// How many places there are.
@@ -77,14 +87,25 @@ impl Graph {
 
     /// The number of each place's room: a strong component of the places with no greater priority than this, in which a loop has it. Other places are in none.
     pub(crate) fn rooms(&self, alloc: Global, top: u32) -> Result<Numbers, AllocError> {
-        let mut list = self.low_places(alloc, top)?;
+        let mut list = self.low_places(alloc, top);
         let vertices = u32::try_from(self.len()).unwrap_or(u32::MAX);
         let all = Span {
             from: 0,
             to: list.len(),
         };
-        let ends = Strong::new(alloc, vertices)?.sort(alloc, self, &mut list, all)?;
-        let mut rooms = Numbers::filled(alloc, self.len(), NOWHERE)?;
+        let mut strong = Strong::new(alloc, vertices);
+        let ends = strong.sort(alloc, self, &mut list, all);
+        let rooms = self.rooms_of(alloc, &list, &ends, top);
+        if list.is_whole() && strong.is_whole() && ends.is_whole() && rooms.is_whole() {
+            Ok(rooms)
+        } else {
+            Err(AllocError)
+        }
+    }
+
+    // The same, where the places stand in a list by components that end there.
+    fn rooms_of(&self, alloc: Global, list: &Numbers, ends: &Numbers, top: u32) -> Numbers {
+        let mut rooms = Numbers::filled(alloc, self.len(), NOWHERE);
         let mut from = 0;
         for end in ends.as_slice() {
             let to = *end as usize;
@@ -94,18 +115,20 @@ impl Graph {
             }
             from = to;
         }
-        Ok(rooms)
+        rooms
     }
 
     // The places with no greater priority.
-    fn low_places(&self, alloc: Global, top: u32) -> Result<Numbers, AllocError> {
+    fn low_places(&self, alloc: Global, top: u32) -> Numbers {
         let mut list = Numbers::none(alloc);
-        for (v, priority) in (0..u32::MAX).zip(self.priorities.as_slice()) {
+        let mut v = 0_u32;
+        for priority in self.priorities.as_slice() {
             if *priority <= top {
-                list.push(v)?;
+                list.push(v);
             }
+            v = v.saturating_add(1);
         }
-        Ok(list)
+        list
     }
 
     // Whether a component has a loop through a place of this priority.

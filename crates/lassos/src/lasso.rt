@@ -18,15 +18,19 @@ pub(crate) struct Lasso {
 impl Lasso {
     /// The path from a ball's first vertex to a loop through these places, and the loop.
     pub(crate) fn of(alloc: Global, ball: &Ball, places: &Numbers) -> Result<Self, AllocError> {
-        let mut next = Numbers::filled(alloc, ball.vertices.len(), NONE)?;
+        let mut next = Numbers::filled(alloc, ball.vertices.len(), NONE);
         lead_to(&mut next, ball, places.get(0));
         lead_round(&mut next, places);
-        Lasso::along(alloc, ball, &next)
+        if next.is_whole() {
+            Lasso::along(alloc, ball, &next)
+        } else {
+            Err(AllocError)
+        }
     }
 
-    // What a walk meets that goes on from each place to the next.
+    // What a walk meets that goes on from each place to the next, until it comes to one for the second time.
     fn along(alloc: Global, ball: &Ball, next: &Numbers) -> Result<Self, AllocError> {
-        let mut met = Numbers::filled(alloc, next.len(), NONE)?;
+        let mut met = Numbers::filled(alloc, next.len(), NONE);
         let mut vertices = Numbers::none(alloc);
         let mut place = 0;
         for number in 0..u32::MAX {
@@ -34,13 +38,15 @@ impl Lasso {
                 break;
             }
             met.set(place, number);
-            vertices.push(ball.vertices.get(place))?;
+            vertices.push(ball.vertices.get(place));
             place = next.get(place) as usize;
         }
-        Ok(Lasso {
-            vertices,
-            back: met.get(place) as usize,
-        })
+        if met.is_whole() && vertices.is_whole() {
+            let back = met.get(place) as usize;
+            Ok(Lasso { vertices, back })
+        } else {
+            Err(AllocError)
+        }
     }
 
     /// The vertex that follows the one at a place.
@@ -57,7 +63,7 @@ impl Lasso {
 // Leads from the ball's first place to another on a shortest way.
 fn lead_to(next: &mut Numbers, ball: &Ball, place: u32) {
     let mut place = place;
-    for _ in 0..u32::MAX {
+    for _ in 0..ball.vertices.len() {
         if place == 0 {
             break;
         }

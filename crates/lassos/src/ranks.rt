@@ -17,18 +17,21 @@ pub(crate) fn places_backward(
     let end = lasso.vertices.len();
     let top = top_of(game, lasso);
     let mut places = Numbers::none(alloc);
-    push_backward(&mut places, lasso.back, top.saturating_add(1))?;
-    push_backward(&mut places, top.saturating_add(1), end)?;
-    push_backward(&mut places, 0, lasso.back)?;
-    Ok(places)
+    push_backward(&mut places, lasso.back, top.saturating_add(1));
+    push_backward(&mut places, top.saturating_add(1), end);
+    push_backward(&mut places, 0, lasso.back);
+    if places.is_whole() {
+        Ok(places)
+    } else {
+        Err(AllocError)
+    }
 }
 
 // Adds the places from one to another, the last first.
-fn push_backward(places: &mut Numbers, from: usize, end: usize) -> Result<(), AllocError> {
+fn push_backward(places: &mut Numbers, from: usize, end: usize) {
     for place in (from..end).rev() {
-        places.push(u32::try_from(place).unwrap_or(u32::MAX))?;
+        places.push(u32::try_from(place).unwrap_or(u32::MAX));
     }
-    Ok(())
 }
 
 // The place of the loop's greatest priority.

@@ -1,5 +1,7 @@
 // What a run says of what it is doing.
 
+use gauge::Gauge;
+
 /// What a run has come to.
 #[derive(Clone, Copy, Debug, PartialEq, Eq)]
 pub enum Stage {
@@ -17,6 +19,8 @@ pub enum Stage {
     Lifting { vertices: u32, lifts: u64 },
     /// The formula is evaluated by sets of a system's states, of which there are so many.
     Evaluating { states: u32 },
+    /// Evidence or a witness is made in a game with so many vertices.
+    MakingEvidence { vertices: u32 },
     /// What was found is written.
     Writing,
 }
@@ -25,6 +29,9 @@ pub enum Stage {
 pub trait Observer {
     /// The run has come to this stage, or further in it.
     fn sees(&self, stage: Stage);
+
+    /// What shows how far a stage has come; none where nobody looks.
+    fn gauge(&self) -> Option<&Gauge>;
 }
 
 /// An observer that does nothing.
@@ -33,6 +40,10 @@ pub struct Silent;
 
 impl Observer for Silent {
     fn sees(&self, _stage: Stage) {}
+
+    fn gauge(&self) -> Option<&Gauge> {
+        None
+    }
 }
 
 /// How many lifts are done from one telling to the next.

@@ -7,15 +7,16 @@ ghost use Rattle.requests.specs.Check.{IsArenaOf};
 
 use crate::error::MuError;
 use calculus::closed::Closed;
-use game::build::build;
+use game::build::build_seen;
 use game::graph::Game;
+use gauge::Gauge;
 use lts::system::Lts;
 use normal::make::normal_with;
 use normal::priorities::Priorities;
 use std::alloc::Global;
 use std::thread::Threads;
 
-/// The game of a system and a formula's normal form, with the priorities of this rule.
+/// The game of a system and a formula's normal form, with the priorities of this rule. A gauge shows about how many of its vertices are made.
 ///
 /// # Errors
 /// Those of the normal form and of the game, unchanged.
@@ -25,10 +26,11 @@ pub fn arena_of<H: Threads + Sync>(
     system: &Lts,
     formula: &Closed,
     priorities: Priorities,
+    gauge: Option<&Gauge>,
 ) -> Result<Game, MuError>
     ensures { let l = system.now.system in let f = closed_formula formula.now in
         MatchResult result (IsArenaOf priorities l f) (IsBeyond (ByGame priorities None) l f) }
 {
     let normal = normal_with(alloc, formula, priorities).map_err(MuError::Normal)?;
-    build(rt, alloc, system, &normal).map_err(MuError::Build)
+    build_seen(rt, alloc, system, &normal, gauge).map_err(MuError::Build)
 }

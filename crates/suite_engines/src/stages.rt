@@ -6,6 +6,7 @@ use engines::engine::check_asked;
 use engines::error::MuError;
 use engines::request::{BoardKind, Check, Options, ReportForm, Wanted};
 use engines::watch::Watcher;
+use gauge::{Gauge, Reading};
 use lts::Lts;
 use measures::observer::{Observer, Stage};
 use normal::priorities::Priorities;
@@ -15,11 +16,12 @@ use std::sync::atomic::{AtomicU64, Ordering};
 use std::thread::Threads;
 
 /// How often each stage was told, a digit for each from the last on: reading the system, reading the formula, building, searching,
-/// lifting, evaluating, writing; and then how many states the system had that was read.
+/// lifting, evaluating, writing, making evidence; then how many states the system had that was read.
 #[derive(Drop)]
 struct Told {
     digits: AtomicU64,
     states: AtomicU64,
+    gauge: Gauge,
 }
 
 impl Told {
@@ -27,6 +29,7 @@ impl Told {
         Told {
             digits: AtomicU64::new(0),
             states: AtomicU64::new(0),
+            gauge: Gauge::new(),
         }
     }
 }
@@ -48,8 +51,13 @@ impl Observer for Told {
             } => 10_000,
             Stage::Evaluating { states: _ } => 100_000,
             Stage::Writing => 1_000_000,
+            Stage::MakingEvidence { vertices: _ } => 10_000_000,
         };
         self.digits.fetch_add(digit, Ordering::SeqCst);
+    }
+
+    fn gauge(&self) -> Option<&Gauge> {
+        Some(&self.gauge)
     }
 }
 
@@ -78,6 +86,7 @@ const NOTHING: Wanted = Wanted {
 fn checked<R: AllocGlobal + Threads + Wait + Clone + Copy + Drop + Send + Sync>(
     rt: &R,
     plain: bool,
+    wanted: Wanted,
     told: &Told,
 ) -> Result<bool, MuError> {
     let request = Check {
@@ -92,7 +101,7 @@ fn checked<R: AllocGlobal + Threads + Wait + Clone + Copy + Drop + Send + Sync>(
         rt,
         rt.alloc(),
         &request,
-        NOTHING,
+        wanted,
         RING.as_bytes(),
         b"<a>true".as_slice(),
         &mut writers,
@@ -103,7 +112,7 @@ fn checked<R: AllocGlobal + Threads + Wait + Clone + Copy + Drop + Send + Sync>(
 #[test]
 fn a_check_by_a_game_tells_of_its_stages(rt: HostRuntime) {
     let told = Told::new();
-    assert!(rt; checked(&rt, false, &told).ok() == Some(true));
+    assert!(rt; checked(&rt, false, NOTHING, &told).ok() == Some(true));
     // A ranking that is guessed is good, so that no game is built.
     assert_eq!(rt; told.digits.load(Ordering::SeqCst), 1_001_011);
     assert_eq!(rt; told.states.load(Ordering::SeqCst), 2);
@@ -112,7 +121,21 @@ fn a_check_by_a_game_tells_of_its_stages(rt: HostRuntime) {
 #[test]
 fn a_check_by_sets_tells_of_its_stages(rt: HostRuntime) {
     let told = Told::new();
-    assert!(rt; checked(&rt, true, &told).ok() == Some(true));
+    assert!(rt; checked(&rt, true, NOTHING, &told).ok() == Some(true));
     assert_eq!(rt; told.digits.load(Ordering::SeqCst), 1_100_011);
     assert_eq!(rt; told.states.load(Ordering::SeqCst), 2);
+}
+
+#[test]
+fn a_check_with_evidence_tells_that_it_is_made(rt: HostRuntime) {
+    let told = Told::new();
+    let wanted = Wanted {
+        evidence: true,
+        ..NOTHING
+    };
+    assert!(rt; checked(&rt, false, wanted, &told).ok() == Some(true));
+    assert_eq!(rt; told.digits.load(Ordering::SeqCst), 11_001_111);
+    // Two states with two nodes each are built.
+    let whole = Reading { done: 4, whole: 4 };
+    assert!(rt; told.gauge.reading() == Some(whole));
 }

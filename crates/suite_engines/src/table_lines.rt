@@ -4,6 +4,7 @@ use calculus::closed::Closed;
 use engines::request::{BoardKind, Options, Table};
 use engines::table::{table_line, table_line_seen};
 use engines::watch::Watcher;
+use gauge::Gauge;
 use lts::{Lts, read_aut};
 use measures::observer::{Observer, Stage};
 use normal::priorities::Priorities;
@@ -168,6 +169,10 @@ struct Told {
 
 impl Observer for Told {
     fn sees(&self, _stage: Stage) {}
+
+    fn gauge(&self) -> Option<&Gauge> {
+        None
+    }
 }
 
 impl Watcher for Told {

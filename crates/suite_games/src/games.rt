@@ -57,7 +57,11 @@ fn split(
 {
     let lts = system_of(rt.alloc(), system).ok()?;
     let form = form_of(rt.alloc(), formula)?;
-    text_of(rt.alloc(), build_split(rt, rt.alloc(), &lts, &form, ranges)).ok()
+    text_of(
+        rt.alloc(),
+        build_split(rt, rt.alloc(), &lts, &form, ranges, None),
+    )
+    .ok()
 }
 
 // Systems, formulas, and their games.

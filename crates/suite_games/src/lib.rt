@@ -10,6 +10,8 @@ mod game_texts;
 #[cfg(test)]
 mod games;
 #[cfg(test)]
+mod gauges;
+#[cfg(test)]
 mod good_evidence;
 #[cfg(test)]
 mod witnesses;

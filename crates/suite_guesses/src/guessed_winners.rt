@@ -5,12 +5,13 @@ ghost use Rattle.std.specs.Prelude.{◌<◌, ◌≤◌, length};
 
 use game::graph::{Game, GameBuilder};
 use game::player::Player;
+use gauge::Gauge;
 use samples::dice::{Dice, roll_game};
 use samples::games::push;
 use std::alloc::Global;
 use std::process::Abort;
 use std::thread::Threads;
-use winners::guess::{Guessed, guess_winners, guess_winners_by};
+use winners::guess::{Guessed, guess_winners, guess_winners_by, guess_winners_by_seen};
 
 // One more than the greatest priority of a game.
 const PRIORITIES: u8 = 33;
@@ -211,6 +212,31 @@ fn threads_guess_what_one_guesses(rt: HostRuntime) {
             "{priorities}"
         );
     }
+}
+
+// How many vertices Even wins by a guess, of which a gauge shows the long search.
+fn evens_seen<R: Abort + AllocGlobal + Threads + Sync>(
+    rt: &R,
+    game: &Game,
+    workers: usize,
+) -> Option<u32> {
+    let gauge = Gauge::new();
+    let guessed = guess_winners_by_seen(rt, rt.alloc(), game, workers, Some(&gauge))
+        .expect(rt, "memory")
+        .expect(rt, "a guess");
+    let reading = gauge.reading().expect(rt, "a long search");
+    assert!(rt; 0 < reading.done);
+    evens_of(game, &guessed)
+}
+
+// A first try isn't shown. It doesn't suffice for this game.
+#[test]
+fn a_gauge_shows_a_long_search(rt: HostRuntime) {
+    let mut dice = Dice::new(11);
+    let game = wide_game(&rt, &mut dice, 70_000, 10);
+    let found = evens(&rt, &game);
+    assert_eq!(rt; evens_seen(&rt, &game, 1), found);
+    assert_eq!(rt; evens_seen(&rt, &game, 4), found);
 }
 
 fn owner_of(v: u32) -> Player {

@@ -47,7 +47,7 @@ fn are_won(game: &Game, settled: &Settled, wins: EvenWins) -> bool
 
 // Whether evidence of just those is guessed, and the checker accepts it.
 fn is_certified(rt: &(impl Abort + AllocGlobal), game: &Game, wins: EvenWins) -> bool {
-    let marks = certified_winners(rt.alloc(), game).expect(rt, "good evidence");
+    let marks = certified_winners(rt.alloc(), game, None).expect(rt, "good evidence");
     for v in 0..game.vertices() {
         if marks.get(v as usize) != Some(&wins.has(game, v)) {
             return false;

@@ -56,7 +56,7 @@ fn are_claimed(game: &Game, first: &PlainTable, solved: &Settled) -> bool
 fn is_certified(rt: &(impl Abort + AllocGlobal), game: &Game, solved: &Settled) -> bool
     requires { solved.now.game ≡ game.now }
 {
-    let marks = certified_winners(rt.alloc(), game).expect(rt, "good evidence");
+    let marks = certified_winners(rt.alloc(), game, None).expect(rt, "good evidence");
     for v in 0..game.vertices() {
         if marks.get(v as usize) != Some(&!solved.is_top(v)) {
             return false;

@@ -3,6 +3,7 @@
 
 use game::build::build;
 use game::graph::Game;
+use gauge::Gauge;
 use measures::guess::NoGuess;
 use measures::observer::{Observer, Stage};
 use measures::settle::solve_one_seen;
@@ -47,6 +48,10 @@ impl Observer for Tally {
             }
             _ => {}
         }
+    }
+
+    fn gauge(&self) -> Option<&Gauge> {
+        None
     }
 }
 

@@ -125,20 +125,30 @@ pub(crate) struct Cells {
 
 impl Cells {
     pub(crate) fn new(alloc: Global, arena: Arena) -> Result<Self, AllocError> {
-        let vertices = arena.vertices();
-        let mut cells = Vec::with_capacity(alloc, vertices as usize)?;
-        for v in 0..vertices {
-            cells.push(Cell {
-                owner: arena.owner(v),
-                priority: arena.priority(v),
-                ..BLANK
-            })?;
-        }
-        Ok(Cells {
-            cells,
-            moves: Numbers::filled(alloc, vertices as usize, NONE)?,
+        let vertices = arena.vertices() as usize;
+        let mut cells = Cells {
+            cells: vec![in alloc; BLANK; vertices]?,
+            moves: Numbers::filled(alloc, vertices, NONE),
             last: 0,
-        })
+        };
+        cells.open(arena);
+        Ok(cells)
+    }
+
+    /// Whether there was memory for all.
+    pub(crate) fn are_whole(&self) -> bool {
+        self.moves.is_whole()
+    }
+
+    // Notes who owns each vertex, and its priority.
+    fn open(&mut self, arena: Arena) {
+        for v in 0..arena.vertices() {
+            let place = v as usize;
+            if place < self.cells.len() {
+                self.cells[place].owner = arena.owner(v);
+                self.cells[place].priority = arena.priority(v);
+            }
+        }
     }
 
     fn fresh(&mut self) -> u32 {
@@ -172,17 +182,15 @@ impl Cells {
     }
 
     pub(crate) fn set_region(&mut self, v: u32, region: Region) {
-        if let Some(cell) = self.cells.get_mut(v as usize) {
-            cell.region = region;
+        let place = v as usize;
+        if place < self.cells.len() {
+            self.cells[place].region = region;
         }
     }
 
     /// The move at a vertex, or `NONE`.
     pub(crate) fn next(&self, v: u32) -> u32 {
-        match self.moves.only(v) {
-            [next] => *next,
-            _ => NONE,
-        }
+        self.moves.get_or(v as usize, NONE)
     }
 
     pub(crate) fn set_next(&mut self, v: u32, next: u32) {
@@ -190,9 +198,10 @@ impl Cells {
     }
 
     pub(crate) fn set_left(&mut self, v: u32, stamp: Stamp, left: u32) {
-        if let Some(cell) = self.cells.get_mut(v as usize) {
-            cell.left = left;
-            cell.stamp = stamp;
+        let place = v as usize;
+        if place < self.cells.len() {
+            self.cells[place].left = left;
+            self.cells[place].stamp = stamp;
         }
     }
 
@@ -203,18 +212,13 @@ impl Cells {
     }
 
     /// Those of these vertices that are in the region.
-    pub(crate) fn those_in(
-        &self,
-        alloc: Global,
-        vertices: &[u32],
-        region: Region,
-    ) -> Result<Numbers, AllocError> {
+    pub(crate) fn those_in(&self, alloc: Global, vertices: &[u32], region: Region) -> Numbers {
         let mut found = Numbers::none(alloc);
         for v in vertices {
             if self.region(*v) == region {
-                found.push(*v)?;
+                found.push(*v);
             }
         }
-        Ok(found)
+        found
     }
 }

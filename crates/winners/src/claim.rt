@@ -5,7 +5,6 @@ use crate::cells::{NONE, Region, Regions, Stamp};
 use crate::field::{Field, Spread};
 use crate::numbers::Numbers;
 use game::player::Player;
-use std::alloc::AllocError;
 
 /// The greatest priorities of a part, which are all of one player's parity.
 #[derive(Clone, Copy)]
@@ -84,6 +83,11 @@ impl Core {
         }
     }
 
+    /// Whether there was memory for all.
+    pub(crate) fn is_whole(&self) -> bool {
+        self.part.is_whole() && self.tops.is_whole() && self.rest.is_whole()
+    }
+
     /// Whether half of the part has gone to the other player.
     pub(crate) fn is_halved(&self) -> bool {
         self.part.len().saturating_sub(self.gone) <= self.gone
@@ -105,17 +109,12 @@ impl Field<'_> {
     }
 
     /// Draws what the player of the greatest priorities can force to them. The rest, which comes beside the claim, has to be decided.
-    pub(crate) fn begin(
-        &mut self,
-        part: Numbers,
-        region: Region,
-        won: Regions,
-    ) -> Result<(Core, Numbers), AllocError> {
+    pub(crate) fn begin(&mut self, part: Numbers, region: Region, won: Regions) -> (Core, Numbers) {
         self.meter.count_all(part.len());
         let tops = self.tops_of(part.as_slice());
         let near = self.cells.fresh_region();
-        let top = self.mark_tops(part.as_slice(), tops, near)?;
-        let rest = self.draw_to(&part, &top, tops.player, near, region)?;
+        let top = self.mark_tops(part.as_slice(), tops, near);
+        let rest = self.draw_to(&part, &top, tops.player, near, region);
         let claim = Claim {
             tops,
             near,
@@ -130,20 +129,20 @@ impl Field<'_> {
             gone: 0,
             won,
         };
-        Ok((core, rest))
+        (core, rest)
     }
 
     // The vertices of the greatest priorities. They are marked, and have no move as yet.
-    fn mark_tops(&mut self, part: &[u32], tops: Tops, near: Region) -> Result<Numbers, AllocError> {
+    fn mark_tops(&mut self, part: &[u32], tops: Tops, near: Region) -> Numbers {
         let mut found = Numbers::none(self.alloc);
         for v in part {
             if tops.has(self.cells.get(*v).priority) {
                 self.cells.set_region(*v, near);
                 self.cells.set_next(*v, NONE);
-                found.push(*v)?;
+                found.push(*v);
             }
         }
-        Ok(found)
+        found
     }
 
     // Marks what can be forced to these. The answer is the rest of the part.
@@ -154,35 +153,32 @@ impl Field<'_> {
         player: Player,
         near: Region,
         region: Region,
-    ) -> Result<Numbers, AllocError> {
-        let mut queue = Numbers::copied(self.alloc, tops.as_slice())?;
+    ) -> Numbers {
+        let mut queue = Numbers::none(self.alloc);
+        queue.append(tops);
         let spread = Spread {
             over: Regions::same(region),
             marks: Regions::only(player, near),
             since: self.cells.fresh_stamp(),
         };
-        self.spread(&mut queue, spread)?;
+        self.spread(&mut queue, spread);
         self.draw_all(queue.as_slice());
         if queue.len() < part.len() {
             self.those_in(part.as_slice(), region)
         } else {
-            Ok(Numbers::none(self.alloc))
+            Numbers::none(self.alloc)
         }
     }
 
     /// What the other player wins of the rest.
-    pub(crate) fn lost(&self, core: &Core) -> Result<Numbers, AllocError> {
+    pub(crate) fn lost(&self, core: &Core) -> Numbers {
         let claim = core.claim;
         let theirs = claim.inner.of(opponent(claim.player()));
         self.those_in(core.decided(), theirs)
     }
 
     /// Gives to the other player what it wins, with all that it can force there, which is added.
-    pub(crate) fn take_lost(
-        &mut self,
-        core: &mut Core,
-        lost: &mut Numbers,
-    ) -> Result<(), AllocError> {
+    pub(crate) fn take_lost(&mut self, core: &mut Core, lost: &mut Numbers) {
         let claim = core.claim;
         let other = opponent(claim.player());
         let theirs = self.cells.fresh_region();
@@ -196,21 +192,20 @@ impl Field<'_> {
             marks: Regions::only(other, theirs),
             since: claim.since,
         };
-        self.spread(lost, spread)?;
+        self.spread(lost, spread);
         self.cells.mark_all(lost.as_slice(), core.won.of(other));
         core.gone = core.gone.saturating_add(lost.len());
-        Ok(())
     }
 
     /// What is left of the part.
-    pub(crate) fn left(&self, core: &Core) -> Result<Numbers, AllocError> {
+    pub(crate) fn left(&self, core: &Core) -> Numbers {
         let mut found = Numbers::none(self.alloc);
         for v in core.part.as_slice() {
             if core.claim.holds(self.cells.region(*v)) {
-                found.push(*v)?;
+                found.push(*v);
             }
         }
-        Ok(found)
+        found
     }
 
     /// Gives the player what it claims.

@@ -57,6 +57,8 @@ pub(crate) struct Crowd<'g, R> {
     arena: Arena<'g>,
     shared: Shared,
     tasks: Vec<Task>,
+    // Whether there was memory for all tasks and lists.
+    is_whole: bool,
     last: u32,
     meter: Meter<'g>,
 }
@@ -70,14 +72,14 @@ struct Sought<'a> {
 }
 
 impl Look for Sought<'_> {
-    fn look_at(&self, vertices: &[u32]) -> Result<Numbers, AllocError> {
+    fn look_at(&self, vertices: &[u32]) -> Numbers {
         let mut found = Numbers::none(self.alloc);
         for v in vertices {
             if self.regions.has(self.shared.region(*v)) {
-                found.push(*v)?;
+                found.push(*v);
             }
         }
-        Ok(found)
+        found
     }
 }
 
@@ -91,7 +93,7 @@ struct Entering<'a> {
 }
 
 impl Look for Entering<'_> {
-    fn look_at(&self, vertices: &[u32]) -> Result<Numbers, AllocError> {
+    fn look_at(&self, vertices: &[u32]) -> Numbers {
         for v in vertices {
             let place = self.shared.get(*v);
             if self.from.has(place.region) {
@@ -102,7 +104,7 @@ impl Look for Entering<'_> {
                 self.shared.set(*v, place);
             }
         }
-        Ok(Numbers::none(self.alloc))
+        Numbers::none(self.alloc)
     }
 }
 
@@ -117,7 +119,7 @@ struct Topping<'a> {
 }
 
 impl Look for Topping<'_> {
-    fn look_at(&self, vertices: &[u32]) -> Result<Numbers, AllocError> {
+    fn look_at(&self, vertices: &[u32]) -> Numbers {
         let mut found = Numbers::none(self.alloc);
         for v in vertices {
             if self.tops.has(self.arena.priority(*v)) {
@@ -126,10 +128,10 @@ impl Look for Topping<'_> {
                     next: NONE,
                 };
                 self.shared.set(*v, place);
-                found.push(*v)?;
+                found.push(*v);
             }
         }
-        Ok(found)
+        found
     }
 }
 
@@ -144,14 +146,14 @@ struct Choosing<'a> {
 }
 
 impl Look for Choosing<'_> {
-    fn look_at(&self, vertices: &[u32]) -> Result<Numbers, AllocError> {
+    fn look_at(&self, vertices: &[u32]) -> Numbers {
         for v in vertices {
             let is_own = self.arena.owner(*v) == self.tops.player;
             if is_own && self.tops.has(self.arena.priority(*v)) {
                 self.choose(*v);
             }
         }
-        Ok(Numbers::none(self.alloc))
+        Numbers::none(self.alloc)
     }
 }
 
@@ -175,7 +177,7 @@ struct Measuring<'a> {
 }
 
 impl Look for Measuring<'_> {
-    fn look_at(&self, vertices: &[u32]) -> Result<Numbers, AllocError> {
+    fn look_at(&self, vertices: &[u32]) -> Numbers {
         let (mut even, mut odd) = (0_u8, 0_u8);
         for v in vertices {
             let priority = self.arena.priority(*v);
@@ -200,44 +202,55 @@ impl<'g, R: Threads + Sync> Crowd<'g, R> {
             arena,
             shared: Shared::new(crew.alloc, arena.vertices())?,
             tasks: Vec::new(crew.alloc),
+            is_whole: true,
             last: 0,
             meter,
         })
     }
 
-    /// Decides who wins. `None` where the budget was spent.
-    pub(crate) fn find(mut self) -> Result<Option<Winners>, AllocError> {
+    /// Decides who wins. `None` where the budget was spent, or for want of memory.
+    pub(crate) fn find(&mut self) -> Option<Winners> {
         let won = self.fresh_regions();
-        let vertices = self.all()?;
+        let vertices = self.all();
+        self.note(&vertices);
         self.push(Task::Decide(Part {
             vertices,
             region: Region::UNSEEN,
             won,
-        }))?;
+        }));
+        if self.go_through() {
+            self.winners(won)
+        } else {
+            None
+        }
+    }
+
+    // Does all tasks. The answer is whether that came to an end. Each part that is decided counts as looked at, so the budget bounds their
+    // number; where a list is wanting this ends at once.
+    fn go_through(&mut self) -> bool {
         for _ in 0..u64::MAX {
-            if self.meter.is_spent() {
-                return Ok(None);
+            if self.meter.is_spent() || !self.is_whole {
+                return false;
             }
             match self.tasks.pop() {
-                Some(Task::Decide(part)) => self.decide(part)?,
-                Some(Task::Conclude(core)) => self.conclude(core)?,
+                Some(Task::Decide(part)) => self.decide(part),
+                Some(Task::Conclude(core)) => self.conclude(core),
                 None => break,
             }
         }
-        Ok(Some(self.winners(won)?))
+        self.is_whole
     }
 
-    fn all(&self) -> Result<Numbers, AllocError> {
+    fn all(&self) -> Numbers {
         let mut vertices = Numbers::none(self.crew.alloc);
         for v in 0..self.arena.vertices() {
-            vertices.push(v)?;
+            vertices.push(v);
         }
-        Ok(vertices)
+        vertices
     }
 
-    fn push(&mut self, task: Task) -> Result<(), AllocError> {
-        self.tasks.push(task)?;
-        Ok(())
+    fn push(&mut self, task: Task) {
+        self.is_whole &= self.tasks.push(task).is_ok();
     }
 
     fn fresh(&mut self) -> Region {
@@ -252,54 +265,50 @@ impl<'g, R: Threads + Sync> Crowd<'g, R> {
         }
     }
 
-    fn tops_of(&self, part: &[u32]) -> Result<Tops, AllocError> {
+    // Notes whether there was memory for what was found.
+    fn note(&mut self, found: &Numbers) {
+        self.is_whole &= found.is_whole();
+    }
+
+    fn tops_of(&mut self, part: &[u32]) -> Tops {
         let measuring = Measuring {
             alloc: self.crew.alloc,
             arena: self.arena,
         };
-        let found = self.crew.look(part, &measuring)?;
-        let (mut even, mut odd) = (0_u8, 0_u8);
-        for (place, above) in (0..usize::MAX).zip(found.as_slice()) {
-            let above = u8::try_from(*above).unwrap_or(u8::MAX);
-            if place % 2 == 0 {
-                even = above.max(even);
-            } else {
-                odd = above.max(odd);
-            }
-        }
-        Ok(Tops::above(even, odd))
+        let found = self.crew.look(part, &measuring);
+        self.note(&found);
+        Tops::above(
+            greatest_at(found.as_slice(), 0),
+            greatest_at(found.as_slice(), 1),
+        )
     }
 
     // Those of a list that are in some regions.
-    fn those_in(&self, list: &[u32], regions: Regions) -> Result<Numbers, AllocError> {
+    fn those_in(&mut self, list: &[u32], regions: Regions) -> Numbers {
         let sought = Sought {
             alloc: self.crew.alloc,
             shared: &self.shared,
             regions,
         };
-        self.crew.look(list, &sought)
+        let found = self.crew.look(list, &sought);
+        self.note(&found);
+        found
     }
 
     // Those of a list that are in some regions come into another.
-    fn enter(&self, list: &[u32], from: Regions, to: Region) -> Result<(), AllocError> {
+    fn enter(&mut self, list: &[u32], from: Regions, to: Region) {
         let entering = Entering {
             alloc: self.crew.alloc,
             shared: &self.shared,
             from,
             to,
         };
-        self.crew.look(list, &entering)?;
-        Ok(())
+        let found = self.crew.look(list, &entering);
+        self.note(&found);
     }
 
     // Draws all that a player can force to these, which are drawn.
-    fn spread(
-        &mut self,
-        list: Numbers,
-        player: Player,
-        over: Regions,
-        to: Region,
-    ) -> Result<(), AllocError> {
+    fn spread(&mut self, list: &mut Numbers, player: Player, over: Regions, to: Region) {
         let flood = Flood {
             alloc: self.crew.alloc,
             arena: self.arena,
@@ -308,19 +317,19 @@ impl<'g, R: Threads + Sync> Crowd<'g, R> {
             over,
             to,
         };
-        let looks = flood.spread(self.crew, list)?;
+        let looks = flood.spread(self.crew, list);
         self.meter.count_all(looks);
-        Ok(())
+        self.note(list);
     }
 
     // Finds what the player of the greatest priorities can force to them. The rest is to be decided.
-    fn decide(&mut self, part: Part) -> Result<(), AllocError> {
+    fn decide(&mut self, part: Part) {
         if part.vertices.is_empty() {
-            return Ok(());
+            return;
         }
         let list = part.vertices.as_slice();
         self.meter.count_all(list.len());
-        let tops = self.tops_of(list)?;
+        let tops = self.tops_of(list);
         let near = self.fresh();
         let inner = self.fresh_regions();
         let topping = Topping {
@@ -330,12 +339,14 @@ impl<'g, R: Threads + Sync> Crowd<'g, R> {
             tops,
             near,
         };
-        let top = self.crew.look(list, &topping)?;
+        let mut top = self.crew.look(list, &topping);
         let over = Regions::same(part.region);
-        self.spread(top, tops.player, over, near)?;
-        let rest = self.those_in(list, over)?;
+        self.spread(&mut top, tops.player, over, near);
+        let rest = self.those_in(list, over);
+        let vertices = Numbers::copied(self.crew.alloc, rest.as_slice());
+        self.note(&vertices);
         let next = Part {
-            vertices: Numbers::copied(self.crew.alloc, rest.as_slice())?,
+            vertices,
             region: part.region,
             won: inner,
         };
@@ -345,33 +356,38 @@ impl<'g, R: Threads + Sync> Crowd<'g, R> {
             rest,
             near,
             inner,
-        }))?;
-        self.push(Task::Decide(next))
+        }));
+        self.push(Task::Decide(next));
     }
 
     // Where the other player wins some of the rest, it wins what can be forced there, and what is left is decided anew.
-    fn conclude(&mut self, core: Core) -> Result<(), AllocError> {
-        let other = opponent(core.tops.player);
-        let theirs = Regions::same(core.inner.of(other));
-        let lost = self.those_in(core.rest.as_slice(), theirs)?;
+    fn conclude(&mut self, core: Core) {
+        let theirs = Regions::same(core.inner.of(opponent(core.tops.player)));
+        let mut lost = self.those_in(core.rest.as_slice(), theirs);
         if lost.is_empty() {
-            return self.grant(&core);
+            self.grant(&core);
+        } else {
+            self.begin_anew(&core, &mut lost, theirs);
         }
+    }
+
+    fn begin_anew(&mut self, core: &Core, lost: &mut Numbers, theirs: Regions) {
+        let other = opponent(core.tops.player);
         let won = core.part.won.of(other);
-        self.enter(lost.as_slice(), theirs, won)?;
-        self.spread(lost, other, core.held(), won)?;
-        let vertices = self.those_in(core.part.vertices.as_slice(), core.held())?;
+        self.enter(lost.as_slice(), theirs, won);
+        self.spread(lost, other, core.held(), won);
+        let vertices = self.those_in(core.part.vertices.as_slice(), core.held());
         let region = self.fresh();
-        self.enter(vertices.as_slice(), core.held(), region)?;
+        self.enter(vertices.as_slice(), core.held(), region);
         self.push(Task::Decide(Part {
             vertices,
             region,
             won: core.part.won,
-        }))
+        }));
     }
 
     // Gives the player what it has.
-    fn grant(&mut self, core: &Core) -> Result<(), AllocError> {
+    fn grant(&mut self, core: &Core) {
         let list = core.part.vertices.as_slice();
         let choosing = Choosing {
             alloc: self.crew.alloc,
@@ -380,16 +396,29 @@ impl<'g, R: Threads + Sync> Crowd<'g, R> {
             tops: core.tops,
             held: core.held(),
         };
-        self.crew.look(list, &choosing)?;
-        self.enter(list, core.held(), core.part.won.of(core.tops.player))
+        let found = self.crew.look(list, &choosing);
+        self.note(&found);
+        self.enter(list, core.held(), core.part.won.of(core.tops.player));
     }
 
-    fn winners(&self, won: Regions) -> Result<Winners, AllocError> {
+    // What each wins, if there is memory for it.
+    fn winners(&self, won: Regions) -> Option<Winners> {
         let mut winners = Winners::none(self.crew.alloc);
         for v in 0..self.arena.vertices() {
             let place = self.shared.get(v);
-            winners.add(self.arena, v, won.player(place.region), place.next)?;
+            winners.add(self.arena, v, won.player(place.region), place.next);
         }
-        Ok(winners)
+        winners.whole()
     }
+}
+
+// The greatest of every other number of a list, from a place on.
+fn greatest_at(list: &[u32], first: usize) -> u8 {
+    let mut greatest = 0;
+    for place in 0..list.len() {
+        if place % 2 == first {
+            greatest = list[place].max(greatest);
+        }
+    }
+    u8::try_from(greatest).unwrap_or(u8::MAX)
 }

@@ -33,6 +33,8 @@ pub(crate) struct Field<'g> {
     pub(crate) times: Numbers,
     clock: u32,
     todo: Numbers,
+    /// Whether there was memory for all lists.
+    pub(crate) is_whole: bool,
 }
 
 impl<'g> Field<'g> {
@@ -41,20 +43,29 @@ impl<'g> Field<'g> {
         arena: Arena<'g>,
         meter: Meter<'g>,
     ) -> Result<Self, AllocError> {
+        let cells = Cells::new(alloc, arena)?;
+        let times = Numbers::filled(alloc, arena.vertices() as usize, 0);
+        let is_whole = cells.are_whole() && times.is_whole();
         Ok(Field {
             alloc,
             arena,
-            cells: Cells::new(alloc, arena)?,
+            cells,
             meter,
-            times: Numbers::filled(alloc, arena.vertices() as usize, 0)?,
+            times,
             clock: 0,
             todo: Numbers::none(alloc),
+            is_whole,
         })
     }
 
     /// Those of these vertices that are in the region.
-    pub(crate) fn those_in(&self, vertices: &[u32], region: Region) -> Result<Numbers, AllocError> {
+    pub(crate) fn those_in(&self, vertices: &[u32], region: Region) -> Numbers {
         self.cells.those_in(self.alloc, vertices, region)
+    }
+
+    /// Notes whether there was memory for a list.
+    pub(crate) fn note(&mut self, list: &Numbers) {
+        self.is_whole &= list.is_whole();
     }
 
     /// Notes that a vertex was drawn now.
@@ -70,25 +81,21 @@ impl<'g> Field<'g> {
         }
     }
 
-    /// The attractors of both players at once, from the queue's vertices, which have their marks. They are put into the queue.
-    pub(crate) fn spread(&mut self, queue: &mut Numbers, spread: Spread) -> Result<(), AllocError> {
-        self.todo.extend(queue.as_slice())?;
+    /// The attractors of both players at once, from the queue's vertices, which have their marks. They are put into the queue. What is
+    /// drawn gets a mark, by which it isn't drawn once more: so this ends.
+    pub(crate) fn spread(&mut self, queue: &mut Numbers, spread: Spread) {
+        self.todo.extend(queue.as_slice());
         // Last in, first out: what was just looked at still lies near.
         for _ in 0..u64::MAX {
             match self.todo.pop() {
-                Some(v) => self.spread_from(queue, v, spread)?,
+                Some(v) => self.spread_from(queue, v, spread),
                 None => break,
             }
         }
-        Ok(())
+        self.is_whole &= queue.is_whole() && self.todo.is_whole();
     }
 
-    fn spread_from(
-        &mut self,
-        queue: &mut Numbers,
-        v: u32,
-        spread: Spread,
-    ) -> Result<(), AllocError> {
+    fn spread_from(&mut self, queue: &mut Numbers, v: u32, spread: Spread) {
         let player = spread.marks.player(self.cells.region(v));
         let before = self.arena.predecessors(v);
         self.meter.count(before.len());
@@ -96,11 +103,10 @@ impl<'g> Field<'g> {
             let cell = self.cells.get(*u);
             if spread.over.has(cell.region) && self.falls(*u, cell, v, player, spread) {
                 self.cells.set_region(*u, spread.marks.of(player));
-                queue.push(*u)?;
-                self.todo.push(*u)?;
+                queue.push(*u);
+                self.todo.push(*u);
             }
         }
-        Ok(())
     }
 
     // Whether a vertex falls to the player that has a successor of it.

@@ -6,7 +6,7 @@ use crate::numbers::Numbers;
 use crate::share::{Crew, LEAST_LIST, Look};
 use crate::shared::{Place, Shared};
 use game::player::Player;
-use std::alloc::{AllocError, Global};
+use std::alloc::Global;
 use std::thread::Threads;
 
 /// An attractor of a player's that is being made.
@@ -24,50 +24,50 @@ pub(crate) struct Flood<'a> {
 
 impl Look for Flood<'_> {
     /// Draws what these vertices, which are drawn, draw at once.
-    fn look_at(&self, vertices: &[u32]) -> Result<Numbers, AllocError> {
+    fn look_at(&self, vertices: &[u32]) -> Numbers {
         let mut drawn = Numbers::none(self.alloc);
         for v in vertices {
-            self.draw_before(*v, &mut drawn)?;
+            self.draw_before(*v, &mut drawn);
         }
-        Ok(drawn)
+        drawn
     }
 }
 
 impl Flood<'_> {
-    /// Draws all that these vertices draw, which belong there already. The answer is how many vertices were looked at.
+    /// Draws all that these vertices draw, which belong there already; none is left in the list. The answer is how many were looked at. What
+    /// is drawn belongs there then, and isn't drawn once more: so this ends.
     pub(crate) fn spread<R: Threads + Sync>(
         &self,
         crew: &Crew<'_, R>,
-        vertices: Numbers,
-    ) -> Result<usize, AllocError> {
-        let mut list = vertices;
+        list: &mut Numbers,
+    ) -> usize {
         let mut looks = 0_usize;
         for _ in 0..u64::MAX {
             if list.len() >= LEAST_LIST {
                 looks = looks.saturating_add(list.len());
-                list = crew.look(list.as_slice(), self)?;
+                let drawn = crew.look(list.as_slice(), self);
+                list.replace(drawn);
                 continue;
             }
             match list.pop() {
                 Some(v) => {
                     looks = looks.saturating_add(1);
-                    self.draw_before(v, &mut list)?;
+                    self.draw_before(v, list);
                 }
                 None => break,
             }
         }
-        Ok(looks)
+        looks
     }
 
     // Draws those before a vertex that have to come to it, or whose owner wants to.
-    fn draw_before(&self, v: u32, drawn: &mut Numbers) -> Result<(), AllocError> {
+    fn draw_before(&self, v: u32, drawn: &mut Numbers) {
         for u in self.arena.predecessors(v) {
             let place = self.shared.get(*u);
             if self.over.has(place.region) && self.draw(*u, place, v) {
-                drawn.push(*u)?;
+                drawn.push(*u);
             }
         }
-        Ok(())
     }
 
     // Draws a vertex to a successor of it, if that can be forced, and says whether this is what drew it.
@@ -91,9 +91,10 @@ impl Flood<'_> {
     fn has_way_out(&self, u: u32, place: Place) -> bool {
         let successors = self.arena.successors(u);
         let last = (place.next as usize).min(successors.len());
-        let seen = self
-            .way_out(successors, last, successors.len())
-            .or(self.way_out(successors, 0, last));
+        let seen = match self.way_out(successors, last, successors.len()) {
+            Some(seen) => Some(seen),
+            None => self.way_out(successors, 0, last),
+        };
         let Some(seen) = seen else {
             return false;
         };
@@ -109,9 +110,9 @@ impl Flood<'_> {
 
     // Where the first of these successors stands that isn't drawn.
     fn way_out(&self, successors: &[u32], from: usize, to: usize) -> Option<u32> {
-        for (place, t) in (0..u32::MAX).zip(successors).take(to).skip(from) {
-            if self.over.has(self.shared.region(*t)) {
-                return Some(place);
+        for place in from..to.min(successors.len()) {
+            if self.over.has(self.shared.region(successors[place])) {
+                return u32::try_from(place).ok();
             }
         }
         None

@@ -14,7 +14,8 @@ use crate::share::Crew;
 use crate::winning::Winners;
 use game::graph::Game;
 use game::player::Player;
-use std::alloc::{AllocError, Global};
+use gauge::Gauge;
+use std::alloc::Global;
 use std::thread::{Threads, join};
 use text::Memory;
 
@@ -52,22 +53,33 @@ impl Guessed {
     }
 }
 
-/// Guesses the winners of a game, within a number of steps that is about linear in its size. `None` where that did not suffice.
+/// Guesses the winners of a game, within a number of steps that is about linear in its size. `None` where that did not suffice, or for want of
+/// memory.
 ///
 /// # Errors
 /// Want of memory, and nothing else.
 pub fn guess_winners(alloc: Global, game: &Game) -> Result<Option<Guessed>, Memory> {
+    guess_winners_seen(alloc, game, None)
+}
+
+/// The same, where a gauge shows how far a long search has come, in vertices and edges that are looked at.
+///
+/// # Errors
+/// Want of memory, and nothing else.
+pub fn guess_winners_seen(
+    alloc: Global,
+    game: &Game,
+    gauge: Option<&Gauge>,
+) -> Result<Option<Guessed>, Memory> {
     let before = Before::of(alloc, game)?;
     let arena = Arena {
         game,
         before: &before,
     };
-    let Some(winners) = find_winners(alloc, arena)? else {
-        return Ok(None);
-    };
-    let even = put_in_order(alloc, game, &winners, Player::Even)?;
-    let odd = put_in_order(alloc, game, &winners, Player::Odd)?;
-    Ok(with_orders(alloc, game, winners, even, odd)?)
+    Ok(match find_winners(alloc, arena, gauge) {
+        Some(winners) => with_ranks(alloc, game, winners),
+        None => None,
+    })
 }
 
 /// The same by so many threads, where the game is large.
@@ -80,21 +92,30 @@ pub fn guess_winners_by<R: Threads + Sync>(
     game: &Game,
     workers: usize,
 ) -> Result<Option<Guessed>, Memory> {
+    guess_winners_by_seen(rt, alloc, game, workers, None)
+}
+
+/// The same by so many threads, where a gauge shows how far a long search has come. Of two searches side by side it shows the one that the threads
+/// share.
+///
+/// # Errors
+/// Want of memory, and nothing else.
+pub fn guess_winners_by_seen<R: Threads + Sync>(
+    rt: &R,
+    alloc: Global,
+    game: &Game,
+    workers: usize,
+    gauge: Option<&Gauge>,
+) -> Result<Option<Guessed>, Memory> {
     if workers < 2 || game.vertices() < LEAST_SHARED {
-        return guess_winners(alloc, game);
+        return guess_winners_seen(alloc, game, gauge);
     }
     let before = Before::of_by(rt, alloc, game, workers)?;
     let crew = Crew { rt, alloc, workers };
-    let Some(winners) = find_winners_by(&crew, game, &before)? else {
-        return Ok(None);
-    };
-    let (even, odd) = join(
-        rt,
-        || put_in_order(alloc, game, &winners, Player::Even),
-        || put_in_order(alloc, game, &winners, Player::Odd),
-    );
-    let (even, odd) = (even?, odd?);
-    Ok(with_orders(alloc, game, winners, even, odd)?)
+    Ok(match find_winners_by(&crew, game, &before, gauge) {
+        Some(winners) => with_ranks_by(rt, alloc, game, winners),
+        None => None,
+    })
 }
 
 // What a player wins, in an order and with ranks by it.
@@ -105,17 +126,34 @@ struct Ordered {
 }
 
 // What a player wins in an order. `None` where its moves don't win.
-fn put_in_order(
+fn put_in_order(alloc: Global, game: &Game, winners: &Winners, player: Player) -> Option<Ordered> {
+    match order_of(alloc, game, winners, player) {
+        Some(order) => {
+            let ranks = Ranks::of(alloc, game, order.as_slice(), Counted::of(game, player));
+            Some(Ordered { order, ranks })
+        }
+        None => None,
+    }
+}
+
+fn with_ranks(alloc: Global, game: &Game, winners: Winners) -> Option<Guessed> {
+    let even = put_in_order(alloc, game, &winners, Player::Even);
+    let odd = put_in_order(alloc, game, &winners, Player::Odd);
+    with_orders(alloc, game, winners, even, odd)
+}
+
+fn with_ranks_by<R: Threads + Sync>(
+    rt: &R,
     alloc: Global,
     game: &Game,
-    winners: &Winners,
-    player: Player,
-) -> Result<Option<Ordered>, AllocError> {
-    let Some(order) = order_of(alloc, game, winners, player)? else {
-        return Ok(None);
-    };
-    let ranks = Ranks::of(alloc, game, order.as_slice(), Counted::of(game, player))?;
-    Ok(Some(Ordered { order, ranks }))
+    winners: Winners,
+) -> Option<Guessed> {
+    let (even, odd) = join(
+        rt,
+        || put_in_order(alloc, game, &winners, Player::Even),
+        || put_in_order(alloc, game, &winners, Player::Odd),
+    );
+    with_orders(alloc, game, winners, even, odd)
 }
 
 // What is guessed, with ranks by the orders of what both win. `None` where the moves of one don't win.
@@ -125,17 +163,37 @@ fn with_orders(
     winners: Winners,
     even: Option<Ordered>,
     odd: Option<Ordered>,
-) -> Result<Option<Guessed>, AllocError> {
-    let (Some(even), Some(odd)) = (even, odd) else {
-        return Ok(None);
-    };
+) -> Option<Guessed> {
+    match (even, odd) {
+        (Some(even), Some(odd)) => whole(with_places(alloc, game, winners, even, odd)),
+        _ => None,
+    }
+}
+
+fn with_places(
+    alloc: Global,
+    game: &Game,
+    winners: Winners,
+    even: Ordered,
+    odd: Ordered,
+) -> Guessed {
     let (first, second) = (even.order.as_slice(), odd.order.as_slice());
-    Ok(Some(Guessed {
+    Guessed {
         winners,
-        places: places_of(alloc, game.vertices(), first, second)?,
+        places: places_of(alloc, game.vertices(), first, second),
         even: even.ranks,
         odd: odd.ranks,
-    }))
+    }
+}
+
+// What is guessed, if there was memory for all.
+fn whole(guessed: Guessed) -> Option<Guessed> {
+    let are_ranks = guessed.even.is_whole() && guessed.odd.is_whole();
+    if guessed.places.is_whole() && are_ranks {
+        Some(guessed)
+    } else {
+        None
+    }
 }
 
 // The same by several threads: the first try on one of them, and beside it a recursion that the others share.
@@ -143,19 +201,17 @@ fn find_winners_by<'x, R: Threads + Sync>(
     crew: &'x Crew<'x, R>,
     game: &'x Game,
     before: &'x Before,
-) -> Result<Option<Winners>, AllocError> {
+    gauge: Option<&'x Gauge>,
+) -> Option<Winners> {
     let arena = Arena {
         game: &*game,
         before: &*before,
     };
     let race = Race::new();
-    let (first, other) = find_both(&*crew, arena, &race);
-    if let Some(winners) = first? {
-        return Ok(Some(winners));
-    }
-    match other? {
-        Some(winners) => Ok(Some(winners)),
-        None => find_last(crew.alloc, arena),
+    let (first, other) = find_both(&*crew, arena, &race, gauge);
+    match first.or(other) {
+        Some(winners) => Some(winners),
+        None => find_last(crew.alloc, arena, gauge),
     }
 }
 
@@ -164,33 +220,33 @@ fn find_both<'g, R: Threads + Sync>(
     crew: &'g Crew<'g, R>,
     arena: Arena<'g>,
     race: &'g Race,
-) -> (
-    Result<Option<Winners>, AllocError>,
-    Result<Option<Winners>, AllocError>,
-) {
+    gauge: Option<&'g Gauge>,
+) -> (Option<Winners>, Option<Winners>) {
     join(
         crew.rt,
-        || told(
-            race,
-            find_first(crew.alloc, arena, Meter::first().beside(race)),
-        ),
-        || told(
-            race,
-            find_shared(
-                crew,
-                arena,
-                Meter::of_vertices(arena.vertices()).beside(race),
-            ),
-        ),
+        || find_first_in(crew.alloc, arena, race),
+        || find_shared_in(crew, arena, race, gauge),
     )
 }
 
+fn find_first_in<'g>(alloc: Global, arena: Arena<'g>, race: &'g Race) -> Option<Winners> {
+    told(race, find_first(alloc, arena, Meter::first().beside(race)))
+}
+
+fn find_shared_in<'g, R: Threads + Sync>(
+    crew: &'g Crew<'g, R>,
+    arena: Arena<'g>,
+    race: &'g Race,
+    gauge: Option<&'g Gauge>,
+) -> Option<Winners> {
+    let meter = Meter::of_vertices(arena.vertices());
+    let meter = meter.beside(race).shown(gauge);
+    told(race, find_shared(crew, arena, meter))
+}
+
 // Ends the race where something was found.
-fn told(
-    race: &Race,
-    found: Result<Option<Winners>, AllocError>,
-) -> Result<Option<Winners>, AllocError> {
-    if let Ok(Some(_)) = &found {
+fn told(race: &Race, found: Option<Winners>) -> Option<Winners> {
+    if found.is_some() {
         race.end();
     }
     found
@@ -201,31 +257,47 @@ fn find_shared<'g, R: Threads + Sync>(
     crew: &'g Crew<'g, R>,
     arena: Arena<'g>,
     meter: Meter<'g>,
-) -> Result<Option<Winners>, AllocError> {
-    Crowd::new(crew, arena, meter)?.find()
+) -> Option<Winners> {
+    match Crowd::new(crew, arena, meter) {
+        Ok(mut crowd) => crowd.find(),
+        Err(_) => None,
+    }
 }
 
-fn find_winners(alloc: Global, arena: Arena) -> Result<Option<Winners>, AllocError> {
-    match find_first(alloc, arena, Meter::first())? {
-        Some(winners) => Ok(Some(winners)),
-        None => find_last(alloc, arena),
+fn find_winners<'g>(alloc: Global, arena: Arena<'g>, gauge: Option<&'g Gauge>) -> Option<Winners> {
+    match find_first(alloc, arena, Meter::first()) {
+        Some(winners) => Some(winners),
+        None => find_last(alloc, arena, gauge),
     }
 }
 
 // A first try by justifications: on most games that are not random they look at each vertex about twice.
-fn find_first<'g>(
-    alloc: Global,
-    arena: Arena<'g>,
-    meter: Meter<'g>,
-) -> Result<Option<Winners>, AllocError> {
-    let looks = first_looks(alloc, arena)?;
-    Justification::new(alloc, arena, meter)?.find_within(looks.as_slice())
+fn find_first<'g>(alloc: Global, arena: Arena<'g>, meter: Meter<'g>) -> Option<Winners> {
+    match Justification::new(alloc, arena, meter) {
+        Ok(mut justification) => justification.find_within(&first_looks(arena)),
+        Err(_) => None,
+    }
 }
 
 // By recursion, and where that takes too long by justifications.
-fn find_last(alloc: Global, arena: Arena) -> Result<Option<Winners>, AllocError> {
-    match Recursion::new(alloc, arena, Meter::new(arena.size()))?.find()? {
-        Some(winners) => Ok(Some(winners)),
-        None => Justification::new(alloc, arena, Meter::new(arena.size()))?.find(),
+fn find_last<'g>(alloc: Global, arena: Arena<'g>, gauge: Option<&'g Gauge>) -> Option<Winners> {
+    let size = arena.size();
+    match find_by_recursion(alloc, arena, Meter::new(size).shown(gauge)) {
+        Some(winners) => Some(winners),
+        None => find_by_justification(alloc, arena, Meter::new(size).shown(gauge)),
+    }
+}
+
+fn find_by_recursion<'g>(alloc: Global, arena: Arena<'g>, meter: Meter<'g>) -> Option<Winners> {
+    match Recursion::new(alloc, arena, meter) {
+        Ok(mut recursion) => recursion.find(),
+        Err(_) => None,
+    }
+}
+
+fn find_by_justification<'g>(alloc: Global, arena: Arena<'g>, meter: Meter<'g>) -> Option<Winners> {
+    match Justification::new(alloc, arena, meter) {
+        Ok(mut justification) => justification.find(),
+        Err(_) => None,
     }
 }

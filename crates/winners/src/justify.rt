@@ -32,6 +32,8 @@ pub(crate) struct Justification<'g> {
     standings: Standings,
     moves: Numbers,
     meter: Meter<'g>,
+    // Whether there was memory for all moves, and all that turned or was shaken.
+    is_whole: bool,
 }
 
 impl<'g> Justification<'g> {
@@ -40,27 +42,40 @@ impl<'g> Justification<'g> {
         arena: Arena<'g>,
         meter: Meter<'g>,
     ) -> Result<Self, AllocError> {
+        let standings = Standings::new(alloc, arena)?;
+        let moves = Numbers::filled(alloc, arena.vertices() as usize, NONE);
+        let is_whole = moves.is_whole();
         Ok(Justification {
             alloc,
             arena,
-            standings: Standings::new(alloc, arena)?,
-            moves: Numbers::filled(alloc, arena.vertices() as usize, NONE)?,
+            standings,
+            moves,
             meter,
+            is_whole,
         })
     }
 
-    /// Decides who wins. `None` where the budget was spent.
-    pub(crate) fn find(self) -> Result<Option<Winners>, AllocError> {
+    /// Decides who wins. `None` where the budget was spent, or for want of memory.
+    pub(crate) fn find(&mut self) -> Option<Winners> {
         self.find_within(&[])
     }
 
     /// The same, where the budget grows by so many looks as a priority is come to for the first time.
-    pub(crate) fn find_within(mut self, more: &[u64]) -> Result<Option<Winners>, AllocError> {
+    pub(crate) fn find_within(&mut self, more: &[u64]) -> Option<Winners> {
+        if self.justify_all(more) {
+            self.winners()
+        } else {
+            None
+        }
+    }
+
+    // Goes on until all are justified. Whenever some turn, looks were counted: so the budget bounds how often that is.
+    fn justify_all(&mut self, more: &[u64]) -> bool {
         let greatest = self.arena.greatest();
         let (mut priority, mut reached) = (0_u8, 0_u8);
         for _ in 0..u64::MAX {
-            if self.meter.is_spent() {
-                return Ok(None);
+            if self.meter.is_spent() || !self.are_whole() {
+                return false;
             }
             if priority > greatest {
                 break;
@@ -70,45 +85,56 @@ impl<'g> Justification<'g> {
                     .allow(more.get(usize::from(priority)).copied().unwrap_or(0));
                 reached = priority.saturating_add(1);
             }
-            let turned = self.look(priority)?;
-            if turned.is_empty() {
-                self.justify(priority);
-                priority = priority.saturating_add(1);
-            } else {
-                priority = self.turn(priority, turned.as_slice())?;
-            }
+            priority = self.justify_or_turn(priority);
         }
-        Ok(Some(self.winners()?))
+        self.are_whole()
     }
 
-    fn winners(&self) -> Result<Winners, AllocError> {
+    fn are_whole(&self) -> bool {
+        self.is_whole && self.standings.are_whole
+    }
+
+    // Justifies the vertices of a priority, or turns some. The answer is the least priority to be looked at.
+    fn justify_or_turn(&mut self, priority: u8) -> u8 {
+        let turned = self.look(priority);
+        self.is_whole &= turned.is_whole();
+        if turned.is_empty() {
+            self.justify(priority);
+            priority.saturating_add(1)
+        } else {
+            self.turn(priority, turned.as_slice())
+        }
+    }
+
+    // What each wins, if there is memory for it.
+    fn winners(&self) -> Option<Winners> {
         let mut winners = Winners::none(self.alloc);
         for v in 0..self.arena.vertices() {
             let next = self.moves.get(v as usize);
-            winners.add(self.arena, v, self.standings.player(v), next)?;
+            winners.add(self.arena, v, self.standings.player(v), next);
         }
-        Ok(winners)
+        winners.whole()
     }
 
     // Looks at open vertices of a priority, the last first. The answer is which turn.
-    fn look(&mut self, priority: u8) -> Result<Numbers, AllocError> {
+    fn look(&mut self, priority: u8) -> Numbers {
         let mut turned = Numbers::none(self.alloc);
         for _ in 0..u64::MAX {
             if turned.len() >= TURNED_AT_ONCE {
                 break;
             }
             match self.standings.pop_open(priority) {
-                Some(v) => self.look_at(v, priority, &mut turned)?,
+                Some(v) => self.look_at(v, priority, &mut turned),
                 None => break,
             }
         }
-        Ok(turned)
+        turned
     }
 
-    fn look_at(&mut self, v: u32, priority: u8, turned: &mut Numbers) -> Result<(), AllocError> {
+    fn look_at(&mut self, v: u32, priority: u8, turned: &mut Numbers) {
         let Standing { state, owner, .. } = self.standings.get(v);
         if state != State::Open {
-            return Ok(());
+            return;
         }
         let next = self.next_of(v, owner);
         self.moves.set(v as usize, next.unwrap_or(NONE));
@@ -117,9 +143,9 @@ impl<'g> Justification<'g> {
             None => opponent(owner),
         };
         if player == winner_by(priority) {
-            self.standings.push_calm(v, priority)
+            self.standings.push_calm(v, priority);
         } else {
-            turned.push(v)
+            turned.push(v);
         }
     }
 
@@ -149,42 +175,50 @@ impl<'g> Justification<'g> {
     }
 
     // Turns these, and takes the reasons from all that rest on them. The answer is the least priority to be looked at.
-    fn turn(&mut self, priority: u8, turned: &[u32]) -> Result<u8, AllocError> {
+    fn turn(&mut self, priority: u8, turned: &[u32]) -> u8 {
         let mut list = Vec::new(self.alloc);
+        let player = opponent(winner_by(priority));
         for v in turned {
             self.standings.set_state(*v, State::Justified);
-            self.standings.set_player(*v, opponent(winner_by(priority)));
-            list.push(Shaken {
+            self.standings.set_player(*v, player);
+            let shaken = Shaken {
                 v: *v,
                 is_other: true,
-            })?;
+            };
+            self.is_whole &= list.push(shaken).is_ok();
         }
-        let mut least = priority;
+        self.shake_all(&mut list).min(priority)
+    }
+
+    // Shakes all of a list, to which more is added: what was justified, and no longer is. The answer is the least priority of what was opened.
+    fn shake_all(&mut self, list: &mut Vec<Shaken>) -> u8 {
+        let mut least = u8::MAX;
         for place in 0..usize::MAX {
             match list.get(place).copied() {
-                Some(shaken) => least = self.shake(shaken, &mut list)?.min(least),
+                Some(shaken) => least = self.shake(shaken, list).min(least),
                 None => break,
             }
         }
-        Ok(least)
+        least
     }
 
     // Opens what rested on a vertex, or was calm by it. The answer is the least priority of what was opened.
-    fn shake(&mut self, shaken: Shaken, list: &mut Vec<Shaken>) -> Result<u8, AllocError> {
+    fn shake(&mut self, shaken: Shaken, list: &mut Vec<Shaken>) -> u8 {
         let mut least = u8::MAX;
         let before = self.arena.predecessors(shaken.v);
         self.meter.count(before.len());
         for u in before {
             let standing = self.standings.get(*u);
             if standing.state == State::Justified && self.rests(*u, standing, shaken.v) {
-                list.push(self.favour(*u, standing))?;
+                let favoured = self.favour(*u, standing);
+                self.is_whole &= list.push(favoured).is_ok();
             } else if standing.state != State::Calm || !shaken.is_other {
                 continue;
             }
-            self.standings.open(*u, standing.priority)?;
+            self.standings.open(*u, standing.priority);
             least = standing.priority.min(least);
         }
-        Ok(least)
+        least
     }
 
     // Whether a justified vertex has its reason by this successor.

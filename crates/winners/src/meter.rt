@@ -2,7 +2,7 @@
 
 use crate::arena::{Arena, PRIORITIES};
 use crate::race::Race;
-use std::alloc::{AllocError, Global};
+use gauge::Gauge;
 
 // How many looks there may be: this many, and so many times those that see the game once.
 const LEAST_BUDGET: u64 = 67_108_864;
@@ -24,6 +24,9 @@ const SHARED_TIMES: u64 = 30;
 // A first try may always look so often.
 const LEAST_FIRST: u64 = 65_536;
 
+// So many looks are shown at once.
+const SHOWN_AT_ONCE: u64 = 65_536;
+
 /// How many looks there have been, and how many there may be, unless another search has found.
 #[derive(Drop)]
 pub(crate) struct Meter<'r> {
@@ -31,6 +34,7 @@ pub(crate) struct Meter<'r> {
     budget: u64,
     late: u64,
     race: Option<&'r Race>,
+    gauge: Option<&'r Gauge>,
 }
 
 impl<'r> Meter<'r> {
@@ -41,6 +45,7 @@ impl<'r> Meter<'r> {
             budget: size.saturating_mul(TIMES).saturating_add(LEAST_BUDGET),
             late: size.saturating_mul(LATE_TIMES),
             race: None,
+            gauge: None,
         }
     }
 
@@ -51,6 +56,7 @@ impl<'r> Meter<'r> {
             budget: LEAST_FIRST,
             late: LEAST_FIRST,
             race: None,
+            gauge: None,
         }
     }
 
@@ -62,6 +68,7 @@ impl<'r> Meter<'r> {
             budget: looks,
             late: looks,
             race: None,
+            gauge: None,
         }
     }
 
@@ -71,6 +78,14 @@ impl<'r> Meter<'r> {
             race: Some(race),
             ..self
         }
+    }
+
+    /// The same, where a gauge shows the looks, of as many as there may be so far.
+    pub(crate) fn shown(self, gauge: Option<&'r Gauge>) -> Self {
+        if let Some(gauge) = gauge {
+            gauge.begin(self.budget);
+        }
+        Meter { gauge, ..self }
     }
 
     /// More looks are allowed.
@@ -86,7 +101,17 @@ impl<'r> Meter<'r> {
 
     /// So many vertices have been looked at.
     pub(crate) fn count_all(&mut self, vertices: usize) {
-        self.looks = self.looks.saturating_add(vertices as u64);
+        let before = self.looks;
+        self.looks = before.saturating_add(vertices as u64);
+        if before / SHOWN_AT_ONCE != self.looks / SHOWN_AT_ONCE {
+            self.show();
+        }
+    }
+
+    fn show(&self) {
+        if let Some(gauge) = self.gauge {
+            gauge.put(self.looks);
+        }
     }
 
     pub(crate) fn is_spent(&self) -> bool {
@@ -104,14 +129,15 @@ impl<'r> Meter<'r> {
 }
 
 /// For each priority how many looks at its vertices a first try may take.
-pub(crate) fn first_looks(alloc: Global, arena: Arena) -> Result<Vec<u64>, AllocError> {
-    let mut looks = vec![in alloc; 0_u64; PRIORITIES]?;
+pub(crate) fn first_looks(arena: Arena) -> [u64; PRIORITIES] {
+    let mut looks = [0_u64; PRIORITIES];
     for v in 0..arena.vertices() {
-        if let Some(sum) = looks.get_mut(usize::from(arena.priority(v))) {
-            *sum = sum.saturating_add(looks_at(arena, v));
+        let place = usize::from(arena.priority(v));
+        if place < PRIORITIES {
+            looks[place] = looks[place].saturating_add(looks_at(arena, v));
         }
     }
-    Ok(looks)
+    looks
 }
 
 fn looks_at(arena: Arena, v: u32) -> u64 {

@@ -1,11 +1,13 @@
 // Lists of numbers that are never read or written out of bounds.
 
-use std::alloc::{AllocError, Global};
+use std::alloc::Global;
 
-/// Numbers by their places. Past the last place all are zero, and nothing is written.
+/// Numbers by their places. Past the last place all are zero, and nothing is written. Where there is no memory for some, they are left out,
+/// and the list tells so.
 #[derive(Drop)]
 pub struct Numbers {
     items: Vec<u32>,
+    is_whole: bool,
 }
 
 impl Numbers {
@@ -13,27 +15,39 @@ impl Numbers {
     pub fn none(alloc: Global) -> Self {
         Numbers {
             items: Vec::new(alloc),
+            is_whole: true,
+        }
+    }
+
+    /// None of them, for want of memory.
+    pub(crate) fn wanting(alloc: Global) -> Self {
+        Numbers {
+            items: Vec::new(alloc),
+            is_whole: false,
         }
     }
 
     /// This number so many times.
-    ///
-    /// # Errors
-    /// Want of memory, and nothing else.
-    pub fn filled(alloc: Global, length: usize, number: u32) -> Result<Self, AllocError> {
-        Ok(Numbers {
-            items: vec![in alloc; number; length]?,
-        })
+    pub fn filled(alloc: Global, length: usize, number: u32) -> Self {
+        match vec![in alloc; number; length] {
+            Ok(items) => Numbers {
+                items,
+                is_whole: true,
+            },
+            Err(_) => Numbers::wanting(alloc),
+        }
     }
 
     /// The same numbers as these.
-    ///
-    /// # Errors
-    /// Want of memory, and nothing else.
-    pub fn copied(alloc: Global, numbers: &[u32]) -> Result<Self, AllocError> {
-        Ok(Numbers {
-            items: Vec::from_slice(alloc, numbers)?,
-        })
+    pub fn copied(alloc: Global, numbers: &[u32]) -> Self {
+        let mut copy = Numbers::none(alloc);
+        copy.extend(numbers);
+        copy
+    }
+
+    /// Whether there was memory for all.
+    pub fn is_whole(&self) -> bool {
+        self.is_whole
     }
 
     /// How many there are.
@@ -70,23 +84,23 @@ impl Numbers {
         self.items.get(place).copied().unwrap_or(0)
     }
 
+    /// The number at this place, or another one past the last place.
+    pub(crate) fn get_or(&self, place: usize, other: u32) -> u32 {
+        self.items.get(place).copied().unwrap_or(other)
+    }
+
     /// Writes the number at this place.
     pub fn set(&mut self, place: usize, number: u32) {
-        if let Some(item) = self.items.get_mut(place) {
-            *item = number;
+        if place < self.items.len() {
+            self.items[place] = number;
         }
     }
 
     /// Adds one to the number at this place, and tells what it was.
     pub(crate) fn count(&mut self, place: usize) -> u32 {
-        match self.items.get_mut(place) {
-            Some(item) => {
-                let number = *item;
-                *item = number.wrapping_add(1);
-                number
-            }
-            None => 0,
-        }
+        let number = self.get(place);
+        self.set(place, number.wrapping_add(1));
+        number
     }
 
     /// Exchanges the numbers at two places.
@@ -97,12 +111,8 @@ impl Numbers {
     }
 
     /// One more number.
-    ///
-    /// # Errors
-    /// Want of memory, and nothing else.
-    pub fn push(&mut self, number: u32) -> Result<(), AllocError> {
-        self.items.push(number)?;
-        Ok(())
+    pub fn push(&mut self, number: u32) {
+        self.is_whole &= self.items.push(number).is_ok();
     }
 
     /// Takes the last one away.
@@ -111,11 +121,20 @@ impl Numbers {
     }
 
     /// These after those.
-    ///
-    /// # Errors
-    /// Want of memory, and nothing else.
-    pub fn extend(&mut self, numbers: &[u32]) -> Result<(), AllocError> {
-        self.items.extend_from_slice(numbers)
+    pub fn extend(&mut self, numbers: &[u32]) {
+        self.is_whole &= self.items.extend_from_slice(numbers).is_ok();
+    }
+
+    /// Those of another list after these.
+    pub(crate) fn append(&mut self, other: &Numbers) {
+        self.extend(other.as_slice());
+        self.is_whole &= other.is_whole;
+    }
+
+    /// Those of another list in their place.
+    pub(crate) fn replace(&mut self, other: Numbers) {
+        self.is_whole &= other.is_whole;
+        self.items = other.items;
     }
 
     /// Turns the order round.
@@ -130,8 +149,10 @@ impl Numbers {
 
     /// Writes these numbers from a place on.
     pub fn write(&mut self, from: usize, numbers: &[u32]) {
-        for (place, number) in (from..usize::MAX).zip(numbers) {
+        let mut place = from;
+        for number in numbers {
             self.set(place, *number);
+            place = place.saturating_add(1);
         }
     }
 }

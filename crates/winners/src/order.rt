@@ -11,7 +11,7 @@ use crate::strong::{Edges, Strong};
 use crate::winning::Winners;
 use game::graph::Game;
 use game::player::Player;
-use std::alloc::{AllocError, Global};
+use std::alloc::Global;
 
 // The edges that a player's moves leave.
 #[derive(Clone, Copy)]
@@ -41,7 +41,7 @@ impl Chosen<'_> {
         let mut greatest = None;
         for v in vertices {
             let priority = self.priority(*v);
-            if winner_by(priority) != self.player && greatest.is_none_or(|g| g < priority) {
+            if winner_by(priority) != self.player && greatest < Some(priority) {
                 greatest = Some(priority);
             }
         }
@@ -52,8 +52,17 @@ impl Chosen<'_> {
     fn is_lost(&self, component: &[u32], bad: u8) -> bool {
         match component {
             [v] => winner_by(self.priority(*v)) != self.player && self.after(*v).contains(v),
-            _ => component.iter().any(|v| self.priority(*v) == bad),
+            _ => self.has(component, bad),
         }
+    }
+
+    fn has(&self, vertices: &[u32], priority: u8) -> bool {
+        for v in vertices {
+            if self.priority(*v) == priority {
+                return true;
+            }
+        }
+        false
     }
 }
 
@@ -64,68 +73,92 @@ struct Refining<'a> {
     chosen: Chosen<'a>,
     list: Numbers,
     segments: Vec<Span>,
+    // Whether there was memory for all vertices and segments.
+    is_whole: bool,
 }
 
-/// The vertices that a player wins in an order by which its ranks are counted. `None` where its moves don't win.
+/// The vertices that a player wins in an order by which its ranks are counted. `None` where its moves don't win, or for want of memory.
 pub(crate) fn order_of<'a>(
     alloc: Global,
     game: &'a Game,
     winners: &'a Winners,
     player: Player,
-) -> Result<Option<Numbers>, AllocError> {
-    let chosen = Chosen {
-        game,
-        winners,
-        player,
+) -> Option<Numbers> {
+    let mut refining = Refining {
+        alloc,
+        chosen: Chosen {
+            game,
+            winners,
+            player,
+        },
+        list: Numbers::none(alloc),
+        segments: Vec::new(alloc),
+        is_whole: true,
     };
-    let mut strong = Strong::new(alloc, game.vertices())?;
-    let mut refining = Refining::new(alloc, chosen)?;
-    for _ in 0..u64::MAX {
-        match refining.segments.pop() {
-            Some(segment) => {
-                if !refining.refine(segment, &mut strong)? {
-                    return Ok(None);
-                }
-            }
-            None => break,
-        }
+    refining.begin();
+    let mut strong = Strong::new(alloc, game.vertices());
+    if refining.refine_all(&mut strong) {
+        Some(refining.list)
+    } else {
+        None
     }
-    Ok(Some(refining.list))
 }
 
-impl<'a> Refining<'a> {
-    fn new(alloc: Global, chosen: Chosen<'a>) -> Result<Self, AllocError> {
-        let mut list = Numbers::none(alloc);
-        for v in 0..chosen.game.vertices() {
-            if chosen.winners.player(v) == chosen.player {
-                list.push(v)?;
+impl Refining<'_> {
+    // One segment is all that the player wins.
+    fn begin(&mut self) {
+        for v in 0..self.chosen.game.vertices() {
+            if self.chosen.winners.player(v) == self.chosen.player {
+                self.list.push(v);
             }
         }
-        let to = list.len();
-        Ok(Refining {
-            alloc,
-            chosen,
-            list,
-            segments: vec![in alloc; Span { from: 0, to }; 1]?,
-        })
+        self.is_whole &= self.list.is_whole();
+        let to = self.list.len();
+        self.push(Span { from: 0, to });
     }
 
-    // Refines a segment. The answer is whether it can be.
-    fn refine(&mut self, segment: Span, strong: &mut Strong) -> Result<bool, AllocError> {
-        let Some(bad) = self.chosen.greatest_bad(self.list.slice(segment)) else {
-            return Ok(true);
-        };
-        let low = self.put_greater_last(segment, bad);
-        let ends = strong.sort(self.alloc, &self.chosen, &mut self.list, low)?;
-        let mut from = low.from;
-        for end in ends.as_slice() {
-            let to = low.from.saturating_add(*end as usize);
-            if !self.add(Span { from, to }, bad)? {
-                return Ok(false);
+    fn push(&mut self, segment: Span) {
+        self.is_whole &= self.segments.push(segment).is_ok();
+    }
+
+    // Refines all segments. The answer is whether they can be, and there was memory for all. Segments within a segment share no vertex, and
+    // the greatest priority of the other parity is less in them, so there is an end.
+    fn refine_all(&mut self, strong: &mut Strong) -> bool {
+        for _ in 0..u64::MAX {
+            let Some(segment) = self.segments.pop() else {
+                break;
+            };
+            if !self.is_whole || !self.refine(segment, strong) {
+                return false;
+            }
+        }
+        self.is_whole
+    }
+
+    // Refines a segment. The answer is whether it can be. Components that lack vertices, or have those of other segments, are no segments.
+    fn refine(&mut self, segment: Span, strong: &mut Strong) -> bool {
+        match self.chosen.greatest_bad(self.list.slice(segment)) {
+            Some(bad) => {
+                let low = self.put_greater_last(segment, bad);
+                let ends = strong.sort(self.alloc, &self.chosen, &mut self.list, low);
+                let are_known = strong.is_whole() && ends.is_whole();
+                are_known && self.add_all(low.from, ends.as_slice(), bad)
+            }
+            None => true,
+        }
+    }
+
+    // Adds the components that end so far after a place.
+    fn add_all(&mut self, start: usize, ends: &[u32], bad: u8) -> bool {
+        let mut from = start;
+        for end in ends {
+            let to = start.saturating_add(*end as usize);
+            if !self.add(Span { from, to }, bad) {
+                return false;
             }
             from = to;
         }
-        Ok(true)
+        true
     }
 
     // Moves the vertices of greater priorities to the end. The answer is where the others stand.
@@ -144,13 +177,13 @@ impl<'a> Refining<'a> {
     }
 
     // Adds a component as a segment, unless it is one vertex. The answer is whether the player wins within it.
-    fn add(&mut self, component: Span, bad: u8) -> Result<bool, AllocError> {
+    fn add(&mut self, component: Span, bad: u8) -> bool {
         if self.chosen.is_lost(self.list.slice(component), bad) {
-            return Ok(false);
+            return false;
         }
         if component.len() > 1 {
-            self.segments.push(component)?;
+            self.push(component);
         }
-        Ok(true)
+        true
     }
 }

@@ -2,7 +2,7 @@
 
 use crate::cells::Regions;
 use crate::numbers::{Numbers, Span};
-use std::alloc::{AllocError, Global};
+use std::alloc::Global;
 use std::mem;
 
 /// Parts of a game, each after those to which it leads.
@@ -31,22 +31,27 @@ impl Parts {
     }
 
     /// One part.
-    pub(crate) fn one(alloc: Global, part: Numbers, won: Regions) -> Result<Self, AllocError> {
-        let end = u32::try_from(part.len()).unwrap_or(u32::MAX);
-        let ends = Numbers::copied(alloc, &[end])?;
-        Ok(Parts::new(alloc, part, ends, won))
+    pub(crate) fn one(alloc: Global, part: Numbers, won: Regions) -> Self {
+        let mut ends = Numbers::none(alloc);
+        ends.push(u32::try_from(part.len()).unwrap_or(u32::MAX));
+        Parts::new(alloc, part, ends, won)
     }
 
     /// One part of which nothing that was decided around it decides any vertex.
-    pub(crate) fn alone(alloc: Global, part: Numbers, won: Regions) -> Result<Self, AllocError> {
-        let mut parts = Parts::one(alloc, part, won)?;
+    pub(crate) fn alone(alloc: Global, part: Numbers, won: Regions) -> Self {
+        let mut parts = Parts::one(alloc, part, won);
         parts.is_alone = true;
-        Ok(parts)
+        parts
     }
 
     /// How many parts there are.
     pub(crate) fn len(&self) -> usize {
         self.ends.len()
+    }
+
+    /// Whether there was memory for all.
+    pub(crate) fn is_whole(&self) -> bool {
+        self.list.is_whole() && self.ends.is_whole()
     }
 
     /// All vertices.
@@ -73,9 +78,9 @@ impl Parts {
     }
 
     /// The vertices of a part. If it is the only one they are taken away.
-    pub(crate) fn take(&mut self, span: Span) -> Result<Numbers, AllocError> {
+    pub(crate) fn take(&mut self, span: Span) -> Numbers {
         if span.len() == self.list.len() {
-            Ok(mem::replace(&mut self.list, Numbers::none(self.alloc)))
+            mem::replace(&mut self.list, Numbers::none(self.alloc))
         } else {
             Numbers::copied(self.alloc, self.list.slice(span))
         }

@@ -7,11 +7,11 @@
 // is not if v has priority q. Else t stands in a component before that of v: its count is no greater, and less if v has priority q.
 // In one component they would be v itself, with a loop, and then v doesn't have a priority that is counted.
 
-use crate::arena::{greatest, priority, winner_by};
+use crate::arena::{PRIORITIES, greatest, priority, winner_by};
 use crate::numbers::{Numbers, Span};
 use game::graph::Game;
 use game::player::Player;
-use std::alloc::{AllocError, Global};
+use std::alloc::Global;
 
 /// Which priorities are counted of a player's vertices: those that are not of its parity, up to the greatest of a game.
 #[derive(Clone, Copy)]
@@ -66,60 +66,57 @@ pub(crate) struct Ranks {
 impl Ranks {
     /// Those of a player's vertices, in their order. Of a priority that is not less than the vertex's own the count is of the
     /// vertices that have it, up to this one; of a lesser one it is zero.
-    pub(crate) fn of(
-        alloc: Global,
-        game: &Game,
-        order: &[u32],
-        counted: Counted,
-    ) -> Result<Self, AllocError> {
+    pub(crate) fn of(alloc: Global, game: &Game, order: &[u32], counted: Counted) -> Self {
         let length = order.len().saturating_mul(counted.width());
         let mut ranks = Ranks {
             counted,
-            counts: Numbers::filled(alloc, length, 0)?,
+            counts: Numbers::filled(alloc, length, 0),
         };
-        let mut counts = Numbers::filled(alloc, counted.width(), 0)?;
-        for (place, v) in (0..usize::MAX).zip(order) {
-            ranks.add(place, priority(game, *v), &mut counts);
+        let mut counts = [0_u32; PRIORITIES];
+        for place in 0..order.len() {
+            ranks.add(place, priority(game, order[place]), &mut counts);
         }
-        Ok(ranks)
+        ranks
+    }
+
+    /// Whether there was memory for all.
+    pub(crate) fn is_whole(&self) -> bool {
+        self.counts.is_whole()
     }
 
     // The rank of the vertex at a place, after so many of each priority.
-    fn add(&mut self, place: usize, priority: u8, counts: &mut Numbers) {
-        let kept = self.counted.kept(priority);
-        if winner_by(priority) != self.counted.player {
-            let own = kept.saturating_sub(1);
-            counts.set(own, counts.get(own).saturating_add(1));
+    fn add(&mut self, place: usize, priority: u8, counts: &mut [u32]) {
+        let kept = self.counted.kept(priority).min(counts.len());
+        let own = kept.saturating_sub(1);
+        if winner_by(priority) != self.counted.player && own < counts.len() {
+            counts[own] = counts[own].saturating_add(1);
         }
         let from = self.counted.span(place, 0).from;
-        self.counts
-            .write(from, counts.slice(Span { from: 0, to: kept }));
+        self.counts.write(from, &counts[..kept]);
     }
 
     /// Writes the rank of the vertex at a place of the order, as far as there is room.
     pub(crate) fn put(&self, place: usize, rank: &mut [u32]) {
         let span = self.counted.span(place, self.counted.width());
-        for (count, found) in rank.iter_mut().zip(self.counts.slice(span)) {
-            *count = *found;
+        let counts = self.counts.slice(span);
+        for at in 0..rank.len().min(counts.len()) {
+            rank[at] = counts[at];
         }
     }
 }
 
 /// For each vertex where it stands in the order of what its winner wins.
-pub(crate) fn places_of(
-    alloc: Global,
-    vertices: u32,
-    even: &[u32],
-    odd: &[u32],
-) -> Result<Numbers, AllocError> {
-    let mut places = Numbers::filled(alloc, vertices as usize, 0)?;
+pub(crate) fn places_of(alloc: Global, vertices: u32, even: &[u32], odd: &[u32]) -> Numbers {
+    let mut places = Numbers::filled(alloc, vertices as usize, 0);
     enter_all(&mut places, even);
     enter_all(&mut places, odd);
-    Ok(places)
+    places
 }
 
 fn enter_all(places: &mut Numbers, order: &[u32]) {
-    for (place, v) in (0..u32::MAX).zip(order) {
+    let mut place = 0_u32;
+    for v in order {
         places.set(*v as usize, place);
+        place = place.saturating_add(1);
     }
 }

@@ -4,7 +4,6 @@ use crate::cells::{NONE, Region};
 use crate::claim::Claim;
 use crate::field::Field;
 use crate::numbers::Numbers;
-use std::alloc::AllocError;
 
 // A claim whose shaken vertices are in a region of their own for a while.
 #[derive(Clone, Copy)]
@@ -16,45 +15,39 @@ struct Shaking {
 impl Field<'_> {
     /// Repairs a claim after vertices have gone. The answer is what has to be decided anew: what can no longer be forced to the
     /// greatest priorities, and what was won by going on to vertices that are gone or among these.
-    pub(crate) fn repair(&mut self, gone: &Numbers, claim: Claim) -> Result<Numbers, AllocError> {
+    pub(crate) fn repair(&mut self, gone: &Numbers, claim: Claim) -> Numbers {
         let limbo = self.cells.fresh_region();
         let shaking = Shaking { claim, limbo };
         let mut shaken = Numbers::none(self.alloc);
         let mut off = Numbers::none(self.alloc);
         for v in gone.as_slice() {
-            self.shake(*v, shaking, &mut off, &mut shaken)?;
+            self.shake(*v, shaking, &mut off, &mut shaken);
         }
-        self.take_off(&mut off, shaking)?;
-        self.put_back(off.as_slice(), shaking)?;
-        let mut anew = self.those_in(off.as_slice(), limbo)?;
+        self.take_off(&mut off, shaking);
+        self.put_back(off.as_slice(), shaking);
+        let mut anew = self.those_in(off.as_slice(), limbo);
+        self.note(&off);
         self.cells.mark_all(shaken.as_slice(), limbo);
-        anew.extend(shaken.as_slice())?;
-        self.reach_back(&mut anew, shaking)?;
-        Ok(anew)
+        anew.append(&shaken);
+        self.reach_back(&mut anew, shaking);
+        anew
     }
 
     // Looks for those that went on to a vertex that is gone. What finds no other way is taken off, or noted as shaken.
-    fn shake(
-        &mut self,
-        v: u32,
-        shaking: Shaking,
-        off: &mut Numbers,
-        shaken: &mut Numbers,
-    ) -> Result<(), AllocError> {
+    fn shake(&mut self, v: u32, shaking: Shaking, off: &mut Numbers, shaken: &mut Numbers) {
         let claim = shaking.claim;
         let before = self.arena.predecessors(v);
         self.meter.count(before.len());
         for u in before {
             if self.cells.get(*u).owner == claim.player() && self.cells.next(*u) == v {
                 if self.cells.region(*u) == claim.calm() {
-                    shaken.push(*u)?;
+                    shaken.push(*u);
                 } else if self.is_drawn(*u, claim) && !self.is_turned(*u, v, claim) {
                     self.cells.set_region(*u, shaking.limbo);
-                    off.push(*u)?;
+                    off.push(*u);
                 }
             }
         }
-        Ok(())
     }
 
     // Whether a vertex was drawn to the greatest priorities, of which it is none.
@@ -88,23 +81,17 @@ impl Field<'_> {
     }
 
     // Takes off all that rest on what has been taken off.
-    fn take_off(&mut self, off: &mut Numbers, shaking: Shaking) -> Result<(), AllocError> {
+    fn take_off(&mut self, off: &mut Numbers, shaking: Shaking) {
         for place in 0..usize::MAX {
             if place >= off.len() {
                 break;
             }
             let v = off.get(place);
-            self.take_off_before(v, off, shaking)?;
+            self.take_off_before(v, off, shaking);
         }
-        Ok(())
     }
 
-    fn take_off_before(
-        &mut self,
-        v: u32,
-        off: &mut Numbers,
-        shaking: Shaking,
-    ) -> Result<(), AllocError> {
+    fn take_off_before(&mut self, v: u32, off: &mut Numbers, shaking: Shaking) {
         let claim = shaking.claim;
         let before = self.arena.predecessors(v);
         self.meter.count(before.len());
@@ -112,36 +99,34 @@ impl Field<'_> {
             let rests = self.cells.get(*u).owner != claim.player() || self.cells.next(*u) == v;
             if rests && self.is_drawn(*u, claim) {
                 self.cells.set_region(*u, shaking.limbo);
-                off.push(*u)?;
+                off.push(*u);
             }
         }
-        Ok(())
     }
 
     // Puts back what is drawn by others still.
-    fn put_back(&mut self, off: &[u32], shaking: Shaking) -> Result<(), AllocError> {
-        let mut todo = Numbers::copied(self.alloc, off)?;
+    fn put_back(&mut self, off: &[u32], shaking: Shaking) {
+        let mut todo = Numbers::copied(self.alloc, off);
         for _ in 0..u64::MAX {
             match todo.pop() {
-                Some(u) => self.try_back(u, &mut todo, shaking)?,
+                Some(u) => self.try_back(u, &mut todo, shaking),
                 None => break,
             }
         }
-        Ok(())
+        self.note(&todo);
     }
 
-    fn try_back(&mut self, u: u32, todo: &mut Numbers, shaking: Shaking) -> Result<(), AllocError> {
+    fn try_back(&mut self, u: u32, todo: &mut Numbers, shaking: Shaking) {
         if self.cells.region(u) != shaking.limbo || !self.is_held(u, shaking) {
-            return Ok(());
+            return;
         }
         self.cells.set_region(u, shaking.claim.near);
         self.draw(u);
         for x in self.arena.predecessors(u) {
             if self.cells.region(*x) == shaking.limbo {
-                todo.push(*x)?;
+                todo.push(*x);
             }
         }
-        Ok(())
     }
 
     // Whether a vertex is drawn by others still: by one at the player's own, which is then its move, and else by all.
@@ -171,31 +156,24 @@ impl Field<'_> {
     }
 
     // Adds all that were won and may come to these.
-    fn reach_back(&mut self, anew: &mut Numbers, shaking: Shaking) -> Result<(), AllocError> {
+    fn reach_back(&mut self, anew: &mut Numbers, shaking: Shaking) {
         for place in 0..usize::MAX {
             if place >= anew.len() {
                 break;
             }
             let v = anew.get(place);
-            self.reach_before(v, anew, shaking)?;
+            self.reach_before(v, anew, shaking);
         }
-        Ok(())
     }
 
-    fn reach_before(
-        &mut self,
-        v: u32,
-        anew: &mut Numbers,
-        shaking: Shaking,
-    ) -> Result<(), AllocError> {
+    fn reach_before(&mut self, v: u32, anew: &mut Numbers, shaking: Shaking) {
         let before = self.arena.predecessors(v);
         self.meter.count(before.len());
         for u in before {
             if self.cells.region(*u) == shaking.claim.calm() {
                 self.cells.set_region(*u, shaking.limbo);
-                anew.push(*u)?;
+                anew.push(*u);
             }
         }
-        Ok(())
     }
 }

@@ -4,7 +4,6 @@ use crate::arena::{opponent, winner_by};
 use crate::cells::{NONE, Region, Regions};
 use crate::field::{Field, Spread};
 use crate::numbers::Numbers;
-use std::alloc::AllocError;
 
 // The successors of a vertex, as its owner sees them.
 #[derive(Clone, Copy)]
@@ -17,14 +16,14 @@ struct Outlook {
 
 impl Field<'_> {
     /// Decides the loops that their owner may stay in and those that are the only way, and what can be forced there.
-    pub(crate) fn settle_loops(&mut self, won: Regions) -> Result<(), AllocError> {
+    pub(crate) fn settle_loops(&mut self, won: Regions) {
         let mut queue = Numbers::none(self.alloc);
         for v in 0..self.arena.vertices() {
             if self.is_kept(v) {
                 let player = winner_by(self.arena.priority(v));
                 self.cells.set_region(v, won.of(player));
                 self.cells.set_next(v, v);
-                queue.push(v)?;
+                queue.push(v);
             }
         }
         let spread = Spread {
@@ -32,7 +31,7 @@ impl Field<'_> {
             marks: won,
             since: self.cells.fresh_stamp(),
         };
-        self.spread(&mut queue, spread)
+        self.spread(&mut queue, spread);
     }
 
     // Whether the play may stay at a vertex, by the will of its owner or as there is no other way.
@@ -81,16 +80,12 @@ impl Field<'_> {
     }
 
     /// Decides what the decided vertices around a part decide of it. The answer is what is left.
-    pub(crate) fn settle(
-        &mut self,
-        part: Numbers,
-        region: Region,
-        won: Regions,
-    ) -> Result<Numbers, AllocError> {
+    pub(crate) fn settle(&mut self, part: Numbers, region: Region, won: Regions) -> Numbers {
         let marks = self.cells.fresh_regions();
-        let mut queue = self.decided(part.as_slice(), region, won)?;
+        let mut queue = self.decided(part.as_slice(), region, won);
+        self.note(&queue);
         if queue.is_empty() {
-            return Ok(part);
+            return part;
         }
         self.mark_decided(queue.as_slice(), marks);
         let spread = Spread {
@@ -98,27 +93,22 @@ impl Field<'_> {
             marks,
             since: self.cells.fresh_stamp(),
         };
-        self.spread(&mut queue, spread)?;
+        self.spread(&mut queue, spread);
         self.give(queue.as_slice(), marks, won);
         self.those_in(part.as_slice(), region)
     }
 
     // The vertices of a part that are decided by their successors outside of it. They get their moves.
-    fn decided(
-        &mut self,
-        part: &[u32],
-        region: Region,
-        won: Regions,
-    ) -> Result<Numbers, AllocError> {
+    fn decided(&mut self, part: &[u32], region: Region, won: Regions) -> Numbers {
         let mut found = Numbers::none(self.alloc);
         for v in part {
             let outlook = self.outlook(*v, region, won);
             if outlook.good != NONE || !outlook.inside {
                 self.cells.set_next(*v, outlook.good);
-                found.push(*v)?;
+                found.push(*v);
             }
         }
-        Ok(found)
+        found
     }
 
     fn outlook(&mut self, v: u32, region: Region, won: Regions) -> Outlook {

@@ -1,7 +1,7 @@
 // Lists that threads share: each looks at a part of it.
 
 use crate::numbers::Numbers;
-use std::alloc::{AllocError, Global};
+use std::alloc::Global;
 use std::thread::{Threads, map_chunks};
 
 /// A list with fewer vertices is one thread's work.
@@ -10,7 +10,7 @@ pub(crate) const LEAST_LIST: usize = 8_192;
 /// What is done with the vertices of a list, whichever thread does it.
 pub(crate) trait Look {
     /// Looks at these, and tells what it finds.
-    fn look_at(&self, vertices: &[u32]) -> Result<Numbers, AllocError>;
+    fn look_at(&self, vertices: &[u32]) -> Numbers;
 }
 
 /// So many threads, and the memory for what they find.
@@ -23,11 +23,7 @@ pub(crate) struct Crew<'r, R> {
 
 impl<R: Threads + Sync> Crew<'_, R> {
     /// What is found at all vertices of a list, part by part in their order.
-    pub(crate) fn look<L: Look + Sync>(
-        &self,
-        vertices: &[u32],
-        look: &L,
-    ) -> Result<Numbers, AllocError> {
+    pub(crate) fn look<L: Look + Sync>(&self, vertices: &[u32], look: &L) -> Numbers {
         if vertices.len() < LEAST_LIST {
             return look.look_at(vertices);
         }
@@ -38,11 +34,18 @@ impl<R: Threads + Sync> Crew<'_, R> {
             vertices,
             size,
             &|_: usize, part: &[u32]| { look.look_at(part) },
-        )?;
-        let mut found = Numbers::none(self.alloc);
-        for part in parts {
-            found.extend(part?.as_slice())?;
+        );
+        match parts {
+            Ok(parts) => joined(self.alloc, parts.as_slice()),
+            Err(_) => Numbers::wanting(self.alloc),
         }
-        Ok(found)
     }
+}
+
+fn joined(alloc: Global, parts: &[Numbers]) -> Numbers {
+    let mut found = Numbers::none(alloc);
+    for part in parts {
+        found.append(part);
+    }
+    found
 }

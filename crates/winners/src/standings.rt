@@ -1,7 +1,6 @@
 // How far turns with justifications have come.
 
 use crate::arena::{Arena, winner_by};
-use crate::numbers::Numbers;
 use game::player::Player;
 use std::alloc::{AllocError, Global};
 
@@ -35,8 +34,8 @@ const NOBODY: Standing = Standing {
 // The vertices of a priority that are open and calm, and others.
 #[derive(Drop)]
 struct Layer {
-    open: Numbers,
-    calm: Numbers,
+    open: Vec<u32>,
+    calm: Vec<u32>,
 }
 
 /// For each vertex a player and how far it has come.
@@ -44,26 +43,36 @@ struct Layer {
 pub(crate) struct Standings {
     list: Vec<Standing>,
     layers: Vec<Layer>,
+    /// Whether there was memory for all that were open or calm.
+    pub(crate) are_whole: bool,
 }
 
 impl Standings {
     /// All vertices are open, and of the players that their priorities favour.
     pub(crate) fn new(alloc: Global, arena: Arena) -> Result<Self, AllocError> {
         let mut standings = Standings {
-            list: Vec::new(alloc),
+            list: vec![in alloc; NOBODY; arena.vertices() as usize]?,
             layers: layers(alloc, arena.greatest())?,
+            are_whole: true,
         };
+        standings.open_all(arena);
+        Ok(standings)
+    }
+
+    fn open_all(&mut self, arena: Arena) {
         for v in 0..arena.vertices() {
             let priority = arena.priority(v);
-            standings.list.push(Standing {
-                player: winner_by(priority),
-                state: State::Open,
-                owner: arena.owner(v),
-                priority,
-            })?;
-            standings.open(v, priority)?;
+            let place = v as usize;
+            if place < self.list.len() {
+                self.list[place] = Standing {
+                    player: winner_by(priority),
+                    state: State::Open,
+                    owner: arena.owner(v),
+                    priority,
+                };
+            }
+            self.open(v, priority);
         }
-        Ok(standings)
     }
 
     pub(crate) fn get(&self, v: u32) -> Standing {
@@ -79,43 +88,55 @@ impl Standings {
     }
 
     pub(crate) fn set_player(&mut self, v: u32, player: Player) {
-        if let Some(standing) = self.list.get_mut(v as usize) {
-            standing.player = player;
+        let place = v as usize;
+        if place < self.list.len() {
+            self.list[place].player = player;
         }
     }
 
     pub(crate) fn set_state(&mut self, v: u32, state: State) {
-        if let Some(standing) = self.list.get_mut(v as usize) {
-            standing.state = state;
+        let place = v as usize;
+        if place < self.list.len() {
+            self.list[place].state = state;
         }
     }
 
     /// A vertex of this priority is to be looked at.
-    pub(crate) fn open(&mut self, v: u32, priority: u8) -> Result<(), AllocError> {
+    pub(crate) fn open(&mut self, v: u32, priority: u8) {
         self.set_state(v, State::Open);
-        match self.layers.get_mut(usize::from(priority)) {
-            Some(layer) => layer.open.push(v),
-            None => Ok(()),
+        let place = usize::from(priority);
+        if place < self.layers.len() {
+            self.are_whole &= self.layers[place].open.push(v).is_ok();
         }
     }
 
     /// The last vertex of this priority that was opened, if it is not looked at yet, or one that is no longer open.
     pub(crate) fn pop_open(&mut self, priority: u8) -> Option<u32> {
-        self.layers.get_mut(usize::from(priority))?.open.pop()
+        let place = usize::from(priority);
+        if place < self.layers.len() {
+            self.layers[place].open.pop()
+        } else {
+            None
+        }
     }
 
     /// A vertex of this priority is calm.
-    pub(crate) fn push_calm(&mut self, v: u32, priority: u8) -> Result<(), AllocError> {
+    pub(crate) fn push_calm(&mut self, v: u32, priority: u8) {
         self.set_state(v, State::Calm);
-        match self.layers.get_mut(usize::from(priority)) {
-            Some(layer) => layer.calm.push(v),
-            None => Ok(()),
+        let place = usize::from(priority);
+        if place < self.layers.len() {
+            self.are_whole &= self.layers[place].calm.push(v).is_ok();
         }
     }
 
     /// The last vertex of this priority that was calm, or one that no longer is.
     pub(crate) fn pop_calm(&mut self, priority: u8) -> Option<u32> {
-        self.layers.get_mut(usize::from(priority))?.calm.pop()
+        let place = usize::from(priority);
+        if place < self.layers.len() {
+            self.layers[place].calm.pop()
+        } else {
+            None
+        }
     }
 }
 
@@ -123,8 +144,8 @@ fn layers(alloc: Global, greatest: u8) -> Result<Vec<Layer>, AllocError> {
     let mut layers = Vec::new(alloc);
     for _ in 0..=usize::from(greatest) {
         layers.push(Layer {
-            open: Numbers::none(alloc),
-            calm: Numbers::none(alloc),
+            open: Vec::new(alloc),
+            calm: Vec::new(alloc),
         })?;
     }
     Ok(layers)

@@ -4,13 +4,15 @@ use crate::arena::Arena;
 use crate::cells::NONE;
 use crate::numbers::Numbers;
 use game::player::Player;
-use std::alloc::{AllocError, Global};
+use std::alloc::Global;
 
 /// Who wins each vertex, and the winners' moves.
 #[derive(Drop)]
 pub(crate) struct Winners {
     players: Vec<Player>,
     moves: Numbers,
+    // Whether there was memory for all players.
+    is_whole: bool,
 }
 
 impl Winners {
@@ -19,20 +21,24 @@ impl Winners {
         Winners {
             players: Vec::new(alloc),
             moves: Numbers::none(alloc),
+            is_whole: true,
         }
     }
 
     /// The next vertex, its winner, and the move that it has if it is the winner's own.
-    pub(crate) fn add(
-        &mut self,
-        arena: Arena,
-        v: u32,
-        player: Player,
-        next: u32,
-    ) -> Result<(), AllocError> {
-        self.players.push(player)?;
+    pub(crate) fn add(&mut self, arena: Arena, v: u32, player: Player, next: u32) {
+        self.is_whole &= self.players.push(player).is_ok();
         let owns = arena.owner(v) == player;
-        self.moves.push(if owns { next } else { NONE })
+        self.moves.push(if owns { next } else { NONE });
+    }
+
+    /// These, if there was memory for all.
+    pub(crate) fn whole(self) -> Option<Self> {
+        if self.is_whole && self.moves.is_whole() {
+            Some(self)
+        } else {
+            None
+        }
     }
 
     pub(crate) fn player(&self, v: u32) -> Player {
