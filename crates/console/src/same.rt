@@ -2,9 +2,10 @@
 
 use invocation::inputs::is_standard_input;
 use invocation::names::{EvidenceNames, is_device, over_game};
-use invocation::request::Outputs;
+use invocation::request::{Command, Outputs};
 use requests::error::{ArgumentError, CheckFile, MuError};
 use requests::request::{Check, ReportForm, Solve};
+use std::alloc::{AllocError, Global};
 use std::fs;
 use std::io::ErrorKind;
 use std::os::unix::fs::MetadataExt;
@@ -82,6 +83,52 @@ pub fn keep_game_apart<'a>(
         }
     }
     all_apart(&places, &[]).map_err(MuError::Arguments)
+}
+
+/// Refuses a command whose answer would go to a file that it reads, whatever its name is. `check` and `solve`, which write to other files too, see to
+/// that themselves.
+///
+/// # Errors
+/// U1, with that file; U4.
+pub fn keep_answer_apart(rt: &HostRuntime, command: &Command<'_>) -> Result<(), MuError> {
+    match command {
+        Command::Why(why) => keep_unwritten(rt, &[why.system, why.formula]),
+        Command::Table(table) => {
+            keep_unwritten(rt, &[table.system])?;
+            keep_unwritten(rt, &table.formulas)
+        }
+        Command::Normal(normal) => keep_unwritten(rt, &[normal.formula]),
+        Command::Verify(verify) => {
+            keep_unwritten(rt, &[verify.game, verify.evidence])?;
+            match verify.other {
+                Some(other) => keep_unwritten(rt, &[other]),
+                None => Ok(()),
+            }
+        }
+        Command::Replay(replay) => {
+            keep_unwritten(rt, &[replay.system, replay.formula, replay.schedule])
+        }
+        _ => Ok(()),
+    }
+}
+
+/// Refuses to read these where the answer would go to one of them.
+fn keep_unwritten(rt: &HostRuntime, names: &[&str]) -> Result<(), MuError> {
+    let report = reported(rt, ReportForm::Whole);
+    for name in names {
+        if apart_from(&report, &[read(rt, CheckFile::Formula, name)]).is_err() {
+            return Err(over_input(rt.alloc(), name));
+        }
+    }
+    Ok(())
+}
+
+/// The refusal of an answer that would go to the file of this name, which is read.
+fn over_input(alloc: Global, name: &str) -> MuError {
+    match format!(in alloc; "error: standard output and {name} are the same file\n") {
+        Ok(text) => MuError::Arguments(ArgumentError::Refused(text)),
+        Err(AllocError) => MuError::Memory,
+    }
 }
 
 /// Refuses a place that is written to and is another one of these.

@@ -18,6 +18,7 @@ use commands::replay_text::replay_asked;
 use commands::verify_text::{verify_both_text, verify_text};
 use console::input::open;
 use console::refusal::{NO_SOURCES, Refusal, Sources, tell};
+use console::same::keep_answer_apart;
 use engines::error::{ArgumentError, MuError};
 use engines::request::{Normalize, Replay, Verify};
 use engines::status::{error_status, status};
@@ -65,11 +66,13 @@ fn ended(rt: &HostRuntime, sources: &Sources<'_>, found: Result<u8, Refusal>) ->
     }
 }
 
+/// That no file is destroyed is seen to before any is opened.
 fn run_command<T: Threads + Wait + Clock + Clone + Copy + Drop + Send + Sync + 'static>(
     rt: &HostRuntime,
     threads: &T,
     command: &Command<'_>,
 ) -> Result<u8, Refusal> {
+    keep_answer_apart(rt, command)?;
     let answer = match command {
         Command::Check(request, outputs) => run_check(rt, threads, request, outputs),
         Command::Why(request) => run_why(rt, threads, request),
