@@ -14,7 +14,6 @@ pub mod Taken
 pub mod Reached
 pub mod Places
 pub mod Checked
-pub mod Firsts
 pub mod Making
 pub mod Written
 pub mod Scanned

@@ -1,5 +1,5 @@
 -- Spans that cover all vertices.
-use Rattle.std.proofs.Common.{◌≢◌, ◌+◌, ◌*◌, ◌/◌, ◌<◌, ◌≤◌, ℕ, length, sym, inl, inr, arith}
+use Rattle.std.proofs.Common.{◌≢◌, ◌*◌, ◌/◌, ◌<◌, ◌≤◌, ℕ, length, sym, inl, inr, arith}
 use Rattle.std.proofs.Math.Nat.{div-mul-le_self, le-div_iff_mul-le, mod-eq-sub-div-mul, mod-lt}
 use Rattle.std.proofs.lemmas.Bool.{cases_order}
 use Rattle.game.specs.Game.{Game}

@@ -2,7 +2,6 @@
 use Rattle.std.specs.Prelude.{◌≡◌, ℕ, ◌+◌, ◌*◌, ◌<◌, ◌≤◌, ◌⊎◌, ◌↔◌, List, length, Contains, IsTrue, Option, Some, None}
 use Rattle.game.specs.Game.{Game, Vertex, vertex}
 use Rattle.game.specs.Wins.{WinsBy}
-use Rattle.progress.specs.Laws.{IsLeastSuccessor}
 use Rattle.progress.specs.Measure.{Measure}
 use Rattle.evidence.specs.Best.{IsBestMove}
 use Rattle.evidence.specs.Evidence.{Descends, Entry, Evidence, IsFree, IsFreeAt, entry_at, has}
@@ -57,7 +56,3 @@ Decides g e f =
 -- Even's best move from a vertex
 abbrev pub IsMoveAt : Game → List Measure → ℕ → Option ℕ → Type 0
 IsMoveAt g table v move = (x : Vertex) → vertex g v ≡ Some x → IsBestMove g table x move
-
--- the least successor of a vertex among those with the least prog
-abbrev pub IsBestSuccessor : Game → List Measure → ℕ → ℕ → Type 0
-IsBestSuccessor g table v t = (x : Vertex) → vertex g v ≡ Some x → IsLeastSuccessor g table x t × ((u : ℕ) → IsLeastSuccessor g table x u → t ≤ u)

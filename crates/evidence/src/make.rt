@@ -1,9 +1,9 @@
 // Evidence of all that each player wins.
 
 ghost use Rattle.std.specs.Prelude.{◌≡◌, ◌<◌, ◌≤◌, ◌↔◌, ℕ, IsOkUnless, IsTrue, IfOk, length};
-ghost use Rattle.game.specs.Game.{greatest};
+ghost use Rattle.game.specs.Game.{dual as dual_of, greatest};
 ghost use Rattle.game.specs.Wins.{OddWins, Wins};
-ghost use Rattle.evidence.specs.Checking.{IsBestSuccessor, IsMoveAt};
+ghost use Rattle.evidence.specs.Checking.{IsMoveAt};
 ghost use Rattle.evidence.specs.Best.{IsEvenOf, IsOddOf};
 ghost use Rattle.evidence.specs.Evidence.{IsGood, has};
 
@@ -13,37 +13,13 @@ use crate::evidence::Evidence;
 use game::dual::{dual, greatest_priority};
 use game::graph::Game;
 use game::player::Player;
-use measures::guess::{Guess, NoGuess, solve_one_by};
+use measures::guess::{Guess, NoGuess, solve_one_by, solve_one_with};
 use measures::observer::Silent;
-use measures::progs::prog;
 use measures::table::Settled;
 use normal::limits::GREATEST_PRIORITY;
 use std::alloc::Global;
+use std::thread::Threads;
 use text::Memory;
-
-// The least successor among those with the least prog.
-fn best_successor(game: &Game, settled: &Settled, v: u32) -> u32
-    requires same { settled.now.game ≡ game.now }
-    requires vertex { v < length game.now.vertices }
-    ensures { IsBestSuccessor game.now settled.now.values v result }
-{
-    game.known();
-    settled.known();
-    let successors = game.successors(v);
-    let mut best = successors[0];
-    if successors.len() == 1 {
-        return best;
-    }
-    let mut least = prog(game, v, &settled.value(best));
-    for k in 1..successors.len() {
-        let risen = prog(game, v, &settled.value(successors[k]));
-        if risen.is_below(&least) {
-            best = successors[k];
-            least = risen;
-        }
-    }
-    best
-}
 
 // Where Even goes on from a vertex, if it is Even's.
 fn best_move(game: &Game, settled: &Settled, v: u32) -> Option<u32>
@@ -52,7 +28,7 @@ fn best_move(game: &Game, settled: &Settled, v: u32) -> Option<u32>
     ensures { IsMoveAt game.now settled.now.values v result }
 {
     match game.owner(v) {
-        Player::Even => Some(best_successor(game, settled, v)),
+        Player::Even => Some(settled.best_successor(game, v)),
         Player::Odd => None,
     }
 }
@@ -67,9 +43,8 @@ fn entries_of(alloc: Global, game: &Game, settled: &Settled) -> Result<Entries, 
     let width = (greatest_priority(game) as usize + 1) / 2;
     let mut entries = Entries::none(alloc, game.vertices() as usize, width)?;
     for v in 0..game.vertices() {
-        let value = settled.value(v);
-        if !value.is_top() {
-            entries.set(v as usize, best_move(game, settled, v), value.counts());
+        if !settled.is_top(v) {
+            entries.set(v as usize, best_move(game, settled, v), settled.counts(v));
         }
     }
     Ok(entries)
@@ -80,6 +55,20 @@ fn solved_entries<G: Guess>(alloc: Global, game: &Game, guess: &G) -> Result<Ent
     ensures { IfOk result (λ e. IsEvenOf game.now (record { player = Player.Even; entries = e.entries })) }
 {
     let settled = solve_one_by(alloc, game, guess, &Silent)?;
+    entries_of(alloc, game, &settled)
+}
+
+// The same, where so many threads share the vertices of a large game in the test of the guess.
+fn solved_entries_with<G: Guess, R: Threads + Sync>(
+    rt: &R,
+    alloc: Global,
+    game: &Game,
+    guess: &G,
+    workers: usize,
+) -> Result<Entries, Memory>
+    ensures { IfOk result (λ e. IsEvenOf game.now (record { player = Player.Even; entries = e.entries })) }
+{
+    let settled = solve_one_with(rt, alloc, game, guess, &Silent, workers)?;
     entries_of(alloc, game, &settled)
 }
 
@@ -103,6 +92,19 @@ pub fn even_evidence(
     game.known();
     let entries = entries_of(alloc, game, settled)?;
     Ok(Evidence::of(Player::Even, entries, game))
+}
+
+// Even's entries of the dual game, read for Odd.
+fn for_odd(game: &Game, entries: Entries) -> Evidence
+    requires few { greatest game.now ≤ GREATEST_PRIORITY }
+    requires even { IsEvenOf (dual_of game.now) (record { player = Player.Even; entries = entries.entries }) }
+    ensures game { result.game ≡ game.now }
+    ensures odd { IsOddOf game.now result.evidence }
+    ensures good { IsGood game.now result.evidence }
+    ensures exact { (v : ℕ) → IsTrue (has result.evidence v) ↔ OddWins game.now v }
+{
+    game.known();
+    Evidence::of(Player::Odd, entries, game)
 }
 
 /// Evidence of all that Odd wins: Even's of the dual game, read for Odd.
@@ -136,10 +138,34 @@ pub fn odd_evidence_by<G: Guess>(
     ensures good { IfOk result (λ e. IsGood game.now e.evidence) }
     ensures exact { IfOk result (λ e. (v : ℕ) → IsTrue (has e.evidence v) ↔ OddWins game.now v) }
 {
-    game.known();
     let Ok(turned) = dual(alloc, game) else {
         return Err(EvidenceError::Memory);
     };
     let entries = solved_entries(alloc, &turned, guess)?;
-    Ok(Evidence::of(Player::Odd, entries, game))
+    Ok(for_odd(game, entries))
+}
+
+/// The same, where so many threads share the vertices of a large game in the test of the guess.
+///
+/// # Errors
+/// Those of `odd_evidence`.
+pub fn odd_evidence_with<G: Guess, R: Threads + Sync>(
+    rt: &R,
+    alloc: Global,
+    game: &Game,
+    guess: &G,
+    workers: usize,
+) -> Result<Evidence, EvidenceError>
+    requires { greatest game.now ≤ GREATEST_PRIORITY }
+    ensures game { IfOk result (λ e. e.game ≡ game.now) }
+    ensures memory { IsOkUnless result EvidenceError.Memory }
+    ensures odd { IfOk result (λ e. IsOddOf game.now e.evidence) }
+    ensures good { IfOk result (λ e. IsGood game.now e.evidence) }
+    ensures exact { IfOk result (λ e. (v : ℕ) → IsTrue (has e.evidence v) ↔ OddWins game.now v) }
+{
+    let Ok(turned) = dual(alloc, game) else {
+        return Err(EvidenceError::Memory);
+    };
+    let entries = solved_entries_with(rt, alloc, &turned, guess, workers)?;
+    Ok(for_odd(game, entries))
 }

@@ -12,6 +12,7 @@ use progress::proposal::Proposal;
 use progress::settle::{is_settled, lift_ahead, settle_seen};
 use progress::table::{PlainTable, Settled, opening};
 use std::alloc::Global;
+use std::thread::Threads;
 use text::Memory;
 
 /// A guess of the least progress table of a game: the whole table, or part by part. A part may rest on those before it.
@@ -143,11 +144,9 @@ pub fn jump_to_guess<G: Guess>(
     Ok(jump_to_parts(game, table, &mut claim, guess))
 }
 
-/// The least progress table, where it is guessed as a whole and the guess is good. One pass over the edges tests it, and nothing is
-/// lifted. Where nothing is guessed it takes no time. Want of memory is no guess.
-pub fn settled_by_guess<G: Guess>(alloc: Global, game: &Game, guess: &G) -> Option<Settled>
-    ensures game { IfSome result (λ s. s.game ≡ game.now) }
-    ensures least { IfSome result (λ s. IsLeastTable game.now s.values) }
+// What is guessed of the whole table, if it is. Want of memory is no guess.
+fn proposed<G: Guess>(alloc: Global, game: &Game, guess: &G) -> Option<Proposal>
+    ensures { IfSome result (λ p. p.game ≡ game.now) }
 {
     if guess.parts() == 0 {
         return None;
@@ -155,12 +154,41 @@ pub fn settled_by_guess<G: Guess>(alloc: Global, game: &Game, guess: &G) -> Opti
     match Proposal::new(alloc, game) {
         Ok(mut proposal) => {
             if guess.propose(game, &mut proposal) {
-                proposal.into_settled(game)
+                Some(proposal)
             } else {
                 None
             }
         }
         Err(Memory) => None,
+    }
+}
+
+/// The least progress table, where it is guessed as a whole and the guess is good. One pass over the edges tests it, and nothing is
+/// lifted. Where nothing is guessed it takes no time. Want of memory is no guess.
+pub fn settled_by_guess<G: Guess>(alloc: Global, game: &Game, guess: &G) -> Option<Settled>
+    ensures game { IfSome result (λ s. s.game ≡ game.now) }
+    ensures least { IfSome result (λ s. IsLeastTable game.now s.values) }
+{
+    match proposed(alloc, game, guess) {
+        Some(proposal) => proposal.into_settled(game),
+        None => None,
+    }
+}
+
+/// The same, where so many threads share the vertices of a large game in the test.
+pub fn settled_by_guess_with<G: Guess, R: Threads + Sync>(
+    rt: &R,
+    alloc: Global,
+    game: &Game,
+    guess: &G,
+    workers: usize,
+) -> Option<Settled>
+    ensures game { IfSome result (λ s. s.game ≡ game.now) }
+    ensures least { IfSome result (λ s. IsLeastTable game.now s.values) }
+{
+    match proposed(alloc, game, guess) {
+        Some(proposal) => proposal.into_settled_by(rt, alloc, game, workers),
+        None => None,
     }
 }
 
@@ -229,6 +257,33 @@ pub fn solve_one_by<G: Guess, O: Observer>(
         vertices: game.vertices(),
     });
     match settled_by_guess(alloc, game, guess) {
+        Some(settled) => Ok(settled),
+        None => solve_by_parts(alloc, game, guess, observer),
+    }
+}
+
+/// The same, where so many threads share the vertices of a large game in the test of a guess of the whole table.
+///
+/// # Errors
+/// Want of memory for the table itself.
+pub fn solve_one_with<G: Guess, O: Observer, R: Threads + Sync>(
+    rt: &R,
+    alloc: Global,
+    game: &Game,
+    guess: &G,
+    observer: &O,
+    workers: usize,
+) -> Result<Settled, Memory>
+    ensures game { IfOk result (λ s. s.game ≡ game.now) }
+    ensures least { IfOk result (λ s. IsLeastTable game.now s.values) }
+{
+    if workers < 2 || guess.parts() == 0 {
+        return solve_one_by(alloc, game, guess, observer);
+    }
+    observer.sees(Stage::Searching {
+        vertices: game.vertices(),
+    });
+    match settled_by_guess_with(rt, alloc, game, guess, workers) {
         Some(settled) => Ok(settled),
         None => solve_by_parts(alloc, game, guess, observer),
     }

@@ -37,3 +37,6 @@ pub mod Rounds
 pub mod Demands
 pub mod Proposals
 pub mod StoredProposals
+pub mod Moves
+pub mod Spanned
+pub mod Asking

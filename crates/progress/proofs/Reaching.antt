@@ -1,6 +1,6 @@
 -- Whether a measure reaches another, by comparing their first counts.
-use Rattle.progress.proofs.Common.{◌≡◌, ◌≢◌, ◌↔◌, ℕ, ◌-◌, ◌/◌, ◌%◌, Bool, false, List, length, take, sym, ap, subst, ◌∙◌, inl, inr, arith, IsTrue, MatchBool}
-use Rattle.progress.proofs.Common.{Ordering, is_le, is_lt, nat_cmp, slice_cmp, Game, Measure, Counts, IsAtMost, IsBelow, IsProg, Reaches, components, is_odd}
+use Rattle.progress.proofs.Common.{◌≡◌, ◌≢◌, ◌↔◌, ℕ, ◌-◌, ◌/◌, ◌%◌, Bool, false, List, length, take, refl, sym, ap, subst, ◌∙◌, inl, inr, arith, IsTrue, MatchBool}
+use Rattle.progress.proofs.Common.{Ordering, is_le, is_lt, nat_cmp, slice_cmp, Game, Measure, Counts, Top, IsAtMost, IsBelow, IsProg, Reaches, components, is_odd}
 use Rattle.progress.proofs.Common.{kept, is_top_of, measure_of}
 use Rattle.progress.proofs.Carry.{even_is, odd_is}
 use Rattle.progress.proofs.Components.{kept_is}
@@ -9,6 +9,10 @@ use Rattle.progress.proofs.Measures.{at_most_or_below, reaches_up}
 -- counts of a measure that isn't top are the measure
 pub counts_are : (m : Measure) (top : Bool) (c : List ℕ) → top ≡ is_top_of m → top ≡ false → measure_of (is_top_of m) c ≡ m → Counts c ≡ m
 counts_are m top c e d is = sym (ap (λ b. measure_of b c) (sym e ∙ d)) ∙ is
+
+pub counts_here : (m : Measure) (c : List ℕ) → m ≢ Top → measure_of (is_top_of m) c ≡ m → Counts c ≡ m
+counts_here Top c never is = absurd (never refl)
+counts_here (Counts a) c never is = is
 
 module _ (g : Game) (p k w : ℕ) (c d : List ℕ) (m r : Measure) (first : Counts c ≡ m) (second : Counts d ≡ r) (keeps : k ≡ w - p / 2)
     (wide : length (components g) ≡ w) where

@@ -1,15 +1,16 @@
 -- Proposals that are stored in rows.
 use Rattle.progress.proofs.Common.{◌≡◌, ◌≢◌, ◌↔◌, ℕ, zero, suc, ◌+◌, ◌<◌, ◌≤◌, Bool, false, List, length, replicate, refl, sym, ap, ap₂, subst, ◌∙◌, inl, inr}
 use Rattle.progress.proofs.Common.{arith, IsTrue, Some, true≢false, option_map, slice_index, slice_set, length-replicate, length-set, eqb_tells}
-use Rattle.progress.proofs.Common.{AllByRecursion, AllZip, is_le, Ordering, Player, Vertex, Game, IsGame, vertex, count, dual, components, Measure, Top}
-use Rattle.progress.proofs.Common.{Counts, IsMeasure, IsTable, Reaches, measure_cmp, value_at, zeros, bounds, IsProgUnder, ReachesAt, Rows, is_top_of}
+use Rattle.progress.proofs.Common.{AllByRecursion, AllZip, Player, Vertex, Game, IsGame, vertex, count, dual, components, Measure, Top}
+use Rattle.progress.proofs.Common.{Counts, IsMeasure, IsTable, Reaches, value_at, zeros, bounds, ReachesAt, Rows, is_top_of}
 use Rattle.progress.proofs.Common.{IsStill}
 use Rattle.progress.specs.Proposal.{AreEnough, Falls, HasReasonsAt, IsAskedFor, IsReason, Proposal, blank}
+use Rattle.progress.specs.Progs.{IsAtMostProg}
 use Rattle.progress.specs.StoredProposal.{IsStoredProposal}
 use Rattle.progress.proofs.Bests.{vertex_here, vertex_tells}
 use Rattle.progress.proofs.Lifts.{value_measure}
 use Rattle.progress.proofs.Lists.{all_from}
-use Rattle.progress.proofs.Measures.{at_most_itself, at_most_trans, none_bounded, prog_more}
+use Rattle.progress.proofs.Measures.{none_bounded, prog}
 use Rattle.progress.proofs.Plain.{value_set_other, value_set_same, zeros_are}
 use Rattle.progress.proofs.Within.{measure_within}
 
@@ -70,17 +71,14 @@ module _ (c : Proposal) (limits : List ℕ) (width high : ℕ) (stored : IsStore
       either (inl l) e = absurd (omega arith)
       either (inr s) e = s.1
 
-  pub asked_is : (p v t : ℕ) (ls : List ℕ) (asked : Measure) (o : Ordering) (b : Bool) → ls ≡ limits → IsProgUnder ls p (value_at c.values t) asked
-      → o ≡ measure_cmp (value_at c.values v) asked → b ≡ is_le o
+  pub asked_is : (p v t : ℕ) (ls : List ℕ) (b : Bool) → ls ≡ limits → IsAtMostProg ls p (value_at c.values t) (value_at c.values v) b
       → IsTrue b ↔ IsAskedFor now p v t
-  asked_is p v t ls asked o b e under f d =
+  asked_is p v t ls b e low =
       let m = value_at c.values t in
-      let prog = under c.game (sym (e ∙ stored.bounded)) (value_measure c.game c.values stored.table.1 t) in
-      let whole : b ≡ is_le (measure_cmp (value_at c.values v) asked) = d ∙ ap is_le f in
-      subst (λ (d : Proposal). IsTrue b ↔ IsAskedFor d p v t) is (
-        (λ h r also. at_most_trans (value_at c.values v) asked r (sym whole ∙ h) (prog_more c.game p m m asked r (at_most_itself m) prog also)),
-        (λ h. whole ∙ h asked prog),
-      )
+      let measure = value_measure c.game c.values stored.table.1 t in
+      let of = low c.game (sym (e ∙ stored.bounded)) measure in
+      let r = prog c.game p m measure in
+      subst (λ (d : Proposal). IsTrue b ↔ IsAskedFor d p v t) is ((λ h s also. (of s also).0 h), (λ h. (of r.0 r.1).1 (h r.0 r.1)))
 
   -- what is told of the rows
   module _ (g : Game) (same : now.game ≡ g) (v : ℕ) (values : Rows) (are : values.values ≡ c.values) (wide : values.width ≡ width) where

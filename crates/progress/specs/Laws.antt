@@ -20,6 +20,10 @@ pub record IsLeastSuccessor (g : Game) (table : List Measure) (x : Vertex) (t : 
   pub least : (u : ℕ) → Contains x.successors u → (m r : Measure) → IsProg g x.priority (value_at table t) m → IsProg g x.priority (value_at table u) r
       → IsAtMost m r
 
+-- the least successor of a vertex among those with the least prog
+abbrev pub IsBestSuccessor : Game → List Measure → ℕ → ℕ → Type 0
+IsBestSuccessor g table v t = (x : Vertex) → vertex g v ≡ Some x → IsLeastSuccessor g table x t × ((u : ℕ) → IsLeastSuccessor g table x u → t ≤ u)
+
 -- Even wins each vertex at which some progress table isn't top, by choosing a successor with the least prog.
 abbrev pub TableWins : Type 0
 TableWins =

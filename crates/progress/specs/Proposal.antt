@@ -1,5 +1,5 @@
 -- Proposals: a value for each vertex of a game, with reasons that can be tested in one pass over the vertices.
-use Rattle.std.specs.Prelude.{◌≡◌, ◌≢◌, ◌<◌, ◌⊎◌, ℕ, ◌+◌, List, Contains, Some, length, replicate, slice_index, slice_set}
+use Rattle.std.specs.Prelude.{◌≡◌, ◌≢◌, ◌<◌, ◌≤◌, ◌⊎◌, ℕ, ◌+◌, ◌*◌, List, Contains, Some, length, replicate, slice_index, slice_set}
 use Rattle.game.specs.declared.player.Player.{Player}
 use Rattle.game.specs.declared.player.Player.TheVariants.{Even, Odd}
 use Rattle.game.specs.Game.{Game, Vertex, dual, vertex}
@@ -66,6 +66,10 @@ HasReasonsAt c v = (x : Vertex) × (vertex c.game v ≡ Some x) × HasReasons c 
 -- No lift raises v, and its value has its reasons where it is above zeros.
 abbrev pub IsGoodVertex : Proposal → ℕ → Type 0
 IsGoodVertex c v = IsStill c.game c.values v × (value_at c.values v ≢ zeros c.game → HasReasonsAt c v)
+
+-- So are all vertices of a span, where spans have so many each.
+abbrev pub IsGoodSpan : Proposal → (size span : ℕ) → Type 0
+IsGoodSpan c size span = (v : ℕ) → span * size ≤ v → v < span * size + size → v < length c.game.vertices → IsGoodVertex c v
 
 -- No lift raises a vertex, and each value above zeros has its reasons.
 pub record IsGoodProposal (c : Proposal) : Type 0 where

@@ -11,6 +11,7 @@ use crate::bounds::{bounds, dual_width};
 use crate::measure::Measure;
 use crate::progs::are_within;
 use crate::rows::Rows;
+use crate::spans::is_good_by;
 use crate::table::Settled;
 use arrayvec::ArrayVec;
 use game::graph::Game;
@@ -18,6 +19,7 @@ use game::player::Player;
 use std::alloc::Global;
 use std::marker::Model;
 use std::snapshot::Snapshot;
+use std::thread::Threads;
 use text::Memory;
 
 /// For each vertex of a game a value, and what its reasons fall by: a group, and a rank within the group.
@@ -131,10 +133,9 @@ impl Proposal {
         requires next { next < length self.now.game.vertices }
         ensures { IsTrue result ↔ IsAskedFor self.now priority v next }
     {
-        let asked = self
-            .values
-            .prog_of(self.bounds.as_slice(), priority, next as usize);
-        self.values.compare_with(v as usize, &asked).is_le()
+        let bounds = self.bounds.as_slice();
+        self.values
+            .is_asked_for(bounds, priority, v as usize, next as usize)
     }
 
     // Whether an edge is a reason for the value of a vertex of this priority.
@@ -195,8 +196,8 @@ impl Proposal {
         }
     }
 
-    // Whether no lift raises a vertex, and its value is zeros or has its reasons.
-    fn is_good_at(&self, game: &Game, v: u32) -> bool
+    /// Whether no lift raises a vertex, and its value is zeros or has its reasons.
+    pub(crate) fn is_good_at(&self, game: &Game, v: u32) -> bool
         requires same { self.now.game ≡ game.now }
         requires vertex { v < length game.now.vertices }
         ensures { IsTrue result ↔ IsGoodVertex self.now v }
@@ -205,8 +206,8 @@ impl Proposal {
             && (self.values.is_zeros(v as usize) || self.has_reasons(game, v))
     }
 
-    // Whether the proposal is good. It comes to each vertex once, and looks at its edges twice at most.
-    fn is_good(&self, game: &Game) -> bool
+    /// Whether the proposal is good. It comes to each vertex once, and looks at its edges twice at most.
+    pub(crate) fn is_good(&self, game: &Game) -> bool
         requires same { self.now.game ≡ game.now }
         ensures { IsTrue result ↔ IsGoodProposal self.now }
     {
@@ -219,6 +220,22 @@ impl Proposal {
         true
     }
 
+    // The values that are proposed, where the proposal was found good.
+    fn settled_where(self, is_good: bool) -> Option<Settled>
+        requires { IsTrue is_good ↔ IsGoodProposal self }
+        ensures good { IsSome result ↔ IsGoodProposal self }
+        ensures game { IfSome result (λ s. s.game ≡ self.game) }
+        ensures least { IfSome result (λ s. IsLeastTable self.game s.values) }
+        ensures values { IfSome result (λ s. s.values ≡ self.values) }
+    {
+        self.known();
+        if !is_good {
+            return None;
+        }
+        let Proposal { values, of, .. } = self;
+        Some(Settled::of_rows(values, of))
+    }
+
     /// The values that are proposed, where the proposal is good: then they are the least progress table. It takes no memory,
     /// comes to each vertex once, and looks at its edges twice at most.
     pub fn into_settled(self, game: &Game) -> Option<Settled>
@@ -228,11 +245,25 @@ impl Proposal {
         ensures least { IfSome result (λ s. IsLeastTable game.now s.values) }
         ensures values { IfSome result (λ s. s.values ≡ self.values) }
     {
-        self.known();
-        if !self.is_good(game) {
-            return None;
-        }
-        let Proposal { values, of, .. } = self;
-        Some(Settled::of_rows(values, of))
+        let is_good = self.is_good(game);
+        self.settled_where(is_good)
+    }
+
+    /// The same, where so many threads share the vertices of a large game.
+    pub fn into_settled_by<R: Threads + Sync>(
+        self,
+        rt: &R,
+        alloc: Global,
+        game: &Game,
+        workers: usize,
+    ) -> Option<Settled>
+        requires same { self.game ≡ game.now }
+        ensures good { IsSome result ↔ IsGoodProposal self }
+        ensures game { IfSome result (λ s. s.game ≡ game.now) }
+        ensures least { IfSome result (λ s. IsLeastTable game.now s.values) }
+        ensures values { IfSome result (λ s. s.values ≡ self.values) }
+    {
+        let is_good = is_good_by(rt, alloc, &self, game, workers);
+        self.settled_where(is_good)
     }
 }

@@ -1,9 +1,9 @@
 // The measures of many vertices, in one list of counts.
 
-ghost use Rattle.std.specs.Prelude.{◌≡◌, ◌<◌, ◌≤◌, ◌↔◌, ◌+◌, ◌*◌, ◌++◌, drop, length, map, replicate, slice_set, take, IfOk, IsTrue};
-ghost use Rattle.progress.specs.Measure.{Counts, Top, components, measure_cmp};
+ghost use Rattle.std.specs.Prelude.{◌≡◌, ◌<◌, ◌≤◌, ◌↔◌, ◌+◌, ◌-◌, ◌*◌, ◌++◌, drop, length, map, replicate, slice_set, take, IfOk, IsTrue};
+ghost use Rattle.progress.specs.Measure.{Counts, IsAtMost, Top, components, measure_cmp};
 ghost use Rattle.progress.specs.Progress.{IsBestFor, IsTable, value_at};
-ghost use Rattle.progress.specs.Progs.{IsProgUnder};
+ghost use Rattle.progress.specs.Progs.{IsAtMostProg, IsProgUnder};
 ghost use Rattle.progress.specs.Settling.{IsStill};
 ghost use Rattle.std.specs.List.{AllByRecursion};
 ghost use Rattle.progress.specs.View.{ArePut, HasWidth, ReachesAt, Rows, is_top_of, measure_of};
@@ -173,6 +173,23 @@ impl Rows {
         }
     }
 
+    /// Whether the measure of a place is at most what a vertex of this priority asks for where its play goes on at the other, in a game with
+    /// these bounds. Where the priority is even nothing is copied.
+    pub(crate) fn is_asked_for(&self, bounds: &[u32], priority: u8, v: usize, next: usize) -> bool
+        requires few { length bounds.now ≤ COMPONENTS }
+        requires width { self.now.width ≡ length bounds.now }
+        requires place { v < length self.now.values }
+        requires next { next < length self.now.values }
+        ensures { IsAtMostProg bounds.now priority (value_at self.now.values next) (value_at self.now.values v) result }
+    {
+        if priority % 2 == 0 && !self.is_top(v) && !self.is_top(next) {
+            let kept = self.width.saturating_sub(priority as usize / 2);
+            return is_at_most_kept(self.counts(v), self.counts(next), kept);
+        }
+        let asked = self.prog_of(bounds, priority, next);
+        self.compare_with(v, &asked).is_le()
+    }
+
     /// Whether no lift raises a vertex of a game whose vertices have these measures.
     pub(crate) fn is_still(&self, game: &Game, v: u32) -> bool
         requires table { IsTable game.now self.now.values }
@@ -232,6 +249,19 @@ impl Rows {
     {
         self.tops[v] = false;
         write_row(self.counts.as_mut_slice(), self.width, v, counts);
+    }
+}
+
+// Whether counts are at most others, of which so many are kept and the rest are zeros.
+fn is_at_most_kept(own: &[u32], counts: &[u32], kept: usize) -> bool
+    requires long { length own.now ≡ length counts.now }
+    requires kept { kept ≤ length counts.now }
+    ensures { IsTrue result ↔ IsAtMost (Counts own.now) (Counts (take kept counts.now ++ replicate (length counts.now - kept) 0)) }
+{
+    match own[..kept].cmp(&counts[..kept]) {
+        Ordering::Less => true,
+        Ordering::Equal => are_zeros(&own[kept..]),
+        Ordering::Greater => false,
     }
 }
 

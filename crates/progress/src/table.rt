@@ -1,10 +1,11 @@
 // Tables of measures.
 
-ghost use Rattle.std.specs.Prelude.{◌≡◌, ◌<◌, ◌↔◌, ℕ, Contains, IsSome, IsTrue, Some, length, slice_set, IfOk};
+ghost use Rattle.std.specs.Prelude.{◌≡◌, ◌≢◌, ◌<◌, ◌↔◌, ℕ, Contains, IsSome, IsTrue, Some, length, option_map, slice_set, IfOk};
 ghost use Rattle.std.specs.List.{AllByRecursion};
-ghost use Rattle.game.specs.Game.{IsGame};
+ghost use Rattle.game.specs.Game.{IsGame, vertex};
 ghost use Rattle.progress.specs.Claim.{AreRaised, Entry, IsGoodAt, IsGoodClaim, IsGoodFrom, Jumps, claimed_at, entry_at};
-ghost use Rattle.progress.specs.Measure.{IsProg, Top};
+ghost use Rattle.progress.specs.Laws.{IsBestSuccessor};
+ghost use Rattle.progress.specs.Measure.{Counts, IsProg, Top};
 ghost use Rattle.progress.specs.Progress.{IsProgress, LiesUnder, greater_of, opening as opening_of, value_at};
 ghost use Rattle.progress.specs.Settling.{IsStill, LiftsAt};
 ghost use Rattle.progress.specs.Tables.{IsOpening, IsPlain, IsSettled, IsStoredSettled, LiesBelow};
@@ -361,5 +362,36 @@ impl Settled {
         ensures least { IsSettled self.now }
     {
         self.values.value(v as usize)
+    }
+
+    /// The counts of a vertex's measure. They are not copied.
+    #[tactic(auto, using(crate::proofs::Reaching::counts_here))]
+    pub fn counts(&self, v: u32) -> &[u32]
+        requires vertex { v < length self.now.game.vertices }
+        requires counts { value_at self.now.values v ≢ Top }
+        ensures { Counts result.now ≡ value_at self.now.values v }
+    {
+        self.values.counts(v as usize)
+    }
+
+    /// Where Even goes on from one of its vertices: to the least of the successors with the least `prog`. It is the first whose measure the
+    /// vertex's reaches, and the last where no other is, so that no `prog` is computed, and a successor that is alone isn't looked at.
+    pub fn best_successor(&self, game: &Game, v: u32) -> u32
+        requires same { self.now.game ≡ game.now }
+        requires vertex { v < length game.now.vertices }
+        requires own { option_map (λ x. x.owner) (vertex game.now v) ≡ Some Player.Even }
+        ensures { IsBestSuccessor game.now self.now.values v result }
+    {
+        self.known();
+        let priority = game.priority(v);
+        let successors = game.successors(v);
+        let last = successors.len() - 1;
+        for k in 0..last {
+            let next = successors[k];
+            if self.values.reaches(v as usize, next as usize, priority) {
+                return next;
+            }
+        }
+        successors[last]
     }
 }

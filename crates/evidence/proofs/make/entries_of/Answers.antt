@@ -1,9 +1,7 @@
-use Rattle.std.proofs.Common.{◌≢◌, ◌+◌, ap, arith, refl, subst, sym, true≢false, ◌∙◌}
+use Rattle.std.proofs.Common.{◌+◌, arith, refl, subst, sym, ◌∙◌}
 use Rattle.game.specs.Game.{Game}
 use Rattle.game.proofs.Greatest.{greatest_limit}
-use Rattle.progress.specs.Measure.{Counts, Top}
-use Rattle.progress.specs.Progress.{IsLeastTable}
-use Rattle.progress.proofs.Bests.{counts_back}
+use Rattle.progress.specs.Progress.{IsLeastTable, value_at}
 use Rattle.evidence.specs.View.{Entries}
 use Rattle.evidence.proofs.Making.{IsMade, made_even, made_left, made_more, made_none, rank_long}
 use Rattle.evidence.proofs.make.entries_of.Goals as goal
@@ -23,10 +21,8 @@ loop-v-init c =
 pub set-requires-clause-width : goal.set-requires-clause-width
 set-requires-clause-width c =
     let table = c.args.settled.now.values in
-    let not_top : c.value-value.result ≢ Top = λ e. true≢false (sym (c.is_top.ensures.1 e) ∙ c.if-not-is_top.true) in
-    let rank = ap Counts c.counts.ensures.value ∙ (counts_back c.value-value.result not_top ∙ c.value-value.ensures.value) in
-    rank_long c.args.game.now table c.loop-v.v c.counts.result.now (subst (λ (g : Game). IsLeastTable g table) c.requires c.known-2.ensures.least) rank
-    ∙ sym c.loop-v.invariant.width
+    rank_long c.args.game.now table c.loop-v.v c.counts.result.now (subst (λ (g : Game). IsLeastTable g table) c.requires c.known-2.ensures.least)
+    c.counts.ensures ∙ sym c.loop-v.invariant.width
 
 pub loop-v-preserved : goal.loop-v-preserved
 loop-v-preserved c =
@@ -34,13 +30,11 @@ loop-v-preserved c =
     let table = c.args.settled.now.values in
     let v = c.loop-v.v in
     elim c.if-not-is_top.branch [
-      | then-not-is_top w ↦ (
-          let not_top : c.value-value.result ≢ Top = λ e. true≢false (sym (c.is_top.ensures.1 e) ∙ w.if-not-is_top.true) in
-          subst (λ (es : Entries). IsMade g table (v + 1) es) (sym w.entries-is)
-          (made_more g table v c.loop-v.entries c.loop-v.invariant c.value-value.result c.value-value.ensures.value w.counts.result.now w.best_move.result _
-          (ap Counts w.counts.ensures.value ∙ counts_back c.value-value.result not_top) (omega arith) w.best_move.ensures w.set.ensures))
+      | then-not-is_top w ↦ subst (λ (es : Entries). IsMade g table (v + 1) es) (sym w.entries-is)
+          (made_more g table v c.loop-v.entries c.loop-v.invariant (value_at table v) refl w.counts.result.now w.best_move.result _
+          w.counts.ensures (omega arith) w.best_move.ensures w.set.ensures)
       | else-not-is_top w ↦ subst (λ (es : Entries). IsMade g table (v + 1) es) (sym w.entries-is)
-          (made_left g table v c.loop-v.entries c.loop-v.invariant c.value-value.result c.value-value.ensures.value (c.is_top.ensures.0 w.if-not-is_top.false))
+          (made_left g table v c.loop-v.entries c.loop-v.invariant (value_at table v) refl (c.is_top.ensures.value.0 w.if-not-is_top.false))
     ]
 
 pub returns : goal.returns

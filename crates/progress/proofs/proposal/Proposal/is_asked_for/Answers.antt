@@ -6,5 +6,4 @@ returns c =
     let i = c.self.inside in
     asked_is (record { game = i.of.value; values = i.values.values; groups = i.groups.items; ranks = i.ranks.values }) i.bounds.items i.values.width
     i.ranks.width c.self.invariant c.args.self.now c.self.view_is c.args.priority c.args.v c.args.next
-    c.as_slice.result.now c.prog_of-asked.result c.compare_with.result c.is_le.result c.as_slice.ensures.value c.prog_of-asked.ensures c.compare_with.ensures
-    c.is_le.ensures
+    c.as_slice-bounds.result.now c.is_asked_for.result c.as_slice-bounds.ensures.value c.is_asked_for.ensures
