@@ -30,13 +30,18 @@ fn priorities(form: &Form, root: u32) -> [bool; PRIORITIES] {
 impl Blocks {
     /// The blocks of the component that has this root.
     pub(crate) fn of(form: &Form, root: u32) -> Self {
+        Blocks::below(form, root, PRIORITIES as u8)
+    }
+
+    /// The blocks of those of its binders whose priority is less than this one.
+    pub(crate) fn below(form: &Form, root: u32, end: u8) -> Self {
         let mut blocks = Blocks {
             greatest: [0; PRIORITIES],
             count: 0,
         };
         let are_there = priorities(form, root);
         for priority in 0..PRIORITIES as u8 {
-            if are_there[usize::from(priority)] {
+            if are_there[usize::from(priority)] && priority < end {
                 blocks.add(priority);
             }
         }
@@ -56,6 +61,11 @@ impl Blocks {
 
     pub(crate) fn count(&self) -> u32 {
         self.count
+    }
+
+    /// The greatest priority of all blocks.
+    pub(crate) fn last(&self) -> u8 {
+        self.priority(self.count.saturating_sub(1))
     }
 
     /// The greatest priority of a block.

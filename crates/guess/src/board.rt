@@ -1,6 +1,6 @@
 // What is known of each node at each state.
 
-use crate::bits::{Sheet, WORD};
+use crate::bits::{Sheet, WORD, bit};
 use crate::edges::{Edges, takes};
 use crate::form::{Form, Side};
 use crate::numbers::{Numbers, Words};
@@ -46,6 +46,9 @@ pub(crate) struct Board {
     words: Vec<Words>,
     levels: Vec<Numbers>,
     rounds: Vec<Numbers>,
+    // Ranks that are kept place by place: the count of the greater priority, and that of the lesser one.
+    highs: Vec<Numbers>,
+    lows: Vec<Numbers>,
     /// The value of each level, one part after another.
     pub(crate) values: Vec<u64>,
     /// Whether there was memory for all.
@@ -61,7 +64,8 @@ pub(crate) fn no_numbers(stock: &mut Stock, nodes: u32) -> Vec<Numbers> {
     lists
 }
 
-fn no_words(stock: &mut Stock, nodes: u32) -> Vec<Words> {
+/// No words yet for each of so many nodes.
+pub(crate) fn no_words(stock: &mut Stock, nodes: u32) -> Vec<Words> {
     let mut lists = Vec::new(stock.alloc);
     for _ in 0..nodes {
         stock.note(lists.push(Words::none(stock.alloc)).is_ok());
@@ -119,6 +123,8 @@ impl Board {
             words: no_words(stock, count),
             levels: no_numbers(stock, count),
             rounds: no_numbers(stock, count),
+            highs: no_numbers(stock, count),
+            lows: no_numbers(stock, count),
             values: Vec::new(stock.alloc),
             is_whole: true,
             form,
@@ -189,6 +195,59 @@ impl Board {
         match self.form.side {
             Side::Own => value,
             Side::Dual => self.scale.without_steps(value),
+        }
+    }
+
+    /// The states of a word at which a node's value is above a limit.
+    pub(crate) fn above(&self, node: u32, word: u32, limit: u64) -> u64 {
+        if self.known(node) == Known::Tops {
+            return self.tops.word(node, word);
+        }
+        let mut bits = 0;
+        for state in self.states_of(word) {
+            if self.plain_value(node, state) > limit {
+                bits |= bit(state);
+            }
+        }
+        bits
+    }
+
+    /// The least value of a node above a limit, or top.
+    pub(crate) fn least_above(&self, node: u32, limit: u64) -> u64 {
+        let mut least = TOP;
+        for state in 0..self.states {
+            let value = self.plain_value(node, state);
+            if value > limit {
+                least = least.min(value);
+            }
+        }
+        least
+    }
+
+    /// Makes room for the ranks of a node at each state, which are the greatest at first.
+    pub(crate) fn open_ranks(&mut self, alloc: Global, node: u32) {
+        let (place, length) = (node as usize, self.states as usize);
+        if place < self.highs.len() && place < self.lows.len() {
+            self.is_whole &= self.highs[place].refill(alloc, NEVER, length);
+            self.is_whole &= self.lows[place].refill(alloc, NEVER, length);
+        }
+    }
+
+    /// The kept rank of a node at a state: the count of the greater priority, and that of the lesser one.
+    pub(crate) fn kept_rank(&self, node: u32, state: u32) -> (u32, u32) {
+        let place = node as usize;
+        if place < self.highs.len() && place < self.lows.len() {
+            (self.highs[place].get(state), self.lows[place].get(state))
+        } else {
+            (NEVER, NEVER)
+        }
+    }
+
+    pub(crate) fn keep_rank(&mut self, node: u32, state: u32, high: u32, low: u32) {
+        let place = node as usize;
+        if place < self.highs.len() && place < self.lows.len() {
+            self.highs[place].set(state, high);
+            self.lows[place].set(state, low);
         }
     }
 

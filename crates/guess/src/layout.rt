@@ -76,6 +76,13 @@ impl Fields {
         power(self.group)
     }
 
+    /// What a word has in the field of a priority.
+    pub(crate) fn count(&self, word: u64, priority: u8) -> u32 {
+        let above = word.checked_div(self.unit(priority)).unwrap_or(0);
+        let count = above & power(self.width).wrapping_sub(1);
+        u32::try_from(count).unwrap_or(u32::MAX)
+    }
+
     /// Whether a field holds a count.
     pub(crate) fn holds(&self, count: u32) -> bool {
         bits(count) <= self.width

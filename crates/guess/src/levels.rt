@@ -8,6 +8,7 @@ use crate::later::Later;
 use crate::numbers::Numbers;
 use crate::order::{Order, Wait};
 use crate::places::{Place, Places};
+use crate::scale::TOP;
 use crate::sets::{Sets, Step, Way};
 use crate::stock::Stock;
 use std::alloc::Global;
@@ -60,6 +61,8 @@ pub(crate) struct Levels {
     pub(crate) is_listed: bool,
     /// The last time at which a held binder lost a state, in the rounds at hand.
     pub(crate) last_time: u32,
+    /// Where winners alone are looked for: which values from outside are as top, those above it, and which are as zero.
+    pub(crate) limit: u64,
     // Whether there was memory for all nodes and events.
     is_whole: bool,
 }
@@ -109,6 +112,7 @@ impl Levels {
             few: Few::new(stock, count),
             is_listed: false,
             last_time: 0,
+            limit: TOP,
             is_whole: true,
             board,
         }
@@ -140,6 +144,33 @@ impl Levels {
     /// Whether values came from outside that are neither zero nor top.
     pub(crate) fn has_events(&self) -> bool {
         !self.events.is_empty()
+    }
+
+    /// Looks for winners alone from now on.
+    pub(crate) fn open_marks(&mut self, alloc: Global) {
+        let mut stock = Stock::new(alloc);
+        self.next = Fronts::new(&mut stock, self.board.form.count(), self.board.states);
+        self.is_whole &= stock.is_whole();
+        self.board.exits = Exits::Marks;
+        self.sets.bar_noted(alloc, self.board.states, true);
+    }
+
+    /// Looks for values from now on.
+    pub(crate) fn close_marks(&mut self, alloc: Global) {
+        self.limit = TOP;
+        self.board.exits = Exits::Values;
+        self.sets.bar_noted(alloc, self.board.states, false);
+    }
+
+    /// The least value above the limit that came from outside, or top.
+    pub(crate) fn next_above(&self) -> u64 {
+        let mut least = TOP;
+        for source in &self.sources {
+            if self.board.known(*source) != Known::Tops {
+                least = least.min(self.board.least_above(*source, self.limit));
+            }
+        }
+        least
     }
 
     fn begin(&mut self, alloc: Global) {
@@ -223,6 +254,14 @@ impl Levels {
         self.sets.clear(source);
         if self.board.known(source) == Known::Tops {
             enter_tops(&mut self.sets, &self.board.tops, self.order, source);
+        } else if self.board.exits == Exits::Marks {
+            enter_above(
+                &mut self.sets,
+                &mut self.board,
+                self.limit,
+                self.order,
+                source,
+            );
         } else {
             self.enter_values(source);
         }
@@ -543,6 +582,19 @@ fn enter_tops(sets: &mut Sets, tops: &Sheet, order: Order, source: u32) {
         let bits = tops.word(source, word);
         let bits = match order {
             Order::Rising => tops.full(word) & !bits,
+            Order::Falling => bits,
+        };
+        sets.add(source, word, bits);
+    }
+}
+
+// The same where values above a limit are as top, and all others as zero.
+fn enter_above(sets: &mut Sets, board: &mut Board, limit: u64, order: Order, source: u32) {
+    for word in 0..board.tops.width() {
+        let bits = board.above(source, word, limit);
+        board.tops.set_word(source, word, bits);
+        let bits = match order {
+            Order::Rising => board.tops.full(word) & !bits,
             Order::Falling => bits,
         };
         sets.add(source, word, bits);

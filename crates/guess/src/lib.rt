@@ -7,6 +7,7 @@ mod blocks;
 mod board;
 pub mod columns;
 mod crew;
+mod deep;
 mod edges;
 mod few;
 mod form;

@@ -6,7 +6,7 @@ use crate::blocks::Blocks;
 use crate::layout::Layout;
 use crate::levels::Levels;
 use crate::places::{Place, Places};
-use crate::rounds::{Held, inner_time, outer_time};
+use crate::rounds::{Held, KNOWN, inner_time, outer_time};
 use crate::set_rounds::push_word;
 use crate::stock::Stock;
 use std::alloc::Global;
@@ -46,21 +46,22 @@ impl Outer {
 }
 
 impl Levels {
-    /// Finds who wins in a component, with the words of each node. The answer is whether the rounds came to an end, and all counts fit.
+    /// Finds who wins in a component, with the words of each node, while what is left of this budget allows. The answer is whether the rounds
+    /// came to an end, and all counts fit.
     pub(crate) fn run_blocks(
         &mut self,
         alloc: Global,
         part: u32,
         blocks: &Blocks,
         layout: &Layout,
+        budget: &mut u64,
     ) -> bool {
         let mut nest = self.nest(alloc, part, blocks, layout);
         let mut gone = Places::new(alloc);
-        let mut budget = self.budget();
         for _ in 0..u32::MAX {
-            budget = budget.saturating_sub(self.size());
+            *budget = budget.saturating_sub(self.size());
             self.run(alloc, part, blocks.order());
-            if !self.run_sets(alloc, nest.inner, &mut budget) {
+            if !self.run_sets(alloc, nest.inner, budget) {
                 return false;
             }
             if !nest.turn(self, &mut gone) {
@@ -96,7 +97,7 @@ impl Levels {
         self.hold(alloc, inner);
         self.sets.open_given(alloc, nodes, self.board.states);
         for number in part..nodes {
-            if self.is_real(part, number) {
+            if self.is_real(part, number) && self.parts.get(number) != KNOWN {
                 self.board.make_words(alloc, number);
             }
         }

@@ -105,6 +105,7 @@ fn solve(alloc: Global, levels: &mut Levels, layout: &Layout, root: u32) -> Opti
     }
     let blocks = Blocks::of(&levels.board.form, root);
     let held = Held::of(&levels.board.form, root, &blocks, 1);
+    let mut budget = levels.budget();
     let is_done = match blocks.count() {
         0 => false,
         1 => {
@@ -112,7 +113,7 @@ fn solve(alloc: Global, levels: &mut Levels, layout: &Layout, root: u32) -> Opti
             true
         }
         2 => levels.run_two(alloc, held),
-        _ => levels.run_blocks(alloc, root, &blocks, layout),
+        _ => levels.run_blocks(alloc, root, &blocks, layout, &mut budget),
     };
     let (times, ends) = (levels.most_time(), levels.count());
     let fits = layout.even.holds(times.max(ends)) && layout.odd.holds(times.max(ends));

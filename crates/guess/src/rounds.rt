@@ -17,6 +17,9 @@ const MOST_ROUNDS_OF_SETS: u32 = 256;
 
 const LEAST_BUDGET: u64 = 67_108_864;
 
+/// The number that a binder has as a part where its values are known before those of its component.
+pub(crate) const KNOWN: u32 = u32::MAX;
+
 /// A part some of whose binders are held while those below them are solved.
 #[derive(Clone, Copy)]
 pub(crate) struct Held {
@@ -52,6 +55,11 @@ impl Held {
 
     pub(crate) fn is_odd(self) -> bool {
         self.priority % 2 == 1
+    }
+
+    // Whether binders of a priority are held.
+    fn holds(self, priority: u8) -> bool {
+        self.least <= priority && priority <= self.priority
     }
 
     pub(crate) fn order(self) -> Order {
@@ -150,7 +158,7 @@ impl Levels {
                 continue;
             }
             let node = self.board.form.node(number);
-            if node.shape == Shape::Binder && node.priority >= held.least {
+            if node.shape == Shape::Binder && held.holds(node.priority) {
                 self.parts.set(number, held.held);
                 self.board.set_known(number, Known::Tops);
             }

@@ -74,6 +74,25 @@ impl Scale {
         (word & self.kept[place]).saturating_add(self.fields[place].unit)
     }
 
+    /// A word with its counts of this priority and greater ones alone.
+    pub(crate) fn upper(&self, priority: u8, word: u64) -> u64 {
+        word & self.upper_fields(priority)
+    }
+
+    /// Its counts of lesser priorities alone.
+    pub(crate) fn lower(&self, priority: u8, word: u64) -> u64 {
+        word & !self.upper_fields(priority)
+    }
+
+    /// The greatest word with the same counts of this priority and greater ones.
+    pub(crate) fn last(&self, priority: u8, word: u64) -> u64 {
+        word | !self.upper_fields(priority)
+    }
+
+    fn upper_fields(&self, priority: u8) -> u64 {
+        self.kept.get(usize::from(priority)).copied().unwrap_or(TOP)
+    }
+
     /// A word without its count of the least priority: that of steps, in the dual.
     pub(crate) fn without_steps(&self, word: u64) -> u64 {
         if word == TOP {

@@ -107,6 +107,12 @@ impl Sets {
         }
     }
 
+    /// Says whether what was noted is final in no later round. Nothing is final from the beginning, or never.
+    pub(crate) fn bar_noted(&mut self, alloc: Global, states: u32, bars: bool) {
+        self.bars = bars;
+        self.open_given(alloc, 0, states);
+    }
+
     /// Makes room for what is final from the beginning, and for what never is.
     pub(crate) fn open_given(&mut self, alloc: Global, nodes: u32, states: u32) {
         let mut stock = Stock::new(alloc);

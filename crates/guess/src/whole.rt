@@ -1,6 +1,7 @@
 // The guess of a whole table, component by component of the nodes' graph.
 
 use crate::board::{Board, Exits};
+use crate::deep::Kept;
 use crate::edges::{Edges, Kinds, fits, state_of, takes};
 use crate::form::{Form, NONE, Node, Shape, Side};
 use crate::levels::Levels;
@@ -21,6 +22,16 @@ enum Falls {
     Times(u8),
     /// Times, and heights where they are the same.
     Both(u8),
+    /// Two counts, which are kept for each node and state.
+    Kept(Kept),
+}
+
+/// What falls along edges, the first count first.
+#[derive(Clone, Copy)]
+struct Rank {
+    high: u32,
+    low: u32,
+    height: u32,
 }
 
 /// A component whose values are known.
@@ -188,17 +199,13 @@ fn solve(alloc: Global, levels: &mut Levels, root: u32) -> Option<Component> {
             levels.run(alloc, root, Order::Falling);
             Falls::Times(greatest)
         }
-        _ => {
-            let is_nested = is_nested(&levels.board.form, root, binders);
-            if is_nested || !levels.run_rounds(alloc, root, greatest) {
-                return None;
-            }
-            if greatest % 2 == 1 {
-                Falls::Times(greatest - 1)
-            } else {
-                Falls::Both(greatest)
-            }
-        }
+        _ if is_nested(&levels.board.form, root, binders) => match levels.run_deep(alloc, root) {
+            Some(kept) => Falls::Kept(kept),
+            None => return None,
+        },
+        _ if !levels.run_rounds(alloc, root, greatest) => return None,
+        _ if greatest % 2 == 1 => Falls::Times(greatest - 1),
+        _ => Falls::Both(greatest),
     };
     if levels.board.form.side == Side::Dual && binders.nodes > 1 {
         levels.board.count_steps(alloc, root);
@@ -265,6 +272,25 @@ impl Component {
     // Whether a play can come back to it.
     fn is_cyclic(self) -> bool {
         self.nodes > 1
+    }
+
+    // When a node is reached in a level.
+    fn time(self, level: u32, height: u32) -> u32 {
+        level.saturating_mul(self.turns).saturating_add(height)
+    }
+}
+
+impl Rank {
+    fn of(low: u32, height: u32) -> Self {
+        Rank {
+            high: 0,
+            low,
+            height,
+        }
+    }
+
+    fn is_below(self, other: Self) -> bool {
+        (self.high, self.low, self.height) < (other.high, other.low, other.height)
     }
 }
 
@@ -373,18 +399,26 @@ impl<'a> Whole<'a> {
         self.board.scale.counts_into(word, counts);
     }
 
-    // The rank of a node at a state, as two numbers.
-    fn rank(&self, part: Component, number: u32, state: u32) -> (u32, u32) {
+    // The rank of a node at a state.
+    fn rank(&self, part: Component, number: u32, state: u32) -> Rank {
         let real = self.board.form.real(number);
         let height = self.board.form.height(number);
         match part.falls {
-            Falls::Heights => (0, height),
-            Falls::Times(priority) if self.board.form.node(real).priority > priority => (height, 0),
-            Falls::Times(_) => {
-                let level = self.board.level(real, state);
-                (level.saturating_mul(part.turns).saturating_add(height), 0)
+            Falls::Heights => Rank::of(0, height),
+            Falls::Times(priority) if self.board.form.node(real).priority > priority => {
+                Rank::of(height, 0)
             }
-            Falls::Both(_) => (self.board.round(real, state), height),
+            Falls::Times(_) => Rank::of(part.time(self.board.level(real, state), height), 0),
+            Falls::Both(_) => Rank::of(self.board.round(real, state), height),
+            Falls::Kept(kept) => {
+                let (high, low) = self.board.kept_rank(real, state);
+                let rank = if kept.has_levels {
+                    Rank::of(part.time(low, height), 0)
+                } else {
+                    Rank::of(low, height)
+                };
+                Rank { high, ..rank }
+            }
         }
     }
 
@@ -408,7 +442,8 @@ impl<'a> Whole<'a> {
             return false;
         }
         let is_free = form.root(child) != part.root || self.counts_steps(steps);
-        is_free || self.rank(part, child, target) < self.rank(part, number, state)
+        let rank = self.rank(part, number, state);
+        is_free || self.rank(part, child, target).is_below(rank)
     }
 
     // Whether values have steps.
@@ -474,18 +509,27 @@ impl<'a> Whole<'a> {
 
     /// Writes the rank at a position.
     pub fn rank_into(&self, at: Position, rank: &mut [u32]) {
-        let (time, height) = self.rank(at.part, at.number, at.state);
-        let half = match at.part.falls {
-            Falls::Heights => 0,
-            Falls::Times(priority) | Falls::Both(priority) => usize::from(priority) / 2,
-        };
+        let Rank { high, low, height } = self.rank(at.part, at.number, at.state);
         rank.fill(0);
-        if let Some(last) = rank.last_mut() {
-            *last = height;
+        add_count(rank, 0, height);
+        match at.part.falls {
+            Falls::Heights => {}
+            Falls::Times(priority) | Falls::Both(priority) => add_count(rank, priority, low),
+            Falls::Kept(kept) => {
+                add_count(rank, kept.low, low);
+                if kept.high > 0 {
+                    add_count(rank, kept.high, high);
+                }
+            }
         }
-        let place = rank.len().saturating_sub(1).saturating_sub(half);
-        if let Some(count) = rank.get_mut(place) {
-            *count = count.saturating_add(time);
-        }
+    }
+}
+
+// Adds a count in the field of an even priority.
+fn add_count(rank: &mut [u32], priority: u8, count: u32) {
+    let half = usize::from(priority) / 2;
+    let place = rank.len().saturating_sub(1).saturating_sub(half);
+    if place < rank.len() {
+        rank[place] = rank[place].saturating_add(count);
     }
 }

@@ -31,7 +31,7 @@ use std::thread::Threads;
 const LABELS: [&str; 3] = ["a", "b", "c"];
 
 // Variables by the depth of their binders.
-const VARIABLES: [&str; 4] = ["W", "X", "Y", "Z"];
+pub(crate) const VARIABLES: [&str; 4] = ["W", "X", "Y", "Z"];
 
 // How many systems and formulas there are, and for how many of them at least nothing is left to lift.
 const QUESTIONS: u32 = 40;
@@ -57,10 +57,10 @@ const CLOSED: [&str; 6] = [
 ];
 
 // What stands before an operand, and how many parentheses it opens. Binders stand first, an action and a junction last.
-const HEADS: [&str; 5] = ["[a](", "<true>(", "[!a](", "<b>(", "[a|b]("];
+pub(crate) const HEADS: [&str; 5] = ["[a](", "<true>(", "[!a](", "<b>(", "[a|b]("];
 
 // A system with so many states: some have no steps, some several to the same state, some one to themselves.
-fn roll_system(alloc: Global, dice: &mut Dice, states: u32) -> Result<String, AllocError>
+pub(crate) fn roll_system(alloc: Global, dice: &mut Dice, states: u32) -> Result<String, AllocError>
     requires { 0 < states }
 {
     let mut rows = String::new(alloc);
@@ -79,7 +79,11 @@ fn roll_system(alloc: Global, dice: &mut Dice, states: u32) -> Result<String, Al
 }
 
 // A variable in scope, where there is one, or else something closed.
-fn roll_leaf(dice: &mut Dice, text: &mut String, binders: u32) -> Result<(), AllocError> {
+pub(crate) fn roll_leaf(
+    dice: &mut Dice,
+    text: &mut String,
+    binders: u32,
+) -> Result<(), AllocError> {
     let is_closed = dice.roll(4) == 0;
     let variable = dice.roll(4);
     if is_closed || variable >= binders {
@@ -174,8 +178,17 @@ pub(crate) fn roll_question(
 {
     let system = roll_system(rt.alloc(), dice, states).expect(rt, "memory");
     let text = roll_formula(rt.alloc(), dice).expect(rt, "memory");
-    let lts = system_of(rt.alloc(), &system).expect(rt, "a system");
-    let formula = formula_of(rt.alloc(), &text).expect(rt, "a formula");
+    question_of(rt, &system, &text)
+}
+
+/// The question of these texts.
+pub(crate) fn question_of(
+    rt: &(impl Abort + AllocGlobal + Threads + Sync),
+    system: &str,
+    text: &str,
+) -> Question {
+    let lts = system_of(rt.alloc(), system).expect(rt, "a system");
+    let formula = formula_of(rt.alloc(), text).expect(rt, "a formula");
     let form = normal(rt.alloc(), &formula).expect(rt, "a normal form");
     let game = build(rt, rt.alloc(), &lts, &form).expect(rt, "a game");
     Question {
@@ -186,16 +199,20 @@ pub(crate) fn roll_question(
     }
 }
 
-// How a guess ended: how many components the nodes have that were guessed, how many were accepted, and whether nothing was left.
+/// How a guess ended: how many components the nodes have that were guessed, how many were accepted, and whether nothing was left.
 #[derive(Clone, Copy)]
-struct Ended {
+pub(crate) struct Ended {
     guessed: u32,
     accepted: u32,
-    whole: bool,
+    pub(crate) whole: bool,
 }
 
-// The table that is guessed has to be as lifting leaves it.
-fn ends_alike(rt: &(impl Abort + AllocGlobal), game: &Game, guess: &Claims<'_>) -> Ended {
+/// The table that is guessed has to be as lifting leaves it.
+pub(crate) fn ends_alike(
+    rt: &(impl Abort + AllocGlobal),
+    game: &Game,
+    guess: &Claims<'_>,
+) -> Ended {
     let mut table = opening(rt.alloc(), game).expect(rt, "memory");
     let accepted = jump_to_guess(rt.alloc(), game, &mut table, guess).expect(rt, "memory");
     let whole = is_settled(game, &table);
@@ -239,8 +256,8 @@ fn guesses_and_lifting_alone_end_alike(rt: HostRuntime) {
     assert!(rt; whole >= LEAST_WHOLE, "{whole}");
 }
 
-// The dual of a game, where its priorities fit.
-fn dual_of(rt: &(impl Abort + AllocGlobal), game: &Game) -> Option<Game> {
+/// The dual of a game, where its priorities fit.
+pub(crate) fn dual_of(rt: &(impl Abort + AllocGlobal), game: &Game) -> Option<Game> {
     if greatest_priority(game) > GREATEST_PRIORITY {
         return None;
     }

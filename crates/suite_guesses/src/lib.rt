@@ -14,6 +14,8 @@ mod known_games;
 #[cfg(test)]
 mod lost_vertices;
 #[cfg(test)]
+mod nested_guesses;
+#[cfg(test)]
 mod random_games;
 #[cfg(test)]
 mod rankings_by_hand;
