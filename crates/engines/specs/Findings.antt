@@ -1,5 +1,5 @@
 -- What a check by a game finds out, and what it makes of that.
-use Rattle.std.specs.Prelude.{◌≡◌, ℕ, ◌≤◌, ◌⊎◌, ◌↔◌, List, Some, IfSome, IsTrue, length, option_map}
+use Rattle.std.specs.Prelude.{◌≡◌, ℕ, ◌≤◌, ◌⊎◌, ◌↔◌, List, Some, IfSome, IsTrue, MatchResult, length, option_map}
 use Rattle.std.specs.Arc.{arc_value}
 use Rattle.std.specs.Option.{is_some}
 use Rattle.systems.specs.System.{System}
@@ -31,6 +31,7 @@ use Rattle.engines.specs.declared.lifting.Winners.{Winners}
 use Rattle.engines.specs.declared.lifting.Winners.TheVariants.{Table, Marks as ByMarks}
 use Rattle.engines.specs.declared.lifting.Solution.{Solution}
 use Rattle.engines.specs.declared.lifting.Solution.TheVariants.{Table as HasTable, Marks as HasMarks}
+use Rattle.engines.specs.declared.beside.FoundBeside.{FoundBeside}
 use Rattle.engines.specs.declared.findings.Findings.{Findings}
 use Rattle.engines.specs.declared.findings.Posed.{Posed}
 use Rattle.certify.specs.declared.pair.EvidencePair.{EvidencePair}
@@ -90,6 +91,11 @@ pub record IsOdds (g : Game) (e : Piece) : Type 0 where
   pub good : IsGood g e.evidence
   pub exact : (v : ℕ) → IsTrue (has e.evidence v) ↔ OddWins g v
   pub best : IsOddOf g e.evidence
+
+-- The game is solved, and the evidence of all that Odd wins is made, unless memory was wanting.
+pub record AreFoundBeside (x : FoundBeside) : Type 0 where
+  pub found : AreFindings x.found
+  pub odd : MatchResult x.odd (IsOdds (arc_value x.found.solution.game)) (λ e. e ≡ evidence.Memory)
 
 -- evidence of all that each player wins
 pub record IsPairOf (g : Game) (pair : EvidencePair) : Type 0 where

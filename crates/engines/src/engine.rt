@@ -1,19 +1,20 @@
 // The engines: from both texts to the report.
 
-ghost use Rattle.std.specs.Prelude.{◌≡◌, ◌∷◌, ◌++◌, [], ℕ, List, None, Some, IfErr, MatchResult};
+ghost use Rattle.std.specs.Prelude.{◌≡◌, ◌∷◌, ◌++◌, [], ℕ, List, None, Some, IfErr, IfOk, IsTrue, MatchResult};
 ghost use Rattle.calculus.specs.Closed.{closed_formula};
 ghost use Rattle.requests.specs.declared.request.ReportForm.TheVariants.{Whole};
 ghost use Rattle.requests.specs.Check.{Way, BySets, ByGame, AreMarks, AreSpelled, Answers, Checks, IsBeyond, IsErrorOf};
 ghost use Rattle.requests.specs.Command.{wanted_in, way_of};
 ghost use Rattle.requests.specs.Strict.{ChecksBy};
-ghost use Rattle.engines.specs.Findings.{AreFindings, formula_of, system_of, way_in};
+ghost use Rattle.engines.specs.Findings.{AreFindings, ArePrepared, IsUnprepared, formula_of, system_of, way_in};
 ghost use Rattle.requests.specs.Writers.{all_writers, evidence_writers, game_writer, lent_writers, no_writer, report_writer};
 
+use crate::beside::{FoundBeside, find_beside};
 use crate::findings::{Findings, find_alone, find_in, find_with};
 use crate::marks::{game_marks, plain_marks};
 use crate::no_writer::NoWriter;
 use crate::outputs::{answer, put_wanted};
-use crate::prepared::{prepare, prepare_by};
+use crate::prepared::{Prepared, prepare, prepare_with};
 use crate::report::report_text;
 use lts::put;
 use measures::observer::{Observer, Silent, Stage};
@@ -335,10 +336,49 @@ fn check_by_game<
         let out = &mut writers.report;
         return report_by_game(rt, alloc, &texts, options, wanted.report, out, watcher);
     }
+    if wanted.evidence && options.workers > 1 {
+        return check_beside(rt, alloc, texts, options, wanted, writers, watcher);
+    }
     match find_in(rt, alloc, texts, options, watcher) {
         Ok(found) => {
             tell_making(&found, wanted, watcher);
-            answer_by(rt, alloc, &found, options.workers, wanted, writers, watcher)
+            let prepared = prepare(alloc, &found, wanted);
+            watcher.sees(Stage::Writing);
+            answer_prepared(&found, prepared, wanted, writers)
+        }
+        Err(error) => Err(error),
+    }
+}
+
+/// Checks by a game what was read, where evidence is wanted and there are several workers: Odd's is made while the game is solved.
+fn check_beside<
+    G: Write,
+    E: Write,
+    O: Write,
+    V: Write,
+    W: Write,
+    U: Watcher + Sync,
+    H: Threads + Wait + Clone + Copy + Drop + Send + Sync,
+>(
+    rt: &H,
+    alloc: Global,
+    texts: Texts,
+    options: &Options,
+    wanted: Wanted,
+    writers: &mut Writers<G, E, O, V, W>,
+    watcher: &U,
+) -> Result<bool, MuError>
+    requires { IsTrue wanted.evidence }
+    ensures { (first second : List ℕ) → AreSpelled first second texts.system.system (closed_formula texts.formula)
+        → Answers (ByGame options.now.priorities (Some options.now.board)) first second
+        (lent_writers G.contents E.contents O.contents V.contents W.contents wanted writers.old writers.new) result }
+{
+    match find_beside(rt, alloc, texts, options, watcher) {
+        Ok(FoundBeside { found, odd }) => {
+            tell_making(&found, wanted, watcher);
+            let prepared = prepare_with(alloc, &found, wanted, odd);
+            watcher.sees(Stage::Writing);
+            answer_prepared(&found, prepared, wanted, writers)
         }
         Err(error) => Err(error),
     }
@@ -437,24 +477,23 @@ fn tell_making<U: Watcher>(found: &Findings, wanted: Wanted, watcher: &U) {
     }
 }
 
-/// The same to all writers, where so many workers make what is wanted.
-fn answer_by<G: Write, E: Write, O: Write, V: Write, W: Write, U: Watcher, H: Threads + Sync>(
-    rt: &H,
-    alloc: Global,
+/// The same to all writers, where what is wanted was made, or couldn't be.
+fn answer_prepared<G: Write, E: Write, O: Write, V: Write, W: Write>(
     found: &Findings,
-    workers: u32,
+    prepared: Result<Prepared, MuError>,
     wanted: Wanted,
     writers: &mut Writers<G, E, O, V, W>,
-    watcher: &U,
 ) -> Result<bool, MuError>
-    requires { AreFindings found.now }
+    requires found { AreFindings found.now }
+    requires prepared { IfOk prepared (ArePrepared found.now) }
+    requires wanted { IfOk prepared (λ prepared. prepared.wanted ≡ wanted) }
+    requires refusal { IfErr prepared (IsUnprepared found.now wanted) }
     ensures { (first second : List ℕ) → AreSpelled first second (system_of found.now) (formula_of found.now)
         → Answers (way_in found.now) first second
         (lent_writers G.contents E.contents O.contents V.contents W.contents wanted writers.old writers.new) result }
 {
-    match prepare_by(rt, alloc, found, wanted, workers) {
+    match prepared {
         Ok(prepared) => {
-            watcher.sees(Stage::Writing);
             let wrote = put_wanted(
                 found,
                 &prepared,

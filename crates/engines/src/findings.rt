@@ -38,7 +38,7 @@ use workers::team::BoardKind;
 
 /// Which teams a guess helps.
 #[derive(Clone, Copy, PartialEq, Eq)]
-enum Helped {
+pub(crate) enum Helped {
     /// One worker alone, so that several lift.
     OneWorker,
     /// Every team, so that none lifts where the guess is good.
@@ -190,7 +190,7 @@ fn read_and_build<R: Read + Drop, S: Read + Drop, H: Threads + Sync>(
 }
 
 /// Makes the game of these texts.
-fn build_of<O: Observer, H: Threads + Sync>(
+pub(crate) fn build_of<O: Observer, H: Threads + Sync>(
     rt: &H,
     alloc: Global,
     texts: Box<Texts>,
@@ -249,7 +249,7 @@ fn solve_posed(alloc: Global, posed: &Posed) -> Result<Settled, Memory>
 }
 
 /// The least progress table, by workers, which a guess helps or not.
-fn solve_by_workers<
+pub(crate) fn solve_by_workers<
     T: Gate + Sync,
     O: Observer + Sync,
     H: Threads + Wait + Clone + Copy + Drop + Send + Sync,
@@ -302,7 +302,7 @@ fn find_by_workers<
 }
 
 /// What is found out where the game is solved.
-fn find_solved(
+pub(crate) fn find_solved(
     alloc: Global,
     posed: Posed,
     board: Option<BoardKind>,
@@ -314,6 +314,7 @@ fn find_solved(
     ensures found { IfOk result AreFindings }
     ensures way { IfOk result (λ found. way_in found ≡ ByGame posed.priorities board) }
     ensures texts { IfOk result (λ found. found.texts.value ≡ posed.texts.value) }
+    ensures game { IfOk result (λ found. arc_value found.solution.game ≡ arc_value posed.game) }
     ensures refusal { IfErr result (λ e. e ≡ MuError.Memory) }
 {
     let Posed {

@@ -2,6 +2,7 @@
 // table; and the exit status.
 #![tactic(auto)]
 
+mod beside;
 pub mod engine;
 mod expectation;
 mod findings;

@@ -11,7 +11,6 @@ use evidence::evidence::Evidence;
 use evidence::make::even_evidence;
 use requests::error::MuError;
 use std::alloc::Global;
-use std::thread::{Threads, join};
 
 /// The evidence of all that Even wins.
 fn evens(alloc: Global, found: &Findings) -> Result<Evidence, EvidenceError>
@@ -66,29 +65,20 @@ pub(crate) fn evidence_pair(alloc: Global, found: &Findings) -> Result<EvidenceP
     paired(found, even, odd)
 }
 
-/// The same, where each player's is made on a thread of its own.
+/// The same, where Odd's was made before, or memory was wanting for it.
 ///
 /// # Errors
 /// E5.
-pub(crate) fn evidence_side_by_side<H: Threads + Sync>(
-    rt: &H,
+pub(crate) fn pair_with(
     alloc: Global,
     found: &Findings,
+    odd: Result<Evidence, EvidenceError>,
 ) -> Result<EvidencePair, MuError>
-    requires { AreFindings found.now }
+    requires found { AreFindings found.now }
+    requires odd { MatchResult odd (IsOdds (arc_value found.now.solution.game)) (λ e. e ≡ EvidenceError.Memory) }
     ensures pair { IfOk result (IsPairOf (arc_value found.now.solution.game)) }
     ensures memory { IfErr result (λ e. e ≡ MuError.Evidence EvidenceError.Memory) }
 {
-    let (even, odd) = join(
-        rt,
-        || -> Result<Evidence, EvidenceError>
-            requires { AreFindings found.now }
-            ensures { MatchResult result (IsEvens (arc_value found.entry.now.solution.game)) (λ e. e ≡ EvidenceError.Memory) }
-        { evens(alloc, found) },
-        || -> Result<Evidence, EvidenceError>
-            requires { AreFindings found.now }
-            ensures { MatchResult result (IsOdds (arc_value found.entry.now.solution.game)) (λ e. e ≡ EvidenceError.Memory) }
-        { odds(alloc, found) },
-    );
+    let even = evens(alloc, found);
     paired(found, even, odd)
 }

@@ -1,15 +1,15 @@
 // What a check makes of its findings before it begins to write.
 
-ghost use Rattle.std.specs.Prelude.{◌≡◌, ◌<◌, IfOk, IfErr, IfSome, IsTrue, option_map, slice_index_or, false};
+ghost use Rattle.std.specs.Prelude.{◌≡◌, ◌<◌, IfOk, IfErr, IfSome, IsTrue, MatchResult, option_map, slice_index_or, false};
 ghost use Rattle.std.specs.Arc.{arc_value};
 ghost use Rattle.std.specs.Option.{is_some};
 ghost use Rattle.engines.specs.declared.prepared.Shown.{Shown};
-ghost use Rattle.engines.specs.Findings.{AreFindings, ArePrepared, AreShown, IsPairOf, IsPlayShown, IsUnprepared, IsUnshown, IsWinning, formula_of};
+ghost use Rattle.engines.specs.Findings.{AreFindings, ArePrepared, AreShown, IsOdds, IsPairOf, IsPlayShown, IsUnprepared, IsUnshown, IsWinning, formula_of};
 ghost use Rattle.engines.specs.Findings.{system_of};
 ghost use Rattle.requests.specs.Report.{report_in};
 
 use crate::findings::{Findings, odd_of};
-use crate::pairs::{evidence_pair, evidence_side_by_side};
+use crate::pairs::{evidence_pair, pair_with};
 use crate::report::report_text;
 use certify::pair::EvidencePair;
 use evidence::error::EvidenceError;
@@ -23,7 +23,6 @@ use normal::make::normal_with;
 use requests::error::MuError;
 use requests::request::{ReportForm, Wanted, WitnessForm};
 use std::alloc::Global;
-use std::thread::Threads;
 use witness::part::{Play, witness};
 
 /// A witness, and the form in which it is written.
@@ -56,26 +55,24 @@ pub(crate) fn prepare(alloc: Global, found: &Findings, wanted: Wanted) -> Result
     prepare_beside(alloc, found, wanted, pair)
 }
 
-/// The same, where so many workers make the evidence of both players side by side.
+/// The same, where evidence is wanted and Odd's was made before, or memory was wanting for it.
 ///
 /// # Errors
 /// Those of `prepare`.
-pub(crate) fn prepare_by<H: Threads + Sync>(
-    rt: &H,
+pub(crate) fn prepare_with(
     alloc: Global,
     found: &Findings,
     wanted: Wanted,
-    workers: u32,
+    odd: Result<Evidence, EvidenceError>,
 ) -> Result<Prepared, MuError>
-    requires { AreFindings found.now }
+    requires found { AreFindings found.now }
+    requires evidence { IsTrue wanted.evidence }
+    requires odd { MatchResult odd (IsOdds (arc_value found.now.solution.game)) (λ e. e ≡ EvidenceError.Memory) }
     ensures prepared { IfOk result (ArePrepared found.now) }
     ensures wanted { IfOk result (λ prepared. prepared.wanted ≡ wanted) }
     ensures refusal { IfErr result (IsUnprepared found.now wanted) }
 {
-    if workers < 2 || !wanted.evidence {
-        return prepare(alloc, found, wanted);
-    }
-    let pair = evidence_side_by_side(rt, alloc, found)?;
+    let pair = pair_with(alloc, found, odd)?;
     prepare_beside(alloc, found, wanted, Some(pair))
 }
 

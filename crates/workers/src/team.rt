@@ -13,7 +13,7 @@ use crate::locked::solve_locked;
 use crate::solving::solve;
 use crate::watch::Watched;
 use game::graph::Game;
-use measures::guess::{Guess, settled_by_guess, solve_one_by};
+use measures::guess::{Guess, settled_by_guess_with, solve_one_by};
 use measures::observer::{Observer, Stage};
 use measures::rank::top_rank;
 use measures::table::Settled;
@@ -76,7 +76,8 @@ pub fn solve_by<
     let vertices = game.vertices();
     observer.sees(Stage::Searching { vertices });
     let fits = fits_words(game, team.board)?;
-    if let Some(settled) = settled_by_guess(alloc, game, guess) {
+    let workers = team.workers as usize;
+    if let Some(settled) = settled_by_guess_with(rt, alloc, game, guess, workers) {
         return Ok(settled);
     }
     let watched = Watched::new(gate, observer, vertices);

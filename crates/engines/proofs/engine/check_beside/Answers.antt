@@ -1,0 +1,26 @@
+use Rattle.std.proofs.Common.{Some, subst, sym}
+use Rattle.calculus.specs.Closed.{closed_formula}
+use Rattle.requests.specs.declared.texts.Texts.{Texts}
+use Rattle.requests.specs.Check.{AreSpelled}
+use Rattle.engines.specs.Findings.{way_in}
+use Rattle.requests.specs.Writers.{all_writers}
+use Rattle.engines.proofs.Checks.{beyond_of, by_way, kept_writers}
+use Rattle.engines.proofs.engine.check_beside.Goals as goal
+
+pub returns-in-Ok : goal.returns-in-Ok
+returns-in-Ok g c = λ first second spelled.
+    by_way (way_in c.in-Ok.field-0.found) _ first second _ c.answer_prepared.result c.in-Ok.ensures.way
+    (c.answer_prepared.ensures first second (subst (λ (t : Texts). AreSpelled first second t.system.system (closed_formula t.formula))
+    (sym c.in-Ok.ensures.texts) spelled))
+
+pub returns-in-Err : goal.returns-in-Err
+returns-in-Err g c = λ first second spelled.
+    let options = c.args.options.now in
+    let game = g.G.Write.contents c.args.writers.now.game in
+    let even = g.E.Write.contents c.args.writers.now.even in
+    let odd = g.O.Write.contents c.args.writers.now.odd in
+    let witness = g.V.Write.contents c.args.writers.now.witness in
+    let out = g.W.Write.contents c.args.writers.now.report in
+    beyond_of options.priorities (Some options.board) first second (all_writers c.args.wanted game game even even odd odd witness witness out out)
+    c.args.texts.system.system (closed_formula c.args.texts.formula)
+    c.in-Err.error spelled c.in-Err.ensures.refusal (kept_writers c.args.wanted game even odd witness out)
