@@ -41,6 +41,19 @@ class Games:
     seconds: int
 
 
+@dataclass(frozen=True)
+class Shared:
+    """Work for several workers: games, and questions on a system, by its generator in `systems.py`."""
+
+    games: tuple[Game, ...]
+    generator: str
+    sizes: tuple[int, ...]
+    quick: tuple[int, ...]
+    actions: Actions
+    questions: tuple[str, ...]
+    seconds: int
+
+
 LETTERS = Actions(event="d", request="a", answer="b", excuse="c")
 DEEP = (ask.THREE, ask.FOUR, ask.SIX)
 ALL = tuple(question for question in ask.FORMULAS if question != ask.FOUR)
@@ -64,7 +77,17 @@ def random_game(count: int, priorities: int) -> Game:
     return Game(f"random, {priorities} priorities", "random", (count, priorities), (count // 1_000, priorities))
 
 
-FAMILIES: dict[str, Systems | Games] = {
+def near_game(priorities: int) -> Game:
+    """A game of 1,000,000 vertices at random, with edges nearby."""
+    return Game(f"near, {priorities} priorities", "near", (1_000_000, priorities, 1_000), (2_000, priorities, 20))
+
+
+def product_game(states: int, depth: int) -> Game:
+    """The game of a formula of so many alternating fixpoints over a system at random."""
+    return Game(f"product, {depth} priorities", "product", (states, 3, depth), (states // 1_000, 3, depth))
+
+
+FAMILIES: dict[str, Systems | Games | Shared] = {
     "philosophers": protocol("philosophers", (13,), (6,), Actions('"eat(0)"', '"take(0)"', '"eat(0)"', '"leave(1)"')),
     "counter": protocol("counter", (17,), (8,), Actions("carry", "reset", "carry", "(idle || reset)")),
     "buffer": protocol("buffer", (11, 3), (6, 2), Actions('"get(0)"', '"put(0)"', '"get(0)"', '"get(1)"')),
@@ -110,5 +133,34 @@ FAMILIES: dict[str, Systems | Games] = {
             random_game(100_000, 30),
         ),
         seconds=130,
+    ),
+    "layers": Games(
+        (
+            Game("layers", "buchi", (500_000,), (500,)),
+            Game("stairs of 4", "stairs", (60_000, 4), (60, 4)),
+            Game("stairs of 10", "stairs", (30_000, 10), (30, 10)),
+        ),
+        seconds=30,
+    ),
+    "products": Games(
+        (
+            near_game(4),
+            near_game(10),
+            near_game(30),
+            product_game(500_000, 2),
+            product_game(250_000, 4),
+            product_game(170_000, 6),
+            product_game(125_000, 8),
+        ),
+        seconds=90,
+    ),
+    "workers": Shared(
+        (random_game(1_000_000, 4), random_game(1_000_000, 10), near_game(10), product_game(250_000, 4), product_game(170_000, 6)),
+        "random",
+        (1_000_000,),
+        (2_000,),
+        LETTERS,
+        LARGE,
+        seconds=160,
     ),
 }

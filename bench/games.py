@@ -123,6 +123,77 @@ def random(count: int, priorities: int) -> Iterator[str]:
     return text(count, (Vertex(priority, owner, [next(ends) for _ in range(degree)]) for priority, owner, degree in rows))
 
 
+def near(count: int, priorities: int, reach: int) -> Iterator[str]:
+    """Owners and priorities at random, and one to three successors of each vertex at random nearby, as in products of systems."""
+    dice = Dice()
+    degrees = [1 + extra for extra in dice.numbers(count, MOST_SUCCESSORS)]
+    chosen, owners = dice.numbers(count, priorities), dice.numbers(count, 2)
+    steps = iter(dice.numbers(sum(degrees), 2 * reach + 1))
+    rows = zip(chosen, owners, degrees)
+    named = ((v, priority, owner, [(v + next(steps) - reach) % count for _ in range(degree)]) for v, (priority, owner, degree) in enumerate(rows))
+    return text(count, (Vertex(priority, owner, successors) for _, priority, owner, successors in named))
+
+
+def buchi(layers: int) -> Iterator[str]:
+    """Layers of two vertices, which fall to one player one by one: what is won of the last is known when all before it are."""
+
+    def vertices() -> Iterator[Vertex]:
+        for layer in range(layers):
+            first = 2 * layer
+            yield Vertex(1, ODD, (first + 1, first - 1) if layer else (first, first + 1))
+            yield Vertex(2, EVEN, (first, min(first + 3, 2 * layers - 1)))
+
+    return text(2 * layers, vertices())
+
+
+def stairs(steps: int, width: int) -> Iterator[str]:
+    """Steps of so many vertices of priority 1 that lead up and down, each of which is decided by the one before it."""
+    length = width + 3
+
+    def vertices() -> Iterator[Vertex]:
+        for step in range(steps):
+            first = length * step
+            for place in range(width):
+                yield Vertex(1, place % 2, (first + place + 1, first + width))
+            yield Vertex(2, ODD, (first + width, first + width + 1, first))
+            yield Vertex(3, EVEN, (first + width + 2,))
+            above = min(first + length, length * (steps - 1))
+            yield Vertex(0, EVEN, (first - length if step > 1 else 0, above) if step else (width + 2,))
+
+    return text(steps * length, vertices())
+
+
+def product(states: int, steps: int, depth: int) -> Iterator[str]:
+    """A system at random with two labels and up to so many steps of a state, and a formula of so many alternating fixpoints: a vertex for
+    each binder, one for the body, and one for each modality."""
+    dice = Dice()
+    degrees = [1 + extra for extra in dice.numbers(states, steps)]
+    labels, targets = iter(dice.numbers(sum(degrees), 2)), iter(dice.numbers(sum(degrees), states))
+    rows = [[(next(labels), next(targets)) for _ in range(degree)] for degree in degrees]
+    width = 2 * depth + 1
+
+    def name(state: int, node: int) -> int:
+        return 2 + state * width + node
+
+    def modality(state: int, node: int) -> Vertex:
+        reached = [name(target, node) for label, target in rows[state] if label == node % 2]
+        if node + 1 < depth:
+            reached.append(name(state, depth + 2 + node))
+        is_box = node % 4 >= 2
+        return Vertex(0, ODD if is_box else EVEN, reached or [0 if is_box else 1])
+
+    def vertices() -> Iterator[Vertex]:
+        yield Vertex(0, EVEN, (0,))
+        yield Vertex(1, ODD, (1,))
+        for state in range(states):
+            for node in range(depth):
+                yield Vertex(depth - 1 - node, EVEN, (name(state, node + 1),))
+            yield Vertex(0, EVEN, [name(state, depth + 1 + node) for node in range(0, depth, 2)])
+            yield from (modality(state, node) for node in range(depth))
+
+    return text(2 + states * width, vertices())
+
+
 GAMES = {
     "ladder": ladder,
     "clique": clique,
@@ -130,6 +201,10 @@ GAMES = {
     "slow-lifting": slow_lifting,
     "recursive-ladder": recursive_ladder,
     "random": random,
+    "near": near,
+    "buchi": buchi,
+    "stairs": stairs,
+    "product": product,
 }
 
 if __name__ == "__main__":

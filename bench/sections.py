@@ -11,12 +11,12 @@ from typing import Iterator
 import games
 import systems
 import tables
-from families import Game, Games, Systems
+from families import Game, Games, Shared, Systems
 from measure import Run, Stopwatch
 from questions import READING, formula
 
 HERE = Path(__file__).resolve().parent
-WORKERS = "4"
+WORKERS, MANY_WORKERS, MOST_SHARDS = "4", "64", "256"
 QUICK_SECONDS = 3
 
 
@@ -51,10 +51,15 @@ class Bench:
         return self.folder / "evidence"
 
 
-def section(name: str, family: Systems | Games, bench: Bench) -> str:
+def section(name: str, family: Systems | Games | Shared, bench: Bench) -> str:
     """The title of a family, and its table. What time other families left is there for this one, too."""
     bench.stopwatch.add(QUICK_SECONDS if bench.is_quick else family.seconds)
-    told = systems_told(family, bench) if isinstance(family, Systems) else games_told(family, bench)
+    if isinstance(family, Systems):
+        told = systems_told(family, bench)
+    elif isinstance(family, Games):
+        told = games_told(family, bench)
+    else:
+        told = shared_told(family, bench)
     return f"## {name}\n\n{told}"
 
 
@@ -119,15 +124,64 @@ def games_told(family: Games, bench: Bench) -> str:
     return f"{kinds}\n\n{tables.table(GAME_HEAD + GAME_RATIOS, rows)}"
 
 
+def game_reading(bench: Bench, file: Path) -> Run | None:
+    """Reading a game alone: a look at evidence with no vertex."""
+    return bench.stopwatch.run(bench.program, "verify", file, bench.written("nothing", "evidence even"))
+
+
 def game_row(game: Game, bench: Bench) -> list[str]:
-    """The row of a game. Its reading alone is a look at evidence with no vertex."""
+    """The row of a game."""
     stopwatch = bench.stopwatch
     file = bench.made("games.py", game.generator, game.quick if bench.is_quick else game.sizes)
     vertices = int(first_line(file).strip("parity ;\n")) + 1
     cat = stopwatch.run("cat", file)
-    reading = stopwatch.run(bench.program, "verify", file, bench.written("nothing", "evidence even"))
+    reading = game_reading(bench, file)
     one = stopwatch.run(bench.program, "solve", file)
     by_four = stopwatch.run(bench.program, "solve", file, "--workers", WORKERS) if one and one.is_answer else None
     cells = [cell for run in (reading, one, by_four) for cell in (tables.seconds(run), tables.memory(run))]
     ratios = [tables.ratio(*pair) for pair in ((reading, cat), (one, reading), (by_four, one))]
     return [game.title, f"{vertices:,}", tables.size_of(file), tables.seconds(cat), *cells, *ratios]
+
+
+SHARED_HEAD = ["Work", "Reading, s", "1 worker, s", "MB", "4 workers, s", "MB", "64 workers, s", "4 workers, locked, s"]
+SHARED_RATIOS = ["1 worker / 4", "But for reading", "64 workers / 4", "Locked / 4", "MB, 4 / 1"]
+
+
+def shared_told(family: Shared, bench: Bench) -> str:
+    """Work for several workers: a row for each game and each question."""
+    rows = [*shared_games(family, bench), *shared_questions(family, bench)]
+    return (
+        f"What several workers gain, and cost: games by `solve`, and questions by `check` on the system `{family.generator}` of "
+        f"{(family.quick if bench.is_quick else family.sizes)[0]:,} states.\n"
+        f"'But for reading' is the ratio of one worker's seconds to those of four, less those of reading (and, of a question, its report);\n"
+        f"'locked' is the locked board with {MOST_SHARDS} shards.\n\n"
+        f"{tables.table(SHARED_HEAD + SHARED_RATIOS, rows)}"
+    )
+
+
+def shared_games(family: Shared, bench: Bench) -> Iterator[list[str]]:
+    """The row of each game."""
+    for game in family.games:
+        file = bench.made("games.py", game.generator, game.quick if bench.is_quick else game.sizes)
+        yield shared_row(game.title, (bench.program, "solve", file), game_reading(bench, file), bench)
+
+
+def shared_questions(family: Shared, bench: Bench) -> Iterator[list[str]]:
+    """The row of each question."""
+    file = bench.made("systems.py", family.generator, family.quick if bench.is_quick else family.sizes)
+    reading = bench.stopwatch.run(bench.program, "check", file, bench.written("formula", READING), "--plain")
+    for question in family.questions:
+        words = (bench.program, "check", file, bench.written("formula", formula(question, family.actions)))
+        yield shared_row(question, words, reading, bench)
+
+
+def shared_row(title: str, words: tuple[str | Path, ...], reading: Run | None, bench: Bench) -> list[str]:
+    """The row of a game or a question: runs by one worker, by some, by many, and by some over locks."""
+    stopwatch = bench.stopwatch
+    one = stopwatch.run(*words)
+    some = stopwatch.run(*words, "--workers", WORKERS)
+    many = stopwatch.run(*words, "--workers", MANY_WORKERS)
+    locked = stopwatch.run(*words, "--workers", WORKERS, "--board", "locked", "--shards", MOST_SHARDS)
+    cells = [cell for run in (one, some) for cell in (tables.seconds(run), tables.memory(run))]
+    ratios = [tables.ratio(one, some), tables.ratio_past(one, some, reading), tables.ratio(many, some), tables.ratio(locked, some)]
+    return [title, tables.seconds(reading), *cells, tables.seconds(many), tables.seconds(locked), *ratios, tables.memory_ratio(some, one)]

@@ -51,6 +51,18 @@ def ratio(run: Run | None, base: Run | None) -> str:
     return f"{run.seconds / base.seconds:.1f}" if run and base and run.is_answer and base.is_answer else NOT_RUN
 
 
+def ratio_past(run: Run | None, base: Run | None, common: Run | None) -> str:
+    """The same less the seconds of what is common to both."""
+    if not (run and base and common and run.is_answer and base.is_answer and base.seconds > common.seconds):
+        return NOT_RUN
+    return f"{(run.seconds - common.seconds) / (base.seconds - common.seconds):.1f}"
+
+
+def memory_ratio(run: Run | None, base: Run | None) -> str:
+    """How many times as much memory as the other a run had."""
+    return f"{run.peak_bytes / base.peak_bytes:.1f}" if run and base and run.is_answer and base.is_answer else NOT_RUN
+
+
 def answer(runs: Iterable[Run | None]) -> str:
     """What the runs that ended with an answer say of the initial state. They have to agree."""
     found = {run.status for run in runs if run and run.is_answer}
