@@ -5,6 +5,7 @@ pub mod Gathering
 pub mod Judging
 pub mod Reading
 pub mod Arranging
+pub mod Packing
 pub mod StartsLemmas
 pub mod Storing
 pub mod Whole

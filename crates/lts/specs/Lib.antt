@@ -7,3 +7,4 @@ pub mod Left
 pub mod Gathered
 pub mod Arranged
 pub mod Unread
+pub mod Packed

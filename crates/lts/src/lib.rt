@@ -6,6 +6,7 @@ pub mod error;
 mod index;
 mod intake;
 pub mod law;
+mod packed;
 mod plain;
 pub mod reader;
 mod recent;
