@@ -53,6 +53,28 @@ fn texts_are_canonical(rt: HostRuntime) {
     }
 }
 
+// Rows in no order, some of them twice: in one run of a source, or in two.
+const SCATTERED: &str =
+    "des (0,14,5)\n(3,\"b\",4)\n(3,\"a\",1)\n(3,\"b\",4)\n(1,\"c\",0)\n(1,\"a\",2)\n(0,\"b\",3)\n(3,\"a\",0)\n(4,\"a\",4)\n(1,\"c\",0)\n(0,\"b\",1)\n(0,\"a\",3)\n(4,\"a\",4)\n(2,\"c\",2)\n(1,\"a\",0)\n";
+
+#[test]
+fn scattered_rows_are_put_in_order_and_each_once(rt: HostRuntime) {
+    let wanted =
+        "des (0,11,5)\n(0,\"a\",3)\n(0,\"b\",1)\n(0,\"b\",3)\n(1,\"a\",0)\n(1,\"a\",2)\n(1,\"c\",0)\n(2,\"c\",2)\n(3,\"a\",0)\n(3,\"a\",1)\n(3,\"b\",4)\n(4,\"a\",4)\n";
+    writes(&rt, SCATTERED, wanted);
+}
+
+// A text with the greatest state that there may be, at both ends of a transition.
+const GREATEST: &str =
+    "des (999999,6,1000000)\n(999999,\"b\",999999)\n(999999,\"a\",999999)\n(0,\"b\",999999)\n(999999,\"a\",0)\n(999998,\"b\",0)\n(999999,\"b\",999999)\n";
+
+#[test]
+fn the_greatest_states_keep_their_places(rt: HostRuntime) {
+    let wanted =
+        "des (999999,5,1000000)\n(0,\"b\",999999)\n(999998,\"b\",0)\n(999999,\"a\",0)\n(999999,\"a\",999999)\n(999999,\"b\",999999)\n";
+    writes(&rt, GREATEST, wanted);
+}
+
 // A writer without room for the whole ring is given a beginning, and a fault is told.
 fn is_cut(alloc: Global, lts: &Lts, step: usize, room: usize, at_end: AtEnd) -> bool {
     let mut out = Narrow::new(alloc, step, room);
