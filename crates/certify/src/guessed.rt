@@ -12,7 +12,7 @@ use game::player::Player;
 use gauge::Gauge;
 use std::alloc::Global;
 use text::Memory;
-use winners::guess::{Guessed, guess_winners_seen};
+use winners::guess::{Guessed, guess_winners};
 
 // Puts what is guessed of a vertex into the evidence of its winner. A move to no vertex of the game is left out.
 fn put_guessed(game: &Game, guessed: &Guessed, draft: &mut Draft, v: u32, rank: &mut [u32])
@@ -57,7 +57,7 @@ pub(crate) fn guessed_pair(
 ) -> Option<EvidencePair>
     ensures { IfSome result (AreOf game.now) }
 {
-    let guessed = guess_winners_seen(alloc, game, gauge).ok()??;
+    let guessed = guess_winners(alloc, game, gauge).ok()??;
     let even = evidence_of(alloc, game, &guessed, Player::Even).ok()?;
     let odd = evidence_of(alloc, game, &guessed, Player::Odd).ok()?;
     Some(EvidencePair { even, odd })

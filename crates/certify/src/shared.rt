@@ -15,7 +15,7 @@ use gauge::Gauge;
 use std::alloc::{AllocError, Global};
 use std::thread::{Threads, join};
 use text::Memory;
-use winners::guess::{Guessed, guess_winners_by_seen};
+use winners::guess::{Guessed, guess_winners_by};
 
 // Evidence of all that each player is guessed to win, side by side.
 fn both_evidence<R: Threads + Sync>(
@@ -76,7 +76,7 @@ pub fn certified_winners_by<R: Threads + Sync>(
     if workers < 2 {
         return certified_winners(alloc, game, gauge);
     }
-    let guessed = guess_winners_by_seen(rt, alloc, game, workers, gauge).ok()??;
+    let guessed = guess_winners_by(rt, alloc, game, workers, gauge).ok()??;
     let (even, odd) = both_evidence(rt, alloc, game, &guessed);
     let even = even.ok()?;
     let odd = odd.ok()?;

@@ -11,7 +11,7 @@ use samples::games::push;
 use std::alloc::Global;
 use std::process::Abort;
 use std::thread::Threads;
-use winners::guess::{Guessed, guess_winners, guess_winners_by, guess_winners_by_seen};
+use winners::guess::{Guessed, guess_winners, guess_winners_by};
 
 // One more than the greatest priority of a game.
 const PRIORITIES: u8 = 33;
@@ -103,7 +103,7 @@ impl Tested<'_> {
 
 // How many vertices Even wins by a guess. `None` where the guess isn't good.
 fn evens(rt: &(impl Abort + AllocGlobal), game: &Game) -> Option<u32> {
-    let guessed = guess_winners(rt.alloc(), game)
+    let guessed = guess_winners(rt.alloc(), game, None)
         .expect(rt, "memory")
         .expect(rt, "a guess");
     evens_of(game, &guessed)
@@ -111,7 +111,7 @@ fn evens(rt: &(impl Abort + AllocGlobal), game: &Game) -> Option<u32> {
 
 // The same by a guess of four threads.
 fn evens_by_threads<R: Abort + AllocGlobal + Threads + Sync>(rt: &R, game: &Game) -> Option<u32> {
-    let guessed = guess_winners_by(rt, rt.alloc(), game, 4)
+    let guessed = guess_winners_by(rt, rt.alloc(), game, 4, None)
         .expect(rt, "memory")
         .expect(rt, "a guess");
     evens_of(game, &guessed)
@@ -177,21 +177,23 @@ impl Rows {
 
 // Even has the even vertices, and Odd the odd ones.
 // A game of so many vertices, of which each leads to one, two or three.
-fn wide_game(
+fn large_game(
     rt: &(impl Abort + AllocGlobal),
     dice: &mut Dice,
     vertices: u32,
+    reach: u32,
     priorities: u8,
 ) -> Game
     requires some { 0 < vertices }
+    requires reach { 0 < reach }
     requires few { (0 < priorities) × (priorities ≤ 33) }
 {
     let mut rows = Rows::new(rt.alloc());
-    for _ in 0..vertices {
+    for v in 0..vertices {
         let successors = [
-            dice.roll(vertices),
-            dice.roll(vertices),
-            dice.roll(vertices),
+            v.wrapping_add(dice.roll(reach)) % vertices,
+            v.wrapping_add(dice.roll(reach)) % vertices,
+            v.wrapping_add(dice.roll(reach)) % vertices,
         ];
         let count = 1 + dice.roll(3) as usize;
         let priority = dice.roll(u32::from(priorities)) as u8;
@@ -200,16 +202,23 @@ fn wide_game(
     rows.finish(rt)
 }
 
-// Threads share a game of 65,536 vertices and more.
+// Threads share a game of 65,536 vertices and more: one whose edges lead far in one way, and one whose edges lead nearby in another.
 #[test]
 fn threads_guess_what_one_guesses(rt: HostRuntime) {
+    are_guessed_alike(&rt, 70_000);
+    are_guessed_alike(&rt, 1_000);
+}
+
+fn are_guessed_alike<R: Abort + AllocGlobal + Threads + Sync>(rt: &R, reach: u32)
+    requires { 0 < reach }
+{
     let mut dice = Dice::new(11);
     for priorities in [2, 3, 10, 31] {
-        let game = wide_game(&rt, &mut dice, 70_000, priorities);
-        let found = evens_by_threads(&rt, &game);
+        let game = large_game(rt, &mut dice, 70_000, reach, priorities);
+        let found = evens_by_threads(rt, &game);
         assert!(rt;
-            found.is_some() && found == evens(&rt, &game),
-            "{priorities}"
+            found.is_some() && found == evens(rt, &game),
+            "{reach} {priorities}"
         );
     }
 }
@@ -221,7 +230,7 @@ fn evens_seen<R: Abort + AllocGlobal + Threads + Sync>(
     workers: usize,
 ) -> Option<u32> {
     let gauge = Gauge::new();
-    let guessed = guess_winners_by_seen(rt, rt.alloc(), game, workers, Some(&gauge))
+    let guessed = guess_winners_by(rt, rt.alloc(), game, workers, Some(&gauge))
         .expect(rt, "memory")
         .expect(rt, "a guess");
     let reading = gauge.reading().expect(rt, "a long search");
@@ -233,7 +242,7 @@ fn evens_seen<R: Abort + AllocGlobal + Threads + Sync>(
 #[test]
 fn a_gauge_shows_a_long_search(rt: HostRuntime) {
     let mut dice = Dice::new(11);
-    let game = wide_game(&rt, &mut dice, 70_000, 10);
+    let game = large_game(&rt, &mut dice, 70_000, 70_000, 10);
     let found = evens(&rt, &game);
     assert_eq!(rt; evens_seen(&rt, &game, 1), found);
     assert_eq!(rt; evens_seen(&rt, &game, 4), found);

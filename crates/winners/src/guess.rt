@@ -4,7 +4,7 @@ use crate::arena::Arena;
 use crate::before::Before;
 use crate::crowd::Crowd;
 use crate::justify::Justification;
-use crate::meter::{Meter, first_looks};
+use crate::meter::{Meter, first_looks, is_wide};
 use crate::numbers::Numbers;
 use crate::order::order_of;
 use crate::race::Race;
@@ -54,19 +54,11 @@ impl Guessed {
 }
 
 /// Guesses the winners of a game, within a number of steps that is about linear in its size. `None` where that did not suffice, or for want of
-/// memory.
+/// memory. A gauge shows how far a long search has come, in vertices and edges that are looked at.
 ///
 /// # Errors
 /// Want of memory, and nothing else.
-pub fn guess_winners(alloc: Global, game: &Game) -> Result<Option<Guessed>, Memory> {
-    guess_winners_seen(alloc, game, None)
-}
-
-/// The same, where a gauge shows how far a long search has come, in vertices and edges that are looked at.
-///
-/// # Errors
-/// Want of memory, and nothing else.
-pub fn guess_winners_seen(
+pub fn guess_winners(
     alloc: Global,
     game: &Game,
     gauge: Option<&Gauge>,
@@ -82,7 +74,7 @@ pub fn guess_winners_seen(
     })
 }
 
-/// The same by so many threads, where the game is large.
+/// The same by so many threads, where the game is large. Of two searches side by side the gauge shows the recursion.
 ///
 /// # Errors
 /// Want of memory, and nothing else.
@@ -91,24 +83,10 @@ pub fn guess_winners_by<R: Threads + Sync>(
     alloc: Global,
     game: &Game,
     workers: usize,
-) -> Result<Option<Guessed>, Memory> {
-    guess_winners_by_seen(rt, alloc, game, workers, None)
-}
-
-/// The same by so many threads, where a gauge shows how far a long search has come. Of two searches side by side it shows the one that the threads
-/// share.
-///
-/// # Errors
-/// Want of memory, and nothing else.
-pub fn guess_winners_by_seen<R: Threads + Sync>(
-    rt: &R,
-    alloc: Global,
-    game: &Game,
-    workers: usize,
     gauge: Option<&Gauge>,
 ) -> Result<Option<Guessed>, Memory> {
     if workers < 2 || game.vertices() < LEAST_SHARED {
-        return guess_winners_seen(alloc, game, gauge);
+        return guess_winners(alloc, game, gauge);
     }
     let before = Before::of_by(rt, alloc, game, workers)?;
     let crew = Crew { rt, alloc, workers };
@@ -196,7 +174,7 @@ fn whole(guessed: Guessed) -> Option<Guessed> {
     }
 }
 
-// The same by several threads: the first try on one of them, and beside it a recursion that the others share.
+// The same by several threads: two searches side by side. Of a wide game a recursion shares its lists and attractors among them.
 fn find_winners_by<'x, R: Threads + Sync>(
     crew: &'x Crew<'x, R>,
     game: &'x Game,
@@ -208,15 +186,20 @@ fn find_winners_by<'x, R: Threads + Sync>(
         before: &*before,
     };
     let race = Race::new();
-    let (first, other) = find_both(&*crew, arena, &race, gauge);
-    match first.or(other) {
-        Some(winners) => Some(winners),
-        None => find_last(crew.alloc, arena, gauge),
+    if is_wide(arena) {
+        let (first, other) = find_shared_beside(&*crew, arena, &race, gauge);
+        match first.or(other) {
+            Some(winners) => Some(winners),
+            None => find_last(crew.alloc, arena, gauge),
+        }
+    } else {
+        let (first, other) = find_both(&*crew, arena, &race, gauge);
+        first.or(other)
     }
 }
 
-// What each of both finds. Once one has found, the other ends.
-fn find_both<'g, R: Threads + Sync>(
+// What a first try finds, and a recursion that the threads share. Once one has found, the other ends.
+fn find_shared_beside<'g, R: Threads + Sync>(
     crew: &'g Crew<'g, R>,
     arena: Arena<'g>,
     race: &'g Race,
@@ -227,6 +210,39 @@ fn find_both<'g, R: Threads + Sync>(
         || find_first_in(crew.alloc, arena, race),
         || find_shared_in(crew, arena, race, gauge),
     )
+}
+
+// What turns with justifications find, and a recursion, each on a thread. Once one has found, the other ends.
+fn find_both<'g, R: Threads + Sync>(
+    crew: &'g Crew<'g, R>,
+    arena: Arena<'g>,
+    race: &'g Race,
+    gauge: Option<&'g Gauge>,
+) -> (Option<Winners>, Option<Winners>) {
+    join(
+        crew.rt,
+        || find_by_justification_in(crew.alloc, arena, race),
+        || find_by_recursion_in(crew.alloc, arena, race, gauge),
+    )
+}
+
+fn find_by_justification_in<'g>(
+    alloc: Global,
+    arena: Arena<'g>,
+    race: &'g Race,
+) -> Option<Winners> {
+    let meter = Meter::new(arena.size()).beside(race);
+    told(race, find_by_justification(alloc, arena, meter))
+}
+
+fn find_by_recursion_in<'g>(
+    alloc: Global,
+    arena: Arena<'g>,
+    race: &'g Race,
+    gauge: Option<&'g Gauge>,
+) -> Option<Winners> {
+    let meter = Meter::new(arena.size()).beside(race).shown(gauge);
+    told(race, find_by_recursion(alloc, arena, meter))
 }
 
 fn find_first_in<'g>(alloc: Global, arena: Arena<'g>, race: &'g Race) -> Option<Winners> {

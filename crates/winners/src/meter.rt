@@ -18,6 +18,9 @@ const NEAR_TIMES: u64 = 12;
 // Vertices of which no more than so many lie between lie near each other, so that a look from one to the other takes little time.
 const NEAR: u32 = 4_096;
 
+// In a wide game so many times as many edges lead far as lead nearby.
+const FAR_TIMES: u64 = 4;
+
 // Where threads share the work, they may look at each vertex so often.
 const SHARED_TIMES: u64 = 30;
 
@@ -126,6 +129,29 @@ impl<'r> Meter<'r> {
     pub(crate) fn is_late(&self) -> bool {
         self.looks > self.late
     }
+}
+
+/// Whether most edges of a game lead far, so that what is forced somewhere soon is forced everywhere, in a few wide rings.
+pub(crate) fn is_wide(arena: Arena) -> bool {
+    let (mut near, mut far) = (0_u64, 0_u64);
+    for v in 0..arena.vertices() {
+        let successors = arena.successors(v);
+        let count = count_near(v, successors);
+        near = near.saturating_add(count);
+        far = far.saturating_add((successors.len() as u64).saturating_sub(count));
+    }
+    near < far / FAR_TIMES
+}
+
+// How many of these lie near.
+fn count_near(v: u32, successors: &[u32]) -> u64 {
+    let mut count = 0_u64;
+    for t in successors {
+        if v.abs_diff(*t) <= NEAR {
+            count = count.saturating_add(1);
+        }
+    }
+    count
 }
 
 /// For each priority how many looks at its vertices a first try may take.
