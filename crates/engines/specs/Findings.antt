@@ -1,5 +1,5 @@
 -- What a check by a game finds out, and what it makes of that.
-use Rattle.std.specs.Prelude.{◌≡◌, ℕ, ◌≤◌, ◌⊎◌, ◌↔◌, List, Some, IfSome, IsTrue, MatchResult, length, option_map}
+use Rattle.std.specs.Prelude.{◌≡◌, ℕ, ◌≤◌, ◌⊎◌, ◌↔◌, List, Result, Some, IfSome, IsTrue, MatchResult, length, option_map}
 use Rattle.std.specs.Arc.{arc_value}
 use Rattle.std.specs.Option.{is_some}
 use Rattle.systems.specs.System.{System}
@@ -17,6 +17,7 @@ use Rattle.game.specs.Wins.{OddWins, Wins}
 use Rattle.evidence.specs.Best.{IsEvenOf, IsOddOf}
 use Rattle.evidence.specs.Evidence.{IsGood, has}
 use Rattle.evidence.specs.View.{Piece}
+use Rattle.evidence.specs.declared.error.EvidenceError.{EvidenceError}
 use Rattle.evidence.specs.declared.error.EvidenceError.TheVariants as evidence
 use Rattle.witness.specs.Walk.{is_marked}
 use Rattle.witness.specs.Witness.{GoesOneWay, IsShown, IsShownBy, root_of}
@@ -92,10 +93,14 @@ pub record IsOdds (g : Game) (e : Piece) : Type 0 where
   pub exact : (v : ℕ) → IsTrue (has e.evidence v) ↔ OddWins g v
   pub best : IsOddOf g e.evidence
 
--- The game is solved, and the evidence of all that Odd wins is made, unless memory was wanting.
+-- evidence of all that Odd wins, or memory was wanting for it
+abbrev pub AreOddsOf : Game → Result Piece EvidenceError → Type 0
+AreOddsOf g made = MatchResult made (IsOdds g) (λ e. e ≡ evidence.Memory)
+
+-- The game is solved, and the evidence of all that Odd wins may be made, too.
 pub record AreFoundBeside (x : FoundBeside) : Type 0 where
   pub found : AreFindings x.found
-  pub odd : MatchResult x.odd (IsOdds (arc_value x.found.solution.game)) (λ e. e ≡ evidence.Memory)
+  pub odd : IfSome x.odd (AreOddsOf (arc_value x.found.solution.game))
 
 -- evidence of all that each player wins
 pub record IsPairOf (g : Game) (pair : EvidencePair) : Type 0 where

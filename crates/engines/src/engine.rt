@@ -9,12 +9,12 @@ ghost use Rattle.requests.specs.Strict.{ChecksBy};
 ghost use Rattle.engines.specs.Findings.{AreFindings, ArePrepared, IsUnprepared, formula_of, system_of, way_in};
 ghost use Rattle.requests.specs.Writers.{all_writers, evidence_writers, game_writer, lent_writers, no_writer, report_writer};
 
-use crate::beside::{FoundBeside, find_beside};
-use crate::findings::{Findings, find_alone, find_in, find_with};
+use crate::beside::{FoundBeside, find_wanted};
+use crate::findings::{Findings, find_alone, find_with};
 use crate::marks::{game_marks, plain_marks};
 use crate::no_writer::NoWriter;
 use crate::outputs::{answer, put_wanted};
-use crate::prepared::{Prepared, prepare, prepare_with};
+use crate::prepared::{Prepared, prepare};
 use crate::report::report_text;
 use lts::put;
 use measures::observer::{Observer, Silent, Stage};
@@ -336,47 +336,10 @@ fn check_by_game<
         let out = &mut writers.report;
         return report_by_game(rt, alloc, &texts, options, wanted.report, out, watcher);
     }
-    if wanted.evidence && options.workers > 1 {
-        return check_beside(rt, alloc, texts, options, wanted, writers, watcher);
-    }
-    match find_in(rt, alloc, texts, options, watcher) {
-        Ok(found) => {
-            tell_making(&found, wanted, watcher);
-            let prepared = prepare(alloc, &found, wanted);
-            watcher.sees(Stage::Writing);
-            answer_prepared(&found, prepared, wanted, writers)
-        }
-        Err(error) => Err(error),
-    }
-}
-
-/// Checks by a game what was read, where evidence is wanted and there are several workers: Odd's is made while the game is solved.
-fn check_beside<
-    G: Write,
-    E: Write,
-    O: Write,
-    V: Write,
-    W: Write,
-    U: Watcher + Sync,
-    H: Threads + Wait + Clone + Copy + Drop + Send + Sync,
->(
-    rt: &H,
-    alloc: Global,
-    texts: Texts,
-    options: &Options,
-    wanted: Wanted,
-    writers: &mut Writers<G, E, O, V, W>,
-    watcher: &U,
-) -> Result<bool, MuError>
-    requires { IsTrue wanted.evidence }
-    ensures { (first second : List ℕ) → AreSpelled first second texts.system.system (closed_formula texts.formula)
-        → Answers (ByGame options.now.priorities (Some options.now.board)) first second
-        (lent_writers G.contents E.contents O.contents V.contents W.contents wanted writers.old writers.new) result }
-{
-    match find_beside(rt, alloc, texts, options, watcher) {
+    match find_wanted(rt, alloc, texts, options, wanted, watcher) {
         Ok(FoundBeside { found, odd }) => {
             tell_making(&found, wanted, watcher);
-            let prepared = prepare_with(alloc, &found, wanted, odd);
+            let prepared = prepare(alloc, &found, wanted, odd);
             watcher.sees(Stage::Writing);
             answer_prepared(&found, prepared, wanted, writers)
         }
@@ -459,7 +422,7 @@ fn answer_wanted<G: Write, E: Write, O: Write, V: Write, W: Write>(
         (E.contents even.old) (E.contents even.new) (O.contents odd.old) (O.contents odd.new) (V.contents witness.old) (V.contents witness.new)
         (W.contents out.old) (W.contents out.new)) result }
 {
-    match prepare(alloc, found, wanted) {
+    match prepare(alloc, found, wanted, None) {
         Ok(prepared) => {
             let wrote = put_wanted(found, &prepared, game, even, odd, witness, out);
             answer(found, wrote)

@@ -1,8 +1,8 @@
 // The evidence of both players in a game that was solved.
 
-ghost use Rattle.std.specs.Prelude.{◌≡◌, IfOk, IfErr, MatchResult};
+ghost use Rattle.std.specs.Prelude.{◌≡◌, IfOk, IfErr, IfSome, MatchResult};
 ghost use Rattle.std.specs.Arc.{arc_value};
-ghost use Rattle.engines.specs.Findings.{AreFindings, IsEvens, IsOdds, IsPairOf};
+ghost use Rattle.engines.specs.Findings.{AreFindings, AreOddsOf, IsEvens, IsPairOf};
 
 use crate::findings::{Findings, odd_of};
 use certify::pair::EvidencePair;
@@ -26,7 +26,7 @@ fn evens(alloc: Global, found: &Findings) -> Result<Evidence, EvidenceError>
 /// The evidence of all that Odd wins.
 fn odds(alloc: Global, found: &Findings) -> Result<Evidence, EvidenceError>
     requires { AreFindings found.now }
-    ensures { MatchResult result (IsOdds (arc_value found.now.solution.game)) (λ e. e ≡ EvidenceError.Memory) }
+    ensures { AreOddsOf (arc_value found.now.solution.game) result }
 {
     match odd_of(alloc, found) {
         Ok(evidence) => Ok(evidence),
@@ -41,7 +41,7 @@ fn paired(
     odd: Result<Evidence, EvidenceError>,
 ) -> Result<EvidencePair, MuError>
     requires even { MatchResult even (IsEvens (arc_value found.now.solution.game)) (λ e. e ≡ EvidenceError.Memory) }
-    requires odd { MatchResult odd (IsOdds (arc_value found.now.solution.game)) (λ e. e ≡ EvidenceError.Memory) }
+    requires odd { AreOddsOf (arc_value found.now.solution.game) odd }
     ensures pair { IfOk result (IsPairOf (arc_value found.now.solution.game)) }
     ensures memory { IfErr result (λ e. e ≡ MuError.Evidence EvidenceError.Memory) }
 {
@@ -51,34 +51,24 @@ fn paired(
     }
 }
 
-/// The evidence of both players.
+/// The evidence of both players. That of Odd is made unless it was before, or memory was wanting for it.
 ///
 /// # Errors
 /// E5.
-pub(crate) fn evidence_pair(alloc: Global, found: &Findings) -> Result<EvidencePair, MuError>
-    requires { AreFindings found.now }
-    ensures pair { IfOk result (IsPairOf (arc_value found.now.solution.game)) }
-    ensures memory { IfErr result (λ e. e ≡ MuError.Evidence EvidenceError.Memory) }
-{
-    let even = evens(alloc, found);
-    let odd = odds(alloc, found);
-    paired(found, even, odd)
-}
-
-/// The same, where Odd's was made before, or memory was wanting for it.
-///
-/// # Errors
-/// E5.
-pub(crate) fn pair_with(
+pub(crate) fn evidence_pair(
     alloc: Global,
     found: &Findings,
-    odd: Result<Evidence, EvidenceError>,
+    odd: Option<Result<Evidence, EvidenceError>>,
 ) -> Result<EvidencePair, MuError>
     requires found { AreFindings found.now }
-    requires odd { MatchResult odd (IsOdds (arc_value found.now.solution.game)) (λ e. e ≡ EvidenceError.Memory) }
+    requires odd { IfSome odd (AreOddsOf (arc_value found.now.solution.game)) }
     ensures pair { IfOk result (IsPairOf (arc_value found.now.solution.game)) }
     ensures memory { IfErr result (λ e. e ≡ MuError.Evidence EvidenceError.Memory) }
 {
     let even = evens(alloc, found);
+    let odd = match odd {
+        Some(odd) => odd,
+        None => odds(alloc, found),
+    };
     paired(found, even, odd)
 }

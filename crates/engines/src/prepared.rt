@@ -1,15 +1,15 @@
 // What a check makes of its findings before it begins to write.
 
-ghost use Rattle.std.specs.Prelude.{◌≡◌, ◌<◌, IfOk, IfErr, IfSome, IsTrue, MatchResult, option_map, slice_index_or, false};
+ghost use Rattle.std.specs.Prelude.{◌≡◌, ◌<◌, IfOk, IfErr, IfSome, IsTrue, option_map, slice_index_or, false};
 ghost use Rattle.std.specs.Arc.{arc_value};
 ghost use Rattle.std.specs.Option.{is_some};
 ghost use Rattle.engines.specs.declared.prepared.Shown.{Shown};
-ghost use Rattle.engines.specs.Findings.{AreFindings, ArePrepared, AreShown, IsOdds, IsPairOf, IsPlayShown, IsUnprepared, IsUnshown, IsWinning, formula_of};
+ghost use Rattle.engines.specs.Findings.{AreFindings, AreOddsOf, ArePrepared, AreShown, IsPairOf, IsPlayShown, IsUnprepared, IsUnshown, IsWinning, formula_of};
 ghost use Rattle.engines.specs.Findings.{system_of};
 ghost use Rattle.requests.specs.Report.{report_in};
 
 use crate::findings::{Findings, odd_of};
-use crate::pairs::{evidence_pair, pair_with};
+use crate::pairs::evidence_pair;
 use crate::report::report_text;
 use certify::pair::EvidencePair;
 use evidence::error::EvidenceError;
@@ -41,39 +41,24 @@ pub struct Prepared {
     pub report: Vec<u8>,
 }
 
-/// Makes what is wanted.
+/// Makes what is wanted. That evidence of Odd is taken that was made before, if it was.
 ///
 /// # Errors
 /// E5 and U4 for want of memory, N3 for that of the normal form, by which a witness is found.
-pub(crate) fn prepare(alloc: Global, found: &Findings, wanted: Wanted) -> Result<Prepared, MuError>
-    requires { AreFindings found.now }
-    ensures prepared { IfOk result (ArePrepared found.now) }
-    ensures wanted { IfOk result (λ prepared. prepared.wanted ≡ wanted) }
-    ensures refusal { IfErr result (IsUnprepared found.now wanted) }
-{
-    let pair = pair_where(alloc, found, wanted.evidence)?;
-    prepare_beside(alloc, found, wanted, pair)
-}
-
-/// The same, where evidence is wanted and Odd's was made before, or memory was wanting for it.
-///
-/// # Errors
-/// Those of `prepare`.
-pub(crate) fn prepare_with(
+pub(crate) fn prepare(
     alloc: Global,
     found: &Findings,
     wanted: Wanted,
-    odd: Result<Evidence, EvidenceError>,
+    odd: Option<Result<Evidence, EvidenceError>>,
 ) -> Result<Prepared, MuError>
     requires found { AreFindings found.now }
-    requires evidence { IsTrue wanted.evidence }
-    requires odd { MatchResult odd (IsOdds (arc_value found.now.solution.game)) (λ e. e ≡ EvidenceError.Memory) }
+    requires odd { IfSome odd (AreOddsOf (arc_value found.now.solution.game)) }
     ensures prepared { IfOk result (ArePrepared found.now) }
     ensures wanted { IfOk result (λ prepared. prepared.wanted ≡ wanted) }
     ensures refusal { IfErr result (IsUnprepared found.now wanted) }
 {
-    let pair = pair_with(alloc, found, odd)?;
-    prepare_beside(alloc, found, wanted, Some(pair))
+    let pair = pair_where(alloc, found, wanted.evidence, odd)?;
+    prepare_beside(alloc, found, wanted, pair)
 }
 
 /// Makes what is wanted beside the evidence of both players.
@@ -110,13 +95,15 @@ fn report_of(alloc: Global, found: &Findings, form: ReportForm) -> Result<Vec<u8
     report_text(alloc, &texts.system, &texts.formula, &found.marks, form)
 }
 
-/// The evidence of both players, if it is wanted.
+/// The evidence of both players, if it is wanted. That of Odd may have been made before.
 fn pair_where(
     alloc: Global,
     found: &Findings,
     wanted: bool,
+    odd: Option<Result<Evidence, EvidenceError>>,
 ) -> Result<Option<EvidencePair>, MuError>
-    requires { AreFindings found.now }
+    requires found { AreFindings found.now }
+    requires odd { IfSome odd (AreOddsOf (arc_value found.now.solution.game)) }
     ensures pair { IfOk result (λ pair. IfSome pair (IsPairOf (arc_value found.now.solution.game))) }
     ensures wanted { IfOk result (λ pair. is_some pair ≡ wanted) }
     ensures refusal { IfErr result (λ e. IsTrue wanted × (e ≡ MuError.Evidence EvidenceError.Memory)) }
@@ -124,7 +111,7 @@ fn pair_where(
     if !wanted {
         return Ok(None);
     }
-    match evidence_pair(alloc, found) {
+    match evidence_pair(alloc, found, odd) {
         Ok(pair) => Ok(Some(pair)),
         Err(error) => Err(error),
     }

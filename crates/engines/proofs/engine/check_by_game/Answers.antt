@@ -10,7 +10,7 @@ use Rattle.engines.proofs.engine.check_by_game.Goals as goal
 
 pub returns-in-Ok : goal.returns-in-Ok
 returns-in-Ok g c = λ first second spelled.
-    by_way (way_in c.in-Ok.found) _ first second _ c.answer_prepared.result c.in-Ok.ensures.way
+    by_way (way_in c.in-Ok.field-0.found) _ first second _ c.answer_prepared.result c.in-Ok.ensures.way
     (c.answer_prepared.ensures first second (subst (λ (t : Texts). AreSpelled first second t.system.system (closed_formula t.formula))
     (sym c.in-Ok.ensures.texts) spelled))
 
