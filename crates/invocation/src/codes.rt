@@ -29,10 +29,25 @@ pub const BARE_LABEL: &str = "a label with parameters wants quotes, as in \
 pub fn entry_of(code: &str) -> Option<&'static Entry>
     ensures { IfSome result (λ entry. entry.now.code.now ≡ code.now) }
 {
-    ENTRIES.iter().find(|entry| entry.code == code)
+    entries_beside(code).iter().find(|entry| entry.code == code)
 }
 
-static ENTRIES: [Entry; 54] = [
+/// The entries among which this code's is, if it has one: they stand in several tables, since a proof of a long one takes long.
+fn entries_beside(code: &str) -> &'static [Entry] {
+    match code.as_bytes().first() {
+        Some(b'A') => &SYSTEM,
+        Some(b'F' | b'L') => &FORMULA,
+        Some(b'N' | b'B' | b'T' | b'V') => &SOLVING,
+        Some(b'G') => &GAME,
+        Some(b'E') => &EVIDENCE,
+        Some(b'C') => &CHECKING,
+        Some(b'S') => &SCHEDULE,
+        Some(b'U' | b'W') => &CALL,
+        _ => &[],
+    }
+}
+
+static SYSTEM: [Entry; 9] = [
     Entry {
         code: "A1",
         place: " at line 1",
@@ -94,6 +109,9 @@ static ENTRIES: [Entry; 54] = [
         wrong: "want of memory while the system was read",
         remedy: "use a machine with more memory, or reduce the system",
     },
+];
+
+static FORMULA: [Entry; 10] = [
     Entry {
         code: "F1",
         place: " at offset N",
@@ -167,6 +185,9 @@ static ENTRIES: [Entry; 54] = [
         that has it between bars, and a label with parameters wants quotes; where the formula \
         speaks of what can't happen, leave `--strict` away",
     },
+];
+
+static SOLVING: [Entry; 8] = [
     Entry {
         code: "N1",
         place: "",
@@ -218,6 +239,9 @@ static ENTRIES: [Entry; 54] = [
         wrong: "want of memory for the table of measures, one for each vertex",
         remedy: "use a machine with more memory, or fewer workers",
     },
+];
+
+static GAME: [Entry; 8] = [
     Entry {
         code: "G1",
         place: " at line 1",
@@ -269,6 +293,9 @@ static ENTRIES: [Entry; 54] = [
         wrong: "want of memory while the game was read",
         remedy: "use a machine with more memory, or reduce the game",
     },
+];
+
+static EVIDENCE: [Entry; 5] = [
     Entry {
         code: "E1",
         place: " at line 1",
@@ -301,6 +328,9 @@ static ENTRIES: [Entry; 54] = [
         wrong: "want of memory for evidence",
         remedy: "use a machine with more memory",
     },
+];
+
+static CHECKING: [Entry; 5] = [
     Entry {
         code: "C1",
         place: " at V",
@@ -332,6 +362,9 @@ static ENTRIES: [Entry; 54] = [
         wrong: "both are good, and V is in neither",
         remedy: "together they have to have every vertex of the game",
     },
+];
+
+static SCHEDULE: [Entry; 4] = [
     Entry {
         code: "S1",
         place: " at line N",
@@ -358,6 +391,9 @@ static ENTRIES: [Entry; 54] = [
         wrong: "want of memory for the events or for the workers' state",
         remedy: "use a machine with more memory, or fewer workers",
     },
+];
+
+static CALL: [Entry; 5] = [
     Entry {
         code: "U1",
         place: "",
