@@ -1,6 +1,7 @@
 -- What an argument more, and a command more, make of a table.
-use Rattle.std.proofs.Common.{◌≡◌, ◌∙◌, ap, ap₂, refl, sym, ℕ, Bool, true, false, true≢false, not, ◌&&◌, List, Some, None}
-use Rattle.std.specs.Prelude.{IsSomeAnd, Option}
+use Rattle.std.proofs.Common.{◌≡◌, ◌∙◌, ap, ap₂, refl, subst, sym, ℕ, Bool, true, false, true≢false, not, ◌&&◌, List, Some, None}
+use Rattle.std.proofs.Common.{Result, Ok, Err}
+use Rattle.std.specs.Prelude.{IfOk, IsOkAnd, IsSomeAnd, Option}
 use Rattle.std.specs.Borrow.{Bor}
 use Rattle.clap.specs.Words.{is_simple}
 use Rattle.clap.specs.Words.{AddsArg, AddsSubcommand, App, Rule, Text, rule_of, with_rule, with_subcommand}
@@ -61,6 +62,18 @@ adds_rule old arg new table rule added has reads = added.shape has.local ∙ ap�
 pub adds_rules : (old new : Parser) (table : App) (rules : List Rule) → AddsRules old rules new → ReadsBy table old → ReadsBy (with_rules table rules) new
 adds_rules old new table rules adds reads = adds ∙ ap (λ t. with_rules t rules) reads
 
+-- one argument more, where there was memory for it
+pub adds_rule_if_ok : {E : Type 0} (old : Result Parser E) (arg : Arg) (new : Result Parser E) (table : App) (rule : Rule)
+    → IfOk new (λ n. IsOkAnd old (λ o. AddsArg o arg n)) → HasRule rule arg → IfOk old (ReadsBy table) → IfOk new (ReadsBy (with_rule table rule))
+adds_rule_if_ok old arg (Err e) table rule added has reads = tt
+adds_rule_if_ok (Err e) arg (Ok n) table rule added has reads = absurd added
+adds_rule_if_ok (Ok o) arg (Ok n) table rule added has reads = adds_rule o arg n table rule added has reads
+
+-- what is read where there was memory
+pub given_ok : {E : Type 0} (r : Result Parser E) (parser : Parser) (table : App) → r ≡ Ok parser → IfOk r (ReadsBy table) → ReadsBy table parser
+given_ok (Ok p) parser table was reads = let same : p ≡ parser = cc in subst (λ (q : Parser). ReadsBy table q) same reads
+given_ok (Err e) parser table was reads = absurd (cc)
+
 third : (a b c d : Bool) → (a && (not b && (not c && d))) ≡ true → c ≡ false
 third true false false d h = refl
 third true false true d h = absurd (true≢false (sym h))
@@ -72,6 +85,15 @@ pub adds_command : (old sub new : Parser) (table command : App) → command.top.
     → ReadsBy table old → ReadsBy (with_subcommand table command.top) new
 adds_command old sub new table command plain added below reads =
     added.shape (third _ _ _ _ (ap (λ (a : App). a.top.is_plain) below ∙ plain)) ∙ ap₂ with_subcommand reads (ap (λ (a : App). a.top) below)
+
+-- one command more, where there was memory for both
+pub adds_command_if_ok : {E : Type 0} (old sub new : Result Parser E) (table command : App) → command.top.is_plain ≡ true
+    → IfOk new (λ n. IsOkAnd old (λ o. IsOkAnd sub (λ s. AddsSubcommand o s n))) → IfOk sub (ReadsBy command) → IfOk old (ReadsBy table)
+    → IfOk new (ReadsBy (with_subcommand table command.top))
+adds_command_if_ok old sub (Err e) table command plain added below reads = tt
+adds_command_if_ok (Err e) sub (Ok n) table command plain added below reads = absurd added
+adds_command_if_ok (Ok o) (Err e) (Ok n) table command plain added below reads = absurd added
+adds_command_if_ok (Ok o) (Ok s) (Ok n) table command plain added below reads = adds_command o s n table command plain added below reads
 
 -- of the program's table the matches are told
 pub table_is_simple : (app : App) → IsTable app → is_simple app ≡ true

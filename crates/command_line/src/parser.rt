@@ -1,7 +1,7 @@
 // The command lines that are read, as `clap` is told of them.
 
-ghost use Rattle.std.specs.Prelude.{IfOk, codes};
-ghost use Rattle.clap.specs.Words.{app_of, new_app};
+ghost use Rattle.std.specs.Prelude.{IfOk, IsOkAnd, codes};
+ghost use Rattle.clap.specs.Words.{AddsArg, AddsSubcommand, app_of, new_app};
 ghost use Rattle.command_line.specs.CommandLine.{
   IsTable,
   board_rule,
@@ -244,16 +244,38 @@ pub(crate) fn parser<'a>(alloc: Global) -> Result<Parser<'a>, AllocError>
         .version(VERSION)
         .subcommand_required(true)
         .disable_help_subcommand(true);
-    let parser = parser.subcommand(check_parser(alloc, rules, boards, answers)?)?;
-    let parser = parser.subcommand(why_parser(alloc, rules, boards)?)?;
-    let parser = parser.subcommand(table_parser(alloc, rules, boards)?)?;
-    let parser = parser.subcommand(normal_parser(alloc, rules)?)?;
-    let parser = parser.subcommand(solve_parser(alloc, boards)?)?;
-    let parser = parser.subcommand(verify_parser(alloc)?)?;
-    let parser = parser.subcommand(replay_parser(alloc)?)?;
-    let parser = parser.subcommand(explain_parser(alloc)?)?;
-    let parser = parser.subcommand(help_parser(alloc)?)?;
-    parser.subcommand(described(alloc, "version", VERSION_ABOUT, VERSION_AFTER))
+    let parser = with_command(Ok(parser), check_parser(alloc, rules, boards, answers));
+    let parser = with_command(parser, why_parser(alloc, rules, boards));
+    let parser = with_command(parser, table_parser(alloc, rules, boards));
+    let parser = with_command(parser, normal_parser(alloc, rules));
+    let parser = with_command(parser, solve_parser(alloc, boards));
+    let parser = with_command(parser, verify_parser(alloc));
+    let parser = with_command(parser, replay_parser(alloc));
+    let parser = with_command(parser, explain_parser(alloc));
+    let parser = with_command(parser, help_parser(alloc));
+    let version = described(alloc, "version", VERSION_ABOUT, VERSION_AFTER);
+    with_command(parser, Ok(version))
+}
+
+/// The parser with a command more. Both are handed on as they were made, so that whoever calls this for one command after another owns nothing
+/// where it would return in between: that is what makes a proof long.
+fn with_command<'a>(
+    parser: Result<Parser<'a>, AllocError>,
+    command: Result<Parser<'a>, AllocError>,
+) -> Result<Parser<'a>, AllocError>
+    ensures { IfOk result (λ new. IsOkAnd parser.entry (λ old. IsOkAnd command.entry (λ sub. AddsSubcommand old sub new))) }
+{
+    parser?.subcommand(command?)
+}
+
+/// The parser with an argument more, for the same reason so.
+fn with_arg<'a>(
+    parser: Result<Parser<'a>, AllocError>,
+    arg: Arg<'a>,
+) -> Result<Parser<'a>, AllocError>
+    ensures { IfOk result (λ new. IsOkAnd parser.entry (λ old. AddsArg old arg.entry new)) }
+{
+    parser?.arg(arg)
 }
 
 /// A command without arguments yet.
@@ -271,14 +293,16 @@ fn check_parser<'a>(
 ) -> Result<Parser<'a>, AllocError>
     ensures { IfOk result (ReadsBy (command_app (codes "check") (check_rules rules.entry boards.entry answers.entry))) }
 {
-    let parser = described(alloc, "check", CHECK_ABOUT, CHECK_AFTER)
-        .arg(file(alloc, SYSTEM, SYSTEM_HELP))?
-        .arg(file(alloc, FORMULA, FORMULA_HELP))?
-        .arg(flag(alloc, PLAIN, PLAIN_HELP))?
-        .arg(flag(alloc, STRICT, STRICT_HELP))?
-        .arg(flag(alloc, STATS, STATS_HELP))?;
-    let parser = with_report(alloc, parser, answers)?.arg(rule(alloc, rules))?;
-    with_outputs(alloc, with_workers(alloc, parser, boards)?)
+    let parser = Ok(described(alloc, "check", CHECK_ABOUT, CHECK_AFTER));
+    let parser = with_arg(parser, file(alloc, SYSTEM, SYSTEM_HELP));
+    let parser = with_arg(parser, file(alloc, FORMULA, FORMULA_HELP));
+    let parser = with_arg(parser, flag(alloc, PLAIN, PLAIN_HELP));
+    let parser = with_arg(parser, flag(alloc, STRICT, STRICT_HELP));
+    let parser = with_arg(parser, flag(alloc, STATS, STATS_HELP));
+    let parser = with_report(alloc, parser?, answers);
+    let parser = with_arg(parser, rule(alloc, rules));
+    let parser = with_workers(alloc, parser?, boards);
+    with_outputs(alloc, parser?)
 }
 
 fn why_parser<'a>(
@@ -288,12 +312,12 @@ fn why_parser<'a>(
 ) -> Result<Parser<'a>, AllocError>
     ensures { IfOk result (ReadsBy (command_app (codes "why") (why_rules rules.entry boards.entry))) }
 {
-    let parser = described(alloc, "why", WHY_ABOUT, WHY_AFTER)
-        .arg(file(alloc, SYSTEM, SYSTEM_HELP))?
-        .arg(file(alloc, FORMULA, FORMULA_HELP))?
-        .arg(flag(alloc, STRICT, STRICT_HELP))?
-        .arg(rule(alloc, rules))?;
-    with_workers(alloc, parser, boards)
+    let parser = Ok(described(alloc, "why", WHY_ABOUT, WHY_AFTER));
+    let parser = with_arg(parser, file(alloc, SYSTEM, SYSTEM_HELP));
+    let parser = with_arg(parser, file(alloc, FORMULA, FORMULA_HELP));
+    let parser = with_arg(parser, flag(alloc, STRICT, STRICT_HELP));
+    let parser = with_arg(parser, rule(alloc, rules));
+    with_workers(alloc, parser?, boards)
 }
 
 fn table_parser<'a>(
@@ -303,50 +327,50 @@ fn table_parser<'a>(
 ) -> Result<Parser<'a>, AllocError>
     ensures { IfOk result (ReadsBy (command_app (codes "table") (table_rules rules.entry boards.entry))) }
 {
-    let parser = described(alloc, "table", TABLE_ABOUT, TABLE_AFTER)
-        .arg(file(alloc, SYSTEM, SYSTEM_HELP))?
-        .arg(files(alloc, FORMULA, FORMULAS_HELP))?
-        .arg(flag(alloc, PLAIN, PLAIN_HELP))?
-        .arg(flag(alloc, STRICT, STRICT_HELP))?
-        .arg(rule(alloc, rules))?;
-    with_workers(alloc, parser, boards)
+    let parser = Ok(described(alloc, "table", TABLE_ABOUT, TABLE_AFTER));
+    let parser = with_arg(parser, file(alloc, SYSTEM, SYSTEM_HELP));
+    let parser = with_arg(parser, files(alloc, FORMULA, FORMULAS_HELP));
+    let parser = with_arg(parser, flag(alloc, PLAIN, PLAIN_HELP));
+    let parser = with_arg(parser, flag(alloc, STRICT, STRICT_HELP));
+    let parser = with_arg(parser, rule(alloc, rules));
+    with_workers(alloc, parser?, boards)
 }
 
 fn normal_parser<'a>(alloc: Global, rules: &'a [&'a str]) -> Result<Parser<'a>, AllocError>
     ensures { IfOk result (ReadsBy (command_app (codes "normal") (normal_rules rules.entry))) }
 {
-    described(alloc, "normal", NORMAL_ABOUT, NORMAL_AFTER)
-        .arg(file(alloc, FORMULA, FORMULA_HELP))?
-        .arg(rule(alloc, rules))
+    let parser = Ok(described(alloc, "normal", NORMAL_ABOUT, NORMAL_AFTER));
+    let parser = with_arg(parser, file(alloc, FORMULA, FORMULA_HELP));
+    with_arg(parser, rule(alloc, rules))
 }
 
 fn solve_parser<'a>(alloc: Global, boards: &'a [&'a str]) -> Result<Parser<'a>, AllocError>
     ensures { IfOk result (ReadsBy (command_app (codes "solve") (solve_rules boards.entry))) }
 {
-    let parser = described(alloc, "solve", SOLVE_ABOUT, SOLVE_AFTER)
-        .arg(file(alloc, GAME, GAME_HELP))?
-        .arg(evidence_files(alloc))?
-        .arg(flag(alloc, STATS, STATS_HELP))?;
-    with_workers(alloc, parser, boards)
+    let parser = Ok(described(alloc, "solve", SOLVE_ABOUT, SOLVE_AFTER));
+    let parser = with_arg(parser, file(alloc, GAME, GAME_HELP));
+    let parser = with_arg(parser, evidence_files(alloc));
+    let parser = with_arg(parser, flag(alloc, STATS, STATS_HELP));
+    with_workers(alloc, parser?, boards)
 }
 
 fn verify_parser<'a>(alloc: Global) -> Result<Parser<'a>, AllocError>
     ensures { IfOk result (ReadsBy (command_app (codes "verify") verify_rules)) }
 {
-    described(alloc, "verify", VERIFY_ABOUT, VERIFY_AFTER)
-        .arg(file(alloc, GAME, GAME_HELP))?
-        .arg(file(alloc, EVIDENCE, EVIDENCE_HELP))?
-        .arg(Arg::new(alloc, OTHER).help(OTHER_HELP))
+    let parser = Ok(described(alloc, "verify", VERIFY_ABOUT, VERIFY_AFTER));
+    let parser = with_arg(parser, file(alloc, GAME, GAME_HELP));
+    let parser = with_arg(parser, file(alloc, EVIDENCE, EVIDENCE_HELP));
+    with_arg(parser, Arg::new(alloc, OTHER).help(OTHER_HELP))
 }
 
 fn replay_parser<'a>(alloc: Global) -> Result<Parser<'a>, AllocError>
     ensures { IfOk result (ReadsBy (command_app (codes "replay") replay_rules)) }
 {
-    described(alloc, "replay", REPLAY_ABOUT, REPLAY_AFTER)
-        .arg(file(alloc, SYSTEM, SYSTEM_HELP))?
-        .arg(file(alloc, FORMULA, FORMULA_HELP))?
-        .arg(file(alloc, SCHEDULE, SCHEDULE_HELP))?
-        .arg(workers(alloc, SEATS_HELP))
+    let parser = Ok(described(alloc, "replay", REPLAY_ABOUT, REPLAY_AFTER));
+    let parser = with_arg(parser, file(alloc, SYSTEM, SYSTEM_HELP));
+    let parser = with_arg(parser, file(alloc, FORMULA, FORMULA_HELP));
+    let parser = with_arg(parser, file(alloc, SCHEDULE, SCHEDULE_HELP));
+    with_arg(parser, workers(alloc, SEATS_HELP))
 }
 
 fn explain_parser<'a>(alloc: Global) -> Result<Parser<'a>, AllocError>
@@ -470,11 +494,10 @@ fn with_report<'a>(
 ) -> Result<Parser<'a>, AllocError>
     ensures { IfOk result (AddsRules parser.entry (report_rules answers.entry)) }
 {
-    parser
-        .arg(quiet(alloc))?
-        .arg(flag(alloc, SUMMARY, SUMMARY_HELP))?
-        .arg(states(alloc, answers))?
-        .arg(limit(alloc))
+    let parser = with_arg(Ok(parser), quiet(alloc));
+    let parser = with_arg(parser, flag(alloc, SUMMARY, SUMMARY_HELP));
+    let parser = with_arg(parser, states(alloc, answers));
+    with_arg(parser, limit(alloc))
 }
 
 /// Workers, shards and board.
@@ -485,18 +508,22 @@ fn with_workers<'a>(
 ) -> Result<Parser<'a>, AllocError>
     ensures { IfOk result (AddsRules parser.entry (lifting_rules boards.entry)) }
 {
-    parser
-        .arg(workers(alloc, WORKERS_HELP))?
-        .arg(shards(alloc))?
-        .arg(board(alloc, boards))
+    let parser = with_arg(Ok(parser), workers(alloc, WORKERS_HELP));
+    let parser = with_arg(parser, shards(alloc));
+    with_arg(parser, board(alloc, boards))
 }
 
 /// Where the game, the evidence and the witness go.
 fn with_outputs<'a>(alloc: Global, parser: Parser<'a>) -> Result<Parser<'a>, AllocError>
     ensures { IfOk result (AddsRules parser.entry output_rules) }
 {
-    parser
-        .arg(option_with_value(alloc, GAME_FILE, "FILE").help(GAME_FILE_HELP))?
-        .arg(evidence_files(alloc))?
-        .arg(option_with_value(alloc, WITNESS_FILE, "FILE").help(WITNESS_FILE_HELP))
+    let parser = with_arg(
+        Ok(parser),
+        option_with_value(alloc, GAME_FILE, "FILE").help(GAME_FILE_HELP),
+    );
+    let parser = with_arg(parser, evidence_files(alloc));
+    with_arg(
+        parser,
+        option_with_value(alloc, WITNESS_FILE, "FILE").help(WITNESS_FILE_HELP),
+    )
 }

@@ -1,8 +1,8 @@
-use Rattle.std.proofs.lemmas.Result.{IfOk-weaker}
-use Rattle.command_line.proofs.Tables.{adds_rule}
+use Rattle.std.proofs.Common.{Ok}
+use Rattle.command_line.proofs.Tables.{adds_rule_if_ok}
 use Rattle.command_line.proofs.parser.normal_parser.Goals as goal
 
 pub returns : goal.returns
 returns c =
-    let formula = adds_rule _ _ _ _ _ c.in_ok-arg.ensures c.file.ensures c.described.ensures in
-    IfOk-weaker c.arg-2.result _ _ (λ parser added. adds_rule _ _ _ _ _ added c.rule.ensures formula) c.arg-2.ensures
+    let formula = adds_rule_if_ok (Ok c.described.result) _ _ _ _ c.with_arg-parser.ensures c.file.ensures c.described.ensures in
+    adds_rule_if_ok _ _ _ _ _ c.with_arg.ensures c.rule.ensures formula

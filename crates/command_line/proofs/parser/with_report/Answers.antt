@@ -1,12 +1,10 @@
-use Rattle.std.proofs.Common.{refl}
-use Rattle.std.proofs.lemmas.Result.{IfOk-weaker}
-use Rattle.command_line.proofs.Tables.{adds_rule}
+use Rattle.std.proofs.Common.{Ok, refl}
+use Rattle.command_line.proofs.Tables.{adds_rule_if_ok}
 use Rattle.command_line.proofs.parser.with_report.Goals as goal
 
 pub returns : goal.returns
-returns c = IfOk-weaker c.arg-4.result _ _ (λ parser added.
-    adds_rule _ _ _ _ _ added c.limit.ensures
-    (adds_rule _ _ _ _ _ c.in_ok-arg-3.ensures c.states.ensures
-    (adds_rule _ _ _ _ _ c.in_ok-arg-2.ensures c.flag.ensures
-    (adds_rule _ _ _ _ _ c.in_ok-arg.ensures c.quiet.ensures refl))))
-    c.arg-4.ensures
+returns c =
+    let quiet = adds_rule_if_ok (Ok c.args.parser) _ _ _ _ c.with_arg-parser.ensures c.quiet.ensures refl in
+    let summary = adds_rule_if_ok _ _ _ _ _ c.with_arg-parser-2.ensures c.flag.ensures quiet in
+    let states = adds_rule_if_ok _ _ _ _ _ c.with_arg-parser-3.ensures c.states.ensures summary in
+    adds_rule_if_ok _ _ _ _ _ c.with_arg.ensures c.limit.ensures states
