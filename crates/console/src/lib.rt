@@ -2,6 +2,7 @@
 // refusal.
 #![tactic(auto)]
 
+pub mod fault;
 pub mod files;
 pub mod input;
 pub mod line;

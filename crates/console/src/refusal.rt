@@ -61,6 +61,14 @@ pub const NO_SOURCES: Sources<'static> = Sources {
 };
 
 impl<'a> Sources<'a> {
+    /// That of a formula alone.
+    pub fn of_formula(name: &'a str) -> Sources<'a> {
+        Sources {
+            formula: Some(name),
+            ..NO_SOURCES
+        }
+    }
+
     /// Those of a command.
     pub fn of(command: &Command<'a>) -> Sources<'a> {
         match command {

@@ -1,5 +1,6 @@
 // The command `table`.
 
+use console::fault::tell_fault;
 use console::input::{Counted, Input, open};
 use console::line::{Output, ProgressLine};
 use console::refusal::{NO_SOURCES, Refusal, tell};
@@ -14,6 +15,9 @@ use measures::observer::{Observer, Stage};
 use std::sync::Wait;
 use std::thread::Threads;
 use std::time::Clock;
+
+/// The status of a line whose formula is at fault.
+const AT_FAULT: u8 = 2;
 
 /// Reads the system once, and writes a line for each formula as soon as it is known. It answers the greatest of their statuses. Notes on words that
 /// no label has, and the refusal of a file that can't be opened, go to standard error.
@@ -53,7 +57,7 @@ fn read_system<T: Threads + Wait + Clock + Clone + Copy + Drop + Send + Sync + '
     Ok(read.map_err(MuError::System)?)
 }
 
-/// Writes the line of a formula's file, and answers its status.
+/// Writes the line of a formula's file, and answers its status. Where the formula is at fault, standard error tells the place.
 fn write_line<T: Threads + Wait + Clock + Clone + Copy + Drop + Send + Sync + 'static>(
     rt: &HostRuntime,
     threads: &T,
@@ -76,5 +80,9 @@ fn write_line<T: Threads + Wait + Clock + Clone + Copy + Drop + Send + Sync + 's
         &line,
     );
     line.finish(ticker);
-    Ok(status.map_err(MuError::Write)?)
+    let status = status.map_err(MuError::Write)?;
+    if status == AT_FAULT {
+        tell_fault(rt, system, request.strict, name);
+    }
+    Ok(status)
 }
