@@ -1,15 +1,14 @@
 // What is told of a formula in a table that is refused: its line has the code and the offset, and standard error the place in the text.
 
-use crate::input::open;
+use crate::input::{lasts, open};
 use crate::refusal::{Refusal, Sources, tell};
-use invocation::inputs::is_standard_input;
 use lts::system::Lts;
 use requests::error::MuError;
 use requests::texts::{look_where, parse_front, read_front};
 
-/// Tells where the formula of a file is at fault, as a check does. What came from standard input can't be read again.
+/// Tells where the formula of a file is at fault, as a check does. What came from standard input or a pipe can't be read again.
 pub fn tell_fault(rt: &HostRuntime, system: &Lts, strict: bool, name: &str) {
-    if is_standard_input(name) {
+    if !lasts(rt, name) {
         return;
     }
     if let Some(error @ (MuError::Formula(_) | MuError::NoLabel { .. })) = fault_of(

@@ -42,6 +42,11 @@ pub fn open(rt: &HostRuntime, name: &str) -> Result<Input, Refusal> {
     }
 }
 
+/// Whether there is a file of this name that can be read anew: neither standard input nor a pipe can.
+pub(crate) fn lasts(rt: &HostRuntime, name: &str) -> bool {
+    !is_standard_input(name) && size_of(rt, name).is_some()
+}
+
 /// How many bytes a file has; none of what is no file, as a pipe.
 fn size_of(rt: &HostRuntime, name: &str) -> Option<u64> {
     match fs::metadata(rt, name) {
