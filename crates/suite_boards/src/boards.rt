@@ -13,7 +13,7 @@ use std::alloc::Global;
 use std::marker::Brand;
 use std::process::Abort;
 use std::sync::{Arc, Wait};
-use tables::board::Board;
+use tables::board::{Board, finish};
 use tables::locked::LockedBoard;
 use tables::shard::Shard;
 
@@ -63,11 +63,12 @@ fn rises_on<K: GameName, R: Wait + Drop>(
     requires shards { 0 < shards }
 {
     let mut table = opening(alloc, &game).expect(rt, "memory");
-    let Ok(board) = LockedBoard::<K, R>::new(handle, alloc, game, shards) else {
+    let shared = Arc::try_clone(&game).expect(rt, "memory");
+    let Ok(board) = LockedBoard::<K, R>::new(handle, alloc, shared, shards) else {
         panic!(rt; "no board")
     };
     rises_once(rt, &board, source);
-    board.finish(&mut table);
+    finish(&board, &game, &mut table);
     assert!(rt; table.value(4).is_top() && !table.value(2).is_top());
 }
 

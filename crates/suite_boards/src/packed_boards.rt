@@ -15,7 +15,7 @@ use samples::games::{Row, push, shared_game_of};
 use std::process::Abort;
 use std::sync::Arc;
 use std::thread::map_indices;
-use tables::board::Board;
+use tables::board::{Board, finish};
 use tables::error::TableError;
 use tables::packed::PackedBoard;
 
@@ -113,7 +113,8 @@ fn a_vertex_is_raised_once(rt: HostRuntime) {
     settle(&game, &mut source);
     let top = source.value(4);
     let mut table = opening(rt.alloc(), &game).expect(&rt, "memory");
-    let Ok(board) = PackedBoard::new(rt.alloc(), game, 1) else {
+    let shared = Arc::try_clone(&game).expect(&rt, "memory");
+    let Ok(board) = PackedBoard::new(rt.alloc(), shared, 1) else {
         panic!(&rt; "no board")
     };
     let Ok(mut seat) = board.seat() else {
@@ -123,7 +124,7 @@ fn a_vertex_is_raised_once(rt: HostRuntime) {
     assert!(&rt; board.raise(&mut seat, 4, &top), "it rises");
     assert!(&rt; board.read(&mut seat, 4).is_top(), "it is read");
     assert!(&rt; !board.raise(&mut seat, 4, &top), "it rises once");
-    board.finish(&mut table);
+    finish(&board, &game, &mut table);
     assert!(&rt; table.value(4).is_top() && !table.value(2).is_top());
 }
 

@@ -9,7 +9,7 @@ use game::name::GameName;
 use game::player::Player;
 use measures::measure::Measure;
 use measures::settle::{is_settled, solve_one};
-use measures::table::{PlainTable, opening};
+use measures::table::opening;
 use samples::games::{Row, shared_game_of};
 use std::alloc::{AllocError, Global};
 use std::marker::Brand;
@@ -17,7 +17,7 @@ use std::process::Abort;
 use std::sync::atomic::{AtomicBool, AtomicU32, AtomicU64, Ordering};
 use std::sync::{Arc, Wait};
 use std::thread::Threads;
-use tables::board::Board;
+use tables::board::{Board, finish};
 use tables::error::TableError;
 use tables::locked::LockedBoard;
 use tables::packed::PackedBoard;
@@ -127,6 +127,7 @@ fn two_workers_meet(rt: HostRuntime) {
 /// seats how often they read or lifted so.
 #[derive(Drop)]
 struct Notes {
+    alloc: Global,
     workers: usize,
     meeting: Meeting,
     seats: AtomicU32,
@@ -169,6 +170,7 @@ impl Notes {
         requires { 0 < workers }
     {
         Ok(Notes {
+            alloc,
             workers,
             meeting: Meeting::new(),
             seats: AtomicU32::new(0),
@@ -182,12 +184,12 @@ impl Notes {
         })
     }
 
-    // Whether each successor of a vertex was read at least once in each of its turns.
+    // Whether each successor of a vertex was read at least once in each of its turns, beside the read at the end.
     fn are_read(&self, game: &Game) -> bool {
         let mut looked = 0u64;
         for v in 0..game.vertices() {
             for t in game.successors(v) {
-                if counted(&self.reads, *t) < counted(&self.turns, v) {
+                if counted(&self.reads, *t) <= counted(&self.turns, v) {
                     return false;
                 }
             }
@@ -217,11 +219,11 @@ impl Notes {
                 && counted(&self.by_seats, 1) > 0
     }
 
-    // Whether each seat had its last call before the board was finished into the table, which was settled then.
+    // Whether each worker's seat had its last call before the board gave one more, to be finished by, and what it had was settled.
     fn ended_well(&self) -> bool {
         let seats = self.seats.load(Ordering::SeqCst);
-        seats > 0
-            && self.lasts_at_the_end.load(Ordering::SeqCst) == seats
+        seats > 1
+            && self.lasts_at_the_end.load(Ordering::SeqCst) == seats - 1
             && self.settled_at_the_end.load(Ordering::SeqCst)
     }
 }
@@ -244,12 +246,24 @@ struct NotedSeat<S> {
 
 /// A board round another. It passes all on but the last calls, in which a board may settle itself: those it only notes. So what
 /// it is finished into has what the workers did, and no more.
-#[derive(Drop)]
 struct Noted<'a, B: Board> {
     inner: B,
     game: &'a Game,
     notes: &'a Notes,
     ghost same: { game.now ≡ B.game inner },
+}
+
+// What the workers left is looked up once more before the board is gone.
+impl<'a, B: Board + Drop> Drop for Noted<'a, B> {
+    fn drop(self) {
+        let Noted { inner, game, notes } = self;
+        if let Ok(mut table) = opening(notes.alloc, game) {
+            finish(&inner, game, &mut table);
+            notes
+                .settled_at_the_end
+                .store(is_settled(game, &table), Ordering::SeqCst);
+        }
+    }
 }
 
 impl<'a, B: Board> Board for Noted<'a, B> {
@@ -259,8 +273,20 @@ impl<'a, B: Board> Board for Noted<'a, B> {
 
     ghost fits = { λ b s. B.fits b.inner s.inner };
 
+    ghost did = { λ b first last accesses. B.did b.inner first.inner last.inner accesses };
+
+    ghost is_full = { λ b. B.is_full b.inner };
+
+    ghost is_read = { λ b. B.is_read b.inner };
+
+    ghost idle = { λ b s. B.idle b.inner s.inner };
+
+    ghost chained = { λ b first middle last. B.chained b.inner first.inner middle.inner last.inner };
+
     fn seat(&self) -> Result<NotedSeat<B::Seat>, TableError> {
         let inner = self.inner.seat()?;
+        let lasts = self.notes.lasts.load(Ordering::SeqCst);
+        self.notes.lasts_at_the_end.store(lasts, Ordering::SeqCst);
         let number = self.notes.seats.fetch_add(1, Ordering::SeqCst);
         Ok(NotedSeat { inner, number })
     }
@@ -286,16 +312,6 @@ impl<'a, B: Board> Board for Noted<'a, B> {
 
     fn last(&self, _seat: &mut NotedSeat<B::Seat>) {
         self.notes.lasts.fetch_add(1, Ordering::SeqCst);
-    }
-
-    fn finish(self, table: &mut PlainTable) {
-        let Noted { inner, game, notes } = self;
-        let lasts = notes.lasts.load(Ordering::SeqCst);
-        notes.lasts_at_the_end.store(lasts, Ordering::SeqCst);
-        inner.finish(table);
-        notes
-            .settled_at_the_end
-            .store(is_settled(game, table), Ordering::SeqCst);
     }
 }
 

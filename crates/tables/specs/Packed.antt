@@ -1,5 +1,5 @@
 -- What the words of a packed board hold, whatever is done meanwhile, and what each of its steps tells.
-use Rattle.std.specs.Prelude.{ℕ, ◌≡◌, ◌<◌, ◌≤◌, max, List, length, slice_index, slice_set}
+use Rattle.std.specs.Prelude.{ℕ, ◌≡◌, ◌<◌, ◌≤◌, ◌++◌, max, List, [], ◌∷◌, length, slice_index, slice_set}
 use mathlib.Core.Option.{some}
 use lib.ListN.{get_elem?}
 use Rattle.atomic_table.specs.Table.{Me, State, Step}
@@ -8,18 +8,20 @@ use Rattle.progress.specs.Lifting.{height, of_rank}
 use Rattle.progress.specs.Measure.{IsAtMost, Measure}
 use Rattle.progress.specs.Progress.{opening, value_at}
 use Rattle.progress.specs.Tables.{LiesBelow}
+use Rattle.tables.specs.declared.access.Access.{Access}
+use Rattle.tables.specs.declared.access.Access.TheVariants.{Raise, Read}
 use Rattle.tables.specs.declared.packed.View.{View}
 
 -- the board has words alone
 abbrev pub Nothing : Type 0
 Nothing = Unit {0}
 
-abbrev pub view : Game → List Measure → View
-view g table = record { of = g; seen = table }
+abbrev pub view : Game → List Measure → List Access → View
+view g table accesses = record { of = g; seen = table; done = accesses }
 
--- a new seat has seen the opening table
+-- a new seat has seen the opening table, and did nothing
 abbrev pub newcomer : Game → View
-newcomer g = view g (opening g)
+newcomer g = view g (opening g) []
 
 -- the rank of a measure that is below at the vertex, and at least the opening one
 pub record IsWord (g : Game) (v n : ℕ) : Type 0 where
@@ -44,15 +46,16 @@ pub record IsKept (g : Game) (s : State Nothing View) : Type 0 where
   pub words : (v : ℕ) → v < length g.vertices → IsWord g v (slice_index s.words v)
   pub seen : (id : ℕ) (w : View) → get_elem? s.views id ≡ some w → IsView g s.words w
 
--- the word that was found is no less than what was seen there, and is then seen
+-- the word that was found is no less than what was seen there, and is then seen and was read
 pub record Looked (s : Step Nothing) (me : Me Nothing View) (found : ℕ) (after : Me Nothing View) : Type 0 where
-  pub view : after.0 ≡ view me.0.of (slice_set me.0.seen s.word (of_rank me.0.of found))
+  pub view : after.0 ≡ view me.0.of (slice_set me.0.seen s.word (of_rank me.0.of found)) (me.0.done ++ Read s.word (of_rank me.0.of found) ∷ [])
   pub later : IsAtMost (value_at me.0.seen s.word) (of_rank me.0.of found)
   pub word : IsWord me.0.of s.word found
 
--- the greater of the word that was found and the one that was brought is then seen
+-- the greater of the word that was found and the one that was brought is then seen, and the first was raised to the second
 pub record Raised (s : Step Nothing) (me : Me Nothing View) (found : ℕ) (after : Me Nothing View) : Type 0 where
   pub view : after.0 ≡ view me.0.of (slice_set me.0.seen s.word (of_rank me.0.of (max found s.first)))
+      (me.0.done ++ Raise s.word (of_rank me.0.of found) (of_rank me.0.of s.first) ∷ [])
   pub later : IsAtMost (value_at me.0.seen s.word) (of_rank me.0.of found)
   pub word : IsWord me.0.of s.word found
 

@@ -1,11 +1,15 @@
 // Tables of measures that workers share.
 
-ghost use Rattle.std.specs.Prelude.{◌≡◌, ◌<◌, IfOk, length};
+ghost use Rattle.std.specs.Prelude.{◌≡◌, ◌<◌, ◌++◌, ◌∷◌, [], List, ◌⊎◌, IfErr, IfNone, IfOk, IfSome, length};
 ghost use Rattle.game.specs.Game.{Game};
 ghost use Rattle.progress.specs.Progress.{LiesUnder};
 ghost use Rattle.progress.specs.Tables.{LiesBelow};
+ghost use Rattle.tables.specs.Turns.{By, IsPoured, IsRaise, IsTurn};
+ghost use Rattle.tables.specs.declared.access.Access.{Access};
+ghost use Rattle.tables.specs.declared.access.Access.TheVariants as access;
 
 use crate::error::TableError;
+use game::graph::Game;
 use progress::measure::Measure;
 use progress::table::PlainTable;
 
@@ -22,47 +26,89 @@ pub trait Board {
     /// The board gave the seat.
     ghost fits: { Self → Self.Seat → Type 0 };
 
+    /// By these accesses, in order, the first seat became the second.
+    ghost did: { Self → Self.Seat → Self.Seat → List Access → Type 0 };
+
+    /// It has no seat to give.
+    ghost is_full: { Self → Type 0 };
+
+    /// It has no way of its own to lift.
+    ghost is_read: { Self → Type 0 };
+
     /// A seat for one worker.
     ///
     /// # Errors
     /// T3 where none was found to give.
     fn seat(&self) -> Result<Self::Seat, TableError>
-        ensures { IfOk result (λ s. fits self.now s) };
+        ensures seat { IfOk result (λ s. fits self.now s) }
+        ensures none { IfErr result (λ e. is_full self.now) };
 
     /// The measure of a vertex.
     fn read(&self, seat: &mut Self::Seat, v: u32) -> Measure
         requires seat { fits self.now seat.old }
         requires vertex { v < length (game self.now).vertices }
         ensures seat { fits self.now seat.new }
-        ensures below { LiesBelow (game self.now) v result };
+        ensures below { LiesBelow (game self.now) v result }
+        ensures read { did self.now seat.old seat.new (access.Read v result ∷ []) };
 
     /// Raises the measure of a vertex to this one, and says whether it rose.
     fn raise(&self, seat: &mut Self::Seat, v: u32, m: &Measure) -> bool
         requires seat { fits self.now seat.old }
         requires vertex { v < length (game self.now).vertices }
         requires below { LiesBelow (game self.now) v m.now }
-        ensures { fits self.now seat.new };
+        ensures seat { fits self.now seat.new }
+        ensures raised { By (did self.now seat.old seat.new) (IsRaise v m.now result) };
 
     /// Raises a vertex to what it asks for in the board's own way, and says whether it rose. None where the board has no way of its
     /// own, and then nothing was done: what the successors have is read, and the vertex is raised.
     fn own_lift(&self, seat: &mut Self::Seat, v: u32) -> Option<bool>
         requires seat { fits self.now seat.old }
         requires vertex { v < length (game self.now).vertices }
-        ensures { fits self.now seat.new }
-    {
-        let _ = seat;
-        let _ = v;
-        None
-    }
+        ensures seat { fits self.now seat.new }
+        ensures turn { IfSome result (λ rose. By (did self.now seat.old seat.new) (IsTurn (game self.now) v rose)) }
+        ensures none { IfNone result (is_read self.now) }
+        ensures same { IfNone result (seat.new ≡ seat.old) };
 
     /// A worker's last call.
     fn last(&self, seat: &mut Self::Seat)
         requires { fits self.now seat.old }
         ensures { fits self.now seat.new };
 
-    /// Raises a table to what the board has. It takes no memory.
-    fn finish(self, table: &mut PlainTable)
-        requires { table.old.game ≡ game self }
-        ensures game { table.new.game ≡ table.old.game }
-        ensures kept { LiesUnder table.old.values table.new.values };
+    /// A seat that nothing was done by is what it was.
+    ghost idle: { (b : Self) (s : Self.Seat) → did b s s [] };
+
+    /// What was done by a seat and then what was done by it later is what was done by it.
+    ghost chained: { (b : Self) (first middle last : Self.Seat) (before after : List Access)
+        → did b first middle before → did b middle last after → did b first last (before ++ after) };
+}
+
+/// Raises a table to what a board has, when the workers have ended: every vertex is read by one more seat. It takes no memory. Where
+/// there is no seat, nothing is raised.
+#[tactic(auto, using(progress::proofs::Rising::under_itself))]
+pub fn finish<B: Board>(board: &B, game: &Game, table: &mut PlainTable)
+    requires same { game.now ≡ B.game board.now }
+    requires table { table.old.game ≡ game.now }
+    ensures game { table.new.game ≡ game.now }
+    ensures kept { LiesUnder table.old.values table.new.values }
+    ensures poured { B.is_full board.now ⊎ ((first last : B.Seat) × By (B.did board.now first last) (IsPoured game.now table.new.values)) }
+{
+    if let Ok(mut seat) = board.seat() {
+        raise_to(board, &mut seat, game, table);
+    }
+}
+
+// Raises a table to what is read of every vertex.
+fn raise_to<B: Board>(board: &B, seat: &mut B::Seat, game: &Game, table: &mut PlainTable)
+    requires same { game.now ≡ B.game board.now }
+    requires table { table.old.game ≡ game.now }
+    requires seat { B.fits board.now seat.old }
+    ensures seat { B.fits board.now seat.new }
+    ensures game { table.new.game ≡ game.now }
+    ensures kept { LiesUnder table.old.values table.new.values }
+    ensures poured { By (B.did board.now seat.old seat.new) (IsPoured game.now table.new.values) }
+{
+    table.known();
+    for v in 0..game.vertices() {
+        table.raise(v, &board.read(seat, v));
+    }
 }

@@ -1,6 +1,7 @@
 // Tables of measures that workers share.
 #![tactic(auto)]
 
+pub mod access;
 pub mod board;
 pub mod error;
 pub mod locked;

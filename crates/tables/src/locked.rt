@@ -10,7 +10,7 @@ use crate::shard::Shard;
 use game::graph::Game;
 use game::name::GameName;
 use progress::measure::Measure;
-use progress::table::{PlainTable, opening_value};
+use progress::table::opening_value;
 use std::alloc::{AllocError, Global};
 use std::sync::{Arc, Mutex, Wait};
 
@@ -72,8 +72,19 @@ impl<K: GameName, R: Wait + Drop> Board for LockedBoard<K, R> {
 
     ghost fits = { λ b s. Unit {0} };
 
+    ghost did = { λ b first last accesses. Unit {0} };
+
+    ghost is_full = { λ b. ⊥ };
+
+    ghost is_read = { λ b. Unit {0} };
+
+    ghost idle = { λ b s. tt };
+
+    ghost chained = { λ b first middle last before after one two. tt };
+
     fn seat(&self) -> Result<(), TableError>
         ensures seat { IfOk result (λ s. Unit {0}) }
+        ensures none { IfErr result (λ e. ⊥) }
         ensures given { IsOk result }
     {
         Ok(())
@@ -95,13 +106,9 @@ impl<K: GameName, R: Wait + Drop> Board for LockedBoard<K, R> {
         shard.has_at(v, place) && shard.raise_at(v, place, m)
     }
 
-    fn last(&self, _seat: &mut ()) {}
-
-    #[tactic(auto, using(progress::proofs::Rising::under_itself, progress::proofs::Rising::under_trans))]
-    fn finish(self, table: &mut PlainTable) {
-        let LockedBoard { game, shards, .. } = self;
-        for lock in shards {
-            lock.into_inner().raise_table(&game, table);
-        }
+    fn own_lift(&self, _seat: &mut (), _v: u32) -> Option<bool> {
+        None
     }
+
+    fn last(&self, _seat: &mut ()) {}
 }

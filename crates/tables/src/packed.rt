@@ -1,16 +1,18 @@
 // A board of one atomic word for each vertex, which only rises.
 
-ghost use Rattle.std.specs.Prelude.{◌≡◌, ◌<◌, ◌≤◌, ◌↔◌, ◌⊎◌, ℕ, Err, IfErr, IfOk, IfSome, IsSome, IsTrue, length, slice_index, slice_set};
+ghost use Rattle.std.specs.Prelude.{◌≡◌, ◌<◌, ◌≤◌, ◌↔◌, ◌⊎◌, ◌∷◌, ℕ, [], Err, IfErr, IfOk, IfSome, IsSome, IsTrue, length, slice_index, slice_set};
 ghost use Rattle.std.specs.Arc.{arc_value};
 ghost use Rattle.std.specs.Mem.Slots.{IsFull, slots_items, slots_len};
 ghost use Rattle.progress.specs.Lifting.{better_of, height, of_rank as measure_of_rank, sum_of, worst_of};
-ghost use Rattle.progress.specs.Measure.{IsAtMost};
+ghost use Rattle.progress.specs.Measure.{IsAtMost, IsBelow};
 ghost use Rattle.progress.specs.Progress.{IsLeastTable, IsOverLift, LiesUnder, greater_of, opening as opening_of, value_at};
 ghost use Rattle.progress.specs.Tables.{LiesBelow};
 ghost use Rattle.progress.specs.declared.rank.TheConstants.{RANK_LIMIT};
 ghost use Rattle.tables.specs.Packed.{IsOpeningRank, IsWord};
+ghost use Rattle.tables.specs.Turns.{Asks, By, IsRaise, IsTurn};
 ghost use Rattle.tables.specs.Weights.{AreWeights};
 
+use crate::access::Access;
 use crate::error::TableError;
 use crate::weights::{prog_rank, weights};
 use arrayvec::ArrayVec;
@@ -25,10 +27,11 @@ use std::collections::LinkedList;
 use std::marker::Model;
 use std::sync::Arc;
 
-/// What a seat knows: its game, and the measure that it has seen at each vertex. No value of it is made.
+/// What a seat knows: its game, the measure that it has seen at each vertex, and what it did. No value of it is made.
 pub struct View {
     pub of: Game,
     pub seen: LinkedList<Measure>,
+    pub done: LinkedList<Access>,
 }
 
 /// Each word is the rank of a measure that is below, and no seat has seen more.
@@ -42,7 +45,7 @@ impl TableRule<(), View, Game> for Law {
     ghost first = { newcomer };
 }
 
-/// A load: the word is seen.
+/// A load: the word is seen, and was read.
 pub struct Looks;
 
 impl Play<(), View> for Looks {
@@ -51,7 +54,7 @@ impl Play<(), View> for Looks {
     ghost then = { Looked };
 }
 
-/// A raise: the greater of the word and the rank that is brought is seen.
+/// A raise: the greater of the word and the rank that is brought is seen, and the word was raised.
 pub struct Raises;
 
 impl Play<(), View> for Raises {
@@ -134,7 +137,8 @@ fn better_rank(player: Player, first: u64, second: u64) -> u64
 }
 
 impl PackedBoard {
-    ghost use Rattle.tables.specs.Seats.{IsSeatOf, board_game, seen};
+    ghost use Rattle.tables.specs.Seats.{Did, IsSeatOf, board_game, seen};
+    ghost use Rattle.tables.specs.declared.access.Access.TheVariants as access;
     ghost use Rattle.tables.specs.declared.error.TableError.TheVariants as errors;
 
     /// The board of the opening table. It gives as many seats as are asked for, so that their number is nothing to it.
@@ -189,6 +193,7 @@ impl PackedBoard {
         ensures word { IsWord (board_game self.now) v result }
         ensures later { IsAtMost (value_at (seen seat.old) v) (measure_of_rank (board_game self.now) result) }
         ensures seen { seen seat.new ≡ slice_set (seen seat.old) v (measure_of_rank (board_game self.now) result) }
+        ensures read { Did seat.old seat.new (access.Read v (measure_of_rank (board_game self.now) result) ∷ []) }
     {
         self.table.shared.load::<Looks>(&mut seat.seat, v as usize)
     }
@@ -201,6 +206,7 @@ impl PackedBoard {
         ensures below { LiesBelow (board_game self.now) v result }
         ensures later { IsAtMost (value_at (seen seat.old) v) result }
         ensures seen { seen seat.new ≡ slice_set (seen seat.old) v result }
+        ensures read { Did seat.old seat.new (access.Read v result ∷ []) }
     {
         of_rank(&self.game, self.look_at(seat, v))
     }
@@ -215,6 +221,7 @@ impl PackedBoard {
         ensures over { IsOverLift (board_game self.now) (seen seat.old) v
             (greater_of (value_at (seen seat.old) v) (measure_of_rank (board_game self.now) result)) }
         ensures below { LiesBelow (board_game self.now) v (measure_of_rank (board_game self.now) result) }
+        ensures asked { By (Did seat.old seat.new) (Asks (board_game self.now) v (measure_of_rank (board_game self.now) result)) }
     {
         let game: &Game = &self.game;
         game.known();
@@ -238,6 +245,8 @@ impl PackedBoard {
         ensures seat { IsSeatOf self.now seat.new }
         ensures kept { LiesUnder (seen seat.old) (seen seat.new) }
         ensures raised { IsAtMost (measure_of_rank (board_game self.now) number) (value_at (seen seat.new) v) }
+        ensures rose { (was : ℕ) × (IsTrue result ↔ IsBelow (measure_of_rank (board_game self.now) was) (measure_of_rank (board_game self.now) number))
+            × Did seat.old seat.new (access.Raise v (measure_of_rank (board_game self.now) was) (measure_of_rank (board_game self.now) number) ∷ []) }
     {
         let found = self
             .table
@@ -256,6 +265,7 @@ impl PackedBoard {
         ensures seat { IsSeatOf self.now seat.new }
         ensures kept { LiesUnder (seen seat.old) (seen seat.new) }
         ensures raised { IsAtMost (measure_of_rank (board_game self.now) number) (value_at (seen seat.new) v) }
+        ensures rose { By (Did seat.old seat.new) (IsRaise v (measure_of_rank (board_game self.now) number) result) }
     {
         let found = self.look_at(seat, v);
         if number <= found {
@@ -272,17 +282,20 @@ impl PackedBoard {
         ensures seat { IsSeatOf self.now seat.new }
         ensures kept { LiesUnder (seen seat.old) (seen seat.new) }
         ensures raised { IsAtMost m.now (value_at (seen seat.new) v) }
+        ensures rose { By (Did seat.old seat.new) (IsRaise v m.now result) }
     {
         self.raise_to(seat, v, rank(&self.game, m))
     }
 
-    /// Raises a vertex to at least its lift over what was seen, and says whether its measure rose.
+    /// Raises a vertex to at least its lift over what was seen, and says whether its measure rose: its successors are read, and it is
+    /// raised to what they ask for.
     pub fn lift(&self, seat: &mut PackedSeat, v: u32) -> bool
         requires seat { IsSeatOf self.now seat.old }
         requires vertex { v < length (board_game self.now).vertices }
         ensures seat { IsSeatOf self.now seat.new }
         ensures kept { LiesUnder (seen seat.old) (seen seat.new) }
         ensures lifted { IsOverLift (board_game self.now) (seen seat.old) v (value_at (seen seat.new) v) }
+        ensures turn { By (Did seat.old seat.new) (IsTurn (board_game self.now) v result) }
     {
         let best = self.best_rank(seat, v);
         self.raise_to(seat, v, best)
@@ -357,20 +370,6 @@ impl PackedBoard {
         pour(words.close_with(seat), &game, &mut table);
         table.known();
         Ok(table)
-    }
-
-    // Raises a table to the board's measures.
-    pub(crate) fn pour_into(self, table: &mut PlainTable)
-        requires { table.old.game ≡ board_game self }
-        ensures game { table.new.game ≡ table.old.game }
-        ensures kept { LiesUnder table.old.values table.new.values }
-    {
-        let PackedBoard {
-            game,
-            table: words,
-            ..
-        } = self;
-        pour(words.close(), &game, table);
     }
 }
 

@@ -1,15 +1,16 @@
 // The packed board as a board.
 
-ghost use Rattle.std.specs.Prelude.{◌≡◌, ◌<◌, ◌↔◌, Err, IfErr, IfOk, length};
+ghost use Rattle.std.specs.Prelude.{◌≡◌, ◌<◌, ◌↔◌, ◌++◌, Err, IfErr, IfOk, length};
 ghost use Rattle.progress.specs.Progress.{IsLeastTable};
-ghost use Rattle.tables.specs.Seats.{IsSeatOf, board_game, seen};
+ghost use Rattle.std.proofs.Common.{◌∙◌, ap, append_assoc, sym};
+ghost use Rattle.std.proofs.lemmas.List.{append-nil};
+ghost use Rattle.tables.specs.Seats.{Did, IsSeatOf, board_game, done, seen};
 ghost use Rattle.tables.specs.declared.error.TableError.TheVariants as errors;
 
 use crate::board::Board;
 use crate::error::TableError;
 use crate::packed::{PackedBoard, PackedSeat};
 use progress::measure::Measure;
-use progress::table::PlainTable;
 
 impl Board for PackedBoard {
     type Seat = PackedSeat;
@@ -17,6 +18,16 @@ impl Board for PackedBoard {
     ghost game = { board_game };
 
     ghost fits = { IsSeatOf };
+
+    ghost did = { λ b. Did };
+
+    ghost is_full = { λ b. length (board_game b).vertices ≡ 0 };
+
+    ghost is_read = { λ b. ⊥ };
+
+    ghost idle = { λ b s. sym (append-nil (done s)) };
+
+    ghost chained = { λ b first middle last before after one two. two ∙ (ap (λ accesses. accesses ++ after) one ∙ append_assoc (done first) before after) };
 
     fn seat(&self) -> Result<PackedSeat, TableError>
         ensures seat { IfOk result (λ s. IsSeatOf self.now s) }
@@ -47,9 +58,5 @@ impl Board for PackedBoard {
         ensures least { IsLeastTable (board_game self.now) (seen seat.new) }
     {
         self.settle_seat(seat);
-    }
-
-    fn finish(self, table: &mut PlainTable) {
-        self.pour_into(table);
     }
 }

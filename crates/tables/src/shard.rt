@@ -2,7 +2,7 @@
 
 ghost use Rattle.std.specs.Prelude.{◌≡◌, ◌<◌, ◌↔◌, ◌/◌, ℕ, IfErr, IfOk, IsTrue, length, slice_set};
 ghost use Rattle.progress.specs.Measure.{IsBelow};
-ghost use Rattle.progress.specs.Progress.{LiesUnder, greater_of, opening as opening_of, value_at};
+ghost use Rattle.progress.specs.Progress.{greater_of, opening as opening_of, value_at};
 ghost use Rattle.progress.specs.Tables.{LiesBelow};
 ghost use Rattle.tables.specs.declared.error.TableError.TheVariants as errors;
 ghost use Rattle.tables.specs.Part.{Has, value_in};
@@ -13,7 +13,7 @@ use game::name::GameName;
 use progress::bounds::width;
 use progress::measure::Measure;
 use progress::rows::Rows;
-use progress::table::{PlainTable, turns_odd};
+use progress::table::turns_odd;
 use std::alloc::Global;
 use std::marker::{Model, PhantomData};
 
@@ -141,24 +141,5 @@ impl<K: GameName> Shard<K> {
         ensures rose { IsTrue result ↔ IsBelow (value_in self.old v) m.now }
     {
         self.raise_at(v, v / self.shards, m)
-    }
-
-    /// Raises a table to what the shard has.
-    #[tactic(auto, using(progress::proofs::Rising::under_itself, progress::proofs::Rising::under_trans))]
-    pub(crate) fn raise_table(&self, game: &Game, table: &mut PlainTable)
-        requires game { game.now ≡ K.game }
-        requires same { table.old.game ≡ K.game }
-        ensures game { table.new.game ≡ K.game }
-        ensures kept { LiesUnder table.old.values table.new.values }
-    {
-        let vertices = game.vertices();
-        let shards = self.shards;
-        let index = self.index;
-        for place in 0..vertices.div_ceil(shards) {
-            let v = u64::from(place) * u64::from(shards) + u64::from(index);
-            if v < u64::from(vertices) && self.has(v as u32) {
-                table.raise(v as u32, &self.read(v as u32));
-            }
-        }
     }
 }

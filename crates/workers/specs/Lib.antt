@@ -1,3 +1,4 @@
 pub mod Floor
 pub mod Jobs
 pub mod Team
+pub mod Turns

@@ -1,54 +1,77 @@
 // Deques of jobs, each job a vertex.
 
-ghost use Rattle.std.specs.Prelude.{◌≡◌, ◌<◌, IfOk, IfSome, length, vec_len};
+ghost use Rattle.std.specs.Prelude.{◌≡◌, ◌<◌, ◌∷◌, [], false, IfOk, IfSome, IsTrue, length, vec_len};
+ghost use Rattle.workers.specs.Jobs.{Gave, IsFilled};
 
 use crossbeam_deque::protocol::{Outcome, Protocol};
 use crossbeam_deque::{Steal, Stealer, Worker};
 use game::name::GameName;
 use std::alloc::{AllocError, Global};
+use std::collections::LinkedList;
 use std::marker::PhantomData;
 use std::sync::Wait;
 
 /// For how many jobs a deque has room at first.
 const FIRST_ROOM: usize = 64;
 
+/// What a worker knows of its deque: the jobs that it gave. No value of it is made.
+pub(crate) struct Given {
+    pub(crate) jobs: LinkedList<u32>,
+}
+
 /// The rule of the deques: each job is a vertex of the game that K names.
 pub(crate) struct Jobs<K: GameName> {
     of: PhantomData<K>,
 }
 
-impl<K: GameName> Protocol<u32, ()> for Jobs<K> {
+impl<K: GameName> Protocol<u32, Given> for Jobs<K> {
+    ghost use Rattle.std.specs.Prelude.{[]};
     ghost use Rattle.workers.specs.Jobs.{AreJobs};
 
     ghost holds = { λ items views. AreJobs K.game items };
 
-    ghost first = { tt };
+    ghost first = { record { jobs = [] } };
 
-    ghost guest = { tt };
+    ghost guest = { record { jobs = [] } };
 }
 
-impl<K: GameName> Outcome<u32, ()> for Jobs<K> {
+/// Jobs that are taken: each is a vertex, and none is given.
+impl<K: GameName> Outcome<u32, Given> for Jobs<K> {
+    ghost use Rattle.std.specs.Prelude.{◌≡◌};
     ghost use Rattle.workers.specs.Jobs.{AreJobs};
 
-    ghost then = { λ v xs w. AreJobs K.game xs };
+    ghost then = { λ given xs after. AreJobs K.game xs × (after ≡ given) };
+}
+
+/// Jobs that are given.
+struct Gives;
+
+impl Outcome<u32, Given> for Gives {
+    ghost use Rattle.std.specs.Prelude.{◌≡◌};
+    ghost use Rattle.workers.specs.Jobs.{more_given};
+
+    ghost then = { λ given xs after. after ≡ more_given given xs };
 }
 
 /// A worker's own deque.
-pub(crate) type Own<K> = Worker<u32, Global, (), Jobs<K>>;
+pub(crate) type Own<K> = Worker<u32, Global, Given, Jobs<K>>;
 
 /// A handle to the deque of a worker.
-pub(crate) type Other<K> = Stealer<u32, Global, (), Jobs<K>>;
+pub(crate) type Other<K> = Stealer<u32, Global, Given, Jobs<K>>;
 
 /// Gives a job to one's own deque, and says whether it was taken.
 pub(crate) fn give<K: GameName>(own: &mut Own<K>, v: u32) -> bool
     requires { v < length K.game.vertices }
+    ensures given { IsTrue result → Gave own.old own.new (v ∷ []) }
+    ensures refused { result ≡ false → Gave own.old own.new [] × IsFilled own.old own.new }
 {
-    own.push_as::<Jobs<K>>(v).is_ok()
+    own.push_as::<Gives>(v).is_ok()
 }
 
 // A job of one's own, the first that was given.
 fn take<K: GameName>(own: &mut Own<K>) -> Option<u32>
-    ensures { IfSome result (λ v. v < length K.game.vertices) }
+    ensures vertex { IfSome result (λ v. v < length K.game.vertices) }
+    ensures kept { Gave own.old own.new [] }
 {
     own.pop_as::<Jobs<K>>()
 }
@@ -92,7 +115,8 @@ pub(crate) fn find<K: GameName, R: Wait>(
     own: &mut Own<K>,
     others: &[Other<K>],
 ) -> Option<u32>
-    ensures { IfSome result (λ v. v < length K.game.vertices) }
+    ensures vertex { IfSome result (λ v. v < length K.game.vertices) }
+    ensures kept { Gave own.old own.new [] }
 {
     match take(own) {
         Some(v) => Some(v),

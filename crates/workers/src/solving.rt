@@ -21,7 +21,7 @@ use std::marker::Brand;
 use std::sync::{Arc, Wait};
 use std::thread;
 use std::thread::Threads;
-use tables::board::Board;
+use tables::board::{Board, finish};
 
 // Runs the workers over the board, and returns when all of them have ended. Where memory is refused none begins.
 fn run<K: GameName + Send + Sync, B: Board + Sync, G: Gate + Sync, R: Threads + Wait + Sync>(
@@ -102,7 +102,7 @@ pub fn solve_from<B: Board + Drop + Sync, G: Gate + Sync, R: Threads + Wait + Sy
     ensures least { IsLeastTable (arc_value game.now) result.values }
 {
     let _ = run::<Brand, B, G, R>(rt, alloc, game, &table, &board, workers, gate);
-    board.finish(&mut table);
+    finish(&board, game, &mut table);
     settle(game, &mut table);
     table.into_settled()
 }

@@ -1,12 +1,15 @@
 // What one worker does.
 
-ghost use Rattle.std.specs.Prelude.{◌≡◌, ◌<◌, ◌≤◌, IfSome, length};
+ghost use Rattle.std.specs.Prelude.{◌≡◌, ◌<◌, ◌≤◌, ◌+◌, ◌++◌, ◌⊎◌, ℕ, List, [], false, IfNone, IfSome, IsTrue, length, max};
+ghost use Rattle.tables.specs.Turns.{By, IsTurn};
 ghost use Rattle.workers.specs.Floor.{IsOneGame};
+ghost use Rattle.workers.specs.Jobs.{Gave, IsFilled};
+ghost use Rattle.workers.specs.Turns.{AreGiven, AreTurns, Done, HasWorked, IsWork, first_own, own_vertices};
 
 use crate::floor::Floor;
 use crate::gate::Gate;
 use crate::jobs::{Own, find, give};
-use crate::marks::Marks;
+use crate::marks::Pending;
 use game::graph::Game;
 use game::name::GameName;
 use game::predecessors::Predecessors;
@@ -17,13 +20,15 @@ use tables::board::Board;
 
 // Gives those predecessors of a vertex that aren't pending, and says whether all were taken. One that isn't taken stays marked: it is
 // left to the final settling.
-fn give_predecessors<K: GameName>(
+fn give_predecessors<K: GameName, M: Pending>(
     predecessors: &Predecessors,
-    marks: &Marks,
+    marks: &M,
     own: &mut Own<K>,
     v: u32,
 ) -> bool
     requires { predecessors.now ≡ K.game }
+    ensures given { (jobs : List ℕ) × Gave own.old own.new jobs × (IsTrue result → AreGiven K.game (M.was_pending marks.now) v jobs) }
+    ensures refused { result ≡ false → IsFilled own.old own.new }
 {
     for u in predecessors.get(v) {
         if marks.set(*u) && !give(own, *u) {
@@ -36,7 +41,8 @@ fn give_predecessors<K: GameName>(
 // The first of a worker's own vertices. They follow each other, and those of the next worker follow them.
 fn first_of(vertices: u32, workers: usize, number: usize) -> u32
     requires { 0 < workers }
-    ensures { result ≤ vertices }
+    ensures first { result ≡ first_own vertices workers number }
+    ensures inside { result ≤ vertices }
 {
     let share = (vertices as usize).div_ceil(workers);
     number.saturating_mul(share).min(vertices as usize) as u32
@@ -62,15 +68,16 @@ fn raise_first<B: Board>(
 
 // Raises the worker's own vertices to the first table. Where a vertex rose after another worker may have read it, its predecessors are
 // jobs, if their first turns were before. A job that isn't taken is left to the final settling.
-fn begin<K: GameName, B: Board, G>(
-    floor: &Floor<K, B, G>,
+fn begin<K: GameName, B: Board, G, M: Pending>(
+    floor: &Floor<K, B, G, M>,
     number: usize,
     own: &mut Own<K>,
     seat: &mut B::Seat,
 )
     requires one { IsOneGame K.game floor.now.game.now (B.game floor.now.board.now) floor.now.first.now.game }
     requires seat { B.fits floor.now.board.now seat.old }
-    ensures { B.fits floor.now.board.now seat.new }
+    ensures seat { B.fits floor.now.board.now seat.new }
+    ensures given { (jobs : List ℕ) × Gave own.old own.new jobs }
 {
     let workers = floor.others.len().max(1);
     let start = first_of(floor.game.vertices(), workers, number);
@@ -96,9 +103,11 @@ fn lift_by_reads<B: Board>(
     requires vertex { v < length game.now.vertices }
     ensures seat { B.fits board.now seat.new }
     ensures turn { turn.new.game ≡ game.now }
+    ensures turned { By (B.did board.now seat.old seat.new) (IsTurn game.now v result) }
 {
     game.known();
     turn.begin(game, v);
+    turn.known();
     let successors = game.successors(v);
     for place in 0..successors.len() {
         turn.note(place, board.read(seat, successors[place]));
@@ -108,8 +117,8 @@ fn lift_by_reads<B: Board>(
 
 // Raises a vertex to what it asks for, and says whether it rose: in the board's own way, if it has one. Else a turn is made, where there
 // is none yet. None where memory for it is refused.
-fn lift_at<K: GameName, B: Board, G>(
-    floor: &Floor<K, B, G>,
+fn lift_at<K: GameName, B: Board, G, M: Pending>(
+    floor: &Floor<K, B, G, M>,
     seat: &mut B::Seat,
     turn: &mut Option<Turn>,
     v: u32,
@@ -120,6 +129,8 @@ fn lift_at<K: GameName, B: Board, G>(
     requires vertex { v < length K.game.vertices }
     ensures seat { B.fits floor.now.board.now seat.new }
     ensures turn { IfSome turn.new (λ t. t.game ≡ K.game) }
+    ensures turned { IfSome result (λ rose. By (B.did floor.now.board.now seat.old seat.new) (IsTurn K.game v rose)) }
+    ensures stopped { IfNone result (B.is_read floor.now.board.now) }
 {
     if let Some(rose) = floor.board.own_lift(seat, v) {
         return Some(rose);
@@ -135,8 +146,8 @@ fn lift_at<K: GameName, B: Board, G>(
 
 // A turn at a vertex, which from then on isn't pending. The answer says whether the worker can go on: it can't where memory is refused
 // for a turn or a job.
-fn turn_at<K: GameName, B: Board, G: Gate>(
-    floor: &Floor<K, B, G>,
+fn turn_at<K: GameName, B: Board, G: Gate, M: Pending>(
+    floor: &Floor<K, B, G, M>,
     number: usize,
     own: &mut Own<K>,
     seat: &mut B::Seat,
@@ -149,6 +160,9 @@ fn turn_at<K: GameName, B: Board, G: Gate>(
     requires vertex { v < length K.game.vertices }
     ensures seat { B.fits floor.now.board.now seat.new }
     ensures turn { IfSome turn.new (λ t. t.game ≡ K.game) }
+    ensures turned { IsTrue result → Done (B.did floor.now.board.now seat.old seat.new) (Gave own.old own.new)
+        (IsWork K.game (M.was_pending floor.now.marks.now) v) }
+    ensures stopped { result ≡ false → B.is_read floor.now.board.now ⊎ IsFilled own.old own.new }
 {
     floor.gate.before(number, v);
     floor.marks.clear(v);
@@ -160,8 +174,8 @@ fn turn_at<K: GameName, B: Board, G: Gate>(
 }
 
 // The first turn of each of the worker's own vertices, which are jobs that no deque holds. The answer says whether the worker can go on.
-fn first_turns<K: GameName, B: Board, G: Gate>(
-    floor: &Floor<K, B, G>,
+fn first_turns<K: GameName, B: Board, G: Gate, M: Pending>(
+    floor: &Floor<K, B, G, M>,
     number: usize,
     own: &mut Own<K>,
     seat: &mut B::Seat,
@@ -172,6 +186,9 @@ fn first_turns<K: GameName, B: Board, G: Gate>(
     requires turn { IfSome turn.old (λ t. t.game ≡ K.game) }
     ensures seat { B.fits floor.now.board.now seat.new }
     ensures turn { IfSome turn.new (λ t. t.game ≡ K.game) }
+    ensures turned { IsTrue result → Done (B.did floor.now.board.now seat.old seat.new) (Gave own.old own.new)
+        (AreTurns K.game (M.was_pending floor.now.marks.now) (own_vertices (length K.game.vertices) (max (length floor.now.others.now) 1) number)) }
+    ensures stopped { result ≡ false → B.is_read floor.now.board.now ⊎ IsFilled own.old own.new }
 {
     let workers = floor.others.len().max(1);
     let start = first_of(floor.game.vertices(), workers, number);
@@ -185,13 +202,14 @@ fn first_turns<K: GameName, B: Board, G: Gate>(
 }
 
 // A job of one's own, or of another's, for which the worker rests where there is none. None once all rest.
-fn next_job<K: GameName, B, G, R: Wait>(
+fn next_job<K: GameName, B, G, M, R: Wait>(
     rt: &R,
-    floor: &Floor<K, B, G>,
+    floor: &Floor<K, B, G, M>,
     number: usize,
     own: &mut Own<K>,
 ) -> Option<u32>
-    ensures { IfSome result (λ v. v < length K.game.vertices) }
+    ensures vertex { IfSome result (λ v. v < length K.game.vertices) }
+    ensures kept { Gave own.old own.new [] }
 {
     match find(rt, number, own, floor.others) {
         Some(v) => Some(v),
@@ -200,16 +218,19 @@ fn next_job<K: GameName, B, G, R: Wait>(
 }
 
 // Takes turns until all workers rest, or this one can't go on, and rests then.
-fn take_turns<K: GameName, B: Board, G: Gate, R: Wait>(
+fn take_turns<K: GameName, B: Board, G: Gate, M: Pending, R: Wait>(
     rt: &R,
-    floor: &Floor<K, B, G>,
+    floor: &Floor<K, B, G, M>,
     number: usize,
     own: &mut Own<K>,
     seat: &mut B::Seat,
 )
     requires one { IsOneGame K.game floor.now.game.now (B.game floor.now.board.now) floor.now.first.now.game }
     requires seat { B.fits floor.now.board.now seat.old }
-    ensures { B.fits floor.now.board.now seat.new }
+    ensures seat { B.fits floor.now.board.now seat.new }
+    ensures turned { (B.is_read floor.now.board.now ⊎ IsFilled own.old own.new)
+        ⊎ HasWorked K.game (M.was_pending floor.now.marks.now) (own_vertices (length K.game.vertices) (max (length floor.now.others.now) 1) number)
+        (B.did floor.now.board.now seat.old seat.new) (Gave own.old own.new) }
 {
     let mut turn = None;
     let mut able = first_turns(floor, number, own, seat, &mut turn);
@@ -226,13 +247,17 @@ fn take_turns<K: GameName, B: Board, G: Gate, R: Wait>(
 }
 
 /// The part of one worker. Where it gets no seat it does nothing.
-pub(crate) fn work<K: GameName, B: Board, G: Gate, R: Wait>(
+pub(crate) fn work<K: GameName, B: Board, G: Gate, M: Pending, R: Wait>(
     rt: &R,
-    floor: &Floor<K, B, G>,
+    floor: &Floor<K, B, G, M>,
     number: usize,
     own: &mut Own<K>,
 )
     requires { IsOneGame K.game floor.now.game.now (B.game floor.now.board.now) floor.now.first.now.game }
+    ensures { (B.is_full floor.now.board.now ⊎ (B.is_read floor.now.board.now ⊎ IsFilled own.old own.new))
+        ⊎ ((before : List ℕ) × (first last : B.Seat)
+        × HasWorked K.game (M.was_pending floor.now.marks.now) (own_vertices (length K.game.vertices) (max (length floor.now.others.now) 1) number)
+        (B.did floor.now.board.now first last) (λ jobs. Gave own.old own.new (before ++ jobs))) }
 {
     floor.rest.begin();
     match floor.board.seat() {

@@ -10,8 +10,9 @@ use Rattle.progress.proofs.Bests.{its_successors, vertex_here}
 use Rattle.progress.proofs.Gathering.{IsGathered, gathered_below, gathered_next, gathered_none, gathered_over}
 use Rattle.progress.proofs.Measures.{at_most_trans}
 use Rattle.progress.proofs.Rising.{set_under, under_itself, under_trans}
-use Rattle.tables.specs.Seats.{board_game, seen}
+use Rattle.tables.specs.Seats.{board_game, done, seen}
 use Rattle.tables.specs.Weights.{AreWeights}
+use Rattle.tables.proofs.Asking.{HasAsked, asked_all, asked_next, asked_none}
 use Rattle.tables.proofs.packed.PackedBoard.best_rank.Goals as goal
 
 pub loop-t-init : goal.loop-t-init
@@ -24,6 +25,9 @@ loop-t-init c =
       gathered = λ x at.
           subst (IsGathered c.owner-owner.result g x.priority c.successors-t-items.result.now 0 (seen c.args.seat.now)) (sym worst)
           (gathered_none c.owner-owner.result g x.priority c.successors-t-items.result.now (seen c.args.seat.now));
+      asked = λ x at.
+          subst (HasAsked c.owner-owner.result g x.priority c.successors-t-items.result.now 0 (done c.args.seat.now) (done c.args.seat.now)) (sym worst)
+          (asked_none c.owner-owner.result g x.priority c.successors-t-items.result.now (done c.args.seat.now));
     }
 
 -- what is told by the name of the game that a call gives
@@ -84,6 +88,12 @@ loop-t-preserved c =
           (gathered_next g x.priority ts i first c.loop-t.best c.prog_rank-asked.result m look.word.below.under later small
           (prog_told h g c.deref-game.ensures v x at c.look_at-number.result c.prog_rank-asked.result c.prog_rank-asked.ensures.prog) c.owner-owner.result
           (inv.gathered x at)));
+      asked = λ x at.
+          subst (λ (k : ℕ). HasAsked c.owner-owner.result g x.priority ts k (done c.args.seat.now) (done c.look_at-number.new.seat) c.better_rank-best.result) one
+          (subst (HasAsked c.owner-owner.result g x.priority ts (suc i) (done c.args.seat.now) (done c.look_at-number.new.seat)) (sym c.better_rank-best.ensures)
+          (asked_next c.owner-owner.result g x.priority ts i (done c.args.seat.now) (done c.loop-t.seat) (done c.look_at-number.new.seat) c.loop-t.best
+          c.prog_rank-asked.result m c.loop-t-test.true look.read small
+          (prog_told h g c.deref-game.ensures v x at c.look_at-number.result c.prog_rank-asked.result c.prog_rank-asked.ensures.prog) (inv.asked x at)));
     }
 
 pub returns-clause-low : goal.returns-clause-low
@@ -112,3 +122,17 @@ returns-clause-below c =
     (owner_told h g c.deref-game.ensures v c.owner-owner.result c.owner-owner.ensures)
     (ap (option_map (λ (y : Vertex). y.priority)) x.1) (successors_told h g c.deref-game.ensures v ts c.successors-t-items.ensures) c.requires.vertex
     (let end = c.loop-t-test.false in let most = c.loop-t.auto.t-index-end in omega (arith, end, most)) (c.loop-t.invariant.gathered x.0 x.1)
+
+pub returns-clause-asked : goal.returns-clause-asked
+returns-clause-asked c =
+    let h = c.deref-game.result.now in
+    let g = board_game c.args.self.now in
+    let v = c.args.v in
+    let ts = c.successors-t-items.result.now in
+    let x = vertex_here g v c.requires.vertex in
+    let told = successors_told h g c.deref-game.ensures v ts c.successors-t-items.ensures in
+    asked_all c.owner-owner.result g v x.0.priority ts c.loop-t.t-index (done c.args.seat.now) (done c.loop-t.seat) c.loop-t.best c.requires.vertex
+    (owner_told h g c.deref-game.ensures v c.owner-owner.result c.owner-owner.ensures)
+    (ap (option_map (λ (y : Vertex). y.priority)) x.1) told
+    (let end = c.loop-t-test.false in let most = c.loop-t.auto.t-index-end in omega (arith, end, most))
+    (its_successors g c.requires.seat.plain.game v c.requires.vertex ts told).1 (c.loop-t.invariant.asked x.0 x.1)

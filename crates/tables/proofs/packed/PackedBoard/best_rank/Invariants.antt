@@ -2,7 +2,8 @@ use Rattle.std.proofs.Common.{◌≡◌, Some}
 use Rattle.game.specs.Game.{Vertex, vertex}
 use Rattle.progress.specs.Progress.{LiesUnder}
 use Rattle.progress.proofs.Gathering.{IsGathered}
-use Rattle.tables.specs.Seats.{IsSeatOf, board_game, seen}
+use Rattle.tables.specs.Seats.{IsSeatOf, board_game, done, seen}
+use Rattle.tables.proofs.Asking.{HasAsked}
 use Rattle.tables.proofs.packed.PackedBoard.best_rank.Given as goal
 
 abbrev pub invariant-loop-t : goal.invariant-loop-t
@@ -11,4 +12,6 @@ invariant-loop-t l = record {
   kept : LiesUnder (seen l.fn.seat) (seen l.seat);
   gathered : (x : Vertex) → vertex (board_game l.self) l.v ≡ Some x
       → IsGathered l.owner (board_game l.self) x.priority l.t-items l.t-index (seen l.fn.seat) l.best;
+  asked : (x : Vertex) → vertex (board_game l.self) l.v ≡ Some x
+      → HasAsked l.owner (board_game l.self) x.priority l.t-items l.t-index (done l.fn.seat) (done l.seat) l.best;
 }

@@ -1,3 +1,4 @@
+use Rattle.std.proofs.Common.{◌++◌, refl}
 use Rattle.progress.specs.Lifting.{of_rank}
 use Rattle.progress.specs.Measure.{IsAtMost}
 use Rattle.progress.specs.Progress.{greater_of, value_at}
@@ -5,6 +6,7 @@ use Rattle.progress.proofs.Measures.{at_most_trans}
 use Rattle.progress.proofs.Monotone.{greater_has}
 use Rattle.progress.proofs.Rising.{under_trans}
 use Rattle.tables.specs.Seats.{board_game, seen}
+use Rattle.tables.proofs.Doing.{did_both}
 use Rattle.tables.proofs.packed.PackedBoard.lift.Goals as goal
 
 pub returns-clause-kept : goal.returns-clause-kept
@@ -20,3 +22,19 @@ returns-clause-lifted c = λ r lift.
     let kept = under_trans first (seen c.best_rank-best.new.seat) now c.best_rank-best.ensures.kept c.raise_to.ensures.kept in
     at_most_trans r (greater_of own best) (value_at now c.args.v) (c.best_rank-best.ensures.over r lift)
     (greater_has (λ m. IsAtMost m (value_at now c.args.v)) own best (kept c.args.v) c.raise_to.ensures.raised)
+
+pub returns-clause-turn : goal.returns-clause-turn
+returns-clause-turn c =
+    let asked = c.best_rank-best.ensures.asked in
+    let rose = c.raise_to.ensures.rose in (
+      asked.0 ++ rose.0,
+      did_both c.args.seat.now c.best_rank-best.new.seat c.raise_to.new.seat asked.0 rose.0 asked.1 rose.1,
+      record {
+        asked = of_rank (board_game c.args.self.now) c.best_rank-best.result;
+        asking = asked.0;
+        raising = rose.0;
+        whole = refl;
+        asks = asked.2;
+        raises = rose.2;
+      },
+    )

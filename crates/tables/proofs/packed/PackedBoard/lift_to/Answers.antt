@@ -6,7 +6,8 @@ use Rattle.progress.specs.Progress.{value_at}
 use Rattle.progress.specs.Tables.{LiesBelow}
 use Rattle.progress.proofs.Numbers.{of_rank_rank}
 use Rattle.progress.proofs.Ranks.{rank_bounded}
-use Rattle.tables.specs.Seats.{board_game, seen}
+use Rattle.tables.specs.Seats.{Did, board_game, seen}
+use Rattle.tables.specs.Turns.{By, IsRaise}
 use Rattle.tables.proofs.packed.PackedBoard.lift_to.Goals as goal
 
 -- the measure of the rank of a measure of the game
@@ -31,3 +32,9 @@ returns-clause-raised c =
     let g = board_game c.args.self.now in
     let same = (back c.deref.result.now g c.args.m.now c.rank.result c.deref.ensures c.requires.below.measure c.rank.ensures.value).0 in
     subst (λ (n : Measure). IsAtMost n (value_at (seen c.raise_to.new.seat) c.args.v)) same c.raise_to.ensures.raised
+
+pub returns-clause-rose : goal.returns-clause-rose
+returns-clause-rose c =
+    let g = board_game c.args.self.now in
+    let same = (back c.deref.result.now g c.args.m.now c.rank.result c.deref.ensures c.requires.below.measure c.rank.ensures.value).0 in
+    subst (λ (n : Measure). By (Did c.args.seat.now c.raise_to.new.seat) (IsRaise c.args.v n c.raise_to.result)) same c.raise_to.ensures.rose

@@ -1,4 +1,4 @@
-use Rattle.std.proofs.Common.{◌≡◌, ap, arith, length, subst, ◌∙◌}
+use Rattle.std.proofs.Common.{◌≡◌, [], ap, arith, length, subst, ◌∙◌}
 use Rattle.std.specs.Arc.{arc_value}
 use Rattle.game.specs.Game.{Game, IsGame}
 use Rattle.progress.specs.Progress.{opening}
@@ -23,7 +23,7 @@ returns-clause-seat c =
     let board = c.args.self.now in
     let g = arc_value board.game in
     let me = c.load_new_seat-seat.result.1.me.0 in
-    let entered : me ≡ record { of = board.table.shared.key; seen = opening board.table.shared.key } = c.load_new_seat-seat.ensures.2 in
+    let entered : me ≡ record { of = board.table.shared.key; seen = opening board.table.shared.key; done = [] } = c.load_new_seat-seat.ensures.2 in
     let game : IsGame g = subst IsGame c.deref.ensures c.known.ensures in
     let values : me.seen ≡ opening g = ap (λ (w : View). w.seen) entered ∙ ap opening board.keyed in record {
       table = c.load_new_seat-seat.ensures.0;

@@ -1,0 +1,70 @@
+-- Turns, one after another.
+use Rattle.std.proofs.Common.{◌≡◌, ℕ, suc, ◌+◌, ◌<◌, ◌≤◌, List, [], ◌∷◌, ◌++◌, length, take, slice_index, slice_set, add-one, ap, append_assoc, arith, refl, sym, ◌∙◌}
+use Rattle.std.proofs.Common.{inl, inr, min, zero, ◌*◌, mul-suc, mul-zero}
+use Rattle.std.specs.Int.{div_ceil}
+use Rattle.std.proofs.lemmas.Bool.Decides.{leb_tells}
+use Rattle.std.proofs.lemmas.List.{append-nil, length-take-le}
+use Rattle.std.proofs.Math.Seq.{take-suc, take-suc-set}
+use Rattle.game.specs.Game.{Game}
+use Rattle.progress.specs.Measure.{Measure}
+use Rattle.tables.specs.Turns.{reads}
+use Rattle.tables.specs.declared.access.Access.{Access}
+use Rattle.tables.specs.declared.access.Access.TheVariants.{Read}
+use Rattle.tables.proofs.Reading.{reads_next}
+use Rattle.workers.specs.Turns.{AreTurns, IsWork, first_own}
+
+-- one successor more is read, and its measure is noted
+pub reads_noted : (ts : List ℕ) (values : List Measure) (place : ℕ) (m : Measure) → place < length ts → length ts ≤ length values
+    → reads (take place ts) (take place values) ++ Read (slice_index ts place) m ∷ [] ≡ reads (take (place + 1) ts) (take (place + 1) (slice_set values place m))
+reads_noted ts values place m lt long =
+    let left : length (take place ts) ≡ place = length-take-le place ts (omega (arith, lt)) in
+    let right : length (take place values) ≡ place = length-take-le place values (omega (arith, lt, long)) in
+    let more : take (place + 1) ts ≡ take place ts ++ slice_index ts place ∷ [] = ap (λ (n : ℕ). take n ts) (add-one place) ∙ take-suc ts place 0 lt in
+    let noted : take (place + 1) (slice_set values place m) ≡ take place values ++ m ∷ [] =
+    ap (λ (n : ℕ). take n (slice_set values place m)) (add-one place) ∙ take-suc-set values place m (omega (arith, lt, long)) in
+    sym (ap (λ (us : List ℕ). reads us (take (place + 1) (slice_set values place m))) more
+    ∙ (ap (reads (take place ts ++ slice_index ts place ∷ [])) noted
+    ∙ reads_next (take place ts) (take place values) (slice_index ts place) m (right ∙ sym left)))
+
+-- one turn more
+pub turns_next : (g : Game) (was_pending : ℕ → Type 0) (vs : List ℕ) (v : ℕ) (before mine : List Access) (given jobs : List ℕ)
+    → AreTurns g was_pending vs before given → IsWork g was_pending v mine jobs → AreTurns g was_pending (vs ++ v ∷ []) (before ++ mine) (given ++ jobs)
+turns_next g was_pending [] v before mine given jobs are is = (
+  mine,
+  [],
+  jobs,
+  [],
+  ap (λ (xs : List Access). xs ++ mine) are.0 ∙ sym (append-nil mine),
+  ap (λ (xs : List ℕ). xs ++ jobs) are.1 ∙ sym (append-nil jobs),
+  is,
+  (refl, refl),
+)
+turns_next g was_pending (u ∷ vs) v before mine given jobs (first, rest, own, others, cut, split, work, more) is = (
+  first,
+  rest ++ mine,
+  own,
+  others ++ jobs,
+  ap (λ (xs : List Access). xs ++ mine) cut ∙ append_assoc first rest mine,
+  ap (λ (xs : List ℕ). xs ++ jobs) split ∙ append_assoc own others jobs,
+  work,
+  turns_next g was_pending vs v rest mine others jobs more is,
+)
+
+mul_suc_up : (n k : ℕ) → n ≤ n * suc k
+mul_suc_up n k = let e = mul-suc n k in omega (arith, e)
+
+capped : (vertices number share : ℕ) → vertices < 4294967296
+    → min (min number 18446744073709551615 * share) vertices ≡ min (number * share) vertices
+capped vertices number zero few = ap (λ (n : ℕ). min n vertices) (mul-zero (min number 18446744073709551615) ∙ sym (mul-zero number))
+capped vertices number (suc share) few =
+    let low = mul_suc_up (min number 18446744073709551615) share in
+    let high = mul_suc_up number share in
+    elim (leb_tells number 18446744073709551615) [
+      | inl w ↦ (let same : min number 18446744073709551615 ≡ number = let l = w.1 in omega arith in ap (λ (n : ℕ). min (n * suc share) vertices) same)
+      | inr w ↦ (let l = w.1 in omega (arith, few, low, high, l))
+    ]
+
+-- no worker's first vertex is past the greatest number that a machine has
+pub first_capped : (vertices workers number : ℕ) → vertices < 4294967296
+    → first_own vertices workers (min number 18446744073709551615) ≡ first_own vertices workers number
+first_capped vertices workers number few = capped vertices number (div_ceil vertices workers) few
