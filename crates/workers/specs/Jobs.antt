@@ -4,6 +4,8 @@ use Rattle.crossbeam_deque.specs.Handles.{worker_capacity, worker_index, worker_
 use Rattle.crossbeam_deque.specs.declared.handles.Worker.{Worker}
 use Rattle.game.specs.Game.{Game}
 use Rattle.workers.specs.declared.jobs.Given.{Given}
+use Rattle.workers.specs.declared.jobs.Jobs.{Jobs}
+use Rattle.std.specs.Global.{Global}
 
 -- each job is a vertex of the game
 abbrev pub AreJobs : Game → List ℕ → Type 0
@@ -21,3 +23,7 @@ module _ {A P : Type 0} where
   -- at least as many jobs as there was room for have come to the deque
   abbrev pub IsFilled : Worker ℕ A Given P → Worker ℕ A Given P → Type 0
   IsFilled old new = worker_capacity old ≤ worker_index new
+
+-- a deque with jobs of the game that K names had no room for one more
+abbrev pub WasFilled : Type 0 → Type 0
+WasFilled K = (old new : Worker ℕ Global Given (Jobs K)) × IsFilled old new

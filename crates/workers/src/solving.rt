@@ -1,9 +1,11 @@
 // Solving a game with several workers.
 
-ghost use Rattle.std.specs.Prelude.{◌≡◌, ◌<◌, IfOk};
+ghost use Rattle.std.specs.Prelude.{◌≡◌, ◌<◌, ◌⊎◌, ℕ, IfOk, length, max};
 ghost use Rattle.std.specs.Arc.{arc_value};
 ghost use Rattle.progress.specs.Progress.{IsLeastTable};
 ghost use Rattle.workers.specs.Floor.{IsOneGame};
+ghost use Rattle.workers.specs.Jobs.{WasFilled};
+ghost use Rattle.workers.specs.Turns.{HasWorked, own_vertices};
 
 use crate::error::SolveError;
 use crate::floor::Floor;
@@ -35,6 +37,9 @@ fn run<K: GameName + Send + Sync, B: Board + Sync, G: Gate + Sync, R: Threads + 
 ) -> Result<(), AllocError>
     requires one { IsOneGame K.game game.now (B.game board.now) first.now.game }
     requires workers { 0 < workers }
+    ensures { IfOk result (λ _. (number : ℕ) → number < workers → (B.is_full board.now ⊎ (B.is_read board.now ⊎ WasFilled K))
+        ⊎ ((first last : B.Seat) × HasWorked K.game (λ v. Unit {0}) (own_vertices (length K.game.vertices) workers number)
+        (B.did board.now first last) (λ jobs. Unit {0}))) }
 {
     let (mut own, others) = deques::<K>(alloc, workers)?;
     let pending = Marks::new(alloc, game.vertices())?;
@@ -45,6 +50,10 @@ fn run<K: GameName + Send + Sync, B: Board + Sync, G: Gate + Sync, R: Threads + 
         workers,
         &|number: usize, own: &mut Own<K>|
             requires { IsOneGame K.game game.now (B.game board.now) first.now.game }
+            ensures { (B.is_full board.entry.now ⊎ (B.is_read board.entry.now ⊎ WasFilled K))
+                ⊎ ((first last : B.Seat)
+                × HasWorked K.game (λ v. Unit {0}) (own_vertices (length K.game.vertices) (max (length others.entry.now) 1) number)
+                (B.did board.entry.now first last) (λ jobs. Unit {0})) }
         {
             let floor = Floor {
                 alloc,
