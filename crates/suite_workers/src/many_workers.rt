@@ -14,7 +14,7 @@ use samples::games::{Row, shared_game_of};
 use std::alloc::{AllocError, Global};
 use std::marker::Brand;
 use std::process::Abort;
-use std::sync::atomic::{AtomicBool, AtomicU32, AtomicU64, Ordering};
+use std::sync::atomic::{AtomicU32, AtomicU64, Ordering};
 use std::sync::{Arc, Wait};
 use std::thread::Threads;
 use tables::board::{Board, finish};
@@ -127,13 +127,11 @@ fn two_workers_meet(rt: HostRuntime) {
 /// seats how often they read or lifted so.
 #[derive(Drop)]
 struct Notes {
-    alloc: Global,
     workers: usize,
     meeting: Meeting,
     seats: AtomicU32,
     lasts: AtomicU32,
     lasts_at_the_end: AtomicU32,
-    settled_at_the_end: AtomicBool,
     reads: Vec<AtomicU64>,
     own_lifts: Vec<AtomicU64>,
     turns: Vec<AtomicU64>,
@@ -170,13 +168,11 @@ impl Notes {
         requires { 0 < workers }
     {
         Ok(Notes {
-            alloc,
             workers,
             meeting: Meeting::new(),
             seats: AtomicU32::new(0),
             lasts: AtomicU32::new(0),
             lasts_at_the_end: AtomicU32::new(0),
-            settled_at_the_end: AtomicBool::new(false),
             reads: counters(alloc, vertices)?,
             own_lifts: counters(alloc, vertices)?,
             turns: counters(alloc, vertices)?,
@@ -219,12 +215,10 @@ impl Notes {
                 && counted(&self.by_seats, 1) > 0
     }
 
-    // Whether each worker's seat had its last call before the board gave one more, to be finished by, and what it had was settled.
+    // Whether each worker's seat had its last call before the board gave one more, to be finished by.
     fn ended_well(&self) -> bool {
         let seats = self.seats.load(Ordering::SeqCst);
-        seats > 1
-            && self.lasts_at_the_end.load(Ordering::SeqCst) == seats - 1
-            && self.settled_at_the_end.load(Ordering::SeqCst)
+        seats > 1 && self.lasts_at_the_end.load(Ordering::SeqCst) == seats - 1
     }
 }
 
@@ -246,42 +240,30 @@ struct NotedSeat<S> {
 
 /// A board round another. It passes all on but the last calls, in which a board may settle itself: those it only notes. So what
 /// it is finished into has what the workers did, and no more.
+#[derive(Drop)]
 struct Noted<'a, B: Board> {
-    inner: B,
+    inner: &'a B,
     game: &'a Game,
     notes: &'a Notes,
-    ghost same: { game.now ≡ B.game inner },
-}
-
-// What the workers left is looked up once more before the board is gone.
-impl<'a, B: Board + Drop> Drop for Noted<'a, B> {
-    fn drop(self) {
-        let Noted { inner, game, notes } = self;
-        if let Ok(mut table) = opening(notes.alloc, game) {
-            finish(&inner, game, &mut table);
-            notes
-                .settled_at_the_end
-                .store(is_settled(game, &table), Ordering::SeqCst);
-        }
-    }
+    ghost same: { game.now ≡ B.game inner.now },
 }
 
 impl<'a, B: Board> Board for Noted<'a, B> {
     type Seat = NotedSeat<B::Seat>;
 
-    ghost game = { λ b. B.game b.inner };
+    ghost game = { λ b. B.game b.inner.now };
 
-    ghost fits = { λ b s. B.fits b.inner s.inner };
+    ghost fits = { λ b s. B.fits b.inner.now s.inner };
 
-    ghost did = { λ b first last accesses. B.did b.inner first.inner last.inner accesses };
+    ghost did = { λ b first last accesses. B.did b.inner.now first.inner last.inner accesses };
 
-    ghost is_full = { λ b. B.is_full b.inner };
+    ghost is_full = { λ b. B.is_full b.inner.now };
 
-    ghost is_read = { λ b. B.is_read b.inner };
+    ghost is_read = { λ b. B.is_read b.inner.now };
 
-    ghost idle = { λ b s. B.idle b.inner s.inner };
+    ghost idle = { λ b s. B.idle b.inner.now s.inner };
 
-    ghost chained = { λ b first middle last. B.chained b.inner first.inner middle.inner last.inner };
+    ghost chained = { λ b first middle last. B.chained b.inner.now first.inner middle.inner last.inner };
 
     fn seat(&self) -> Result<NotedSeat<B::Seat>, TableError> {
         let inner = self.inner.seat()?;
@@ -328,9 +310,17 @@ fn ends_well_on<B: Board + Drop + Sync, R: Threads + Wait + Sync>(
     let Ok(table) = opening(alloc, game) else {
         return false;
     };
-    let board = Noted { inner, game, notes };
+    let Ok(mut left) = opening(alloc, game) else {
+        return false;
+    };
+    let board = Noted {
+        inner: &inner,
+        game,
+        notes,
+    };
     let _ = solve_from(rt, alloc, game, table, board, notes.workers, notes);
-    notes.ended_well() && notes.both_came()
+    finish(&inner, game, &mut left);
+    notes.ended_well() && notes.both_came() && is_settled(game, &left)
 }
 
 // Whether they do over shards under locks.
