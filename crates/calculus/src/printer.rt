@@ -7,7 +7,7 @@ ghost use Rattle.calculus.specs.View.{action_of, regular_of, formula_of};
 ghost use Rattle.calculus.specs.Canon.{action_text, regular_text, canon, names_text, barred};
 
 use crate::tree::{Act, Reg, State};
-use std::io::Write;
+use text::sink::Sink;
 use text::{Piece, WriteFault, put, put_pieces};
 
 /// Writes the formula's canonical text, without an end of line and without memory. Each operator between two operands and
@@ -16,8 +16,8 @@ use text::{Piece, WriteFault, put, put_pieces};
 /// # Errors
 /// After a fault the writer holds a beginning of the text.
 #[cycle(state_text)]
-pub fn put_state<W: Write>(formula: &State, writer: &mut W) -> Result<(), WriteFault>
-    ensures { Wrote (W.contents writer.old) (W.contents writer.new) result
+pub fn put_state<W: Sink>(formula: &State, writer: &mut W) -> Result<(), WriteFault>
+    ensures { Wrote (W.taken writer.old) (W.taken writer.new) result
         (canon (formula_of formula.now)) }
 {
     match formula {
@@ -37,8 +37,8 @@ pub fn put_state<W: Write>(formula: &State, writer: &mut W) -> Result<(), WriteF
 
 /// Writes a sign and the formula after it.
 #[cycle(state_text)]
-fn put_signed<W: Write>(sign: &[u8], formula: &State, writer: &mut W) -> Result<(), WriteFault>
-    ensures { Wrote (W.contents writer.old) (W.contents writer.new) result
+fn put_signed<W: Sink>(sign: &[u8], formula: &State, writer: &mut W) -> Result<(), WriteFault>
+    ensures { Wrote (W.taken writer.old) (W.taken writer.new) result
         (sign.now ++ canon (formula_of formula.now)) }
 {
     put(writer, sign)?;
@@ -46,13 +46,13 @@ fn put_signed<W: Write>(sign: &[u8], formula: &State, writer: &mut W) -> Result<
 }
 
 #[cycle(state_text)]
-fn put_pair<W: Write>(
+fn put_pair<W: Sink>(
     left: &State,
     sign: &[u8],
     right: &State,
     writer: &mut W,
 ) -> Result<(), WriteFault>
-    ensures { Wrote (W.contents writer.old) (W.contents writer.new) result
+    ensures { Wrote (W.taken writer.old) (W.taken writer.new) result
         (codes "(" ++ (canon (formula_of left.now) ++ ((sign.now ++ canon (formula_of right.now)) ++ codes ")"))) }
 {
     put_signed(b"(", left, writer)?;
@@ -61,13 +61,13 @@ fn put_pair<W: Write>(
 }
 
 #[cycle(state_text)]
-fn put_binder<W: Write>(
+fn put_binder<W: Sink>(
     opening: &[u8],
     name: &[u8],
     body: &State,
     writer: &mut W,
 ) -> Result<(), WriteFault>
-    ensures { Wrote (W.contents writer.old) (W.contents writer.new) result
+    ensures { Wrote (W.taken writer.old) (W.taken writer.new) result
         ((opening.now ++ name.now) ++ ((codes ". " ++ canon (formula_of body.now)) ++ codes ")")) }
 {
     put_pieces(writer, &[Piece::Bytes(opening), Piece::Bytes(name)])?;
@@ -76,14 +76,14 @@ fn put_binder<W: Write>(
 }
 
 #[cycle(state_text)]
-fn put_modal<W: Write>(
+fn put_modal<W: Sink>(
     opening: &[u8],
     regular: &Reg,
     closing: &[u8],
     operand: &State,
     writer: &mut W,
 ) -> Result<(), WriteFault>
-    ensures { Wrote (W.contents writer.old) (W.contents writer.new) result
+    ensures { Wrote (W.taken writer.old) (W.taken writer.new) result
         (opening.now ++ (regular_text (regular_of regular.now) ++ (closing.now ++ canon (formula_of operand.now)))) }
 {
     put(writer, opening)?;
@@ -92,8 +92,8 @@ fn put_modal<W: Write>(
 }
 
 #[cycle(regular_text)]
-fn put_regular<W: Write>(regular: &Reg, writer: &mut W) -> Result<(), WriteFault>
-    ensures { Wrote (W.contents writer.old) (W.contents writer.new) result
+fn put_regular<W: Sink>(regular: &Reg, writer: &mut W) -> Result<(), WriteFault>
+    ensures { Wrote (W.taken writer.old) (W.taken writer.new) result
         (regular_text (regular_of regular.now)) }
 {
     match regular {
@@ -107,8 +107,8 @@ fn put_regular<W: Write>(regular: &Reg, writer: &mut W) -> Result<(), WriteFault
 
 /// Writes a regular formula and the sign after it.
 #[cycle(regular_text)]
-fn put_repeated<W: Write>(regular: &Reg, sign: &[u8], writer: &mut W) -> Result<(), WriteFault>
-    ensures { Wrote (W.contents writer.old) (W.contents writer.new) result
+fn put_repeated<W: Sink>(regular: &Reg, sign: &[u8], writer: &mut W) -> Result<(), WriteFault>
+    ensures { Wrote (W.taken writer.old) (W.taken writer.new) result
         (regular_text (regular_of regular.now) ++ sign.now) }
 {
     put_regular(regular, writer)?;
@@ -117,12 +117,8 @@ fn put_repeated<W: Write>(regular: &Reg, sign: &[u8], writer: &mut W) -> Result<
 
 /// Writes a sign and the regular formula after it.
 #[cycle(regular_text)]
-fn put_signed_regular<W: Write>(
-    sign: &[u8],
-    regular: &Reg,
-    writer: &mut W,
-) -> Result<(), WriteFault>
-    ensures { Wrote (W.contents writer.old) (W.contents writer.new) result
+fn put_signed_regular<W: Sink>(sign: &[u8], regular: &Reg, writer: &mut W) -> Result<(), WriteFault>
+    ensures { Wrote (W.taken writer.old) (W.taken writer.new) result
         (sign.now ++ regular_text (regular_of regular.now)) }
 {
     put(writer, sign)?;
@@ -130,13 +126,13 @@ fn put_signed_regular<W: Write>(
 }
 
 #[cycle(regular_text)]
-fn put_regular_pair<W: Write>(
+fn put_regular_pair<W: Sink>(
     left: &Reg,
     sign: &[u8],
     right: &Reg,
     writer: &mut W,
 ) -> Result<(), WriteFault>
-    ensures { Wrote (W.contents writer.old) (W.contents writer.new) result
+    ensures { Wrote (W.taken writer.old) (W.taken writer.new) result
         (codes "(" ++ (regular_text (regular_of left.now) ++ ((sign.now ++ regular_text (regular_of right.now)) ++ codes ")"))) }
 {
     put_signed_regular(b"(", left, writer)?;
@@ -149,8 +145,8 @@ fn put_regular_pair<W: Write>(
 /// # Errors
 /// After a fault the writer holds a beginning of the text.
 #[cycle(action_text)]
-pub fn put_action<W: Write>(action: &Act, writer: &mut W) -> Result<(), WriteFault>
-    ensures { Wrote (W.contents writer.old) (W.contents writer.new) result
+pub fn put_action<W: Sink>(action: &Act, writer: &mut W) -> Result<(), WriteFault>
+    ensures { Wrote (W.taken writer.old) (W.taken writer.new) result
         (action_text (action_of action.now)) }
 {
     match action {
@@ -167,8 +163,8 @@ pub fn put_action<W: Write>(action: &Act, writer: &mut W) -> Result<(), WriteFau
 
 /// Writes a sign and the action formula after it.
 #[cycle(action_text)]
-fn put_signed_action<W: Write>(sign: &[u8], action: &Act, writer: &mut W) -> Result<(), WriteFault>
-    ensures { Wrote (W.contents writer.old) (W.contents writer.new) result
+fn put_signed_action<W: Sink>(sign: &[u8], action: &Act, writer: &mut W) -> Result<(), WriteFault>
+    ensures { Wrote (W.taken writer.old) (W.taken writer.new) result
         (sign.now ++ action_text (action_of action.now)) }
 {
     put(writer, sign)?;
@@ -176,13 +172,13 @@ fn put_signed_action<W: Write>(sign: &[u8], action: &Act, writer: &mut W) -> Res
 }
 
 #[cycle(action_text)]
-fn put_action_pair<W: Write>(
+fn put_action_pair<W: Sink>(
     left: &Act,
     sign: &[u8],
     right: &Act,
     writer: &mut W,
 ) -> Result<(), WriteFault>
-    ensures { Wrote (W.contents writer.old) (W.contents writer.new) result
+    ensures { Wrote (W.taken writer.old) (W.taken writer.new) result
         (codes "(" ++ (action_text (action_of left.now) ++ ((sign.now ++ action_text (action_of right.now)) ++ codes ")"))) }
 {
     put_signed_action(b"(", left, writer)?;
@@ -190,8 +186,8 @@ fn put_action_pair<W: Write>(
     put(writer, b")")
 }
 
-fn put_names<W: Write>(names: &[Vec<u8>], writer: &mut W) -> Result<(), WriteFault>
-    ensures { Wrote (W.contents writer.old) (W.contents writer.new) result (names_text (texts names.now)) }
+fn put_names<W: Sink>(names: &[Vec<u8>], writer: &mut W) -> Result<(), WriteFault>
+    ensures { Wrote (W.taken writer.old) (W.taken writer.new) result (names_text (texts names.now)) }
 {
     let Some((first, others)) = names.split_first() else {
         return put(writer, b"tau");
@@ -201,8 +197,8 @@ fn put_names<W: Write>(names: &[Vec<u8>], writer: &mut W) -> Result<(), WriteFau
 }
 
 /// Writes each name after a bar.
-fn put_barred<W: Write>(names: &[Vec<u8>], writer: &mut W) -> Result<(), WriteFault>
-    ensures { Wrote (W.contents writer.old) (W.contents writer.new) result (barred (texts names.now)) }
+fn put_barred<W: Sink>(names: &[Vec<u8>], writer: &mut W) -> Result<(), WriteFault>
+    ensures { Wrote (W.taken writer.old) (W.taken writer.new) result (barred (texts names.now)) }
 {
     for name in names {
         put_pieces(writer, &[Piece::Bytes(b"|"), Piece::Bytes(name)])?;
@@ -210,8 +206,8 @@ fn put_barred<W: Write>(names: &[Vec<u8>], writer: &mut W) -> Result<(), WriteFa
     Ok(())
 }
 
-fn put_quoted<W: Write>(bytes: &[u8], writer: &mut W) -> Result<(), WriteFault>
-    ensures { Wrote (W.contents writer.old) (W.contents writer.new) result
+fn put_quoted<W: Sink>(bytes: &[u8], writer: &mut W) -> Result<(), WriteFault>
+    ensures { Wrote (W.taken writer.old) (W.taken writer.new) result
         (codes "\"" ++ (bytes.now ++ codes "\"")) }
 {
     put_pieces(

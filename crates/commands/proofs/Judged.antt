@@ -1,7 +1,7 @@
 -- What is told of two pieces of evidence.
 use Rattle.std.proofs.Common.{◌≡◌, ℕ, List, Bool, true, false, refl, subst}
-use Rattle.std.specs.Prelude.{IsTrue, Option}
-use Rattle.std.specs.Io.KnownBytes.{Appends}
+use Rattle.std.specs.Prelude.{IsTrue}
+use Rattle.text.specs.Taken.{Taken, Adds}
 use Rattle.game.specs.Game.{Game}
 use Rattle.evidence.specs.Evidence.{Evidence}
 use Rattle.evidence.specs.Checking.{Decides}
@@ -22,16 +22,16 @@ is_told_yes both.OnePlayer answer e h = absurd (false_is_true (subst IsTrue e h)
 is_told_yes (both.LeftOut v) answer e h = absurd (false_is_true (subst IsTrue e h))
 
 -- what is told of two
-pub verified_both_of : (first second third : List ℕ) (old new : Option (List ℕ)) (g named : Game) (e f : Evidence) (told : Both) (answer : Bool) → named ≡ g
+pub verified_both_of : (first second third : List ℕ) (old new : Taken) (g named : Game) (e f : Evidence) (told : Both) (answer : Bool) → named ≡ g
     → IsGameOf first g → IsEvidenceOf g second e → IsEvidenceOf g third f → IsBoth g e f told → (told ≡ both.Yes → Decides g e f)
-    → Appends old new (both_text named e f told) → answer ≡ is_yes told → HasVerifiedBoth first second third old new answer
+    → Adds old new (both_text named e f told) → answer ≡ is_yes told → HasVerifiedBoth first second third old new answer
 verified_both_of first second third old new g named e f told answer same game one other is decides written answered = record {
   g = g;
   e = e;
   f = f;
   told = told;
   judged = record { game = game; one = one; other = other; both = is };
-  written = subst (λ h. Appends old new (both_text h e f told)) same written;
+  written = subst (λ h. Adds old new (both_text h e f told)) same written;
   answered = answered;
   decides = λ yes. decides (is_told_yes told answer answered yes);
 }

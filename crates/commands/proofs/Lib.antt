@@ -3,3 +3,4 @@ mod Marked
 mod Judged
 mod Replayed
 mod Solving
+mod Caused

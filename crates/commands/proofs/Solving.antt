@@ -1,7 +1,7 @@
 -- What was solved, and written of it.
-use Rattle.std.proofs.Common.{◌≡◌, ◌≤◌, ℕ, List, [], ◌∷◌, Bool, true, false, Option, Some, Result, Ok, Err, inl, inr, refl, subst, sym}
-use Rattle.std.proofs.KnownBytes.{Keeps-refl}
-use Rattle.std.specs.Io.KnownBytes.{Appends}
+use Rattle.std.proofs.Common.{◌≡◌, ◌≤◌, ℕ, List, ◌∷◌, Bool, true, false, Some, Result, Ok, Err, inl, inr, refl, subst, sym}
+use Rattle.text.proofs.Writing.{Stays-refl}
+use Rattle.text.specs.Taken.{Taken, Adds}
 use Rattle.std.specs.Prelude.{◌↔◌, IsTrue, MatchResult}
 use Rattle.std.specs.Result.{IsErr}
 use Rattle.text.specs.Wrote.{Wrote, WroteFront}
@@ -30,8 +30,8 @@ use Rattle.commands.specs.Spelled.{IsGameOf}
 use Rattle.commands.specs.Winners.{AreWinners, winners_text}
 
 -- Nothing was written to any.
-pub kept_all : (evidence : Bool) (even odd out : Option (List ℕ)) → AreKept (solve_writers evidence even even odd odd out out)
-kept_all evidence even odd out = (Keeps-refl even, (Keeps-refl odd, (Keeps-refl out, tt)))
+pub kept_all : (evidence : Bool) (even odd out : Taken) → AreKept (solve_writers evidence even even odd odd out out)
+kept_all evidence even odd out = (Stays-refl even, (Stays-refl odd, (Stays-refl out, tt)))
 
 -- A game that isn't solved leaves the writers as they were.
 pub left_of : (board : BoardKind) (text : List ℕ) (g : Game) (writers : List Lent) (e : MuError) → IsGameOf text g → AreKept writers
@@ -60,7 +60,7 @@ unproved_of board text g writers e is kept asked (inr (fits, memory)) =
     subst (HasRefused board text writers) (sym memory) (record { g = g; game = is; fits = fits; asked = asked; memory = refl }, kept)
 
 -- Beside the report's writer there are two from which nothing is asked.
-pub beside_report : (board : BoardKind) (text : List ℕ) (even odd old new : Option (List ℕ)) (r : Result Bool MuError)
+pub beside_report : (board : BoardKind) (text : List ℕ) (even odd old new : Taken) (r : Result Bool MuError)
     → Answers board text (report_writer Whole old new) r → Answers board text (solve_writers false even even odd odd old new) r
 beside_report board text even odd old new (Ok a) h = record {
   g = h.g;
@@ -74,7 +74,7 @@ beside_report board text even odd old new (Ok a) h = record {
 beside_report board text even odd old new (Err e) h = by e h
   where
     kept : AreKept (report_writer Whole old new) → AreKept (solve_writers false even even odd odd old new)
-    kept k = (Keeps-refl even, (Keeps-refl odd, k))
+    kept k = (Stays-refl even, (Stays-refl odd, k))
 
     by : (e : MuError) → HasRefused board text (report_writer Whole old new) e → HasRefused board text (solve_writers false even even odd odd old new) e
     by (error.Game e) k = (k.0, kept k.1)
@@ -113,7 +113,7 @@ solved_of board text g marks writers (Err fault) r is fits exact written e =
     (record { g = g; marks = marks; game = is; fits = fits; exact = exact; begun = written })
 
 -- who wins is written alone
-pub winners_put : (g : Game) (marks : List Bool) (text : List ℕ) (old new : Option (List ℕ)) (r : Result Unit WriteFault) → text ≡ winners_text marks
+pub winners_put : (g : Game) (marks : List Bool) (text : List ℕ) (old new : Taken) (r : Result Unit WriteFault) → text ≡ winners_text marks
     → Wrote old new r text → AreWritten (IsTextOf g marks) (report_writer Whole old new) r
 winners_put g marks text old new r is wrote = one_text (IsTextOf g marks) (lent_for (ReportText Whole) old new) r text is wrote
 
@@ -140,28 +140,28 @@ odd_text : (g : Game) (pair : EvidencePair) → AreFull g pair → IsFullText Od
 odd_text g pair h = record { e = pair.odd.evidence; full = h.odd; canonical = refl }
 
 -- Even's was begun
-pub even_stopped : {T E : Type 0} → (g : Game) (marks : List Bool) (pair : EvidencePair) (old new odd out : Option (List ℕ)) (r : Result T E)
+pub even_stopped : {T E : Type 0} → (g : Game) (marks : List Bool) (pair : EvidencePair) (old new odd out : Taken) (r : Result T E)
     → AreFull g pair → IsErr r → WroteFront old new (evidence_text pair.even.evidence)
     → AreWritten (IsTextOf g marks) (solve_writers true old new odd odd out out) r
 even_stopped g marks pair old new odd out r full h front =
     stopped_at (IsTextOf g marks) (solve_writers true old new odd odd out out) r h
-    (inl ((evidence_text pair.even.evidence, even_text g pair full, front), (Keeps-refl odd, (Keeps-refl out, tt))))
+    (inl ((evidence_text pair.even.evidence, even_text g pair full, front), (Stays-refl odd, (Stays-refl out, tt))))
 
 -- Even's was written, and Odd's begun
-pub odd_stopped : {T E : Type 0} → (g : Game) (marks : List Bool) (pair : EvidencePair) (old new odd_old odd_new out : Option (List ℕ)) (r : Result T E)
-    → AreFull g pair → IsErr r → Appends old new (evidence_text pair.even.evidence) → WroteFront odd_old odd_new (evidence_text pair.odd.evidence)
+pub odd_stopped : {T E : Type 0} → (g : Game) (marks : List Bool) (pair : EvidencePair) (old new odd_old odd_new out : Taken) (r : Result T E)
+    → AreFull g pair → IsErr r → Adds old new (evidence_text pair.even.evidence) → WroteFront odd_old odd_new (evidence_text pair.odd.evidence)
     → AreWritten (IsTextOf g marks) (solve_writers true old new odd_old odd_new out out) r
 odd_stopped g marks pair old new odd_old odd_new out r full h whole front =
     stopped_at (IsTextOf g marks) (solve_writers true old new odd_old odd_new out out) r h
     (inr (
       (evidence_text pair.even.evidence, even_text g pair full, whole),
-      inl ((evidence_text pair.odd.evidence, odd_text g pair full, front), (Keeps-refl out, tt)),
+      inl ((evidence_text pair.odd.evidence, odd_text g pair full, front), (Stays-refl out, tt)),
     ))
 
 -- both were written, and then who wins
-pub all_put : (g : Game) (marks : List Bool) (pair : EvidencePair) (text : List ℕ) (old new odd_old odd_new out_old out_new : Option (List ℕ))
-    (r : Result Unit WriteFault) → AreFull g pair → text ≡ winners_text marks → Appends old new (evidence_text pair.even.evidence)
-    → Appends odd_old odd_new (evidence_text pair.odd.evidence) → Wrote out_old out_new r text
+pub all_put : (g : Game) (marks : List Bool) (pair : EvidencePair) (text : List ℕ) (old new odd_old odd_new out_old out_new : Taken)
+    (r : Result Unit WriteFault) → AreFull g pair → text ≡ winners_text marks → Adds old new (evidence_text pair.even.evidence)
+    → Adds odd_old odd_new (evidence_text pair.odd.evidence) → Wrote out_old out_new r text
     → AreWritten (IsTextOf g marks) (solve_writers true old new odd_old odd_new out_old out_new) r
 all_put g marks pair text old new odd_old odd_new out_old out_new r full is even odd wrote =
     let report = report_writer Whole out_old out_new in

@@ -1,3 +1,4 @@
+pub mod Causes
 pub mod Spelled
 pub mod Prints
 pub mod Winners

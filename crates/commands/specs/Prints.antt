@@ -1,6 +1,6 @@
 -- What the command `normal` answers.
 use Rattle.std.specs.Prelude.{◌≡◌, ℕ, ◌≤◌, Bool, true, List, Option, Some, Result, MatchResult}
-use Rattle.std.specs.Io.KnownBytes.{Appends, Keeps}
+use Rattle.text.specs.Taken.{Taken, Adds, Stays}
 use Rattle.text.specs.Wrote.{WroteFront}
 use Rattle.calculus.specs.Tree.{Formula}
 use Rattle.formula.specs.Checked.{IsTold}
@@ -27,14 +27,14 @@ abbrev pub form_text : Priorities → Formula → List ℕ
 form_text priorities f = normal_text (nodes_with priorities f) (depth (normal_form f))
 
 -- The text of the normal form was written.
-pub record HasPrinted (priorities : Priorities) (text : List ℕ) (old new : Option (List ℕ)) (answer : Bool) : Type 0 where
+pub record HasPrinted (priorities : Priorities) (text : List ℕ) (old new : Taken) (answer : Bool) : Type 0 where
   pub f : Formula
   pub form : HasForm priorities text f
-  pub written : Appends old new (form_text priorities f)
+  pub written : Adds old new (form_text priorities f)
   pub answered : answer ≡ true
 
 -- A beginning of it was written.
-pub record HasBegun (priorities : Priorities) (text : List ℕ) (old new : Option (List ℕ)) : Type 0 where
+pub record HasBegun (priorities : Priorities) (text : List ℕ) (old new : Taken) : Type 0 where
   pub f : Formula
   pub form : HasForm priorities text f
   pub begun : WroteFront old new (form_text priorities f)
@@ -46,17 +46,17 @@ pub record HasNoForm (priorities : Priorities) (text : List ℕ) (e : NormalErro
   pub refused : HasRefusalWith priorities f e
 
 -- What a refusal says of the text, and what it leaves: nothing was written, but after a write fault a beginning.
-abbrev pub HasRefused : Priorities → (text : List ℕ) → (old new : Option (List ℕ)) → MuError → Type 0
-HasRefused priorities text old new (error.Formula e) = IsTold text e × Keeps old new
-HasRefused priorities text old new (error.Normal e) = HasNoForm priorities text e × Keeps old new
-HasRefused priorities text old new error.Read = Keeps old new
-HasRefused priorities text old new error.Memory = Keeps old new
+abbrev pub HasRefused : Priorities → (text : List ℕ) → (old new : Taken) → MuError → Type 0
+HasRefused priorities text old new (error.Formula e) = IsTold text e × Stays old new
+HasRefused priorities text old new (error.Normal e) = HasNoForm priorities text e × Stays old new
+HasRefused priorities text old new error.Read = Stays old new
+HasRefused priorities text old new error.Memory = Stays old new
 HasRefused priorities text old new (error.Write e) = HasBegun priorities text old new
 HasRefused priorities text old new _ = ⊥
 
-abbrev pub Answers : Priorities → (text : List ℕ) → (old new : Option (List ℕ)) → Result Bool MuError → Type 0
+abbrev pub Answers : Priorities → (text : List ℕ) → (old new : Taken) → Result Bool MuError → Type 0
 Answers priorities text old new result = MatchResult result (HasPrinted priorities text old new) (HasRefused priorities text old new)
 
 -- The theorem of the command: of what the reader had left, where it tells it, and of what the writer held before and after.
-abbrev pub Prints : Priorities → (formula old new : Option (List ℕ)) → Result Bool MuError → Type 0
+abbrev pub Prints : Priorities → (formula : Option (List ℕ)) → (old new : Taken) → Result Bool MuError → Type 0
 Prints priorities formula old new result = (text : List ℕ) → formula ≡ Some text → Answers priorities text old new result

@@ -1,6 +1,6 @@
 -- What the command `replay` answers.
 use Rattle.std.specs.Prelude.{◌≡◌, ◌↔◌, ℕ, Bool, true, List, [], length, IsTrue, None, Option, Some, Result, MatchResult}
-use Rattle.std.specs.Io.KnownBytes.{Appends, Keeps}
+use Rattle.text.specs.Taken.{Taken, Adds, Stays}
 use Rattle.text.specs.Wrote.{WroteFront}
 use Rattle.systems.specs.System.{System}
 use Rattle.calculus.specs.Tree.{Formula}
@@ -44,17 +44,17 @@ pub record AreReplayed (workers : ℕ) (first second third : List ℕ) (done ski
   pub replay : IsReplay (nested_game l f) workers events done skipped c settled
 
 -- The text of that was written.
-pub record HasReplayed (workers : ℕ) (first second third : List ℕ) (old new : Option (List ℕ)) (answer : Bool) : Type 0 where
+pub record HasReplayed (workers : ℕ) (first second third : List ℕ) (old new : Taken) (answer : Bool) : Type 0 where
   pub done : ℕ
   pub skipped : ℕ
   pub core : Core
   pub settled : Bool
   pub replayed : AreReplayed workers first second third done skipped core settled
-  pub written : Appends old new (replay_text done skipped core settled)
+  pub written : Adds old new (replay_text done skipped core settled)
   pub answered : answer ≡ true
 
 -- A beginning of it was written.
-pub record HasBegun (workers : ℕ) (first second third : List ℕ) (old new : Option (List ℕ)) : Type 0 where
+pub record HasBegun (workers : ℕ) (first second third : List ℕ) (old new : Taken) : Type 0 where
   pub done : ℕ
   pub skipped : ℕ
   pub core : Core
@@ -72,17 +72,17 @@ pub record HasNoSchedule (workers : ℕ) (first second third : List ℕ) (e : Sc
 
 -- What a refusal says of the texts, and what it leaves: nothing was written, but after a write fault a beginning. Of the system, the formula and their
 -- game it says what a check's refusal does that lends no writer. The third text is looked at where there is a game.
-abbrev pub HasRefused : (workers : ℕ) → (first second third : List ℕ) → (old new : Option (List ℕ)) → MuError → Type 0
-HasRefused workers first second third old new (error.Schedule e) = HasNoSchedule workers first second third e × Keeps old new
+abbrev pub HasRefused : (workers : ℕ) → (first second third : List ℕ) → (old new : Taken) → MuError → Type 0
+HasRefused workers first second third old new (error.Schedule e) = HasNoSchedule workers first second third e × Stays old new
 HasRefused workers first second third old new (error.Write e) = HasBegun workers first second third old new
-HasRefused workers first second third old new e = check.HasRefused way first second [] e × Keeps old new
+HasRefused workers first second third old new e = check.HasRefused way first second [] e × Stays old new
 
-abbrev pub Answers : (workers : ℕ) → (first second third : List ℕ) → (old new : Option (List ℕ)) → Result Bool MuError → Type 0
+abbrev pub Answers : (workers : ℕ) → (first second third : List ℕ) → (old new : Taken) → Result Bool MuError → Type 0
 Answers workers first second third old new result = MatchResult result (HasReplayed workers first second third old new)
     (HasRefused workers first second third old new)
 
 -- The theorem of the command: of what the readers had left, where they tell it, and of what the writer held before and after.
-abbrev pub Replays : (workers : ℕ) → (aut formula schedule old new : Option (List ℕ)) → Result Bool MuError → Type 0
+abbrev pub Replays : (workers : ℕ) → (aut formula schedule : Option (List ℕ)) → (old new : Taken) → Result Bool MuError → Type 0
 Replays workers aut formula schedule old new result =
     (first second third : List ℕ) → aut ≡ Some first → formula ≡ Some second → schedule ≡ Some third → Answers workers first second third old new result
 

@@ -1,5 +1,6 @@
 -- What the command `solve` answers.
 use Rattle.std.specs.Prelude.{◌≡◌, ℕ, Bool, true, List, [], ◌∷◌, ◌⊎◌, Option, Some, Result, MatchResult}
+use Rattle.text.specs.Taken.{Taken}
 use Rattle.certify.specs.Full.{IsFullText}
 use Rattle.evidence.specs.declared.error.EvidenceError.{EvidenceError}
 use Rattle.evidence.specs.declared.error.EvidenceError.TheVariants as evidence
@@ -26,7 +27,7 @@ IsTextOf g marks WitnessText text = ⊥
 IsTextOf g marks DrawingText text = ⊥
 
 -- the writers in their order: both texts of evidence have one each, from which nothing is asked where no evidence is
-abbrev pub solve_writers : (evidence : Bool) → (old_even new_even old_odd new_odd old_report new_report : Option (List ℕ)) → List Lent
+abbrev pub solve_writers : (evidence : Bool) → (old_even new_even old_odd new_odd old_report new_report : Taken) → List Lent
 solve_writers evidence old_even new_even old_odd new_odd old_report new_report =
     lent_for (kind_where evidence EvenText) old_even new_even
     ∷ (lent_for (kind_where evidence OddText) old_odd new_odd ∷ report_writer Whole old_report new_report)

@@ -1,6 +1,6 @@
 -- What the command `verify` answers.
 use Rattle.std.specs.Prelude.{◌≡◌, ◌⊎◌, ℕ, Bool, true, false, List, IsTrue, Option, Some, Result, MatchResult}
-use Rattle.std.specs.Io.KnownBytes.{Appends, Keeps}
+use Rattle.text.specs.Taken.{Taken, Adds, Stays}
 use Rattle.text.specs.Wrote.{WroteFront}
 use Rattle.game.specs.Game.{Game}
 use Rattle.game.specs.Wins.{WinsBy}
@@ -29,17 +29,17 @@ pub record IsJudged (first second : List ℕ) (g : Game) (e : Evidence) (told : 
   pub verdict : IsVerdict g e told
 
 -- The verdict was written, and the answer is whether the evidence is good. If it is, its player wins each vertex of the set.
-pub record HasVerified (first second : List ℕ) (old new : Option (List ℕ)) (answer : Bool) : Type 0 where
+pub record HasVerified (first second : List ℕ) (old new : Taken) (answer : Bool) : Type 0 where
   pub g : Game
   pub e : Evidence
   pub told : Verdict
   pub judged : IsJudged first second g e told
-  pub written : Appends old new (verdict_text g e told)
+  pub written : Adds old new (verdict_text g e told)
   pub answered : answer ≡ is_good told
   pub wins : IsTrue answer → (v : ℕ) → IsTrue (has e v) → WinsBy e.player g v
 
 -- A beginning of the verdict was written.
-pub record HasBegun (first second : List ℕ) (old new : Option (List ℕ)) : Type 0 where
+pub record HasBegun (first second : List ℕ) (old new : Taken) : Type 0 where
   pub g : Game
   pub e : Evidence
   pub told : Verdict
@@ -53,17 +53,17 @@ pub record HasNoEvidence (first second : List ℕ) (e : EvidenceError) : Type 0 
   pub told : IsEvidenceTold g second e
 
 -- What a refusal says of the texts, and what it leaves: nothing was written, but after a write fault a beginning.
-abbrev pub HasRefused : (first second : List ℕ) → (old new : Option (List ℕ)) → MuError → Type 0
-HasRefused first second old new (error.Game e) = IsGameTold first e × Keeps old new
-HasRefused first second old new (error.Evidence e) = HasNoEvidence first second e × Keeps old new
+abbrev pub HasRefused : (first second : List ℕ) → (old new : Taken) → MuError → Type 0
+HasRefused first second old new (error.Game e) = IsGameTold first e × Stays old new
+HasRefused first second old new (error.Evidence e) = HasNoEvidence first second e × Stays old new
 HasRefused first second old new (error.Write e) = HasBegun first second old new
 HasRefused first second old new _ = ⊥
 
-abbrev pub Answers : (first second : List ℕ) → (old new : Option (List ℕ)) → Result Bool MuError → Type 0
+abbrev pub Answers : (first second : List ℕ) → (old new : Taken) → Result Bool MuError → Type 0
 Answers first second old new result = MatchResult result (HasVerified first second old new) (HasRefused first second old new)
 
 -- The theorem of the command: of what the readers had left, where they tell it, and of what the writer held before and after.
-abbrev pub Verifies : (game evidence old new : Option (List ℕ)) → Result Bool MuError → Type 0
+abbrev pub Verifies : (game evidence : Option (List ℕ)) → (old new : Taken) → Result Bool MuError → Type 0
 Verifies game evidence old new result = (first second : List ℕ) → game ≡ Some first → evidence ≡ Some second → Answers first second old new result
 
 -- ------------------------------------------------------------------ of two
@@ -81,18 +81,18 @@ pub record AreJudged (first second third : List ℕ) (g : Game) (e f : Evidence)
 
 -- That was written, and the answer is whether both are good and hold the whole game. If so, each holds exactly the vertices that its player wins, and
 -- none is in both.
-pub record HasVerifiedBoth (first second third : List ℕ) (old new : Option (List ℕ)) (answer : Bool) : Type 0 where
+pub record HasVerifiedBoth (first second third : List ℕ) (old new : Taken) (answer : Bool) : Type 0 where
   pub g : Game
   pub e : Evidence
   pub f : Evidence
   pub told : Both
   pub judged : AreJudged first second third g e f told
-  pub written : Appends old new (both_text g e f told)
+  pub written : Adds old new (both_text g e f told)
   pub answered : answer ≡ is_yes told
   pub decides : IsTrue answer → Decides g e f
 
 -- A beginning of it was written.
-pub record HasBegunBoth (first second third : List ℕ) (old new : Option (List ℕ)) : Type 0 where
+pub record HasBegunBoth (first second third : List ℕ) (old new : Taken) : Type 0 where
   pub g : Game
   pub e : Evidence
   pub f : Evidence
@@ -109,16 +109,16 @@ pub record HasNoOther (first second third : List ℕ) (e : EvidenceError) : Type
   pub told : IsEvidenceTold g third e
 
 -- What a refusal says of the texts, and what it leaves. The third text is looked at where the second one spells evidence.
-abbrev pub HasRefusedBoth : (first second third : List ℕ) → (old new : Option (List ℕ)) → MuError → Type 0
-HasRefusedBoth first second third old new (error.Game e) = IsGameTold first e × Keeps old new
-HasRefusedBoth first second third old new (error.Evidence e) = (HasNoEvidence first second e ⊎ HasNoOther first second third e) × Keeps old new
+abbrev pub HasRefusedBoth : (first second third : List ℕ) → (old new : Taken) → MuError → Type 0
+HasRefusedBoth first second third old new (error.Game e) = IsGameTold first e × Stays old new
+HasRefusedBoth first second third old new (error.Evidence e) = (HasNoEvidence first second e ⊎ HasNoOther first second third e) × Stays old new
 HasRefusedBoth first second third old new (error.Write e) = HasBegunBoth first second third old new
 HasRefusedBoth first second third old new _ = ⊥
 
-abbrev pub AnswersBoth : (first second third : List ℕ) → (old new : Option (List ℕ)) → Result Bool MuError → Type 0
+abbrev pub AnswersBoth : (first second third : List ℕ) → (old new : Taken) → Result Bool MuError → Type 0
 AnswersBoth first second third old new result = MatchResult result (HasVerifiedBoth first second third old new) (HasRefusedBoth first second third old new)
 
 -- The theorem of the command with two pieces of evidence.
-abbrev pub VerifiesBoth : (game one other old new : Option (List ℕ)) → Result Bool MuError → Type 0
+abbrev pub VerifiesBoth : (game one other : Option (List ℕ)) → (old new : Taken) → Result Bool MuError → Type 0
 VerifiesBoth game one other old new result =
     (first second third : List ℕ) → game ≡ Some first → one ≡ Some second → other ≡ Some third → AnswersBoth first second third old new result

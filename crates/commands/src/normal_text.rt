@@ -1,6 +1,8 @@
 // The engine of the command `normal`.
 
-ghost use Rattle.std.specs.Prelude.{ℕ, List};
+ghost use Rattle.std.specs.Prelude.{ℕ, IfErr, List, false};
+ghost use Rattle.text.specs.Cause.{HasCause};
+ghost use Rattle.requests.specs.declared.error.MuError.TheVariants as error;
 ghost use Rattle.calculus.specs.Closed.{closed_formula};
 ghost use Rattle.requests.specs.Texts.{IsFormulaOf};
 ghost use Rattle.commands.specs.Prints.{Answers, Prints};
@@ -13,20 +15,22 @@ use requests::error::MuError;
 use requests::request::Normalize;
 use requests::texts::read_formula;
 use std::alloc::Global;
-use std::io::{Read, Write};
+use text::sink::Sink;
+use text::source::Source;
 
 /// Writes the normal form of the formula that a text spells, with the priorities of this rule. The answer is true.
 ///
 /// # Errors
 /// Those of the formula's reader and of the normal form, unchanged; U3 where a read failed, U4 for the memory of the text, W1
 /// where a write failed. After a refusal that is not W1 nothing was written.
-pub fn normal_text<S: Read + Drop, W: Write>(
+pub fn normal_text<S: Source + Drop, W: Sink>(
     alloc: Global,
     formula: S,
     priorities: Priorities,
     out: &mut W,
 ) -> Result<bool, MuError>
-    ensures prints { Prints priorities (S.remaining formula) (W.contents out.old) (W.contents out.new) result }
+    ensures prints { Prints priorities (S.remaining formula) (W.taken out.old) (W.taken out.new) result }
+    ensures cause { IfErr result (HasCause S.can_fail error.Read) }
 {
     match read_formula(alloc, formula) {
         Ok(formula) => write_form(alloc, &formula, priorities, out),
@@ -38,25 +42,27 @@ pub fn normal_text<S: Read + Drop, W: Write>(
 ///
 /// # Errors
 /// Those of `normal_text`.
-pub fn normal_asked<S: Read + Drop, W: Write>(
+pub fn normal_asked<S: Source + Drop, W: Sink>(
     alloc: Global,
     request: &Normalize<'_>,
     formula: S,
     out: &mut W,
 ) -> Result<bool, MuError>
-    ensures prints { Prints request.now.priorities (S.remaining formula) (W.contents out.old) (W.contents out.new) result }
+    ensures prints { Prints request.now.priorities (S.remaining formula) (W.taken out.old) (W.taken out.new) result }
+    ensures cause { IfErr result (HasCause S.can_fail error.Read) }
 {
     normal_text(alloc, formula, request.priorities, out)
 }
 
 /// Writes the formula's normal form.
-fn write_form<W: Write>(
+fn write_form<W: Sink>(
     alloc: Global,
     formula: &Closed,
     priorities: Priorities,
     out: &mut W,
 ) -> Result<bool, MuError>
-    ensures { (text : List ℕ) → IsFormulaOf text (closed_formula formula.now) → Answers priorities text (W.contents out.old) (W.contents out.new) result }
+    ensures answers { (text : List ℕ) → IsFormulaOf text (closed_formula formula.now) → Answers priorities text (W.taken out.old) (W.taken out.new) result }
+    ensures cause { IfErr result (HasCause false error.Read) }
 {
     match normal_with(alloc, formula, priorities) {
         Ok(form) => match print_normal(&form, out) {

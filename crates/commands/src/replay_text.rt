@@ -1,11 +1,12 @@
 // The engine of the command `replay`.
 
-ghost use Rattle.std.specs.Prelude.{◌≡◌, ℕ, List, Some, MatchResult, length};
+ghost use Rattle.std.specs.Prelude.{◌≡◌, ◌||◌, ℕ, IfErr, List, false, Some, MatchResult, length};
 ghost use Rattle.systems.specs.System.{System};
 ghost use Rattle.calculus.specs.Tree.{Formula};
 ghost use Rattle.calculus.specs.Closed.{closed_formula};
 ghost use Rattle.normal.specs.declared.priorities.Priorities.TheVariants.{Nested};
 ghost use Rattle.liftcore.specs.Core.{start};
+ghost use Rattle.requests.specs.Causes.{HaveCauses};
 ghost use Rattle.requests.specs.Check.{AreSpelled, HasGame};
 ghost use Rattle.requests.specs.Check.{IsArenaOf};
 ghost use Rattle.commands.specs.Replays.{Answers, IsUnread, Replays, nested_game};
@@ -23,9 +24,10 @@ use requests::error::MuError;
 use requests::request::Replay;
 use requests::texts::{Texts, read_both};
 use std::alloc::Global;
-use std::io::{Read, Write};
 use std::thread::Threads;
 use text::error::ReadFault;
+use text::sink::Sink;
+use text::source::Source;
 
 /// Writes what the events of a schedule come to in the game of a system and a formula: how many were done and how many skipped,
 /// the measure of each vertex, the pending vertices, and whether the table is settled and all is quiet. The answer is true. The
@@ -35,7 +37,13 @@ use text::error::ReadFault;
 /// Those of the readers, of the normal form and of the game, unchanged; S1 to S3 for the schedule's text, S4 for memory of its
 /// events or of their state; U3 where a read of the formula or of the schedule failed, U4 for the memory of their texts; W1
 /// where a write failed. After a refusal that is not W1 nothing was written.
-pub fn replay_text<R: Read + Drop, S: Read + Drop, T: Read + Drop, W: Write, H: Threads + Sync>(
+pub fn replay_text<
+    R: Source + Drop,
+    S: Source + Drop,
+    T: Source + Drop,
+    W: Sink,
+    H: Threads + Sync,
+>(
     rt: &H,
     alloc: Global,
     aut: R,
@@ -44,7 +52,8 @@ pub fn replay_text<R: Read + Drop, S: Read + Drop, T: Read + Drop, W: Write, H: 
     workers: u32,
     out: &mut W,
 ) -> Result<bool, MuError>
-    ensures replays { Replays workers (R.remaining aut) (S.remaining formula) (T.remaining schedule) (W.contents out.old) (W.contents out.new) result }
+    ensures replays { Replays workers (R.remaining aut) (S.remaining formula) (T.remaining schedule) (W.taken out.old) (W.taken out.new) result }
+    ensures cause { IfErr result (HaveCauses R.can_fail (S.can_fail || T.can_fail)) }
 {
     match read_both(alloc, aut, formula) {
         Ok(texts) => replay_of(rt, alloc, &texts, schedule, workers, out),
@@ -56,7 +65,13 @@ pub fn replay_text<R: Read + Drop, S: Read + Drop, T: Read + Drop, W: Write, H: 
 ///
 /// # Errors
 /// Those of `replay_text`.
-pub fn replay_asked<R: Read + Drop, S: Read + Drop, T: Read + Drop, W: Write, H: Threads + Sync>(
+pub fn replay_asked<
+    R: Source + Drop,
+    S: Source + Drop,
+    T: Source + Drop,
+    W: Sink,
+    H: Threads + Sync,
+>(
     rt: &H,
     alloc: Global,
     request: &Replay<'_>,
@@ -66,13 +81,14 @@ pub fn replay_asked<R: Read + Drop, S: Read + Drop, T: Read + Drop, W: Write, H:
     out: &mut W,
 ) -> Result<bool, MuError>
     ensures replays { Replays request.now.workers (R.remaining aut) (S.remaining formula) (T.remaining schedule)
-        (W.contents out.old) (W.contents out.new) result }
+        (W.taken out.old) (W.taken out.new) result }
+    ensures cause { IfErr result (HaveCauses R.can_fail (S.can_fail || T.can_fail)) }
 {
     replay_text(rt, alloc, aut, formula, schedule, request.workers, out)
 }
 
 /// Replays the schedule in the game of a system and a formula that were read, and writes what it comes to.
-fn replay_of<T: Read + Drop, W: Write, H: Threads + Sync>(
+fn replay_of<T: Source + Drop, W: Sink, H: Threads + Sync>(
     rt: &H,
     alloc: Global,
     texts: &Texts,
@@ -80,9 +96,10 @@ fn replay_of<T: Read + Drop, W: Write, H: Threads + Sync>(
     workers: u32,
     out: &mut W,
 ) -> Result<bool, MuError>
-    ensures { (first second third : List ℕ) → AreSpelled first second texts.now.system.system (closed_formula texts.now.formula)
+    ensures answers { (first second third : List ℕ) → AreSpelled first second texts.now.system.system (closed_formula texts.now.formula)
         → T.remaining schedule ≡ Some third
-        → Answers workers first second third (W.contents out.old) (W.contents out.new) result }
+        → Answers workers first second third (W.taken out.old) (W.taken out.new) result }
+    ensures cause { IfErr result (HaveCauses false T.can_fail) }
 {
     match arena_of(
         rt,
@@ -98,16 +115,17 @@ fn replay_of<T: Read + Drop, W: Write, H: Threads + Sync>(
 }
 
 /// Replays the schedule in a game that was made, and writes what it comes to.
-fn replay_in<T: Read + Drop, W: Write>(
+fn replay_in<T: Source + Drop, W: Sink>(
     alloc: Global,
     game: &Game,
     schedule: T,
     workers: u32,
     out: &mut W,
 ) -> Result<bool, MuError>
-    ensures { (first second third : List ℕ) (l : System) (f : Formula) → AreSpelled first second l f → IsArenaOf Nested l f game.now
+    ensures answers { (first second third : List ℕ) (l : System) (f : Formula) → AreSpelled first second l f → IsArenaOf Nested l f game.now
         → T.remaining schedule ≡ Some third
-        → Answers workers first second third (W.contents out.old) (W.contents out.new) result }
+        → Answers workers first second third (W.taken out.old) (W.taken out.new) result }
+    ensures cause { IfErr result (HaveCauses false T.can_fail) }
 {
     match read_events(alloc, schedule, workers, game.vertices()) {
         Ok(events) => replay_events(alloc, game, &events, workers, out),
@@ -116,14 +134,15 @@ fn replay_in<T: Read + Drop, W: Write>(
 }
 
 /// The events of a schedule for so many workers and vertices.
-fn read_events<T: Read + Drop>(
+fn read_events<T: Source + Drop>(
     alloc: Global,
     schedule: T,
     workers: u32,
     vertices: u32,
 ) -> Result<Vec<Event>, MuError>
-    ensures { (text : List ℕ) → T.remaining schedule ≡ Some text
+    ensures answers { (text : List ℕ) → T.remaining schedule ≡ Some text
         → MatchResult result (λ events. IsScheduleOf workers vertices text events.items) (IsUnread workers vertices text) }
+    ensures cause { IfErr result (HaveCauses false T.can_fail) }
 {
     match read_schedule_from(alloc, schedule, workers, vertices) {
         Ok(events) => Ok(events),
@@ -134,16 +153,17 @@ fn read_events<T: Read + Drop>(
 }
 
 /// Replays the events, and writes what they come to.
-fn replay_events<W: Write>(
+fn replay_events<W: Sink>(
     alloc: Global,
     game: &Game,
     events: &[Event],
     workers: u32,
     out: &mut W,
 ) -> Result<bool, MuError>
-    ensures { (first second third : List ℕ) (l : System) (f : Formula) → AreSpelled first second l f → IsArenaOf Nested l f game.now
+    ensures answers { (first second third : List ℕ) (l : System) (f : Formula) → AreSpelled first second l f → IsArenaOf Nested l f game.now
         → IsScheduleOf workers (length game.now.vertices) third events.now
-        → Answers workers first second third (W.contents out.old) (W.contents out.new) result }
+        → Answers workers first second third (W.taken out.old) (W.taken out.new) result }
+    ensures cause { IfErr result (HaveCauses false false) }
 {
     match Core::new(alloc, game, workers as usize) {
         Ok(mut core) => follow_and_write(&mut core, events, out),
@@ -152,15 +172,16 @@ fn replay_events<W: Write>(
 }
 
 /// Does the events from the start, and writes what they come to.
-fn follow_and_write<W: Write>(
+fn follow_and_write<W: Sink>(
     core: &mut Core<'_>,
     events: &[Event],
     out: &mut W,
 ) -> Result<bool, MuError>
-    ensures { (first second third : List ℕ) (l : System) (f : Formula) (workers : ℕ) → AreSpelled first second l f → HasGame Nested l f
+    ensures answers { (first second third : List ℕ) (l : System) (f : Formula) (workers : ℕ) → AreSpelled first second l f → HasGame Nested l f
         → core.old ≡ start (nested_game l f) workers
         → IsScheduleOf workers (length (nested_game l f).vertices) third events.now
-        → Answers workers first second third (W.contents out.old) (W.contents out.new) result }
+        → Answers workers first second third (W.taken out.old) (W.taken out.new) result }
+    ensures cause { IfErr result (HaveCauses false false) }
 {
     let tally = core.follow(events);
     match write_replay(core, tally, out) {

@@ -1,6 +1,6 @@
 // The engine of the command `solve`.
 
-ghost use Rattle.std.specs.Prelude.{◌≡◌, ℕ, Bool, true, List, Option, Some, Ok, Err, MatchResult};
+ghost use Rattle.std.specs.Prelude.{◌≡◌, ℕ, Bool, IfErr, false, true, List, Option, Some, Ok, Err, MatchResult};
 ghost use Rattle.std.specs.Arc.{arc_value};
 ghost use Rattle.std.specs.Option.{is_some};
 ghost use Rattle.certify.specs.Pair.{AreFull};
@@ -8,6 +8,8 @@ ghost use Rattle.workers.specs.declared.team.BoardKind.{BoardKind};
 ghost use Rattle.requests.specs.Solver.{IsFitting};
 ghost use Rattle.requests.specs.Writers.{AreWritten, report_writer};
 ghost use Rattle.requests.specs.declared.request.ReportForm.TheVariants.{Whole};
+ghost use Rattle.text.specs.Cause.{HasCause};
+ghost use Rattle.commands.specs.Causes.{game_unread};
 ghost use Rattle.commands.specs.Spelled.{IsGameOf};
 ghost use Rattle.commands.specs.Solves.{Answers, IsTextOf, Solves, solve_writers};
 ghost use Rattle.commands.specs.Winners.{AreWinners, winners_text as text_of};
@@ -24,9 +26,10 @@ use pgsolver::read_game;
 use requests::error::MuError;
 use requests::request::{Options, Solve};
 use std::alloc::Global;
-use std::io::{Read, Write};
 use std::sync::{Arc, Wait};
 use std::thread::Threads;
+use text::sink::Sink;
+use text::source::Source;
 
 /// Writes who wins each vertex of the game that a text spells, and how many of them Even wins. The answer is true. The game is
 /// solved by the workers and over the board of the options.
@@ -34,14 +37,15 @@ use std::thread::Threads;
 /// # Errors
 /// Those of the reader, unchanged; T1 where the packed board is asked for and can't be had, and only there; T2, V1 and U4 for
 /// memory; W1 where a write failed. After a refusal that is not W1 nothing was written.
-pub fn solve_text<R: Read + Drop, W: Write, H: Threads + Wait + Clone + Copy + Drop + Send + Sync>(
+pub fn solve_text<R: Source + Drop, W: Sink, H: Threads + Wait + Clone + Copy + Drop + Send + Sync>(
     rt: &H,
     alloc: Global,
     game: R,
     options: &Options,
     out: &mut W,
 ) -> Result<bool, MuError>
-    ensures solves { Solves options.now.board (R.remaining game) (report_writer Whole (W.contents out.old) (W.contents out.new)) result }
+    ensures solves { Solves options.now.board (R.remaining game) (report_writer Whole (W.taken out.old) (W.taken out.new)) result }
+    ensures cause { IfErr result (HasCause R.can_fail game_unread) }
 {
     match read_game(alloc, game) {
         Ok(game) => solve_alone(rt, alloc, game, options, out),
@@ -50,15 +54,16 @@ pub fn solve_text<R: Read + Drop, W: Write, H: Threads + Wait + Clone + Copy + D
 }
 
 /// Solves the game, and writes who wins each vertex. Nobody watches.
-fn solve_alone<W: Write, H: Threads + Wait + Clone + Copy + Drop + Send + Sync>(
+fn solve_alone<W: Sink, H: Threads + Wait + Clone + Copy + Drop + Send + Sync>(
     rt: &H,
     alloc: Global,
     game: Game,
     options: &Options,
     out: &mut W,
 ) -> Result<bool, MuError>
-    ensures { (text : List ℕ) → IsGameOf text game
-        → Answers options.now.board text (report_writer Whole (W.contents out.old) (W.contents out.new)) result }
+    ensures answers { (text : List ℕ) → IsGameOf text game
+        → Answers options.now.board text (report_writer Whole (W.taken out.old) (W.taken out.new)) result }
+    ensures cause { IfErr result (HasCause false game_unread) }
 {
     match Arc::new(alloc, game) {
         Ok(game) => solve_and_write(rt, alloc, &game, options, out, &Silent),
@@ -72,10 +77,10 @@ fn solve_alone<W: Write, H: Threads + Wait + Clone + Copy + Drop + Send + Sync>(
 /// # Errors
 /// Those of `solve_text`, and E5 where evidence is asked for and memory is wanting for it.
 pub fn solve_asked<
-    R: Read + Drop,
-    E: Write,
-    O: Write,
-    W: Write,
+    R: Source + Drop,
+    E: Sink,
+    O: Sink,
+    W: Sink,
     U: Observer + Sync,
     H: Threads + Wait + Clone + Copy + Drop + Send + Sync,
 >(
@@ -88,8 +93,9 @@ pub fn solve_asked<
     out: &mut W,
     observer: &U,
 ) -> Result<bool, MuError>
-    ensures { Solves request.now.options.board (R.remaining game) (solve_writers (is_some request.now.evidence)
-        (E.contents even.old) (E.contents even.new) (O.contents odd.old) (O.contents odd.new) (W.contents out.old) (W.contents out.new)) result }
+    ensures solves { Solves request.now.options.board (R.remaining game) (solve_writers (is_some request.now.evidence)
+        (E.taken even.old) (E.taken even.new) (O.taken odd.old) (O.taken odd.new) (W.taken out.old) (W.taken out.new)) result }
+    ensures cause { IfErr result (HasCause R.can_fail game_unread) }
 {
     match read_game(alloc, game) {
         Ok(game) => solve_read(rt, alloc, request, game, even, odd, out, observer),
@@ -99,9 +105,9 @@ pub fn solve_asked<
 
 /// Solves the game that was read, and writes what is asked for.
 fn solve_read<
-    E: Write,
-    O: Write,
-    W: Write,
+    E: Sink,
+    O: Sink,
+    W: Sink,
     U: Observer + Sync,
     H: Threads + Wait + Clone + Copy + Drop + Send + Sync,
 >(
@@ -114,8 +120,9 @@ fn solve_read<
     out: &mut W,
     observer: &U,
 ) -> Result<bool, MuError>
-    ensures { (text : List ℕ) → IsGameOf text game → Answers request.now.options.board text (solve_writers (is_some request.now.evidence)
-        (E.contents even.old) (E.contents even.new) (O.contents odd.old) (O.contents odd.new) (W.contents out.old) (W.contents out.new)) result }
+    ensures answers { (text : List ℕ) → IsGameOf text game → Answers request.now.options.board text (solve_writers (is_some request.now.evidence)
+        (E.taken even.old) (E.taken even.new) (O.taken odd.old) (O.taken odd.new) (W.taken out.old) (W.taken out.new)) result }
+    ensures cause { IfErr result (HasCause false game_unread) }
 {
     let Ok(game) = Arc::new(alloc, game) else {
         return Err(MuError::Memory);
@@ -130,7 +137,7 @@ fn solve_read<
 
 /// Solves the game, and writes who wins each vertex.
 fn solve_and_write<
-    W: Write,
+    W: Sink,
     U: Observer + Sync,
     H: Threads + Wait + Clone + Copy + Drop + Send + Sync,
 >(
@@ -141,8 +148,9 @@ fn solve_and_write<
     out: &mut W,
     observer: &U,
 ) -> Result<bool, MuError>
-    ensures { (text : List ℕ) → IsGameOf text (arc_value game.now)
-        → Answers options.now.board text (report_writer Whole (W.contents out.old) (W.contents out.new)) result }
+    ensures answers { (text : List ℕ) → IsGameOf text (arc_value game.now)
+        → Answers options.now.board text (report_writer Whole (W.taken out.old) (W.taken out.new)) result }
+    ensures cause { IfErr result (HasCause false game_unread) }
 {
     match winners_by(rt, alloc, game, options, observer) {
         Ok(marks) => {
@@ -154,15 +162,16 @@ fn solve_and_write<
 }
 
 /// Writes who wins each vertex.
-fn write_winners<W: Write>(
+fn write_winners<W: Sink>(
     alloc: Global,
     game: &Game,
     marks: &[bool],
     out: &mut W,
 ) -> Result<bool, MuError>
     requires { AreWinners game.now marks.now }
-    ensures { (board : BoardKind) (text : List ℕ) → IsGameOf text game.now → IsFitting (Some board) game.now
-        → Answers board text (report_writer Whole (W.contents out.old) (W.contents out.new)) result }
+    ensures answers { (board : BoardKind) (text : List ℕ) → IsGameOf text game.now → IsFitting (Some board) game.now
+        → Answers board text (report_writer Whole (W.taken out.old) (W.taken out.new)) result }
+    ensures cause { IfErr result (HasCause false game_unread) }
 {
     let text = winners_text(alloc, marks)?;
     answer(put(out, &text))
@@ -170,9 +179,9 @@ fn write_winners<W: Write>(
 
 /// Makes evidence of all that each player wins, and writes both texts of it and who wins each vertex.
 fn prove_and_write<
-    E: Write,
-    O: Write,
-    W: Write,
+    E: Sink,
+    O: Sink,
+    W: Sink,
     U: Observer + Sync,
     H: Threads + Wait + Clone + Copy + Drop + Send + Sync,
 >(
@@ -185,8 +194,9 @@ fn prove_and_write<
     out: &mut W,
     observer: &U,
 ) -> Result<bool, MuError>
-    ensures { (text : List ℕ) → IsGameOf text (arc_value game.now) → Answers options.now.board text (solve_writers true (E.contents even.old)
-        (E.contents even.new) (O.contents odd.old) (O.contents odd.new) (W.contents out.old) (W.contents out.new)) result }
+    ensures answers { (text : List ℕ) → IsGameOf text (arc_value game.now) → Answers options.now.board text (solve_writers true (E.taken even.old)
+        (E.taken even.new) (O.taken odd.old) (O.taken odd.new) (W.taken out.old) (W.taken out.new)) result }
+    ensures cause { IfErr result (HasCause false game_unread) }
 {
     match evidence_by(rt, alloc, game, options, observer) {
         Ok(pair) => {
@@ -198,7 +208,7 @@ fn prove_and_write<
 }
 
 /// Writes both texts of evidence, and who wins each vertex by them.
-fn write_all<E: Write, O: Write, W: Write>(
+fn write_all<E: Sink, O: Sink, W: Sink>(
     alloc: Global,
     game: &Game,
     pair: &EvidencePair,
@@ -207,8 +217,9 @@ fn write_all<E: Write, O: Write, W: Write>(
     out: &mut W,
 ) -> Result<bool, MuError>
     requires { AreFull game.now pair.now }
-    ensures { (board : BoardKind) (text : List ℕ) → IsGameOf text game.now → IsFitting (Some board) game.now → Answers board text (solve_writers true
-        (E.contents even.old) (E.contents even.new) (O.contents odd.old) (O.contents odd.new) (W.contents out.old) (W.contents out.new)) result }
+    ensures answers { (board : BoardKind) (text : List ℕ) → IsGameOf text game.now → IsFitting (Some board) game.now → Answers board text (solve_writers true
+        (E.taken even.old) (E.taken even.new) (O.taken odd.old) (O.taken odd.new) (W.taken out.old) (W.taken out.new)) result }
+    ensures cause { IfErr result (HasCause false game_unread) }
 {
     let marks = even_marks(alloc, game, &pair.even)?;
     let text = winners_text(alloc, &marks)?;
@@ -216,7 +227,7 @@ fn write_all<E: Write, O: Write, W: Write>(
 }
 
 /// Writes the three texts, one after another.
-fn put_all<E: Write, O: Write, W: Write>(
+fn put_all<E: Sink, O: Sink, W: Sink>(
     pair: &EvidencePair,
     text: &[u8],
     even: &mut E,
@@ -224,7 +235,7 @@ fn put_all<E: Write, O: Write, W: Write>(
     out: &mut W,
 ) -> Result<(), WriteFault>
     ensures { (g : Game) (marks : List Bool) → AreFull g pair.now → text.now ≡ text_of marks → AreWritten (IsTextOf g marks) (solve_writers true
-        (E.contents even.old) (E.contents even.new) (O.contents odd.old) (O.contents odd.new) (W.contents out.old) (W.contents out.new)) result }
+        (E.taken even.old) (E.taken even.new) (O.taken odd.old) (O.taken odd.new) (W.taken out.old) (W.taken out.new)) result }
 {
     write_evidence(&pair.even, even)?;
     write_evidence(&pair.odd, odd)?;

@@ -1,6 +1,7 @@
 // The engines of the command `verify`.
 
-ghost use Rattle.std.specs.Prelude.{◌≡◌, ℕ, List, Some};
+ghost use Rattle.std.specs.Prelude.{◌≡◌, ◌||◌, ℕ, IfErr, List, Some, false};
+ghost use Rattle.commands.specs.Causes.{AreCaused};
 ghost use Rattle.commands.specs.Spelled.{IsEvidenceOf, IsGameOf};
 ghost use Rattle.commands.specs.Verifies.{Answers, AnswersBoth, Verifies, VerifiesBoth};
 
@@ -13,20 +14,22 @@ use game::graph::Game;
 use pgsolver::read_game;
 use requests::error::MuError;
 use std::alloc::Global;
-use std::io::{Read, Write};
+use text::sink::Sink;
+use text::source::Source;
 
 /// Writes whether evidence is good for a game, or its least vertex with a fault and the least of its faults. It answers whether
 /// it is good; its player then wins each vertex of its set. The game is read first.
 ///
 /// # Errors
 /// Those of the readers, unchanged; W1 where a write failed. After a refusal that is not W1 nothing was written.
-pub fn verify_text<R: Read + Drop, S: Read + Drop, W: Write>(
+pub fn verify_text<R: Source + Drop, S: Source + Drop, W: Sink>(
     alloc: Global,
     game: R,
     evidence: S,
     out: &mut W,
 ) -> Result<bool, MuError>
-    ensures verifies { Verifies (R.remaining game) (S.remaining evidence) (W.contents out.old) (W.contents out.new) result }
+    ensures verifies { Verifies (R.remaining game) (S.remaining evidence) (W.taken out.old) (W.taken out.new) result }
+    ensures cause { IfErr result (AreCaused R.can_fail S.can_fail) }
 {
     match read_game(alloc, game) {
         Ok(game) => verify_for(alloc, &game, evidence, out),
@@ -35,14 +38,15 @@ pub fn verify_text<R: Read + Drop, S: Read + Drop, W: Write>(
 }
 
 /// Reads evidence for a game that was read, and writes the verdict.
-fn verify_for<S: Read + Drop, W: Write>(
+fn verify_for<S: Source + Drop, W: Sink>(
     alloc: Global,
     game: &Game,
     evidence: S,
     out: &mut W,
 ) -> Result<bool, MuError>
-    ensures { (first second : List ℕ) → IsGameOf first game.now → S.remaining evidence ≡ Some second
-        → Answers first second (W.contents out.old) (W.contents out.new) result }
+    ensures answers { (first second : List ℕ) → IsGameOf first game.now → S.remaining evidence ≡ Some second
+        → Answers first second (W.taken out.old) (W.taken out.new) result }
+    ensures cause { IfErr result (AreCaused false S.can_fail) }
 {
     match read_evidence(alloc, evidence, game) {
         Ok(evidence) => judge(game, &evidence, out),
@@ -51,10 +55,11 @@ fn verify_for<S: Read + Drop, W: Write>(
 }
 
 /// Writes the verdict, and answers whether it is good.
-fn judge<W: Write>(game: &Game, evidence: &Evidence, out: &mut W) -> Result<bool, MuError>
+fn judge<W: Sink>(game: &Game, evidence: &Evidence, out: &mut W) -> Result<bool, MuError>
     requires { evidence.now.game ≡ game.now }
-    ensures { (first second : List ℕ) → IsGameOf first game.now → IsEvidenceOf game.now second evidence.now.evidence
-        → Answers first second (W.contents out.old) (W.contents out.new) result }
+    ensures answers { (first second : List ℕ) → IsGameOf first game.now → IsEvidenceOf game.now second evidence.now.evidence
+        → Answers first second (W.taken out.old) (W.taken out.new) result }
+    ensures cause { IfErr result (AreCaused false false) }
 {
     let verdict = verify(game, evidence);
     match write_verdict(evidence, verdict, out) {
@@ -69,14 +74,15 @@ fn judge<W: Write>(game: &Game, evidence: &Evidence, out: &mut W) -> Result<bool
 ///
 /// # Errors
 /// Those of the readers, unchanged; W1 where a write failed. After a refusal that is not W1 nothing was written.
-pub fn verify_both_text<R: Read + Drop, S: Read + Drop, T: Read + Drop, W: Write>(
+pub fn verify_both_text<R: Source + Drop, S: Source + Drop, T: Source + Drop, W: Sink>(
     alloc: Global,
     game: R,
     first: S,
     second: T,
     out: &mut W,
 ) -> Result<bool, MuError>
-    ensures verifies { VerifiesBoth (R.remaining game) (S.remaining first) (T.remaining second) (W.contents out.old) (W.contents out.new) result }
+    ensures verifies { VerifiesBoth (R.remaining game) (S.remaining first) (T.remaining second) (W.taken out.old) (W.taken out.new) result }
+    ensures cause { IfErr result (AreCaused R.can_fail (S.can_fail || T.can_fail)) }
 {
     match read_game(alloc, game) {
         Ok(game) => verify_both_for(alloc, &game, first, second, out),
@@ -85,15 +91,16 @@ pub fn verify_both_text<R: Read + Drop, S: Read + Drop, T: Read + Drop, W: Write
 }
 
 /// Reads both pieces of evidence for a game that was read, and writes what is told of both.
-fn verify_both_for<S: Read + Drop, T: Read + Drop, W: Write>(
+fn verify_both_for<S: Source + Drop, T: Source + Drop, W: Sink>(
     alloc: Global,
     game: &Game,
     first: S,
     second: T,
     out: &mut W,
 ) -> Result<bool, MuError>
-    ensures { (text one other : List ℕ) → IsGameOf text game.now → S.remaining first ≡ Some one → T.remaining second ≡ Some other
-        → AnswersBoth text one other (W.contents out.old) (W.contents out.new) result }
+    ensures answers { (text one other : List ℕ) → IsGameOf text game.now → S.remaining first ≡ Some one → T.remaining second ≡ Some other
+        → AnswersBoth text one other (W.taken out.old) (W.taken out.new) result }
+    ensures cause { IfErr result (AreCaused false (S.can_fail || T.can_fail)) }
 {
     match read_evidence(alloc, first, game) {
         Ok(first) => verify_with(alloc, game, &first, second, out),
@@ -102,7 +109,7 @@ fn verify_both_for<S: Read + Drop, T: Read + Drop, W: Write>(
 }
 
 /// Reads the second piece of evidence where the first was read, and writes what is told of both.
-fn verify_with<T: Read + Drop, W: Write>(
+fn verify_with<T: Source + Drop, W: Sink>(
     alloc: Global,
     game: &Game,
     first: &Evidence,
@@ -110,8 +117,9 @@ fn verify_with<T: Read + Drop, W: Write>(
     out: &mut W,
 ) -> Result<bool, MuError>
     requires { first.now.game ≡ game.now }
-    ensures { (text one other : List ℕ) → IsGameOf text game.now → IsEvidenceOf game.now one first.now.evidence → T.remaining second ≡ Some other
-        → AnswersBoth text one other (W.contents out.old) (W.contents out.new) result }
+    ensures answers { (text one other : List ℕ) → IsGameOf text game.now → IsEvidenceOf game.now one first.now.evidence → T.remaining second ≡ Some other
+        → AnswersBoth text one other (W.taken out.old) (W.taken out.new) result }
+    ensures cause { IfErr result (AreCaused false T.can_fail) }
 {
     match read_evidence(alloc, second, game) {
         Ok(second) => judge_both(game, first, &second, out),
@@ -120,7 +128,7 @@ fn verify_with<T: Read + Drop, W: Write>(
 }
 
 /// Writes what is told of both, and answers whether it is yes.
-fn judge_both<W: Write>(
+fn judge_both<W: Sink>(
     game: &Game,
     first: &Evidence,
     second: &Evidence,
@@ -128,9 +136,10 @@ fn judge_both<W: Write>(
 ) -> Result<bool, MuError>
     requires first { first.now.game ≡ game.now }
     requires second { second.now.game ≡ game.now }
-    ensures { (text one other : List ℕ) → IsGameOf text game.now → IsEvidenceOf game.now one first.now.evidence
+    ensures answers { (text one other : List ℕ) → IsGameOf text game.now → IsEvidenceOf game.now one first.now.evidence
         → IsEvidenceOf game.now other second.now.evidence
-        → AnswersBoth text one other (W.contents out.old) (W.contents out.new) result }
+        → AnswersBoth text one other (W.taken out.old) (W.taken out.new) result }
+    ensures cause { IfErr result (AreCaused false false) }
 {
     let both = check_both(game, first, second);
     match write_both(first, second, both, out) {

@@ -19,8 +19,8 @@ use measures::settle::even_wins;
 use measures::table::Settled;
 use requests::error::MuError;
 use std::alloc::{AllocError, Global};
-use std::io::Write;
 use std::thread::Threads;
+use text::sink::Sink;
 
 /// A mark for each vertex of a solved game, true where Even wins it.
 ///
@@ -105,15 +105,15 @@ pub(crate) fn winners_text(alloc: Global, marks: &[bool]) -> Result<Vec<u8>, MuE
     }
 }
 
-fn write_winners<W: Write>(marks: &[bool], out: &mut W) -> Result<(), WriteFault>
-    ensures { Wrote (W.contents out.old) (W.contents out.new) result (text_of marks.now) }
+fn write_winners<W: Sink>(marks: &[bool], out: &mut W) -> Result<(), WriteFault>
+    ensures { Wrote (W.taken out.old) (W.taken out.new) result (text_of marks.now) }
 {
     write_sizes(marks, out)?;
     write_lines(marks, out)
 }
 
-fn write_sizes<W: Write>(marks: &[bool], out: &mut W) -> Result<(), WriteFault>
-    ensures { Wrote (W.contents out.old) (W.contents out.new) result (sizes_text (length marks.now) (count_by (λ mark. mark) marks.now)) }
+fn write_sizes<W: Sink>(marks: &[bool], out: &mut W) -> Result<(), WriteFault>
+    ensures { Wrote (W.taken out.old) (W.taken out.new) result (sizes_text (length marks.now) (count_by (λ mark. mark) marks.now)) }
 {
     put_pieces(
         out,
@@ -127,8 +127,8 @@ fn write_sizes<W: Write>(marks: &[bool], out: &mut W) -> Result<(), WriteFault>
     )
 }
 
-fn write_lines<W: Write>(marks: &[bool], out: &mut W) -> Result<(), WriteFault>
-    ensures { Wrote (W.contents out.old) (W.contents out.new) result (winner_lines 0 marks.now) }
+fn write_lines<W: Sink>(marks: &[bool], out: &mut W) -> Result<(), WriteFault>
+    ensures { Wrote (W.taken out.old) (W.taken out.new) result (winner_lines 0 marks.now) }
 {
     for (v, mark) in marks.iter().enumerate() {
         write_line(v, *mark, out)?;
@@ -136,8 +136,8 @@ fn write_lines<W: Write>(marks: &[bool], out: &mut W) -> Result<(), WriteFault>
     Ok(())
 }
 
-fn write_line<W: Write>(v: usize, mark: bool, out: &mut W) -> Result<(), WriteFault>
-    ensures { Wrote (W.contents out.old) (W.contents out.new) result (decimal v ++ even_or_odd mark) }
+fn write_line<W: Sink>(v: usize, mark: bool, out: &mut W) -> Result<(), WriteFault>
+    ensures { Wrote (W.taken out.old) (W.taken out.new) result (decimal v ++ even_or_odd mark) }
 {
     put_pieces(
         out,

@@ -1,23 +1,21 @@
 -- What a check has found out.
 use Rattle.std.proofs.Common.{arith, ◌≡◌, ℕ, List, Bool, false, Some, None, Ok, Err, [], inl, inr, refl, subst, sym, ap, true≢false, slice_index_or}
 use Rattle.std.specs.Option.{is_some}
-use Rattle.std.specs.Prelude.{◌⊎◌, IsTrue, IfSome, IfOk, IfErr, IsErrAnd, MatchResult, Option, Result}
-use Rattle.std.proofs.KnownBytes.{Appends-nil, Keeps-refl}
-use Rattle.std.proofs.lemmas.Result.{IfOk-weaker}
+use Rattle.std.specs.Prelude.{◌⊎◌, IsTrue, IfOk, IfErr, MatchResult, Option, Result}
+use Rattle.text.specs.Taken.{Taken}
+use Rattle.text.proofs.Writing.{Adds-none, Stays-refl}
 use Rattle.text.specs.declared.write_loop.WriteFault.{WriteFault}
 use Rattle.systems.specs.System.{System}
-use Rattle.lts.specs.Aut.{IsAut}
 use Rattle.calculus.specs.Tree.{Formula}
 use Rattle.requests.specs.declared.error.MuError.{MuError}
 use Rattle.requests.specs.declared.error.MuError.TheVariants as error
 use Rattle.normal.specs.declared.priorities.Priorities.{Priorities}
-use Rattle.requests.specs.Check.{IsArenaOf, Way, BySets, ByGame, IsErrorOf, Answers, AreSpelled, AreMarks, IsBeyond, IsTextOf, IsWithin, SpellsSystem}
+use Rattle.requests.specs.Check.{IsArenaOf, Way, BySets, ByGame, Answers, AreSpelled, AreMarks, IsBeyond, IsTextOf}
 use Rattle.requests.specs.Check.{HasRefused}
 use Rattle.requests.specs.declared.request.WitnessForm.{WitnessForm}
 use Rattle.requests.specs.declared.request.WitnessForm.TheVariants.{System as AsSystem, Drawing}
 use Rattle.requests.specs.Writers.{EvenText, WitnessText, DrawingText, Lent, IsLentFor, NeedsEvidence, Unasked, AreKept, AreWritten, IsWhole, all_writers, kind_where}
 use Rattle.requests.specs.Writers.{lent_for, report_writer, witness_kind}
-use Rattle.requests.specs.Texts.{IsFormulaOf, IsReadRefusal}
 use Rattle.requests.specs.declared.request.ReportForm.{ReportForm}
 use Rattle.requests.specs.declared.request.Wanted.{Wanted}
 use Rattle.requests.specs.Command as request
@@ -97,9 +95,9 @@ spelled_by texts_of first second texts (Ok x) h e = subst (λ (t : Texts). AreSp
 spelled_by texts_of first second texts (Err e) h same = tt
 
 -- None of the writers of all texts was written to.
-pub kept_writers : (wanted : Wanted) (game even odd witness out : Option (List ℕ))
+pub kept_writers : (wanted : Wanted) (game even odd witness out : Taken)
     → AreKept (all_writers wanted game game even even odd odd witness witness out out)
-kept_writers wanted game even odd witness out = (Keeps-refl game, (Keeps-refl even, (Keeps-refl odd, (Keeps-refl witness, (Keeps-refl out, tt)))))
+kept_writers wanted game even odd witness out = (Stays-refl game, (Stays-refl even, (Stays-refl odd, (Stays-refl witness, (Stays-refl out, tt)))))
 
 -- No writer was written to before all that is wanted was made, which there was no memory for.
 pub unprepared_of : (x : Findings) (wanted : Wanted) (first second : List ℕ) (writers : List Lent) (e : MuError)
@@ -172,7 +170,7 @@ witness_lent (Some AsSystem) h = inl refl
 witness_lent (Some Drawing) h = inr refl
 
 -- Nothing was written where what is wanted could not be made.
-pub unprepared_all : (x : Findings) (wanted : Wanted) (first second : List ℕ) (game even odd witness out : Option (List ℕ)) (e : MuError)
+pub unprepared_all : (x : Findings) (wanted : Wanted) (first second : List ℕ) (game even odd witness out : Taken) (e : MuError)
     → AreSpelled first second (system_of x) (formula_of x)
     → AreFindings x → IsUnprepared x wanted e → HasRefused (way_in x) first second (all_writers wanted game game even even odd odd witness witness out out) e
 unprepared_all x wanted first second game even odd witness out e spelled found is =
@@ -184,12 +182,12 @@ unprepared_all x wanted first second game even odd witness out e spelled found i
       | inr k ↦ inr (inr (inr (inr (inl k))))
     ]) is
 
-alone_kept : (form : ReportForm) (game even odd witness old new : Option (List ℕ)) → AreKept (report_writer form old new)
+alone_kept : (form : ReportForm) (game even odd witness old new : Taken) → AreKept (report_writer form old new)
     → AreKept (all_writers (request.report_alone form) game game even even odd odd witness witness old new)
-alone_kept form game even odd witness old new h = (Keeps-refl game, (Keeps-refl even, (Keeps-refl odd, (Keeps-refl witness, h))))
+alone_kept form game even odd witness old new h = (Stays-refl game, (Stays-refl even, (Stays-refl odd, (Stays-refl witness, h))))
 
 -- the writers to which nothing is written, and the report's
-abbrev pub report_alone : (form : ReportForm) (game even odd witness old new : Option (List ℕ)) → List Lent
+abbrev pub report_alone : (form : ReportForm) (game even odd witness old new : Taken) → List Lent
 report_alone form game even odd witness old new =
     all_writers (request.report_alone form) game game even even odd odd witness witness old new
 
@@ -197,14 +195,14 @@ nothing_asked : (way : Way) (l : System) (f : Formula) (marks : List Bool) → I
 nothing_asked BySets l f marks = refl
 nothing_asked (ByGame rule board) l f marks = refl
 
-nothing_written : (way : Way) (l : System) (f : Formula) (marks : List Bool) (bytes : Option (List ℕ)) → IsWhole (IsTextOf way l f marks) (lent_for Unasked bytes bytes)
-nothing_written way l f marks bytes = ([], nothing_asked way l f marks, Appends-nil bytes)
+nothing_written : (way : Way) (l : System) (f : Formula) (marks : List Bool) (bytes : Taken) → IsWhole (IsTextOf way l f marks) (lent_for Unasked bytes bytes)
+nothing_written way l f marks bytes = ([], nothing_asked way l f marks, Adds-none bytes)
 
-no_evidence_needed : (form : ReportForm) (old new : Option (List ℕ)) → NeedsEvidence (report_writer form old new) → ⊥
+no_evidence_needed : (form : ReportForm) (old new : Taken) → NeedsEvidence (report_writer form old new) → ⊥
 no_evidence_needed form old new needed = grind arith
 
 -- Where nothing is wanted before the report, it alone is written.
-pub alone_of : (way : Way) (first second : List ℕ) (form : ReportForm) (game even odd witness old new : Option (List ℕ)) (r : Result Bool MuError)
+pub alone_of : (way : Way) (first second : List ℕ) (form : ReportForm) (game even odd witness old new : Taken) (r : Result Bool MuError)
     → Answers way first second (report_writer form old new) r → Answers way first second (report_alone form game even odd witness old new) r
 alone_of way first second form game even odd witness old new (Ok a) h = record {
   l = h.l;
@@ -216,7 +214,7 @@ alone_of way first second form game even odd witness old new (Ok a) h = record {
   answered = h.answered;
 }
   where
-    nothing : (bytes : Option (List ℕ)) → IsWhole (IsTextOf way h.l h.f h.marks) (lent_for Unasked bytes bytes)
+    nothing : (bytes : Taken) → IsWhole (IsTextOf way h.l h.f h.marks) (lent_for Unasked bytes bytes)
     nothing bytes = nothing_written way h.l h.f h.marks bytes
 alone_of way first second form game even odd witness old new (Err error.Read) h = (h.0, alone_kept form game even odd witness old new h.1)
 alone_of way first second form game even odd witness old new (Err error.Memory) h = (h.0, alone_kept form game even odd witness old new h.1)
@@ -231,7 +229,7 @@ alone_of way first second form game even odd witness old new (Err (error.Write e
   begun = inr (nothing game, inr (nothing even, inr (nothing odd, inr (nothing witness, h.begun))));
 }
   where
-    nothing : (bytes : Option (List ℕ)) → IsWhole (IsTextOf way h.l h.f h.marks) (lent_for Unasked bytes bytes)
+    nothing : (bytes : Taken) → IsWhole (IsTextOf way h.l h.f h.marks) (lent_for Unasked bytes bytes)
     nothing bytes = nothing_written way h.l h.f h.marks bytes
 alone_of way first second form game even odd witness old new (Err (error.Arguments e)) h = absurd h
 alone_of way first second form game even odd witness old new (Err error.File) h = absurd h

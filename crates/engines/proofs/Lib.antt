@@ -9,3 +9,4 @@ mod Winning
 mod Putting
 mod Telling
 mod Reasoning
+mod Caused

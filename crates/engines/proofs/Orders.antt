@@ -1,5 +1,6 @@
 -- Texts that are found, and are written one after another.
-use Rattle.std.proofs.Common.{◌≡◌, ℕ, List, Option, refl, ap, ◌∙◌}
+use Rattle.text.specs.Taken.{Taken}
+use Rattle.std.proofs.Common.{◌≡◌, refl, ap, ◌∙◌}
 use Rattle.std.specs.Arc.{arc_value}
 use Rattle.game.specs.Game.{Game}
 use Rattle.pgsolver.specs.Canon.{game_text}
@@ -14,5 +15,5 @@ pub found_game : (x : Findings) (g : Game) → g ≡ arc_value x.solution.game �
 found_game x g e h = ap game_text (e ∙ h.solution.game.same)
 
 -- Nothing is asked from a writer, and nothing was written to it.
-pub unasked : (x : Findings) (old : Option (List ℕ)) → IsWhole (IsTextFound x) (lent_for Unasked old old)
+pub unasked : (x : Findings) (old : Taken) → IsWhole (IsTextFound x) (lent_for Unasked old old)
 unasked x old = order.unasked (IsTextFound x) old refl

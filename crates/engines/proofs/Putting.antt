@@ -1,7 +1,7 @@
 -- What is written of what was prepared, writer by writer.
-use Rattle.std.proofs.Common.{◌≡◌, ℕ, Bool, true, false, List, [], ◌∷◌, Option, Some, None, Result, inl, inr, refl, subst, sym, ap, ◌∙◌}
-use Rattle.std.proofs.KnownBytes.{Keeps-refl}
-use Rattle.std.specs.Io.KnownBytes.{Appends}
+use Rattle.std.proofs.Common.{◌≡◌, ℕ, true, false, List, [], ◌∷◌, Option, Some, None, Result, inl, inr, refl, subst, sym, ap, ◌∙◌}
+use Rattle.text.proofs.Writing.{Stays-refl}
+use Rattle.text.specs.Taken.{Taken, Adds}
 use Rattle.std.specs.Option.{is_some}
 use Rattle.std.specs.Prelude.{IfSome, option_map}
 use Rattle.std.specs.Result.{IsErr}
@@ -35,19 +35,19 @@ kind_made : (p : Prepared) (s : Shown) → p.shown ≡ Some s → option_map (λ
 kind_made p s is form = sym (ap (option_map (λ (y : Shown). y.form)) is) ∙ form
 
 -- the witness was begun
-pub shown_stopped : {T E : Type 0} → (x : Findings) (p : Prepared) (s : Shown) (old new out : Option (List ℕ)) (r : Result T E) → p.shown ≡ Some s
+pub shown_stopped : {T E : Type 0} → (x : Findings) (p : Prepared) (s : Shown) (old new out : Taken) (r : Result T E) → p.shown ≡ Some s
     → option_map (λ (y : Shown). y.form) p.shown ≡ p.wanted.witness → IsErr r
     → AreWrittenUpTo (IsTextFound x) (lent_for (witness_kind (Some s.form)) old new ∷ [])
     → AreWritten (IsTextFound x) (lent_for (witness_kind p.wanted.witness) old new ∷ report_writer p.wanted.report out out) r
 shown_stopped x p s old new out r is form h up =
     subst (λ kind. AreWritten (IsTextFound x) (lent_for (witness_kind kind) old new ∷ report_writer p.wanted.report out out) r) (kind_made p s is form)
     (stopped_at (IsTextFound x) (lent_for (witness_kind (Some s.form)) old new ∷ report_writer p.wanted.report out out) r h (elim up [
-      | inl w ↦ inl (w.0, (Keeps-refl out, tt))
+      | inl w ↦ inl (w.0, (Stays-refl out, tt))
       | inr w ↦ absurd w.1
     ]))
 
 -- it was written, and then the report
-pub shown_written : {T E : Type 0} → (x : Findings) (p : Prepared) (s : Shown) (old new out_old out_new : Option (List ℕ)) (r : Result T E) → p.shown ≡ Some s
+pub shown_written : {T E : Type 0} → (x : Findings) (p : Prepared) (s : Shown) (old new out_old out_new : Taken) (r : Result T E) → p.shown ≡ Some s
     → option_map (λ (y : Shown). y.form) p.shown ≡ p.wanted.witness → AreWhole (IsTextFound x) (lent_for (witness_kind (Some s.form)) old new ∷ [])
     → AreWritten (IsTextFound x) (report_writer p.wanted.report out_old out_new) r
     → AreWritten (IsTextFound x) (lent_for (witness_kind p.wanted.witness) old new ∷ report_writer p.wanted.report out_old out_new) r
@@ -56,7 +56,7 @@ shown_written x p s old new out_old out_new r is form whole rest =
     (then_more (IsTextFound x) (lent_for (witness_kind (Some s.form)) old new) (report_writer p.wanted.report out_old out_new) r whole.0 rest)
 
 -- it is written as a system
-pub system_written : {T E : Type 0} → (x : Findings) (form : WitnessForm) (u : Texts) (part shown : List Transition) (old new : Option (List ℕ))
+pub system_written : {T E : Type 0} → (x : Findings) (form : WitnessForm) (u : Texts) (part shown : List Transition) (old new : Taken)
     (r : Result T E) → form ≡ System → u ≡ x.texts.value → part ≡ shown → AreShown x shown
     → Wrote old new r (aut_text (system_with u.system part)) → AreWritten (IsTextFound x) (lent_for (witness_kind (Some form)) old new ∷ []) r
 system_written x form u part shown old new r is at same are wrote =
@@ -68,7 +68,7 @@ system_written x form u part shown old new r is at same are wrote =
     ) wrote)
 
 -- and as a drawing
-pub drawing_written : {T E : Type 0} → (x : Findings) (form : WitnessForm) (u : Texts) (part shown : List Transition) (old new : Option (List ℕ))
+pub drawing_written : {T E : Type 0} → (x : Findings) (form : WitnessForm) (u : Texts) (part shown : List Transition) (old new : Taken)
     (r : Result T E) → form ≡ Drawing → u ≡ x.texts.value → part ≡ shown → AreShown x shown
     → Wrote old new r (drawing (system_with u.system part)) → AreWritten (IsTextFound x) (lent_for (witness_kind (Some form)) old new ∷ []) r
 drawing_written x form u part shown old new r is at same are wrote =
@@ -98,7 +98,7 @@ found_odd : (x : Findings) (e : Evidence) → AreFindings x → IsOddOf (arc_val
 found_odd x e found is = (e, subst (λ (g : Game). IsOddOf g e) found.solution.game.same is, refl)
 
 -- Even's was begun
-pub even_stopped : {T E : Type 0} → (x : Findings) (p : Prepared) (pair : EvidencePair) (old new odd : Option (List ℕ)) (rest : List Lent) (r : Result T E)
+pub even_stopped : {T E : Type 0} → (x : Findings) (p : Prepared) (pair : EvidencePair) (old new odd : Taken) (rest : List Lent) (r : Result T E)
     → AreFindings x
     → IsPairOf (arc_value x.solution.game) pair → p.pair ≡ Some pair → is_some p.pair ≡ p.wanted.evidence → AreKept rest → IsErr r
     → WroteFront old new (evidence_text pair.even.evidence)
@@ -107,13 +107,13 @@ even_stopped x p pair old new odd rest r found are is e kept h front =
     subst (λ b. AreWritten (IsTextFound x) (lent_for (kind_where b EvenText) old new ∷ lent_for (kind_where b OddText) odd odd ∷ rest) r)
     (pair_wanted p pair is e)
     (stopped_at (IsTextFound x) (lent_for EvenText old new ∷ lent_for OddText odd odd ∷ rest) r h
-    (inl ((evidence_text pair.even.evidence, found_even x pair.even.evidence found are.even, front), (Keeps-refl odd, kept))))
+    (inl ((evidence_text pair.even.evidence, found_even x pair.even.evidence found are.even, front), (Stays-refl odd, kept))))
 
 -- Even's was written, and Odd's begun
-pub odd_stopped : {T E : Type 0} → (x : Findings) (p : Prepared) (pair : EvidencePair) (old new odd_old odd_new : Option (List ℕ)) (rest : List Lent)
+pub odd_stopped : {T E : Type 0} → (x : Findings) (p : Prepared) (pair : EvidencePair) (old new odd_old odd_new : Taken) (rest : List Lent)
     (r : Result T E) → AreFindings x
     → IsPairOf (arc_value x.solution.game) pair → p.pair ≡ Some pair → is_some p.pair ≡ p.wanted.evidence → AreKept rest → IsErr r
-    → Appends old new (evidence_text pair.even.evidence)
+    → Adds old new (evidence_text pair.even.evidence)
     → WroteFront odd_old odd_new (evidence_text pair.odd.evidence)
     → AreWritten (IsTextFound x) (lent_for (kind_where p.wanted.evidence EvenText) old new ∷ lent_for
     (kind_where p.wanted.evidence OddText) odd_old odd_new ∷ rest) r
@@ -127,7 +127,7 @@ odd_stopped x p pair old new odd_old odd_new rest r found are is e kept h whole 
     )))
 
 -- none is wanted
-pub unpaired_written : {T E : Type 0} → (x : Findings) (p : Prepared) (even odd : Option (List ℕ)) (rest : List Lent) (r : Result T E) → p.pair ≡ None
+pub unpaired_written : {T E : Type 0} → (x : Findings) (p : Prepared) (even odd : Taken) (rest : List Lent) (r : Result T E) → p.pair ≡ None
     → is_some p.pair ≡ p.wanted.evidence
     → AreWritten (IsTextFound x) rest r → AreWritten (IsTextFound x)
     (lent_for (kind_where p.wanted.evidence EvenText) even even ∷ lent_for (kind_where p.wanted.evidence OddText) odd odd ∷ rest) r
@@ -140,7 +140,7 @@ unpaired_written x p even odd rest r is e written =
 -- ------------------------------------------------------------------ the game
 
 -- it was begun
-pub game_stopped : {T E : Type 0} → (x : Findings) (wanted : Wanted) (old new even odd witness out : Option (List ℕ)) (text : List ℕ) (r : Result T E)
+pub game_stopped : {T E : Type 0} → (x : Findings) (wanted : Wanted) (old new even odd witness out : Taken) (text : List ℕ) (r : Result T E)
     → wanted.game ≡ true → IsErr r
     → IsTextFound x GameText text → WroteFront old new text → AreWritten (IsTextFound x)
     (all_writers wanted old new even even odd odd witness witness out out) r
@@ -149,11 +149,24 @@ game_stopped x wanted old new even odd witness out text r is h made front =
     ∷ (lent_for (kind_where wanted.evidence OddText) odd odd ∷ (lent_for (witness_kind wanted.witness) witness witness ∷ report_writer wanted.report out out)) in
     subst (λ b. AreWritten (IsTextFound x) (lent_for (kind_where b GameText) old new ∷ rest) r) (sym is)
     (stopped_at (IsTextFound x) (lent_for GameText old new ∷ rest) r h
-    (inl ((text, made, front), (Keeps-refl even, (Keeps-refl odd, (Keeps-refl witness, (Keeps-refl out, tt)))))))
+    (inl ((text, made, front), (Stays-refl even, (Stays-refl odd, (Stays-refl witness, (Stays-refl out, tt)))))))
+
+pub game_written : {T E : Type 0} → (x : Findings) (wanted : Wanted) (old new : Taken) (rest : List Lent) (text : List ℕ) (r : Result T E)
+    → wanted.game ≡ true → IsTextFound x GameText text → Adds old new text → AreWritten (IsTextFound x) rest r
+    → AreWritten (IsTextFound x) (lent_for (kind_where wanted.game GameText) old new ∷ rest) r
+game_written x wanted old new rest text r is made wrote written =
+    subst (λ b. AreWritten (IsTextFound x) (lent_for (kind_where b GameText) old new ∷ rest) r) (sym is)
+    (then_more (IsTextFound x) (lent_for GameText old new) rest r (text, made, wrote) written)
+
+pub game_unasked : {T E : Type 0} → (x : Findings) (wanted : Wanted) (old : Taken) (rest : List Lent) (r : Result T E) → wanted.game ≡ false
+    → AreWritten (IsTextFound x) rest r → AreWritten (IsTextFound x) (lent_for (kind_where wanted.game GameText) old old ∷ rest) r
+game_unasked x wanted old rest r is written =
+    subst (λ b. AreWritten (IsTextFound x) (lent_for (kind_where b GameText) old old ∷ rest) r) (sym is)
+    (then_more (IsTextFound x) (lent_for Unasked old old) rest r (unasked x old) written)
 
 -- ------------------------------------------------------------------ all
 
 -- What is wanted is what was asked for.
-pub as_asked : {T E : Type 0} → (x : Findings) (p w : Wanted) (a b c d e f g h i j : Option (List ℕ)) (r : Result T E) → p ≡ w
+pub as_asked : {T E : Type 0} → (x : Findings) (p w : Wanted) (a b c d e f g h i j : Taken) (r : Result T E) → p ≡ w
     → AreWritten (IsTextFound x) (all_writers p a b c d e f g h i j) r → AreWritten (IsTextFound x) (all_writers w a b c d e f g h i j) r
 as_asked x p w a b c d e f g h i j r same written = subst (λ (v : Wanted). AreWritten (IsTextFound x) (all_writers v a b c d e f g h i j) r) same written

@@ -1,8 +1,8 @@
 -- From the winners at the root node to the marks of a check.
-use Rattle.std.proofs.Common.{◌≡◌, ◌≢◌, ◌+◌, ◌*◌, ◌<◌, ◌≤◌, ℕ, Bool, List, length, None, Option, Some, Vec, Global, refl, sym, subst}
-use Rattle.std.specs.Prelude.{◌↔◌, IfSome}
+use Rattle.std.proofs.Common.{◌≡◌, ◌≢◌, ◌+◌, ◌*◌, ◌≤◌, ℕ, Bool, List, length, None, Option, Some, Vec, Global, refl, sym, subst}
+use Rattle.std.specs.Prelude.{IfSome}
 use Rattle.calculus.specs.Admitted.{IsAdmitted}
-use Rattle.calculus.specs.Meaning.{Marks, marked}
+use Rattle.calculus.specs.Meaning.{Marks}
 use Rattle.calculus.specs.Tree.{Formula}
 use Rattle.systems.specs.System.{IsSystem, System}
 use Rattle.normal.specs.declared.limits.TheConstants.{GREATEST_PRIORITY, MOST_NODES}

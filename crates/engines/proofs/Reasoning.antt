@@ -1,6 +1,7 @@
 -- What is told of an answer.
 use Rattle.std.proofs.Common.{◌≡◌, ℕ, ◌<◌, Bool, false, List, [], ◌∷◌, Option, Some, Result, Ok, Err, inl, inr, refl, sym, ap, subst}
-use Rattle.std.proofs.KnownBytes.{Keeps-refl}
+use Rattle.text.specs.Taken.{Taken}
+use Rattle.text.proofs.Writing.{Stays-refl}
 use Rattle.std.specs.Prelude.{IsTrue, MatchResult, slice_index_or}
 use Rattle.text.specs.Wrote.{Wrote}
 use Rattle.text.specs.declared.write_loop.WriteFault.{WriteFault}
@@ -36,59 +37,59 @@ no_write : (fault : WriteFault) (place : ℕ) → ◌≡◌ {A = MuError} (error
 no_write fault place h = cc
 
 -- A refusal that leaves all writers as they were leaves this one so, and is no write fault.
-pub refused_kept : (rule : Priorities) (board : Option BoardKind) (first second : List ℕ) (old : Option (List ℕ)) (e : MuError)
+pub refused_kept : (rule : Priorities) (board : Option BoardKind) (first second : List ℕ) (old : Taken) (e : MuError)
     → ((writers : List Lent) → AreKept writers → HasRefused (ByGame rule board) first second writers e)
     → HasNoReasons rule board first second old old e
 refused_kept rule board first second old (error.Write fault) h = absurd (h [] tt).begun
 refused_kept rule board first second old (error.Arguments e) h = h [] tt
 refused_kept rule board first second old error.File h = h [] tt
-refused_kept rule board first second old error.Read h = h (lent_for WitnessText old old ∷ []) (Keeps-refl old, tt)
-refused_kept rule board first second old error.Memory h = h (lent_for WitnessText old old ∷ []) (Keeps-refl old, tt)
-refused_kept rule board first second old (error.System e) h = h (lent_for WitnessText old old ∷ []) (Keeps-refl old, tt)
-refused_kept rule board first second old (error.Formula e) h = h (lent_for WitnessText old old ∷ []) (Keeps-refl old, tt)
-refused_kept rule board first second old (error.Normal e) h = h (lent_for WitnessText old old ∷ []) (Keeps-refl old, tt)
-refused_kept rule board first second old (error.Build e) h = h (lent_for WitnessText old old ∷ []) (Keeps-refl old, tt)
+refused_kept rule board first second old error.Read h = h (lent_for WitnessText old old ∷ []) (Stays-refl old, tt)
+refused_kept rule board first second old error.Memory h = h (lent_for WitnessText old old ∷ []) (Stays-refl old, tt)
+refused_kept rule board first second old (error.System e) h = h (lent_for WitnessText old old ∷ []) (Stays-refl old, tt)
+refused_kept rule board first second old (error.Formula e) h = h (lent_for WitnessText old old ∷ []) (Stays-refl old, tt)
+refused_kept rule board first second old (error.Normal e) h = h (lent_for WitnessText old old ∷ []) (Stays-refl old, tt)
+refused_kept rule board first second old (error.Build e) h = h (lent_for WitnessText old old ∷ []) (Stays-refl old, tt)
 refused_kept rule board first second old (error.Game e) h = h [] tt
-refused_kept rule board first second old (error.Evidence e) h = h (lent_for WitnessText old old ∷ []) (Keeps-refl old, tt)
-refused_kept rule board first second old (error.Table e) h = h (lent_for WitnessText old old ∷ []) (Keeps-refl old, tt)
-refused_kept rule board first second old (error.Solve e) h = h (lent_for WitnessText old old ∷ []) (Keeps-refl old, tt)
+refused_kept rule board first second old (error.Evidence e) h = h (lent_for WitnessText old old ∷ []) (Stays-refl old, tt)
+refused_kept rule board first second old (error.Table e) h = h (lent_for WitnessText old old ∷ []) (Stays-refl old, tt)
+refused_kept rule board first second old (error.Solve e) h = h (lent_for WitnessText old old ∷ []) (Stays-refl old, tt)
 refused_kept rule board first second old (error.Schedule e) h = h [] tt
 refused_kept rule board first second old (error.NoLabel offset) h = h [] tt
 
 -- What was told where each word of the formula is on a transition is told strictly.
-pub strictly_told : (strict : Bool) (rule : Priorities) (board : Option BoardKind) (first second : List ℕ) (old new : Option (List ℕ)) (r : Result Bool MuError)
+pub strictly_told : (strict : Bool) (rule : Priorities) (board : Option BoardKind) (first second : List ℕ) (old new : Taken) (r : Result Bool MuError)
     → TellsReasons rule board first second old new r → (IsTrue strict → KnowsWords first second) → TellsReasonsBy strict rule board first second old new r
 strictly_told strict rule board first second old new (Ok a) h known = (h, known)
 strictly_told strict rule board first second old new (Err e) h known = inl (h, λ asked. inr (known asked))
 
 -- A refusal while the texts are read, or of a word, leaves the writer as it was.
-pub strictly_refused : (strict : Bool) (rule : Priorities) (board : Option BoardKind) (first second : List ℕ) (old : Option (List ℕ)) (e : MuError)
+pub strictly_refused : (strict : Bool) (rule : Priorities) (board : Option BoardKind) (first second : List ℕ) (old : Taken) (e : MuError)
     → ((writers : List Lent) → AreKept writers → HasRefusedBy strict (ByGame rule board) first second writers e)
     → HasNoReasonsBy strict rule board first second old old e
 strictly_refused strict rule board first second old (error.Write fault) h = elim (h [] tt) [
   | inl p ↦ absurd p.0.begun
   | inr w ↦ absurd (no_write fault w.place w.is)
 ]
-strictly_refused strict rule board first second old (error.Arguments e) h = h (lent_for WitnessText old old ∷ []) (Keeps-refl old, tt)
-strictly_refused strict rule board first second old error.File h = h (lent_for WitnessText old old ∷ []) (Keeps-refl old, tt)
-strictly_refused strict rule board first second old error.Read h = h (lent_for WitnessText old old ∷ []) (Keeps-refl old, tt)
-strictly_refused strict rule board first second old error.Memory h = h (lent_for WitnessText old old ∷ []) (Keeps-refl old, tt)
-strictly_refused strict rule board first second old (error.System e) h = h (lent_for WitnessText old old ∷ []) (Keeps-refl old, tt)
-strictly_refused strict rule board first second old (error.Formula e) h = h (lent_for WitnessText old old ∷ []) (Keeps-refl old, tt)
-strictly_refused strict rule board first second old (error.Normal e) h = h (lent_for WitnessText old old ∷ []) (Keeps-refl old, tt)
-strictly_refused strict rule board first second old (error.Build e) h = h (lent_for WitnessText old old ∷ []) (Keeps-refl old, tt)
-strictly_refused strict rule board first second old (error.Game e) h = h (lent_for WitnessText old old ∷ []) (Keeps-refl old, tt)
-strictly_refused strict rule board first second old (error.Evidence e) h = h (lent_for WitnessText old old ∷ []) (Keeps-refl old, tt)
-strictly_refused strict rule board first second old (error.Table e) h = h (lent_for WitnessText old old ∷ []) (Keeps-refl old, tt)
-strictly_refused strict rule board first second old (error.Solve e) h = h (lent_for WitnessText old old ∷ []) (Keeps-refl old, tt)
-strictly_refused strict rule board first second old (error.Schedule e) h = h (lent_for WitnessText old old ∷ []) (Keeps-refl old, tt)
-strictly_refused strict rule board first second old (error.NoLabel offset) h = h (lent_for WitnessText old old ∷ []) (Keeps-refl old, tt)
+strictly_refused strict rule board first second old (error.Arguments e) h = h (lent_for WitnessText old old ∷ []) (Stays-refl old, tt)
+strictly_refused strict rule board first second old error.File h = h (lent_for WitnessText old old ∷ []) (Stays-refl old, tt)
+strictly_refused strict rule board first second old error.Read h = h (lent_for WitnessText old old ∷ []) (Stays-refl old, tt)
+strictly_refused strict rule board first second old error.Memory h = h (lent_for WitnessText old old ∷ []) (Stays-refl old, tt)
+strictly_refused strict rule board first second old (error.System e) h = h (lent_for WitnessText old old ∷ []) (Stays-refl old, tt)
+strictly_refused strict rule board first second old (error.Formula e) h = h (lent_for WitnessText old old ∷ []) (Stays-refl old, tt)
+strictly_refused strict rule board first second old (error.Normal e) h = h (lent_for WitnessText old old ∷ []) (Stays-refl old, tt)
+strictly_refused strict rule board first second old (error.Build e) h = h (lent_for WitnessText old old ∷ []) (Stays-refl old, tt)
+strictly_refused strict rule board first second old (error.Game e) h = h (lent_for WitnessText old old ∷ []) (Stays-refl old, tt)
+strictly_refused strict rule board first second old (error.Evidence e) h = h (lent_for WitnessText old old ∷ []) (Stays-refl old, tt)
+strictly_refused strict rule board first second old (error.Table e) h = h (lent_for WitnessText old old ∷ []) (Stays-refl old, tt)
+strictly_refused strict rule board first second old (error.Solve e) h = h (lent_for WitnessText old old ∷ []) (Stays-refl old, tt)
+strictly_refused strict rule board first second old (error.Schedule e) h = h (lent_for WitnessText old old ∷ []) (Stays-refl old, tt)
+strictly_refused strict rule board first second old (error.NoLabel offset) h = h (lent_for WitnessText old old ∷ []) (Stays-refl old, tt)
 
 -- Nothing was written where there was no memory for a witness.
-pub unshown_kept : (x : Findings) (first second : List ℕ) (old : Option (List ℕ)) (e : MuError) → AreSpelled first second (system_of x) (formula_of x)
+pub unshown_kept : (x : Findings) (first second : List ℕ) (old : Taken) (e : MuError) → AreSpelled first second (system_of x) (formula_of x)
     → AreFindings x → IsUnshown x e → HasNoReasons x.solution.priorities x.solution.board first second old old e
 unshown_kept x first second old e spelled found is = by e is (unprepared_of x wanted first second (lent_for WitnessText old old ∷ []) e spelled found
-    (Keeps-refl old, tt) (λ no. absurd cc) (λ _. inl (inl refl)) (inr (inl (refl, is))))
+    (Stays-refl old, tt) (λ no. absurd cc) (λ _. inl (inl refl)) (inr (inl (refl, is))))
   where
     wanted : Wanted
     wanted = record { game = false; evidence = false; witness = Some AsSystem; report = Nothing }
@@ -147,7 +148,7 @@ why_told x told is = record {
 }
 
 -- All was written, or a beginning.
-pub reasoned : (x : Findings) (told : Told) (first second : List ℕ) (old new : Option (List ℕ)) (wrote : Result Unit WriteFault) (r : Result Bool MuError)
+pub reasoned : (x : Findings) (told : Told) (first second : List ℕ) (old new : Taken) (wrote : Result Unit WriteFault) (r : Result Bool MuError)
     → AreFindings x → (system_of x).initial < (system_of x).states → AreSpelled first second (system_of x) (formula_of x) → AreTold x told
     → Wrote old new wrote (reasons (formula_of x) (slice_index_or x.marks.items (system_of x).initial false) (remarks_of x told)
     (system_with x.texts.value.system told.play.transitions.items) told.lines.items)
@@ -180,7 +181,7 @@ reasoned x told first second old new (Err fault) r found inside spelled is wrote
     )
 
 -- What was found one way is told of it.
-pub reasons_by_way : (p rule : Priorities) (b board : Option BoardKind) (first second : List ℕ) (old new : Option (List ℕ)) (r : Result Bool MuError)
+pub reasons_by_way : (p rule : Priorities) (b board : Option BoardKind) (first second : List ℕ) (old new : Taken) (r : Result Bool MuError)
     → ◌≡◌ {A = Way} (ByGame p b) (ByGame rule board)
     → TellsReasons p b first second old new r → TellsReasons rule board first second old new r
 reasons_by_way p rule b board first second old new r e h =

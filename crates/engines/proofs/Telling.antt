@@ -1,8 +1,9 @@
 -- What a table finds of a formula, and the line that tells it.
-use Rattle.std.proofs.Common.{◌≡◌, ◌∙◌, ℕ, List, Bool, Some, Ok, Err, inl, inr, refl, ap, subst, sym, arith, take}
+use Rattle.std.proofs.Common.{◌≡◌, ◌∙◌, ℕ, List, Bool, Ok, Err, inl, inr, refl, ap, arith, take}
 use Rattle.std.proofs.lemmas.List.{take_all}
 use Rattle.std.specs.Prelude.{IfOk, IsTrue, Option, Result, MatchResult, if◌then◌else◌}
-use Rattle.std.specs.Io.KnownBytes.{Appends}
+use Rattle.text.specs.Cause.{HasCause}
+use Rattle.text.specs.Taken.{Taken, Adds}
 use Rattle.text.specs.Wrote.{Wrote, WroteFront}
 use Rattle.text.specs.declared.write_loop.WriteFault.{WriteFault}
 use Rattle.systems.specs.System.{System}
@@ -14,7 +15,7 @@ use Rattle.requests.specs.Known.{AreKnown}
 use Rattle.requests.specs.Strict.{IsLookRefusal}
 use Rattle.requests.specs.Texts.{IsFormulaOf, IsReadRefusal, IsReadFault}
 use Rattle.engines.specs.Status.{error_status}
-use Rattle.engines.specs.Table.{HasBegunToTell, HasTold, IsRefused, answer_line, expectation, is_as_expected, refusal_line}
+use Rattle.engines.specs.Table.{HasBegunToTell, HasTold, IsRefused, answer_line, is_as_expected, refusal_line}
 use Rattle.engines.specs.Found.{IsFound}
 use Rattle.engines.specs.declared.table.Found.{Found}
 
@@ -110,10 +111,10 @@ same_status a b c d m e f h =
     h ∙ (ap (λ x. if is_as_expected x c then 0 else 1) e ∙ ap (λ x. if is_as_expected b x then 0 else 1) f)
 
 -- What was found was told.
-pub told : (strict : Bool) (way : Way) (l : System) (name text : List ℕ) (old new : Option (List ℕ)) (x : Found) (states status : ℕ) → IsFound strict way l text x
+pub told : (strict : Bool) (way : Way) (l : System) (can_fail : Bool) (name text : List ℕ) (old new : Taken) (x : Found) (states status : ℕ) → IsFound strict way l text x
     → states ≡ l.states → status ≡ (if is_as_expected x.expected x.answer then 0 else 1)
-    → Appends old new (answer_line name x.expected x.answer x.marked states) → HasTold strict way l name text old new status
-told strict way l name text old new x states status is count came written = record {
+    → Adds old new (answer_line name x.expected x.answer x.marked states) → HasTold strict way l can_fail name text old new status
+told strict way l can_fail name text old new x states status is count came written = record {
   line = answer_line name x.expected x.answer x.marked states;
   is = inl (record {
     f = is.f;
@@ -127,9 +128,9 @@ told strict way l name text old new x states status is count came written = reco
   written = written;
 }
 
-pub begun : (strict : Bool) (way : Way) (l : System) (name text : List ℕ) (old new : Option (List ℕ)) (x : Found) (states : ℕ) → IsFound strict way l text x
-    → states ≡ l.states → WroteFront old new (answer_line name x.expected x.answer x.marked states) → HasBegunToTell strict way l name text old new
-begun strict way l name text old new x states is count written = record {
+pub begun : (strict : Bool) (way : Way) (l : System) (can_fail : Bool) (name text : List ℕ) (old new : Taken) (x : Found) (states : ℕ) → IsFound strict way l text x
+    → states ≡ l.states → WroteFront old new (answer_line name x.expected x.answer x.marked states) → HasBegunToTell strict way l can_fail name text old new
+begun strict way l can_fail name text old new x states is count written = record {
   line = answer_line name x.expected x.answer x.marked states;
   status = if is_as_expected x.expected x.answer then 0 else 1;
   is = inl (record {
@@ -144,33 +145,33 @@ begun strict way l name text old new x states is count written = record {
   begun = written;
 }
 
-pub told_refusal : (strict : Bool) (way : Way) (l : System) (name text : List ℕ) (old new : Option (List ℕ)) (e : MuError) (status : ℕ) → IsRefused strict way l text e
-    → status ≡ error_status e → Appends old new (refusal_line name e) → HasTold strict way l name text old new status
-told_refusal strict way l name text old new e status h came written = record {
+pub told_refusal : (strict : Bool) (way : Way) (l : System) (can_fail : Bool) (name text : List ℕ) (old new : Taken) (e : MuError) (status : ℕ) → IsRefused strict way l text e
+    → HasCause can_fail error.Read e → status ≡ error_status e → Adds old new (refusal_line name e) → HasTold strict way l can_fail name text old new status
+told_refusal strict way l can_fail name text old new e status h cause came written = record {
   line = refusal_line name e;
-  is = inr (record { e = e; refused = h; told = refl; ends = came });
+  is = inr (record { e = e; refused = h; cause = cause; told = refl; ends = came });
   written = written;
 }
 
-pub begun_refusal : (strict : Bool) (way : Way) (l : System) (name text : List ℕ) (old new : Option (List ℕ)) (e : MuError) → IsRefused strict way l text e
-    → WroteFront old new (refusal_line name e) → HasBegunToTell strict way l name text old new
-begun_refusal strict way l name text old new e h written = record {
+pub begun_refusal : (strict : Bool) (way : Way) (l : System) (can_fail : Bool) (name text : List ℕ) (old new : Taken) (e : MuError) → IsRefused strict way l text e
+    → HasCause can_fail error.Read e → WroteFront old new (refusal_line name e) → HasBegunToTell strict way l can_fail name text old new
+begun_refusal strict way l can_fail name text old new e h cause written = record {
   line = refusal_line name e;
   status = error_status e;
-  is = inr (record { e = e; refused = h; told = refl; ends = refl });
+  is = inr (record { e = e; refused = h; cause = cause; told = refl; ends = refl });
   begun = written;
 }
 
 -- What was found was told or begun, and the refusal.
-pub answered : (strict : Bool) (way : Way) (l : System) (name text : List ℕ) (old new : Option (List ℕ)) (x : Found) (states : ℕ) (r : Result ℕ WriteFault)
+pub answered : (strict : Bool) (way : Way) (l : System) (can_fail : Bool) (name text : List ℕ) (old new : Taken) (x : Found) (states : ℕ) (r : Result ℕ WriteFault)
     → IsFound strict way l text x → states ≡ l.states → Wrote old new r (answer_line name x.expected x.answer x.marked states)
     → IfOk r (λ status. status ≡ (if is_as_expected x.expected x.answer then 0 else 1))
-    → MatchResult r (HasTold strict way l name text old new) (λ fault. HasBegunToTell strict way l name text old new)
-answered strict way l name text old new x states (Ok status) is count wrote came = told strict way l name text old new x states status is count came wrote
-answered strict way l name text old new x states (Err fault) is count wrote came = begun strict way l name text old new x states is count wrote
+    → MatchResult r (HasTold strict way l can_fail name text old new) (λ fault. HasBegunToTell strict way l can_fail name text old new)
+answered strict way l can_fail name text old new x states (Ok status) is count wrote came = told strict way l can_fail name text old new x states status is count came wrote
+answered strict way l can_fail name text old new x states (Err fault) is count wrote came = begun strict way l can_fail name text old new x states is count wrote
 
-pub refused : (strict : Bool) (way : Way) (l : System) (name text : List ℕ) (old new : Option (List ℕ)) (e : MuError) (r : Result ℕ WriteFault)
-    → IsRefused strict way l text e → Wrote old new r (refusal_line name e) → IfOk r (λ status. status ≡ error_status e)
-    → MatchResult r (HasTold strict way l name text old new) (λ fault. HasBegunToTell strict way l name text old new)
-refused strict way l name text old new e (Ok status) h wrote came = told_refusal strict way l name text old new e status h came wrote
-refused strict way l name text old new e (Err fault) h wrote came = begun_refusal strict way l name text old new e h wrote
+pub refused : (strict : Bool) (way : Way) (l : System) (can_fail : Bool) (name text : List ℕ) (old new : Taken) (e : MuError) (r : Result ℕ WriteFault)
+    → IsRefused strict way l text e → HasCause can_fail error.Read e → Wrote old new r (refusal_line name e) → IfOk r (λ status. status ≡ error_status e)
+    → MatchResult r (HasTold strict way l can_fail name text old new) (λ fault. HasBegunToTell strict way l can_fail name text old new)
+refused strict way l can_fail name text old new e (Ok status) h cause wrote came = told_refusal strict way l can_fail name text old new e status h cause came wrote
+refused strict way l can_fail name text old new e (Err fault) h cause wrote came = begun_refusal strict way l can_fail name text old new e h cause wrote

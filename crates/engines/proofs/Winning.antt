@@ -11,7 +11,7 @@ use Rattle.normal.specs.Nodes.{Node}
 use Rattle.normal.specs.Rules.{nodes_with}
 use Rattle.normal.specs.Tree.{normal_form}
 use Rattle.game.specs.Game.{Game, IsGame}
-use Rattle.game.specs.Arena.{arena, place, place_in}
+use Rattle.game.specs.Arena.{place_in}
 use Rattle.game.specs.Wins.{OddWins, Wins}
 use Rattle.progress.specs.Laws.{OneWins}
 use Rattle.laws.specs.Admissible.{IsNodes}

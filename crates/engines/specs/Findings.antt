@@ -1,5 +1,5 @@
 -- What a check by a game finds out, and what it makes of that.
-use Rattle.std.specs.Prelude.{◌≡◌, ℕ, ◌≤◌, ◌⊎◌, ◌↔◌, List, Result, Some, IfSome, IsTrue, MatchResult, length, option_map}
+use Rattle.std.specs.Prelude.{◌≡◌, ℕ, ◌⊎◌, ◌↔◌, List, Result, IfSome, IsTrue, MatchResult, length, option_map}
 use Rattle.std.specs.Arc.{arc_value}
 use Rattle.std.specs.Option.{is_some}
 use Rattle.systems.specs.System.{System}
@@ -8,11 +8,9 @@ use Rattle.systems.specs.declared.system.Transition.{Transition}
 use Rattle.calculus.specs.Tree.{Formula}
 use Rattle.calculus.specs.Closed.{closed_formula}
 use Rattle.calculus.specs.Meaning.{Marks}
-use Rattle.normal.specs.declared.limits.TheConstants.{GREATEST_PRIORITY}
-use Rattle.normal.specs.declared.priorities.Priorities.{Priorities}
 use Rattle.normal.specs.Refused.{HasRefusalWith}
 use Rattle.normal.specs.Rules.{nodes_with}
-use Rattle.game.specs.Game.{Game, greatest}
+use Rattle.game.specs.Game.{Game}
 use Rattle.game.specs.Wins.{OddWins, Wins}
 use Rattle.evidence.specs.Best.{IsEvenOf, IsOddOf}
 use Rattle.evidence.specs.Evidence.{IsGood, has}
@@ -36,7 +34,7 @@ use Rattle.engines.specs.declared.beside.FoundBeside.{FoundBeside}
 use Rattle.engines.specs.declared.findings.Findings.{Findings}
 use Rattle.engines.specs.declared.findings.Posed.{Posed}
 use Rattle.certify.specs.declared.pair.EvidencePair.{EvidencePair}
-use Rattle.requests.specs.Check.{Way, ByGame, HasGame, AreMarks, IsArenaOf, IsTextOf, game_of}
+use Rattle.requests.specs.Check.{Way, ByGame, AreMarks, IsArenaOf, IsTextOf}
 use Rattle.requests.specs.Report.{report_in}
 use Rattle.requests.specs.Solver.{IsFitting}
 use Rattle.requests.specs.Writers.{Kind}

@@ -1,6 +1,6 @@
 -- What is told of why the initial state satisfies a formula, or doesn't.
-use Rattle.std.specs.Prelude.{◌≡◌, ℕ, ◌↔◌, Bool, List, [], ◌∷◌, ◌++◌, Option, Some, Result, MatchResult, IsTrue}
-use Rattle.std.specs.Io.KnownBytes.{Appends}
+use Rattle.std.specs.Prelude.{◌≡◌, ℕ, ◌↔◌, Bool, List, [], ◌∷◌, ◌++◌, Option, Result, MatchResult, IsTrue}
+use Rattle.text.specs.Taken.{Taken, Adds}
 use Rattle.text.specs.Wrote.{WroteFront}
 use Rattle.systems.specs.System.{System}
 use Rattle.systems.specs.Numbered.{system_with}
@@ -52,13 +52,13 @@ pub record HasReasons (rule : Priorities) (board : Option BoardKind) (first seco
   pub written : Writes text
 
 -- A refusal is that of a check that writes a witness: nothing was written. After a write fault a beginning of the text was, and some of it was not.
-abbrev pub HasNoReasons : Priorities → Option BoardKind → (first second : List ℕ) → (old new : Option (List ℕ)) → MuError → Type 0
+abbrev pub HasNoReasons : Priorities → Option BoardKind → (first second : List ℕ) → (old new : Taken) → MuError → Type 0
 HasNoReasons rule board first second old new (error.Write fault) = (answer : Bool) × HasReasons rule board first second answer (WroteFront old new)
 HasNoReasons rule board first second old new e = HasRefused (ByGame rule board) first second (lent_for WitnessText old new ∷ []) e
 
-abbrev pub TellsReasons : Priorities → Option BoardKind → (first second : List ℕ) → (old new : Option (List ℕ)) → Result Bool MuError → Type 0
+abbrev pub TellsReasons : Priorities → Option BoardKind → (first second : List ℕ) → (old new : Taken) → Result Bool MuError → Type 0
 TellsReasons rule board first second old new result =
-    MatchResult result (λ answer. HasReasons rule board first second answer (Appends old new)) (HasNoReasons rule board first second old new)
+    MatchResult result (λ answer. HasReasons rule board first second answer (Adds old new)) (HasNoReasons rule board first second old new)
 
 -- The play is that of a witness, and the lines tell its transitions.
 pub record AreTold (x : Findings) (told : Told) : Type 0 where

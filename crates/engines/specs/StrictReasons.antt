@@ -1,6 +1,6 @@
 -- What is told of why the initial state satisfies a formula, or doesn't, where the words of the formula may be asked about.
 use Rattle.std.specs.Prelude.{◌≡◌, ◌⊎◌, ℕ, Bool, List, [], ◌∷◌, Option, Some, Result, MatchResult, IsTrue}
-use Rattle.std.specs.Io.KnownBytes.{Appends}
+use Rattle.text.specs.Taken.{Taken, Adds}
 use Rattle.normal.specs.declared.priorities.Priorities.{Priorities}
 use Rattle.workers.specs.declared.team.BoardKind.{BoardKind}
 use Rattle.requests.specs.declared.error.MuError.{MuError}
@@ -9,19 +9,19 @@ use Rattle.requests.specs.Writers.{WitnessText, lent_for}
 use Rattle.engines.specs.Reasons.{HasNoReasons, HasReasons}
 
 -- A strict one is refused for a word, or otherwise while the texts are read, or where it has none that could be refused.
-abbrev pub HasNoReasonsBy : (strict : Bool) → Priorities → Option BoardKind → (first second : List ℕ) → (old new : Option (List ℕ)) → MuError → Type 0
+abbrev pub HasNoReasonsBy : (strict : Bool) → Priorities → Option BoardKind → (first second : List ℕ) → (old new : Taken) → MuError → Type 0
 HasNoReasonsBy strict rule board first second old new e =
     (HasNoReasons rule board first second old new e × (IsTrue strict → IsUnread e ⊎ KnowsWords first second))
     ⊎ IsWordRefusal strict first second (lent_for WitnessText old new ∷ []) e
 
 -- A strict one tells where each word of the formula is on a transition.
-abbrev pub TellsReasonsBy : (strict : Bool) → Priorities → Option BoardKind → (first second : List ℕ) → (old new : Option (List ℕ)) → Result Bool MuError
+abbrev pub TellsReasonsBy : (strict : Bool) → Priorities → Option BoardKind → (first second : List ℕ) → (old new : Taken) → Result Bool MuError
     → Type 0
 TellsReasonsBy strict rule board first second old new result =
-    MatchResult result (λ answer. HasReasons rule board first second answer (Appends old new) × (IsTrue strict → KnowsWords first second))
+    MatchResult result (λ answer. HasReasons rule board first second answer (Adds old new) × (IsTrue strict → KnowsWords first second))
     (HasNoReasonsBy strict rule board first second old new)
 
 -- The theorem: of what the readers had left, where they tell it, and of what the writer held before and after.
-abbrev pub TellsWhyBy : (strict : Bool) → Priorities → Option BoardKind → (aut formula old new : Option (List ℕ)) → Result Bool MuError → Type 0
+abbrev pub TellsWhyBy : (strict : Bool) → Priorities → Option BoardKind → (aut formula : Option (List ℕ)) → (old new : Taken) → Result Bool MuError → Type 0
 TellsWhyBy strict rule board aut formula old new result =
     (first second : List ℕ) → aut ≡ Some first → formula ≡ Some second → TellsReasonsBy strict rule board first second old new result

@@ -2,14 +2,14 @@
 use Rattle.std.specs.Prelude.{◌≡◌, ℕ, ◌||◌, ◌&&◌, ◌==◌, nat_eq, Bool, true, false, not, List, [], ◌∷◌, ◌++◌, ◌⊎◌, length, drop, count_by, codes}
 use Rattle.std.specs.Prelude.{decimal, Option, Some, None, Result, MatchResult, if◌then◌else◌}
 use Rattle.std.specs.List.{slice_index_or, starts_with}
-use Rattle.std.specs.Io.KnownBytes.{Appends}
+use Rattle.text.specs.Cause.{HasCause}
+use Rattle.text.specs.Taken.{Taken, Adds}
 use Rattle.text.specs.Tokens.{past_blanks}
 use Rattle.text.specs.Wrote.{WroteFront}
 use Rattle.text.specs.declared.write_loop.WriteFault.{WriteFault}
 use Rattle.systems.specs.System.{System}
 use Rattle.calculus.specs.Tree.{Formula}
 use Rattle.formula.specs.Checked.{IsTold}
-use Rattle.formula.specs.declared.error.FormulaError.{FormulaError}
 use Rattle.formula.specs.declared.error.FormulaError.TheVariants as formula
 use Rattle.formula.specs.declared.error.FormulaFault.{FormulaFault}
 use Rattle.formula.specs.declared.error.FormulaFault.TheVariants as fault
@@ -127,31 +127,32 @@ pub record IsAnswer (strict : Bool) (way : Way) (l : System) (name text line : L
   pub told : line ≡ answer_line name (expectation text) (slice_index_or marks l.initial false) (count_by (λ mark. mark) marks) l.states
   pub ends : status ≡ (if is_as_expected (expectation text) (slice_index_or marks l.initial false) then 0 else 1)
 
--- The line has the refusal.
-pub record IsRefusal (strict : Bool) (way : Way) (l : System) (name text line : List ℕ) (status : ℕ) : Type 0 where
+-- The line has the refusal. That a read of the formula failed is told where one can fail.
+pub record IsRefusal (strict : Bool) (way : Way) (l : System) (can_fail : Bool) (name text line : List ℕ) (status : ℕ) : Type 0 where
   pub e : MuError
   pub refused : IsRefused strict way l text e
+  pub cause : HasCause can_fail error.Read e
   pub told : line ≡ refusal_line name e
   pub ends : status ≡ error_status e
 
 -- the line of a formula's text, and its status
-abbrev pub IsLine : (strict : Bool) → Way → System → (name text line : List ℕ) → (status : ℕ) → Type 0
-IsLine strict way l name text line status = IsAnswer strict way l name text line status ⊎ IsRefusal strict way l name text line status
+abbrev pub IsLine : (strict : Bool) → Way → System → (can_fail : Bool) → (name text line : List ℕ) → (status : ℕ) → Type 0
+IsLine strict way l can_fail name text line status = IsAnswer strict way l name text line status ⊎ IsRefusal strict way l can_fail name text line status
 
 -- such a line was written whole
-pub record HasTold (strict : Bool) (way : Way) (l : System) (name text : List ℕ) (old new : Option (List ℕ)) (status : ℕ) : Type 0 where
+pub record HasTold (strict : Bool) (way : Way) (l : System) (can_fail : Bool) (name text : List ℕ) (old new : Taken) (status : ℕ) : Type 0 where
   pub line : List ℕ
-  pub is : IsLine strict way l name text line status
-  pub written : Appends old new line
+  pub is : IsLine strict way l can_fail name text line status
+  pub written : Adds old new line
 
 -- a beginning of it was written
-pub record HasBegunToTell (strict : Bool) (way : Way) (l : System) (name text : List ℕ) (old new : Option (List ℕ)) : Type 0 where
+pub record HasBegunToTell (strict : Bool) (way : Way) (l : System) (can_fail : Bool) (name text : List ℕ) (old new : Taken) : Type 0 where
   pub line : List ℕ
   pub status : ℕ
-  pub is : IsLine strict way l name text line status
+  pub is : IsLine strict way l can_fail name text line status
   pub begun : WroteFront old new line
 
 -- what a call for a line says of the formula's reader and of the writer
-abbrev pub Tells : (strict : Bool) → Way → System → (name : List ℕ) → (formula old new : Option (List ℕ)) → Result ℕ WriteFault → Type 0
-Tells strict way l name formula old new result = (text : List ℕ) → formula ≡ Some text
-    → MatchResult result (HasTold strict way l name text old new) (λ fault. HasBegunToTell strict way l name text old new)
+abbrev pub Tells : (strict : Bool) → Way → System → (can_fail : Bool) → (name : List ℕ) → (formula : Option (List ℕ)) → (old new : Taken) → Result ℕ WriteFault → Type 0
+Tells strict way l can_fail name formula old new result = (text : List ℕ) → formula ≡ Some text
+    → MatchResult result (HasTold strict way l can_fail name text old new) (λ fault. HasBegunToTell strict way l can_fail name text old new)

@@ -1,8 +1,9 @@
 // The engines: from both texts to the report.
 
-ghost use Rattle.std.specs.Prelude.{◌≡◌, ◌∷◌, ◌++◌, [], ℕ, List, None, Some, IfErr, IfOk, IsTrue, MatchResult};
+ghost use Rattle.std.specs.Prelude.{◌≡◌, ◌∷◌, ◌++◌, [], ℕ, false, List, None, Some, IfErr, IfOk, IsTrue, MatchResult};
 ghost use Rattle.calculus.specs.Closed.{closed_formula};
 ghost use Rattle.requests.specs.declared.request.ReportForm.TheVariants.{Whole};
+ghost use Rattle.requests.specs.Causes.{HaveCauses};
 ghost use Rattle.requests.specs.Check.{Way, BySets, ByGame, AreMarks, AreSpelled, Answers, Checks, IsBeyond, IsErrorOf};
 ghost use Rattle.requests.specs.Command.{wanted_in, way_of};
 ghost use Rattle.requests.specs.Strict.{ChecksBy};
@@ -24,9 +25,10 @@ use requests::texts::{Texts, read_asked, read_both};
 use requests::watch::Watcher;
 use requests::writers::{EvidenceWriters, Writers};
 use std::alloc::Global;
-use std::io::{Read, Write};
 use std::sync::Wait;
 use std::thread::Threads;
+use text::sink::Sink;
+use text::source::Source;
 use workers::gate::{Gate, NoGate};
 
 /// The report and no other text.
@@ -112,14 +114,15 @@ macro_rules! answer_lent {
 ///
 /// # Errors
 /// Those of the readers, unchanged; U3 where a read of the formula failed, U4 for memory in the engine, W1 in the report.
-pub fn check_plain<R: Read + Drop, S: Read + Drop, W: Write>(
+pub fn check_plain<R: Source + Drop, S: Source + Drop, W: Sink>(
     alloc: Global,
     aut: R,
     formula: S,
     out: &mut W,
 ) -> Result<bool, MuError>
-    ensures checks { Checks BySets (R.remaining aut) (S.remaining formula) (report_writer Whole (W.contents out.old) (W.contents out.new)) result }
+    ensures checks { Checks BySets (R.remaining aut) (S.remaining formula) (report_writer Whole (W.taken out.old) (W.taken out.new)) result }
     ensures plain { IfErr result (IsErrorOf BySets) }
+    ensures cause { IfErr result (HaveCauses R.can_fail S.can_fail) }
 {
     match read_both(alloc, aut, formula) {
         Ok(texts) => report_plain(alloc, &texts, ReportForm::Whole, out, &Silent),
@@ -128,7 +131,7 @@ pub fn check_plain<R: Read + Drop, S: Read + Drop, W: Write>(
 }
 
 /// Checks by sets of states what was read, and writes the report.
-fn report_plain<W: Write, U: Watcher>(
+fn report_plain<W: Sink, U: Watcher>(
     alloc: Global,
     texts: &Texts,
     form: ReportForm,
@@ -136,8 +139,9 @@ fn report_plain<W: Write, U: Watcher>(
     watcher: &U,
 ) -> Result<bool, MuError>
     ensures answers { (first second : List ℕ) → AreSpelled first second texts.now.system.system (closed_formula texts.now.formula)
-        → Answers BySets first second (report_writer form (W.contents out.old) (W.contents out.new)) result }
+        → Answers BySets first second (report_writer form (W.taken out.old) (W.taken out.new)) result }
     ensures plain { IfErr result (IsErrorOf BySets) }
+    ensures cause { IfErr result (HaveCauses false false) }
 {
     watcher.sees(Stage::Evaluating {
         states: texts.system.states(),
@@ -148,7 +152,7 @@ fn report_plain<W: Write, U: Watcher>(
 }
 
 /// Writes the report with these marks, whichever way they were found, and answers the initial state's mark.
-fn report<W: Write>(
+fn report<W: Sink>(
     alloc: Global,
     texts: &Texts,
     marks: Result<Vec<bool>, MuError>,
@@ -159,9 +163,10 @@ fn report<W: Write>(
         (way : Way) × MatchResult marks (λ marks. AreMarks way l f marks.items) (IsBeyond way l f) }
     ensures answers { let l = texts.now.system.system in let f = closed_formula texts.now.formula in
         (way : Way) (first second : List ℕ) → MatchResult marks (λ marks. AreMarks way l f marks.items) (IsBeyond way l f)
-        → AreSpelled first second l f → Answers way first second (report_writer form (W.contents out.old) (W.contents out.new)) result }
+        → AreSpelled first second l f → Answers way first second (report_writer form (W.taken out.old) (W.taken out.new)) result }
     ensures errors { let l = texts.now.system.system in let f = closed_formula texts.now.formula in
         (way : Way) → MatchResult marks (λ marks. AreMarks way l f marks.items) (IsBeyond way l f) → IfErr result (IsErrorOf way) }
+    ensures cause { IfErr result (HaveCauses false false) }
 {
     let marks = marks?;
     let initial = texts.system.initial() as usize;
@@ -181,13 +186,13 @@ fn report<W: Write>(
 /// # Errors
 /// Those of `check_plain`, or of `check`; L1 where it is strict. E5 and N3 also for want of memory where a witness is made.
 pub fn check_asked<
-    R: Read + Drop,
-    S: Read + Drop,
-    G: Write,
-    E: Write,
-    O: Write,
-    V: Write,
-    W: Write,
+    R: Source + Drop,
+    S: Source + Drop,
+    G: Sink,
+    E: Sink,
+    O: Sink,
+    V: Sink,
+    W: Sink,
     U: Watcher + Sync,
     H: Threads + Wait + Clone + Copy + Drop + Send + Sync,
 >(
@@ -200,8 +205,9 @@ pub fn check_asked<
     writers: &mut Writers<G, E, O, V, W>,
     watcher: &U,
 ) -> Result<bool, MuError>
-    ensures { ChecksBy request.now.strict (way_of request.now) (R.remaining aut) (S.remaining formula)
-        (lent_writers G.contents E.contents O.contents V.contents W.contents (wanted_in request.now wanted) writers.old writers.new) result }
+    ensures checks { ChecksBy request.now.strict (way_of request.now) (R.remaining aut) (S.remaining formula)
+        (lent_writers G.taken E.taken O.taken V.taken W.taken (wanted_in request.now wanted) writers.old writers.new) result }
+    ensures cause { IfErr result (HaveCauses R.can_fail S.can_fail) }
 {
     match read_asked(alloc, aut, formula, request.strict, watcher) {
         Ok(texts) => check_read(rt, alloc, request, wanted, texts, writers, watcher),
@@ -211,11 +217,11 @@ pub fn check_asked<
 
 /// Checks what was read, as a command asks for it.
 fn check_read<
-    G: Write,
-    E: Write,
-    O: Write,
-    V: Write,
-    W: Write,
+    G: Sink,
+    E: Sink,
+    O: Sink,
+    V: Sink,
+    W: Sink,
     U: Watcher + Sync,
     H: Threads + Wait + Clone + Copy + Drop + Send + Sync,
 >(
@@ -227,9 +233,10 @@ fn check_read<
     writers: &mut Writers<G, E, O, V, W>,
     watcher: &U,
 ) -> Result<bool, MuError>
-    ensures { (first second : List ℕ) → AreSpelled first second texts.system.system (closed_formula texts.formula)
+    ensures answers { (first second : List ℕ) → AreSpelled first second texts.system.system (closed_formula texts.formula)
         → Answers (way_of request.now) first second
-        (lent_writers G.contents E.contents O.contents V.contents W.contents (wanted_in request.now wanted) writers.old writers.new) result }
+        (lent_writers G.taken E.taken O.taken V.taken W.taken (wanted_in request.now wanted) writers.old writers.new) result }
+    ensures cause { IfErr result (HaveCauses false false) }
 {
     if request.plain {
         return report_plain(alloc, &texts, wanted.report, &mut writers.report, watcher);
@@ -247,12 +254,12 @@ fn check_read<
 /// Those of `check_one`; T1 where the packed board is asked for and the rank of top doesn't fit a word, and only there; T2 and V1
 /// for memory of the board and of the workers' table.
 pub fn check<
-    R: Read + Drop,
-    S: Read + Drop,
-    W: Write,
-    G: Write,
-    E: Write,
-    O: Write,
+    R: Source + Drop,
+    S: Source + Drop,
+    W: Sink,
+    G: Sink,
+    E: Sink,
+    O: Sink,
     H: Threads + Wait + Clone + Copy + Drop + Send + Sync,
 >(
     rt: &H,
@@ -264,9 +271,10 @@ pub fn check<
     game: Option<&mut G>,
     evidence: EvidenceWriters<'_, E, O>,
 ) -> Result<bool, MuError>
-    ensures { Checks (ByGame options.now.priorities (Some options.now.board)) (R.remaining aut) (S.remaining formula)
-        (game_writer G.contents game.entry game.exit ++ (evidence_writers E.contents O.contents evidence.entry evidence.exit
-        ++ (no_writer ∷ report_writer Whole (W.contents out.old) (W.contents out.new)))) result }
+    ensures checks { Checks (ByGame options.now.priorities (Some options.now.board)) (R.remaining aut) (S.remaining formula)
+        (game_writer G.taken game.entry game.exit ++ (evidence_writers E.taken O.taken evidence.entry evidence.exit
+        ++ (no_writer ∷ report_writer Whole (W.taken out.old) (W.taken out.new)))) result }
+    ensures cause { IfErr result (HaveCauses R.can_fail S.can_fail) }
 {
     let found = match find_with(rt, alloc, aut, formula, options, &NoGate) {
         Ok(found) => found,
@@ -280,12 +288,12 @@ pub fn check<
 /// # Errors
 /// Those of `check`.
 pub fn check_gated<
-    R: Read + Drop,
-    S: Read + Drop,
-    W: Write,
-    G: Write,
-    E: Write,
-    O: Write,
+    R: Source + Drop,
+    S: Source + Drop,
+    W: Sink,
+    G: Sink,
+    E: Sink,
+    O: Sink,
     T: Gate + Sync,
     H: Threads + Wait + Clone + Copy + Drop + Send + Sync,
 >(
@@ -299,9 +307,10 @@ pub fn check_gated<
     evidence: EvidenceWriters<'_, E, O>,
     gate: &T,
 ) -> Result<bool, MuError>
-    ensures { Checks (ByGame options.now.priorities (Some options.now.board)) (R.remaining aut) (S.remaining formula)
-        (game_writer G.contents game.entry game.exit ++ (evidence_writers E.contents O.contents evidence.entry evidence.exit
-        ++ (no_writer ∷ report_writer Whole (W.contents out.old) (W.contents out.new)))) result }
+    ensures checks { Checks (ByGame options.now.priorities (Some options.now.board)) (R.remaining aut) (S.remaining formula)
+        (game_writer G.taken game.entry game.exit ++ (evidence_writers E.taken O.taken evidence.entry evidence.exit
+        ++ (no_writer ∷ report_writer Whole (W.taken out.old) (W.taken out.new)))) result }
+    ensures cause { IfErr result (HaveCauses R.can_fail S.can_fail) }
 {
     let found = match find_with(rt, alloc, aut, formula, options, gate) {
         Ok(found) => found,
@@ -312,11 +321,11 @@ pub fn check_gated<
 
 /// Checks by a game what was read, and writes what is wanted.
 fn check_by_game<
-    G: Write,
-    E: Write,
-    O: Write,
-    V: Write,
-    W: Write,
+    G: Sink,
+    E: Sink,
+    O: Sink,
+    V: Sink,
+    W: Sink,
     U: Watcher + Sync,
     H: Threads + Wait + Clone + Copy + Drop + Send + Sync,
 >(
@@ -328,9 +337,10 @@ fn check_by_game<
     writers: &mut Writers<G, E, O, V, W>,
     watcher: &U,
 ) -> Result<bool, MuError>
-    ensures { (first second : List ℕ) → AreSpelled first second texts.system.system (closed_formula texts.formula)
+    ensures answers { (first second : List ℕ) → AreSpelled first second texts.system.system (closed_formula texts.formula)
         → Answers (ByGame options.now.priorities (Some options.now.board)) first second
-        (lent_writers G.contents E.contents O.contents V.contents W.contents wanted writers.old writers.new) result }
+        (lent_writers G.taken E.taken O.taken V.taken W.taken wanted writers.old writers.new) result }
+    ensures cause { IfErr result (HaveCauses false false) }
 {
     if wanted.is_nothing() {
         let out = &mut writers.report;
@@ -350,7 +360,7 @@ fn check_by_game<
 /// Checks by a game what was read, and writes the report alone, for which it is enough to know who wins. Where a guess says it, and is good, no
 /// worker lifts.
 fn report_by_game<
-    W: Write,
+    W: Sink,
     U: Watcher + Sync,
     H: Threads + Wait + Clone + Copy + Drop + Send + Sync,
 >(
@@ -362,9 +372,10 @@ fn report_by_game<
     out: &mut W,
     watcher: &U,
 ) -> Result<bool, MuError>
-    ensures { (first second : List ℕ) → AreSpelled first second texts.now.system.system (closed_formula texts.now.formula)
+    ensures answers { (first second : List ℕ) → AreSpelled first second texts.now.system.system (closed_formula texts.now.formula)
         → Answers (ByGame options.now.priorities (Some options.now.board)) first second
-        (report_writer form (W.contents out.old) (W.contents out.new)) result }
+        (report_writer form (W.taken out.old) (W.taken out.new)) result }
+    ensures cause { IfErr result (HaveCauses false false) }
 {
     let marks = game_marks(rt, alloc, &texts.system, &texts.formula, options, watcher);
     watcher.sees(Stage::Writing);
@@ -377,12 +388,12 @@ fn report_by_game<
 /// Those of the readers, of the normal form and of the game, unchanged; E5 for memory in evidence; U3 where a read of the
 /// formula failed, U4 for memory in the engine. W1 where a write failed: the texts before it are whole, those after it empty.
 pub fn check_one<
-    R: Read + Drop,
-    S: Read + Drop,
-    W: Write,
-    G: Write,
-    E: Write,
-    O: Write,
+    R: Source + Drop,
+    S: Source + Drop,
+    W: Sink,
+    G: Sink,
+    E: Sink,
+    O: Sink,
     H: Threads + Sync,
 >(
     rt: &H,
@@ -394,9 +405,10 @@ pub fn check_one<
     game: Option<&mut G>,
     evidence: EvidenceWriters<'_, E, O>,
 ) -> Result<bool, MuError>
-    ensures { Checks (ByGame options.now.priorities None) (R.remaining aut) (S.remaining formula)
-        (game_writer G.contents game.entry game.exit ++ (evidence_writers E.contents O.contents evidence.entry evidence.exit
-        ++ (no_writer ∷ report_writer Whole (W.contents out.old) (W.contents out.new)))) result }
+    ensures checks { Checks (ByGame options.now.priorities None) (R.remaining aut) (S.remaining formula)
+        (game_writer G.taken game.entry game.exit ++ (evidence_writers E.taken O.taken evidence.entry evidence.exit
+        ++ (no_writer ∷ report_writer Whole (W.taken out.old) (W.taken out.new)))) result }
+    ensures cause { IfErr result (HaveCauses R.can_fail S.can_fail) }
 {
     let found = match find_alone(rt, alloc, aut, formula, options.priorities) {
         Ok(found) => found,
@@ -406,7 +418,7 @@ pub fn check_one<
 }
 
 /// Writes what is wanted, and answers.
-fn answer_wanted<G: Write, E: Write, O: Write, V: Write, W: Write>(
+fn answer_wanted<G: Sink, E: Sink, O: Sink, V: Sink, W: Sink>(
     alloc: Global,
     found: &Findings,
     wanted: Wanted,
@@ -417,10 +429,11 @@ fn answer_wanted<G: Write, E: Write, O: Write, V: Write, W: Write>(
     out: &mut W,
 ) -> Result<bool, MuError>
     requires { AreFindings found.now }
-    ensures { (first second : List ℕ) → AreSpelled first second (system_of found.now) (formula_of found.now)
-        → Answers (way_in found.now) first second (all_writers wanted (G.contents game.old) (G.contents game.new)
-        (E.contents even.old) (E.contents even.new) (O.contents odd.old) (O.contents odd.new) (V.contents witness.old) (V.contents witness.new)
-        (W.contents out.old) (W.contents out.new)) result }
+    ensures answers { (first second : List ℕ) → AreSpelled first second (system_of found.now) (formula_of found.now)
+        → Answers (way_in found.now) first second (all_writers wanted (G.taken game.old) (G.taken game.new)
+        (E.taken even.old) (E.taken even.new) (O.taken odd.old) (O.taken odd.new) (V.taken witness.old) (V.taken witness.new)
+        (W.taken out.old) (W.taken out.new)) result }
+    ensures cause { IfErr result (HaveCauses false false) }
 {
     match prepare(alloc, found, wanted, None) {
         Ok(prepared) => {
@@ -441,7 +454,7 @@ fn tell_making<U: Watcher>(found: &Findings, wanted: Wanted, watcher: &U) {
 }
 
 /// The same to all writers, where what is wanted was made, or couldn't be.
-fn answer_prepared<G: Write, E: Write, O: Write, V: Write, W: Write>(
+fn answer_prepared<G: Sink, E: Sink, O: Sink, V: Sink, W: Sink>(
     found: &Findings,
     prepared: Result<Prepared, MuError>,
     wanted: Wanted,
@@ -451,9 +464,10 @@ fn answer_prepared<G: Write, E: Write, O: Write, V: Write, W: Write>(
     requires prepared { IfOk prepared (ArePrepared found.now) }
     requires wanted { IfOk prepared (λ prepared. prepared.wanted ≡ wanted) }
     requires refusal { IfErr prepared (IsUnprepared found.now wanted) }
-    ensures { (first second : List ℕ) → AreSpelled first second (system_of found.now) (formula_of found.now)
+    ensures answers { (first second : List ℕ) → AreSpelled first second (system_of found.now) (formula_of found.now)
         → Answers (way_in found.now) first second
-        (lent_writers G.contents E.contents O.contents V.contents W.contents wanted writers.old writers.new) result }
+        (lent_writers G.taken E.taken O.taken V.taken W.taken wanted writers.old writers.new) result }
+    ensures cause { IfErr result (HaveCauses false false) }
 {
     match prepared {
         Ok(prepared) => {

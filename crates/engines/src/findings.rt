@@ -7,6 +7,7 @@ ghost use Rattle.game.specs.Wins.{OddWins};
 ghost use Rattle.evidence.specs.Best.{IsOddOf};
 ghost use Rattle.evidence.specs.Evidence.{IsGood, has};
 ghost use Rattle.workers.specs.declared.team.BoardKind.{BoardKind};
+ghost use Rattle.requests.specs.Causes.{HaveCauses};
 ghost use Rattle.requests.specs.Check.{ByGame, AreSpelled, HasRefused, IsBeyond};
 ghost use Rattle.engines.specs.Findings.{AreFindings, ArePosed, formula_of, system_of, way_in};
 ghost use Rattle.requests.specs.Solver.{IsFitting, IsUnsolved};
@@ -29,10 +30,10 @@ use requests::solver::solve_seen;
 use requests::texts::{Texts, read_both};
 use requests::watch::Watcher;
 use std::alloc::Global;
-use std::io::Read;
 use std::sync::{Arc, Wait};
 use std::thread::Threads;
 use text::Memory;
+use text::source::Source;
 use workers::gate::{Gate, NoGate};
 use workers::team::BoardKind;
 
@@ -66,7 +67,7 @@ pub struct Posed {
 /// # Errors
 /// Those of the readers, of the normal form and of the game, unchanged; U3 where a read of the formula failed, U4 for memory
 /// in the engine.
-pub fn find_alone<R: Read + Drop, S: Read + Drop, H: Threads + Sync>(
+pub fn find_alone<R: Source + Drop, S: Source + Drop, H: Threads + Sync>(
     rt: &H,
     alloc: Global,
     aut: R,
@@ -79,6 +80,7 @@ pub fn find_alone<R: Read + Drop, S: Read + Drop, H: Threads + Sync>(
         → IfOk result (λ found. AreSpelled first second (system_of found) (formula_of found)) }
     ensures refusal { (first second : List ℕ) → R.remaining aut ≡ Some first → S.remaining formula ≡ Some second
         → (writers : List Lent) → AreKept writers → IfErr result (HasRefused (ByGame priorities None) first second writers) }
+    ensures cause { IfErr result (HaveCauses R.can_fail S.can_fail) }
 {
     match read_and_build(rt, alloc, aut, formula, priorities) {
         Ok(posed) => find_by_one(alloc, posed),
@@ -92,8 +94,8 @@ pub fn find_alone<R: Read + Drop, S: Read + Drop, H: Threads + Sync>(
 /// # Errors
 /// Those of `find_alone`, and those of the board and of the workers' table: T1 where the packed board can't be had, and only there.
 pub fn find_with<
-    R: Read + Drop,
-    S: Read + Drop,
+    R: Source + Drop,
+    S: Source + Drop,
     T: Gate + Sync,
     H: Threads + Wait + Clone + Copy + Drop + Send + Sync,
 >(
@@ -110,6 +112,7 @@ pub fn find_with<
         → IfOk result (λ found. AreSpelled first second (system_of found) (formula_of found)) }
     ensures refusal { (first second : List ℕ) → R.remaining aut ≡ Some first → S.remaining formula ≡ Some second
         → (writers : List Lent) → AreKept writers → IfErr result (HasRefused (ByGame options.now.priorities (Some options.now.board)) first second writers) }
+    ensures cause { IfErr result (HaveCauses R.can_fail S.can_fail) }
 {
     match read_and_build(rt, alloc, aut, formula, options.priorities) {
         Ok(posed) => {
@@ -166,7 +169,7 @@ fn find_boxed<O: Watcher + Sync, H: Threads + Wait + Clone + Copy + Drop + Send 
 }
 
 /// Reads both texts, and makes their game.
-fn read_and_build<R: Read + Drop, S: Read + Drop, H: Threads + Sync>(
+fn read_and_build<R: Source + Drop, S: Source + Drop, H: Threads + Sync>(
     rt: &H,
     alloc: Global,
     aut: R,
@@ -179,6 +182,7 @@ fn read_and_build<R: Read + Drop, S: Read + Drop, H: Threads + Sync>(
         → IfOk result (λ posed. AreSpelled first second posed.texts.value.system.system (closed_formula posed.texts.value.formula)) }
     ensures refusal { (first second : List ℕ) → R.remaining aut ≡ Some first → S.remaining formula ≡ Some second
         → (board : Option BoardKind) (writers : List Lent) → AreKept writers → IfErr result (HasRefused (ByGame priorities board) first second writers) }
+    ensures cause { IfErr result (HaveCauses R.can_fail S.can_fail) }
 {
     match read_both(alloc, aut, formula) {
         Ok(texts) => match Box::new(alloc, texts) {

@@ -12,11 +12,11 @@ use lts::{WriteFault, put};
 use pgsolver::writer::write_game;
 use requests::error::MuError;
 use requests::request::WitnessForm;
-use std::io::Write;
+use text::sink::Sink;
 use witness::drawing::write_drawing;
 
 /// Writes the texts that are wanted, and then the report.
-pub fn put_wanted<G: Write, E: Write, O: Write, V: Write, W: Write>(
+pub fn put_wanted<G: Sink, E: Sink, O: Sink, V: Sink, W: Sink>(
     found: &Findings,
     prepared: &Prepared,
     game: &mut G,
@@ -27,9 +27,9 @@ pub fn put_wanted<G: Write, E: Write, O: Write, V: Write, W: Write>(
 ) -> Result<(), WriteFault>
     requires found { AreFindings found.now }
     requires prepared { ArePrepared found.now prepared.now }
-    ensures { AreWritten (IsTextFound found.now) (all_writers prepared.now.wanted (G.contents game.old) (G.contents game.new)
-        (E.contents even.old) (E.contents even.new) (O.contents odd.old) (O.contents odd.new) (V.contents witness.old) (V.contents witness.new)
-        (W.contents out.old) (W.contents out.new)) result }
+    ensures { AreWritten (IsTextFound found.now) (all_writers prepared.now.wanted (G.taken game.old) (G.taken game.new)
+        (E.taken even.old) (E.taken even.new) (O.taken odd.old) (O.taken odd.new) (V.taken witness.old) (V.taken witness.new)
+        (W.taken out.old) (W.taken out.new)) result }
 {
     if prepared.wanted.game {
         write_game(&found.solution.game, game)?;
@@ -38,7 +38,7 @@ pub fn put_wanted<G: Write, E: Write, O: Write, V: Write, W: Write>(
 }
 
 /// Writes the texts that are wanted from the evidence on, and the report.
-fn put_after_game<E: Write, O: Write, V: Write, W: Write>(
+fn put_after_game<E: Sink, O: Sink, V: Sink, W: Sink>(
     found: &Findings,
     prepared: &Prepared,
     even: &mut E,
@@ -48,10 +48,10 @@ fn put_after_game<E: Write, O: Write, V: Write, W: Write>(
 ) -> Result<(), WriteFault>
     requires found { AreFindings found.now }
     requires prepared { ArePrepared found.now prepared.now }
-    ensures { AreWritten (IsTextFound found.now) (lent_for (kind_where prepared.now.wanted.evidence EvenText) (E.contents even.old) (E.contents even.new)
-        ∷ (lent_for (kind_where prepared.now.wanted.evidence OddText) (O.contents odd.old) (O.contents odd.new)
-        ∷ (lent_for (witness_kind prepared.now.wanted.witness) (V.contents witness.old) (V.contents witness.new)
-        ∷ report_writer prepared.now.wanted.report (W.contents out.old) (W.contents out.new)))) result }
+    ensures { AreWritten (IsTextFound found.now) (lent_for (kind_where prepared.now.wanted.evidence EvenText) (E.taken even.old) (E.taken even.new)
+        ∷ (lent_for (kind_where prepared.now.wanted.evidence OddText) (O.taken odd.old) (O.taken odd.new)
+        ∷ (lent_for (witness_kind prepared.now.wanted.witness) (V.taken witness.old) (V.taken witness.new)
+        ∷ report_writer prepared.now.wanted.report (W.taken out.old) (W.taken out.new)))) result }
 {
     match &prepared.pair {
         Some(pair) => {
@@ -64,7 +64,7 @@ fn put_after_game<E: Write, O: Write, V: Write, W: Write>(
 }
 
 /// Writes the witness, if it is wanted, and the report.
-fn put_after_evidence<V: Write, W: Write>(
+fn put_after_evidence<V: Sink, W: Sink>(
     found: &Findings,
     prepared: &Prepared,
     witness: &mut V,
@@ -72,8 +72,8 @@ fn put_after_evidence<V: Write, W: Write>(
 ) -> Result<(), WriteFault>
     requires found { AreFindings found.now }
     requires prepared { ArePrepared found.now prepared.now }
-    ensures { AreWritten (IsTextFound found.now) (lent_for (witness_kind prepared.now.wanted.witness) (V.contents witness.old) (V.contents witness.new)
-        ∷ report_writer prepared.now.wanted.report (W.contents out.old) (W.contents out.new)) result }
+    ensures { AreWritten (IsTextFound found.now) (lent_for (witness_kind prepared.now.wanted.witness) (V.taken witness.old) (V.taken witness.new)
+        ∷ report_writer prepared.now.wanted.report (W.taken out.old) (W.taken out.new)) result }
 {
     match &prepared.shown {
         Some(shown) => {
@@ -85,22 +85,18 @@ fn put_after_evidence<V: Write, W: Write>(
 }
 
 /// Writes the report.
-fn put_report<W: Write>(
-    found: &Findings,
-    prepared: &Prepared,
-    out: &mut W,
-) -> Result<(), WriteFault>
+fn put_report<W: Sink>(found: &Findings, prepared: &Prepared, out: &mut W) -> Result<(), WriteFault>
     requires { ArePrepared found.now prepared.now }
-    ensures { AreWritten (IsTextFound found.now) (report_writer prepared.now.wanted.report (W.contents out.old) (W.contents out.new)) result }
+    ensures { AreWritten (IsTextFound found.now) (report_writer prepared.now.wanted.report (W.taken out.old) (W.taken out.new)) result }
 {
     put(out, &prepared.report)
 }
 
 /// Writes the witness in its form.
-fn put_witness<V: Write>(found: &Findings, shown: &Shown, out: &mut V) -> Result<(), WriteFault>
+fn put_witness<V: Sink>(found: &Findings, shown: &Shown, out: &mut V) -> Result<(), WriteFault>
     requires found { AreFindings found.now }
     requires shown { AreShown found.now shown.now.part.items }
-    ensures { AreWritten (IsTextFound found.now) (lent_for (witness_kind (Some shown.now.form)) (V.contents out.old) (V.contents out.new) ∷ []) result }
+    ensures { AreWritten (IsTextFound found.now) (lent_for (witness_kind (Some shown.now.form)) (V.taken out.old) (V.taken out.new) ∷ []) result }
 {
     let system = &found.texts.system;
     match shown.form {

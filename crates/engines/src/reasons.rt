@@ -4,6 +4,7 @@ ghost use Rattle.std.specs.Prelude.{◌≡◌, ℕ, List, Some, IfOk, IfErr, sli
 ghost use Rattle.systems.specs.Numbered.{system_with};
 ghost use Rattle.calculus.specs.Closed.{closed_formula};
 ghost use Rattle.text.specs.Wrote.{Wrote};
+ghost use Rattle.requests.specs.Causes.{HaveCauses};
 ghost use Rattle.requests.specs.Check.{AreSpelled};
 ghost use Rattle.normal.specs.Normal.{normal_nodes};
 ghost use Rattle.normal.specs.Rules.{nodes_with};
@@ -24,9 +25,10 @@ use requests::request::{Options, Why};
 use requests::texts::{Texts, read_asked};
 use requests::watch::Watcher;
 use std::alloc::Global;
-use std::io::{Read, Write};
 use std::sync::Wait;
 use std::thread::Threads;
+use text::sink::Sink;
+use text::source::Source;
 use why::line::Line;
 use why::reached::Reached;
 use why::shown::tell_witness;
@@ -51,9 +53,9 @@ pub(crate) struct Told {
 /// # Errors
 /// Those of `check_asked` where it writes a witness alone.
 pub fn tell_why<
-    R: Read + Drop,
-    S: Read + Drop,
-    W: Write,
+    R: Source + Drop,
+    S: Source + Drop,
+    W: Sink,
     U: Watcher + Sync,
     H: Threads + Wait + Clone + Copy + Drop + Send + Sync,
 >(
@@ -65,8 +67,9 @@ pub fn tell_why<
     out: &mut W,
     watcher: &U,
 ) -> Result<bool, MuError>
-    ensures { TellsWhyBy request.now.strict request.now.options.priorities (Some request.now.options.board) (R.remaining aut) (S.remaining formula)
-        (W.contents out.old) (W.contents out.new) result }
+    ensures tells { TellsWhyBy request.now.strict request.now.options.priorities (Some request.now.options.board) (R.remaining aut) (S.remaining formula)
+        (W.taken out.old) (W.taken out.new) result }
+    ensures cause { IfErr result (HaveCauses R.can_fail S.can_fail) }
 {
     match read_asked(alloc, aut, formula, request.strict, watcher) {
         Ok(texts) => tell_read(rt, alloc, texts, &request.options, out, watcher),
@@ -75,7 +78,7 @@ pub fn tell_why<
 }
 
 /// Tells why, of texts that were read.
-fn tell_read<W: Write, U: Watcher + Sync, H: Threads + Wait + Clone + Copy + Drop + Send + Sync>(
+fn tell_read<W: Sink, U: Watcher + Sync, H: Threads + Wait + Clone + Copy + Drop + Send + Sync>(
     rt: &H,
     alloc: Global,
     texts: Texts,
@@ -83,8 +86,9 @@ fn tell_read<W: Write, U: Watcher + Sync, H: Threads + Wait + Clone + Copy + Dro
     out: &mut W,
     watcher: &U,
 ) -> Result<bool, MuError>
-    ensures { (first second : List ℕ) → AreSpelled first second texts.system.system (closed_formula texts.formula)
-        → TellsReasons options.now.priorities (Some options.now.board) first second (W.contents out.old) (W.contents out.new) result }
+    ensures tells { (first second : List ℕ) → AreSpelled first second texts.system.system (closed_formula texts.formula)
+        → TellsReasons options.now.priorities (Some options.now.board) first second (W.taken out.old) (W.taken out.new) result }
+    ensures cause { IfErr result (HaveCauses false false) }
 {
     match find_in(rt, alloc, texts, options, watcher) {
         Ok(found) => {
@@ -98,15 +102,16 @@ fn tell_read<W: Write, U: Watcher + Sync, H: Threads + Wait + Clone + Copy + Dro
 }
 
 /// Tells why, where this was found out.
-fn tell_found<W: Write, U: Watcher>(
+fn tell_found<W: Sink, U: Watcher>(
     alloc: Global,
     found: &Findings,
     out: &mut W,
     watcher: &U,
 ) -> Result<bool, MuError>
     requires { AreFindings found.now }
-    ensures { (first second : List ℕ) → AreSpelled first second (system_of found.now) (formula_of found.now)
-        → TellsReasons found.now.solution.priorities found.now.solution.board first second (W.contents out.old) (W.contents out.new) result }
+    ensures tells { (first second : List ℕ) → AreSpelled first second (system_of found.now) (formula_of found.now)
+        → TellsReasons found.now.solution.priorities found.now.solution.board first second (W.taken out.old) (W.taken out.new) result }
+    ensures cause { IfErr result (HaveCauses false false) }
 {
     match told_of(alloc, found) {
         Ok(told) => {
@@ -179,10 +184,10 @@ fn reached_in<'a>(found: &'a Findings, told: &'a Told) -> Reached<'a>
 }
 
 /// Writes what is told.
-fn put_reasons<W: Write>(found: &Findings, told: &Told, out: &mut W) -> Result<(), WriteFault>
+fn put_reasons<W: Sink>(found: &Findings, told: &Told, out: &mut W) -> Result<(), WriteFault>
     requires found { AreFindings found.now }
     requires told { AreTold found.now told.now }
-    ensures { let l = system_of found.now in Wrote (W.contents out.old) (W.contents out.new) result
+    ensures { let l = system_of found.now in Wrote (W.taken out.old) (W.taken out.new) result
         (reasons (formula_of found.now) (slice_index_or found.now.marks.items l.initial false) (remarks_of found.now told.now)
         (system_with found.now.texts.value.system told.now.play.transitions.items) told.now.lines.items) }
 {

@@ -27,7 +27,7 @@ use lts::{Piece, WriteFault, put, put_pieces};
 use requests::error::MuError;
 use requests::request::ReportForm;
 use std::alloc::Global;
-use std::io::Write;
+use text::sink::Sink;
 
 /// The report in a form. The whole of it is: what was read, how many states satisfy the formula, whether the initial one does, and a line for each
 /// state.
@@ -53,7 +53,7 @@ pub fn report_text(
     }
 }
 
-fn write_report<W: Write>(
+fn write_report<W: Sink>(
     lts: &Lts,
     formula: &Closed,
     marks: &[bool],
@@ -61,7 +61,7 @@ fn write_report<W: Write>(
     out: &mut W,
 ) -> Result<(), WriteFault>
     requires { length marks.now ≡ lts.now.system.states }
-    ensures { Wrote (W.contents out.old) (W.contents out.new) result
+    ensures { Wrote (W.taken out.old) (W.taken out.new) result
         (report_in form lts.now.system (closed_formula formula.now) marks.now) }
 {
     match form {
@@ -72,28 +72,28 @@ fn write_report<W: Write>(
     }
 }
 
-fn write_whole<W: Write>(
+fn write_whole<W: Sink>(
     lts: &Lts,
     formula: &Closed,
     marks: &[bool],
     out: &mut W,
 ) -> Result<(), WriteFault>
     requires { length marks.now ≡ lts.now.system.states }
-    ensures { Wrote (W.contents out.old) (W.contents out.new) result
+    ensures { Wrote (W.taken out.old) (W.taken out.new) result
         (report lts.now.system (closed_formula formula.now) marks.now) }
 {
     write_summary(lts, formula, marks, out)?;
     write_state_lines(marks, out)
 }
 
-fn write_summary<W: Write>(
+fn write_summary<W: Sink>(
     lts: &Lts,
     formula: &Closed,
     marks: &[bool],
     out: &mut W,
 ) -> Result<(), WriteFault>
     requires { length marks.now ≡ lts.now.system.states }
-    ensures { Wrote (W.contents out.old) (W.contents out.new) result
+    ensures { Wrote (W.taken out.old) (W.taken out.new) result
         (summary lts.now.system (closed_formula formula.now) marks.now) }
 {
     write_system_line(lts, out)?;
@@ -102,8 +102,8 @@ fn write_summary<W: Write>(
     write_initial_line(lts, marks, out)
 }
 
-fn write_system_line<W: Write>(lts: &Lts, out: &mut W) -> Result<(), WriteFault>
-    ensures { Wrote (W.contents out.old) (W.contents out.new) result
+fn write_system_line<W: Sink>(lts: &Lts, out: &mut W) -> Result<(), WriteFault>
+    ensures { Wrote (W.taken out.old) (W.taken out.new) result
         (system_line lts.now.system.states (length lts.now.system.arrows) lts.now.system.initial) }
 {
     put_pieces(
@@ -121,8 +121,8 @@ fn write_system_line<W: Write>(lts: &Lts, out: &mut W) -> Result<(), WriteFault>
 }
 
 /// Writes the formula's canonical text.
-pub(crate) fn write_formula_line<W: Write>(formula: &Closed, out: &mut W) -> Result<(), WriteFault>
-    ensures { Wrote (W.contents out.old) (W.contents out.new) result
+pub(crate) fn write_formula_line<W: Sink>(formula: &Closed, out: &mut W) -> Result<(), WriteFault>
+    ensures { Wrote (W.taken out.old) (W.taken out.new) result
         (formula_line (closed_formula formula.now)) }
 {
     put(out, b"formula ")?;
@@ -130,8 +130,8 @@ pub(crate) fn write_formula_line<W: Write>(formula: &Closed, out: &mut W) -> Res
     put(out, b"\n")
 }
 
-fn write_yes_line<W: Write>(lts: &Lts, marks: &[bool], out: &mut W) -> Result<(), WriteFault>
-    ensures { Wrote (W.contents out.old) (W.contents out.new) result
+fn write_yes_line<W: Sink>(lts: &Lts, marks: &[bool], out: &mut W) -> Result<(), WriteFault>
+    ensures { Wrote (W.taken out.old) (W.taken out.new) result
         (yes_line (count_by (λ mark. mark) marks.now) lts.now.system.states) }
 {
     put_pieces(
@@ -147,13 +147,13 @@ fn write_yes_line<W: Write>(lts: &Lts, marks: &[bool], out: &mut W) -> Result<()
 }
 
 /// Writes whether the initial state is marked.
-pub(crate) fn write_initial_line<W: Write>(
+pub(crate) fn write_initial_line<W: Sink>(
     lts: &Lts,
     marks: &[bool],
     out: &mut W,
 ) -> Result<(), WriteFault>
     requires { length marks.now ≡ lts.now.system.states }
-    ensures { Wrote (W.contents out.old) (W.contents out.new) result
+    ensures { Wrote (W.taken out.old) (W.taken out.new) result
         (initial_line (slice_index_or marks.now lts.now.system.initial false)) }
 {
     let mark = marks[lts.initial() as usize];
@@ -163,8 +163,8 @@ pub(crate) fn write_initial_line<W: Write>(
     )
 }
 
-fn write_state_lines<W: Write>(marks: &[bool], out: &mut W) -> Result<(), WriteFault>
-    ensures { Wrote (W.contents out.old) (W.contents out.new) result (state_lines 0 marks.now) }
+fn write_state_lines<W: Sink>(marks: &[bool], out: &mut W) -> Result<(), WriteFault>
+    ensures { Wrote (W.taken out.old) (W.taken out.new) result (state_lines 0 marks.now) }
 {
     for (state, mark) in marks.iter().enumerate() {
         write_state_line(state, *mark, out)?;
@@ -172,8 +172,8 @@ fn write_state_lines<W: Write>(marks: &[bool], out: &mut W) -> Result<(), WriteF
     Ok(())
 }
 
-fn write_state_line<W: Write>(state: usize, mark: bool, out: &mut W) -> Result<(), WriteFault>
-    ensures { Wrote (W.contents out.old) (W.contents out.new) result (decimal state ++ yes_or_no mark) }
+fn write_state_line<W: Sink>(state: usize, mark: bool, out: &mut W) -> Result<(), WriteFault>
+    ensures { Wrote (W.taken out.old) (W.taken out.new) result (decimal state ++ yes_or_no mark) }
 {
     put_pieces(
         out,
@@ -182,13 +182,13 @@ fn write_state_line<W: Write>(state: usize, mark: bool, out: &mut W) -> Result<(
 }
 
 /// The numbers of the states with this mark: all, or so many.
-fn write_numbers<W: Write>(
+fn write_numbers<W: Sink>(
     marks: &[bool],
     wanted: bool,
     most: Option<u32>,
     out: &mut W,
 ) -> Result<(), WriteFault>
-    ensures { Wrote (W.contents out.old) (W.contents out.new) result
+    ensures { Wrote (W.taken out.old) (W.taken out.new) result
         (number_lines (at_most most (numbers_with wanted 0 marks.now))) }
 {
     match most {
@@ -198,13 +198,13 @@ fn write_numbers<W: Write>(
 }
 
 /// The first so many numbers of the states with this mark.
-fn write_first_numbers<W: Write>(
+fn write_first_numbers<W: Sink>(
     marks: &[bool],
     wanted: bool,
     most: usize,
     out: &mut W,
 ) -> Result<(), WriteFault>
-    ensures { Wrote (W.contents out.old) (W.contents out.new) result
+    ensures { Wrote (W.taken out.old) (W.taken out.new) result
         (number_lines (take most (numbers_with wanted 0 marks.now))) }
 {
     let mut left = most;
@@ -218,8 +218,8 @@ fn write_first_numbers<W: Write>(
     Ok(())
 }
 
-fn write_number_line<W: Write>(number: usize, out: &mut W) -> Result<(), WriteFault>
-    ensures { Wrote (W.contents out.old) (W.contents out.new) result (decimal number ++ line_end) }
+fn write_number_line<W: Sink>(number: usize, out: &mut W) -> Result<(), WriteFault>
+    ensures { Wrote (W.taken out.old) (W.taken out.new) result (decimal number ++ line_end) }
 {
     put_pieces(out, &[Piece::Number(number as u64), Piece::Bytes(b"\n")])
 }

@@ -1,8 +1,10 @@
 // A table: the answers of one system to many formulas, a line for each.
 
-ghost use Rattle.std.specs.Prelude.{◌≡◌, ℕ, List, take, length, count_by, slice_index_or, false, Some, IfOk, MatchResult, if◌then◌else◌};
+ghost use Rattle.std.specs.Prelude.{◌≡◌, ℕ, List, take, length, count_by, slice_index_or, false, Some, IfErr, IfOk, MatchResult, if◌then◌else◌};
 ghost use Rattle.calculus.specs.Closed.{closed_formula};
+ghost use Rattle.text.specs.Cause.{HasCause};
 ghost use Rattle.text.specs.Wrote.{Wrote};
+ghost use Rattle.requests.specs.declared.error.MuError.TheVariants as error;
 ghost use Rattle.requests.specs.declared.texts.TheConstants.{FORMULA_BYTES};
 ghost use Rattle.engines.specs.Found.{IsFound};
 ghost use Rattle.engines.specs.Status.{error_status as status_of_error};
@@ -26,11 +28,12 @@ use requests::request::Table;
 use requests::texts::{look_where, parse_front, read_front};
 use requests::watch::Watcher;
 use std::alloc::Global;
-use std::io::{Read, Write};
 use std::sync::Wait;
 use std::thread::Threads;
 use tables::error::TableError;
 use text::put_number;
+use text::sink::Sink;
+use text::source::Source;
 
 /// What is found of a formula at the states of a system, and what its text says is expected.
 #[derive(Clone, Copy)]
@@ -49,7 +52,7 @@ pub struct Found {
 ///
 /// # Errors
 /// W1.
-pub fn table_line<S: Read + Drop, W: Write, H: Threads + Wait + Clone + Copy + Drop + Send + Sync>(
+pub fn table_line<S: Source + Drop, W: Sink, H: Threads + Wait + Clone + Copy + Drop + Send + Sync>(
     rt: &H,
     alloc: Global,
     system: &Lts,
@@ -58,8 +61,8 @@ pub fn table_line<S: Read + Drop, W: Write, H: Threads + Wait + Clone + Copy + D
     formula: S,
     out: &mut W,
 ) -> Result<u8, WriteFault>
-    ensures { Tells request.now.strict (way_by request.now.options request.now.plain) system.now.system name.now
-        (S.remaining formula) (W.contents out.old) (W.contents out.new) result }
+    ensures { Tells request.now.strict (way_by request.now.options request.now.plain) system.now.system S.can_fail name.now
+        (S.remaining formula) (W.taken out.old) (W.taken out.new) result }
 {
     table_line_seen(rt, alloc, system, request, name, formula, out, &Silent)
 }
@@ -69,8 +72,8 @@ pub fn table_line<S: Read + Drop, W: Write, H: Threads + Wait + Clone + Copy + D
 /// # Errors
 /// W1.
 pub fn table_line_seen<
-    S: Read + Drop,
-    W: Write,
+    S: Source + Drop,
+    W: Sink,
     U: Watcher + Sync,
     H: Threads + Wait + Clone + Copy + Drop + Send + Sync,
 >(
@@ -83,8 +86,8 @@ pub fn table_line_seen<
     out: &mut W,
     watcher: &U,
 ) -> Result<u8, WriteFault>
-    ensures { Tells request.now.strict (way_by request.now.options request.now.plain) system.now.system name.now
-        (S.remaining formula) (W.contents out.old) (W.contents out.new) result }
+    ensures { Tells request.now.strict (way_by request.now.options request.now.plain) system.now.system S.can_fail name.now
+        (S.remaining formula) (W.taken out.old) (W.taken out.new) result }
 {
     match find(rt, alloc, system, request, formula, watcher) {
         Ok(found) => tell_answer(name, &found, system.states(), out),
@@ -93,7 +96,7 @@ pub fn table_line_seen<
 }
 
 /// What is found of the formula that the reader's text spells.
-fn find<S: Read + Drop, U: Watcher + Sync, H: Threads + Wait + Clone + Copy + Drop + Send + Sync>(
+fn find<S: Source + Drop, U: Watcher + Sync, H: Threads + Wait + Clone + Copy + Drop + Send + Sync>(
     rt: &H,
     alloc: Global,
     system: &Lts,
@@ -101,8 +104,9 @@ fn find<S: Read + Drop, U: Watcher + Sync, H: Threads + Wait + Clone + Copy + Dr
     formula: S,
     watcher: &U,
 ) -> Result<Found, MuError>
-    ensures { let strict = request.now.strict in let way = way_by request.now.options request.now.plain in let l = system.now.system in
+    ensures finds { let strict = request.now.strict in let way = way_by request.now.options request.now.plain in let l = system.now.system in
         (text : List ℕ) → S.remaining formula ≡ Some text → MatchResult result (IsFound strict way l text) (IsRefused strict way l text) }
+    ensures cause { IfErr result (HasCause S.can_fail error.Read) }
 {
     match read_front(alloc, formula) {
         Ok(front) => find_in(rt, alloc, system, request, &front, watcher),
@@ -119,8 +123,9 @@ fn find_in<U: Watcher + Sync, H: Threads + Wait + Clone + Copy + Drop + Send + S
     front: &[u8],
     watcher: &U,
 ) -> Result<Found, MuError>
-    ensures { let strict = request.now.strict in let way = way_by request.now.options request.now.plain in let l = system.now.system in
+    ensures finds { let strict = request.now.strict in let way = way_by request.now.options request.now.plain in let l = system.now.system in
         (text : List ℕ) → front.now ≡ take FORMULA_BYTES text → MatchResult result (IsFound strict way l text) (IsRefused strict way l text) }
+    ensures cause { IfErr result (HasCause false error.Read) }
 {
     match parse_front(alloc, front) {
         Ok(formula) => find_known(rt, alloc, system, request, front, &formula, watcher),
@@ -138,8 +143,9 @@ fn find_known<U: Watcher + Sync, H: Threads + Wait + Clone + Copy + Drop + Send 
     formula: &Closed,
     watcher: &U,
 ) -> Result<Found, MuError>
-    ensures { let strict = request.now.strict in let way = way_by request.now.options request.now.plain in let l = system.now.system in
+    ensures finds { let strict = request.now.strict in let way = way_by request.now.options request.now.plain in let l = system.now.system in
         IsFormulaOf text.now (closed_formula formula.now) → MatchResult result (IsFound strict way l text.now) (IsRefused strict way l text.now) }
+    ensures cause { IfErr result (HasCause false error.Read) }
 {
     watcher.has_read(system, formula);
     match look_where(alloc, system, text, request.strict) {
@@ -158,9 +164,10 @@ fn find_marked<U: Watcher + Sync, H: Threads + Wait + Clone + Copy + Drop + Send
     formula: &Closed,
     watcher: &U,
 ) -> Result<Found, MuError>
-    ensures { let strict = request.now.strict in let way = way_by request.now.options request.now.plain in let l = system.now.system in
+    ensures finds { let strict = request.now.strict in let way = way_by request.now.options request.now.plain in let l = system.now.system in
         IsFormulaOf text.now (closed_formula formula.now) → AreKnown strict l text.now
         → MatchResult result (IsFound strict way l text.now) (IsRefused strict way l text.now) }
+    ensures cause { IfErr result (HasCause false error.Read) }
 {
     let options = &request.options;
     match marks_by(rt, alloc, system, formula, options, request.plain, watcher) {
@@ -184,13 +191,13 @@ fn found_of(system: &Lts, marks: &[bool], expected: Option<bool>) -> Found
 }
 
 /// Writes the line of an answer, and answers its status.
-fn tell_answer<W: Write>(
+fn tell_answer<W: Sink>(
     name: &str,
     found: &Found,
     states: u32,
     out: &mut W,
 ) -> Result<u8, WriteFault>
-    ensures wrote { Wrote (W.contents out.old) (W.contents out.new) result
+    ensures wrote { Wrote (W.taken out.old) (W.taken out.new) result
         (answer_line name.now found.now.expected found.now.answer found.now.marked states) }
     ensures status { IfOk result (λ status. status ≡ (if is_as_expected found.now.expected found.now.answer then 0 else 1)) }
 {
@@ -201,8 +208,8 @@ fn tell_answer<W: Write>(
 }
 
 /// Writes the line of a refusal, and answers its status.
-fn tell_refusal<W: Write>(name: &str, error: &MuError, out: &mut W) -> Result<u8, WriteFault>
-    ensures wrote { Wrote (W.contents out.old) (W.contents out.new) result (refusal_line name.now error.now) }
+fn tell_refusal<W: Sink>(name: &str, error: &MuError, out: &mut W) -> Result<u8, WriteFault>
+    ensures wrote { Wrote (W.taken out.old) (W.taken out.new) result (refusal_line name.now error.now) }
     ensures status { IfOk result (λ status. status ≡ status_of_error error.now) }
 {
     match put_refusal(name, error, out) {
@@ -228,13 +235,13 @@ fn is_as_expected(found: &Found) -> bool
 }
 
 /// Writes the line of an answer.
-fn put_answer<W: Write>(
+fn put_answer<W: Sink>(
     name: &str,
     found: &Found,
     states: u32,
     out: &mut W,
 ) -> Result<(), WriteFault>
-    ensures { Wrote (W.contents out.old) (W.contents out.new) result
+    ensures { Wrote (W.taken out.old) (W.taken out.new) result
         (answer_line name.now found.now.expected found.now.answer found.now.marked states) }
 {
     let answer: &[u8] = if found.answer { b"yes " } else { b"no " };
@@ -265,8 +272,8 @@ fn remark(found: &Found) -> &'static [u8]
 }
 
 /// Writes the line of a refusal.
-fn put_refusal<W: Write>(name: &str, error: &MuError, out: &mut W) -> Result<(), WriteFault>
-    ensures { Wrote (W.contents out.old) (W.contents out.new) result (refusal_line name.now error.now) }
+fn put_refusal<W: Sink>(name: &str, error: &MuError, out: &mut W) -> Result<(), WriteFault>
+    ensures { Wrote (W.taken out.old) (W.taken out.new) result (refusal_line name.now error.now) }
 {
     put_code(error, out)?;
     put_place(error, out)?;
@@ -274,15 +281,15 @@ fn put_refusal<W: Write>(name: &str, error: &MuError, out: &mut W) -> Result<(),
 }
 
 /// Writes the code of a refusal.
-fn put_code<W: Write>(error: &MuError, out: &mut W) -> Result<(), WriteFault>
-    ensures { Wrote (W.contents out.old) (W.contents out.new) result (code_of error.now) }
+fn put_code<W: Sink>(error: &MuError, out: &mut W) -> Result<(), WriteFault>
+    ensures { Wrote (W.taken out.old) (W.taken out.new) result (code_of error.now) }
 {
     put(out, code(error))
 }
 
 /// Writes a blank, the name, and the line's end.
-fn put_name<W: Write>(name: &str, out: &mut W) -> Result<(), WriteFault>
-    ensures { Wrote (W.contents out.old) (W.contents out.new) result (name_end name.now) }
+fn put_name<W: Sink>(name: &str, out: &mut W) -> Result<(), WriteFault>
+    ensures { Wrote (W.taken out.old) (W.taken out.new) result (name_end name.now) }
 {
     put_pieces(
         out,
@@ -295,8 +302,8 @@ fn put_name<W: Write>(name: &str, out: &mut W) -> Result<(), WriteFault>
 }
 
 /// Writes the place of a refusal in the formula's text, if it has one.
-fn put_place<W: Write>(error: &MuError, out: &mut W) -> Result<(), WriteFault>
-    ensures { Wrote (W.contents out.old) (W.contents out.new) result (place_of error.now) }
+fn put_place<W: Sink>(error: &MuError, out: &mut W) -> Result<(), WriteFault>
+    ensures { Wrote (W.taken out.old) (W.taken out.new) result (place_of error.now) }
 {
     match error {
         MuError::Formula(FormulaError::Fault { fault: _, offset }) | MuError::NoLabel { offset } =>

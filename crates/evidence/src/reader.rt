@@ -1,34 +1,39 @@
 // The reader of evidence.
 
-ghost use Rattle.std.specs.Prelude.{◌≡◌, ◌≢◌, ◌≤◌, ℕ, List, [], None, length, replicate, take, IfErr, IfOk, IfSome, MatchBool, OnOk};
+ghost use Rattle.std.specs.Prelude.{◌≡◌, ◌≢◌, ◌≤◌, ℕ, List, [], None, length, replicate, take, IfErr, IfOk, IfSome, MatchBool, MatchResult, OnOk};
+ghost use Rattle.text.specs.Cause.{HasCause};
 ghost use Rattle.text.specs.Lines.{IfKnown};
 ghost use Rattle.text.specs.Reads.{Reads};
+ghost use Rattle.text.specs.declared.error.ReadFault.TheVariants as reads;
 ghost use Rattle.evidence.specs.Evidence.{counted};
 ghost use Rattle.evidence.specs.Fault.{HasFault, HasFaultAt, Refuses, named};
 ghost use Rattle.evidence.specs.Reading.{AreRead, BeginsWith, HasNoHeader, HasRestFault, IsAdded, IsNoPlace, IsPlace, IsWrongLine, ReadsAtHand, ReadsNext};
 ghost use Rattle.evidence.specs.Short.{short};
 ghost use Rattle.evidence.specs.Spelling.{IsEvidenceText};
+ghost use Rattle.evidence.specs.declared.error.EvidenceError.TheVariants as errors;
 
 use crate::entries::{Entries, MOST_COUNTS};
 use crate::error::{EvidenceError, EvidenceFault};
 use crate::evidence::Evidence;
 use crate::limits::LONGEST_LINE;
 use crate::scan::{fields, player_of, read_rank};
-use crate::short::{fault_of, short_line};
+use crate::short::short_line;
 use game::dual::greatest_priority;
 use game::graph::Game;
 use game::limits::MOST_VERTICES;
 use game::player::Player;
 use std::alloc::Global;
-use std::io::{BufRead, BufReader, ErrorKind, Read};
+use std::io::ErrorKind;
 use text::error::ReadFault;
 use text::scan::cut_at;
+use text::source::{Blocks, Source, blocks_of, fault_of};
 use text::stream::has_line;
 
 // Reads the header.
-fn read_header<B: BufRead>(reader: &mut B, kept: &mut Vec<u8>) -> Result<Player, EvidenceError>
+fn read_header<B: Blocks>(reader: &mut B, kept: &mut Vec<u8>) -> Result<Player, EvidenceError>
     ensures first { IfOk result (λ player. IfKnown (B.remaining reader.old) (B.remaining reader.new) (BeginsWith player)) }
     ensures fault { IfErr result (Refuses (B.remaining reader.old) HasNoHeader) }
+    ensures cause { IfErr result (HasCause B.can_fail errors.Read) }
 {
     let fault = EvidenceFault::BadHeader;
     if !has_line(reader)? {
@@ -92,19 +97,20 @@ fn add_short(line: &[u8], counts: &mut [u32], entries: &mut Entries) -> Result<(
 }
 
 // Reads the line that is next where it stands whole in the block at hand, its end with it. Else it takes nothing.
-fn at_hand<B: BufRead>(
+fn at_hand<B: Blocks>(
     reader: &mut B,
     counts: &mut [u32],
     entries: &mut Entries,
 ) -> Result<Option<Result<(), EvidenceFault>>, ReadFault>
     requires width { length counts.old ≡ entries.old.width }
     requires few { length entries.old.entries ≤ MOST_VERTICES }
-    ensures { IfOk result (ReadsAtHand (B.remaining reader.old) (B.remaining reader.new) entries.old entries.new) }
+    ensures { MatchResult result (ReadsAtHand (B.remaining reader.old) (B.remaining reader.new) entries.old entries.new)
+        (HasCause B.can_fail reads.Read) }
 {
     let block = match reader.fill_buf() {
         Ok(block) => block,
         Err(error) if error.kind() == ErrorKind::Interrupted => return Ok(None),
-        Err(error) => return Err(fault_of(&error)),
+        Err(error) => return Err(fault_of(reader, &error)),
     };
     let Some((line, _)) = cut_at(block, b'\n') else {
         return Ok(None);
@@ -116,7 +122,7 @@ fn at_hand<B: BufRead>(
 }
 
 // Reads the line that is next, of which there is one.
-fn read_line<B: BufRead>(
+fn read_line<B: Blocks>(
     reader: &mut B,
     kept: &mut Vec<u8>,
     counts: &mut [u32],
@@ -125,7 +131,8 @@ fn read_line<B: BufRead>(
     requires width { length counts.old ≡ entries.old.width }
     requires few { length entries.old.entries ≤ MOST_VERTICES }
     requires narrow { entries.old.width ≤ MOST_COUNTS }
-    ensures { IfOk result (ReadsNext (B.remaining reader.old) (B.remaining reader.new) entries.old entries.new) }
+    ensures { MatchResult result (ReadsNext (B.remaining reader.old) (B.remaining reader.new) entries.old entries.new)
+        (HasCause B.can_fail reads.Read) }
 {
     if let Some(added) = at_hand(reader, counts, entries)? {
         return Ok(added);
@@ -135,7 +142,7 @@ fn read_line<B: BufRead>(
 }
 
 // Reads the lines below a header, where no vertex has an entry yet.
-fn read_lines<B: BufRead>(
+fn read_lines<B: Blocks>(
     reader: &mut B,
     kept: &mut Vec<u8>,
     counts: &mut [u32],
@@ -147,6 +154,7 @@ fn read_lines<B: BufRead>(
     requires narrow { entries.old.width ≤ MOST_COUNTS }
     ensures lines { OnOk result (AreRead (length entries.old.entries) entries.old.width (B.remaining reader.old) entries.new.entries) }
     ensures fault { IfErr result (Refuses (B.remaining reader.old) (HasRestFault (length entries.old.entries) entries.old.width)) }
+    ensures cause { IfErr result (HasCause B.can_fail errors.Read) }
 {
     let mut good = 0;
     while has_line(reader)? {
@@ -175,7 +183,7 @@ pub(crate) fn width(player: Player, game: &Game) -> usize
 }
 
 // Reads the player's entries.
-fn read_entries<B: BufRead>(
+fn read_entries<B: Blocks>(
     alloc: Global,
     reader: &mut B,
     kept: &mut Vec<u8>,
@@ -184,6 +192,7 @@ fn read_entries<B: BufRead>(
 ) -> Result<Entries, EvidenceError>
     ensures lines { IfOk result (λ e. AreRead (length game.now.vertices) (length (counted player game.now)) (B.remaining reader.old) e.entries) }
     ensures fault { IfErr result (Refuses (B.remaining reader.old) (HasRestFault (length game.now.vertices) (length (counted player game.now)))) }
+    ensures cause { IfErr result (HasCause B.can_fail errors.Read) }
 {
     game.known();
     let width = width(player, game);
@@ -196,7 +205,7 @@ fn read_entries<B: BufRead>(
 }
 
 // Reads the whole text.
-fn read_text<B: BufRead>(
+fn read_text<B: Blocks>(
     alloc: Global,
     reader: &mut B,
     game: &Game,
@@ -204,6 +213,7 @@ fn read_text<B: BufRead>(
     ensures game { IfOk result (λ e. e.game ≡ game.now) }
     ensures spelled { IfOk result (λ e. IfSome (B.remaining reader.old) (λ text. IsEvidenceText game.now text e.evidence)) }
     ensures fault { IfErr result (Refuses (B.remaining reader.old) (HasFault game.now)) }
+    ensures cause { IfErr result (HasCause B.can_fail errors.Read) }
 {
     let mut kept = Vec::new(alloc);
     let player = read_header(reader, &mut kept)?;
@@ -217,7 +227,7 @@ fn read_text<B: BufRead>(
 ///
 /// # Errors
 /// The first faulty line decides. A text is also refused where a read fails, or for want of memory.
-pub fn read_evidence<R: Read + Drop>(
+pub fn read_evidence<R: Source + Drop>(
     alloc: Global,
     reader: R,
     game: &Game,
@@ -225,10 +235,10 @@ pub fn read_evidence<R: Read + Drop>(
     ensures game { IfOk result (λ e. e.game ≡ game.now) }
     ensures reads { Reads (IsEvidenceText game.now) (IsEvidenceText game.now) (IsEvidenceText game.now) (HasFaultAt game.now) (λ e. e.evidence) named
         (R.remaining reader) result }
+    ensures cause { IfErr result (HasCause R.can_fail errors.Read) }
 {
-    let mut reader = match BufReader::new(alloc, reader) {
-        Ok(reader) => reader,
-        Err(_) => return Err(EvidenceError::Memory),
+    let Ok(mut blocks) = blocks_of(alloc, reader) else {
+        return Err(EvidenceError::Memory);
     };
-    read_text(alloc, &mut reader, game)
+    read_text(alloc, &mut blocks, game)
 }

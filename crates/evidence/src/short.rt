@@ -1,24 +1,18 @@
 // The next line of a reader, kept shortened: of a number its first eleven digits, and of all that no more bytes than tell whether it is a line.
 
-ghost use Rattle.std.specs.Prelude.{◌≡◌, ◌≤◌, ◌+◌, ◌||◌, [], ◌∷◌, IfOk, OnOk, length, min, nat_eq, nat_lt};
+ghost use Rattle.std.specs.Prelude.{◌≡◌, ◌≤◌, ◌+◌, ◌||◌, [], ◌∷◌, IfOk, MatchResult, OnOk, length, min, nat_eq, nat_lt};
 ghost use Rattle.std.specs.List.{prefix_len};
+ghost use Rattle.text.specs.Cause.{HasCause};
 ghost use Rattle.text.specs.Lines.{IfKnown};
 ghost use Rattle.text.specs.Tokens.{is_other};
+ghost use Rattle.text.specs.declared.error.ReadFault.TheVariants as reads;
 ghost use Rattle.evidence.specs.Short.{Keeps, Puts, TakesOn, TakesShort, digits_after, digits_then, kept_of};
 
 use crate::limits::{LONGEST_LINE, MOST_DIGITS};
 use std::alloc::AllocError;
-use std::io::{BufRead, Error, ErrorKind};
+use std::io::ErrorKind;
 use text::error::ReadFault;
-
-/// What a failed read is.
-pub(crate) fn fault_of(error: &Error) -> ReadFault {
-    if error.kind() == ErrorKind::OutOfMemory {
-        ReadFault::Memory
-    } else {
-        ReadFault::Read
-    }
-}
+use text::source::{Blocks, fault_after, fault_of};
 
 // Keeps the byte if there is room for it.
 fn put(kept: &mut Vec<u8>, byte: u8) -> Result<(), AllocError>
@@ -81,17 +75,18 @@ fn is_end(count: usize, len: usize) -> bool
 }
 
 // Takes the line as far as the block at hand goes, and answers how many digits stand on end then, or that it has ended.
-fn short_on<B: BufRead>(
+fn short_on<B: Blocks>(
     reader: &mut B,
     kept: &mut Vec<u8>,
     digits: usize,
 ) -> Result<Option<usize>, ReadFault>
-    ensures { IfOk result (λ found. IfKnown (B.remaining reader.old) (B.remaining reader.new) (TakesOn digits kept.old.items kept.new.items found)) }
+    ensures { MatchResult result (λ found. IfKnown (B.remaining reader.old) (B.remaining reader.new) (TakesOn digits kept.old.items kept.new.items found))
+        (HasCause B.can_fail reads.Read) }
 {
     let block = match reader.fill_buf() {
         Ok(block) => block,
         Err(error) if error.kind() == ErrorKind::Interrupted => return Ok(Some(digits)),
-        Err(error) => return Err(fault_of(&error)),
+        Err(error) => return Err(fault_of(reader, &error)),
     };
     let count = before_end(block);
     let len = block.len();
@@ -104,8 +99,9 @@ fn short_on<B: BufRead>(
 }
 
 /// Takes the line that is next, its end with it, and keeps it shortened.
-pub(crate) fn short_line<B: BufRead>(reader: &mut B, kept: &mut Vec<u8>) -> Result<(), ReadFault>
-    ensures { IfOk result (λ _. IfKnown (B.remaining reader.old) (B.remaining reader.new) (TakesShort kept.new.items)) }
+pub(crate) fn short_line<B: Blocks>(reader: &mut B, kept: &mut Vec<u8>) -> Result<(), ReadFault>
+    ensures { MatchResult result (λ _. IfKnown (B.remaining reader.old) (B.remaining reader.new) (TakesShort kept.new.items))
+        (HasCause B.can_fail reads.Read) }
 {
     kept.clear();
     let mut digits = 0;
@@ -115,5 +111,5 @@ pub(crate) fn short_line<B: BufRead>(reader: &mut B, kept: &mut Vec<u8>) -> Resu
             None => return Ok(()),
         }
     }
-    Err(ReadFault::Read)
+    Err(fault_after(reader))
 }

@@ -12,7 +12,7 @@ use crate::evidence::Evidence;
 use crate::verdict::{Both, Fault, Verdict};
 use game::player::Player;
 use measures::writer::put_counts;
-use std::io::Write;
+use text::sink::Sink;
 use text::{Lines, Piece, WriteFault, put, put_lines, put_pieces};
 
 fn player_word(player: Player) -> &'static [u8]
@@ -24,8 +24,8 @@ fn player_word(player: Player) -> &'static [u8]
     }
 }
 
-fn put_header<W: Write>(player: Player, writer: &mut W) -> Result<(), WriteFault>
-    ensures { Wrote (W.contents writer.old) (W.contents writer.new) result (header player ++ line_end) }
+fn put_header<W: Sink>(player: Player, writer: &mut W) -> Result<(), WriteFault>
+    ensures { Wrote (W.taken writer.old) (W.taken writer.new) result (header player ++ line_end) }
 {
     put_pieces(
         writer,
@@ -47,8 +47,8 @@ fn move_piece(next: Option<u32>) -> Piece<'static>
 }
 
 // Writes the line of a vertex.
-fn put_entry<W: Write>(v: usize, view: EntryView<'_>, writer: &mut W) -> Result<(), WriteFault>
-    ensures { Wrote (W.contents writer.old) (W.contents writer.new) result (entry_line v record { move = view.entry.next; rank = view.entry.rank.now }) }
+fn put_entry<W: Sink>(v: usize, view: EntryView<'_>, writer: &mut W) -> Result<(), WriteFault>
+    ensures { Wrote (W.taken writer.old) (W.taken writer.new) result (entry_line v record { move = view.entry.next; rank = view.entry.rank.now }) }
 {
     put_pieces(
         writer,
@@ -81,7 +81,7 @@ impl Lines for EntryLines<'_> {
         self.entries.len()
     }
 
-    fn put_line<W: Write>(&self, number: usize, writer: &mut W) -> Result<(), WriteFault> {
+    fn put_line<W: Sink>(&self, number: usize, writer: &mut W) -> Result<(), WriteFault> {
         match self.entries.get(number) {
             Some(entry) => put_entry(number, entry, writer),
             None => Ok(()),
@@ -90,8 +90,8 @@ impl Lines for EntryLines<'_> {
 }
 
 // Writes a line for each vertex of the set.
-fn put_entries<W: Write>(entries: &Entries, writer: &mut W) -> Result<(), WriteFault>
-    ensures { Wrote (W.contents writer.old) (W.contents writer.new) result (entry_lines 0 entries.now.entries) }
+fn put_entries<W: Sink>(entries: &Entries, writer: &mut W) -> Result<(), WriteFault>
+    ensures { Wrote (W.taken writer.old) (W.taken writer.new) result (entry_lines 0 entries.now.entries) }
 {
     put_lines(&EntryLines { entries }, writer)
 }
@@ -100,8 +100,8 @@ fn put_entries<W: Write>(entries: &Entries, writer: &mut W) -> Result<(), WriteF
 ///
 /// # Errors
 /// After a fault the writer holds a beginning of the text.
-pub fn write_evidence<W: Write>(evidence: &Evidence, writer: &mut W) -> Result<(), WriteFault>
-    ensures wrote { Wrote (W.contents writer.old) (W.contents writer.new) result (evidence_text evidence.now.evidence) }
+pub fn write_evidence<W: Sink>(evidence: &Evidence, writer: &mut W) -> Result<(), WriteFault>
+    ensures wrote { Wrote (W.taken writer.old) (W.taken writer.new) result (evidence_text evidence.now.evidence) }
 {
     put_header(evidence.player(), writer)?;
     put_entries(evidence.entries(), writer)
@@ -118,13 +118,13 @@ fn code(fault: Fault) -> &'static [u8]
 }
 
 // Writes where a fault stands, and before its code in which of two, if there are two.
-fn put_refusal<W: Write>(
+fn put_refusal<W: Sink>(
     before: &[u8],
     v: u32,
     fault: Fault,
     writer: &mut W,
 ) -> Result<(), WriteFault>
-    ensures { Wrote (W.contents writer.old) (W.contents writer.new) result (refusal before.now fault v) }
+    ensures { Wrote (W.taken writer.old) (W.taken writer.new) result (refusal before.now fault v) }
 {
     put_pieces(
         writer,
@@ -140,8 +140,8 @@ fn put_refusal<W: Write>(
 }
 
 // Writes whose evidence it is, and how many vertices of how many it has.
-fn put_good<W: Write>(evidence: &Evidence, writer: &mut W) -> Result<(), WriteFault>
-    ensures { Wrote (W.contents writer.old) (W.contents writer.new) result (verdict_text evidence.now.game evidence.now.evidence Verdict.Good) }
+fn put_good<W: Sink>(evidence: &Evidence, writer: &mut W) -> Result<(), WriteFault>
+    ensures { Wrote (W.taken writer.old) (W.taken writer.new) result (verdict_text evidence.now.game evidence.now.evidence Verdict.Good) }
 {
     evidence.known();
     put_pieces(
@@ -162,12 +162,12 @@ fn put_good<W: Write>(evidence: &Evidence, writer: &mut W) -> Result<(), WriteFa
 ///
 /// # Errors
 /// After a fault the writer holds a beginning of the text.
-pub fn write_verdict<W: Write>(
+pub fn write_verdict<W: Sink>(
     evidence: &Evidence,
     verdict: Verdict,
     writer: &mut W,
 ) -> Result<(), WriteFault>
-    ensures wrote { Wrote (W.contents writer.old) (W.contents writer.new) result (verdict_text evidence.now.game evidence.now.evidence verdict) }
+    ensures wrote { Wrote (W.taken writer.old) (W.taken writer.new) result (verdict_text evidence.now.game evidence.now.evidence verdict) }
 {
     match verdict {
         Verdict::Good => put_good(evidence, writer),
@@ -187,13 +187,13 @@ fn by_player<'a>(first: &'a Evidence, second: &'a Evidence) -> (&'a Evidence, &'
 }
 
 // Writes how many vertices each player wins, of how many.
-fn put_sizes<W: Write>(
+fn put_sizes<W: Sink>(
     even: usize,
     odd: usize,
     vertices: usize,
     writer: &mut W,
 ) -> Result<(), WriteFault>
-    ensures { Wrote (W.contents writer.old) (W.contents writer.new) result (sizes_line even odd vertices) }
+    ensures { Wrote (W.taken writer.old) (W.taken writer.new) result (sizes_line even odd vertices) }
 {
     put_pieces(
         writer,
@@ -213,13 +213,13 @@ fn put_sizes<W: Write>(
 ///
 /// # Errors
 /// After a fault the writer holds a beginning of the text.
-pub fn write_both<W: Write>(
+pub fn write_both<W: Sink>(
     first: &Evidence,
     second: &Evidence,
     both: Both,
     writer: &mut W,
 ) -> Result<(), WriteFault>
-    ensures wrote { Wrote (W.contents writer.old) (W.contents writer.new) result (both_text first.now.game first.now.evidence second.now.evidence both) }
+    ensures wrote { Wrote (W.taken writer.old) (W.taken writer.new) result (both_text first.now.game first.now.evidence second.now.evidence both) }
 {
     match both {
         Both::First(v, fault) => put_refusal(b"first ", v, fault, writer),

@@ -9,8 +9,8 @@ ghost use Rattle.formula.specs.declared.limits.TheConstants.{LONGEST_TEXT};
 
 use crate::closed::Closed;
 use calculus::put_state;
-use std::io::Write;
 use text::WriteFault;
+use text::sink::Sink;
 
 /// Writes the formula's canonical text, without an end of line and without memory. Each operator between two operands and
 /// each binder has parentheses, the outermost too: `(nu X. (mu Y. (<a>X || <b>Y)))`. So `parse` reads the same formula from it,
@@ -18,8 +18,8 @@ use text::WriteFault;
 ///
 /// # Errors
 /// After a fault the writer holds a beginning of the text.
-pub fn print<W: Write>(formula: &Closed, writer: &mut W) -> Result<(), WriteFault>
-    ensures wrote { Wrote (W.contents writer.old) (W.contents writer.new) result
+pub fn print<W: Sink>(formula: &Closed, writer: &mut W) -> Result<(), WriteFault>
+    ensures wrote { Wrote (W.taken writer.old) (W.taken writer.new) result
         (canon (closed_formula formula.now)) }
     ensures spells { let f = closed_formula formula.now in IsSpellable f → ∥ Spells (canon f) f ∥₁ }
     ensures within { let f = closed_formula formula.now in IsSpellable f → length (canon f) ≤ LONGEST_TEXT → ∥ SpellsWithin (canon f) f ∥₁ }

@@ -8,6 +8,7 @@ use Rattle.liftcore.specs.declared.error.ScheduleFault.{ScheduleFault}
 use Rattle.liftcore.specs.declared.error.ScheduleFault.TheVariants.{BadLine, NoSuchVertex, NoSuchWorker}
 use Rattle.liftcore.specs.declared.error.ScheduleError.{ScheduleError}
 use Rattle.liftcore.specs.declared.error.ScheduleError.TheVariants.{Fault, Memory}
+use Rattle.text.specs.declared.error.ReadFault.TheVariants as reads
 use Rattle.liftcore.specs.declared.error.ReadError.{ReadError}
 use Rattle.liftcore.specs.declared.error.ReadError.TheVariants as read
 
@@ -79,3 +80,7 @@ named Memory = None
 abbrev pub told : ReadError → Option (ScheduleFault × ℕ)
 told (read.Schedule error) = named error
 told (read.Read fault) = None
+
+-- that a read failed
+abbrev pub failed : ReadError
+failed = read.Read reads.Read

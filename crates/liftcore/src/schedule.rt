@@ -1,21 +1,23 @@
 // The reader of schedules.
 
 ghost use Rattle.std.specs.Prelude.{◌≡◌, ◌<◌, ◌≤◌, ◌∷◌, [], ℕ, List, IfErr, IfOk, IfSome, IsSomeAnd, MatchBool, MatchResult, OnOk, Some, false};
+ghost use Rattle.text.specs.Cause.{HasCause};
 ghost use Rattle.text.specs.Lines.{IfKnown};
 ghost use Rattle.text.specs.Reads.{Reads};
 ghost use Rattle.text.specs.Text.{pieces_of};
 ghost use Rattle.text.specs.Tokens as token;
 ghost use Rattle.liftcore.specs.Begun.{IsBegun};
 ghost use Rattle.liftcore.specs.Scan as at;
-ghost use Rattle.liftcore.specs.Schedule.{HasFaultAt, IsEventLine, IsSchedule, IsWithin, LineFault, named, told, vertex_of_event, worker_of_event};
+ghost use Rattle.liftcore.specs.Schedule.{HasFaultAt, IsEventLine, IsSchedule, IsWithin, LineFault, named, told, vertex_of_event, worker_of_event, failed};
 ghost use Rattle.liftcore.specs.Taken.{HasTaken, SoFar, Takes, TakesBlock, Tells, TellsRead};
 
 use crate::error::{ReadError, ScheduleError, ScheduleFault};
 use crate::event::Event;
 use crate::line::Line;
 use std::alloc::Global;
-use std::io::{BufRead, BufReader, ErrorKind, Read};
+use std::io::ErrorKind;
 use text::error::ReadFault;
+use text::source::{Blocks, Source, blocks_of, fault_after, fault_of};
 
 fn worker_of(event: Event) -> usize
     ensures { result ≡ worker_of_event event }
@@ -165,19 +167,15 @@ pub fn read_schedule(
 }
 
 // Takes the bytes at hand, and says whether there were some, or may be.
-fn take_block<B: BufRead>(reader: &mut B, intake: &mut Intake) -> Result<bool, ReadError>
+fn take_block<B: Blocks>(reader: &mut B, intake: &mut Intake) -> Result<bool, ReadError>
     ensures taken { IfOk result (λ more. IfKnown (B.remaining reader.old) (B.remaining reader.new) (TakesBlock intake.old intake.new more)) }
     ensures fault { IfErr result (TellsRead (B.remaining reader.old) intake.old) }
+    ensures cause { IfErr result (HasCause B.can_fail failed) }
 {
     let block = match reader.fill_buf() {
         Ok(block) => block,
-        Err(error) => {
-            return match error.kind() {
-                ErrorKind::Interrupted => Ok(true),
-                ErrorKind::OutOfMemory => Err(ReadError::Read(ReadFault::Memory)),
-                _ => Err(ReadError::Read(ReadFault::Read)),
-            };
-        }
+        Err(error) if error.kind() == ErrorKind::Interrupted => return Ok(true),
+        Err(error) => return Err(ReadError::Read(fault_of(reader, &error))),
     };
     let len = block.len();
     intake.take_all(block)?;
@@ -186,24 +184,25 @@ fn take_block<B: BufRead>(reader: &mut B, intake: &mut Intake) -> Result<bool, R
 }
 
 // Reads the whole text. A loop has to end, so this one has at most 2^64 turns.
-fn read_text<B: BufRead>(reader: &mut B, mut intake: Intake) -> Result<Vec<Event>, ReadError>
+fn read_text<B: Blocks>(reader: &mut B, mut intake: Intake) -> Result<Vec<Event>, ReadError>
     ensures events { IfOk result (λ events. IfSome (B.remaining reader.old) (λ left. (workers vertices : ℕ) (text : List ℕ)
         → HasTaken workers vertices text left intake → IsSchedule workers vertices text events.items)) }
     ensures fault { IfErr result (TellsRead (B.remaining reader.old) intake) }
+    ensures cause { IfErr result (HasCause B.can_fail failed) }
 {
     for _ in 0..u64::MAX {
         if !take_block(reader, &mut intake)? {
             return Ok(intake.finish()?);
         }
     }
-    Err(ReadError::Read(ReadFault::Read))
+    Err(ReadError::Read(fault_after(reader)))
 }
 
 /// Reads a schedule as [`read_schedule`] does, and keeps no line of its text: of it there is a block of 8,192 bytes, beside the events.
 ///
 /// # Errors
 /// Those of [`read_schedule`]. It is also refused where a read fails, or for want of memory for the block.
-pub fn read_schedule_from<R: Read + Drop>(
+pub fn read_schedule_from<R: Source + Drop>(
     alloc: Global,
     reader: R,
     workers: u32,
@@ -211,10 +210,10 @@ pub fn read_schedule_from<R: Read + Drop>(
 ) -> Result<Vec<Event>, ReadError>
     ensures reads { Reads (IsSchedule workers vertices) (IsSchedule workers vertices) (IsSchedule workers vertices) (HasFaultAt workers vertices)
         (λ v. v.items) told (R.remaining reader) result }
+    ensures cause { IfErr result (HasCause R.can_fail failed) }
 {
-    let mut reader = match BufReader::new(alloc, reader) {
-        Ok(reader) => reader,
-        Err(_) => return Err(ReadError::Read(ReadFault::Memory)),
+    let Ok(mut blocks) = blocks_of(alloc, reader) else {
+        return Err(ReadError::Read(ReadFault::Memory));
     };
-    read_text(&mut reader, Intake::new(alloc, workers, vertices))
+    read_text(&mut blocks, Intake::new(alloc, workers, vertices))
 }

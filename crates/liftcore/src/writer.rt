@@ -12,12 +12,12 @@ use crate::machine::Core;
 use crate::marks::Marks;
 use progress::measure::Measure;
 use progress::writer::put_measure;
-use std::io::Write;
+use text::sink::Sink;
 use text::{Piece, WriteFault, put, put_number, put_pieces};
 
-fn put_events<W: Write>(tally: Tally, writer: &mut W) -> Result<(), WriteFault>
+fn put_events<W: Sink>(tally: Tally, writer: &mut W) -> Result<(), WriteFault>
     requires { tally.done + tally.skipped < 2 ^ 64 }
-    ensures { Wrote (W.contents writer.old) (W.contents writer.new) result (events_line tally.done tally.skipped) }
+    ensures { Wrote (W.taken writer.old) (W.taken writer.new) result (events_line tally.done tally.skipped) }
 {
     put_pieces(
         writer,
@@ -33,8 +33,8 @@ fn put_events<W: Write>(tally: Tally, writer: &mut W) -> Result<(), WriteFault>
     )
 }
 
-fn put_value<W: Write>(v: u32, m: &Measure, writer: &mut W) -> Result<(), WriteFault>
-    ensures { Wrote (W.contents writer.old) (W.contents writer.new) result (value_line v m.now) }
+fn put_value<W: Sink>(v: u32, m: &Measure, writer: &mut W) -> Result<(), WriteFault>
+    ensures { Wrote (W.taken writer.old) (W.taken writer.new) result (value_line v m.now) }
 {
     put_number(writer, b"", v)?;
     put(writer, b" ")?;
@@ -43,8 +43,8 @@ fn put_value<W: Write>(v: u32, m: &Measure, writer: &mut W) -> Result<(), WriteF
 }
 
 // Writes a line for each vertex.
-fn put_values<W: Write>(core: &Core<'_>, writer: &mut W) -> Result<(), WriteFault>
-    ensures { Wrote (W.contents writer.old) (W.contents writer.new) result (value_lines 0 core.now.table.values) }
+fn put_values<W: Sink>(core: &Core<'_>, writer: &mut W) -> Result<(), WriteFault>
+    ensures { Wrote (W.taken writer.old) (W.taken writer.new) result (value_lines 0 core.now.table.values) }
 {
     core.known();
     for v in 0..core.vertices() {
@@ -61,9 +61,9 @@ fn separator(first: bool) -> &'static [u8]
 }
 
 // Writes those of so many vertices that are marked.
-fn put_members<W: Write>(marks: &Marks, vertices: u32, writer: &mut W) -> Result<(), WriteFault>
+fn put_members<W: Sink>(marks: &Marks, vertices: u32, writer: &mut W) -> Result<(), WriteFault>
     requires { vertices ≡ length marks.now }
-    ensures { Wrote (W.contents writer.old) (W.contents writer.new) result (listed (members marks.now)) }
+    ensures { Wrote (W.taken writer.old) (W.taken writer.new) result (listed (members marks.now)) }
 {
     let mut first = true;
     for v in 0..vertices {
@@ -81,8 +81,8 @@ fn word(flag: bool) -> &'static [u8]
     if flag { b"yes" } else { b"no" }
 }
 
-fn put_end<W: Write>(settled: bool, quiet: bool, writer: &mut W) -> Result<(), WriteFault>
-    ensures { Wrote (W.contents writer.old) (W.contents writer.new) result (end_lines settled quiet) }
+fn put_end<W: Sink>(settled: bool, quiet: bool, writer: &mut W) -> Result<(), WriteFault>
+    ensures { Wrote (W.taken writer.old) (W.taken writer.new) result (end_lines settled quiet) }
 {
     put_pieces(
         writer,
@@ -97,7 +97,7 @@ fn put_end<W: Write>(settled: bool, quiet: bool, writer: &mut W) -> Result<(), W
 }
 
 // Writes the whole text, where it is known whether the core is settled and quiet.
-fn put_replay<W: Write>(
+fn put_replay<W: Sink>(
     core: &Core<'_>,
     tally: Tally,
     settled: bool,
@@ -106,7 +106,7 @@ fn put_replay<W: Write>(
 ) -> Result<(), WriteFault>
     requires count { tally.done + tally.skipped < 2 ^ 64 }
     requires quiet { quiet ≡ is_quiet core.now }
-    ensures { Wrote (W.contents writer.old) (W.contents writer.new) result (replay_text tally.done tally.skipped core.now settled) }
+    ensures { Wrote (W.taken writer.old) (W.taken writer.new) result (replay_text tally.done tally.skipped core.now settled) }
 {
     put_events(tally, writer)?;
     put_values(core, writer)?;
@@ -120,14 +120,14 @@ fn put_replay<W: Write>(
 ///
 /// # Errors
 /// After a fault the writer holds a beginning of the text.
-pub fn write_replay<W: Write>(
+pub fn write_replay<W: Sink>(
     core: &Core<'_>,
     tally: Tally,
     writer: &mut W,
 ) -> Result<(), WriteFault>
     requires { tally.done + tally.skipped < 2 ^ 64 }
     ensures { (settled : Bool) × (IsTrue settled ↔ IsSettled core.now.table)
-        × Wrote (W.contents writer.old) (W.contents writer.new) result (replay_text tally.done tally.skipped core.now settled) }
+        × Wrote (W.taken writer.old) (W.taken writer.new) result (replay_text tally.done tally.skipped core.now settled) }
 {
     let settled = core.is_settled();
     put_replay(core, tally, settled, core.is_quiet(), writer)

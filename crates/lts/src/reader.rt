@@ -2,11 +2,13 @@
 
 ghost use Rattle.std.specs.Prelude.{◌≡◌, ℕ, ◌+◌, ◌≤◌, ◌<◌, List, [], length, Option, IfOk, IfErr, OnOk, IfSome, IfNone};
 ghost use Rattle.std.specs.List.{AllByRecursion, list_all};
+ghost use Rattle.text.specs.Cause.{HasCause};
 ghost use Rattle.text.specs.Lines.{IfKnown};
 ghost use Rattle.text.specs.Reads.{Reads};
 ghost use Rattle.systems.specs.Label as label;
 ghost use Rattle.systems.specs.System.{Arrow, IsArrow, set_of};
 ghost use Rattle.lts.specs.Aut.{IsAut, HasFault, HasFaultAt};
+ghost use Rattle.lts.specs.declared.error.AutError.TheVariants as errors;
 ghost use Rattle.lts.specs.Scan.{said};
 ghost use Rattle.systems.specs.Label.{texts};
 ghost use Rattle.lts.specs.Gathered.{Gathers};
@@ -17,10 +19,10 @@ use crate::error::{AutError, AutFault};
 use crate::intake::Rows;
 use crate::scan::{Announced, Kept, Spelled, header, transition};
 use std::alloc::Global;
-use std::io::{BufRead, BufReader, Read};
 use std::mem;
 use systems::limits::{LONGEST_LABEL, MOST_STATES, MOST_TRANSITIONS};
 use systems::system::{Lts, Transition};
+use text::source::{Blocks, Source, blocks_of};
 use text::stream::has_line;
 
 // What is wrong with what a header announces, if anything is.
@@ -38,10 +40,11 @@ fn first_fault(found: Announced) -> Option<AutFault>
 }
 
 // Reads the header.
-fn read_first<B: BufRead>(reader: &mut B, digits: &mut Vec<u8>) -> Result<Announced, AutError>
+fn read_first<B: Blocks>(reader: &mut B, digits: &mut Vec<u8>) -> Result<Announced, AutError>
     ensures first { IfOk result (λ found. IfKnown (B.remaining reader.old) (B.remaining reader.new) (BeginsWith found)) }
     ensures within { IfOk result IsAdmitted }
     ensures fault { IfErr result (Refuses (B.remaining reader.old) HasFault) }
+    ensures cause { IfErr result (HasCause B.can_fail errors.Read) }
 {
     let Some(found) = header(reader, digits)? else {
         let fault = AutFault::BadHeader;
@@ -82,7 +85,7 @@ fn row_fault(spelled: Spelled<'_>, states: u32) -> Option<AutFault>
 }
 
 // Reads the transition that comes after so many of them.
-fn read_row<B: BufRead>(
+fn read_row<B: Blocks>(
     alloc: Global,
     reader: &mut B,
     kept: &mut Kept,
@@ -100,6 +103,7 @@ fn read_row<B: BufRead>(
     ensures fault { IfErr result (λ e. (old : Option (List ℕ))
         → SoFar found.states good old (B.remaining reader.old) (texts rows.old.labels.items) rows.old.transitions.items
         → Refuses old (HasRestFault found) e) }
+    ensures cause { IfErr result (HasCause B.can_fail errors.Read) }
 {
     let line = u64::from(good) + 2;
     if !has_line(reader)? {
@@ -122,10 +126,11 @@ fn read_row<B: BufRead>(
 }
 
 // Reads on to the end of the text, where no line may stand.
-fn read_end<B: BufRead>(reader: &mut B, found: Announced) -> Result<(), AutError>
+fn read_end<B: Blocks>(reader: &mut B, found: Announced) -> Result<(), AutError>
     ensures end { OnOk result (IfKnown (B.remaining reader.old) (B.remaining reader.new) HasNoLine) }
     ensures fault { IfErr result (λ e. (old : Option (List ℕ)) (labels : List (List ℕ)) (transitions : List Transition)
         → SoFar found.states found.transitions old (B.remaining reader.old) labels transitions → Refuses old (HasRestFault found) e) }
+    ensures cause { IfErr result (HasCause B.can_fail errors.Read) }
 {
     if has_line(reader)? {
         let fault = AutFault::WrongCount;
@@ -136,7 +141,7 @@ fn read_end<B: BufRead>(reader: &mut B, found: Announced) -> Result<(), AutError
 }
 
 // Reads the transitions into rows that have none yet.
-fn read_rows<B: BufRead>(
+fn read_rows<B: Blocks>(
     alloc: Global,
     reader: &mut B,
     kept: &mut Kept,
@@ -153,6 +158,7 @@ fn read_rows<B: BufRead>(
     ensures within { OnOk result (length rows.new.transitions.items ≤ MOST_TRANSITIONS) }
     ensures labels { OnOk result (length rows.new.labels.items ≤ MOST_TRANSITIONS) }
     ensures fault { IfErr result (Refuses (B.remaining reader.old) (HasRestFault found)) }
+    ensures cause { IfErr result (HasCause B.can_fail errors.Read) }
 {
     for good in 0..found.transitions {
         read_row(alloc, reader, kept, found, good, rows)?;
@@ -161,7 +167,7 @@ fn read_rows<B: BufRead>(
 }
 
 // Reads what follows the header, by way of rows that have no transition yet.
-fn read_rest<B: BufRead>(
+fn read_rest<B: Blocks>(
     alloc: Global,
     reader: &mut B,
     kept: &mut Kept,
@@ -176,6 +182,7 @@ fn read_rest<B: BufRead>(
         × IfKnown (B.remaining reader.old) (B.remaining reader.new) (AreTransitions found arrows)
         × (l.system ≡ record { states = found.states; initial = found.initial; arrows = set_of arrows })) }
     ensures fault { IfErr result (Refuses (B.remaining reader.old) (HasRestFault found)) }
+    ensures cause { IfErr result (HasCause B.can_fail errors.Read) }
 {
     read_rows(alloc, reader, kept, found, rows)?;
     let transitions = mem::replace(&mut rows.transitions, Vec::new(alloc));
@@ -183,9 +190,10 @@ fn read_rest<B: BufRead>(
 }
 
 // Reads the whole text.
-fn read_text<B: BufRead>(alloc: Global, reader: &mut B) -> Result<Lts, AutError>
+fn read_text<B: Blocks>(alloc: Global, reader: &mut B) -> Result<Lts, AutError>
     ensures spelled { IfOk result (λ l. IfSome (B.remaining reader.old) (λ text. IsAut text l.system)) }
     ensures fault { IfErr result (Refuses (B.remaining reader.old) HasFault) }
+    ensures cause { IfErr result (HasCause B.can_fail errors.Read) }
 {
     let mut kept = Kept::new(alloc);
     let found = read_first(reader, &mut kept.digits)?;
@@ -199,12 +207,10 @@ fn read_text<B: BufRead>(alloc: Global, reader: &mut B) -> Result<Lts, AutError>
 ///
 /// # Errors
 /// The first faulty line decides. A text is also refused where a read fails, or for want of memory.
-pub fn read_aut<R: Read + Drop>(alloc: Global, reader: R) -> Result<Lts, AutError>
-    ensures { Reads IsAut IsAut IsAut HasFaultAt (λ l. l.system) named (R.remaining reader) result }
+pub fn read_aut<R: Source + Drop>(alloc: Global, reader: R) -> Result<Lts, AutError>
+    ensures reads { Reads IsAut IsAut IsAut HasFaultAt (λ l. l.system) named (R.remaining reader) result }
+    ensures cause { IfErr result (HasCause R.can_fail errors.Read) }
 {
-    let mut reader = match BufReader::new(alloc, reader) {
-        Ok(reader) => reader,
-        Err(_) => return Err(AutError::Memory),
-    };
-    read_text(alloc, &mut reader)
+    let mut blocks = blocks_of(alloc, reader)?;
+    read_text(alloc, &mut blocks)
 }

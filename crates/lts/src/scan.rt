@@ -1,6 +1,8 @@
 // The two shapes of lines, as they are read.
 
-ghost use Rattle.std.specs.Prelude.{IfOk};
+ghost use Rattle.std.specs.Prelude.{MatchResult};
+ghost use Rattle.text.specs.Cause.{HasCause};
+ghost use Rattle.text.specs.declared.error.ReadFault.TheVariants as reads;
 ghost use Rattle.text.specs.Lines.{IfKnown};
 ghost use Rattle.text.specs.Stream.{PassesLine};
 ghost use Rattle.lts.specs.Scan.{PassesTransition};
@@ -9,9 +11,10 @@ ghost use Rattle.lts.specs.Scan as at;
 
 use crate::plain::plain_line;
 use std::alloc::Global;
-use std::io::{BufRead, Error, ErrorKind};
+use std::io::ErrorKind;
 use systems::limits::LONGEST_LABEL;
 use text::error::ReadFault;
+use text::source::{Blocks, fault_of};
 use text::stream::{ends, number_before, quoted, sign, word};
 
 /// What a header says. A number that is too great for its type is read as the greatest one.
@@ -54,8 +57,9 @@ impl Kept {
 }
 
 // Reads the numbers of a header, of whose line this is the rest.
-fn counts<B: BufRead>(reader: &mut B, digits: &mut Vec<u8>) -> Result<Option<Announced>, ReadFault>
-    ensures { IfOk result (λ found. IfKnown (B.remaining reader.old) (B.remaining reader.new) (PassesLine at.counts_at found)) }
+fn counts<B: Blocks>(reader: &mut B, digits: &mut Vec<u8>) -> Result<Option<Announced>, ReadFault>
+    ensures { MatchResult result (λ found. IfKnown (B.remaining reader.old) (B.remaining reader.new) (PassesLine at.counts_at found))
+        (HasCause B.can_fail reads.Read) }
 {
     let Some(initial) = number_before(reader, b',', digits)? else {
         return Ok(None);
@@ -77,11 +81,12 @@ fn counts<B: BufRead>(reader: &mut B, digits: &mut Vec<u8>) -> Result<Option<Ann
 }
 
 /// Reads the line that is next as a header, if it has the shape of one.
-pub(crate) fn header<B: BufRead>(
+pub(crate) fn header<B: Blocks>(
     reader: &mut B,
     digits: &mut Vec<u8>,
 ) -> Result<Option<Announced>, ReadFault>
-    ensures { IfOk result (λ found. IfKnown (B.remaining reader.old) (B.remaining reader.new) (PassesLine at.header_at found)) }
+    ensures { MatchResult result (λ found. IfKnown (B.remaining reader.old) (B.remaining reader.new) (PassesLine at.header_at found))
+        (HasCause B.can_fail reads.Read) }
 {
     if !word(reader, b"des")? {
         return Ok(None);
@@ -93,8 +98,9 @@ pub(crate) fn header<B: BufRead>(
 }
 
 // Reads the target of a transition, of whose line this is the rest.
-fn target<B: BufRead>(reader: &mut B, digits: &mut Vec<u8>) -> Result<Option<u32>, ReadFault>
-    ensures { IfOk result (λ found. IfKnown (B.remaining reader.old) (B.remaining reader.new) (PassesLine at.target_at found)) }
+fn target<B: Blocks>(reader: &mut B, digits: &mut Vec<u8>) -> Result<Option<u32>, ReadFault>
+    ensures { MatchResult result (λ found. IfKnown (B.remaining reader.old) (B.remaining reader.new) (PassesLine at.target_at found))
+        (HasCause B.can_fail reads.Read) }
 {
     if !sign(reader, b',')? {
         return Ok(None);
@@ -109,8 +115,9 @@ fn target<B: BufRead>(reader: &mut B, digits: &mut Vec<u8>) -> Result<Option<u32
 }
 
 // Reads the line that is next as a transition token by token, if it has the shape of one.
-fn by_tokens<B: BufRead>(reader: &mut B, kept: &mut Kept) -> Result<Option<Ends>, ReadFault>
-    ensures { IfOk result (λ found. IfKnown (B.remaining reader.old) (B.remaining reader.new) (PassesTransition kept.new.label.items found)) }
+fn by_tokens<B: Blocks>(reader: &mut B, kept: &mut Kept) -> Result<Option<Ends>, ReadFault>
+    ensures { MatchResult result (λ found. IfKnown (B.remaining reader.old) (B.remaining reader.new) (PassesTransition kept.new.label.items found))
+        (HasCause B.can_fail reads.Read) }
 {
     if !sign(reader, b'(')? {
         return Ok(None);
@@ -127,22 +134,15 @@ fn by_tokens<B: BufRead>(reader: &mut B, kept: &mut Kept) -> Result<Option<Ends>
     Ok(Some(Ends { source, target }))
 }
 
-fn fault_of(error: &Error) -> ReadFault {
-    if error.kind() == ErrorKind::OutOfMemory {
-        ReadFault::Memory
-    } else {
-        ReadFault::Read
-    }
-}
-
 // Reads the line that is next as a transition where it stands whole in the block at hand, as tools write it. Else it takes nothing.
-fn at_hand<B: BufRead>(reader: &mut B, kept: &mut Kept) -> Result<Option<Ends>, ReadFault>
-    ensures { IfOk result (λ found. IfKnown (B.remaining reader.old) (B.remaining reader.new) (PassesAtHand kept.new.label.items found)) }
+fn at_hand<B: Blocks>(reader: &mut B, kept: &mut Kept) -> Result<Option<Ends>, ReadFault>
+    ensures { MatchResult result (λ found. IfKnown (B.remaining reader.old) (B.remaining reader.new) (PassesAtHand kept.new.label.items found))
+        (HasCause B.can_fail reads.Read) }
 {
     let block = match reader.fill_buf() {
         Ok(block) => block,
         Err(error) if error.kind() == ErrorKind::Interrupted => return Ok(None),
-        Err(error) => return Err(fault_of(&error)),
+        Err(error) => return Err(fault_of(reader, &error)),
     };
     let Some(line) = plain_line(block) else {
         return Ok(None);
@@ -160,11 +160,12 @@ fn at_hand<B: BufRead>(reader: &mut B, kept: &mut Kept) -> Result<Option<Ends>, 
 }
 
 /// Reads the line that is next as a transition, if it has the shape of one.
-pub(crate) fn transition<B: BufRead>(
+pub(crate) fn transition<B: Blocks>(
     reader: &mut B,
     kept: &mut Kept,
 ) -> Result<Option<Ends>, ReadFault>
-    ensures { IfOk result (λ found. IfKnown (B.remaining reader.old) (B.remaining reader.new) (PassesTransition kept.new.label.items found)) }
+    ensures { MatchResult result (λ found. IfKnown (B.remaining reader.old) (B.remaining reader.new) (PassesTransition kept.new.label.items found))
+        (HasCause B.can_fail reads.Read) }
 {
     match at_hand(reader, kept)? {
         Some(ends) => Ok(Some(ends)),

@@ -8,9 +8,9 @@ ghost use Rattle.lts.specs.Aut.{IsAut};
 ghost use Rattle.lts.specs.Canon.{aut_text, header_line, arrow_line};
 ghost use Rattle.text.specs.Wrote.{Wrote};
 
-use std::io::Write;
 use systems::limits::MOST_TRANSITIONS;
 use systems::system::{Lts, Transition};
+use text::sink::Sink;
 use text::{Lines, Piece, WriteFault, put_lines, put_pieces};
 
 /// Writes the system as its canonical Aldebaran text: a header, and a line for each distinct transition, ascending by
@@ -18,8 +18,8 @@ use text::{Lines, Piece, WriteFault, put_lines, put_pieces};
 ///
 /// # Errors
 /// After a fault the writer holds a beginning of the text.
-pub fn write_aut<W: Write>(lts: &Lts, out: &mut W) -> Result<(), WriteFault>
-    ensures wrote { Wrote (W.contents out.old) (W.contents out.new) result (aut_text lts.now.system) }
+pub fn write_aut<W: Sink>(lts: &Lts, out: &mut W) -> Result<(), WriteFault>
+    ensures wrote { Wrote (W.taken out.old) (W.taken out.new) result (aut_text lts.now.system) }
     // The text spells the system.
     ensures spelled { IsAut (aut_text lts.now.system) lts.now.system }
 {
@@ -32,9 +32,9 @@ pub fn write_aut<W: Write>(lts: &Lts, out: &mut W) -> Result<(), WriteFault>
 ///
 /// # Errors
 /// After a fault the writer holds a beginning of the text.
-pub fn write_part<W: Write>(lts: &Lts, part: &[Transition], out: &mut W) -> Result<(), WriteFault>
+pub fn write_part<W: Sink>(lts: &Lts, part: &[Transition], out: &mut W) -> Result<(), WriteFault>
     requires { IsInside lts.now part.now }
-    ensures wrote { Wrote (W.contents out.old) (W.contents out.new) result (aut_text (system_with lts.now part.now)) }
+    ensures wrote { Wrote (W.taken out.old) (W.taken out.new) result (aut_text (system_with lts.now part.now)) }
     // The text spells it, where the transitions are given in order and each once.
     ensures spelled { IsSystem (system_with lts.now part.now) → length part.now ≤ MOST_TRANSITIONS
         → IsAut (aut_text (system_with lts.now part.now)) (system_with lts.now part.now) }
@@ -43,13 +43,13 @@ pub fn write_part<W: Write>(lts: &Lts, part: &[Transition], out: &mut W) -> Resu
     put_arrows(lts, part, out)
 }
 
-fn put_header<W: Write>(
+fn put_header<W: Sink>(
     initial: u32,
     transitions: usize,
     states: u32,
     out: &mut W,
 ) -> Result<(), WriteFault>
-    ensures { Wrote (W.contents out.old) (W.contents out.new) result (header_line initial transitions states) }
+    ensures { Wrote (W.taken out.old) (W.taken out.new) result (header_line initial transitions states) }
 {
     put_pieces(
         out,
@@ -85,22 +85,22 @@ impl Lines for ArrowLines<'_> {
         self.part.len()
     }
 
-    fn put_line<W: Write>(&self, number: usize, writer: &mut W) -> Result<(), WriteFault> {
+    fn put_line<W: Sink>(&self, number: usize, writer: &mut W) -> Result<(), WriteFault> {
         put_arrow(self.lts, self.part[number], writer)
     }
 }
 
 // Writes a line for each of the transitions.
-fn put_arrows<W: Write>(lts: &Lts, part: &[Transition], out: &mut W) -> Result<(), WriteFault>
+fn put_arrows<W: Sink>(lts: &Lts, part: &[Transition], out: &mut W) -> Result<(), WriteFault>
     requires { IsInside lts.now part.now }
-    ensures { Wrote (W.contents out.old) (W.contents out.new) result (flat_map arrow_line (map (arrow_of lts.now.labels) part.now)) }
+    ensures { Wrote (W.taken out.old) (W.taken out.new) result (flat_map arrow_line (map (arrow_of lts.now.labels) part.now)) }
 {
     put_lines(&ArrowLines { lts, part }, out)
 }
 
-fn put_arrow<W: Write>(lts: &Lts, transition: Transition, out: &mut W) -> Result<(), WriteFault>
+fn put_arrow<W: Sink>(lts: &Lts, transition: Transition, out: &mut W) -> Result<(), WriteFault>
     requires { transition.label < length lts.now.labels }
-    ensures { Wrote (W.contents out.old) (W.contents out.new) result (arrow_line (arrow_of lts.now.labels transition)) }
+    ensures { Wrote (W.taken out.old) (W.taken out.new) result (arrow_line (arrow_of lts.now.labels transition)) }
 {
     put_pieces(
         out,

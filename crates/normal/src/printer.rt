@@ -13,7 +13,7 @@ use crate::form::Normal;
 use crate::node::{Kind, Node};
 use calculus::put_action;
 use calculus::tree::Act;
-use std::io::Write;
+use text::sink::Sink;
 use text::{Piece, WriteFault, put, put_pieces};
 
 /// Writes a line with the number of nodes, the greatest priority and the depth, and then a line for each node: its number,
@@ -21,8 +21,8 @@ use text::{Piece, WriteFault, put, put_pieces};
 ///
 /// # Errors
 /// After a fault the writer holds a beginning of the text.
-pub fn print_normal<W: Write>(form: &Normal, writer: &mut W) -> Result<(), WriteFault>
-    ensures wrote { Wrote (W.contents writer.old) (W.contents writer.new) result
+pub fn print_normal<W: Sink>(form: &Normal, writer: &mut W) -> Result<(), WriteFault>
+    ensures wrote { Wrote (W.taken writer.old) (W.taken writer.new) result
         (normal_text (normal_nodes form.now) (normal_depth form.now)) }
 {
     put_summary(form.nodes(), form.depth(), writer)?;
@@ -40,8 +40,8 @@ fn greatest_priority(nodes: &[Node]) -> u32
     greatest
 }
 
-fn put_summary<W: Write>(nodes: &[Node], depth: u32, writer: &mut W) -> Result<(), WriteFault>
-    ensures { Wrote (W.contents writer.old) (W.contents writer.new) result (summary_line (nodes_of nodes.now) depth) }
+fn put_summary<W: Sink>(nodes: &[Node], depth: u32, writer: &mut W) -> Result<(), WriteFault>
+    ensures { Wrote (W.taken writer.old) (W.taken writer.new) result (summary_line (nodes_of nodes.now) depth) }
 {
     put_pieces(
         writer,
@@ -58,8 +58,8 @@ fn put_summary<W: Write>(nodes: &[Node], depth: u32, writer: &mut W) -> Result<(
 }
 
 // Writes a line for each node, in order.
-fn put_nodes<W: Write>(nodes: &[Node], writer: &mut W) -> Result<(), WriteFault>
-    ensures { Wrote (W.contents writer.old) (W.contents writer.new) result (node_lines 0 (nodes_of nodes.now)) }
+fn put_nodes<W: Sink>(nodes: &[Node], writer: &mut W) -> Result<(), WriteFault>
+    ensures { Wrote (W.taken writer.old) (W.taken writer.new) result (node_lines 0 (nodes_of nodes.now)) }
 {
     for (number, node) in nodes.iter().enumerate() {
         put_node(number, node, writer)?;
@@ -67,8 +67,8 @@ fn put_nodes<W: Write>(nodes: &[Node], writer: &mut W) -> Result<(), WriteFault>
     Ok(())
 }
 
-fn put_node<W: Write>(number: usize, node: &Node, writer: &mut W) -> Result<(), WriteFault>
-    ensures { Wrote (W.contents writer.old) (W.contents writer.new) result (node_line number (node_of node.now)) }
+fn put_node<W: Sink>(number: usize, node: &Node, writer: &mut W) -> Result<(), WriteFault>
+    ensures { Wrote (W.taken writer.old) (W.taken writer.new) result (node_line number (node_of node.now)) }
 {
     put_front(number, node, writer)?;
     put_rest(&node.kind, writer)
@@ -91,8 +91,8 @@ fn word(kind: &Kind) -> &'static [u8]
 }
 
 // Writes the fields that every node has.
-fn put_front<W: Write>(number: usize, node: &Node, writer: &mut W) -> Result<(), WriteFault>
-    ensures { Wrote (W.contents writer.old) (W.contents writer.new) result
+fn put_front<W: Sink>(number: usize, node: &Node, writer: &mut W) -> Result<(), WriteFault>
+    ensures { Wrote (W.taken writer.old) (W.taken writer.new) result
         (fields (decimal number ∷ kind_text (shape_of node.now.kind) ∷ decimal node.now.priority ∷ [])) }
 {
     put_pieces(
@@ -108,8 +108,8 @@ fn put_front<W: Write>(number: usize, node: &Node, writer: &mut W) -> Result<(),
 }
 
 // Writes the other fields, and the end of the line.
-fn put_rest<W: Write>(kind: &Kind, writer: &mut W) -> Result<(), WriteFault>
-    ensures { Wrote (W.contents writer.old) (W.contents writer.new) result (after_spaces (rest_of (shape_of kind.now)) ++ line_end) }
+fn put_rest<W: Sink>(kind: &Kind, writer: &mut W) -> Result<(), WriteFault>
+    ensures { Wrote (W.taken writer.old) (W.taken writer.new) result (after_spaces (rest_of (shape_of kind.now)) ++ line_end) }
 {
     match kind {
         Kind::True | Kind::False => put(writer, b"\n"),
@@ -135,8 +135,8 @@ fn put_rest<W: Write>(kind: &Kind, writer: &mut W) -> Result<(), WriteFault>
     }
 }
 
-fn put_modality<W: Write>(child: u32, action: &Act, writer: &mut W) -> Result<(), WriteFault>
-    ensures { Wrote (W.contents writer.old) (W.contents writer.new) result
+fn put_modality<W: Sink>(child: u32, action: &Act, writer: &mut W) -> Result<(), WriteFault>
+    ensures { Wrote (W.taken writer.old) (W.taken writer.new) result
         (codes " " ++ (decimal child ++ (codes " " ++ (action_text (action_of action.now) ++ line_end)))) }
 {
     put_pieces(

@@ -10,6 +10,7 @@ use Rattle.std.proofs.Math.ListN.{drop_of_length-le}
 use Rattle.std.proofs.lemmas.Option.{slice_get-get_or}
 use Rattle.game.specs.declared.player.Player.TheVariants.{Even}
 use Rattle.game.specs.Game.{Game, vertex}
+use Rattle.text.specs.Taken.{Taken}
 use Rattle.text.specs.Wrote.{Wrote, lines_from}
 use Rattle.text.proofs.Writing.{Wrote-as}
 use Rattle.pgsolver.specs.Canon.{front_text, successors_text, name_text, vertex_line, vertex_lines, line_at, line_of}
@@ -77,6 +78,6 @@ all_lines g = more_lines (line_at g) g.named 0 g.vertices here
     here i h = let same : 0 + i ≡ i = omega arith in rw same refl
 
 -- what was written of a vertex that is there is its line
-pub line_there : {T E : Type 0} → (g : Game) (v : ℕ) (a b : Option (List ℕ)) (r : Result T E) → v < length g.vertices
+pub line_there : {T E : Type 0} → (g : Game) (v : ℕ) (a b : Taken) (r : Result T E) → v < length g.vertices
     → ((x : Vertex) → vertex g v ≡ Some x → Wrote a b r (vertex_line g.named v x)) → Wrote a b r (line_at g v)
 line_there g v a b r h each = let there = slice_get-get_or g.vertices v other h in Wrote-as a b r _ _ (sym (ap (line_of g.named v) there)) (each _ there)

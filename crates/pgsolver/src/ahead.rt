@@ -1,41 +1,20 @@
 // The byte that is next in a reader, and the blanks before it.
 
-ghost use Rattle.std.specs.Prelude.{◌≤◌, IfOk, IfSome};
+ghost use Rattle.std.specs.Prelude.{◌≤◌, IfErr, IfOk, IfSome, MatchResult};
+ghost use Rattle.text.specs.Cause.{HasCause};
 ghost use Rattle.text.specs.Lines.{IfKnown};
-ghost use Rattle.text.specs.Stream.{Shows};
+ghost use Rattle.text.specs.declared.error.ReadFault.TheVariants as reads;
 ghost use Rattle.pgsolver.specs.Passes.{SkipsTo, PassesGap, PassesComma, PassesDigit};
 
-use std::io::{BufRead, Error, ErrorKind};
 use text::bytes::is_blank;
 use text::error::ReadFault;
-
-/// What a failed read is.
-pub(crate) fn fault_of(error: &Error) -> ReadFault {
-    if error.kind() == ErrorKind::OutOfMemory {
-        ReadFault::Memory
-    } else {
-        ReadFault::Read
-    }
-}
-
-// Looks at the next byte, which stays; none where the text has ended. A loop has to end, so it has at most 2^64 turns.
-fn look<B: BufRead>(reader: &mut B) -> Result<Option<u8>, ReadFault>
-    ensures next { IfOk result (Shows (B.remaining reader.old) (B.remaining reader.new)) }
-    ensures room { IfOk result (λ next. IfSome next (λ _. IfSome (B.remaining reader.old) (λ _. IfSome (B.consumable_len reader.new) (λ n. 1 ≤ n)))) }
-{
-    for _ in 0..u64::MAX {
-        match reader.fill_buf() {
-            Ok(block) => return Ok(block.first().copied()),
-            Err(error) if error.kind() == ErrorKind::Interrupted => {}
-            Err(error) => return Err(fault_of(&error)),
-        }
-    }
-    Err(ReadFault::Read)
-}
+use text::source::{Blocks, fault_after};
+use text::stream::look;
 
 /// Takes the blank that is next, if one is, and says whether it was there.
-pub(crate) fn gap<B: BufRead>(reader: &mut B) -> Result<bool, ReadFault>
-    ensures { IfOk result (λ found. IfKnown (B.remaining reader.old) (B.remaining reader.new) (PassesGap found)) }
+pub(crate) fn gap<B: Blocks>(reader: &mut B) -> Result<bool, ReadFault>
+    ensures { MatchResult result (λ found. IfKnown (B.remaining reader.old) (B.remaining reader.new) (PassesGap found))
+        (HasCause B.can_fail reads.Read) }
 {
     match look(reader)? {
         Some(byte) if is_blank(byte) => {
@@ -47,9 +26,10 @@ pub(crate) fn gap<B: BufRead>(reader: &mut B) -> Result<bool, ReadFault>
 }
 
 /// Takes the blanks in front, and looks at the byte that is next then.
-pub(crate) fn next<B: BufRead>(reader: &mut B) -> Result<Option<u8>, ReadFault>
+pub(crate) fn next<B: Blocks>(reader: &mut B) -> Result<Option<u8>, ReadFault>
     ensures next { IfOk result (λ next. IfKnown (B.remaining reader.old) (B.remaining reader.new) (SkipsTo next)) }
     ensures room { IfOk result (λ next. IfSome next (λ _. IfSome (B.remaining reader.old) (λ _. IfSome (B.consumable_len reader.new) (λ n. 1 ≤ n)))) }
+    ensures cause { IfErr result (HasCause B.can_fail reads.Read) }
 {
     for _ in 0..u64::MAX {
         match look(reader)? {
@@ -57,12 +37,13 @@ pub(crate) fn next<B: BufRead>(reader: &mut B) -> Result<Option<u8>, ReadFault>
             next => return Ok(next),
         }
     }
-    Err(ReadFault::Read)
+    Err(fault_after(reader))
 }
 
 /// Takes the blanks in front and the comma behind them, and says whether a comma was there.
-pub(crate) fn comma<B: BufRead>(reader: &mut B) -> Result<bool, ReadFault>
-    ensures { IfOk result (λ found. IfKnown (B.remaining reader.old) (B.remaining reader.new) (PassesComma found)) }
+pub(crate) fn comma<B: Blocks>(reader: &mut B) -> Result<bool, ReadFault>
+    ensures { MatchResult result (λ found. IfKnown (B.remaining reader.old) (B.remaining reader.new) (PassesComma found))
+        (HasCause B.can_fail reads.Read) }
 {
     if next(reader)? != Some(b',') {
         return Ok(false);
@@ -72,8 +53,9 @@ pub(crate) fn comma<B: BufRead>(reader: &mut B) -> Result<bool, ReadFault>
 }
 
 /// Takes the blanks in front, and says whether a digit is next then.
-pub(crate) fn digit_follows<B: BufRead>(reader: &mut B) -> Result<bool, ReadFault>
-    ensures { IfOk result (λ found. IfKnown (B.remaining reader.old) (B.remaining reader.new) (PassesDigit found)) }
+pub(crate) fn digit_follows<B: Blocks>(reader: &mut B) -> Result<bool, ReadFault>
+    ensures { MatchResult result (λ found. IfKnown (B.remaining reader.old) (B.remaining reader.new) (PassesDigit found))
+        (HasCause B.can_fail reads.Read) }
 {
     match next(reader)? {
         Some(byte) => Ok(byte.is_ascii_digit()),

@@ -1,16 +1,18 @@
 // A vertex line as it is read: at once where it stands whole in the block at hand, and else token by token.
 
-ghost use Rattle.std.specs.Prelude.{◌≡◌, IfOk};
+ghost use Rattle.std.specs.Prelude.{◌≡◌, MatchResult};
+ghost use Rattle.text.specs.Cause.{HasCause};
 ghost use Rattle.text.specs.Lines.{IfKnown};
 ghost use Rattle.text.specs.Text.{without_cr};
+ghost use Rattle.text.specs.declared.error.ReadFault.TheVariants as reads;
 ghost use Rattle.pgsolver.specs.Passes.{PassesAtHand, PassesVertex};
 
-use crate::ahead::fault_of;
 use crate::scan::{Head, vertex_line};
 use crate::tokens::by_tokens;
-use std::io::{BufRead, ErrorKind};
+use std::io::ErrorKind;
 use text::error::ReadFault;
 use text::scan::cut_at;
+use text::source::{Blocks, fault_of};
 
 // Without a CR at the end.
 fn cut_cr(piece: &[u8]) -> &[u8]
@@ -23,16 +25,17 @@ fn cut_cr(piece: &[u8]) -> &[u8]
 }
 
 // Reads the line that is next where it stands whole in the block at hand, its end with it. Else it takes nothing.
-fn at_hand<B: BufRead>(
+fn at_hand<B: Blocks>(
     reader: &mut B,
     targets: &mut Vec<u32>,
 ) -> Result<Option<Option<Head>>, ReadFault>
-    ensures { IfOk result (λ found. IfKnown (B.remaining reader.old) (B.remaining reader.new) (PassesAtHand targets.new.items found)) }
+    ensures { MatchResult result (λ found. IfKnown (B.remaining reader.old) (B.remaining reader.new) (PassesAtHand targets.new.items found))
+        (HasCause B.can_fail reads.Read) }
 {
     let block = match reader.fill_buf() {
         Ok(block) => block,
         Err(error) if error.kind() == ErrorKind::Interrupted => return Ok(None),
-        Err(error) => return Err(fault_of(&error)),
+        Err(error) => return Err(fault_of(reader, &error)),
     };
     let Some((piece, _)) = cut_at(block, b'\n') else {
         return Ok(None);
@@ -45,12 +48,13 @@ fn at_hand<B: BufRead>(
 
 /// Reads the line that is next as a vertex line, if it has the shape of one. Its successors are put into the list, where one that stands twice may be
 /// once.
-pub(crate) fn vertex<B: BufRead>(
+pub(crate) fn vertex<B: Blocks>(
     reader: &mut B,
     kept: &mut Vec<u8>,
     targets: &mut Vec<u32>,
 ) -> Result<Option<Head>, ReadFault>
-    ensures { IfOk result (λ found. IfKnown (B.remaining reader.old) (B.remaining reader.new) (PassesVertex targets.new.items found)) }
+    ensures { MatchResult result (λ found. IfKnown (B.remaining reader.old) (B.remaining reader.new) (PassesVertex targets.new.items found))
+        (HasCause B.can_fail reads.Read) }
 {
     match at_hand(reader, targets)? {
         Some(found) => Ok(found),

@@ -2,7 +2,9 @@
 
 ghost use Rattle.std.specs.Prelude.{◌≡◌, ℕ, ◌+◌, ◌≤◌, ◌<◌, [], List, length, Option, IfOk, IfErr, OnOk, IfSome, IfNone, None, slice_index_or, vec_len};
 ghost use Rattle.game.specs.Game.{IsGame};
+ghost use Rattle.text.specs.Cause.{HasCause};
 ghost use Rattle.text.specs.Lines.{IfKnown};
+ghost use Rattle.pgsolver.specs.declared.error.PgError.TheVariants as errors;
 ghost use Rattle.text.specs.Reads.{Reads};
 ghost use Rattle.pgsolver.specs.Scan.{line_of};
 ghost use Rattle.pgsolver.specs.Spelling.{Line, IsGameText};
@@ -21,14 +23,15 @@ use game::graph::Game;
 use game::limits::MOST_VERTICES;
 use normal::limits::GREATEST_PRIORITY;
 use std::alloc::Global;
-use std::io::{BufRead, BufReader, Read};
+use text::source::{Blocks, Source, blocks_of};
 use text::stream::has_line;
 
 // Reads the header, and answers the greatest identifier.
-fn read_first<B: BufRead>(reader: &mut B, kept: &mut Vec<u8>) -> Result<u32, PgError>
+fn read_first<B: Blocks>(reader: &mut B, kept: &mut Vec<u8>) -> Result<u32, PgError>
     ensures first { IfOk result (λ n. IfKnown (B.remaining reader.old) (B.remaining reader.new) (BeginsWith n)) }
     ensures within { IfOk result (λ n. n < MOST_VERTICES) }
     ensures fault { IfErr result (Refuses (B.remaining reader.old) HasFault) }
+    ensures cause { IfErr result (HasCause B.can_fail errors.Read) }
 {
     let Some(last) = header(reader, kept)? else {
         let fault = PgFault::BadHeader;
@@ -66,7 +69,7 @@ fn first_fault(head: Head, targets: &[u32], last: u32, places: &[Option<u32>]) -
 }
 
 // Reads the line that is next, and answers what it says before its successors, which are put into the list as a set.
-fn good_line<B: BufRead>(
+fn good_line<B: Blocks>(
     reader: &mut B,
     kept: &mut Vec<u8>,
     last: u32,
@@ -80,6 +83,7 @@ fn good_line<B: BufRead>(
     ensures few { OnOk result (vec_len targets.new ≤ MOST_VERTICES) }
     ensures fault { IfErr result (λ e. (before : List Line) → ArePlaces last before places.now
         → TellsFault last before (B.remaining reader.old) place e) }
+    ensures cause { IfErr result (HasCause B.can_fail errors.Read) }
 {
     let Some(head) = vertex(reader, kept, targets)? else {
         let fault = PgFault::BadLine;
@@ -93,7 +97,7 @@ fn good_line<B: BufRead>(
 }
 
 // Reads the vertex line that comes after so many of them.
-fn read_row<B: BufRead>(
+fn read_row<B: Blocks>(
     reader: &mut B,
     kept: &mut Vec<u8>,
     last: u32,
@@ -110,6 +114,7 @@ fn read_row<B: BufRead>(
     ensures places { OnOk result (vec_len rows.new.places ≡ last + 1) }
     ensures fault { IfErr result (λ e. (old : Option (List ℕ)) → SoFar last good old (B.remaining reader.old) rows.old.vertices rows.old.places.items
         → Refuses old (HasRestFault last) e) }
+    ensures cause { IfErr result (HasCause B.can_fail errors.Read) }
 {
     let place = u64::from(good) + 2;
     if !has_line(reader)? {
@@ -121,7 +126,7 @@ fn read_row<B: BufRead>(
 }
 
 // Reads on to the end of the text, where no line may stand: each identifier has one.
-fn read_end<B: BufRead>(
+fn read_end<B: Blocks>(
     reader: &mut B,
     kept: &mut Vec<u8>,
     last: u32,
@@ -130,6 +135,7 @@ fn read_end<B: BufRead>(
     ensures end { OnOk result (IfKnown (B.remaining reader.old) (B.remaining reader.new) HasNoLine) }
     ensures fault { IfErr result (λ e. (old : Option (List ℕ)) (vertices : List Vertex) (places : List (Option ℕ))
         → SoFar last (last + 1) old (B.remaining reader.old) vertices places → Refuses old (HasRestFault last) e) }
+    ensures cause { IfErr result (HasCause B.can_fail errors.Read) }
 {
     if !has_line(reader)? {
         return Ok(());
@@ -144,7 +150,7 @@ fn read_end<B: BufRead>(
 }
 
 // Reads the vertex lines into rows that have none yet.
-fn read_rows<B: BufRead>(
+fn read_rows<B: Blocks>(
     reader: &mut B,
     kept: &mut Vec<u8>,
     last: u32,
@@ -159,6 +165,7 @@ fn read_rows<B: BufRead>(
     ensures filled { OnOk result (AreFilled (length rows.new.vertices) rows.new.places.items) }
     ensures count { OnOk result (vec_len rows.new.places ≡ length rows.new.vertices) }
     ensures fault { IfErr result (Refuses (B.remaining reader.old) (HasRestFault last)) }
+    ensures cause { IfErr result (HasCause B.can_fail errors.Read) }
 {
     for good in 0..last + 1 {
         read_row(reader, kept, last, good, rows)?;
@@ -167,9 +174,10 @@ fn read_rows<B: BufRead>(
 }
 
 // Reads the whole text.
-fn read_text<B: BufRead>(alloc: Global, reader: &mut B) -> Result<Game, PgError>
+fn read_text<B: Blocks>(alloc: Global, reader: &mut B) -> Result<Game, PgError>
     ensures spelled { IfOk result (λ g. IfSome (B.remaining reader.old) (λ text. IsGameText text g)) }
     ensures fault { IfErr result (Refuses (B.remaining reader.old) HasFault) }
+    ensures cause { IfErr result (HasCause B.can_fail errors.Read) }
 {
     let mut kept = Vec::new(alloc);
     let last = read_first(reader, &mut kept)?;
@@ -186,12 +194,12 @@ fn read_text<B: BufRead>(alloc: Global, reader: &mut B) -> Result<Game, PgError>
 ///
 /// # Errors
 /// The first faulty line decides. A text is also refused where a read fails, or for want of memory.
-pub fn read_game<R: Read + Drop>(alloc: Global, reader: R) -> Result<Game, PgError>
-    ensures { Reads IsGameText IsGameText IsGameText HasFaultAt (λ g. g) named (R.remaining reader) result }
+pub fn read_game<R: Source + Drop>(alloc: Global, reader: R) -> Result<Game, PgError>
+    ensures reads { Reads IsGameText IsGameText IsGameText HasFaultAt (λ g. g) named (R.remaining reader) result }
+    ensures cause { IfErr result (HasCause R.can_fail errors.Read) }
 {
-    let mut reader = match BufReader::new(alloc, reader) {
-        Ok(reader) => reader,
-        Err(_) => return Err(PgError::Memory),
+    let Ok(mut blocks) = blocks_of(alloc, reader) else {
+        return Err(PgError::Memory);
     };
-    read_text(alloc, &mut reader)
+    read_text(alloc, &mut blocks)
 }

@@ -1,6 +1,8 @@
 // The two shapes of lines, read token by token, so that no line is kept.
 
-ghost use Rattle.std.specs.Prelude.{◌≡◌, [], ◌∷◌, ◌++◌, IfOk, OnOk};
+ghost use Rattle.std.specs.Prelude.{◌≡◌, [], ◌∷◌, ◌++◌, IfOk, MatchResult, OnOk};
+ghost use Rattle.text.specs.Cause.{HasCause};
+ghost use Rattle.text.specs.declared.error.ReadFault.TheVariants as reads;
 ghost use Rattle.text.specs.Lines.{IfKnown};
 ghost use Rattle.text.specs.Stream.{Passes, PassesLine};
 ghost use Rattle.game.specs.NumberSet.{set_of};
@@ -13,19 +15,20 @@ use crate::rows::make_set;
 use crate::scan::{Head, is_name};
 use game::player::Player;
 use std::alloc::AllocError;
-use std::io::BufRead;
 use text::error::ReadFault;
+use text::source::{Blocks, fault_after};
 use text::stream::{ends, number, number_before, quoted, sign, word};
 
 // So many successors are kept as they stand, at least.
 const LEAST_ROOM: usize = 1024;
 
 /// Reads the line that is next as a header, if it has the shape of one, and answers the greatest identifier.
-pub(crate) fn header<B: BufRead>(
+pub(crate) fn header<B: Blocks>(
     reader: &mut B,
     kept: &mut Vec<u8>,
 ) -> Result<Option<u32>, ReadFault>
-    ensures { IfOk result (λ found. IfKnown (B.remaining reader.old) (B.remaining reader.new) (PassesLine at.header_at found)) }
+    ensures { MatchResult result (λ found. IfKnown (B.remaining reader.old) (B.remaining reader.new) (PassesLine at.header_at found))
+        (HasCause B.can_fail reads.Read) }
 {
     if !word(reader, b"parity")? {
         return Ok(None);
@@ -40,8 +43,9 @@ pub(crate) fn header<B: BufRead>(
 }
 
 // Takes the number before a blank, and the blank.
-fn number_gap<B: BufRead>(reader: &mut B, kept: &mut Vec<u8>) -> Result<Option<u32>, ReadFault>
-    ensures { IfOk result (λ found. IfKnown (B.remaining reader.old) (B.remaining reader.new) (Passes at.number_gap found)) }
+fn number_gap<B: Blocks>(reader: &mut B, kept: &mut Vec<u8>) -> Result<Option<u32>, ReadFault>
+    ensures { MatchResult result (λ found. IfKnown (B.remaining reader.old) (B.remaining reader.new) (Passes at.number_gap found))
+        (HasCause B.can_fail reads.Read) }
 {
     let Some(found) = number(reader, kept)? else {
         return Ok(None);
@@ -63,8 +67,9 @@ fn owner_of(digit: u32) -> Option<Player>
 }
 
 // Takes the digit of an owner.
-fn owner<B: BufRead>(reader: &mut B, kept: &mut Vec<u8>) -> Result<Option<Player>, ReadFault>
-    ensures { IfOk result (λ found. IfKnown (B.remaining reader.old) (B.remaining reader.new) (Passes at.owner_at found)) }
+fn owner<B: Blocks>(reader: &mut B, kept: &mut Vec<u8>) -> Result<Option<Player>, ReadFault>
+    ensures { MatchResult result (λ found. IfKnown (B.remaining reader.old) (B.remaining reader.new) (Passes at.owner_at found))
+        (HasCause B.can_fail reads.Read) }
 {
     match number(reader, kept)? {
         Some(digit) => Ok(owner_of(digit)),
@@ -73,8 +78,9 @@ fn owner<B: BufRead>(reader: &mut B, kept: &mut Vec<u8>) -> Result<Option<Player
 }
 
 // Takes what stands before the successors.
-fn front<B: BufRead>(reader: &mut B, kept: &mut Vec<u8>) -> Result<Option<Head>, ReadFault>
-    ensures { IfOk result (λ found. IfKnown (B.remaining reader.old) (B.remaining reader.new) (Passes at.head_at found)) }
+fn front<B: Blocks>(reader: &mut B, kept: &mut Vec<u8>) -> Result<Option<Head>, ReadFault>
+    ensures { MatchResult result (λ found. IfKnown (B.remaining reader.old) (B.remaining reader.new) (Passes at.head_at found))
+        (HasCause B.can_fail reads.Read) }
 {
     let Some(id) = number_gap(reader, kept)? else {
         return Ok(None);
@@ -111,12 +117,13 @@ fn each_once(numbers: &mut Vec<u32>, room: usize) -> usize
 }
 
 // Takes the numbers behind commas, adds them to the list, and says whether one stands behind each comma.
-fn more_targets<B: BufRead>(
+fn more_targets<B: Blocks>(
     reader: &mut B,
     kept: &mut Vec<u8>,
     targets: &mut Vec<u32>,
 ) -> Result<bool, ReadFault>
-    ensures { IfOk result (λ found. IfKnown (B.remaining reader.old) (B.remaining reader.new) (PassesMore targets.old.items targets.new.items found)) }
+    ensures { MatchResult result (λ found. IfKnown (B.remaining reader.old) (B.remaining reader.new) (PassesMore targets.old.items targets.new.items found))
+        (HasCause B.can_fail reads.Read) }
 {
     let mut room = LEAST_ROOM;
     for _ in 0..u64::MAX {
@@ -129,16 +136,17 @@ fn more_targets<B: BufRead>(
         put(targets, target)?;
         room = each_once(targets, room);
     }
-    Err(ReadFault::Read)
+    Err(fault_after(reader))
 }
 
 // Takes the successors, adds them to the list, and says whether a line may go on so.
-fn all_targets<B: BufRead>(
+fn all_targets<B: Blocks>(
     reader: &mut B,
     kept: &mut Vec<u8>,
     targets: &mut Vec<u32>,
 ) -> Result<bool, ReadFault>
-    ensures { IfOk result (λ found. IfKnown (B.remaining reader.old) (B.remaining reader.new) (PassesTargets targets.old.items targets.new.items found)) }
+    ensures { MatchResult result (λ found. IfKnown (B.remaining reader.old) (B.remaining reader.new) (PassesTargets targets.old.items targets.new.items found))
+        (HasCause B.can_fail reads.Read) }
 {
     if !gap(reader)? {
         return Ok(true);
@@ -154,8 +162,9 @@ fn all_targets<B: BufRead>(
 }
 
 // Takes the name, if there is one, and says whether a line may go on so. One byte more than a name has is kept of it at most.
-fn name<B: BufRead>(reader: &mut B, kept: &mut Vec<u8>) -> Result<bool, ReadFault>
-    ensures { IfOk result (λ found. IfKnown (B.remaining reader.old) (B.remaining reader.new) (PassesName found)) }
+fn name<B: Blocks>(reader: &mut B, kept: &mut Vec<u8>) -> Result<bool, ReadFault>
+    ensures { MatchResult result (λ found. IfKnown (B.remaining reader.old) (B.remaining reader.new) (PassesName found))
+        (HasCause B.can_fail reads.Read) }
 {
     if next(reader)? != Some(b'"') {
         return Ok(true);
@@ -167,8 +176,9 @@ fn name<B: BufRead>(reader: &mut B, kept: &mut Vec<u8>) -> Result<bool, ReadFaul
 }
 
 // Takes a name, if there is one, and the end of the line, and says whether both were there.
-fn tail<B: BufRead>(reader: &mut B, kept: &mut Vec<u8>) -> Result<bool, ReadFault>
-    ensures { IfOk result (λ found. IfKnown (B.remaining reader.old) (B.remaining reader.new) (PassesTail found)) }
+fn tail<B: Blocks>(reader: &mut B, kept: &mut Vec<u8>) -> Result<bool, ReadFault>
+    ensures { MatchResult result (λ found. IfKnown (B.remaining reader.old) (B.remaining reader.new) (PassesTail found))
+        (HasCause B.can_fail reads.Read) }
 {
     if !name(reader, kept)? {
         return Ok(false);
@@ -181,12 +191,13 @@ fn tail<B: BufRead>(reader: &mut B, kept: &mut Vec<u8>) -> Result<bool, ReadFaul
 
 /// Reads the line that is next as a vertex line, if it has the shape of one. Its successors are put into the list, where one that stands twice may be
 /// once.
-pub(crate) fn by_tokens<B: BufRead>(
+pub(crate) fn by_tokens<B: Blocks>(
     reader: &mut B,
     kept: &mut Vec<u8>,
     targets: &mut Vec<u32>,
 ) -> Result<Option<Head>, ReadFault>
-    ensures { IfOk result (λ found. IfKnown (B.remaining reader.old) (B.remaining reader.new) (PassesVertex targets.new.items found)) }
+    ensures { MatchResult result (λ found. IfKnown (B.remaining reader.old) (B.remaining reader.new) (PassesVertex targets.new.items found))
+        (HasCause B.can_fail reads.Read) }
 {
     targets.clear();
     let Some(head) = front(reader, kept)? else {

@@ -8,7 +8,7 @@ ghost use Rattle.text.specs.Wrote.{Wrote};
 
 use game::graph::Game;
 use game::player::Player;
-use std::io::Write;
+use text::sink::Sink;
 use text::{Lines, Piece, WriteFault, put, put_lines, put_number, put_pieces};
 
 /// Writes the game as its canonical text: a header with the greatest identifier, and a line for each vertex, ascending, with its
@@ -16,15 +16,15 @@ use text::{Lines, Piece, WriteFault, put, put_lines, put_number, put_pieces};
 ///
 /// # Errors
 /// After a fault the writer holds a beginning of the text.
-pub fn write_game<W: Write>(game: &Game, out: &mut W) -> Result<(), WriteFault>
-    ensures wrote { Wrote (W.contents out.old) (W.contents out.new) result (game_text game.now) }
+pub fn write_game<W: Sink>(game: &Game, out: &mut W) -> Result<(), WriteFault>
+    ensures wrote { Wrote (W.taken out.old) (W.taken out.new) result (game_text game.now) }
 {
     put_header(game.vertices().saturating_sub(1), out)?;
     put_vertices(game, out)
 }
 
-fn put_header<W: Write>(greatest: u32, out: &mut W) -> Result<(), WriteFault>
-    ensures { Wrote (W.contents out.old) (W.contents out.new) result (header_line greatest) }
+fn put_header<W: Sink>(greatest: u32, out: &mut W) -> Result<(), WriteFault>
+    ensures { Wrote (W.taken out.old) (W.taken out.new) result (header_line greatest) }
 {
     put_pieces(
         out,
@@ -54,22 +54,22 @@ impl Lines for VertexLines<'_> {
         self.game.vertices() as usize
     }
 
-    fn put_line<W: Write>(&self, number: usize, writer: &mut W) -> Result<(), WriteFault> {
+    fn put_line<W: Sink>(&self, number: usize, writer: &mut W) -> Result<(), WriteFault> {
         self.game.known();
         put_vertex(self.game, number as u32, writer)
     }
 }
 
 // Writes a line for each vertex.
-fn put_vertices<W: Write>(game: &Game, out: &mut W) -> Result<(), WriteFault>
-    ensures { Wrote (W.contents out.old) (W.contents out.new) result (vertex_lines game.now.named 0 game.now.vertices) }
+fn put_vertices<W: Sink>(game: &Game, out: &mut W) -> Result<(), WriteFault>
+    ensures { Wrote (W.taken out.old) (W.taken out.new) result (vertex_lines game.now.named 0 game.now.vertices) }
 {
     put_lines(&VertexLines { game }, out)
 }
 
-fn put_vertex<W: Write>(game: &Game, v: u32, out: &mut W) -> Result<(), WriteFault>
+fn put_vertex<W: Sink>(game: &Game, v: u32, out: &mut W) -> Result<(), WriteFault>
     requires { v < length game.now.vertices }
-    ensures { (x : Vertex) → vertex game.now v ≡ Some x → Wrote (W.contents out.old) (W.contents out.new) result (vertex_line game.now.named v x) }
+    ensures { (x : Vertex) → vertex game.now v ≡ Some x → Wrote (W.taken out.old) (W.taken out.new) result (vertex_line game.now.named v x) }
 {
     game.known();
     let successors = game.successors(v);
@@ -79,8 +79,8 @@ fn put_vertex<W: Write>(game: &Game, v: u32, out: &mut W) -> Result<(), WriteFau
     put_end(named, v, out)
 }
 
-fn put_front<W: Write>(v: u32, priority: u8, owner: Player, out: &mut W) -> Result<(), WriteFault>
-    ensures { Wrote (W.contents out.old) (W.contents out.new) result (front_text v (record { owner = owner; priority = priority; successors = [] })) }
+fn put_front<W: Sink>(v: u32, priority: u8, owner: Player, out: &mut W) -> Result<(), WriteFault>
+    ensures { Wrote (W.taken out.old) (W.taken out.new) result (front_text v (record { owner = owner; priority = priority; successors = [] })) }
 {
     let owner: &[u8] = match owner {
         Player::Even => b"0",
@@ -100,8 +100,8 @@ fn put_front<W: Write>(v: u32, priority: u8, owner: Player, out: &mut W) -> Resu
 }
 
 // Writes the successors, with a comma between two.
-fn put_successors<W: Write>(successors: &[u32], out: &mut W) -> Result<(), WriteFault>
-    ensures { Wrote (W.contents out.old) (W.contents out.new) result (successors_text successors.now) }
+fn put_successors<W: Sink>(successors: &[u32], out: &mut W) -> Result<(), WriteFault>
+    ensures { Wrote (W.taken out.old) (W.taken out.new) result (successors_text successors.now) }
 {
     let mut before: &[u8] = b"";
     for successor in successors {
@@ -112,9 +112,9 @@ fn put_successors<W: Write>(successors: &[u32], out: &mut W) -> Result<(), Write
 }
 
 // Writes the name, if there is one, and the end of the line.
-fn put_end<W: Write>(named: Option<(u32, u32)>, v: u32, out: &mut W) -> Result<(), WriteFault>
+fn put_end<W: Sink>(named: Option<(u32, u32)>, v: u32, out: &mut W) -> Result<(), WriteFault>
     requires { (states nodes : ℕ) → named ≡ Some (states, nodes) → v < 2 + states * nodes }
-    ensures { Wrote (W.contents out.old) (W.contents out.new) result (name_text named v ++ (codes ";" ++ line_end)) }
+    ensures { Wrote (W.taken out.old) (W.taken out.new) result (name_text named v ++ (codes ";" ++ line_end)) }
 {
     match (named, v) {
         (None, _) => put(out, b";\n"),

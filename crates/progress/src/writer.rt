@@ -6,12 +6,12 @@ ghost use Rattle.progress.specs.MeasureText.{counts_text, measure_text};
 ghost use Rattle.text.specs.Wrote.{Wrote};
 
 use crate::measure::Measure;
-use std::io::Write;
+use text::sink::Sink;
 use text::{WriteFault, put, put_number};
 
 // Writes these counts, each after a comma.
-fn put_more<W: Write>(writer: &mut W, counts: &[u32]) -> Result<(), WriteFault>
-    ensures { Wrote (W.contents writer.old) (W.contents writer.new) result (flat_map (λ k. 44 ∷ decimal k) counts.now) }
+fn put_more<W: Sink>(writer: &mut W, counts: &[u32]) -> Result<(), WriteFault>
+    ensures { Wrote (W.taken writer.old) (W.taken writer.new) result (flat_map (λ k. 44 ∷ decimal k) counts.now) }
 {
     for count in counts {
         put_number(writer, b",", *count)?;
@@ -23,8 +23,8 @@ fn put_more<W: Write>(writer: &mut W, counts: &[u32]) -> Result<(), WriteFault>
 ///
 /// # Errors
 /// After a fault the writer holds a beginning of the text.
-pub fn put_counts<W: Write>(writer: &mut W, counts: &[u32]) -> Result<(), WriteFault>
-    ensures wrote { Wrote (W.contents writer.old) (W.contents writer.new) result (counts_text counts.now) }
+pub fn put_counts<W: Sink>(writer: &mut W, counts: &[u32]) -> Result<(), WriteFault>
+    ensures wrote { Wrote (W.taken writer.old) (W.taken writer.new) result (counts_text counts.now) }
 {
     match counts.split_first() {
         None => put(writer, b"()"),
@@ -40,8 +40,8 @@ pub fn put_counts<W: Write>(writer: &mut W, counts: &[u32]) -> Result<(), WriteF
 ///
 /// # Errors
 /// After a fault the writer holds a beginning of the text.
-pub fn put_measure<W: Write>(writer: &mut W, m: &Measure) -> Result<(), WriteFault>
-    ensures wrote { Wrote (W.contents writer.old) (W.contents writer.new) result (measure_text m.now) }
+pub fn put_measure<W: Sink>(writer: &mut W, m: &Measure) -> Result<(), WriteFault>
+    ensures wrote { Wrote (W.taken writer.old) (W.taken writer.new) result (measure_text m.now) }
 {
     if m.is_top() {
         put(writer, b"top")

@@ -2,3 +2,4 @@ mod Fronts
 pub mod Readings
 mod Words
 pub mod Orders
+pub mod Caused

@@ -1,6 +1,7 @@
 -- Texts that are written one after another, each to a writer of its own.
-use Rattle.std.proofs.Common.{◌≡◌, ℕ, List, [], ◌∷◌, Option, Result, Ok, Err, inl, inr, sym, true≢false}
-use Rattle.std.proofs.KnownBytes.{Appends-nil}
+use Rattle.std.proofs.Common.{ℕ, List, [], ◌∷◌, Result, Ok, Err, inl, inr, sym, true≢false}
+use Rattle.text.specs.Taken.{Taken}
+use Rattle.text.proofs.Writing.{Adds-none}
 use Rattle.text.specs.Wrote.{Wrote}
 use Rattle.std.specs.Result.{IsErr}
 use Rattle.requests.specs.Writers.{Kind, Unasked, Lent, IsWhole, AreWritten, AreWrittenUpTo, lent_for}
@@ -24,5 +25,5 @@ one_text IsText w (Ok x) text is wrote = ((text, is, wrote), tt)
 one_text IsText w (Err e) text is wrote = inl ((text, is, wrote), tt)
 
 -- Nothing is asked from a writer, and nothing was written to it.
-pub unasked : (IsText : Kind → List ℕ → Type 0) (old : Option (List ℕ)) → IsText Unasked [] → IsWhole IsText (lent_for Unasked old old)
-unasked IsText old is = ([], is, Appends-nil old)
+pub unasked : (IsText : Kind → List ℕ → Type 0) (old : Taken) → IsText Unasked [] → IsWhole IsText (lent_for Unasked old old)
+unasked IsText old is = ([], is, Adds-none old)

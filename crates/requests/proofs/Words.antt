@@ -1,14 +1,12 @@
 -- What was read where each word of the formula has to be on a transition.
-use Rattle.std.proofs.Common.{◌≡◌, ℕ, List, Bool, true, false, Some, None, Ok, Err, inl, inr, refl, subst, sym, ◌∙◌, true≢false}
+use Rattle.std.proofs.Common.{◌≡◌, ℕ, List, Bool, false, Some, None, Ok, Err, inl, inr, refl, subst, sym, ◌∙◌, true≢false}
 use Rattle.std.specs.Prelude.{IfOk, IfErr, IsTrue, MatchResult, Result}
-use Rattle.systems.specs.System.{System}
-use Rattle.lts.specs.Aut.{IsAut}
 use Rattle.calculus.specs.Closed.{closed_formula}
 use Rattle.words.specs.Absent.{IsFirstAbsent}
 use Rattle.requests.specs.declared.error.MuError.{MuError}
 use Rattle.requests.specs.declared.error.MuError.TheVariants as error
 use Rattle.requests.specs.declared.texts.Texts.{Texts}
-use Rattle.requests.specs.Check.{Way, AreSpelled, SpellsSystem, HasRefused}
+use Rattle.requests.specs.Check.{Way, AreSpelled}
 use Rattle.requests.specs.Strict.{HasRefusedBy, IsLookRefusal, KnowsWords}
 use Rattle.requests.specs.Writers.{Lent, AreKept}
 

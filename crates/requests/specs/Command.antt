@@ -1,5 +1,5 @@
 -- What a command has.
-use Rattle.std.specs.Prelude.{if◌then◌else◌, Some, None, true, false}
+use Rattle.std.specs.Prelude.{if◌then◌else◌, Some, None, false}
 use Rattle.requests.specs.declared.request.Check.{Check as TheCheck}
 use Rattle.requests.specs.declared.request.ReportForm.{ReportForm}
 use Rattle.requests.specs.declared.request.Wanted.{Wanted}

@@ -1,6 +1,7 @@
 pub mod Report
 pub mod Example
 pub mod Texts
+pub mod Causes
 pub mod Writers
 pub mod Check
 pub mod Command

@@ -2,7 +2,7 @@
 use Rattle.std.proofs.Common.{inl, inr}
 use Rattle.std.specs.Prelude.{◌≡◌, ℕ, ◌⊎◌, Bool, List, [], ◌∷◌, Option, Some, None, Result, MatchResult, if◌then◌else◌}
 use Rattle.std.specs.Borrow.{MutBor}
-use Rattle.std.specs.Io.KnownBytes.{Appends, Keeps}
+use Rattle.text.specs.Taken.{Taken, Adds, Stays, unknown}
 use Rattle.text.specs.Wrote.{WroteFront}
 use Rattle.requests.specs.declared.request.ReportForm.{ReportForm}
 use Rattle.requests.specs.declared.request.Wanted.{Wanted}
@@ -22,13 +22,13 @@ pub data Kind : Type 0 where
   ReportText : ReportForm → Kind
   Unasked : Kind
 
--- a writer that is lent for a text, and what is known of its bytes before and after
+-- a writer that is lent for a text, and what is known of what it has taken, before and after
 pub record Lent : Type 0 where
   pub kind : Kind
-  pub old : Option (List ℕ)
-  pub new : Option (List ℕ)
+  pub old : Taken
+  pub new : Taken
 
-abbrev pub lent_for : Kind → (old new : Option (List ℕ)) → Lent
+abbrev pub lent_for : Kind → (old new : Taken) → Lent
 lent_for kind old new = record { kind = kind; old = old; new = new }
 
 -- A writer was lent for this text.
@@ -42,7 +42,7 @@ NeedsEvidence ws = IsLentFor EvenText ws ⊎ (IsLentFor WitnessText ws ⊎ IsLen
 
 -- Its whole text was written.
 abbrev pub IsWhole : (Kind → List ℕ → Type 0) → Lent → Type 0
-IsWhole IsText w = (text : List ℕ) × IsText w.kind text × Appends w.old w.new text
+IsWhole IsText w = (text : List ℕ) × IsText w.kind text × Adds w.old w.new text
 
 -- A beginning of its text was written, and some of it was not.
 abbrev pub IsBegun : (Kind → List ℕ → Type 0) → Lent → Type 0
@@ -56,7 +56,7 @@ AreWhole IsText (w ∷ ws) = IsWhole IsText w × AreWhole IsText ws
 -- Nothing was written to any.
 abbrev pub AreKept : List Lent → Type 0
 AreKept [] = Unit {0}
-AreKept (w ∷ ws) = Keeps w.old w.new × AreKept ws
+AreKept (w ∷ ws) = Stays w.old w.new × AreKept ws
 
 -- One has a beginning of its text, those before it have their whole texts, and nothing was written to those after it.
 abbrev pub AreWrittenUpTo : (Kind → List ℕ → Type 0) → List Lent → Type 0
@@ -76,25 +76,25 @@ LeftBoth E O = Unit {0} ⊎ ((MutBor E × (MutBor O × Unit {0})) ⊎ ⊥)
 
 -- where no writer is lent: one from which nothing is asked, and of which nothing is known
 abbrev pub no_writer : Lent
-no_writer = lent_for Unasked None None
+no_writer = lent_for Unasked unknown unknown
 
 -- the writer for the game's text, if it is lent
-abbrev pub game_writer : {G : Type 0} → (G → Option (List ℕ)) → Option (MutBor G) → Left G → List Lent
+abbrev pub game_writer : {G : Type 0} → (G → Taken) → Option (MutBor G) → Left G → List Lent
 game_writer contents None left = no_writer ∷ []
-game_writer contents (Some game) (inl x) = lent_for GameText (contents game.now) None ∷ []
+game_writer contents (Some game) (inl x) = lent_for GameText (contents game.now) unknown ∷ []
 game_writer contents (Some game) (inr (inl left)) = lent_for GameText (contents game.now) (contents left.0.now) ∷ []
 game_writer contents (Some game) (inr (inr x)) = absurd x
 
 -- those for the texts of evidence, if they are lent
-abbrev pub evidence_writers : {E O : Type 0} → (E → Option (List ℕ)) → (O → Option (List ℕ)) → EvidenceWriters E O → LeftBoth E O → List Lent
+abbrev pub evidence_writers : {E O : Type 0} → (E → Taken) → (O → Taken) → EvidenceWriters E O → LeftBoth E O → List Lent
 evidence_writers evens odds Neither left = no_writer ∷ no_writer ∷ []
-evidence_writers evens odds (Both even odd) (inl x) = lent_for EvenText (evens even.now) None ∷ lent_for OddText (odds odd.now) None ∷ []
+evidence_writers evens odds (Both even odd) (inl x) = lent_for EvenText (evens even.now) unknown ∷ lent_for OddText (odds odd.now) unknown ∷ []
 evidence_writers evens odds (Both even odd) (inr (inl left)) = lent_for EvenText (evens even.now) (evens left.0.now) ∷ lent_for OddText (odds odd.now)
     (odds left.1.0.now) ∷ []
 evidence_writers evens odds (Both even odd) (inr (inr x)) = absurd x
 
 -- that for the report in this form
-abbrev pub report_writer : ReportForm → (old new : Option (List ℕ)) → List Lent
+abbrev pub report_writer : ReportForm → (old new : Taken) → List Lent
 report_writer form old new = lent_for (ReportText form) old new ∷ []
 
 -- the kinds of text that are wanted
@@ -107,7 +107,7 @@ witness_kind (Some System) = WitnessText
 witness_kind (Some Drawing) = DrawingText
 
 -- the writers of all texts in their order, each for its text where that is wanted
-abbrev pub all_writers : Wanted → (old_game new_game old_even new_even old_odd new_odd old_witness new_witness old_report new_report : Option (List ℕ))
+abbrev pub all_writers : Wanted → (old_game new_game old_even new_even old_odd new_odd old_witness new_witness old_report new_report : Taken)
     → List Lent
 all_writers wanted old_game new_game old_even new_even old_odd new_odd old_witness new_witness old_report new_report =
     lent_for (kind_where wanted.game GameText) old_game new_game
@@ -116,11 +116,11 @@ all_writers wanted old_game new_game old_even new_even old_odd new_odd old_witne
     ∷ (lent_for (witness_kind wanted.witness) old_witness new_witness
     ∷ report_writer wanted.report old_report new_report)))
 
--- what is known of a writer's bytes
-abbrev pub Contents : Type 0 → Type 0
-Contents W = W → Option (List ℕ)
+-- what is known of what a writer has taken
+abbrev pub TakenBy : Type 0 → Type 0
+TakenBy W = W → Taken
 
 -- those of a record of writers, before and after
-abbrev pub lent_writers : {G E O V W : Type 0} → Contents G → Contents E → Contents O → Contents V → Contents W → Wanted → (old new : Writers G E O V W) → List Lent
+abbrev pub lent_writers : {G E O V W : Type 0} → TakenBy G → TakenBy E → TakenBy O → TakenBy V → TakenBy W → Wanted → (old new : Writers G E O V W) → List Lent
 lent_writers games evens odds witnesses reports wanted old new = all_writers wanted (games old.game) (games new.game) (evens old.even) (evens new.even)
     (odds old.odd) (odds new.odd) (witnesses old.witness) (witnesses new.witness) (reports old.report) (reports new.report)

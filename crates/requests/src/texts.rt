@@ -1,7 +1,10 @@
 // The texts of a check, read.
 
-ghost use Rattle.std.specs.Prelude.{◌≡◌, ℕ, List, take, IfOk, IfErr, IfSome, IsTrue, MatchResult, None, Some};
+ghost use Rattle.std.specs.Prelude.{◌≡◌, ◌≢◌, ℕ, List, take, IfOk, IfErr, IfSome, IsTrue, MatchResult, None, Some};
 ghost use Rattle.calculus.specs.Closed.{closed_formula};
+ghost use Rattle.requests.specs.Causes.{HaveCauses};
+ghost use Rattle.requests.specs.declared.error.MuError.TheVariants as error;
+ghost use Rattle.text.specs.Cause.{HasCause};
 ghost use Rattle.requests.specs.Texts.{IsFormulaOf, IsReadRefusal, IsReadFault, IsReading};
 ghost use Rattle.requests.specs.Check.{Way, BySets, AreSpelled, HasRefused, IsErrorOf};
 ghost use Rattle.requests.specs.Known.{AreKnown};
@@ -18,8 +21,9 @@ use lts::reader::read_aut;
 use lts::system::Lts;
 use measures::observer::{Silent, Stage};
 use std::alloc::Global;
-use std::io::{ErrorKind, Read};
-use text::Memory;
+use std::io::Read;
+use text::source::{Noted, Source};
+use text::{Memory, ReadFault};
 use words::absent::first_absent;
 
 /// One byte more than the longest text of a formula: nothing behind it is read.
@@ -50,7 +54,7 @@ struct Reading {
 ///
 /// # Errors
 /// Those of the readers, unchanged; U3 where a read of the formula failed, U4 for memory in the engine.
-pub fn read_both<R: Read + Drop, S: Read + Drop>(
+pub fn read_both<R: Source + Drop, S: Source + Drop>(
     alloc: Global,
     aut: R,
     formula: S,
@@ -60,6 +64,7 @@ pub fn read_both<R: Read + Drop, S: Read + Drop>(
     ensures refusal { (first second : List ℕ) → R.remaining aut ≡ Some first → S.remaining formula ≡ Some second
         → (way : Way) (writers : List Lent) → AreKept writers → IfErr result (HasRefused way first second writers) }
     ensures plain { IfErr result (IsErrorOf BySets) }
+    ensures cause { IfErr result (HaveCauses R.can_fail S.can_fail) }
 {
     read_both_seen(alloc, aut, formula, &Silent)
 }
@@ -68,7 +73,7 @@ pub fn read_both<R: Read + Drop, S: Read + Drop>(
 ///
 /// # Errors
 /// Those of `read_both`.
-pub fn read_both_seen<R: Read + Drop, S: Read + Drop, O: Watcher>(
+pub fn read_both_seen<R: Source + Drop, S: Source + Drop, O: Watcher>(
     alloc: Global,
     aut: R,
     formula: S,
@@ -79,6 +84,7 @@ pub fn read_both_seen<R: Read + Drop, S: Read + Drop, O: Watcher>(
     ensures refusal { (first second : List ℕ) → R.remaining aut ≡ Some first → S.remaining formula ≡ Some second
         → (way : Way) (writers : List Lent) → AreKept writers → IfErr result (HasRefused way first second writers) }
     ensures plain { IfErr result (IsErrorOf BySets) }
+    ensures cause { IfErr result (HaveCauses R.can_fail S.can_fail) }
 {
     match read_all(alloc, aut, formula, observer) {
         Ok(reading) => Ok(texts_of(reading)),
@@ -90,7 +96,7 @@ pub fn read_both_seen<R: Read + Drop, S: Read + Drop, O: Watcher>(
 ///
 /// # Errors
 /// Those of `read_both`; L1 with the place of such a word, where it is strict.
-pub fn read_asked<R: Read + Drop, S: Read + Drop, O: Watcher>(
+pub fn read_asked<R: Source + Drop, S: Source + Drop, O: Watcher>(
     alloc: Global,
     aut: R,
     formula: S,
@@ -103,6 +109,7 @@ pub fn read_asked<R: Read + Drop, S: Read + Drop, O: Watcher>(
         → IfOk result (λ _. IsTrue strict → KnowsWords first second) }
     ensures refusal { (first second : List ℕ) → R.remaining aut ≡ Some first → S.remaining formula ≡ Some second
         → (way : Way) (writers : List Lent) → AreKept writers → IfErr result (HasRefusedBy strict way first second writers) }
+    ensures cause { IfErr result (HaveCauses R.can_fail S.can_fail) }
 {
     match read_all(alloc, aut, formula, observer) {
         Ok(reading) => {
@@ -162,7 +169,7 @@ fn texts_of(reading: Reading) -> Texts
 }
 
 /// Reads the system and then the formula, and keeps the formula's text.
-fn read_all<R: Read + Drop, S: Read + Drop, O: Watcher>(
+fn read_all<R: Source + Drop, S: Source + Drop, O: Watcher>(
     alloc: Global,
     aut: R,
     formula: S,
@@ -175,6 +182,7 @@ fn read_all<R: Read + Drop, S: Read + Drop, O: Watcher>(
         → (way : Way) (writers : List Lent) → AreKept writers → IfErr result (HasRefused way first second writers) }
     ensures plain { IfErr result (IsErrorOf BySets) }
     ensures unread { IfErr result IsUnread }
+    ensures cause { IfErr result (HaveCauses R.can_fail S.can_fail) }
 {
     observer.sees(Stage::ReadingSystem);
     let system = read_aut(alloc, aut).map_err(MuError::System)?;
@@ -190,10 +198,11 @@ fn read_all<R: Read + Drop, S: Read + Drop, O: Watcher>(
 ///
 /// # Errors
 /// Those of `parse`; U3 where a read failed, U4 for the memory of the text.
-pub fn read_formula<S: Read + Drop>(alloc: Global, formula: S) -> Result<Closed, MuError>
+pub fn read_formula<S: Source + Drop>(alloc: Global, formula: S) -> Result<Closed, MuError>
     ensures spelled { IfOk result (λ f. IfSome (S.remaining formula) (λ text. IsFormulaOf text (closed_formula f))) }
     ensures refusal { (text : List ℕ) → S.remaining formula ≡ Some text → IfErr result (IsReadRefusal text) }
     ensures fault { IfErr result IsReading }
+    ensures cause { IfErr result (HasCause S.can_fail error.Read) }
 {
     match read_spelled(alloc, formula) {
         Ok(spelled) => Ok(spelled_formula(spelled)),
@@ -209,11 +218,12 @@ fn spelled_formula(spelled: Spelled) -> Closed
 }
 
 /// Reads a formula, and keeps its text.
-fn read_spelled<S: Read + Drop>(alloc: Global, formula: S) -> Result<Spelled, MuError>
+fn read_spelled<S: Source + Drop>(alloc: Global, formula: S) -> Result<Spelled, MuError>
     ensures spelled { IfOk result (λ s. IfSome (S.remaining formula) (λ text. IsFormulaOf text (closed_formula s.formula))) }
     ensures text { IfOk result (λ s. IfSome (S.remaining formula) (λ text. s.text.items ≡ text)) }
     ensures refusal { (text : List ℕ) → S.remaining formula ≡ Some text → IfErr result (IsReadRefusal text) }
     ensures fault { IfErr result IsReading }
+    ensures cause { IfErr result (HasCause S.can_fail error.Read) }
 {
     let front = read_front(alloc, formula)?;
     match parse_front(alloc, &front) {
@@ -233,6 +243,7 @@ pub fn parse_front(alloc: Global, front: &[u8]) -> Result<Closed, MuError>
     ensures spelled { (text : List ℕ) → front.now ≡ take FORMULA_BYTES text → IfOk result (λ f. IsFormulaOf text (closed_formula f)) }
     ensures refusal { (text : List ℕ) → front.now ≡ take FORMULA_BYTES text → IfErr result (IsReadRefusal text) }
     ensures fault { IfErr result IsReading }
+    ensures unread { IfErr result (λ e. e ≢ error.Read) }
 {
     parse(alloc, front).map_err(MuError::Formula)
 }
@@ -241,16 +252,18 @@ pub fn parse_front(alloc: Global, front: &[u8]) -> Result<Closed, MuError>
 ///
 /// # Errors
 /// U3 where a read failed, U4 for memory.
-pub fn read_front<S: Read + Drop>(alloc: Global, reader: S) -> Result<Vec<u8>, MuError>
+pub fn read_front<S: Source + Drop>(alloc: Global, reader: S) -> Result<Vec<u8>, MuError>
     ensures front { IfOk result (λ text. IfSome (S.remaining reader) (λ all. text.items ≡ take FORMULA_BYTES all)) }
     ensures refusal { IfErr result IsReadFault }
+    ensures cause { IfErr result (HasCause S.can_fail error.Read) }
 {
     let mut text = Vec::new(alloc);
-    match reader.take(FORMULA_BYTES).read_to_end(&mut text) {
+    let mut front = Noted::new(reader).take(FORMULA_BYTES);
+    match front.read_to_end(&mut text) {
         Ok(_) => Ok(text),
-        Err(error) => match error.kind() {
-            ErrorKind::OutOfMemory => Err(MuError::Memory),
-            _ => Err(MuError::Read),
+        Err(error) => match front.get_ref().fault_of(&error) {
+            ReadFault::Read => Err(MuError::Read),
+            ReadFault::Memory => Err(MuError::Memory),
         },
     }
 }

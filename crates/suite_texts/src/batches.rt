@@ -3,6 +3,7 @@
 use samples::writers::{AMPLE, Narrow};
 use std::io;
 use std::io::Write;
+use text::sink::Sink;
 use text::{Lines, WriteFault, put, put_lines};
 
 /// So many lines that are all the same.
@@ -21,7 +22,7 @@ impl Lines for Alike<'_> {
         self.count
     }
 
-    fn put_line<W: Write>(&self, _number: usize, writer: &mut W) -> Result<(), WriteFault> {
+    fn put_line<W: Sink>(&self, _number: usize, writer: &mut W) -> Result<(), WriteFault> {
         put(writer, self.line)
     }
 }

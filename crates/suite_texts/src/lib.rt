@@ -28,4 +28,6 @@ mod strange_words;
 #[cfg(test)]
 mod system_texts;
 #[cfg(test)]
+mod what_never_fails;
+#[cfg(test)]
 mod written_systems;

@@ -3,8 +3,8 @@
 use samples::readers::Slow;
 use samples::writers::{AMPLE, Narrow};
 use std::alloc::{AllocError, Global};
-use std::io::BufReader;
 use text::scan::{is_end, number, number_before, quoted, sign};
+use text::source::{Blocks, blocks_of};
 use text::{Piece, ReadFault, next_line, put_pieces, stream};
 
 // Texts, and their lines with a bar after each.
@@ -22,8 +22,8 @@ const LINES: [(&str, &str); 10] = [
 ];
 
 // The next line with a bar, if there is one.
-fn take_line(
-    reader: &mut &[u8],
+fn take_line<B: Blocks>(
+    reader: &mut B,
     line: &mut Vec<u8>,
     shown: &mut Vec<u8>,
 ) -> Result<bool, AllocError> {
@@ -38,7 +38,7 @@ fn take_line(
 }
 
 fn lines_of(alloc: Global, text: &str) -> Result<Vec<u8>, AllocError> {
-    let mut reader = text.as_bytes();
+    let mut reader = blocks_of(alloc, text.as_bytes()).map_err(|_| AllocError)?;
     let mut line = Vec::new(alloc);
     let mut shown = Vec::new(alloc);
     for _ in 0..9 {
@@ -67,7 +67,7 @@ fn a_failed_read_is_no_line(rt: HostRuntime) {
         step: 1,
         fails: true,
     };
-    let mut reader = BufReader::new(rt.alloc(), slow).expect(&rt, "memory");
+    let mut reader = blocks_of(rt.alloc(), slow).expect(&rt, "memory");
     let mut line = Vec::new(rt.alloc());
     assert!(rt; next_line(&mut reader, &mut line) == Ok(true));
     assert!(rt; line.as_slice() == b"a".as_slice());
@@ -201,21 +201,21 @@ fn left_by<'a>(found: Result<bool, ReadFault>, left: &'a [u8]) -> Option<&'a [u8
 #[test]
 fn signs_and_ends_are_read(rt: HostRuntime) {
     for (text, token, wanted) in &SIGNS {
-        let mut reader = text.as_bytes();
+        let mut reader = blocks_of(rt.alloc(), text.as_bytes()).expect(&rt, "memory");
         let found = match *token {
             "des" => stream::word(&mut reader, b"des"),
             _ => stream::sign(&mut reader, b'('),
         };
-        assert!(rt; is_rest(left_by(found, reader), wanted), "{text}");
+        assert!(rt; is_rest(left_by(found, reader.buffer()), wanted), "{text}");
     }
     for (text, wanted) in &TEXT_ENDS {
-        let mut reader = text.as_bytes();
+        let mut reader = blocks_of(rt.alloc(), text.as_bytes()).expect(&rt, "memory");
         let found = stream::ends(&mut reader);
-        assert!(rt; is_rest(left_by(found, reader), wanted), "{text}");
+        assert!(rt; is_rest(left_by(found, reader.buffer()), wanted), "{text}");
     }
-    let mut none = b"".as_slice();
+    let mut none = blocks_of(rt.alloc(), b"".as_slice()).expect(&rt, "memory");
     assert!(rt; stream::has_line(&mut none) == Ok(false));
-    let mut one = b"\n".as_slice();
+    let mut one = blocks_of(rt.alloc(), b"\n".as_slice()).expect(&rt, "memory");
     assert!(rt; stream::has_line(&mut one) == Ok(true));
 }
 
@@ -223,18 +223,18 @@ fn signs_and_ends_are_read(rt: HostRuntime) {
 fn numbers_are_read(rt: HostRuntime) {
     let mut digits = Vec::new(rt.alloc());
     for (text, wanted) in &NUMBERS {
-        let mut reader = text.as_bytes();
+        let mut reader = blocks_of(rt.alloc(), text.as_bytes()).expect(&rt, "memory");
         let found = stream::number(&mut reader, &mut digits).expect(&rt, "memory");
         assert!(rt;
-            is_number(found.map(|value| (value, reader)), wanted),
+            is_number(found.map(|value| (value, reader.buffer())), wanted),
             "{text}"
         );
     }
     for (text, wanted) in &BEFORE {
-        let mut reader = text.as_bytes();
+        let mut reader = blocks_of(rt.alloc(), text.as_bytes()).expect(&rt, "memory");
         let found = stream::number_before(&mut reader, b',', &mut digits).expect(&rt, "memory");
         assert!(rt;
-            is_number(found.map(|value| (value, reader)), wanted),
+            is_number(found.map(|value| (value, reader.buffer())), wanted),
             "{text}"
         );
     }
@@ -244,18 +244,18 @@ fn numbers_are_read(rt: HostRuntime) {
 fn quotes_are_read_and_their_first_bytes_kept(rt: HostRuntime) {
     let mut kept = Vec::new(rt.alloc());
     for (text, wanted) in &QUOTES {
-        let mut reader = text.as_bytes();
+        let mut reader = blocks_of(rt.alloc(), text.as_bytes()).expect(&rt, "memory");
         let found = stream::quoted(&mut reader, 9, &mut kept);
-        let rest = left_by(found, reader);
+        let rest = left_by(found, reader.buffer());
         assert!(rt;
             is_quote(rest.map(|rest| (kept.as_slice(), rest)), wanted),
             "{text}"
         );
     }
-    let mut long = b"\"abcdef\",".as_slice();
+    let mut long = blocks_of(rt.alloc(), b"\"abcdef\",".as_slice()).expect(&rt, "memory");
     assert!(rt; stream::quoted(&mut long, 4, &mut kept) == Ok(true));
     assert!(rt; kept.as_slice() == b"abcd".as_slice());
-    assert!(rt; long == b",".as_slice());
+    assert!(rt; long.buffer() == b",".as_slice());
 }
 
 const PIECES: [Piece<'static>; 5] = [

@@ -1,5 +1,7 @@
 pub mod Text
+pub mod Taken
 pub mod Wrote
+pub mod Cause
 pub mod Lines
 pub mod Tokens
 pub mod Pieces

@@ -3,6 +3,7 @@
 ghost use Rattle.std.specs.Prelude.{◌≡◌, ◌<◌, ◌++◌, [], true, false, ℕ, List};
 ghost use Rattle.text.specs.Wrote.{HasWritten, Passed, Wrote, lines_from};
 
+use crate::sink::Sink;
 use crate::write_loop::{WriteFault, put};
 use arrayvec::ArrayVec;
 use std::io;
@@ -22,9 +23,9 @@ pub trait Lines {
     ///
     /// # Errors
     /// After a fault the writer holds a beginning of the line.
-    fn put_line<W: Write>(&self, number: usize, writer: &mut W) -> Result<(), WriteFault>
+    fn put_line<W: Sink>(&self, number: usize, writer: &mut W) -> Result<(), WriteFault>
         requires { number < count self.now }
-        ensures { Wrote (W.contents writer.old) (W.contents writer.new) result (line self.now number) };
+        ensures { Wrote (W.taken writer.old) (W.taken writer.new) result (line self.now number) };
 }
 
 // How many bytes are written at a time.
@@ -56,8 +57,8 @@ impl Write for Batch {
 }
 
 // Writes what waits.
-fn send<W: Write>(batch: &mut Batch, writer: &mut W) -> Result<(), WriteFault>
-    ensures wrote { Wrote (W.contents writer.old) (W.contents writer.new) result batch.old.bytes.items }
+fn send<W: Sink>(batch: &mut Batch, writer: &mut W) -> Result<(), WriteFault>
+    ensures wrote { Wrote (W.taken writer.old) (W.taken writer.new) result batch.old.bytes.items }
     ensures empty { batch.new.bytes.items ≡ [] }
 {
     let wrote = put(writer, batch.bytes.as_slice());
@@ -82,14 +83,14 @@ fn wait<L: Lines>(lines: &L, number: usize, batch: &mut Batch) -> bool
 }
 
 // Writes a line, or lets it wait. What waits is written first where there is no room, and a line that never has room, by itself.
-fn pass<L: Lines, W: Write>(
+fn pass<L: Lines, W: Sink>(
     lines: &L,
     number: usize,
     batch: &mut Batch,
     writer: &mut W,
 ) -> Result<(), WriteFault>
     requires { number < L.count lines.now }
-    ensures { Passed (W.contents writer.old) (W.contents writer.new) batch.old.bytes.items batch.new.bytes.items result (L.line lines.now number) }
+    ensures { Passed (W.taken writer.old) (W.taken writer.new) batch.old.bytes.items batch.new.bytes.items result (L.line lines.now number) }
 {
     if wait(lines, number, batch) {
         return Ok(());
@@ -105,8 +106,8 @@ fn pass<L: Lines, W: Write>(
 ///
 /// # Errors
 /// After a fault the writer holds a beginning of the lines.
-pub fn put_lines<L: Lines, W: Write>(lines: &L, writer: &mut W) -> Result<(), WriteFault>
-    ensures wrote { Wrote (W.contents writer.old) (W.contents writer.new) result (lines_from (L.line lines.now) 0 (L.count lines.now)) }
+pub fn put_lines<L: Lines, W: Sink>(lines: &L, writer: &mut W) -> Result<(), WriteFault>
+    ensures wrote { Wrote (W.taken writer.old) (W.taken writer.new) result (lines_from (L.line lines.now) 0 (L.count lines.now)) }
 {
     let mut batch = Batch {
         bytes: ArrayVec::new(),

@@ -6,6 +6,8 @@ pub mod bytes;
 pub mod error;
 pub mod lines;
 pub mod scan;
+pub mod sink;
+pub mod source;
 pub mod stream;
 pub mod write_loop;
 

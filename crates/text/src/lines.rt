@@ -1,11 +1,13 @@
 // The lines of a reader.
 
-ghost use Rattle.std.specs.Prelude.{◌≡◌, IfOk};
+ghost use Rattle.std.specs.Prelude.{◌≡◌, MatchResult};
+ghost use Rattle.text.specs.Cause.{HasCause};
+ghost use Rattle.text.specs.declared.error.ReadFault.TheVariants.{Read};
 ghost use Rattle.text.specs.Text.{without_end};
 ghost use Rattle.text.specs.Lines.{TakesLine, TakesPiece};
 
 use crate::error::ReadFault;
-use std::io::{BufRead, ErrorKind};
+use crate::source::{Blocks, fault_of};
 
 // Takes the byte off the end, if it stands there.
 fn cut_end(line: &mut Vec<u8>, byte: u8)
@@ -22,8 +24,9 @@ fn cut_end(line: &mut Vec<u8>, byte: u8)
 ///
 /// # Errors
 /// A read failed, or memory was refused. What the reader has left then isn't said.
-pub fn next_piece<B: BufRead>(reader: &mut B, line: &mut Vec<u8>) -> Result<bool, ReadFault>
-    ensures { IfOk result (λ more. TakesPiece (B.remaining reader.old) (B.remaining reader.new) more line.new.items) }
+pub fn next_piece<B: Blocks>(reader: &mut B, line: &mut Vec<u8>) -> Result<bool, ReadFault>
+    ensures { MatchResult result (λ more. TakesPiece (B.remaining reader.old) (B.remaining reader.new) more line.new.items)
+        (HasCause B.can_fail Read) }
 {
     line.clear();
     match reader.read_until(b'\n', line) {
@@ -32,8 +35,7 @@ pub fn next_piece<B: BufRead>(reader: &mut B, line: &mut Vec<u8>) -> Result<bool
             cut_end(line, b'\n');
             Ok(true)
         }
-        Err(error) if error.kind() == ErrorKind::OutOfMemory => Err(ReadFault::Memory),
-        Err(_) => Err(ReadFault::Read),
+        Err(error) => Err(fault_of(reader, &error)),
     }
 }
 
@@ -41,8 +43,9 @@ pub fn next_piece<B: BufRead>(reader: &mut B, line: &mut Vec<u8>) -> Result<bool
 ///
 /// # Errors
 /// A read failed, or memory was refused. What the reader has left then isn't said.
-pub fn next_line<B: BufRead>(reader: &mut B, line: &mut Vec<u8>) -> Result<bool, ReadFault>
-    ensures { IfOk result (λ more. TakesLine (B.remaining reader.old) (B.remaining reader.new) more line.new.items) }
+pub fn next_line<B: Blocks>(reader: &mut B, line: &mut Vec<u8>) -> Result<bool, ReadFault>
+    ensures { MatchResult result (λ more. TakesLine (B.remaining reader.old) (B.remaining reader.new) more line.new.items)
+        (HasCause B.can_fail Read) }
 {
     let more = next_piece(reader, line)?;
     cut_end(line, b'\r');

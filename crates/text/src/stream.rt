@@ -1,9 +1,11 @@
 // The tokens of a reader's text, of which no line is kept: only what a call is to keep of the token that it takes. A loop has to end, so each has at most
 // 2^64 turns; a reader that still is interrupted then, or still has bytes of a token, has failed.
 
-ghost use Rattle.std.specs.Prelude.{◌≡◌, ◌≤◌, ℕ, nat_lt, nat_eq, ◌||◌, List, [], ◌∷◌, ◌++◌, length, take, IfOk, OnOk, IfSome, IsTrue};
+ghost use Rattle.std.specs.Prelude.{◌≡◌, ◌≤◌, ℕ, nat_lt, nat_eq, ◌||◌, List, [], ◌∷◌, ◌++◌, length, take, IfErr, IfOk, IfSome, IsTrue, MatchResult};
 ghost use Rattle.std.specs.List.{prefix_len, list_all};
+ghost use Rattle.text.specs.Cause.{HasCause};
 ghost use Rattle.text.specs.Lines.{IfKnown};
+ghost use Rattle.text.specs.declared.error.ReadFault.TheVariants.{Memory, Read};
 ghost use Rattle.text.specs.Tokens as at;
 ghost use Rattle.text.specs.declared.stream.Class.TheVariants.{Blank};
 ghost use Rattle.text.specs.Stream.{is_of, is_inside, Shows, Takes, TakesAll, Runs, RunsOn, RunsTo, HasLine, Passes, PassesSign, PassesKept, Ends};
@@ -11,7 +13,8 @@ ghost use Rattle.text.specs.Stream.{is_of, is_inside, Shows, Takes, TakesAll, Ru
 use crate::bytes::{is_blank, is_digit};
 use crate::error::ReadFault;
 use crate::scan::whole_number;
-use std::io::{BufRead, Error, ErrorKind};
+use crate::source::{Blocks, fault_after, fault_of};
+use std::io::ErrorKind;
 
 // With so many digits a number without zeros in front is too great for its type.
 const MOST_DIGITS: usize = 11;
@@ -37,32 +40,28 @@ impl Class {
     }
 }
 
-fn fault_of(error: &Error) -> ReadFault {
-    if error.kind() == ErrorKind::OutOfMemory {
-        ReadFault::Memory
-    } else {
-        ReadFault::Read
-    }
-}
-
-// Looks at the next byte, which stays; none where the text has ended.
-fn look<B: BufRead>(reader: &mut B) -> Result<Option<u8>, ReadFault>
+/// Looks at the next byte, which stays; none where the text has ended.
+///
+/// # Errors
+/// A read failed, or memory was refused. What the reader has left then isn't said.
+pub fn look<B: Blocks>(reader: &mut B) -> Result<Option<u8>, ReadFault>
     ensures next { IfOk result (Shows (B.remaining reader.old) (B.remaining reader.new)) }
     ensures room { IfOk result (λ next. IfSome next (λ _. IfSome (B.remaining reader.old) (λ _. IfSome (B.consumable_len reader.new) (λ n. 1 ≤ n)))) }
+    ensures cause { IfErr result (HasCause B.can_fail Read) }
 {
     for _ in 0..u64::MAX {
         match reader.fill_buf() {
             Ok(block) => return Ok(block.first().copied()),
             Err(error) if error.kind() == ErrorKind::Interrupted => {}
-            Err(error) => return Err(fault_of(&error)),
+            Err(error) => return Err(fault_of(reader, &error)),
         }
     }
-    Err(ReadFault::Read)
+    Err(fault_after(reader))
 }
 
 // Takes the byte if it is next, and says whether it was.
-fn accept<B: BufRead>(reader: &mut B, byte: u8) -> Result<bool, ReadFault>
-    ensures { IfOk result (Takes (B.remaining reader.old) (B.remaining reader.new) byte) }
+fn accept<B: Blocks>(reader: &mut B, byte: u8) -> Result<bool, ReadFault>
+    ensures { MatchResult result (Takes (B.remaining reader.old) (B.remaining reader.new) byte) (HasCause B.can_fail Read) }
 {
     if look(reader)? != Some(byte) {
         return Ok(false);
@@ -88,7 +87,7 @@ fn is_all(count: usize, block: usize) -> bool
 
 // Keeps the first of these bytes, as long as fewer than so many are kept.
 fn keep(kept: &mut Vec<u8>, most: usize, run: &[u8]) -> Result<(), ReadFault>
-    ensures { OnOk result ((front : List ℕ) → kept.old.items ≡ take most front → kept.new.items ≡ take most (front ++ run.now)) }
+    ensures { MatchResult result (λ _. (front : List ℕ) → kept.old.items ≡ take most front → kept.new.items ≡ take most (front ++ run.now)) (λ fault. fault ≡ Memory) }
 {
     let room = most.saturating_sub(kept.len());
     kept.extend_from_slice(&run[..room.min(run.len())])?;
@@ -96,18 +95,19 @@ fn keep(kept: &mut Vec<u8>, most: usize, run: &[u8]) -> Result<(), ReadFault>
 }
 
 // Takes the bytes of the class in front as far as the block at hand goes, and says whether that is all of them.
-fn run_on<B: BufRead>(
+fn run_on<B: Blocks>(
     reader: &mut B,
     class: Class,
     most: usize,
     kept: &mut Vec<u8>,
 ) -> Result<bool, ReadFault>
-    ensures { IfOk result (λ ended. IfKnown (B.remaining reader.old) (B.remaining reader.new) (RunsOn class most kept.old.items kept.new.items ended)) }
+    ensures { MatchResult result (λ ended. IfKnown (B.remaining reader.old) (B.remaining reader.new) (RunsOn class most kept.old.items kept.new.items ended))
+        (HasCause B.can_fail Read) }
 {
     let block = match reader.fill_buf() {
         Ok(block) => block,
         Err(error) if error.kind() == ErrorKind::Interrupted => return Ok(false),
-        Err(error) => return Err(fault_of(&error)),
+        Err(error) => return Err(fault_of(reader, &error)),
     };
     let count = count_of(class, block);
     let ended = is_all(count, block.len());
@@ -117,13 +117,14 @@ fn run_on<B: BufRead>(
 }
 
 // Takes the bytes of the class in front, and keeps the first of them, so many at most.
-fn run<B: BufRead>(
+fn run<B: Blocks>(
     reader: &mut B,
     class: Class,
     most: usize,
     kept: &mut Vec<u8>,
 ) -> Result<(), ReadFault>
-    ensures { IfOk result (λ _. IfKnown (B.remaining reader.old) (B.remaining reader.new) (Runs class most kept.new.items)) }
+    ensures { MatchResult result (λ _. IfKnown (B.remaining reader.old) (B.remaining reader.new) (Runs class most kept.new.items))
+        (HasCause B.can_fail Read) }
 {
     kept.clear();
     for _ in 0..u64::MAX {
@@ -131,13 +132,14 @@ fn run<B: BufRead>(
             return Ok(());
         }
     }
-    Err(ReadFault::Read)
+    Err(fault_after(reader))
 }
 
 // Takes the blanks in front, and looks at the byte that is next then.
-fn skip_blanks<B: BufRead>(reader: &mut B) -> Result<Option<u8>, ReadFault>
+fn skip_blanks<B: Blocks>(reader: &mut B) -> Result<Option<u8>, ReadFault>
     ensures next { IfOk result (λ next. IfKnown (B.remaining reader.old) (B.remaining reader.new) (RunsTo Blank next)) }
     ensures room { IfOk result (λ next. IfSome next (λ _. IfSome (B.remaining reader.old) (λ _. IfSome (B.consumable_len reader.new) (λ n. 1 ≤ n)))) }
+    ensures cause { IfErr result (HasCause B.can_fail Read) }
 {
     for _ in 0..u64::MAX {
         match look(reader)? {
@@ -145,16 +147,17 @@ fn skip_blanks<B: BufRead>(reader: &mut B) -> Result<Option<u8>, ReadFault>
             next => return Ok(next),
         }
     }
-    Err(ReadFault::Read)
+    Err(fault_after(reader))
 }
 
 /// Takes the sign past the blanks, and says whether it was there.
 ///
 /// # Errors
 /// A read failed, or memory was refused. What the reader has left then isn't said.
-pub fn sign<B: BufRead>(reader: &mut B, token: u8) -> Result<bool, ReadFault>
+pub fn sign<B: Blocks>(reader: &mut B, token: u8) -> Result<bool, ReadFault>
     requires inside { IsTrue (is_inside token) }
-    ensures { IfOk result (λ found. IfKnown (B.remaining reader.old) (B.remaining reader.new) (PassesSign (at.sign_at (token ∷ [])) found)) }
+    ensures { MatchResult result (λ found. IfKnown (B.remaining reader.old) (B.remaining reader.new) (PassesSign (at.sign_at (token ∷ [])) found))
+        (HasCause B.can_fail Read) }
 {
     if skip_blanks(reader)? != Some(token) {
         return Ok(false);
@@ -164,8 +167,9 @@ pub fn sign<B: BufRead>(reader: &mut B, token: u8) -> Result<bool, ReadFault>
 }
 
 // Takes the bytes of the word in front, until one of them isn't next, and says whether all were.
-fn accept_all<B: BufRead>(reader: &mut B, word: &[u8]) -> Result<bool, ReadFault>
-    ensures { IfOk result (λ found. IfKnown (B.remaining reader.old) (B.remaining reader.new) (TakesAll word.now found)) }
+fn accept_all<B: Blocks>(reader: &mut B, word: &[u8]) -> Result<bool, ReadFault>
+    ensures { MatchResult result (λ found. IfKnown (B.remaining reader.old) (B.remaining reader.new) (TakesAll word.now found))
+        (HasCause B.can_fail Read) }
 {
     for byte in word {
         if !accept(reader, *byte)? {
@@ -179,9 +183,10 @@ fn accept_all<B: BufRead>(reader: &mut B, word: &[u8]) -> Result<bool, ReadFault
 ///
 /// # Errors
 /// A read failed, or memory was refused. What the reader has left then isn't said.
-pub fn word<B: BufRead>(reader: &mut B, token: &[u8]) -> Result<bool, ReadFault>
+pub fn word<B: Blocks>(reader: &mut B, token: &[u8]) -> Result<bool, ReadFault>
     requires inside { IsTrue (list_all is_inside token.now) }
-    ensures { IfOk result (λ found. IfKnown (B.remaining reader.old) (B.remaining reader.new) (PassesSign (at.sign_at token.now) found)) }
+    ensures { MatchResult result (λ found. IfKnown (B.remaining reader.old) (B.remaining reader.new) (PassesSign (at.sign_at token.now) found))
+        (HasCause B.can_fail Read) }
 {
     skip_blanks(reader)?;
     accept_all(reader, token)
@@ -191,8 +196,9 @@ pub fn word<B: BufRead>(reader: &mut B, token: &[u8]) -> Result<bool, ReadFault>
 ///
 /// # Errors
 /// A read failed, or memory was refused. What the reader has left then isn't said.
-pub fn number<B: BufRead>(reader: &mut B, digits: &mut Vec<u8>) -> Result<Option<u32>, ReadFault>
-    ensures { IfOk result (λ found. IfKnown (B.remaining reader.old) (B.remaining reader.new) (Passes at.number_at found)) }
+pub fn number<B: Blocks>(reader: &mut B, digits: &mut Vec<u8>) -> Result<Option<u32>, ReadFault>
+    ensures { MatchResult result (λ found. IfKnown (B.remaining reader.old) (B.remaining reader.new) (Passes at.number_at found))
+        (HasCause B.can_fail Read) }
 {
     skip_blanks(reader)?;
     run(reader, Class::Digit, MOST_DIGITS, digits)?;
@@ -203,13 +209,14 @@ pub fn number<B: BufRead>(reader: &mut B, digits: &mut Vec<u8>) -> Result<Option
 ///
 /// # Errors
 /// A read failed, or memory was refused. What the reader has left then isn't said.
-pub fn number_before<B: BufRead>(
+pub fn number_before<B: Blocks>(
     reader: &mut B,
     token: u8,
     digits: &mut Vec<u8>,
 ) -> Result<Option<u32>, ReadFault>
     requires inside { IsTrue (is_inside token) }
-    ensures { IfOk result (λ found. IfKnown (B.remaining reader.old) (B.remaining reader.new) (Passes (at.number_before (token ∷ [])) found)) }
+    ensures { MatchResult result (λ found. IfKnown (B.remaining reader.old) (B.remaining reader.new) (Passes (at.number_before (token ∷ [])) found))
+        (HasCause B.can_fail Read) }
 {
     let Some(found) = number(reader, digits)? else {
         return Ok(None);
@@ -224,12 +231,9 @@ pub fn number_before<B: BufRead>(
 ///
 /// # Errors
 /// A read failed, or memory was refused. What the reader has left then isn't said.
-pub fn quoted<B: BufRead>(
-    reader: &mut B,
-    most: usize,
-    kept: &mut Vec<u8>,
-) -> Result<bool, ReadFault>
-    ensures { IfOk result (λ found. IfKnown (B.remaining reader.old) (B.remaining reader.new) (PassesKept at.quoted_at most kept.new.items found)) }
+pub fn quoted<B: Blocks>(reader: &mut B, most: usize, kept: &mut Vec<u8>) -> Result<bool, ReadFault>
+    ensures { MatchResult result (λ found. IfKnown (B.remaining reader.old) (B.remaining reader.new) (PassesKept at.quoted_at most kept.new.items found))
+        (HasCause B.can_fail Read) }
 {
     if !sign(reader, b'"')? {
         return Ok(false);
@@ -242,8 +246,8 @@ pub fn quoted<B: BufRead>(
 ///
 /// # Errors
 /// A read failed, or memory was refused. What the reader has left then isn't said.
-pub fn ends<B: BufRead>(reader: &mut B) -> Result<bool, ReadFault>
-    ensures { IfOk result (λ found. IfKnown (B.remaining reader.old) (B.remaining reader.new) (Ends found)) }
+pub fn ends<B: Blocks>(reader: &mut B) -> Result<bool, ReadFault>
+    ensures { MatchResult result (λ found. IfKnown (B.remaining reader.old) (B.remaining reader.new) (Ends found)) (HasCause B.can_fail Read) }
 {
     skip_blanks(reader)?;
     accept(reader, b'\r')?;
@@ -257,8 +261,8 @@ pub fn ends<B: BufRead>(reader: &mut B) -> Result<bool, ReadFault>
 ///
 /// # Errors
 /// A read failed, or memory was refused. What the reader has left then isn't said.
-pub fn has_line<B: BufRead>(reader: &mut B) -> Result<bool, ReadFault>
-    ensures { IfOk result (HasLine (B.remaining reader.old) (B.remaining reader.new)) }
+pub fn has_line<B: Blocks>(reader: &mut B) -> Result<bool, ReadFault>
+    ensures { MatchResult result (HasLine (B.remaining reader.old) (B.remaining reader.new)) (HasCause B.can_fail Read) }
 {
     Ok(look(reader)?.is_some())
 }

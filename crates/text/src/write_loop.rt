@@ -4,8 +4,9 @@ ghost use Rattle.std.specs.Prelude.{◌++◌, map};
 ghost use Rattle.text.specs.Wrote.{Wrote};
 ghost use Rattle.text.specs.Pieces.{piece_text, pieces_text};
 
+use crate::sink::Sink;
 use itoa::{Buffer, Integer};
-use std::io::{ErrorKind, Write};
+use std::io::ErrorKind;
 use thiserror::Error;
 
 /// A write failed, or took nothing of a piece that is not empty.
@@ -18,15 +19,15 @@ pub struct WriteFault;
 ///
 /// # Errors
 /// After a fault the writer holds a beginning of the bytes. None is told once all were written, nor where there are none.
-pub fn put<W: Write>(writer: &mut W, bytes: &[u8]) -> Result<(), WriteFault>
-    ensures wrote { Wrote (W.contents writer.old) (W.contents writer.new) result bytes.now }
+pub fn put<W: Sink>(writer: &mut W, bytes: &[u8]) -> Result<(), WriteFault>
+    ensures wrote { Wrote (W.taken writer.old) (W.taken writer.new) result bytes.now }
 {
     let mut rest = bytes;
-    'writes: for _ in 0..u64::MAX {
+    'writes: for _turn in 0..u64::MAX {
         if rest.is_empty() {
             return Ok(());
         }
-        match writer.write(rest) {
+        match writer.write_some(rest) {
             Ok(0) => return Err(WriteFault),
             Ok(taken) => rest = &rest[taken..],
             Err(error) => {
@@ -47,12 +48,12 @@ pub fn put<W: Write>(writer: &mut W, bytes: &[u8]) -> Result<(), WriteFault>
 ///
 /// # Errors
 /// After a fault the writer holds a beginning of them.
-pub fn put_number<N: Integer, W: Write>(
+pub fn put_number<N: Integer, W: Sink>(
     writer: &mut W,
     before: &[u8],
     number: N,
 ) -> Result<(), WriteFault>
-    ensures wrote { Wrote (W.contents writer.old) (W.contents writer.new) result (before.now ++ N.text number) }
+    ensures wrote { Wrote (W.taken writer.old) (W.taken writer.new) result (before.now ++ N.text number) }
 {
     let mut buffer = Buffer::new();
     put(writer, before)?;
@@ -66,8 +67,8 @@ pub enum Piece<'a> {
     Number(u64),
 }
 
-fn put_piece<W: Write>(writer: &mut W, piece: Piece<'_>) -> Result<(), WriteFault>
-    ensures { Wrote (W.contents writer.old) (W.contents writer.new) result (piece_text piece.entry) }
+fn put_piece<W: Sink>(writer: &mut W, piece: Piece<'_>) -> Result<(), WriteFault>
+    ensures { Wrote (W.taken writer.old) (W.taken writer.new) result (piece_text piece.entry) }
 {
     match piece {
         Piece::Bytes(bytes) => put(writer, bytes),
@@ -79,8 +80,8 @@ fn put_piece<W: Write>(writer: &mut W, piece: Piece<'_>) -> Result<(), WriteFaul
 ///
 /// # Errors
 /// After a fault the writer holds a beginning of them.
-pub fn put_pieces<W: Write>(writer: &mut W, pieces: &[Piece<'_>]) -> Result<(), WriteFault>
-    ensures { Wrote (W.contents writer.old) (W.contents writer.new) result (pieces_text pieces.now) }
+pub fn put_pieces<W: Sink>(writer: &mut W, pieces: &[Piece<'_>]) -> Result<(), WriteFault>
+    ensures { Wrote (W.taken writer.old) (W.taken writer.new) result (pieces_text pieces.now) }
 {
     for piece in pieces {
         put_piece(writer, *piece)?;

@@ -17,17 +17,17 @@ use calculus::tree::Act;
 use game::graph::Game;
 use normal::form::Normal;
 use normal::node::Kind;
-use std::io::Write;
 use text::WriteFault;
+use text::sink::Sink;
 
 /// Writes what would have been needed at a state: the actions of the modalities at which the play stands there and by which no step of the system is
 /// possible, each once, in the order of the nodes.
 ///
 /// # Errors
 /// After a fault the writer holds a beginning of the text.
-pub fn put_lacks<W: Write>(reached: &Reached<'_>, state: u32, out: &mut W) -> Result<(), WriteFault>
+pub fn put_lacks<W: Sink>(reached: &Reached<'_>, state: u32, out: &mut W) -> Result<(), WriteFault>
     requires { state < (system_in reached.now).states }
-    ensures wrote { Wrote (W.contents out.old) (W.contents out.new) result ((remarks_in reached.now).lack state) }
+    ensures wrote { Wrote (W.taken out.old) (W.taken out.new) result ((remarks_in reached.now).lack state) }
 {
     let lacks = Lacks {
         reached: *reached,
@@ -69,15 +69,15 @@ impl Mentions for Lacks<'_> {
         have_same(self.reached.normal, j, k)
     }
 
-    fn put_text<W: Write>(&self, k: u32, out: &mut W) -> Result<(), WriteFault> {
+    fn put_text<W: Sink>(&self, k: u32, out: &mut W) -> Result<(), WriteFault> {
         put_name(self.reached.normal, k, out)
     }
 }
 
 /// Writes the action of a modality.
-fn put_name<W: Write>(normal: &Normal, k: u32, out: &mut W) -> Result<(), WriteFault>
+fn put_name<W: Sink>(normal: &Normal, k: u32, out: &mut W) -> Result<(), WriteFault>
     requires { k < length (normal_nodes normal.now) }
-    ensures { Wrote (W.contents out.old) (W.contents out.new) result (name_at (normal_nodes normal.now) k) }
+    ensures { Wrote (W.taken out.old) (W.taken out.new) result (name_at (normal_nodes normal.now) k) }
 {
     match action_at(normal, k) {
         Some(action) => put_action(action, out),

@@ -5,7 +5,7 @@ ghost use Rattle.text.specs.Wrote.{Wrote};
 ghost use Rattle.why.specs.Mentions.{close as close_of, covers as covers_of, has_like as has_like_of, is_begun as is_begun_of};
 ghost use Rattle.why.specs.Mentions.{is_mentioned as is_mentioned_of, lead as lead_of, mention, mentions as mentions_of};
 
-use std::io::Write;
+use text::sink::Sink;
 use text::{Lines, WriteFault, put, put_lines};
 
 /// Numbers, a test of them, and a text for each.
@@ -37,9 +37,9 @@ pub(crate) trait Mentions {
     ///
     /// # Errors
     /// After a fault the writer holds a beginning of the text.
-    fn put_text<W: Write>(&self, k: u32, out: &mut W) -> Result<(), WriteFault>
+    fn put_text<W: Sink>(&self, k: u32, out: &mut W) -> Result<(), WriteFault>
         requires { k < count self.now }
-        ensures { Wrote (W.contents out.old) (W.contents out.new) result (text self.now k) };
+        ensures { Wrote (W.taken out.old) (W.taken out.new) result (text self.now k) };
 }
 
 /// Writes the texts of the numbers that pass, each once, in the order of the numbers, with ` or ` between them, and the front before them and the end
@@ -47,13 +47,13 @@ pub(crate) trait Mentions {
 ///
 /// # Errors
 /// After a fault the writer holds a beginning of the text.
-pub(crate) fn put_mentions<M: Mentions, W: Write>(
+pub(crate) fn put_mentions<M: Mentions, W: Sink>(
     numbers: &M,
     front: &[u8],
     end: &[u8],
     out: &mut W,
 ) -> Result<(), WriteFault>
-    ensures { let m = numbers.now in Wrote (W.contents out.old) (W.contents out.new) result
+    ensures { let m = numbers.now in Wrote (W.taken out.old) (W.taken out.new) result
         (mentions_of front.now end.now (M.passes m) (M.have_same m) (M.text m) (M.count m)) }
 {
     put_lines(&Listed { numbers, front }, out)?;
@@ -92,21 +92,21 @@ impl<M: Mentions> Lines for Listed<'_, M> {
         self.numbers.count() as usize
     }
 
-    fn put_line<W: Write>(&self, number: usize, writer: &mut W) -> Result<(), WriteFault> {
+    fn put_line<W: Sink>(&self, number: usize, writer: &mut W) -> Result<(), WriteFault> {
         let _count = self.numbers.count();
         put_mention(self.numbers, self.front, number as u32, writer)
     }
 }
 
 /// Writes the text of a number that is mentioned, behind what stands before it.
-fn put_mention<M: Mentions, W: Write>(
+fn put_mention<M: Mentions, W: Sink>(
     numbers: &M,
     front: &[u8],
     k: u32,
     out: &mut W,
 ) -> Result<(), WriteFault>
     requires { k < M.count numbers.now }
-    ensures { let m = numbers.now in Wrote (W.contents out.old) (W.contents out.new) result (mention front.now (M.passes m) (M.have_same m) (M.text m) k) }
+    ensures { let m = numbers.now in Wrote (W.taken out.old) (W.taken out.new) result (mention front.now (M.passes m) (M.have_same m) (M.text m) k) }
 {
     if is_mentioned(numbers, k) {
         put(out, lead(front, is_begun(numbers, k)))?;

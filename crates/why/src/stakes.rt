@@ -16,7 +16,7 @@ use calculus::tree::Act;
 use calculus::{holds, put_action};
 use lts::Transition;
 use normal::node::Kind;
-use std::io::Write;
+use text::sink::Sink;
 use text::{WriteFault, put};
 
 /// Writes by which modalities a step is taken, each text once, in the order of the nodes: those at which the play stands at its source, whose action holds of
@@ -24,7 +24,7 @@ use text::{WriteFault, put};
 ///
 /// # Errors
 /// After a fault the writer holds a beginning of the text.
-pub(crate) fn put_stakes<W: Write>(
+pub(crate) fn put_stakes<W: Sink>(
     reached: &Reached<'_>,
     before: Option<Transition>,
     step: Transition,
@@ -32,7 +32,7 @@ pub(crate) fn put_stakes<W: Write>(
 ) -> Result<(), WriteFault>
     requires before { IfSome before (IsTransitionOf reached.now.system.now) }
     requires step { IsTransitionOf reached.now.system.now step }
-    ensures wrote { let labels = reached.now.system.now.labels in Wrote (W.contents out.old) (W.contents out.new) result
+    ensures wrote { let labels = reached.now.system.now.labels in Wrote (W.taken out.old) (W.taken out.new) result
         ((remarks_in reached.now).stake (option_map (arrow_of labels) before) (arrow_of labels step)) }
 {
     if is_as_before(reached, before, step) {
@@ -95,7 +95,7 @@ impl Mentions for Stakes<'_> {
         are_alike(&normal.node(j).kind, &normal.node(k).kind)
     }
 
-    fn put_text<W: Write>(&self, k: u32, out: &mut W) -> Result<(), WriteFault> {
+    fn put_text<W: Sink>(&self, k: u32, out: &mut W) -> Result<(), WriteFault> {
         put_kind(&self.reached.normal.node(k).kind, out)
     }
 }
@@ -143,8 +143,8 @@ fn are_alike(kind: &Kind, other: &Kind) -> bool
 }
 
 /// Writes a modality without what stands behind it.
-fn put_kind<W: Write>(kind: &Kind, out: &mut W) -> Result<(), WriteFault>
-    ensures { Wrote (W.contents out.old) (W.contents out.new) result (modality_text (shape_of kind.now)) }
+fn put_kind<W: Sink>(kind: &Kind, out: &mut W) -> Result<(), WriteFault>
+    ensures { Wrote (W.taken out.old) (W.taken out.new) result (modality_text (shape_of kind.now)) }
 {
     match kind {
         Kind::Dia(action, _) => put_between(b"<", action, b">", out),
@@ -153,13 +153,13 @@ fn put_kind<W: Write>(kind: &Kind, out: &mut W) -> Result<(), WriteFault>
     }
 }
 
-fn put_between<W: Write>(
+fn put_between<W: Sink>(
     opening: &[u8],
     action: &Act,
     closing: &[u8],
     out: &mut W,
 ) -> Result<(), WriteFault>
-    ensures { Wrote (W.contents out.old) (W.contents out.new) result (opening.now ++ (action_text (action_of action.now) ++ closing.now)) }
+    ensures { Wrote (W.taken out.old) (W.taken out.new) result (opening.now ++ (action_text (action_of action.now) ++ closing.now)) }
 {
     put(out, opening)?;
     put_action(action, out)?;

@@ -12,7 +12,7 @@ use crate::line::{Line, MOST_BLANKS};
 use crate::reached::Reached;
 use crate::stakes::put_stakes;
 use lts::Transition;
-use std::io::Write;
+use text::sink::Sink;
 use text::{Lines, Piece, WriteFault, put, put_lines, put_pieces};
 
 /// With what lines begin.
@@ -24,7 +24,7 @@ static BLANKS: [u8; MOST_BLANKS] = [b' '; MOST_BLANKS];
 ///
 /// # Errors
 /// After a fault the writer holds a beginning of the text.
-pub fn write_telling<W: Write>(
+pub fn write_telling<W: Sink>(
     reached: &Reached<'_>,
     part: &[Transition],
     most: usize,
@@ -33,7 +33,7 @@ pub fn write_telling<W: Write>(
 ) -> Result<(), WriteFault>
     requires inside { IsInside reached.now.system.now part.now }
     requires numbered { AreNumbered (system_in reached.now).states (length part.now) lines.now }
-    ensures { let r = reached.now in Wrote (W.contents out.old) (W.contents out.new) result
+    ensures { let r = reached.now in Wrote (W.taken out.old) (W.taken out.new) result
         (telling_text (remarks_in r) (system_with r.system.now part.now) most lines.now) }
 {
     put_count(part.len(), most, out)?;
@@ -41,8 +41,8 @@ pub fn write_telling<W: Write>(
 }
 
 /// Writes how many transitions there are, where there are more than are told.
-fn put_count<W: Write>(transitions: usize, most: usize, out: &mut W) -> Result<(), WriteFault>
-    ensures { Wrote (W.contents out.old) (W.contents out.new) result (count_text transitions most) }
+fn put_count<W: Sink>(transitions: usize, most: usize, out: &mut W) -> Result<(), WriteFault>
+    ensures { Wrote (W.taken out.old) (W.taken out.new) result (count_text transitions most) }
 {
     if most < transitions {
         put_pieces(
@@ -84,14 +84,14 @@ impl Lines for Told<'_> {
         self.lines.len()
     }
 
-    fn put_line<W: Write>(&self, number: usize, writer: &mut W) -> Result<(), WriteFault> {
+    fn put_line<W: Sink>(&self, number: usize, writer: &mut W) -> Result<(), WriteFault> {
         let before = line_ahead(self.lines, number);
         put_line(&self.reached, self.part, before, self.lines[number], writer)
     }
 }
 
 /// Writes the lines.
-fn put_told<W: Write>(
+fn put_told<W: Sink>(
     reached: &Reached<'_>,
     part: &[Transition],
     lines: &[Line],
@@ -99,7 +99,7 @@ fn put_told<W: Write>(
 ) -> Result<(), WriteFault>
     requires inside { IsInside reached.now.system.now part.now }
     requires numbered { AreNumbered (system_in reached.now).states (length part.now) lines.now }
-    ensures { let r = reached.now in Wrote (W.contents out.old) (W.contents out.new) result
+    ensures { let r = reached.now in Wrote (W.taken out.old) (W.taken out.new) result
         (lines_text (remarks_in r) (system_with r.system.now part.now) None lines.now) }
 {
     let told = Told {
@@ -121,7 +121,7 @@ fn line_ahead(lines: &[Line], number: usize) -> Option<Line>
 }
 
 /// Writes a line behind the line before it.
-fn put_line<W: Write>(
+fn put_line<W: Sink>(
     reached: &Reached<'_>,
     part: &[Transition],
     before: Option<Line>,
@@ -131,7 +131,7 @@ fn put_line<W: Write>(
     requires inside { IsInside reached.now.system.now part.now }
     requires before { IfSome before (IsNumbered (system_in reached.now).states (length part.now)) }
     requires numbered { IsNumbered (system_in reached.now).states (length part.now) line }
-    ensures { let r = reached.now in Wrote (W.contents out.old) (W.contents out.new) result
+    ensures { let r = reached.now in Wrote (W.taken out.old) (W.taken out.new) result
         (line_text (remarks_in r) (system_with r.system.now part.now) before line) }
 {
     match line {
@@ -161,7 +161,7 @@ fn step_in(reached: &Reached<'_>, part: &[Transition], line: Option<Line>) -> Op
 }
 
 /// Writes the line of a step, behind the step that the line before it tells.
-fn put_step<W: Write>(
+fn put_step<W: Sink>(
     reached: &Reached<'_>,
     before: Option<Transition>,
     step: Transition,
@@ -171,7 +171,7 @@ fn put_step<W: Write>(
 ) -> Result<(), WriteFault>
     requires before { IfSome before (IsTransitionOf reached.now.system.now) }
     requires step { IsTransitionOf reached.now.system.now step }
-    ensures { let labels = reached.now.system.now.labels in Wrote (W.contents out.old) (W.contents out.new) result (blanks_before blanks
+    ensures { let labels = reached.now.system.now.labels in Wrote (W.taken out.old) (W.taken out.new) result (blanks_before blanks
         ++ step_text ((remarks_in reached.now).stake (option_map (arrow_of labels) before) (arrow_of labels step)) (arrow_of labels step) again) }
 {
     put_pieces(
@@ -191,14 +191,14 @@ fn put_step<W: Write>(
 }
 
 /// Writes that no step leads on from a state, and what would have been needed there.
-fn put_stop<W: Write>(
+fn put_stop<W: Sink>(
     reached: &Reached<'_>,
     state: u32,
     blanks: usize,
     out: &mut W,
 ) -> Result<(), WriteFault>
     requires { state < (system_in reached.now).states }
-    ensures { Wrote (W.contents out.old) (W.contents out.new) result (blanks_before blanks ++ stop_text ((remarks_in reached.now).lack state) state) }
+    ensures { Wrote (W.taken out.old) (W.taken out.new) result (blanks_before blanks ++ stop_text ((remarks_in reached.now).lack state) state) }
 {
     put_pieces(
         out,

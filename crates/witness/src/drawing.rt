@@ -7,7 +7,7 @@ ghost use Rattle.text.specs.Wrote.{Wrote};
 ghost use Rattle.witness.specs.Drawing.{drawing, edge_line, escape, escaped, head_text};
 
 use lts::{Lts, Transition};
-use std::io::Write;
+use text::sink::Sink;
 use text::{Lines, Piece, WriteFault, put, put_lines, put_pieces};
 
 /// Writes the system with these of its transitions alone as a graph for Graphviz: an edge for each transition, in the order in
@@ -15,13 +15,13 @@ use text::{Lines, Piece, WriteFault, put, put_lines, put_pieces};
 ///
 /// # Errors
 /// After a fault the writer holds a beginning of the text.
-pub fn write_drawing<W: Write>(
+pub fn write_drawing<W: Sink>(
     system: &Lts,
     part: &[Transition],
     out: &mut W,
 ) -> Result<(), WriteFault>
     requires { IsInside system.now part.now }
-    ensures wrote { Wrote (W.contents out.old) (W.contents out.new) result (drawing (system_with system.now part.now)) }
+    ensures wrote { Wrote (W.taken out.old) (W.taken out.new) result (drawing (system_with system.now part.now)) }
 {
     put_head(system.initial(), out)?;
     put_edges(system, part, out)?;
@@ -29,8 +29,8 @@ pub fn write_drawing<W: Write>(
 }
 
 // Writes what stands before the edges.
-fn put_head<W: Write>(initial: u32, out: &mut W) -> Result<(), WriteFault>
-    ensures { Wrote (W.contents out.old) (W.contents out.new) result (head_text initial) }
+fn put_head<W: Sink>(initial: u32, out: &mut W) -> Result<(), WriteFault>
+    ensures { Wrote (W.taken out.old) (W.taken out.new) result (head_text initial) }
 {
     put_pieces(
         out,
@@ -62,22 +62,22 @@ impl Lines for EdgeLines<'_> {
         self.part.len()
     }
 
-    fn put_line<W: Write>(&self, number: usize, writer: &mut W) -> Result<(), WriteFault> {
+    fn put_line<W: Sink>(&self, number: usize, writer: &mut W) -> Result<(), WriteFault> {
         put_edge(self.system, self.part[number], writer)
     }
 }
 
 // Writes a line for each of the transitions.
-fn put_edges<W: Write>(system: &Lts, part: &[Transition], out: &mut W) -> Result<(), WriteFault>
+fn put_edges<W: Sink>(system: &Lts, part: &[Transition], out: &mut W) -> Result<(), WriteFault>
     requires { IsInside system.now part.now }
-    ensures { Wrote (W.contents out.old) (W.contents out.new) result (flat_map edge_line (map (arrow_of system.now.labels) part.now)) }
+    ensures { Wrote (W.taken out.old) (W.taken out.new) result (flat_map edge_line (map (arrow_of system.now.labels) part.now)) }
 {
     put_lines(&EdgeLines { system, part }, out)
 }
 
-fn put_edge<W: Write>(system: &Lts, transition: Transition, out: &mut W) -> Result<(), WriteFault>
+fn put_edge<W: Sink>(system: &Lts, transition: Transition, out: &mut W) -> Result<(), WriteFault>
     requires { transition.label < length system.now.labels }
-    ensures { Wrote (W.contents out.old) (W.contents out.new) result (edge_line (arrow_of system.now.labels transition)) }
+    ensures { Wrote (W.taken out.old) (W.taken out.new) result (edge_line (arrow_of system.now.labels transition)) }
 {
     put_pieces(
         out,
@@ -94,8 +94,8 @@ fn put_edge<W: Write>(system: &Lts, transition: Transition, out: &mut W) -> Resu
 }
 
 // Writes the bytes of a label, with a `\` before each byte that would be read as something else.
-fn put_label<W: Write>(bytes: &[u8], out: &mut W) -> Result<(), WriteFault>
-    ensures { Wrote (W.contents out.old) (W.contents out.new) result (escaped bytes.now) }
+fn put_label<W: Sink>(bytes: &[u8], out: &mut W) -> Result<(), WriteFault>
+    ensures { Wrote (W.taken out.old) (W.taken out.new) result (escaped bytes.now) }
 {
     for byte in bytes {
         put_byte(*byte, out)?;
@@ -103,8 +103,8 @@ fn put_label<W: Write>(bytes: &[u8], out: &mut W) -> Result<(), WriteFault>
     Ok(())
 }
 
-fn put_byte<W: Write>(byte: u8, out: &mut W) -> Result<(), WriteFault>
-    ensures { Wrote (W.contents out.old) (W.contents out.new) result (escape byte) }
+fn put_byte<W: Sink>(byte: u8, out: &mut W) -> Result<(), WriteFault>
+    ensures { Wrote (W.taken out.old) (W.taken out.new) result (escape byte) }
 {
     if byte == b'"' || byte == b'\\' {
         put(out, &[b'\\', byte])

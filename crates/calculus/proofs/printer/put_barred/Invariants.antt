@@ -5,5 +5,5 @@ use Rattle.calculus.specs.Canon.{barred}
 use Rattle.calculus.proofs.printer.put_barred.Given as goal
 
 abbrev pub invariant-loop-name : goal.invariant-loop-name
-invariant-loop-name g l = HasWritten (g.W.Write.contents l.initial.writer) (g.W.Write.contents l.writer) (barred (texts l.names))
+invariant-loop-name g l = HasWritten (g.W.Sink.taken l.initial.writer) (g.W.Sink.taken l.writer) (barred (texts l.names))
     (barred (texts (drop l.name-index l.names)))

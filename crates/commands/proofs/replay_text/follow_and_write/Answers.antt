@@ -3,8 +3,8 @@ use Rattle.liftcore.specs.Core.{Core}
 use Rattle.liftcore.specs.Runs.{Comes}
 use Rattle.commands.proofs.replay_text.follow_and_write.Goals as goal
 
-pub returns-in-Ok : goal.returns-in-Ok
-returns-in-Ok g c = λ first second third l f workers spelled game begins schedule.
+pub returns-in-Ok-clause-answers : goal.returns-in-Ok-clause-answers
+returns-in-Ok-clause-answers g c = λ first second third l f workers spelled game begins schedule.
     let tally = c.follow-tally.result in
     let core = c.follow-tally.new.self in
     let told = c.in-Ok.ensures in
@@ -29,8 +29,8 @@ returns-in-Ok g c = λ first second third l f workers spelled game begins schedu
       answered = refl;
     }
 
-pub returns-in-Err : goal.returns-in-Err
-returns-in-Err g c = λ first second third l f workers spelled game begins schedule.
+pub returns-in-Err-clause-answers : goal.returns-in-Err-clause-answers
+returns-in-Err-clause-answers g c = λ first second third l f workers spelled game begins schedule.
     let tally = c.follow-tally.result in
     let core = c.follow-tally.new.self in
     let told = c.in-Err.ensures in

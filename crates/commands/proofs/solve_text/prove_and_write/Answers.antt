@@ -7,16 +7,16 @@ use Rattle.requests.specs.Solver.{IsFitting}
 use Rattle.commands.proofs.Solving.{kept_all, unproved_of}
 use Rattle.commands.proofs.solve_text.prove_and_write.Goals as goal
 
-pub returns-in-Ok : goal.returns-in-Ok
-returns-in-Ok g c = λ text is.
+pub returns-in-Ok-clause-answers : goal.returns-in-Ok-clause-answers
+returns-in-Ok-clause-answers g c = λ text is.
     let board = c.args.options.now.board in
     let fits = subst (IsFitting (Some board)) (sym c.deref.ensures) c.in-Ok.ensures.board in
-    c.write_all.ensures board text (subst (IsGameOf text) (sym c.deref.ensures) is) fits
+    c.write_all.ensures.answers board text (subst (IsGameOf text) (sym c.deref.ensures) is) fits
 
-pub returns-in-Err : goal.returns-in-Err
-returns-in-Err g c = λ text is.
-    let even = g.E.Write.contents c.args.even.now in
-    let odd = g.O.Write.contents c.args.odd.now in
-    let out = g.W.Write.contents c.args.out.now in
+pub returns-in-Err-clause-answers : goal.returns-in-Err-clause-answers
+returns-in-Err-clause-answers g c = λ text is.
+    let even = g.E.Sink.taken c.args.even.now in
+    let odd = g.O.Sink.taken c.args.odd.now in
+    let out = g.W.Sink.taken c.args.out.now in
     unproved_of c.args.options.now.board text (arc_value c.args.game.now) (solve_writers true even even odd odd out out) c.in-Err.error is
     (kept_all true even odd out) (inl refl) c.in-Err.ensures.refusal

@@ -4,8 +4,8 @@ use Rattle.commands.specs.Spelled.{IsGameOf}
 use Rattle.requests.specs.Solver.{IsFitting}
 use Rattle.commands.proofs.solve_text.solve_and_write.Goals as goal
 
-pub returns-in-Ok : goal.returns-in-Ok
-returns-in-Ok g c = λ text is.
+pub returns-in-Ok-clause-answers : goal.returns-in-Ok-clause-answers
+returns-in-Ok-clause-answers g c = λ text is.
     let board = c.args.options.now.board in
     let fits = subst (IsFitting (Some board)) (sym c.deref.ensures) c.in-Ok.ensures.board in
-    c.write_winners.ensures board text (subst (IsGameOf text) (sym c.deref.ensures) is) fits
+    c.write_winners.ensures.answers board text (subst (IsGameOf text) (sym c.deref.ensures) is) fits

@@ -5,14 +5,14 @@ use Rattle.commands.specs.Spelled.{IsGameOf}
 use Rattle.commands.proofs.Solving.{beside_report}
 use Rattle.commands.proofs.solve_text.solve_read.Goals as goal
 
-pub returns : goal.returns
-returns g c = λ text spelled.
+pub returns-clause-answers : goal.returns-clause-answers
+returns-clause-answers g c = λ text spelled.
     let board = c.args.request.now.options.board in
-    let even = g.E.Write.contents c.args.even.now in
-    let odd = g.O.Write.contents c.args.odd.now in
-    let old = g.W.Write.contents c.args.out.now in
-    let new = g.W.Write.contents c.solve_and_write.new.out in
+    let even = g.E.Sink.taken c.args.even.now in
+    let odd = g.O.Sink.taken c.args.odd.now in
+    let old = g.W.Sink.taken c.args.out.now in
+    let new = g.W.Sink.taken c.solve_and_write.new.out in
     let none : is_some c.args.request.now.evidence ≡ false = cc in
     subst (λ b. Answers board text (solve_writers b even even odd odd old new) c.solve_and_write.result) (sym none)
     (beside_report board text even odd old new c.solve_and_write.result
-    (c.solve_and_write.ensures text (subst (IsGameOf text) (sym c.in-Ok.ensures.ok) spelled)))
+    (c.solve_and_write.ensures.answers text (subst (IsGameOf text) (sym c.in-Ok.ensures.ok) spelled)))

@@ -1,5 +1,4 @@
 use Rattle.std.proofs.Common.{◌≡◌, subst, sym, MatchResult}
-use Rattle.std.specs.Arc.{arc_value}
 use Rattle.game.specs.Game.{Game}
 use Rattle.evidence.specs.declared.error.EvidenceError.{EvidenceError}
 use Rattle.evidence.specs.declared.error.EvidenceError.TheVariants as errors

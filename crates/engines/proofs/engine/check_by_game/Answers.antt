@@ -6,36 +6,41 @@ use Rattle.requests.specs.Check.{Answers, AreSpelled, ByGame}
 use Rattle.engines.specs.Findings.{way_in}
 use Rattle.requests.specs.Writers.{all_writers}
 use Rattle.engines.proofs.Checks.{alone_of, beyond_of, by_way, kept_writers}
+use Rattle.requests.proofs.Caused.{beyond_caused}
 use Rattle.engines.proofs.engine.check_by_game.Goals as goal
 
-pub returns-in-Ok : goal.returns-in-Ok
-returns-in-Ok g c = λ first second spelled.
+pub returns-in-Ok-clause-answers : goal.returns-in-Ok-clause-answers
+returns-in-Ok-clause-answers g c = λ first second spelled.
     by_way (way_in c.in-Ok.field-0.found) _ first second _ c.answer_prepared.result c.in-Ok.ensures.way
-    (c.answer_prepared.ensures first second (subst (λ (t : Texts). AreSpelled first second t.system.system (closed_formula t.formula))
+    (c.answer_prepared.ensures.answers first second (subst (λ (t : Texts). AreSpelled first second t.system.system (closed_formula t.formula))
     (sym c.in-Ok.ensures.texts) spelled))
 
-pub returns-in-Err : goal.returns-in-Err
-returns-in-Err g c = λ first second spelled.
+pub returns-in-Err-clause-answers : goal.returns-in-Err-clause-answers
+returns-in-Err-clause-answers g c = λ first second spelled.
     let options = c.args.options.now in
-    let game = g.G.Write.contents c.args.writers.now.game in
-    let even = g.E.Write.contents c.args.writers.now.even in
-    let odd = g.O.Write.contents c.args.writers.now.odd in
-    let witness = g.V.Write.contents c.args.writers.now.witness in
-    let out = g.W.Write.contents c.args.writers.now.report in
+    let game = g.G.Sink.taken c.args.writers.now.game in
+    let even = g.E.Sink.taken c.args.writers.now.even in
+    let odd = g.O.Sink.taken c.args.writers.now.odd in
+    let witness = g.V.Sink.taken c.args.writers.now.witness in
+    let out = g.W.Sink.taken c.args.writers.now.report in
     beyond_of options.priorities (Some options.board) first second (all_writers c.args.wanted game game even even odd odd witness witness out out)
     c.args.texts.system.system (closed_formula c.args.texts.formula)
     c.in-Err.error spelled c.in-Err.ensures.refusal (kept_writers c.args.wanted game even odd witness out)
 
-pub returns-then-is_nothing : goal.returns-then-is_nothing
-returns-then-is_nothing g c = λ first second spelled.
+pub returns-then-is_nothing-clause-answers : goal.returns-then-is_nothing-clause-answers
+returns-then-is_nothing-clause-answers g c = λ first second spelled.
     let options = c.args.options.now in
     let way = ByGame options.priorities (Some options.board) in
-    let game = g.G.Write.contents c.args.writers.now.game in
-    let even = g.E.Write.contents c.args.writers.now.even in
-    let odd = g.O.Write.contents c.args.writers.now.odd in
-    let witness = g.V.Write.contents c.args.writers.now.witness in
-    let old = g.W.Write.contents c.args.writers.now.report in
-    let new = g.W.Write.contents c.report_by_game.new.out in
+    let game = g.G.Sink.taken c.args.writers.now.game in
+    let even = g.E.Sink.taken c.args.writers.now.even in
+    let odd = g.O.Sink.taken c.args.writers.now.odd in
+    let witness = g.V.Sink.taken c.args.writers.now.witness in
+    let old = g.W.Sink.taken c.args.writers.now.report in
+    let new = g.W.Sink.taken c.report_by_game.new.out in
     subst (λ (w : Wanted). Answers way first second (all_writers w game game even even odd odd witness witness old new) c.report_by_game.result)
     (sym (c.is_nothing.ensures.0 c.if-is_nothing.true))
-    (alone_of way first second c.args.wanted.report game even odd witness old new c.report_by_game.result (c.report_by_game.ensures first second spelled))
+    (alone_of way first second c.args.wanted.report game even odd witness old new c.report_by_game.result (c.report_by_game.ensures.answers first second spelled))
+
+pub returns-in-Err-clause-cause : goal.returns-in-Err-clause-cause
+returns-in-Err-clause-cause g c = beyond_caused (ByGame c.args.options.now.priorities (Some c.args.options.now.board)) c.args.texts.system.system
+    (closed_formula c.args.texts.formula) _ _ c.in-Err.error c.in-Err.ensures.refusal

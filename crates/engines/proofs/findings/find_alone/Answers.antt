@@ -3,6 +3,7 @@ use Rattle.std.proofs.lemmas.Result.{IfErr-weaker}
 use Rattle.engines.specs.declared.findings.Findings.{Findings}
 use Rattle.requests.specs.Check.{ByGame, HasRefused}
 use Rattle.engines.proofs.Checks.{spelled_by}
+use Rattle.engines.proofs.Caused.{memory_caused}
 use Rattle.engines.proofs.findings.find_alone.Goals as goal
 
 pub returns-in-Ok-clause-spelled : goal.returns-in-Ok-clause-spelled
@@ -18,3 +19,6 @@ returns-in-Ok-clause-refusal g c = λ first second known also writers kept.
 
 pub returns-in-Err-clause-refusal : goal.returns-in-Err-clause-refusal
 returns-in-Err-clause-refusal g c = λ first second known also writers kept. c.in-Err.ensures.refusal first second known also None writers kept
+
+pub returns-in-Ok-clause-cause : goal.returns-in-Ok-clause-cause
+returns-in-Ok-clause-cause g c = IfErr-weaker c.find_by_one.result _ _ (λ e h. memory_caused _ _ e h) c.find_by_one.ensures.refusal

@@ -5,6 +5,7 @@ use Rattle.calculus.specs.Closed.{closed_formula}
 use Rattle.engines.specs.declared.findings.Findings.{Findings}
 use Rattle.requests.specs.Check.{IsArenaOf}
 use Rattle.engines.proofs.Checks.{beyond_board, beyond_of, spelled_by}
+use Rattle.requests.proofs.Caused.{unsolved_caused}
 use Rattle.engines.proofs.findings.find_with.Goals as goal
 
 pub returns-in-Ok-clause-spelled : goal.returns-in-Ok-clause-spelled
@@ -26,3 +27,6 @@ returns-in-Ok-clause-refusal g c = λ first second known also writers kept.
 pub returns-in-Err-clause-refusal : goal.returns-in-Err-clause-refusal
 returns-in-Err-clause-refusal g c = λ first second known also writers kept. c.in-Err.ensures.refusal first second known also
     (Some c.args.options.now.board) writers kept
+
+pub returns-in-Ok-clause-cause : goal.returns-in-Ok-clause-cause
+returns-in-Ok-clause-cause g c = unsolved_caused (Some c.args.options.now.board) _ _ _ c.find_by_workers.result c.find_by_workers.ensures.refusal

@@ -1,4 +1,4 @@
-use Rattle.std.proofs.Common.{◌<◌, ◌+◌, List, Bool, sym, subst}
+use Rattle.std.proofs.Common.{◌+◌, List, Bool, sym, subst}
 use Rattle.calculus.specs.Meaning.{Marks}
 use Rattle.requests.specs.Roots.{WinsRoot}
 use Rattle.engines.proofs.Roots.{root_below, marks_more, wins_root}

@@ -1,4 +1,3 @@
-use Rattle.std.proofs.Common.{Bool}
 use Rattle.std.specs.Arc.{arc_value}
 use Rattle.calculus.specs.Closed.{closed_formula}
 use Rattle.engines.proofs.Checks.{marks_or_memory}

@@ -1,5 +1,5 @@
 use Rattle.std.specs.Prelude.{List, [], false, length, slice_index_or}
-use Rattle.std.specs.Io.KnownBytes.{Appends}
+use Rattle.text.specs.Taken.{Adds}
 use Rattle.std.proofs.Common.{ap, subst, sym, ◌∙◌}
 use Rattle.std.proofs.lemmas.List.{length-map}
 use Rattle.text.specs.Wrote.{WroteFront}
@@ -37,18 +37,18 @@ write_telling-requires-clause-numbered g c =
 pub returns-in_err-write_formula_line : goal.returns-in_err-write_formula_line
 returns-in_err-write_formula_line g c =
     let x = c.args.found.now in
-    let line = subst (λ (t : Texts). WroteFront (g.W.Write.contents c.args.out.now) (g.W.Write.contents c.write_formula_line.new.out)
+    let line = subst (λ (t : Texts). WroteFront (g.W.Sink.taken c.args.out.now) (g.W.Sink.taken c.write_formula_line.new.out)
     (formula_line (closed_formula t.formula))) c.deref-2.ensures c.in_err-write_formula_line.ensures in
     Wrote-err _ _ _ _ c.from_residual.ensures.0 (WroteFront-more _ _ (formula_line (formula_of x)) _ line)
 
 pub returns-in_err-write_initial_line : goal.returns-in_err-write_initial_line
 returns-in_err-write_initial_line g c =
     let x = c.args.found.now in
-    let line = subst (λ (t : Texts). Appends (g.W.Write.contents c.args.out.now) (g.W.Write.contents c.write_formula_line.new.out)
+    let line = subst (λ (t : Texts). Adds (g.W.Sink.taken c.args.out.now) (g.W.Sink.taken c.write_formula_line.new.out)
     (formula_line (closed_formula t.formula))) c.deref-2.ensures c.in_ok-write_formula_line.ensures in
-    let by_texts = subst (λ (t : Texts). WroteFront (g.W.Write.contents c.write_formula_line.new.out) (g.W.Write.contents c.write_initial_line.new.out)
+    let by_texts = subst (λ (t : Texts). WroteFront (g.W.Sink.taken c.write_formula_line.new.out) (g.W.Sink.taken c.write_initial_line.new.out)
     (initial_line (slice_index_or c.deref-3.result.now t.system.system.initial false))) c.deref.ensures c.in_err-write_initial_line.ensures in
-    let initial = subst (λ marks. WroteFront (g.W.Write.contents c.write_formula_line.new.out) (g.W.Write.contents c.write_initial_line.new.out)
+    let initial = subst (λ marks. WroteFront (g.W.Sink.taken c.write_formula_line.new.out) (g.W.Sink.taken c.write_initial_line.new.out)
     (initial_line (slice_index_or marks (system_of x).initial false))) c.deref-3.ensures.value by_texts in
     Wrote-err _ _ _ _ c.from_residual-in_err-write_initial_line.ensures.0
     (WroteFront-after _ _ _ (formula_line (formula_of x)) _ line
@@ -58,11 +58,11 @@ pub returns : goal.returns
 returns g c =
     let x = c.args.found.now in
     let told = c.args.told.now in
-    let line = subst (λ (t : Texts). Appends (g.W.Write.contents c.args.out.now) (g.W.Write.contents c.write_formula_line.new.out)
+    let line = subst (λ (t : Texts). Adds (g.W.Sink.taken c.args.out.now) (g.W.Sink.taken c.write_formula_line.new.out)
     (formula_line (closed_formula t.formula))) c.deref-2.ensures c.in_ok-write_formula_line.ensures in
-    let by_texts = subst (λ (t : Texts). Appends (g.W.Write.contents c.write_formula_line.new.out) (g.W.Write.contents c.write_initial_line.new.out)
+    let by_texts = subst (λ (t : Texts). Adds (g.W.Sink.taken c.write_formula_line.new.out) (g.W.Sink.taken c.write_initial_line.new.out)
     (initial_line (slice_index_or c.deref-3.result.now t.system.system.initial false))) c.deref.ensures c.in_ok-write_initial_line.ensures in
-    let initial = subst (λ marks. Appends (g.W.Write.contents c.write_formula_line.new.out) (g.W.Write.contents c.write_initial_line.new.out)
+    let initial = subst (λ marks. Adds (g.W.Sink.taken c.write_formula_line.new.out) (g.W.Sink.taken c.write_initial_line.new.out)
     (initial_line (slice_index_or marks (system_of x).initial false))) c.deref-3.ensures.value by_texts in
     let telling = Wrote-as _ _ _ _ _ (telling_same c.reached_in-reached.result.system.now x.texts.value.system
     (normal_nodes c.reached_in-reached.result.normal.now) (normal_nodes told.normal)

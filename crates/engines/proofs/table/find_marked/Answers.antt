@@ -4,13 +4,14 @@ use Rattle.std.specs.List.{slice_index_or}
 use Rattle.calculus.specs.Closed.{closed_formula}
 use Rattle.engines.specs.Table.{way_by}
 use Rattle.engines.proofs.Telling.{beyond}
+use Rattle.requests.proofs.Caused.{beyond_caused}
 use Rattle.engines.proofs.table.find_marked.Goals as goal
 
 pub found_of-requires : goal.found_of-requires
 found_of-requires g c = ap length c.deref.ensures.value ∙ c.in-Ok.ensures.exact.count
 
-pub returns-in-Ok : goal.returns-in-Ok
-returns-in-Ok g c = λ spelled known. record {
+pub returns-in-Ok-clause-finds : goal.returns-in-Ok-clause-finds
+returns-in-Ok-clause-finds g c = λ spelled known. record {
   f = closed_formula c.args.formula.now;
   marks = c.in-Ok.marks.items;
   formula = spelled;
@@ -22,8 +23,13 @@ returns-in-Ok g c = λ spelled known. record {
   marked = subst (λ ms. c.found_of.result.marked ≡ count_by (λ mark. mark) ms) c.deref.ensures.value c.found_of.ensures.marked;
 }
 
-pub returns-in-Err : goal.returns-in-Err
-returns-in-Err g c = λ spelled known.
+pub returns-in-Err-clause-finds : goal.returns-in-Err-clause-finds
+returns-in-Err-clause-finds g c = λ spelled known.
     let request = c.args.request.now in
     beyond request.strict (way_by request.options request.plain) c.args.system.now.system c.args.text.now (closed_formula c.args.formula.now) c.in-Err.error
     spelled known c.in-Err.ensures
+
+pub returns-in-Err-clause-cause : goal.returns-in-Err-clause-cause
+returns-in-Err-clause-cause g c =
+    let request = c.args.request.now in
+    (beyond_caused (way_by request.options request.plain) c.args.system.now.system (closed_formula c.args.formula.now) false false c.in-Err.error c.in-Err.ensures).1

@@ -4,5 +4,5 @@ use Rattle.liftcore.proofs.Written.{left, marked_from}
 use Rattle.liftcore.proofs.writer.put_members.Given as goal
 
 abbrev pub invariant-loop-v : goal.invariant-loop-v
-invariant-loop-v g l = HasWritten (g.W.Write.contents l.initial.writer) (g.W.Write.contents l.writer) (left true (marked_from l.marks 0))
+invariant-loop-v g l = HasWritten (g.W.Sink.taken l.initial.writer) (g.W.Sink.taken l.writer) (left true (marked_from l.marks 0))
     (left l.first (marked_from l.marks l.v))

@@ -1,5 +1,5 @@
 use Rattle.std.proofs.Common.{List, codes, subst, ℕ}
-use Rattle.std.specs.Io.KnownBytes.{Appends}
+use Rattle.text.specs.Taken.{Adds}
 use Rattle.text.specs.Wrote.{Wrote, WroteFront}
 use Rattle.liftcore.specs.Replay.{end_lines}
 use Rattle.text.proofs.Writing.{Wrote-after, Wrote-err, WroteFront-after, WroteFront-more}
@@ -23,7 +23,7 @@ returns-in_err-put g c = Wrote-err _ _ _ _ c.from_residual-in_err-put.ensures.0
 
 pub returns-in_err-put_members : goal.returns-in_err-put_members
 returns-in_err-put_members g c =
-    let stopped = subst (λ (vs : List ℕ). WroteFront (g.W.Write.contents c.put.new.writer) (g.W.Write.contents c.put_members.new.writer)
+    let stopped = subst (λ (vs : List ℕ). WroteFront (g.W.Sink.taken c.put.new.writer) (g.W.Sink.taken c.put_members.new.writer)
     (listed vs)) c.pending.ensures.pending c.in_err-put_members.ensures in
     Wrote-err _ _ _ _ c.from_residual-in_err-put_members.ensures.0
     (WroteFront-after _ _ _ (events_line c.args.tally.done c.args.tally.skipped) _ c.in_ok-put_events.ensures
@@ -32,9 +32,9 @@ returns-in_err-put_members g c =
 
 pub returns : goal.returns
 returns g c =
-    let wrote = subst (λ (vs : List ℕ). Appends (g.W.Write.contents c.put.new.writer) (g.W.Write.contents c.put_members.new.writer)
+    let wrote = subst (λ (vs : List ℕ). Adds (g.W.Sink.taken c.put.new.writer) (g.W.Sink.taken c.put_members.new.writer)
     (listed vs)) c.pending.ensures.pending c.in_ok-put_members.ensures in
-    let last = subst (λ q. Wrote (g.W.Write.contents c.put_members.new.writer) (g.W.Write.contents c.put_end.new.writer) c.put_end.result
+    let last = subst (λ q. Wrote (g.W.Sink.taken c.put_members.new.writer) (g.W.Sink.taken c.put_end.new.writer) c.put_end.result
     (end_lines c.args.settled q)) c.requires.quiet c.put_end.ensures in
     Wrote-after _ _ _ (events_line c.args.tally.done c.args.tally.skipped) _ _ c.in_ok-put_events.ensures
     (Wrote-after _ _ _ (value_lines 0 c.args.core.now.table.values) _ _ c.in_ok-put_values.ensures

@@ -6,5 +6,5 @@ use Rattle.normal.proofs.printer.put_nodes.Given as goal
 
 abbrev pub invariant-loop-number : goal.invariant-loop-number
 invariant-loop-number g l =
-    HasWritten (g.W.Write.contents l.initial.writer) (g.W.Write.contents l.writer) (node_lines 0 (nodes_of l.nodes))
+    HasWritten (g.W.Sink.taken l.initial.writer) (g.W.Sink.taken l.writer) (node_lines 0 (nodes_of l.nodes))
     (node_lines l.number (nodes_of (drop l.number l.nodes)))

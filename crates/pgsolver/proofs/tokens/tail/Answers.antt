@@ -1,4 +1,4 @@
-use Rattle.std.proofs.lemmas.Result.{IfOk-weaker}
+use Rattle.std.proofs.lemmas.Result.{MatchResult-weaker}
 use Rattle.pgsolver.proofs.Passing.{tail_no_name, tail_no_sign, tail_passes}
 use Rattle.pgsolver.proofs.tokens.tail.Goals as goal
 
@@ -9,5 +9,5 @@ pub returns-then-not-branch-2 : goal.returns-then-not-branch-2
 returns-then-not-branch-2 g c = tail_no_sign _ _ _ (rw c.if-not-branch.false at c.in_ok-name.ensures) (rw c.if-not-branch-2.true at c.in_ok-sign.ensures)
 
 pub returns : goal.returns
-returns g c = IfOk-weaker c.ends.result _ _ (λ found ends. tail_passes found _ _ _ _ (rw c.if-not-branch.false at c.in_ok-name.ensures)
-    (rw c.if-not-branch-2.false at c.in_ok-sign.ensures) ends) c.ends.ensures
+returns g c = MatchResult-weaker c.ends.result c.ends.ensures (λ found ends. tail_passes found _ _ _ _ (rw c.if-not-branch.false at c.in_ok-name.ensures)
+    (rw c.if-not-branch-2.false at c.in_ok-sign.ensures) ends) (λ fault cause. cause)

@@ -6,5 +6,5 @@ use Rattle.pgsolver.proofs.writer.put_successors.Given as goal
 
 abbrev pub invariant-loop-successor : goal.invariant-loop-successor
 invariant-loop-successor g l =
-    HasWritten (g.W.Write.contents l.initial.out) (g.W.Write.contents l.out) (successors_text l.successors)
+    HasWritten (g.W.Sink.taken l.initial.out) (g.W.Sink.taken l.out) (successors_text l.successors)
     (numbers_from l.before (drop l.successor-index l.successors))

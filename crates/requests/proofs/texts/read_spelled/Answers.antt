@@ -6,13 +6,13 @@ use Rattle.requests.proofs.texts.read_spelled.Goals as goal
 
 pub returns-in-Ok-clause-spelled : goal.returns-in-Ok-clause-spelled
 returns-in-Ok-clause-spelled g c =
-    spelled_of_front (g.S.Read.remaining c.args.formula) c.in_ok-front.front.items c.deref.result.now (closed_formula c.in-Ok.formula)
+    spelled_of_front (g.S.Source.remaining c.args.formula) c.in_ok-front.front.items c.deref.result.now (closed_formula c.in-Ok.formula)
     c.in_ok-front.ensures.front c.deref.ensures.value c.in-Ok.ensures.spelled
 
 pub returns-in-Ok-clause-text : goal.returns-in-Ok-clause-text
 returns-in-Ok-clause-text g c =
-    whole_spelled (g.S.Read.remaining c.args.formula) c.in_ok-front.front.items (closed_formula c.in-Ok.formula) c.in_ok-front.ensures.front
-    (spelled_of_front (g.S.Read.remaining c.args.formula) c.in_ok-front.front.items c.deref.result.now (closed_formula c.in-Ok.formula)
+    whole_spelled (g.S.Source.remaining c.args.formula) c.in_ok-front.front.items (closed_formula c.in-Ok.formula) c.in_ok-front.ensures.front
+    (spelled_of_front (g.S.Source.remaining c.args.formula) c.in_ok-front.front.items c.deref.result.now (closed_formula c.in-Ok.formula)
     c.in_ok-front.ensures.front c.deref.ensures.value c.in-Ok.ensures.spelled)
 
 pub returns-in-Err-clause-refusal : goal.returns-in-Err-clause-refusal

@@ -6,5 +6,5 @@ use Rattle.text.proofs.batch.put_lines.Given as goal
 abbrev pub invariant-loop-number : goal.invariant-loop-number
 invariant-loop-number g l =
     let line = g.L.Lines.line l.lines in
-    HasWritten (g.W.Write.contents l.initial.writer) (g.W.Write.contents l.writer) (lines_from line 0 (g.L.Lines.count l.lines))
+    HasWritten (g.W.Sink.taken l.initial.writer) (g.W.Sink.taken l.writer) (lines_from line 0 (g.L.Lines.count l.lines))
     (l.batch.bytes.items ++ lines_from line l.number (l.number-end - l.number))

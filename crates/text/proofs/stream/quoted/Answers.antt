@@ -1,4 +1,4 @@
-use Rattle.std.proofs.lemmas.Result.{IfOk-weaker}
+use Rattle.std.proofs.lemmas.Result.{MatchResult-weaker}
 use Rattle.text.proofs.Streaming.{known_only, known_then, known_both, quote_none, quote_passes}
 use Rattle.text.proofs.stream.quoted.Goals as goal
 
@@ -8,7 +8,7 @@ returns-then-not-branch g c = known_only _ _ (rw c.if-not-branch.true at c.in_ok
 
 pub returns : goal.returns
 returns g c =
-    IfOk-weaker c.accept.result _ _
+    MatchResult-weaker c.accept.result c.accept.ensures
     (λ found shut. known_then _ _ _ (rw c.if-not-branch.false at c.in_ok-sign.ensures) (known_both _ _ _ _ _ c.in_ok-run.ensures shut)
     (λ text mid left signed rest. quote_passes c.args.most c.run.new.kept.items text mid rest.0 left found signed rest.1 rest.2))
-    c.accept.ensures
+    (λ fault cause. cause)

@@ -1,7 +1,6 @@
-use Rattle.std.proofs.Common.{◌≡◌, ℕ, ◌-◌, List, ◌++◌, length, take, drop, ap, sym, ◌∙◌, subst, take-append-drop}
+use Rattle.std.proofs.Common.{◌≡◌, ℕ, ◌-◌, List, ◌++◌, length, take, drop, ap, sym, ◌∙◌, take-append-drop}
 use Rattle.std.proofs.lemmas.List.{take_rest}
-use Rattle.std.proofs.KnownBytes.{Appends-kept}
-use Rattle.text.proofs.Writing.{HasWritten, HasWritten-more}
+use Rattle.text.proofs.Writing.{WritesOn-fails, WritesOn-more}
 use Rattle.text.proofs.write_loop.put.Goals as goal
 use Rattle.text.proofs.write_loop.put.Goals.{in-Ok, in-Err+else-ne}
 
@@ -11,13 +10,8 @@ taken_first rest n = sym (take-append-drop n rest) ∙ ap (λ l. take n rest ++ 
 pub writes-preserved : goal.writes-preserved
 writes-preserved g c =
     let rest = c.writes.rest.now in
-    let so_far = c.writes.invariant in
-    elim c.match-write.branch [
-      | in-Ok w ↦ rw w.rest-is (HasWritten-more _ _ _ _ (take w.in-Ok.taken rest) _
-          (subst (HasWritten _ _ _) (taken_first rest w.in-Ok.taken) so_far) w.in-Ok.ensures.bytes)
-      | in-Err+else-ne w ↦ rw w.rest-is (record {
-        done = so_far.done;
-        appended = Appends-kept _ _ _ _ so_far.appended w.in-Err.ensures.bytes;
-        split = so_far.split;
-      })
+    elim c.match-write_some.branch [
+      | in-Ok w ↦ rw w.rest-is (WritesOn-more _ _ _ _ rest _ w.in-Ok.taken _ w.in-Ok.taken-test.1 w.in-Ok.ensures.bound
+          (taken_first rest w.in-Ok.taken) c.writes.invariant w.in-Ok.ensures.received)
+      | in-Err+else-ne w ↦ rw w.rest-is (WritesOn-fails _ _ _ _ _ _ _ c.writes.invariant w.in-Err.ensures.received)
     ]
