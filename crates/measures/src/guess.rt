@@ -11,6 +11,7 @@ use progress::observer::{Observer, Stage};
 use progress::proposal::Proposal;
 use progress::settle::{is_settled, lift_ahead, settle_seen};
 use progress::table::{PlainTable, Settled, opening};
+use search::effort::Effort;
 use std::alloc::Global;
 use std::thread::Threads;
 use text::Memory;
@@ -211,7 +212,7 @@ fn lifted<O: Observer>(alloc: Global, game: &Game, mut table: PlainTable, observ
     ensures least { IsLeastTable game.now result.values }
 {
     if !lift_ahead(game, &mut table) {
-        jump_ahead(alloc, game, &mut table, observer);
+        jump_ahead(alloc, game, &mut table, Effort::Usual, observer);
     }
     settle_seen(game, &mut table, observer);
     settled(game, table)

@@ -12,6 +12,7 @@ use progress::measure::Measure;
 use progress::observer::{Observer, Stage};
 use progress::progs::is_measure;
 use progress::table::PlainTable;
+use search::effort::Effort;
 use search::layers::Layers;
 use search::lost::Lost;
 use std::alloc::Global;
@@ -169,19 +170,20 @@ fn jump_to_all_counts<O: Observer>(
     Ok(())
 }
 
-// Raises the table as far as a search finds.
+// Raises the table as far as a search finds with this effort.
 #[tactic(auto, using(progress::proofs::Rising::under_itself, progress::proofs::Rising::under_trans))]
 fn search<O: Observer>(
     alloc: Global,
     game: &Game,
     table: &mut PlainTable,
+    effort: Effort,
     observer: &O,
 ) -> Result<(), Memory>
     requires { table.old.game ≡ game.now }
     ensures table { table.new.game ≡ game.now }
     ensures kept { LiesUnder table.old.values table.new.values }
 {
-    let lost = Lost::of(alloc, game, table.predecessors())?;
+    let lost = Lost::of(alloc, game, table.predecessors(), effort)?;
     let mut claim = Claim::new(alloc, game)?;
     let mut rank = vec![in alloc; 0; claim.width()]?;
     jump_to_top(game, table, &mut claim, &lost, rank.as_mut_slice());
@@ -202,13 +204,14 @@ fn can_climb(game: &Game) -> bool {
     bounds.len() > 2 || bounds.iter().any(|bound| *bound > 1)
 }
 
-/// Raises the table as far as a search finds, where measures can climb: lifting takes no time where none can. An observer is told how far the
-/// search has come.
+/// Raises the table as far as a search finds with this effort, where measures can climb: lifting takes no time where none can. An observer is
+/// told how far the search has come.
 #[tactic(auto, using(progress::proofs::Rising::under_itself))]
 pub(crate) fn jump_ahead<O: Observer>(
     alloc: Global,
     game: &Game,
     table: &mut PlainTable,
+    effort: Effort,
     observer: &O,
 )
     requires { table.old.game ≡ game.now }
@@ -216,6 +219,6 @@ pub(crate) fn jump_ahead<O: Observer>(
     ensures kept { LiesUnder table.old.values table.new.values }
 {
     if can_climb(game) {
-        let _ = search(alloc, game, table, observer);
+        let _ = search(alloc, game, table, effort, observer);
     }
 }

@@ -9,6 +9,7 @@ use progress::observer::{Observer, Silent, Stage};
 pub use progress::settle::{even_wins, is_settled, settle};
 use progress::settle::{lift_ahead, settle_seen};
 use progress::table::{PlainTable, Settled, opening};
+use search::effort::Effort;
 use std::alloc::Global;
 use text::Memory;
 
@@ -21,16 +22,14 @@ pub fn first_table(alloc: Global, game: &Game) -> Result<PlainTable, Memory>
     ensures game { IfOk result (λ t. t.game ≡ game.now) }
     ensures raised { IfOk result (λ t. LiesUnder (opening_of game.now) t.values) }
 {
-    first_table_seen(alloc, game, &Silent)
+    first_table_by(alloc, game, Effort::Usual, &Silent)
 }
 
-/// The same, told to an observer: how far the search has come.
-///
-/// # Errors
-/// Want of memory for the table itself.
-pub fn first_table_seen<O: Observer>(
+// The same with this effort of searching, told to an observer: how far the search has come.
+fn first_table_by<O: Observer>(
     alloc: Global,
     game: &Game,
+    effort: Effort,
     observer: &O,
 ) -> Result<PlainTable, Memory>
     ensures game { IfOk result (λ t. t.game ≡ game.now) }
@@ -40,7 +39,7 @@ pub fn first_table_seen<O: Observer>(
     if lift_ahead(game, &mut table) {
         return Ok(table);
     }
-    jump_ahead(alloc, game, &mut table, observer);
+    jump_ahead(alloc, game, &mut table, effort, observer);
     Ok(table)
 }
 
@@ -52,7 +51,7 @@ pub fn solve_one(alloc: Global, game: &Game) -> Result<Settled, Memory>
     ensures game { IfOk result (λ s. s.game ≡ game.now) }
     ensures least { IfOk result (λ s. IsLeastTable game.now s.values) }
 {
-    solve_one_seen(alloc, game, &Silent)
+    solve_one_by(alloc, game, Effort::Usual, &Silent)
 }
 
 /// The same, told to an observer: that the search begins, how far it has come, that lifting begins, and then every 4,096th lift.
@@ -67,10 +66,26 @@ pub fn solve_one_seen<O: Observer>(
     ensures game { IfOk result (λ s. s.game ≡ game.now) }
     ensures least { IfOk result (λ s. IsLeastTable game.now s.values) }
 {
+    solve_one_by(alloc, game, Effort::Usual, observer)
+}
+
+/// The same with this effort of searching. The table is the same for each.
+///
+/// # Errors
+/// Want of memory for the table itself.
+pub fn solve_one_by<O: Observer>(
+    alloc: Global,
+    game: &Game,
+    effort: Effort,
+    observer: &O,
+) -> Result<Settled, Memory>
+    ensures game { IfOk result (λ s. s.game ≡ game.now) }
+    ensures least { IfOk result (λ s. IsLeastTable game.now s.values) }
+{
     observer.sees(Stage::Searching {
         vertices: game.vertices(),
     });
-    let mut table = first_table_seen(alloc, game, observer)?;
+    let mut table = first_table_by(alloc, game, effort, observer)?;
     settle_seen(game, &mut table, observer);
     Ok(table.into_settled())
 }

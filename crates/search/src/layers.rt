@@ -1,11 +1,12 @@
 // What Odd can force where Even wins, with reasons.
 
+use crate::effort::Effort;
 use crate::judging::Judging;
 use crate::layering::Layering;
 use crate::lost::Lost;
 use crate::numbers::Numbers;
 use crate::ranks::Ranks;
-use crate::rounds::{Counted, Rounds};
+use crate::rounds::Rounds;
 use crate::stock::Stock;
 use crate::winners::Winners;
 use game::graph::Game;
@@ -20,6 +21,7 @@ pub struct Layers {
     odd: u8,
     // Whether all greater odd priorities that were asked for have been counted.
     is_whole: bool,
+    effort: Effort,
     classes: Numbers,
     counts: Numbers,
     moves: Numbers,
@@ -33,7 +35,7 @@ fn rounds_of<'p>(stock: &mut Stock, game: &Game, winners: Winners<'p>, odd: u8) 
 }
 
 impl Layers {
-    /// Nothing has been counted yet.
+    /// Nothing has been counted yet. As much effort may be made for each priority as was made for what Odd wins.
     ///
     /// # Errors
     /// Want of memory, and nothing else.
@@ -42,6 +44,7 @@ impl Layers {
         let layers = Layers {
             odd: 1,
             is_whole: true,
+            effort: lost.effort,
             classes: Numbers::copied(&mut stock, &lost.classes),
             counts: Numbers::zeros(&mut stock, 0),
             moves: Numbers::copied(&mut stock, &lost.moves),
@@ -69,9 +72,10 @@ impl Layers {
             return Ok(self);
         }
         let mut stock = Stock::new(alloc);
-        let winners = Winners::of(&mut stock, game, predecessors, self.moves, self.classes);
+        let (effort, moves) = (self.effort, self.moves);
+        let winners = Winners::of(&mut stock, game, predecessors, effort, moves, self.classes);
         let rounds = rounds_of(&mut stock, game, winners, odd);
-        let layers = Layers::found(&mut stock, game, odd, rounds);
+        let layers = Layers::found(&mut stock, game, effort, odd, rounds);
         if stock.is_whole() {
             Ok(layers)
         } else {
@@ -80,22 +84,19 @@ impl Layers {
     }
 
     // What rounds find.
-    fn found(stock: &mut Stock, game: &Game, odd: u8, rounds: Rounds) -> Self {
-        let ranks = Ranks::none(stock, game);
+    fn found(stock: &mut Stock, game: &Game, effort: Effort, odd: u8, rounds: Rounds) -> Self {
+        let mut ranks = Ranks::none(stock, game);
         let mut rounds = rounds;
         let is_whole = stock.is_whole() && rounds.find(game);
-        Layers::of(game, odd, is_whole, rounds.into_counted(game), ranks)
-    }
-
-    fn of(game: &Game, odd: u8, is_whole: bool, counted: Counted, ranks: Ranks) -> Self {
+        let counted = rounds.into_counted(game);
         let mut ways = counted.ways;
-        let mut ranks = ranks;
         if is_whole {
             ranks.find(game, &mut ways);
         }
         Layers {
             odd,
             is_whole,
+            effort,
             classes: counted.keys,
             counts: counted.counts,
             moves: ways.field.moves,

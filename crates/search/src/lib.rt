@@ -5,6 +5,7 @@ mod attractor;
 mod classes;
 mod components;
 mod edges;
+pub mod effort;
 mod field;
 mod judging;
 mod layering;

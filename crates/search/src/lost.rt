@@ -1,5 +1,6 @@
 // What Odd wins, with reasons.
 
+use crate::effort::Effort;
 use crate::numbers::Numbers;
 use crate::ranks::Ranks;
 use crate::stock::Stock;
@@ -15,19 +16,24 @@ pub struct Lost {
     // The moves of both players.
     pub(crate) moves: Numbers,
     pub(crate) classes: Numbers,
+    pub(crate) effort: Effort,
     ranks: Ranks,
 }
 
 impl Lost {
-    /// Searches a game with its predecessors, within a number of steps that is about linear in its size. It may find less than
-    /// there is.
+    /// Searches a game with its predecessors, as far as an effort goes. It may find less than there is.
     ///
     /// # Errors
     /// Want of memory, and nothing else.
-    pub fn of(alloc: Global, game: &Game, predecessors: &Predecessors) -> Result<Self, Memory> {
+    pub fn of(
+        alloc: Global,
+        game: &Game,
+        predecessors: &Predecessors,
+        effort: Effort,
+    ) -> Result<Self, Memory> {
         let mut stock = Stock::new(alloc);
-        let winners = Winners::new(&mut stock, game, predecessors);
-        let lost = Lost::found(&mut stock, game, winners);
+        let winners = Winners::new(&mut stock, game, predecessors, effort);
+        let lost = Lost::found(&mut stock, game, winners, effort);
         if stock.is_whole() {
             Ok(lost)
         } else {
@@ -36,7 +42,7 @@ impl Lost {
     }
 
     // What is found with this memory.
-    fn found(stock: &mut Stock, game: &Game, winners: Winners) -> Self {
+    fn found(stock: &mut Stock, game: &Game, winners: Winners, effort: Effort) -> Self {
         let mut classes = Numbers::zeros(stock, game.vertices());
         let mut ranks = Ranks::none(stock, game);
         let mut ways = winners.find(game, &mut classes);
@@ -44,6 +50,7 @@ impl Lost {
         Lost {
             moves: ways.field.moves,
             classes,
+            effort,
             ranks,
         }
     }

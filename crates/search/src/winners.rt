@@ -3,7 +3,7 @@
 use crate::attractor::Attractors;
 use crate::classes::{Sorted, first_class};
 use crate::components::Components;
-use crate::edges::edges;
+use crate::effort::Effort;
 use crate::field::{Field, Won};
 use crate::numbers::{Numbers, Span};
 use crate::part::{Part, Taken};
@@ -14,11 +14,6 @@ use crate::tasks::{Task, Tasks};
 use crate::ways::Ways;
 use game::graph::Game;
 use game::predecessors::Predecessors;
-
-// How many vertices and edges are looked at: this many, and so many times those of the game.
-const LEAST_BUDGET: u64 = 67_108_864;
-
-const TIMES: u64 = 64;
 
 /// The recursion.
 #[derive(Drop)]
@@ -32,10 +27,15 @@ pub(crate) struct Winners<'p> {
 }
 
 impl<'p> Winners<'p> {
-    pub(crate) fn new(stock: &mut Stock, game: &Game, predecessors: &'p Predecessors) -> Self {
+    pub(crate) fn new(
+        stock: &mut Stock,
+        game: &Game,
+        predecessors: &'p Predecessors,
+        effort: Effort,
+    ) -> Self {
         let moves = Numbers::zeros(stock, game.vertices());
         let classes = Numbers::zeros(stock, 0);
-        Winners::of(stock, game, predecessors, moves, classes)
+        Winners::of(stock, game, predecessors, effort, moves, classes)
     }
 
     /// Where these are the winners' moves, and the classes of vertices.
@@ -43,6 +43,7 @@ impl<'p> Winners<'p> {
         stock: &mut Stock,
         game: &Game,
         predecessors: &'p Predecessors,
+        effort: Effort,
         moves: Numbers,
         classes: Numbers,
     ) -> Self {
@@ -53,7 +54,7 @@ impl<'p> Winners<'p> {
             components: Components::new(stock, game.vertices()),
             repair: Repair::new(stock, game.vertices()),
             tasks: Tasks::new(stock),
-            budget: budget(game),
+            budget: effort.budget(game),
         }
     }
 
@@ -262,9 +263,4 @@ impl<'p> Winners<'p> {
         let left = self.settle(game, rest, limbo, core.inner);
         self.decide_left(game, rest, left, limbo, core.inner);
     }
-}
-
-fn budget(game: &Game) -> u64 {
-    let size = u64::from(game.vertices()).saturating_add(edges(game));
-    size.saturating_mul(TIMES).saturating_add(LEAST_BUDGET)
 }

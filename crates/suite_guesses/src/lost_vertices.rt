@@ -12,6 +12,7 @@ use measures::table::Settled;
 use samples::dice::{Dice, roll_game};
 use samples::games::{Row, game_of};
 use samples::texts::{form_of, system_of};
+use search::effort::Effort;
 use search::lost::Lost;
 use std::alloc::{AllocError, Global};
 use std::process::Abort;
@@ -85,6 +86,7 @@ fn is_found(rt: &(impl Abort + AllocGlobal), game: &Game) -> bool {
         rt.alloc(),
         game,
         &Predecessors::of(rt.alloc(), game).expect(rt, "memory"),
+        Effort::Usual,
     )
     .expect(rt, "memory");
     let settled = solve_one(rt.alloc(), game).expect(rt, "memory");
@@ -103,7 +105,7 @@ fn small_games_are_searched(rt: HostRuntime) {
     for (rows, winners) in &GAMES {
         let game = game_of(&rt, rows).expect(&rt, "a game");
         let predecessors = Predecessors::of(rt.alloc(), &game).expect(&rt, "memory");
-        let lost = Lost::of(rt.alloc(), &game, &predecessors).expect(&rt, "memory");
+        let lost = Lost::of(rt.alloc(), &game, &predecessors, Effort::Usual).expect(&rt, "memory");
         assert!(rt; are_lost(&lost, winners), "{winners}");
         assert!(rt; is_found(&rt, &game), "{winners}");
     }

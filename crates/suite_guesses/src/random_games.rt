@@ -1,14 +1,17 @@
 // Games at random: what a search finds and claims, and what lifting alone leaves. That a claim raises no table too far is
-// proved; that the search finds all that Odd wins, and that its claims are good, is not.
+// proved, and so is that the table is the same where a search may look at nothing; that it finds all that Odd wins, and that its claims are good,
+// is not.
 
 ghost use Rattle.std.specs.Prelude.{◌≡◌, ◌<◌, ◌≤◌, IfOk};
 
 use certify::decide::certified_winners;
 use game::graph::Game;
 use lts::error::Memory;
-use measures::settle::{first_table, settle, solve_one};
+use measures::settle::{first_table, settle, solve_one, solve_one_by};
 use measures::table::{PlainTable, Settled, opening};
+use progress::observer::Silent;
 use samples::dice::{Dice, roll_game};
+use search::effort::Effort;
 use std::alloc::Global;
 use std::process::Abort;
 
@@ -32,6 +35,13 @@ pub fn is_same(game: &Game, settled: &Settled, table: &PlainTable) -> bool
         }
     }
     true
+}
+
+fn is_same_settled(game: &Game, one: &Settled, other: &Settled) -> bool
+    requires one { one.now.game ≡ game.now }
+    requires other { other.now.game ≡ game.now }
+{
+    (0..game.vertices()).all(|v| one.value(v).compare(&other.value(v)).is_eq())
 }
 
 // Whether some count can go above one. Where none can, lifting takes no time, and nothing is claimed.
@@ -65,23 +75,38 @@ fn is_certified(rt: &(impl Abort + AllocGlobal), game: &Game, solved: &Settled) 
     true
 }
 
-fn ends_alike(rt: &(impl Abort + AllocGlobal), game: &Game) -> bool {
-    let first = first_table(rt.alloc(), game).expect(rt, "memory");
-    let solved = solve_one(rt.alloc(), game).expect(rt, "memory");
+// Whether lifting alone, and lifting where a search may look at nothing, leave this table, and evidence says the same.
+fn ends_alike(rt: &(impl Abort + AllocGlobal), game: &Game, solved: &Settled) -> bool
+    requires { solved.now.game ≡ game.now }
+{
     let lifted = lifted_alone(rt.alloc(), game).expect(rt, "memory");
-    let is_found = !can_climb(game) || are_claimed(game, &first, &solved);
-    is_found && is_same(game, &solved, &lifted) && is_certified(rt, game, &solved)
+    let unsearched = solve_one_by(rt.alloc(), game, Effort::Nothing, &Silent).expect(rt, "memory");
+    let is_same = is_same(game, solved, &lifted) && is_same_settled(game, solved, &unsearched);
+    is_same && is_certified(rt, game, solved)
+}
+
+// How many of so many games at random have claims that leave nothing to lift. All end alike.
+fn count_whole(rt: &(impl Abort + AllocGlobal), dice: &mut Dice, games: u32) -> u32 {
+    let mut whole = 0_u32;
+    for number in 0..games {
+        let vertices = 1 + dice.roll(16);
+        let priorities = 2 + dice.roll(11);
+        let game = roll_game(rt, dice, vertices, priorities)
+            .expect(rt, "memory")
+            .expect(rt, "a game");
+        let first = first_table(rt.alloc(), &game).expect(rt, "memory");
+        let solved = solve_one(rt.alloc(), &game).expect(rt, "memory");
+        let is_found = !can_climb(&game) || are_claimed(&game, &first, &solved);
+        assert!(rt; is_found && ends_alike(rt, &game, &solved), "{number}");
+        if is_same(&game, &solved, &first) {
+            whole += 1;
+        }
+    }
+    whole
 }
 
 #[test]
 fn claims_and_lifting_alone_end_alike(rt: HostRuntime) {
-    let mut dice = Dice::new(20);
-    for number in 0..2_000 {
-        let vertices = 1 + dice.roll(16);
-        let priorities = 1 + dice.roll(8);
-        let game = roll_game(&rt, &mut dice, vertices, priorities)
-            .expect(&rt, "memory")
-            .expect(&rt, "a game");
-        assert!(rt; ends_alike(&rt, &game), "{number}");
-    }
+    let whole = count_whole(&rt, &mut Dice::new(20), 10_000);
+    assert!(rt; whole >= 9_990, "{whole}");
 }
