@@ -15,6 +15,12 @@ const LATE_TIMES: u64 = 8;
 // A first try may look along an edge to a vertex that lies near so often, and once at all else.
 const NEAR_TIMES: u64 = 12;
 
+// The same where there are many priorities: what is justified then falls again and again with what lies above it, or hardly ever.
+const NEAR_TIMES_OF_MANY: u64 = 4;
+
+// So many priorities aren't many.
+const FEW_PRIORITIES: usize = 8;
+
 // Vertices of which no more than so many lie between lie near each other, so that a look from one to the other takes little time.
 const NEAR: u32 = 4_096;
 
@@ -156,25 +162,35 @@ fn count_near(v: u32, successors: &[u32]) -> u64 {
 
 /// For each priority how many looks at its vertices a first try may take.
 pub(crate) fn first_looks(arena: Arena) -> [u64; PRIORITIES] {
-    let mut looks = [0_u64; PRIORITIES];
+    let (mut looks, mut near) = ([0_u64; PRIORITIES], [0_u64; PRIORITIES]);
     for v in 0..arena.vertices() {
+        let successors = arena.successors(v);
+        let count = count_near(v, successors);
+        let far = (successors.len() as u64).saturating_sub(count);
         let place = usize::from(arena.priority(v));
         if place < PRIORITIES {
-            looks[place] = looks[place].saturating_add(looks_at(arena, v));
+            looks[place] = looks[place].saturating_add(far).saturating_add(1);
+            near[place] = near[place].saturating_add(count);
         }
+    }
+    let times = near_times(&looks);
+    for place in 0..PRIORITIES {
+        looks[place] = looks[place].saturating_add(near[place].saturating_mul(times));
     }
     looks
 }
 
-fn looks_at(arena: Arena, v: u32) -> u64 {
-    let mut looks = 1_u64;
-    for t in arena.successors(v) {
-        let more = if v.abs_diff(*t) <= NEAR {
-            NEAR_TIMES
-        } else {
-            1
-        };
-        looks = looks.saturating_add(more);
+// How often a first try may look along an edge that leads nearby, where so many looks at all else fall to each priority.
+fn near_times(looks: &[u64; PRIORITIES]) -> u64 {
+    let mut priorities = 0_usize;
+    for count in looks {
+        if *count > 0 {
+            priorities = priorities.saturating_add(1);
+        }
     }
-    looks
+    if priorities > FEW_PRIORITIES {
+        NEAR_TIMES_OF_MANY
+    } else {
+        NEAR_TIMES
+    }
 }
