@@ -22,11 +22,11 @@ pub fn first_table(alloc: Global, game: &Game) -> Result<PlainTable, Memory>
     ensures game { IfOk result (λ t. t.game ≡ game.now) }
     ensures raised { IfOk result (λ t. LiesUnder (opening_of game.now) t.values) }
 {
-    first_table_by(alloc, game, Effort::Usual, &Silent)
+    first_table_within(alloc, game, Effort::Usual, &Silent)
 }
 
 // The same with this effort of searching, told to an observer: how far the search has come.
-fn first_table_by<O: Observer>(
+fn first_table_within<O: Observer>(
     alloc: Global,
     game: &Game,
     effort: Effort,
@@ -51,7 +51,7 @@ pub fn solve_one(alloc: Global, game: &Game) -> Result<Settled, Memory>
     ensures game { IfOk result (λ s. s.game ≡ game.now) }
     ensures least { IfOk result (λ s. IsLeastTable game.now s.values) }
 {
-    solve_one_by(alloc, game, Effort::Usual, &Silent)
+    solve_one_within(alloc, game, Effort::Usual, &Silent)
 }
 
 /// The same, told to an observer: that the search begins, how far it has come, that lifting begins, and then every 4,096th lift.
@@ -66,14 +66,14 @@ pub fn solve_one_seen<O: Observer>(
     ensures game { IfOk result (λ s. s.game ≡ game.now) }
     ensures least { IfOk result (λ s. IsLeastTable game.now s.values) }
 {
-    solve_one_by(alloc, game, Effort::Usual, observer)
+    solve_one_within(alloc, game, Effort::Usual, observer)
 }
 
 /// The same with this effort of searching. The table is the same for each.
 ///
 /// # Errors
 /// Want of memory for the table itself.
-pub fn solve_one_by<O: Observer>(
+pub fn solve_one_within<O: Observer>(
     alloc: Global,
     game: &Game,
     effort: Effort,
@@ -85,7 +85,7 @@ pub fn solve_one_by<O: Observer>(
     observer.sees(Stage::Searching {
         vertices: game.vertices(),
     });
-    let mut table = first_table_by(alloc, game, effort, observer)?;
+    let mut table = first_table_within(alloc, game, effort, observer)?;
     settle_seen(game, &mut table, observer);
     Ok(table.into_settled())
 }

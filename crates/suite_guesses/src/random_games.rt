@@ -7,7 +7,7 @@ ghost use Rattle.std.specs.Prelude.{◌≡◌, ◌<◌, ◌≤◌, IfOk};
 use certify::decide::certified_winners;
 use game::graph::Game;
 use lts::error::Memory;
-use measures::settle::{first_table, settle, solve_one, solve_one_by};
+use measures::settle::{first_table, settle, solve_one, solve_one_within};
 use measures::table::{PlainTable, Settled, opening};
 use progress::observer::Silent;
 use samples::dice::{Dice, roll_game};
@@ -80,7 +80,9 @@ fn ends_alike(rt: &(impl Abort + AllocGlobal), game: &Game, solved: &Settled) ->
     requires { solved.now.game ≡ game.now }
 {
     let lifted = lifted_alone(rt.alloc(), game).expect(rt, "memory");
-    let unsearched = solve_one_by(rt.alloc(), game, Effort::Nothing, &Silent).expect(rt, "memory");
+    let unsearched = solve_one_within(rt.alloc(), game, Effort::Nothing, &Silent).expect(
+        rt, "memory",
+    );
     let is_same = is_same(game, solved, &lifted) && is_same_settled(game, solved, &unsearched);
     is_same && is_certified(rt, game, solved)
 }

@@ -1,5 +1,5 @@
 use Rattle.progress.proofs.Common.{subst, sym, Game, IsProgress}
-use Rattle.measures.proofs.settle.solve_one_by.Goals as goal
+use Rattle.measures.proofs.settle.solve_one_within.Goals as goal
 
 pub into_settled-requires : goal.into_settled-requires
 into_settled-requires g c = subst (λ (g : Game). IsProgress g c.settle_seen.new.table.values)

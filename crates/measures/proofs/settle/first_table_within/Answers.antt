@@ -2,7 +2,7 @@ use Rattle.std.proofs.Common.{List, subst}
 use Rattle.progress.specs.Measure.{Measure}
 use Rattle.progress.specs.Progress.{LiesUnder}
 use Rattle.progress.proofs.Rising.{under_trans}
-use Rattle.measures.proofs.settle.first_table_by.Goals as goal
+use Rattle.measures.proofs.settle.first_table_within.Goals as goal
 
 pub returns-clause-raised : goal.returns-clause-raised
 returns-clause-raised o c =
