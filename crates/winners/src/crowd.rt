@@ -406,7 +406,7 @@ impl<'g, R: Threads + Sync> Crowd<'g, R> {
         let mut winners = Winners::none(self.crew.alloc);
         for v in 0..self.arena.vertices() {
             let place = self.shared.get(v);
-            winners.add(self.arena, v, won.player(place.region), place.next);
+            winners.add(self.arena.game, v, won.player(place.region), place.next);
         }
         winners.whole()
     }

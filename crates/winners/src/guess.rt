@@ -2,6 +2,7 @@
 
 use crate::arena::Arena;
 use crate::before::Before;
+use crate::copies::Smaller;
 use crate::crowd::Crowd;
 use crate::justify::Justification;
 use crate::meter::{Meter, first_looks, is_wide};
@@ -15,7 +16,7 @@ use crate::winning::Winners;
 use game::graph::Game;
 use game::player::Player;
 use gauge::Gauge;
-use std::alloc::Global;
+use std::alloc::{AllocError, Global};
 use std::thread::{Threads, join};
 use text::Memory;
 
@@ -63,15 +64,31 @@ pub fn guess_winners(
     game: &Game,
     gauge: Option<&Gauge>,
 ) -> Result<Option<Guessed>, Memory> {
+    let found = match Smaller::of(alloc, game) {
+        Some(smaller) => match find_in(alloc, &smaller.game, gauge)? {
+            Some(found) => smaller.whole(alloc, game, &found),
+            None => None,
+        },
+        None => find_in(alloc, game, gauge)?,
+    };
+    Ok(match found {
+        Some(winners) => with_ranks(alloc, game, winners),
+        None => None,
+    })
+}
+
+// Who wins each vertex of a game.
+fn find_in(
+    alloc: Global,
+    game: &Game,
+    gauge: Option<&Gauge>,
+) -> Result<Option<Winners>, AllocError> {
     let before = Before::of(alloc, game)?;
     let arena = Arena {
         game,
         before: &before,
     };
-    Ok(match find_winners(alloc, arena, gauge) {
-        Some(winners) => with_ranks(alloc, game, winners),
-        None => None,
-    })
+    Ok(find_winners(alloc, arena, gauge))
 }
 
 /// The same by so many threads, where the game is large. Of two searches side by side the gauge shows the recursion.
@@ -88,12 +105,31 @@ pub fn guess_winners_by<R: Threads + Sync>(
     if workers < 2 || game.vertices() < LEAST_SHARED {
         return guess_winners(alloc, game, gauge);
     }
-    let before = Before::of_by(rt, alloc, game, workers)?;
     let crew = Crew { rt, alloc, workers };
-    Ok(match find_winners_by(&crew, game, &before, gauge) {
+    let found = match Smaller::of(alloc, game) {
+        Some(smaller) => match find_in_by(&crew, &smaller.game, gauge)? {
+            Some(found) => smaller.whole(alloc, game, &found),
+            None => None,
+        },
+        None => find_in_by(&crew, game, gauge)?,
+    };
+    Ok(match found {
         Some(winners) => with_ranks_by(rt, alloc, game, winners),
         None => None,
     })
+}
+
+// Who wins each vertex of a game, by several threads where it is large.
+fn find_in_by<R: Threads + Sync>(
+    crew: &Crew<'_, R>,
+    game: &Game,
+    gauge: Option<&Gauge>,
+) -> Result<Option<Winners>, AllocError> {
+    if game.vertices() < LEAST_SHARED {
+        return find_in(crew.alloc, game, gauge);
+    }
+    let before = Before::of_by(crew.rt, crew.alloc, game, crew.workers)?;
+    Ok(find_winners_by(crew, game, &before, gauge))
 }
 
 // What a player wins, in an order and with ranks by it.

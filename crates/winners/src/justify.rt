@@ -111,7 +111,7 @@ impl<'g> Justification<'g> {
         let mut winners = Winners::none(self.alloc);
         for v in 0..self.arena.vertices() {
             let next = self.moves.get(v as usize);
-            winners.add(self.arena, v, self.standings.player(v), next);
+            winners.add(self.arena.game, v, self.standings.player(v), next);
         }
         winners.whole()
     }

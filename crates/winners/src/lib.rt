@@ -5,6 +5,7 @@ pub mod arena;
 mod before;
 mod cells;
 mod claim;
+mod copies;
 mod crowd;
 mod field;
 mod flood;

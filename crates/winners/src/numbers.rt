@@ -137,6 +137,11 @@ impl Numbers {
         self.items = other.items;
     }
 
+    /// Notes whether there was memory for all of another list.
+    pub(crate) fn note(&mut self, other: &Numbers) {
+        self.is_whole &= other.is_whole;
+    }
+
     /// Turns the order round.
     pub fn reverse(&mut self) {
         self.items.reverse();

@@ -236,7 +236,7 @@ impl Field<'_> {
         let mut winners = Winners::none(self.alloc);
         for v in 0..self.arena.vertices() {
             let player = won.player(self.cells.region(v));
-            winners.add(self.arena, v, player, self.cells.next(v));
+            winners.add(self.arena.game, v, player, self.cells.next(v));
         }
         winners.whole()
     }

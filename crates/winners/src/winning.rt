@@ -1,8 +1,9 @@
 // What a search finds.
 
-use crate::arena::Arena;
+use crate::arena::owner;
 use crate::cells::NONE;
 use crate::numbers::Numbers;
+use game::graph::Game;
 use game::player::Player;
 use std::alloc::Global;
 
@@ -26,9 +27,9 @@ impl Winners {
     }
 
     /// The next vertex, its winner, and the move that it has if it is the winner's own.
-    pub(crate) fn add(&mut self, arena: Arena, v: u32, player: Player, next: u32) {
+    pub(crate) fn add(&mut self, game: &Game, v: u32, player: Player, next: u32) {
         self.is_whole &= self.players.push(player).is_ok();
-        let owns = arena.owner(v) == player;
+        let owns = owner(game, v) == player;
         self.moves.push(if owns { next } else { NONE });
     }
 
