@@ -175,6 +175,50 @@ impl Rows {
     }
 }
 
+// A game of so many vertices, most of which have priority 0 and lead to one vertex alone: many are copies of others, some in rings, and some
+// vertices lead to themselves alone.
+fn game_of_copies(
+    rt: &(impl Abort + AllocGlobal),
+    dice: &mut Dice,
+    vertices: u32,
+    priorities: u32,
+) -> Game
+    requires some { 0 < vertices }
+    requires few { (0 < priorities) × (priorities ≤ 33) }
+{
+    let mut rows = Rows::new(rt.alloc());
+    for v in 0..vertices {
+        let owner = owner_of(dice.roll(2));
+        let (first, second) = (dice.roll(vertices), dice.roll(vertices));
+        let priority = dice.roll(priorities) as u8;
+        match dice.roll(8) {
+            0 => rows.add(rt, owner, priority, &[v]),
+            1 | 2 => rows.add(rt, owner, priority, &[first, second]),
+            3 => rows.add(rt, owner, 0, &[first, second]),
+            _ => rows.add(rt, owner, 0, &[first]),
+        }
+    }
+    rows.finish(rt)
+}
+
+#[test]
+fn copies_are_won_by_whoever_wins_others(rt: HostRuntime) {
+    let mut dice = Dice::new(9);
+    for number in 0..3_000 {
+        let vertices = 1 + dice.roll(24);
+        let priorities = 1 + dice.roll(6);
+        let game = game_of_copies(&rt, &mut dice, vertices, priorities);
+        assert!(rt; evens(&rt, &game).is_some(), "{number}");
+    }
+}
+
+#[test]
+fn threads_guess_what_one_guesses_of_copies(rt: HostRuntime) {
+    let game = game_of_copies(&rt, &mut Dice::new(10), 300_000, 6);
+    let count = evens(&rt, &game);
+    assert!(rt; count.is_some() && count == evens_by_threads(&rt, &game));
+}
+
 // Even has the even vertices, and Odd the odd ones.
 // A game of so many vertices, of which each leads to one, two or three.
 fn large_game(
