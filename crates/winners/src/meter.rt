@@ -16,7 +16,7 @@ const LATE_TIMES: u64 = 8;
 const NEAR_TIMES: u64 = 12;
 
 // The same where there are many priorities: what is justified then falls again and again with what lies above it, or hardly ever.
-const NEAR_TIMES_OF_MANY: u64 = 4;
+const NEAR_TIMES_OF_MANY: u64 = 6;
 
 // So many priorities aren't many.
 const FEW_PRIORITIES: usize = 8;
