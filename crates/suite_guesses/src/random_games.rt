@@ -101,7 +101,7 @@ fn count_whole(rt: &(impl Abort + AllocGlobal), dice: &mut Dice, games: u32) -> 
         let is_found = !can_climb(&game) || are_claimed(&game, &first, &solved);
         assert!(rt; is_found && ends_alike(rt, &game, &solved), "{number}");
         if is_same(&game, &solved, &first) {
-            whole += 1;
+            whole = whole.saturating_add(1);
         }
     }
     whole
