@@ -1,6 +1,6 @@
 -- Worked examples of lifting by several workers: what events do, a late raise, and a quiet end.
-use Rattle.std.specs.Prelude.{◌≡◌, ℕ, zero, suc, ◌+◌, ◌<◌, ◌≤◌, Bool, true, false, List, [], ◌∷◌, ◌++◌, length, Some, slice_get, refl, IsTrue, not}
-use Rattle.std.proofs.Common.{arith, inl, inr, sym, subst, ap, ◌∙◌, true≢false}
+use Rattle.std.specs.Prelude.{◌≡◌, ℕ, zero, suc, ◌+◌, ◌<◌, ◌≤◌, Bool, true, false, List, [], ◌∷◌, ◌++◌, length, Some, slice_get, refl, IsTrue}
+use Rattle.std.proofs.Common.{arith, inl, inr, sym, subst, ap, ◌∙◌}
 use Rattle.std.proofs.lemmas.Bool.Decides.{eqb_tells}
 use Rattle.std.proofs.lemmas.Option.{slice_get_within}
 use Rattle.game.specs.declared.player.Player.{Player}

@@ -9,4 +9,6 @@ pub mod Measures
 pub mod Tables
 pub mod Evidences
 pub mod EvidenceTexts
+pub mod GameTexts
+pub mod Schedules
 pub mod Cores

@@ -9,7 +9,7 @@ use Rattle.normal.specs.Tree.{normal_form, Shape, ConstantNode, JunctionNode, Mo
 use Rattle.normal.specs.Tree.{modal_count, formula_from}
 use Rattle.normal.specs.Nodes.{nodes, Node, greatest, greatest_priority}
 use Rattle.normal.specs.Rules.{nodes_with}
-use Rattle.normal.specs.declared.priorities.Priorities.TheVariants.{Nested, Dependent}
+use Rattle.normal.specs.declared.priorities.Priorities.TheVariants.{Dependent}
 use Rattle.normal.specs.NormalText.{normal_text, line_end}
 use Rattle.normal.specs.Refused.{HasRefusal}
 use Rattle.normal.specs.declared.error.NormalError.TheVariants.{TooManyNodes, PriorityTooGreat}

@@ -1,0 +1,92 @@
+-- Worked examples of texts that spell no game, with the fault that decides and its line.
+use Rattle.std.specs.Prelude.{ℕ, [], ◌∷◌, ◌++◌, None, codes, refl}
+use Rattle.std.proofs.Common.{arith, inl, inr}
+use Rattle.game.specs.declared.player.Player.TheVariants.{Even}
+use Rattle.pgsolver.specs.Fault.{HasFault}
+use Rattle.pgsolver.specs.Spelling.{AreGood, IsHeader, IsLine, Line}
+use Rattle.pgsolver.specs.declared.error.PgFault.TheVariants.{BadHeader, BadIdentifier}
+
+-- the empty text has no header
+no_header : HasFault [] BadHeader 1
+no_header = inl (λ first rest n e h. cc, refl)
+
+-- parity 0;
+header_of_one : IsHeader (codes "parity 0;") 0
+header_of_one = (
+  codes "0",
+  (refl, refl),
+  ([], codes " 0;", refl, refl, (codes " ", codes ";", refl, refl, ([], [], refl, refl, refl))),
+)
+
+-- a vertex of Even with priority 0 that leads to vertex 0
+abbrev line_of : ℕ → Line
+line_of v = record { id = v; priority = 0; owner = Even; successors = 0 ∷ [] }
+
+-- 1 0 0 0;
+line_1 : IsLine (codes "1 0 0 0;") (line_of 1)
+line_1 = record {
+  i = codes "1";
+  p = codes "0";
+  first_gap = codes " ";
+  second_gap = codes " ";
+  third_gap = codes " ";
+  targets = codes "0" ∷ [];
+  name = None;
+  id = (refl, refl);
+  priority = (refl, refl);
+  successors = ((refl, refl), tt);
+  gaps = ((32, refl, refl), (32, refl, refl), (32, refl, refl));
+  named = tt;
+  spaced = (
+    [],
+    codes " 0 0 0;",
+    refl,
+    refl,
+    (
+      [],
+      codes "0 0 0;",
+      refl,
+      refl,
+      (
+        [],
+        codes " 0 0;",
+        refl,
+        refl,
+        (
+          [],
+          codes "0 0;",
+          refl,
+          refl,
+          ([], codes " 0;", refl, refl, ([], codes "0;", refl, refl, ([], codes ";", refl, refl, ([], [], refl, refl, refl)))),
+        ),
+      ),
+    ),
+  );
+}
+
+nothing_before : AreGood 0 [] []
+nothing_before = record { each = tt; within = tt; once = λ i j d l k. absurd (omega (arith, k)) }
+
+-- the greatest identifier is 0
+identifier_too_great : HasFault (codes "parity 0;" ++ 10 ∷ (codes "1 0 0 0;" ++ 10 ∷ [])) BadIdentifier 2
+identifier_too_great =
+    inr (
+      codes "parity 0;",
+      codes "1 0 0 0;" ∷ [],
+      0,
+      0,
+      refl,
+      header_of_one,
+      omega arith,
+      inl (record {
+        front = [];
+        line = codes "1 0 0 0;";
+        back = [];
+        before = [];
+        cut = refl;
+        good_lines = nothing_before;
+        count = refl;
+        wrong = (line_of 1, line_1, inl (omega arith));
+      }),
+      refl,
+    )
