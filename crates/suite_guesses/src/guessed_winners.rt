@@ -219,7 +219,6 @@ fn threads_guess_what_one_guesses_of_copies(rt: HostRuntime) {
     assert!(rt; count.is_some() && count == evens_by_threads(&rt, &game));
 }
 
-// Even has the even vertices, and Odd the odd ones.
 // A game of so many vertices, of which each leads to one, two or three.
 fn large_game(
     rt: &(impl Abort + AllocGlobal),
@@ -292,6 +291,7 @@ fn a_gauge_shows_a_long_search(rt: HostRuntime) {
     assert_eq!(rt; evens_seen(&rt, &game, 4), found);
 }
 
+// Even has the even vertices, and Odd the odd ones.
 fn owner_of(v: u32) -> Player {
     if v % 2 == 0 {
         Player::Even

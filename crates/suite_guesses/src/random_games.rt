@@ -37,13 +37,6 @@ pub fn is_same(game: &Game, settled: &Settled, table: &PlainTable) -> bool
     true
 }
 
-fn is_same_settled(game: &Game, one: &Settled, other: &Settled) -> bool
-    requires one { one.now.game ≡ game.now }
-    requires other { other.now.game ≡ game.now }
-{
-    (0..game.vertices()).all(|v| one.value(v).compare(&other.value(v)).is_eq())
-}
-
 // Whether some count can go above one. Where none can, lifting takes no time, and nothing is claimed.
 fn can_climb(game: &Game) -> bool {
     (0..16).any(|half| game.count(2 * half + 1) > 1)
@@ -83,8 +76,8 @@ fn ends_alike(rt: &(impl Abort + AllocGlobal), game: &Game, solved: &Settled) ->
     let unsearched = solve_one_within(rt.alloc(), game, Effort::Nothing, &Silent).expect(
         rt, "memory",
     );
-    let is_same = is_same(game, solved, &lifted) && is_same_settled(game, solved, &unsearched);
-    is_same && is_certified(rt, game, solved)
+    let are_same = is_same(game, solved, &lifted) && is_same(game, &unsearched, &lifted);
+    are_same && is_certified(rt, game, solved)
 }
 
 // How many of so many games at random have claims that leave nothing to lift. All end alike.
