@@ -1,215 +1,188 @@
-// Copies: vertices that are won by whoever wins another one. They are left out before a game is searched, since of a game that was
-// built of a system and a formula hardly a third of the vertices are no copies.
+// Copies: vertices that are won by whoever wins another one. They are left out before a game is searched and its winners are ranked, since
+// of a game that was built of a system and a formula many vertices are copies.
 //
-// A vertex of priority 0 is a copy of the vertex to which its owner alone can go on, but for vertices that the owner has lost, and of one
-// that the owner has won, if it leads there: the priority says nothing, since a play that stays among copies for ever would go round a ring of
-// them. Of such a ring one vertex is kept.
+// A vertex of priority 0 is a copy of the vertex to which its owner alone can go on, but for what the owner has lost: the priority says
+// nothing, since a play that stays among copies for ever would go round a ring of them. Of such a ring one vertex is kept.
+//
+// Odd has to count what goes from copy to copy, so each has a height: that of what it is linked to, and one more than that of any
+// successor that had come to the same by then. So a play from copy to copy falls.
 
-use crate::arena::{owner, priority, successors, winner_by};
+use crate::arena::{opponent, owner, priority, successors};
 use crate::cells::NONE;
+use crate::decided::{Decided, Outcome};
 use crate::numbers::Numbers;
-use crate::winning::Winners;
-use game::graph::{Game, GameBuilder};
-use game::limits::MOST_VERTICES;
 use game::player::Player;
 use std::alloc::Global;
 
-// At least this part of a game's vertices is seen to be copies at once, or none is left out.
-const PART: u32 = 4;
+/// The numbers of what each player has won in a game without its copies.
+pub(crate) const EVEN_END: u32 = 0;
+
+pub(crate) const ODD_END: u32 = 1;
+
+/// The first number of a vertex that is kept.
+pub(crate) const FIRST_KEPT: u32 = 2;
 
 // What has been met on a path of links, and has no image yet.
 const MET: u32 = u32::MAX - 1;
 
-/// A vertex that leads to itself alone and is Even's for ever, and one that is Odd's: they stand for all such vertices. `NONE` where there
-/// is none.
+// To what a vertex is linked that Even has won, and one that Odd has.
+const TO_EVEN: u32 = u32::MAX - 2;
+
+const TO_ODD: u32 = u32::MAX - 3;
+
+/// What a vertex is a copy of.
 #[derive(Clone, Copy)]
-struct Ends {
-    even: u32,
-    odd: u32,
+pub(crate) struct Link {
+    // The vertex that it is a copy of, or itself.
+    to: u32,
+    /// The successor by which its owner comes there, or `NONE` where it is no copy.
+    pub(crate) by: u32,
+    /// How far it stands above what it is a copy of.
+    pub(crate) height: u32,
 }
 
 /// The vertices of a game, and those of which they are copies.
 #[derive(Drop)]
-struct Links<'g> {
-    game: &'g Game,
-    ends: Ends,
-    /// For each vertex the one that it is a copy of, or itself.
-    to: Numbers,
-    /// How its owner comes there: a successor, or `NONE` where it is no copy, or of what the owner has lost.
-    by: Numbers,
+struct Links<'d> {
+    decided: &'d Decided<'d>,
+    list: Vec<Link>,
 }
 
-/// A game without its copies.
+/// For each vertex what it is a copy of.
 #[derive(Drop)]
-pub(crate) struct Smaller {
-    pub(crate) game: Game,
-    // For each vertex of the whole game the vertex of this one that has its winner.
-    images: Numbers,
-    by: Numbers,
+pub(crate) struct Images {
+    /// The vertex of the game without copies that has its winner.
+    pub(crate) numbers: Numbers,
+    links: Vec<Link>,
+    /// What is kept, by numbers.
+    pub(crate) kept: Numbers,
 }
 
-// Whether a vertex leads to itself alone.
-fn is_end(game: &Game, v: u32) -> bool {
-    match successors(game, v) {
-        [only] => *only == v,
-        _ => false,
-    }
-}
-
-// Whether enough vertices are copies at the first look.
-fn are_many(game: &Game) -> bool {
-    let mut count = 0_u32;
-    for v in 0..game.vertices() {
-        if priority(game, v) == 0 && successors(game, v).len() == 1 {
-            count = count.saturating_add(1);
+impl Link {
+    // That of no copy.
+    fn none(v: u32) -> Self {
+        Link {
+            to: v,
+            by: NONE,
+            height: 0,
         }
     }
-    count >= game.vertices() / PART
 }
 
-impl Ends {
-    // The first of each kind.
-    fn of(game: &Game) -> Self {
-        let mut ends = Ends {
-            even: NONE,
-            odd: NONE,
+impl Link {
+    // Adds a successor with its own link. The answer is whether it comes to the same as others.
+    fn join(&mut self, t: u32, next: Link) -> bool {
+        let to = match next.to {
+            NONE => t,
+            to => to,
         };
-        for v in (0..game.vertices()).rev() {
-            if is_end(game, v) {
-                ends.put(winner_by(priority(game, v)), v);
-            }
+        if self.to == NONE {
+            self.to = to;
+            self.by = t;
         }
-        ends
+        self.height = self.height.max(next.height.saturating_add(1));
+        self.to == to
     }
+}
 
-    fn put(&mut self, player: Player, v: u32) {
-        match player {
-            Player::Even => self.even = v,
-            Player::Odd => self.odd = v,
-        }
-    }
-
-    fn of_player(self, player: Player) -> u32 {
-        match player {
-            Player::Even => self.even,
-            Player::Odd => self.odd,
-        }
-    }
-
-    // What a player has won, and what it has lost.
-    fn won_and_lost(self, player: Player) -> (u32, u32) {
-        match player {
-            Player::Even => (self.even, self.odd),
-            Player::Odd => (self.odd, self.even),
+impl Outcome {
+    // To what a vertex is linked with this outcome.
+    fn goal(self) -> u32 {
+        match self {
+            Outcome::Open => NONE,
+            Outcome::Even => TO_EVEN,
+            Outcome::Odd => TO_ODD,
         }
     }
 }
 
-impl<'g> Links<'g> {
-    // The links of all vertices: first of those that lead to themselves alone, and then, the last first, of the others.
-    fn of(alloc: Global, game: &'g Game) -> Self {
-        let length = game.vertices() as usize;
+impl<'d> Links<'d> {
+    // The links of all vertices: of those that are decided, and then, the last first, of the others. `None` for want of memory.
+    fn of(alloc: Global, decided: &'d Decided<'d>) -> Option<Self> {
+        let vertices = decided.game.vertices();
         let mut links = Links {
-            game,
-            ends: Ends::of(game),
-            to: Numbers::filled(alloc, length, NONE),
-            by: Numbers::filled(alloc, length, NONE),
+            decided,
+            list: vec![in alloc; Link::none(NONE); vertices as usize].ok()?,
         };
-        links.link_ends();
-        for v in (0..game.vertices()).rev() {
-            if links.to.get(v as usize) == NONE {
-                links.link(v);
-            }
-        }
-        links
-    }
-
-    fn link_ends(&mut self) {
-        for v in 0..self.game.vertices() {
-            if is_end(self.game, v) {
-                let end = self.ends.of_player(winner_by(priority(self.game, v)));
-                self.put(v, end, v);
-            }
-        }
-    }
-
-    fn put(&mut self, v: u32, to: u32, by: u32) {
-        self.to.set(v as usize, to);
-        self.by.set(v as usize, by);
-    }
-
-    // Where a successor comes to, as far as it is known.
-    fn next(&self, v: u32) -> u32 {
-        match self.to.get(v as usize) {
-            NONE => v,
-            next => next,
-        }
-    }
-
-    fn link(&mut self, v: u32) {
-        let (to, by) = match priority(self.game, v) {
-            0 => self.found(v),
-            _ => (v, NONE),
-        };
-        self.put(v, to, by);
-    }
-
-    // The vertex of which one of priority 0 is a copy, or itself, and by which successor.
-    fn found(&self, v: u32) -> (u32, u32) {
-        let (won, lost) = self.ends.won_and_lost(owner(self.game, v));
-        let (mut only, mut by) = (NONE, NONE);
-        for t in successors(self.game, v) {
-            let next = self.next(*t);
-            if next == won {
-                return (won, *t);
-            }
-            if next == lost || next == only {
-                continue;
-            }
-            if only != NONE {
-                return (v, NONE);
-            }
-            only = next;
-            by = *t;
-        }
-        match only {
-            NONE => (lost, NONE),
-            _ if only == v => (v, NONE),
-            _ => (only, by),
-        }
-    }
-
-    // For each vertex its number in the smaller game, whose vertices are put into the list.
-    fn images(&mut self, alloc: Global, kept: &mut Numbers) -> Numbers {
-        let vertices = self.game.vertices();
-        let mut images = Numbers::filled(alloc, vertices as usize, NONE);
         for v in 0..vertices {
-            if self.to.get(v as usize) == v {
-                keep(v, &mut images, kept);
+            links.put(v, Link::none(decided.outcome(v).goal()));
+        }
+        for v in (0..vertices).rev() {
+            if links.get(v).to == NONE {
+                links.put(v, links.found(v));
             }
         }
-        let mut path = Numbers::none(alloc);
-        for v in 0..vertices {
-            self.follow(v, &mut images, &mut path, kept);
+        Some(links)
+    }
+
+    fn put(&mut self, v: u32, link: Link) {
+        let place = v as usize;
+        if place < self.list.len() {
+            self.list[place] = link;
         }
-        kept.note(&path);
-        images
+    }
+
+    fn get(&self, v: u32) -> Link {
+        self.list
+            .get(v as usize)
+            .copied()
+            .unwrap_or(Link::none(NONE))
+    }
+
+    fn found(&self, v: u32) -> Link {
+        match priority(self.decided.game, v) {
+            0 => self.found_at(v, owner(self.decided.game, v)),
+            _ => Link::none(v),
+        }
+    }
+
+    // The link of a vertex of priority 0. To stay there for ever is of no use to its owner, or it would be decided.
+    fn found_at(&self, v: u32, player: Player) -> Link {
+        let won = Outcome::won_by(player).goal();
+        let lost = Outcome::won_by(opponent(player)).goal();
+        let mut link = Link::none(NONE);
+        for t in successors(self.decided.game, v) {
+            let next = self.get(*t);
+            if next.to == won {
+                return Link::none(v);
+            }
+            if next.to != lost && *t != v && !link.join(*t, next) {
+                return Link::none(v);
+            }
+        }
+        if link.to == NONE || link.to == v {
+            Link::none(v)
+        } else {
+            link
+        }
+    }
+
+    // What is decided has the numbers of both ends, and what is no copy has the next ones.
+    fn number_all(&self, images: &mut Images) {
+        for v in 0..self.decided.game.vertices() {
+            match self.get(v).to {
+                TO_EVEN => images.numbers.set(v as usize, EVEN_END),
+                TO_ODD => images.numbers.set(v as usize, ODD_END),
+                to if to == v => images.keep(v),
+                _ => {}
+            }
+        }
     }
 
     // Finds the image of a vertex, and of all on the path of links from it. Where the path comes back to itself the vertex there is kept.
-    fn follow(&mut self, v: u32, images: &mut Numbers, path: &mut Numbers, kept: &mut Numbers) {
+    fn follow(&mut self, v: u32, images: &mut Images, path: &mut Numbers) {
         let mut last = v;
         for _ in 0..u32::MAX {
-            if images.get(last as usize) != NONE {
+            if images.numbers.get(last as usize) != NONE {
                 break;
             }
-            images.set(last as usize, MET);
+            images.numbers.set(last as usize, MET);
             path.push(last);
-            last = self.to.get(last as usize);
+            last = self.get(last).to;
         }
-        if images.get(last as usize) == MET {
-            self.put(last, last, NONE);
-            keep(last, images, kept);
+        if images.numbers.get(last as usize) == MET {
+            self.put(last, Link::none(last));
+            images.keep(last);
         }
         for _ in 0..u32::MAX {
             match path.pop() {
@@ -219,112 +192,64 @@ impl<'g> Links<'g> {
         }
     }
 
-    // A vertex on a path has the image of the one that it is a copy of.
-    fn take(&self, u: u32, images: &mut Numbers) {
-        if images.get(u as usize) == MET {
-            let image = images.get(self.to.get(u as usize) as usize);
-            images.set(u as usize, image);
+    // A vertex on a path has the image of the one that it is a copy of, and stands above it.
+    fn take(&mut self, u: u32, images: &mut Images) {
+        if images.numbers.get(u as usize) == MET {
+            let link = self.get(u);
+            let image = images.numbers.get(link.to as usize);
+            images.numbers.set(u as usize, image);
+            let height = link.height.saturating_add(self.get(link.to).height);
+            self.put(u, Link { height, ..link });
         }
-    }
-
-    // Puts the images of a kept vertex's successors into the list, each once and ascending, but for what its owner has no need of.
-    fn put_row(&self, v: u32, images: &Numbers, row: &mut Vec<u32>) -> bool {
-        let (won, lost) = self.ends.won_and_lost(owner(self.game, v));
-        let (won, lost) = (image(images, won), image(images, lost));
-        row.clear();
-        let mut is_whole = true;
-        for t in successors(self.game, v) {
-            let next = images.get(*t as usize);
-            if next == won {
-                row.clear();
-                return row.push(next).is_ok();
-            }
-            if next != lost {
-                is_whole &= row.push(next).is_ok();
-            }
-        }
-        if row.is_empty() {
-            is_whole &= row.push(lost).is_ok();
-        }
-        row.sort_unstable();
-        row.dedup();
-        is_whole
-    }
-
-    // The game of the vertices that are kept. There is none for want of memory.
-    fn game(&self, alloc: Global, images: &Numbers, kept: &[u32]) -> Option<Game> {
-        let mut builder = GameBuilder::new(alloc);
-        let mut row = Vec::new(alloc);
-        for v in kept {
-            let fits = builder.vertices() < MOST_VERTICES && row.len() <= MOST_VERTICES;
-            if !fits || !self.put_row(*v, images, &mut row) {
-                return None;
-            }
-            let (player, number) = (owner(self.game, *v), priority(self.game, *v));
-            if row.len() > MOST_VERTICES || builder.push(player, number, &row).is_err() {
-                return None;
-            }
-        }
-        builder.finish()
     }
 }
 
-// The image of a vertex, if there is one.
-fn image(images: &Numbers, v: u32) -> u32 {
-    images.get_or(v as usize, NONE)
-}
-
-// Keeps a vertex, with the next number.
-fn keep(v: u32, images: &mut Numbers, kept: &mut Numbers) {
-    images.set(v as usize, u32::try_from(kept.len()).unwrap_or(NONE));
-    kept.push(v);
-}
-
-impl Smaller {
-    /// The game without its copies, where many vertices are some, and there is memory for it.
-    pub(crate) fn of(alloc: Global, game: &Game) -> Option<Self> {
-        if !are_many(game) {
-            return None;
+impl Images {
+    /// Those of all vertices. `None` for want of memory.
+    pub(crate) fn of<'d>(alloc: Global, decided: &'d Decided<'d>) -> Option<Self> {
+        let mut links = Links::of(alloc, decided)?;
+        let vertices = decided.game.vertices();
+        let mut images = Images {
+            numbers: Numbers::filled(alloc, vertices as usize, NONE),
+            links: Vec::new(alloc),
+            kept: Numbers::none(alloc),
+        };
+        links.number_all(&mut images);
+        let mut path = Numbers::none(alloc);
+        for v in 0..vertices {
+            links.follow(v, &mut images, &mut path);
         }
-        let mut links = Links::of(alloc, game);
-        let mut kept = Numbers::none(alloc);
-        let images = links.images(alloc, &mut kept);
-        let are_whole = kept.is_whole() && images.is_whole();
-        if !are_whole || !links.to.is_whole() || !links.by.is_whole() {
-            return None;
-        }
-        match links.game(alloc, &images, kept.as_slice()) {
-            Some(game) => Some(Smaller {
-                game,
-                images,
-                by: links.by,
-            }),
-            None => None,
+        images.kept.note(&path);
+        images.links = links.list;
+        images.whole()
+    }
+
+    // Keeps a vertex, with the next number.
+    fn keep(&mut self, v: u32) {
+        let number = u32::try_from(self.kept.len()).unwrap_or(MET);
+        let number = number.saturating_add(FIRST_KEPT);
+        self.numbers.set(v as usize, number);
+        self.kept.push(v);
+    }
+
+    fn whole(self) -> Option<Self> {
+        if self.numbers.is_whole() && self.kept.is_whole() {
+            Some(self)
+        } else {
+            None
         }
     }
 
-    /// Who wins each vertex of the whole game, where it is known who wins those of this one.
-    pub(crate) fn whole(&self, alloc: Global, game: &Game, found: &Winners) -> Option<Winners> {
-        let mut winners = Winners::none(alloc);
-        for v in 0..game.vertices() {
-            let image = self.images.get(v as usize);
-            let player = found.player(image);
-            let next = match self.by.get(v as usize) {
-                NONE if owner(game, v) == player => self.way(game, v, found.next(image)),
-                by => by,
-            };
-            winners.add(game, v, player, next);
-        }
-        winners.whole()
+    /// The image of a vertex.
+    pub(crate) fn get(&self, v: u32) -> u32 {
+        self.numbers.get(v as usize)
     }
 
-    // The first successor of a kept vertex whose image is the one to which its owner goes on.
-    fn way(&self, game: &Game, v: u32, next: Option<u32>) -> u32 {
-        for t in successors(game, v) {
-            if Some(self.images.get(*t as usize)) == next {
-                return *t;
-            }
-        }
-        NONE
+    /// What a vertex is a copy of.
+    pub(crate) fn link(&self, v: u32) -> Link {
+        self.links
+            .get(v as usize)
+            .copied()
+            .unwrap_or(Link::none(NONE))
     }
 }

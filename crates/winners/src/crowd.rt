@@ -403,7 +403,7 @@ impl<'g, R: Threads + Sync> Crowd<'g, R> {
 
     // What each wins, if there is memory for it.
     fn winners(&self, won: Regions) -> Option<Winners> {
-        let mut winners = Winners::none(self.crew.alloc);
+        let mut winners = Winners::none(self.crew.alloc, self.arena.game);
         for v in 0..self.arena.vertices() {
             let place = self.shared.get(v);
             winners.add(self.arena.game, v, won.player(place.region), place.next);

@@ -60,6 +60,17 @@ impl<'g> Justification<'g> {
         self.find_within(&[])
     }
 
+    /// Goes on with another budget, where one was spent.
+    pub(crate) fn go_on(&mut self, meter: Meter<'g>) -> Option<Winners> {
+        self.meter = meter;
+        self.find()
+    }
+
+    /// The game.
+    pub(crate) fn arena(&self) -> Arena<'g> {
+        self.arena
+    }
+
     /// The same, where the budget grows by so many looks as a priority is come to for the first time.
     pub(crate) fn find_within(&mut self, more: &[u64]) -> Option<Winners> {
         if self.justify_all(more) {
@@ -108,7 +119,7 @@ impl<'g> Justification<'g> {
 
     // What each wins, if there is memory for it.
     fn winners(&self) -> Option<Winners> {
-        let mut winners = Winners::none(self.alloc);
+        let mut winners = Winners::none(self.alloc, self.arena.game);
         for v in 0..self.arena.vertices() {
             let next = self.moves.get(v as usize);
             winners.add(self.arena.game, v, self.standings.player(v), next);

@@ -19,6 +19,17 @@ impl Numbers {
         }
     }
 
+    /// No number yet, with room for so many where there is memory for it: a list that grows is copied.
+    pub(crate) fn roomy(alloc: Global, length: usize) -> Self {
+        match Vec::with_capacity(alloc, length) {
+            Ok(items) => Numbers {
+                items,
+                is_whole: true,
+            },
+            Err(_) => Numbers::none(alloc),
+        }
+    }
+
     /// None of them, for want of memory.
     pub(crate) fn wanting(alloc: Global) -> Self {
         Numbers {
@@ -150,6 +161,11 @@ impl Numbers {
     /// Takes all away.
     pub fn clear(&mut self) {
         self.items.clear();
+    }
+
+    /// Makes room for so many more, where there is memory for it.
+    pub(crate) fn make_room(&mut self, more: usize) {
+        let _ = self.items.reserve(more);
     }
 
     /// Writes these numbers from a place on.

@@ -3,9 +3,10 @@
 // The order is refined segment by segment; the first is all that the player wins. Of the priorities in a segment that are not of
 // the player's parity let q be the greatest. The vertices above q go to the segment's end. The others are sorted by the strong
 // components of the edges that the player's moves leave, each after those to which it leads, and each of two vertices or more is
-// a segment. Where the moves win no such component has a vertex of priority q, since a cycle would have it as its greatest.
+// a segment. Where the moves win no such component has a vertex of priority q, since a cycle would have it as its greatest, and no vertex
+// of the other parity leads to itself.
 
-use crate::arena::{owner, priority, successors, winner_by};
+use crate::arena::{priority, successors, winner_by};
 use crate::numbers::{Numbers, Span};
 use crate::strong::{Edges, Strong};
 use crate::winning::Winners;
@@ -22,11 +23,11 @@ struct Chosen<'a> {
 }
 
 impl Edges for Chosen<'_> {
+    // Of what a player wins its own vertices alone have a move.
     fn after(&self, v: u32) -> &[u32] {
-        if owner(self.game, v) == self.player {
-            self.winners.chosen(v)
-        } else {
-            successors(self.game, v)
+        match self.winners.next(v) {
+            Some(_) => self.winners.chosen(v),
+            None => successors(self.game, v),
         }
     }
 }
@@ -34,6 +35,17 @@ impl Edges for Chosen<'_> {
 impl Chosen<'_> {
     fn priority(&self, v: u32) -> u8 {
         priority(self.game, v)
+    }
+
+    // How many vertices the player wins.
+    fn count(&self) -> usize {
+        let mut count = 0_usize;
+        for v in 0..self.game.vertices() {
+            if self.winners.player(v) == self.player {
+                count = count.saturating_add(1);
+            }
+        }
+        count
     }
 
     // The greatest priority of these that is not of the player's parity.
@@ -48,22 +60,17 @@ impl Chosen<'_> {
         greatest
     }
 
-    // Whether the play may stay for ever among these of a component, so that the opponent wins by the priority.
-    fn is_lost(&self, component: &[u32], bad: u8) -> bool {
-        match component {
-            [v] => winner_by(self.priority(*v)) != self.player && self.after(*v).contains(v),
-            _ => self.has(component, bad),
-        }
+    // Whether the play may stay at a vertex for ever, so that the opponent wins.
+    fn is_lost(&self, v: u32) -> bool {
+        winner_by(self.priority(v)) != self.player && self.after(v).contains(&v)
     }
+}
 
-    fn has(&self, vertices: &[u32], priority: u8) -> bool {
-        for v in vertices {
-            if self.priority(*v) == priority {
-                return true;
-            }
-        }
-        false
-    }
+// A part of the order, whose priorities that are not of the player's parity have to be less than a bound.
+#[derive(Clone, Copy)]
+struct Segment {
+    span: Span,
+    bound: u8,
 }
 
 // An order that is being refined.
@@ -72,7 +79,7 @@ struct Refining<'a> {
     alloc: Global,
     chosen: Chosen<'a>,
     list: Numbers,
-    segments: Vec<Span>,
+    segments: Vec<Segment>,
     // Whether there was memory for all vertices and segments.
     is_whole: bool,
 }
@@ -95,7 +102,9 @@ pub(crate) fn order_of<'a>(
         segments: Vec::new(alloc),
         is_whole: true,
     };
-    refining.begin();
+    if !refining.begin() {
+        return None;
+    }
     let mut strong = Strong::new(alloc, game.vertices());
     if refining.refine_all(&mut strong) {
         Some(refining.list)
@@ -105,19 +114,27 @@ pub(crate) fn order_of<'a>(
 }
 
 impl Refining<'_> {
-    // One segment is all that the player wins.
-    fn begin(&mut self) {
+    // One segment is all that the player wins. The answer is whether it can leave each vertex where it has to.
+    fn begin(&mut self) -> bool {
+        self.list.make_room(self.chosen.count());
         for v in 0..self.chosen.game.vertices() {
             if self.chosen.winners.player(v) == self.chosen.player {
+                if self.chosen.is_lost(v) {
+                    return false;
+                }
                 self.list.push(v);
             }
         }
         self.is_whole &= self.list.is_whole();
         let to = self.list.len();
-        self.push(Span { from: 0, to });
+        self.push(Segment {
+            span: Span { from: 0, to },
+            bound: u8::MAX,
+        });
+        true
     }
 
-    fn push(&mut self, segment: Span) {
+    fn push(&mut self, segment: Segment) {
         self.is_whole &= self.segments.push(segment).is_ok();
     }
 
@@ -136,29 +153,30 @@ impl Refining<'_> {
     }
 
     // Refines a segment. The answer is whether it can be. Components that lack vertices, or have those of other segments, are no segments.
-    fn refine(&mut self, segment: Span, strong: &mut Strong) -> bool {
-        match self.chosen.greatest_bad(self.list.slice(segment)) {
+    fn refine(&mut self, segment: Segment, strong: &mut Strong) -> bool {
+        match self.chosen.greatest_bad(self.list.slice(segment.span)) {
+            Some(bad) if bad >= segment.bound => false,
             Some(bad) => {
-                let low = self.put_greater_last(segment, bad);
+                let low = self.put_greater_last(segment.span, bad);
                 let ends = strong.sort(self.alloc, &self.chosen, &mut self.list, low);
-                let are_known = strong.is_whole() && ends.is_whole();
-                are_known && self.add_all(low.from, ends.as_slice(), bad)
+                self.add_all(low.from, ends.as_slice(), bad);
+                strong.is_whole() && ends.is_whole()
             }
             None => true,
         }
     }
 
-    // Adds the components that end so far after a place.
-    fn add_all(&mut self, start: usize, ends: &[u32], bad: u8) -> bool {
+    // Adds the components that end so far after a place, unless they are one vertex, which can be left.
+    fn add_all(&mut self, start: usize, ends: &[u32], bound: u8) {
         let mut from = start;
         for end in ends {
             let to = start.saturating_add(*end as usize);
-            if !self.add(Span { from, to }, bad) {
-                return false;
+            let span = Span { from, to };
+            if span.len() > 1 {
+                self.push(Segment { span, bound });
             }
             from = to;
         }
-        true
     }
 
     // Moves the vertices of greater priorities to the end. The answer is where the others stand.
@@ -174,16 +192,5 @@ impl Refining<'_> {
             from: segment.from,
             to,
         }
-    }
-
-    // Adds a component as a segment, unless it is one vertex. The answer is whether the player wins within it.
-    fn add(&mut self, component: Span, bad: u8) -> bool {
-        if self.chosen.is_lost(self.list.slice(component), bad) {
-            return false;
-        }
-        if component.len() > 1 {
-            self.push(component);
-        }
-        true
     }
 }

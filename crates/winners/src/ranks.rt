@@ -1,5 +1,6 @@
-// Ranks, by an order of the vertices: of a priority that is counted the count at a vertex is how many vertices have it up to
-// this one, and zero where the vertex's own priority is greater.
+// Ranks, by an order of what a player wins: of a priority that is counted the count at a vertex is how many vertices have it up to
+// this one, and zero where the vertex's own priority is greater. Before what is ordered so stand vertices that were decided by those before
+// them: to each of these the counts of all others are no less, since in place of zero they have what stands before.
 //
 // Why they fall: let an edge lead from v to t, and q be a priority that is counted and not less than v's. Take the least segment of
 // the order with both. If it was refined by less than q, or by nothing, no vertex of priority q is in it, so the counts of q are the
@@ -18,13 +19,24 @@ use std::alloc::Global;
 pub(crate) struct Counted {
     player: Player,
     greatest: u8,
+    // For how many a vertex of priority 0 counts.
+    weight: u32,
 }
 
 impl Counted {
-    pub(crate) fn of(game: &Game, player: Player) -> Self {
+    pub(crate) fn of(game: &Game, player: Player, weight: u32) -> Self {
         Counted {
             player,
             greatest: greatest(game),
+            weight,
+        }
+    }
+
+    // For how many a vertex counts.
+    fn weight(self, priority: u8) -> u32 {
+        match priority {
+            0 => self.weight,
+            _ => 1,
         }
     }
 
@@ -44,39 +56,71 @@ impl Counted {
         };
         self.width().saturating_sub(below)
     }
+}
 
-    // Where the first counts of the vertex at a place of the order stand.
-    fn span(self, place: usize, count: usize) -> Span {
-        let from = place.saturating_mul(self.width());
-        Span {
-            from,
-            to: from.saturating_add(count),
+/// Which rows the vertices of a list have.
+#[derive(Clone, Copy)]
+pub(crate) enum Rows {
+    /// Those of their numbers.
+    Numbered,
+    /// One after another, from this one on.
+    From(usize),
+}
+
+/// Vertices of a game, in an order.
+#[derive(Clone, Copy)]
+pub(crate) struct Listed<'g> {
+    pub(crate) game: &'g Game,
+    pub(crate) order: &'g [u32],
+    pub(crate) rows: Rows,
+}
+
+impl Listed<'_> {
+    /// How many have priority 0.
+    pub(crate) fn zeros(self) -> u64 {
+        let mut count = 0_u64;
+        for v in self.order {
+            if priority(self.game, *v) == 0 {
+                count = count.saturating_add(1);
+            }
+        }
+        count
+    }
+
+    // The row of the vertex at a place of the order.
+    fn row(self, place: usize, v: u32) -> usize {
+        match self.rows {
+            Rows::Numbered => v as usize,
+            Rows::From(first) => first.saturating_add(place),
         }
     }
 }
 
-/// Ranks of the vertices that a player wins: a count for each priority that is counted, the greatest first.
+/// A row of counts for each vertex: one for each priority that is counted of its winner, the greatest first.
 #[derive(Drop)]
 pub(crate) struct Ranks {
-    counted: Counted,
-    // In the order of the vertices.
+    width: usize,
     counts: Numbers,
 }
 
 impl Ranks {
-    /// Those of a player's vertices, in their order. Of a priority that is not less than the vertex's own the count is of the
-    /// vertices that have it, up to this one; of a lesser one it is zero.
-    pub(crate) fn of(alloc: Global, game: &Game, order: &[u32], counted: Counted) -> Self {
-        let length = order.len().saturating_mul(counted.width());
-        let mut ranks = Ranks {
-            counted,
-            counts: Numbers::filled(alloc, length, 0),
-        };
-        let mut counts = [0_u32; PRIORITIES];
-        for place in 0..order.len() {
-            ranks.add(place, priority(game, order[place]), &mut counts);
+    /// So many rows, for both players of a game.
+    pub(crate) fn of(alloc: Global, rows: usize, game: &Game) -> Self {
+        let width = Counted::of(game, Player::Odd, 1).width();
+        Ranks {
+            width,
+            counts: Numbers::filled(alloc, rows.saturating_mul(width), 0),
         }
-        ranks
+    }
+
+    /// Adds those of a player's vertices, which stand in two lists. Of a priority that is not less than the vertex's own the count is of
+    /// the vertices that have it, up to this one; of a lesser one it is zero, and in the other list that of all of the first.
+    pub(crate) fn add(&mut self, counted: Counted, first: Listed, other: Listed) {
+        let mut counts = [0_u32; PRIORITIES];
+        let none = [0_u32; PRIORITIES];
+        self.add_all(counted, first, &none, &mut counts);
+        let all = counts;
+        self.add_all(counted, other, &all, &mut counts);
     }
 
     /// Whether there was memory for all.
@@ -84,39 +128,48 @@ impl Ranks {
         self.counts.is_whole()
     }
 
-    // The rank of the vertex at a place, after so many of each priority.
-    fn add(&mut self, place: usize, priority: u8, counts: &mut [u32]) {
-        let kept = self.counted.kept(priority).min(counts.len());
+    // The ranks of a list, after so many of each priority. Of lesser priorities they have so many.
+    fn add_all(&mut self, counted: Counted, listed: Listed, least: &[u32], counts: &mut [u32]) {
+        let mut place = 0_usize;
+        for v in listed.order {
+            let row = listed.row(place, *v);
+            self.add_row(counted, row, priority(listed.game, *v), least, counts);
+            place = place.saturating_add(1);
+        }
+    }
+
+    fn add_row(
+        &mut self,
+        counted: Counted,
+        row: usize,
+        priority: u8,
+        least: &[u32],
+        counts: &mut [u32],
+    ) {
+        let kept = counted.kept(priority).min(counts.len());
         let own = kept.saturating_sub(1);
-        if winner_by(priority) != self.counted.player && own < counts.len() {
-            counts[own] = counts[own].saturating_add(1);
+        if winner_by(priority) != counted.player && own < counts.len() {
+            counts[own] = counts[own].saturating_add(counted.weight(priority));
         }
-        let from = self.counted.span(place, 0).from;
+        let from = row.saturating_mul(self.width);
         self.counts.write(from, &counts[..kept]);
+        let lesser = least.get(kept..counted.width()).unwrap_or(&[]);
+        self.counts.write(from.saturating_add(kept), lesser);
     }
 
-    /// Writes the rank of the vertex at a place of the order, as far as there is room.
-    pub(crate) fn put(&self, place: usize, rank: &mut [u32]) {
-        let span = self.counted.span(place, self.counted.width());
-        let counts = self.counts.slice(span);
-        for at in 0..rank.len().min(counts.len()) {
-            rank[at] = counts[at];
+    /// Writes the counts of a row, as far as there are any and there is room.
+    pub(crate) fn put(&self, row: usize, rank: &mut [u32]) {
+        let from = row.saturating_mul(self.width);
+        for at in 0..rank.len().min(self.width) {
+            rank[at] = self.counts.get(from.saturating_add(at));
         }
     }
-}
 
-/// For each vertex where it stands in the order of what its winner wins.
-pub(crate) fn places_of(alloc: Global, vertices: u32, even: &[u32], odd: &[u32]) -> Numbers {
-    let mut places = Numbers::filled(alloc, vertices as usize, 0);
-    enter_all(&mut places, even);
-    enter_all(&mut places, odd);
-    places
-}
-
-fn enter_all(places: &mut Numbers, order: &[u32]) {
-    let mut place = 0_u32;
-    for v in order {
-        places.set(*v as usize, place);
-        place = place.saturating_add(1);
+    /// Adds to the count of priority 0, which is counted of what Odd wins.
+    pub(crate) fn add_to_last(&self, height: u32, rank: &mut [u32]) {
+        let last = self.width.saturating_sub(1);
+        if last < rank.len() {
+            rank[last] = rank[last].saturating_add(height);
+        }
     }
 }

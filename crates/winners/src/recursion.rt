@@ -233,7 +233,7 @@ impl Field<'_> {
 
     // What each wins, if there is memory for it.
     fn winners(&self, won: Regions) -> Option<Winners> {
-        let mut winners = Winners::none(self.alloc);
+        let mut winners = Winners::none(self.alloc, self.arena.game);
         for v in 0..self.arena.vertices() {
             let player = won.player(self.cells.region(v));
             winners.add(self.arena.game, v, player, self.cells.next(v));

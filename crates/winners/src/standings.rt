@@ -52,7 +52,7 @@ impl Standings {
     pub(crate) fn new(alloc: Global, arena: Arena) -> Result<Self, AllocError> {
         let mut standings = Standings {
             list: vec![in alloc; NOBODY; arena.vertices() as usize]?,
-            layers: layers(alloc, arena.greatest())?,
+            layers: layers(alloc, arena)?,
             are_whole: true,
         };
         standings.open_all(arena);
@@ -140,12 +140,14 @@ impl Standings {
     }
 }
 
-fn layers(alloc: Global, greatest: u8) -> Result<Vec<Layer>, AllocError> {
+// One for each priority, with room for all vertices that have it.
+fn layers(alloc: Global, arena: Arena) -> Result<Vec<Layer>, AllocError> {
     let mut layers = Vec::new(alloc);
-    for _ in 0..=usize::from(greatest) {
+    for priority in 0..=arena.greatest() {
+        let count = arena.game.count(u32::from(priority)) as usize;
         layers.push(Layer {
-            open: Vec::new(alloc),
-            calm: Vec::new(alloc),
+            open: Vec::with_capacity(alloc, count)?,
+            calm: Vec::with_capacity(alloc, count)?,
         })?;
     }
     Ok(layers)

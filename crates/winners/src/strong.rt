@@ -81,6 +81,7 @@ impl Strong {
         self.last = UNMET;
         self.waiting.clear();
         self.found.clear();
+        self.found.make_room(part.len());
     }
 
     // The number of a vertex. What is no vertex is in no part.

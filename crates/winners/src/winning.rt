@@ -17,11 +17,12 @@ pub(crate) struct Winners {
 }
 
 impl Winners {
-    /// No vertex yet.
-    pub(crate) fn none(alloc: Global) -> Self {
+    /// No vertex yet, with room for all of a game.
+    pub(crate) fn none(alloc: Global, game: &Game) -> Self {
+        let vertices = game.vertices() as usize;
         Winners {
-            players: Vec::new(alloc),
-            moves: Numbers::none(alloc),
+            players: Vec::with_capacity(alloc, vertices).unwrap_or(Vec::new(alloc)),
+            moves: Numbers::roomy(alloc, vertices),
             is_whole: true,
         }
     }

@@ -1,0 +1,171 @@
+// What is decided before a search: a vertex where its owner can stay for ever, and wins so, and whatever is decided by its successors, as sweeps
+// over all vertices to and fro come to it.
+//
+// What a player wins so stands in a list, each vertex after those to which its player goes on, or to which all its steps lead. So ranks that
+// are counted along the list fall along the moves.
+
+use crate::arena::{opponent, owner, priority, successors, winner_by};
+use crate::cells::NONE;
+use crate::numbers::Numbers;
+use game::graph::Game;
+use game::player::Player;
+use std::alloc::Global;
+
+// Sweeps end where one decides less than this part of the vertices.
+const PART: u32 = 16;
+
+// How often sweeps go to and fro.
+const MOST_ROUNDS: u32 = 4;
+
+/// Who wins a vertex, as far as it is known.
+#[derive(Clone, Copy, PartialEq, Eq)]
+pub(crate) enum Outcome {
+    Open,
+    Even,
+    Odd,
+}
+
+impl Outcome {
+    /// That of what the player wins.
+    pub(crate) fn won_by(player: Player) -> Self {
+        match player {
+            Player::Even => Outcome::Even,
+            Player::Odd => Outcome::Odd,
+        }
+    }
+}
+
+/// What is decided of a game.
+#[derive(Drop)]
+pub(crate) struct Decided<'g> {
+    pub(crate) game: &'g Game,
+    outcomes: Vec<Outcome>,
+    /// Where its owner goes on from a vertex that it wins, or `NONE`.
+    pub(crate) moves: Numbers,
+    // What each player wins, in the order in which it was decided.
+    even: Numbers,
+    odd: Numbers,
+}
+
+impl<'g> Decided<'g> {
+    /// What sweeps decide. `None` for want of memory.
+    pub(crate) fn of(alloc: Global, game: &'g Game) -> Option<Self> {
+        let vertices = game.vertices() as usize;
+        let mut decided = Decided {
+            game,
+            outcomes: vec![in alloc; Outcome::Open; vertices].ok()?,
+            moves: Numbers::filled(alloc, vertices, NONE),
+            even: Numbers::none(alloc),
+            odd: Numbers::none(alloc),
+        };
+        decided.sweep_all();
+        decided.whole()
+    }
+
+    fn whole(self) -> Option<Self> {
+        if self.moves.is_whole() && self.even.is_whole() && self.odd.is_whole() {
+            Some(self)
+        } else {
+            None
+        }
+    }
+
+    fn sweep_all(&mut self) {
+        for _ in 0..MOST_ROUNDS {
+            if !self.sweep_up() || !self.sweep_down() {
+                break;
+            }
+        }
+    }
+
+    // Looks at all vertices. The answer is whether many were decided.
+    fn sweep_up(&mut self) -> bool {
+        let before = self.len();
+        for v in 0..self.game.vertices() {
+            self.look_at(v);
+        }
+        self.are_many_after(before)
+    }
+
+    // The same, the last first.
+    fn sweep_down(&mut self) -> bool {
+        let before = self.len();
+        for v in (0..self.game.vertices()).rev() {
+            self.look_at(v);
+        }
+        self.are_many_after(before)
+    }
+
+    fn are_many_after(&self, before: usize) -> bool {
+        let more = self.len().saturating_sub(before);
+        more > 0 && more >= (self.game.vertices() / PART) as usize
+    }
+
+    /// How many vertices are decided.
+    pub(crate) fn len(&self) -> usize {
+        self.even.len().saturating_add(self.odd.len())
+    }
+
+    pub(crate) fn outcome(&self, v: u32) -> Outcome {
+        self.outcomes
+            .get(v as usize)
+            .copied()
+            .unwrap_or(Outcome::Open)
+    }
+
+    // To what a step leads. Where the play stays at a vertex for ever, its priority decides.
+    fn outcome_of_step(&self, v: u32, t: u32) -> Outcome {
+        if v == t {
+            Outcome::won_by(winner_by(priority(self.game, v)))
+        } else {
+            self.outcome(t)
+        }
+    }
+
+    // Decides a vertex, if its successors do.
+    fn look_at(&mut self, v: u32) {
+        if self.outcome(v) == Outcome::Open {
+            let player = owner(self.game, v);
+            match self.next_of(v, player) {
+                Some(NONE) => self.decide(v, opponent(player), NONE),
+                Some(next) => self.decide(v, player, next),
+                None => {}
+            }
+        }
+    }
+
+    // Where the owner of a vertex goes on and wins, or `NONE` where all its steps are lost. `None` where neither is known.
+    fn next_of(&self, v: u32, player: Player) -> Option<u32> {
+        let mut next = Some(NONE);
+        for t in successors(self.game, v) {
+            let outcome = self.outcome_of_step(v, *t);
+            if outcome == Outcome::won_by(player) {
+                return Some(*t);
+            }
+            if outcome == Outcome::Open {
+                next = None;
+            }
+        }
+        next
+    }
+
+    fn decide(&mut self, v: u32, player: Player, next: u32) {
+        let place = v as usize;
+        if place < self.outcomes.len() {
+            self.outcomes[place] = Outcome::won_by(player);
+        }
+        self.moves.set(place, next);
+        match player {
+            Player::Even => self.even.push(v),
+            Player::Odd => self.odd.push(v),
+        }
+    }
+
+    /// What a player wins, in the order in which it was decided.
+    pub(crate) fn list(&self, player: Player) -> &[u32] {
+        match player {
+            Player::Even => self.even.as_slice(),
+            Player::Odd => self.odd.as_slice(),
+        }
+    }
+}

@@ -1,0 +1,154 @@
+// Winners that were found, and the orders of what both win, by which ranks are counted: of a smaller game where that was searched, unless
+// counts would become too great so.
+
+use crate::guess::Guessed;
+use crate::numbers::Numbers;
+use crate::order::order_of;
+use crate::ranks::{Counted, Listed, Ranks, Rows};
+use crate::smaller::Smaller;
+use crate::winning::Winners;
+use game::graph::Game;
+use game::player::Player;
+use std::alloc::Global;
+use std::thread::{Threads, join};
+
+/// Who wins each vertex of a game, or of what is left of it.
+#[derive(Drop)]
+pub(crate) struct Found<'g> {
+    game: &'g Game,
+    winners: Winners,
+    smaller: Option<Smaller<'g>>,
+    // For how many a vertex of priority 0 counts.
+    weight: u32,
+}
+
+/// What each player wins, in an order by which its ranks are counted. `None` where its moves don't win, or for want of memory.
+#[derive(Drop)]
+pub(crate) struct Orders {
+    even: Option<Numbers>,
+    odd: Option<Numbers>,
+}
+
+impl Orders {
+    /// One after the other.
+    pub(crate) fn of(alloc: Global, found: &Found) -> Self {
+        Orders {
+            even: found.order(alloc, Player::Even),
+            odd: found.order(alloc, Player::Odd),
+        }
+    }
+
+    /// Side by side.
+    pub(crate) fn of_by<R: Threads + Sync>(rt: &R, alloc: Global, found: &Found) -> Self {
+        let (even, odd) = join(
+            rt,
+            || found.order(alloc, Player::Even),
+            || found.order(alloc, Player::Odd),
+        );
+        Orders { even, odd }
+    }
+}
+
+impl<'g> Found<'g> {
+    /// What was found in the game that was searched: the smaller one, where there is one. `None` where nothing was, or for want of memory.
+    pub(crate) fn of(
+        alloc: Global,
+        game: &'g Game,
+        smaller: Option<Smaller<'g>>,
+        winners: Option<Winners>,
+    ) -> Option<Self> {
+        let winners = winners?;
+        let Some(smaller) = smaller else {
+            return Some(Found::of_all(game, winners));
+        };
+        match smaller.weight(&winners) {
+            Some(weight) => Some(Found {
+                game,
+                winners,
+                smaller: Some(smaller),
+                weight,
+            }),
+            None => Some(Found::of_all(game, smaller.whole(alloc, &winners)?)),
+        }
+    }
+
+    fn of_all(game: &'g Game, winners: Winners) -> Self {
+        Found {
+            game,
+            winners,
+            smaller: None,
+            weight: 1,
+        }
+    }
+
+    // The game whose vertices are put in order.
+    fn ordered(&self) -> &Game {
+        match &self.smaller {
+            Some(smaller) => smaller.game(),
+            None => self.game,
+        }
+    }
+
+    fn order(&self, alloc: Global, player: Player) -> Option<Numbers> {
+        order_of(alloc, self.ordered(), &self.winners, player)
+    }
+
+    // What comes before the order of what a player wins.
+    fn decided(&self, player: Player) -> Listed<'_> {
+        match &self.smaller {
+            Some(smaller) => smaller.decided(player),
+            None => Listed {
+                game: self.game,
+                order: &[],
+                rows: Rows::Numbered,
+            },
+        }
+    }
+
+    // How many rows of ranks there are: one for each vertex that is put in order or was decided before.
+    fn rows(&self) -> usize {
+        let ordered = self.ordered().vertices() as usize;
+        let even = self.decided(Player::Even).order.len();
+        let odd = self.decided(Player::Odd).order.len();
+        ordered.saturating_add(even).saturating_add(odd)
+    }
+
+    // Adds the ranks of what a player wins.
+    fn rank(&self, ranks: &mut Ranks, player: Player, order: &Numbers) {
+        let counted = Counted::of(self.game, player, self.weight);
+        let other = Listed {
+            game: self.ordered(),
+            order: order.as_slice(),
+            rows: Rows::Numbered,
+        };
+        ranks.add(counted, self.decided(player), other);
+    }
+
+    /// What is guessed of the whole game, by these orders. `None` where the moves of one player don't win, or for want of memory.
+    pub(crate) fn guessed(self, alloc: Global, orders: Orders) -> Option<Guessed> {
+        let (even, odd) = (orders.even?, orders.odd?);
+        let mut ranks = Ranks::of(alloc, self.rows(), self.game);
+        self.rank(&mut ranks, Player::Even, &even);
+        self.rank(&mut ranks, Player::Odd, &odd);
+        let Found {
+            winners,
+            smaller,
+            ..
+        } = self;
+        let guessed = match smaller {
+            Some(smaller) => Guessed {
+                winners: smaller.whole(alloc, &winners)?,
+                ranks,
+                rows: smaller.rows(alloc),
+                heights: smaller.heights(alloc),
+            },
+            None => Guessed {
+                winners,
+                ranks,
+                rows: Numbers::none(alloc),
+                heights: Numbers::none(alloc),
+            },
+        };
+        guessed.whole()
+    }
+}

@@ -1,0 +1,229 @@
+// A game without its copies and without what is decided before a search.
+//
+// What each player has won stands for one vertex that leads to itself. Ranks of what is decided are counted first, so those of all others are
+// no less. For Even a copy has the rank of its image, since its priority asks for no more. For Odd it stands above that by its height:
+// where a vertex of priority 0 counts for more than the greatest height, there is room for it.
+
+use crate::arena::{opponent, owner, priority, successors};
+use crate::cells::NONE;
+use crate::copies::{EVEN_END, FIRST_KEPT, Images, ODD_END};
+use crate::decided::{Decided, Outcome};
+use crate::numbers::Numbers;
+use crate::ranks::{Listed, Rows};
+use crate::winning::Winners;
+use game::graph::{Game, GameBuilder};
+use game::limits::MOST_VERTICES;
+use game::player::Player;
+use std::alloc::Global;
+
+// At least this part of a game's vertices is decided or seen to be copies at once, or none is left out.
+const PART: u32 = 4;
+
+// A count of evidence is no greater.
+const GREATEST_COUNT: u64 = 16_777_216;
+
+/// What is left of a game.
+#[derive(Drop)]
+pub(crate) struct Smaller<'g> {
+    decided: Decided<'g>,
+    images: Images,
+    game: Game,
+}
+
+// The vertex that stands for what a player has won.
+fn end_of(player: Player) -> u32 {
+    match player {
+        Player::Even => EVEN_END,
+        Player::Odd => ODD_END,
+    }
+}
+
+// Whether enough vertices are decided, or copies at the first look.
+fn are_many(decided: &Decided) -> bool {
+    let game = decided.game;
+    let mut count = decided.len();
+    for v in 0..game.vertices() {
+        let is_open = decided.outcome(v) == Outcome::Open;
+        if is_open && priority(game, v) == 0 && successors(game, v).len() == 1 {
+            count = count.saturating_add(1);
+        }
+    }
+    count >= (game.vertices() / PART) as usize
+}
+
+// Puts the images of a kept vertex's successors into the list, each once and ascending, but for what its owner has no need of: what is lost,
+// and the vertex itself, since it would be decided where the owner won by staying there. The answer is whether there was memory for all.
+fn put_row(decided: &Decided, images: &Images, v: u32, row: &mut Vec<u32>) -> bool {
+    let player = owner(decided.game, v);
+    let (won, lost) = (end_of(player), end_of(opponent(player)));
+    row.clear();
+    let mut is_whole = true;
+    for t in successors(decided.game, v) {
+        let image = images.get(*t);
+        if image == won {
+            row.clear();
+            return row.push(won).is_ok();
+        }
+        if image != lost && *t != v {
+            is_whole &= row.push(image).is_ok();
+        }
+    }
+    if row.is_empty() {
+        is_whole &= row.push(lost).is_ok();
+    }
+    row.sort_unstable();
+    row.dedup();
+    is_whole
+}
+
+// A game of two vertices, each of which leads to itself. `None` for want of memory.
+fn ends(alloc: Global) -> Option<GameBuilder> {
+    let mut builder = GameBuilder::new(alloc);
+    builder.push(Player::Even, 0, &[EVEN_END]).ok()?;
+    builder.push(Player::Odd, 1, &[ODD_END]).ok()?;
+    Some(builder)
+}
+
+// The game of the vertices that are kept. `None` for want of memory.
+fn left(alloc: Global, decided: &Decided, images: &Images) -> Option<Game> {
+    let mut builder = ends(alloc)?;
+    let mut row = Vec::new(alloc);
+    for v in images.kept.as_slice() {
+        if builder.vertices() >= MOST_VERTICES || !put_row(decided, images, *v, &mut row) {
+            return None;
+        }
+        let (player, number) = (owner(decided.game, *v), priority(decided.game, *v));
+        if row.len() > MOST_VERTICES || builder.push(player, number, &row).is_err() {
+            return None;
+        }
+    }
+    builder.finish()
+}
+
+impl<'g> Smaller<'g> {
+    /// What is left of a game, where it is much smaller, and there is memory for it.
+    pub(crate) fn of(alloc: Global, game: &'g Game) -> Option<Self> {
+        let decided = Decided::of(alloc, game)?;
+        if !are_many(&decided) {
+            return None;
+        }
+        let images = Images::of(alloc, &decided)?;
+        let game = left(alloc, &decided, &images)?;
+        Some(Smaller {
+            decided,
+            images,
+            game,
+        })
+    }
+
+    /// The vertices that are left, after two that stand for what each player has won.
+    pub(crate) fn game(&self) -> &Game {
+        &self.game
+    }
+
+    // The vertex of this game that has the winner of a vertex of the whole one.
+    fn image(&self, v: u32) -> u32 {
+        self.images.get(v)
+    }
+
+    /// Who wins each vertex of the whole game, where it is known who wins those of this one.
+    pub(crate) fn whole(&self, alloc: Global, found: &Winners) -> Option<Winners> {
+        let game = self.decided.game;
+        let mut winners = Winners::none(alloc, game);
+        for v in 0..game.vertices() {
+            let player = found.player(self.image(v));
+            winners.add(game, v, player, self.next(v, found));
+        }
+        winners.whole()
+    }
+
+    // Where the owner of a vertex goes on, if it wins.
+    fn next(&self, v: u32, found: &Winners) -> u32 {
+        if self.decided.outcome(v) != Outcome::Open {
+            return self.decided.moves.get(v as usize);
+        }
+        match self.images.link(v).by {
+            NONE => self.way(v, found.next(self.image(v))),
+            by => by,
+        }
+    }
+
+    // The first successor of a kept vertex whose image is the one to which its owner goes on.
+    fn way(&self, v: u32, next: Option<u32>) -> u32 {
+        for t in successors(self.decided.game, v) {
+            if Some(self.image(*t)) == next {
+                return *t;
+            }
+        }
+        NONE
+    }
+
+    /// What is decided for a player, in an order. Its rows come after those of this game's vertices, Even's first.
+    pub(crate) fn decided(&self, player: Player) -> Listed<'_> {
+        let first = match player {
+            Player::Even => 0,
+            Player::Odd => self.decided.list(Player::Even).len(),
+        };
+        Listed {
+            game: self.decided.game,
+            order: self.decided.list(player),
+            rows: Rows::From(first.saturating_add(self.game.vertices() as usize)),
+        }
+    }
+
+    /// For how many a vertex of priority 0 counts: one more than the greatest height. `None` where counts become too great so.
+    pub(crate) fn weight(&self, found: &Winners) -> Option<u32> {
+        let weight = self.greatest_height(found).saturating_add(1);
+        let all = self.lost_zeros(found).saturating_add(1);
+        if all.saturating_mul(u64::from(weight)) <= GREATEST_COUNT {
+            Some(weight)
+        } else {
+            None
+        }
+    }
+
+    // The greatest height of a vertex that Odd wins.
+    fn greatest_height(&self, found: &Winners) -> u32 {
+        let mut greatest = 0;
+        for v in 0..self.decided.game.vertices() {
+            if found.player(self.image(v)) == Player::Odd {
+                greatest = greatest.max(self.images.link(v).height);
+            }
+        }
+        greatest
+    }
+
+    // How many vertices of priority 0 Odd wins that are no copies.
+    fn lost_zeros(&self, found: &Winners) -> u64 {
+        let mut count = self.decided(Player::Odd).zeros();
+        for v in FIRST_KEPT..self.game.vertices() {
+            if found.player(v) == Player::Odd && priority(&self.game, v) == 0 {
+                count = count.saturating_add(1);
+            }
+        }
+        count
+    }
+
+    /// For each vertex of the whole game its row of ranks: that of its image, or of its own if it was decided.
+    pub(crate) fn rows(&self, alloc: Global) -> Numbers {
+        let mut rows = Numbers::copied(alloc, self.images.numbers.as_slice());
+        let mut row = self.game.vertices();
+        for player in [Player::Even, Player::Odd] {
+            for v in self.decided.list(player) {
+                rows.set(*v as usize, row);
+                row = row.saturating_add(1);
+            }
+        }
+        rows
+    }
+
+    /// How far each vertex of the whole game stands above its image.
+    pub(crate) fn heights(&self, alloc: Global) -> Numbers {
+        let vertices = self.decided.game.vertices();
+        let mut heights = Numbers::roomy(alloc, vertices as usize);
+        for v in 0..vertices {
+            heights.push(self.images.link(v).height);
+        }
+        heights
+    }
+}
