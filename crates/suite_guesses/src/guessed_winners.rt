@@ -19,6 +19,9 @@ const PRIORITIES: u8 = 33;
 // A rank has no more counts.
 const COUNTS: usize = 17;
 
+// A count of evidence is no greater.
+const GREATEST_COUNT: u32 = 16_777_216;
+
 // A guess that is tested.
 #[derive(Clone, Copy)]
 struct Tested<'g> {
@@ -88,16 +91,29 @@ impl Tested<'_> {
         true
     }
 
+    // Whether evidence may have the counts of a vertex.
+    fn is_small_at(&self, v: u32) -> bool {
+        let mut rank = [0_u32; COUNTS];
+        self.guessed.put_rank(v, &mut rank);
+        for count in rank {
+            if count > GREATEST_COUNT {
+                return false;
+            }
+        }
+        true
+    }
+
     // Whether the play descends from a vertex, by the winner's move at its own vertices, and else wherever it goes on.
     fn is_good_at(&self, v: u32) -> bool
         requires { v < length self.now.game.now.vertices }
     {
         let successors = self.game.successors(v);
         let owns = self.game.owner(v) == self.guessed.winner(v);
-        match self.guessed.next(v) {
+        let descends = match self.guessed.next(v) {
             Some(next) => owns && successors.contains(&next) && self.descends(v, next),
             None => !owns && self.all_descend(v, successors),
-        }
+        };
+        descends && self.is_small_at(v)
     }
 }
 
@@ -212,6 +228,32 @@ fn copies_are_won_by_whoever_wins_others(rt: HostRuntime) {
     }
 }
 
+// Odd stays at two vertices. Each step leads to the one before and back to where Odd stays, and a way of copies leads to the last step.
+fn steps_and_way(rt: &(impl Abort + AllocGlobal), steps: u32, way: u32) -> Game {
+    let mut rows = Rows::new(rt.alloc());
+    rows.add(rt, Player::Odd, 1, &[1]);
+    rows.add(rt, Player::Odd, 1, &[0]);
+    let mut last = 1_u32;
+    for _ in 0..steps {
+        rows.add(rt, Player::Even, 0, &[last, 0]);
+        last = last.wrapping_add(1);
+    }
+    for _ in 0..way {
+        rows.add(rt, Player::Even, 0, &[last]);
+        last = last.wrapping_add(1);
+    }
+    rows.finish(rt)
+}
+
+// A step counts for more than the way is long. Of 5,000 steps and a way of 5,000 counts would become too great so.
+#[test]
+fn copies_are_counted_above_what_they_are_copies_of(rt: HostRuntime) {
+    for (steps, way) in [(1, 1), (1_000, 1_000), (5_000, 5_000), (2, 100_000)] {
+        let game = steps_and_way(&rt, steps, way);
+        assert_eq!(rt; evens(&rt, &game), Some(0), "{steps} {way}");
+    }
+}
+
 #[test]
 fn threads_guess_what_one_guesses_of_copies(rt: HostRuntime) {
     let game = game_of_copies(&rt, &mut Dice::new(10), 300_000, 6);
@@ -245,11 +287,13 @@ fn large_game(
     rows.finish(rt)
 }
 
-// Threads share a game of 65,536 vertices and more: one whose edges lead far in one way, and one whose edges lead nearby in another.
+// Threads share a game of 65,536 vertices and more: one whose edges lead far in one way, and others in another. Of the last one a third is
+// decided at once.
 #[test]
 fn threads_guess_what_one_guesses(rt: HostRuntime) {
     are_guessed_alike(&rt, 70_000);
     are_guessed_alike(&rt, 1_000);
+    are_guessed_alike(&rt, 10);
 }
 
 fn are_guessed_alike<R: Abort + AllocGlobal + Threads + Sync>(rt: &R, reach: u32)
