@@ -1,3 +1,2 @@
-mod Tables
 mod Asked
 mod Refusals

@@ -21,7 +21,8 @@ use Rattle.invocation.specs.declared.request.Command.TheVariants.{Check, Explain
 use Rattle.invocation.specs.declared.request.Outputs.{Outputs}
 use Rattle.invocation.specs.Command.{IsComplete, IsForSome, IsPlainAlone, IsReportAlone, is_named}
 use Rattle.command_line.specs.CommandLine.{AreOutputs, IsCheck, IsCommand, IsFile, IsFileIfAny, IsNormal, IsNumberIfAny, IsNumberOf, IsNumberOr}
-use Rattle.command_line.specs.CommandLine.{IsReplay, IsSolve, IsTable, IsTableRequest, IsVerify, IsWhy, answer_word, form_by, stands}
+use Rattle.command_table.specs.Table.{IsTable}
+use Rattle.command_line.specs.CommandLine.{IsReplay, IsSolve, IsTableRequest, IsVerify, IsWhy, answer_word, form_by, stands}
 use Rattle.invocation.specs.Names.{AreApart, KeepsNames, even_name, odd_name}
 use Rattle.invocation.specs.Refused.{IfArguments}
 use Rattle.command_line.specs.Refusals.{AsksForNone, HasNoForm, IsNoAnswer, IsUntaken}

@@ -2,7 +2,8 @@
 use Rattle.std.specs.Prelude.{◌≡◌, Bool, true, false, List, [], ◌∷◌, None, Option, Some, codes, option_map, refl}
 use Rattle.clap.specs.Words.{Row, Text, first_of, one_of, subcommand_of, takes}
 use Rattle.clap.proofs.OnLiterals.{clap_on_literals}
-use Rattle.command_line.specs.CommandLine.{Choice, mucheck_app, stands}
+use Rattle.command_table.specs.Table.{Choice, mucheck_app}
+use Rattle.command_line.specs.CommandLine.{stands}
 
 -- what the words name, and what is read of the command's arguments
 abbrev read_of : {X : Type 0} → (List Row → X) → (rules boards answers : Choice) → List Text → Option (Text × X)

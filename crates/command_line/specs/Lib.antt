@@ -1,4 +1,3 @@
 pub mod CommandLine
-pub mod Parsers
 pub mod Refusals
 pub mod Example

@@ -10,7 +10,8 @@ use Rattle.invocation.specs.declared.request.Command.{Command}
 use Rattle.invocation.specs.declared.request.Outputs.{Outputs}
 use Rattle.invocation.specs.Command.{AreAllNamed, AreNamed, AreWithin, IsComplete, IsForSome, IsPlainAlone}
 use Rattle.command_line.specs.CommandLine.{AreFiles, AreOptions, AreOutputs, IsAskedFor, IsCommand, IsFile, IsFileIfAny, IsForm, IsNumberIfAny, IsNumberIn}
-use Rattle.command_line.specs.CommandLine.{IsRead, IsTable, answer_word}
+use Rattle.command_table.specs.Table.{IsTable}
+use Rattle.command_line.specs.CommandLine.{IsRead, answer_word}
 use Rattle.invocation.specs.Inputs.{ReadsItOnce}
 use Rattle.invocation.specs.Names.{KeepsFiles}
 

@@ -4,10 +4,10 @@ ghost use Rattle.std.specs.Prelude.{IfErr};
 ghost use Rattle.invocation.specs.Refused.{IsLineError};
 
 use crate::line::refusal;
-use crate::parser::parser;
 use crate::version::VERSION;
 use clap::Error as ClapError;
 use clap::error::ErrorKind;
+use command_table::parser::parser;
 use invocation::codes::entry_of;
 use requests::error::{ArgumentError, MuError};
 use std::alloc::{AllocError, Global};
@@ -29,7 +29,7 @@ pub fn help_text(alloc: Global, command: Option<&str>) -> Result<String, MuError
 fn help_for<'a>(alloc: Global, words: &'a [&'a str]) -> Result<String, MuError>
     ensures { IfErr result IsLineError }
 {
-    let Ok(parser) = parser(alloc) else {
+    let Ok(parser) = parser(alloc, VERSION) else {
         return Err(MuError::Memory);
     };
     match parser.try_get_matches_from(words) {

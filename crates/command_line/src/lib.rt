@@ -3,5 +3,4 @@
 
 pub mod information;
 pub mod line;
-mod parser;
 pub mod version;

@@ -44,13 +44,14 @@ ghost use Rattle.command_line.specs.Refusals.{
   ReadsNone,
 };
 
-use crate::parser::{
+use crate::version::VERSION;
+use clap::error::ErrorKind;
+use clap::{ArgMatches, Error as ClapError};
+use command_table::parser::{
     BOARD, CODE, COMMAND, EVIDENCE, EVIDENCE_FILES, FORMULA, GAME, GAME_FILE, LIMIT, OTHER, PLAIN,
     PRIORITIES, QUIET, SCHEDULE, SHARDS, STATES, STATS, STRICT, SUMMARY, SYSTEM, WITNESS_FILE,
     WORKERS, parser,
 };
-use clap::error::ErrorKind;
-use clap::{ArgMatches, Error as ClapError};
 use invocation::inputs::read_once;
 use invocation::names::keep_files;
 use invocation::request::{Command, Outputs};
@@ -87,7 +88,7 @@ fn matches_of<'a>(alloc: Global, words: &'a [String]) -> Result<ArgMatches<'a>, 
     ensures refused { IfErr result IsLineError }
     ensures only { IfErr result (λ e. IfArguments e (IsUntaken (map (λ word. string_bytes word) words.now))) }
 {
-    let Ok(parser) = parser(alloc) else {
+    let Ok(parser) = parser(alloc, VERSION) else {
         return Err(MuError::Memory);
     };
     match parser.try_get_matches_from(words) {

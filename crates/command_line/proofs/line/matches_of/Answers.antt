@@ -1,6 +1,6 @@
 use Rattle.clap.specs.Words.{app_of}
 use Rattle.command_line.proofs.Refusals.{is_untaken}
-use Rattle.command_line.proofs.Tables.{table_is_simple}
+use Rattle.command_table.proofs.Tables.{table_is_simple}
 use Rattle.command_line.proofs.line.matches_of.Goals as goal
 
 pub returns-in-Ok-try_get_matches_from-clause-found : goal.returns-in-Ok-try_get_matches_from-clause-found
