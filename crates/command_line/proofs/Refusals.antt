@@ -23,7 +23,6 @@ use Rattle.invocation.specs.Command.{IsComplete, IsForSome, IsPlainAlone, IsRepo
 use Rattle.command_line.specs.CommandLine.{AreOutputs, IsCheck, IsCommand, IsFile, IsFileIfAny, IsNormal, IsNumberIfAny, IsNumberOf, IsNumberOr}
 use Rattle.command_table.specs.Table.{IsTable}
 use Rattle.command_line.specs.CommandLine.{IsReplay, IsSolve, IsTableRequest, IsVerify, IsWhy, answer_word, form_by, stands}
-use Rattle.invocation.specs.Names.{AreApart, KeepsNames, even_name, odd_name}
 use Rattle.invocation.specs.Refused.{IfArguments}
 use Rattle.command_line.specs.Refusals.{AsksForNone, HasNoForm, IsNoAnswer, IsUntaken}
 

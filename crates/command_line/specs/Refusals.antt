@@ -2,8 +2,6 @@
 use Rattle.std.specs.Prelude.{◌≡◌, ◌≢◌, ◌≤◌, ℕ, Bool, true, List, [], Option, IfSome, option_map}
 use Rattle.std.specs.Borrow.{Bor}
 use Rattle.clap.specs.Words.{App, Row, Text, subcommand_of, takes}
-use Rattle.requests.specs.declared.error.MuError.{MuError}
-use Rattle.requests.specs.declared.error.MuError.TheVariants as error
 use Rattle.requests.specs.declared.request.Options.{Options}
 use Rattle.requests.specs.declared.request.ReportForm.{ReportForm}
 use Rattle.invocation.specs.declared.request.Command.{Command}
