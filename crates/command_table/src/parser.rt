@@ -267,7 +267,10 @@ fn with_command<'a>(
 ) -> Result<Parser<'a>, AllocError>
     ensures { IfOk result (λ new. IsOkAnd parser.entry (λ old. IsOkAnd command.entry (λ sub. AddsSubcommand old sub new))) }
 {
-    parser?.subcommand(command?)
+    match (parser, command) {
+        (Ok(parser), Ok(command)) => parser.subcommand(command),
+        _ => Err(AllocError),
+    }
 }
 
 /// The parser with an argument more, for the same reason so.
