@@ -358,15 +358,16 @@ impl Walk {
         }
     }
 
-    // Whether a node has this value without steps, and its steps aren't counted yet.
+    // Whether a node has this value without steps, and more steps than are at hand, or none yet.
     fn is_open(&self, board: &Board, number: u32, state: u32, plain: u64) -> bool {
         if number == NONE || board.plain_value(board.form.real(number), state) != plain {
             return false;
         }
-        if board.form.root(number) == self.part {
-            board.word(number, state) == TOP
+        let word = if board.form.root(number) == self.part {
+            board.word(number, state)
         } else {
-            board.scale.steps(board.value(number, state)) > self.steps
-        }
+            board.value(number, state)
+        };
+        board.scale.steps(word) > self.steps
     }
 }
