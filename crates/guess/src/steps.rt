@@ -27,7 +27,7 @@ struct Walk {
     front: Places,
     next: Places,
     arrivals: Vec<Arrival>,
-    // Whether there was memory for all arrivals.
+    // Whether there was memory for all arrivals, and all steps fit a word.
     is_whole: bool,
     arrived: usize,
     /// For each node those of the component that are over it.
@@ -312,8 +312,9 @@ impl Walk {
         if self.waits(board, place, plain) {
             return;
         }
-        let word = plain.saturating_add(self.steps).saturating_add(1);
-        board.set_word(number, state, word);
+        let steps = self.steps.saturating_add(1);
+        self.is_whole &= board.scale.holds_steps(steps);
+        board.set_word(number, state, plain.saturating_add(steps));
         self.next.push(number, state);
     }
 
