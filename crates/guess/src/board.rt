@@ -3,7 +3,9 @@
 use crate::bits::{Sheet, WORD, bit};
 use crate::edges::{Edges, takes};
 use crate::form::{Form, Side};
+use crate::layout::Layout;
 use crate::numbers::{Numbers, Words};
+use crate::reasons::Reasons;
 use crate::scale::{Scale, TOP, ZERO};
 use crate::stock::Stock;
 use std::alloc::Global;
@@ -43,15 +45,18 @@ pub(crate) struct Board {
     pub(crate) exits: Exits,
     pub(crate) tops: Sheet,
     known: Vec<Known>,
-    words: Vec<Words>,
+    pub(crate) words: Vec<Words>,
     levels: Vec<Numbers>,
     rounds: Vec<Numbers>,
-    // Ranks that are kept place by place: the count of the greater priority, and that of the lesser one.
-    highs: Vec<Numbers>,
-    lows: Vec<Numbers>,
+    /// Ranks that are kept for each node and state, as words.
+    pub(crate) ranks: Vec<Words>,
+    /// Where their counts stand.
+    pub(crate) layout: Option<Layout>,
+    /// By which values Odd goes on, where ranks are looked for.
+    pub(crate) reasons: Option<Reasons>,
     /// The value of each level, one part after another.
     pub(crate) values: Vec<u64>,
-    /// Whether there was memory for all.
+    /// Whether there was memory for all, and all counts fit their words.
     pub(crate) is_whole: bool,
 }
 
@@ -123,8 +128,9 @@ impl Board {
             words: no_words(stock, count),
             levels: no_numbers(stock, count),
             rounds: no_numbers(stock, count),
-            highs: no_numbers(stock, count),
-            lows: no_numbers(stock, count),
+            ranks: no_words(stock, count),
+            layout: None,
+            reasons: None,
             values: Vec::new(stock.alloc),
             is_whole: true,
             form,
@@ -224,30 +230,18 @@ impl Board {
         least
     }
 
-    /// Makes room for the ranks of a node at each state, which are the greatest at first.
-    pub(crate) fn open_ranks(&mut self, alloc: Global, node: u32) {
-        let (place, length) = (node as usize, self.states as usize);
-        if place < self.highs.len() && place < self.lows.len() {
-            self.is_whole &= self.highs[place].refill(alloc, NEVER, length);
-            self.is_whole &= self.lows[place].refill(alloc, NEVER, length);
-        }
+    /// What a binder of this priority asks for where its operand has this value. Where its count fits no word, that is noted.
+    pub(crate) fn asked(&mut self, priority: u8, value: u64) -> u64 {
+        let word = self.scale.asked(priority, value);
+        self.is_whole &= word.is_some();
+        word.unwrap_or(TOP)
     }
 
-    /// The kept rank of a node at a state: the count of the greater priority, and that of the lesser one.
-    pub(crate) fn kept_rank(&self, node: u32, state: u32) -> (u32, u32) {
-        let place = node as usize;
-        if place < self.highs.len() && place < self.lows.len() {
-            (self.highs[place].get(state), self.lows[place].get(state))
-        } else {
-            (NEVER, NEVER)
-        }
-    }
-
-    pub(crate) fn keep_rank(&mut self, node: u32, state: u32, high: u32, low: u32) {
-        let place = node as usize;
-        if place < self.highs.len() && place < self.lows.len() {
-            self.highs[place].set(state, high);
-            self.lows[place].set(state, low);
+    /// The kept rank of a node at a state, as a word.
+    pub(crate) fn kept_rank(&self, node: u32, state: u32) -> u64 {
+        match self.ranks.get(node as usize) {
+            Some(words) => words.get(state),
+            None => ZERO,
         }
     }
 

@@ -3,41 +3,23 @@
 
 use crate::bits::{Sheet, WORD};
 use crate::blocks::Blocks;
-use crate::board::{Known, NEVER, no_words};
+use crate::board::{Known, no_words};
 use crate::form::Shape;
-use crate::layout::Layout;
 use crate::levels::Levels;
 use crate::numbers::Words;
-use crate::order::Order;
 use crate::rounds::{Held, KNOWN};
 use crate::scale::{PRIORITIES, TOP, ZERO};
 use crate::stock::Stock;
 use std::alloc::Global;
 
-// How many blocks there are at most: a rank keeps two counts.
-const MOST_BLOCKS: u32 = 4;
-
-// How many limits there are at most, and how many counts each has for ranks: those of greater limits are less.
+// How many limits there are at most.
 const MOST_TURNS: u32 = 65_535;
-
-const TURN: u32 = 65_536;
-
-/// In which fields kept ranks stand.
-#[derive(Clone, Copy)]
-pub(crate) struct Kept {
-    /// The priority of the first count, or zero where it has no field.
-    pub(crate) high: u8,
-    pub(crate) low: u8,
-    /// Whether the second count is of levels, in which nodes fall by their heights.
-    pub(crate) has_levels: bool,
-}
 
 /// What is known of a component.
 #[derive(Drop)]
 struct Deep {
     part: u32,
     nodes: u32,
-    layout: Layout,
     /// The binders whose values aren't known have priorities below this one.
     end: u8,
     /// The greatest of those priorities.
@@ -51,44 +33,14 @@ struct Deep {
     /// For each binder its values, and the states at which they are found.
     values: Vec<Words>,
     found: Sheet,
-    /// The places whose ranks are kept for good.
-    lost: Sheet,
-}
-
-impl Kept {
-    fn of(blocks: &Blocks) -> Self {
-        let has_levels = blocks.order() == Order::Falling;
-        let low: u32 = if has_levels { 0 } else { 1 };
-        Kept {
-            high: blocks.priority(low.saturating_add(2)),
-            low: blocks.priority(low),
-            has_levels,
-        }
-    }
 }
 
 impl Levels {
-    /// Finds the values of a component, with ranks. The answer is where those stand, and nothing where that takes too long.
-    pub(crate) fn run_deep(&mut self, alloc: Global, part: u32) -> Option<Kept> {
-        let blocks = Blocks::of(&self.board.form, part);
-        match Layout::of(&self.board.form) {
-            Some(layout) if blocks.count() <= MOST_BLOCKS => {
-                if self.run_down(alloc, part, layout) {
-                    Some(Kept::of(&blocks))
-                } else {
-                    None
-                }
-            }
-            _ => None,
-        }
-    }
-
-    // The answer is whether all values were found.
-    fn run_down(&mut self, alloc: Global, part: u32, layout: Layout) -> bool {
+    /// Finds the values of a component. The answer is whether they were found, which may take too long.
+    pub(crate) fn run_deep(&mut self, alloc: Global, part: u32) -> bool {
         let mut stock = Stock::new(alloc);
         self.open_marks(alloc);
-        let mut deep = Deep::new(&mut stock, self, part, layout);
-        deep.open_ranks(self, alloc);
+        let mut deep = Deep::new(&mut stock, self, part);
         let are_found = stock.is_whole() && deep.find_binders(self, alloc);
         self.close_marks(alloc);
         are_found && deep.find_rest(self, alloc)
@@ -96,12 +48,11 @@ impl Levels {
 }
 
 impl Deep {
-    fn new(stock: &mut Stock, levels: &Levels, part: u32, layout: Layout) -> Self {
+    fn new(stock: &mut Stock, levels: &Levels, part: u32) -> Self {
         let (nodes, states) = (levels.board.form.count(), levels.board.states);
         Deep {
             part,
             nodes,
-            layout,
             end: PRIORITIES as u8,
             priority: 0,
             blocks: Blocks::of(&levels.board.form, part),
@@ -110,15 +61,6 @@ impl Deep {
             turn: 0,
             values: no_words(stock, nodes),
             found: Sheet::new(stock, nodes, states),
-            lost: Sheet::new(stock, nodes, states),
-        }
-    }
-
-    fn open_ranks(&self, levels: &mut Levels, alloc: Global) {
-        for number in self.part..self.nodes {
-            if levels.is_real(self.part, number) {
-                levels.board.open_ranks(alloc, number);
-            }
         }
     }
 
@@ -178,22 +120,22 @@ impl Deep {
             levels.run(alloc, self.part, left.order());
             return true;
         }
-        let are_found = levels.run_rounds(alloc, self.part, self.priority);
-        self.end_ranks(levels);
-        are_found
+        levels.run_rounds(alloc, self.part, self.priority)
     }
 
     // Finds the values of the binders of a priority, and of those of the even block below it, by one limit after another. The answer is
-    // whether they were found.
+    // whether they were found: that may take too long, and a count may fit no word.
     fn find(&mut self, levels: &mut Levels, alloc: Global) -> bool {
         self.open(levels, alloc);
         for _ in self.turn..MOST_TURNS {
             self.turn = self.turn.saturating_add(1);
+            if levels.board.scale.asked(self.priority, self.word).is_none() {
+                return false;
+            }
             levels.limit = levels.board.scale.last(self.priority, self.word);
             if !self.solve(levels, alloc) {
                 return false;
             }
-            self.keep_ranks(levels);
             let some = self.take(levels);
             let next = self.next(levels, some);
             if next == TOP {
@@ -234,69 +176,14 @@ impl Deep {
     // Finds who wins by the limit at hand. The answer is whether the rounds came to an end.
     fn solve(&mut self, levels: &mut Levels, alloc: Global) -> bool {
         if self.blocks.count() > 2 {
-            let (blocks, layout) = (self.blocks, self.layout);
-            return levels.run_blocks(alloc, self.part, &blocks, &layout, &mut self.budget);
+            let blocks = self.blocks;
+            return levels.run_blocks(alloc, self.part, &blocks, None, &mut self.budget);
         }
         let held = Held::of(&levels.board.form, self.part, &self.blocks, 1);
         levels.hold(alloc, held);
         levels.run(alloc, self.part, held.order());
         self.budget = self.budget.saturating_sub(levels.size());
         levels.run_sets(alloc, held, &mut self.budget)
-    }
-
-    // Keeps Odd's ranks at the places whose values are above the limit.
-    fn keep_ranks(&self, levels: &mut Levels) {
-        if self.blocks.last() % 2 == 1 {
-            return;
-        }
-        for number in self.part..self.nodes {
-            if levels.is_real(self.part, number) {
-                self.keep_ranks_of(levels, number);
-            }
-        }
-    }
-
-    fn keep_ranks_of(&self, levels: &mut Levels, number: u32) {
-        for word in 0..self.lost.width() {
-            let above = levels.board.above(number, word, levels.limit);
-            let bits = above & !self.lost.word(number, word);
-            self.keep_word(levels, number, word, bits);
-        }
-    }
-
-    fn keep_word(&self, levels: &mut Levels, number: u32, word: u32, mut bits: u64) {
-        for _ in 0..WORD {
-            if bits == 0 {
-                return;
-            }
-            let state = word.wrapping_mul(WORD).wrapping_add(bits.trailing_zeros());
-            bits &= bits.wrapping_sub(1);
-            let (high, low) = self.rank(levels, number, state);
-            levels.board.keep_rank(number, state, high, low);
-        }
-    }
-
-    // Odd's rank at a place, by the limit at hand.
-    fn rank(&self, levels: &Levels, number: u32, state: u32) -> (u32, u32) {
-        let base = MOST_TURNS.saturating_sub(self.turn).saturating_mul(TURN);
-        let is_known = levels.parts.get(number) == KNOWN;
-        if self.blocks.count() <= 2 {
-            let (high, _) = levels.board.kept_rank(number, state);
-            let time = if is_known {
-                0
-            } else {
-                levels.board.round(number, state)
-            };
-            (high, base.saturating_add(time.min(TURN - 1)))
-        } else if is_known {
-            (base, 0)
-        } else {
-            let word = levels.board.word(number, state);
-            let block = self.blocks.count().saturating_sub(3);
-            let time = self.layout.odd.count(word, self.blocks.last());
-            let low = self.layout.odd.count(word, self.blocks.priority(block));
-            (base.saturating_add(time.min(TURN - 1)), low)
-        }
     }
 
     // Notes the values that the limit at hand tells. The answer is whether held binders have some.
@@ -390,23 +277,12 @@ impl Deep {
             self.blocks.priority(block).saturating_add(1)
         };
         for number in self.part..self.nodes {
-            if !self.is_odd() && levels.is_real(self.part, number) {
-                self.keep_lost(levels, number);
-            }
             match self.priority_of(levels, number) {
                 Some(priority) if priority >= end => self.hold(levels, alloc, number),
                 _ => {}
             }
         }
         self.end = end;
-    }
-
-    // The ranks of what is top are kept for good.
-    fn keep_lost(&mut self, levels: &Levels, number: u32) {
-        for word in 0..self.lost.width() {
-            let bits = levels.board.tops.word(number, word);
-            self.lost.set_word(number, word, bits);
-        }
     }
 
     fn hold(&self, levels: &mut Levels, alloc: Global, number: u32) {
@@ -419,37 +295,6 @@ impl Deep {
         for state in 0..levels.board.states {
             let word = self.values[place].get(state);
             levels.board.set_word(number, state, word);
-        }
-    }
-
-    // The second counts of ranks are those of the last levels, but where greater counts of a value are forced alone.
-    fn end_ranks(&self, levels: &mut Levels) {
-        for number in self.part..self.nodes {
-            if levels.is_real(self.part, number) {
-                self.end_ranks_of(levels, number);
-            }
-        }
-    }
-
-    fn end_ranks_of(&self, levels: &mut Levels, number: u32) {
-        for state in 0..levels.board.states {
-            let value = levels.board.plain_value(number, state);
-            if value != TOP {
-                let (high, low) = self.end_rank(levels, number, state, value);
-                levels.board.keep_rank(number, state, high, low);
-            }
-        }
-    }
-
-    fn end_rank(&self, levels: &Levels, number: u32, state: u32, value: u64) -> (u32, u32) {
-        let (high, low) = levels.board.kept_rank(number, state);
-        let has_rest = levels.board.scale.lower(self.end, value) != ZERO;
-        if levels.parts.get(number) >= self.nodes {
-            (high, 0)
-        } else if high == NEVER || has_rest {
-            (high, levels.board.level(number, state))
-        } else {
-            (high, levels.count().saturating_add(low))
         }
     }
 }

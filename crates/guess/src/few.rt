@@ -182,12 +182,15 @@ impl Few {
                     node: link.over,
                     state: place.state,
                 };
+                if board.is_barred(next, place.node) {
+                    continue;
+                }
                 match link.way {
                     Way::Later => self.next.push(next.node, next.state),
                     Way::Back(step) => {
                         carry_back(&mut self.found, sets, board, step, place.state);
                     }
-                    Way::With(other) if !sets.done.has(other, place.state) => {}
+                    Way::With(other) if sets.waits_for(board, next, other) => {}
                     Way::Now | Way::With(_) => try_add_to(&mut self.found, sets, next),
                 }
             }
@@ -213,6 +216,9 @@ fn carry_back(found: &mut Places, sets: &mut Sets, board: &Board, step: Step, st
     for edge in board.back(state) {
         let source = state_of(*edge);
         if !takes(step.mask, *edge) || !sets.is_left(node, source) {
+            continue;
+        }
+        if !board.leads(node, source, state) {
             continue;
         }
         if step.wait == Wait::One || sets.has_all(board, step, source) {

@@ -78,7 +78,8 @@ impl Fields {
 
     /// What a word has in the field of a priority.
     pub(crate) fn count(&self, word: u64, priority: u8) -> u32 {
-        let above = word.checked_div(self.unit(priority)).unwrap_or(0);
+        let place = self.places.get(usize::from(priority)).copied();
+        let above = word.checked_shr(place.unwrap_or(BITS)).unwrap_or(0);
         let count = above & power(self.width).wrapping_sub(1);
         u32::try_from(count).unwrap_or(u32::MAX)
     }

@@ -252,8 +252,11 @@ impl Levels {
     // Values from outside: the first are there at once, others when their turn comes.
     fn enter(&mut self, source: u32) {
         self.sets.clear(source);
-        if self.board.known(source) == Known::Tops {
+        let is_known = !self.board.is_lost_outside(self.part, source);
+        if is_known && self.board.known(source) == Known::Tops {
             enter_tops(&mut self.sets, &self.board.tops, self.order, source);
+        } else if self.board.is_lost_outside(self.part, source) {
+            enter_lost(&mut self.sets, self.order, source)
         } else if self.board.exits == Exits::Marks {
             enter_above(
                 &mut self.sets,
@@ -438,7 +441,9 @@ impl Levels {
                 mask: node.mask,
                 wait,
             }),
-            Shape::And | Shape::Or => self.sets.join_both(number, left, right, wait),
+            Shape::And | Shape::Or => {
+                self.sets.join_both(&self.board, number, left, right, wait);
+            }
             _ => {}
         }
     }
@@ -463,9 +468,12 @@ impl Levels {
                 priority,
                 ..
             } = self.board.form.node(*node);
-            let value = self.board.scale.prog(priority, self.value);
+            if shape != Shape::Binder {
+                continue;
+            }
+            let value = self.board.asked(priority, self.value);
             let [operand, _] = self.board.form.operands(*node);
-            if shape != Shape::Binder || value == self.order.last() {
+            if value == self.order.last() {
                 continue;
             }
             if self.board.exits == Exits::Marks {
@@ -585,6 +593,16 @@ fn enter_tops(sets: &mut Sets, tops: &Sheet, order: Order, source: u32) {
             Order::Falling => bits,
         };
         sets.add(source, word, bits);
+    }
+}
+
+// The same where it has top at each state.
+fn enter_lost(sets: &mut Sets, order: Order, source: u32) {
+    if order == Order::Falling {
+        for word in 0..sets.done.width() {
+            let bits = sets.done.full(word);
+            sets.add(source, word, bits);
+        }
     }
 }
 

@@ -19,6 +19,7 @@ mod numbers;
 mod order;
 mod places;
 pub mod ranks;
+mod reasons;
 mod rounds;
 pub mod scale;
 mod set_rounds;

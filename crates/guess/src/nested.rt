@@ -1,5 +1,5 @@
-// Components of three blocks of binders or more. The binders of all but the lowest are held. Whenever those of a block have lost states, all
-// below is found anew.
+// Components of three blocks of binders or more, and for ranks of fewer. The binders of all but the lowest are held. Whenever those of a
+// block have lost states, all below is found anew.
 
 use crate::bits::{Sheet, WORD, bit};
 use crate::blocks::Blocks;
@@ -28,7 +28,8 @@ struct Nest {
     low: u8,
     inner: Held,
     outers: Vec<Outer>,
-    layout: Layout,
+    /// Where counts stand in words, if these are wanted.
+    layout: Option<Layout>,
     /// Whether all counts fit their fields.
     fits: bool,
     /// Whether there was memory for all blocks.
@@ -46,14 +47,14 @@ impl Outer {
 }
 
 impl Levels {
-    /// Finds who wins in a component, with the words of each node, while what is left of this budget allows. The answer is whether the rounds
-    /// came to an end, and all counts fit.
+    /// Finds who wins in a component, with the words of each node where a layout says how they are, while what is left of this budget allows. The
+    /// answer is whether the rounds came to an end, and all counts fit.
     pub(crate) fn run_blocks(
         &mut self,
         alloc: Global,
         part: u32,
         blocks: &Blocks,
-        layout: &Layout,
+        layout: Option<Layout>,
         budget: &mut u64,
     ) -> bool {
         let mut nest = self.nest(alloc, part, blocks, layout);
@@ -91,15 +92,13 @@ impl Levels {
     }
 
     // Holds the binders of all blocks but the lowest.
-    fn nest(&mut self, alloc: Global, part: u32, blocks: &Blocks, layout: &Layout) -> Nest {
+    fn nest(&mut self, alloc: Global, part: u32, blocks: &Blocks, layout: Option<Layout>) -> Nest {
         let nodes = self.board.form.count();
         let inner = Held::of(&self.board.form, part, blocks, 1);
         self.hold(alloc, inner);
         self.sets.open_given(alloc, nodes, self.board.states);
-        for number in part..nodes {
-            if self.is_real(part, number) && self.parts.get(number) != KNOWN {
-                self.board.make_words(alloc, number);
-            }
+        if layout.is_some() {
+            self.make_words(alloc, part);
         }
         let mut nest = Nest {
             part,
@@ -107,7 +106,7 @@ impl Levels {
             low: blocks.priority(0),
             inner,
             outers: Vec::new(alloc),
-            layout: *layout,
+            layout,
             fits: true,
             is_whole: true,
         };
@@ -116,7 +115,17 @@ impl Levels {
             self.hold(alloc, held);
             nest.push(alloc, held, self.board.states);
         }
+        nest.give(self);
         nest
+    }
+
+    // Makes room for the words of a component.
+    fn make_words(&mut self, alloc: Global, part: u32) {
+        for number in part..self.board.form.count() {
+            if self.is_real(part, number) && self.parts.get(number) != KNOWN {
+                self.board.make_words(alloc, number);
+            }
+        }
     }
 }
 
@@ -186,7 +195,7 @@ impl Nest {
         };
         outer.won.add(number, word, bits);
         let (held, time) = (outer.held, inner_time(outer.round));
-        let mut rest = bits;
+        let mut rest = if self.layout.is_some() { bits } else { 0 };
         for _ in 0..WORD {
             if rest == 0 {
                 return;
@@ -203,7 +212,9 @@ impl Nest {
 
     // A count in the field of a priority.
     fn count(&mut self, is_even: bool, priority: u8, count: u32) -> u64 {
-        let Layout { even, odd } = &self.layout;
+        let Some(Layout { even, odd }) = &self.layout else {
+            return 0;
+        };
         let (unit, fits) = if is_even {
             (even.unit(priority), even.holds(count))
         } else {
@@ -245,11 +256,17 @@ impl Nest {
             let Place { node, state } = *place;
             let bits = bit(state);
             if self.known(at, node, state / WORD) & bits == 0 {
-                levels.board.set_word(node, state, word);
+                self.set_word(levels, node, state, word);
                 if let Some(outer) = self.outers.get_mut(at) {
                     outer.won.add(node, state / WORD, bits);
                 }
             }
+        }
+    }
+
+    fn set_word(&self, levels: &mut Levels, node: u32, state: u32, word: u64) {
+        if self.layout.is_some() {
+            levels.board.set_word(node, state, word);
         }
     }
 
@@ -262,7 +279,7 @@ impl Nest {
         }
     }
 
-    // What is known from outer blocks holds from the beginning on.
+    // What is known from outer blocks holds from the beginning on, and so do zeros.
     fn give(&self, levels: &mut Levels) {
         for number in self.part..self.nodes {
             if levels.is_real(self.part, number) {
@@ -278,7 +295,7 @@ impl Nest {
     }
 
     fn give_word(&self, levels: &mut Levels, number: u32, word: u32) {
-        let (mut even, mut odd) = (0, 0);
+        let (mut even, mut odd) = (0, levels.board.zeros(number, word));
         for outer in &self.outers {
             let won = outer.won.word(number, word);
             if outer.held.is_odd() {
@@ -303,15 +320,27 @@ impl Nest {
         levels.sets.barred.set_word(number, word, barred);
     }
 
-    // The words of the player for whom the rounds of the greatest block aren't counted.
+    // The words of the player for whom the rounds of the greatest block aren't counted, and those of Odd where there are two blocks, or one.
     fn end(&mut self, levels: &mut Levels) {
-        let Some(held) = self.outers.last().map(|outer| outer.held) else {
+        if self.layout.is_none() {
             return;
-        };
+        }
+        let last = self.outers.last().map(|outer| outer.held);
         for number in self.part..self.nodes {
-            if levels.is_real(self.part, number) {
-                self.end_node(levels, held, number);
+            match last {
+                _ if !levels.is_real(self.part, number) => {}
+                Some(held) => self.end_node(levels, held, number),
+                None => self.end_odd(levels, number),
             }
+        }
+    }
+
+    // Odd's words where there are two blocks, or one: rounds or levels.
+    fn end_odd(&mut self, levels: &mut Levels, number: u32) {
+        let at = if self.low % 2 == 0 { 0 } else { 1 };
+        for state in 0..levels.board.states {
+            let word = self.base(levels, at, number, state);
+            levels.board.set_word(number, state, word);
         }
     }
 

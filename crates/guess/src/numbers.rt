@@ -105,6 +105,10 @@ impl Words {
         }
     }
 
+    pub(crate) fn is_empty(&self) -> bool {
+        self.items.is_empty()
+    }
+
     /// Makes all words this one, of which there are so many from now on. The answer is whether there was memory for them.
     pub(crate) fn refill(&mut self, alloc: Global, word: u64, length: usize) -> bool {
         let mut stock = Stock::new(alloc);

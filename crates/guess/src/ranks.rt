@@ -113,7 +113,7 @@ fn solve(alloc: Global, levels: &mut Levels, layout: &Layout, root: u32) -> Opti
             true
         }
         2 => levels.run_two(alloc, held),
-        _ => levels.run_blocks(alloc, root, &blocks, layout, &mut budget),
+        _ => levels.run_blocks(alloc, root, &blocks, Some(*layout), &mut budget),
     };
     let (times, ends) = (levels.most_time(), levels.count());
     let fits = layout.even.holds(times.max(ends)) && layout.odd.holds(times.max(ends));

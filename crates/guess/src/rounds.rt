@@ -237,6 +237,7 @@ impl Levels {
         }
         for number in held.part..self.board.form.count() {
             if self.parts.get(number) == held.held {
+                self.board.keep_zeros(number);
                 self.board.keep_node(number, outer_time(round));
             } else if self.is_below(held, number) {
                 self.board.keep_node(number, inner_time(round));
@@ -253,7 +254,7 @@ impl Board {
         let mut changed = false;
         for state in 0..self.states {
             let value = self.value(operand, state);
-            let word = self.scale.prog(priority, value);
+            let word = self.asked(priority, value);
             if self.value(number, state) != word {
                 self.set_word(number, state, word);
                 changed = true;
@@ -276,6 +277,15 @@ impl Board {
         for state in 0..self.states {
             if self.round(number, state) == NEVER {
                 self.set_round(number, state, rest);
+            }
+        }
+    }
+
+    // Gives the least time to the states at which a binder has zero: its variables are no more than steps away from the end.
+    fn keep_zeros(&mut self, number: u32) {
+        for state in 0..self.states {
+            if self.value(number, state) == ZERO && self.round(number, state) == NEVER {
+                self.set_round(number, state, 0);
             }
         }
     }

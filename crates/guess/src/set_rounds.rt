@@ -129,7 +129,8 @@ impl Board {
             let time = self.round(node, state);
             if time != NEVER {
                 let word = self.scale.count(held.priority, time / 2);
-                self.set_word(node, state, word);
+                self.is_whole &= word.is_some();
+                self.set_word(node, state, word.unwrap_or(TOP));
             }
         }
     }

@@ -5,6 +5,7 @@ use crate::board::{Board, Exits, no_numbers};
 use crate::edges::{state_of, takes};
 use crate::numbers::Numbers;
 use crate::order::Wait;
+use crate::places::Place;
 use crate::stock::Stock;
 use std::alloc::Global;
 
@@ -219,21 +220,34 @@ impl Sets {
     }
 
     /// Carries the states of both children on to a node.
-    pub(crate) fn join_both(&mut self, node: u32, left: u32, right: u32, wait: Wait) {
-        self.join(node, left, right, wait);
-        self.join(node, right, left, wait);
+    pub(crate) fn join_both(
+        &mut self,
+        board: &Board,
+        node: u32,
+        left: u32,
+        right: u32,
+        wait: Wait,
+    ) {
+        self.join(board, node, left, right, wait);
+        self.join(board, node, right, left, wait);
+    }
+
+    /// Whether a node that waits for both children still waits for this one.
+    pub(crate) fn waits_for(&self, board: &Board, place: Place, child: u32) -> bool {
+        !self.done.has(child, place.state) && !board.is_barred(place, child)
     }
 
     // Carries a child's states on to a node that waits for one child or for both.
-    fn join(&mut self, node: u32, child: u32, other: u32, wait: Wait) {
+    fn join(&mut self, board: &Board, node: u32, child: u32, other: u32, wait: Wait) {
         let mut from = 0;
         for _ in 0..=self.done.width() {
             let Some(word) = self.fronts.next(child, from) else {
                 return;
             };
-            let mut bits = self.fronts.word(child, word) & self.left(node, word);
+            let barred = board.barred(node, child, word);
+            let mut bits = self.fronts.word(child, word) & self.left(node, word) & !barred;
             if wait == Wait::Both {
-                bits &= self.done.word(other, word);
+                bits &= self.done.word(other, word) | board.barred(node, other, word);
             }
             if bits != 0 {
                 self.add(node, word, bits);
@@ -291,6 +305,9 @@ impl Sets {
             if !takes(step.mask, *edge) || !self.is_left(step.node, source) {
                 continue;
             }
+            if !board.leads(step.node, source, state) {
+                continue;
+            }
             if step.wait == Wait::One || self.has_all(board, step, source) {
                 self.add_state(step.node, source);
             }
@@ -305,7 +322,9 @@ impl Sets {
         let first = cursors.get(state);
         let mut passed = first;
         for edge in board.forth.row_from(state, first) {
-            if takes(step.mask, *edge) && !self.done.has(step.operand, state_of(*edge)) {
+            let target = state_of(*edge);
+            let is_open = takes(step.mask, *edge) && !self.done.has(step.operand, target);
+            if is_open && board.leads(step.node, state, target) {
                 cursors.set(state, passed);
                 return false;
             }
@@ -347,7 +366,9 @@ impl Sets {
             return self.has_all(board, step, state);
         }
         for edge in board.forth.row(state) {
-            if takes(step.mask, *edge) && self.fronts.has(step.operand, state_of(*edge)) {
+            let target = state_of(*edge);
+            let is_there = takes(step.mask, *edge) && self.fronts.has(step.operand, target);
+            if is_there && board.leads(step.node, state, target) {
                 return true;
             }
         }

@@ -24,7 +24,8 @@ impl Board {
     pub(crate) fn lift_words(&mut self, number: u32, node: Node, left: u32, right: u32) {
         for state in 0..self.states {
             let word = self.lifted(node, left, right, state);
-            self.set_word(number, state, word);
+            let asked = self.asked(node.priority, word);
+            self.set_word(number, state, asked);
         }
     }
 
@@ -95,8 +96,9 @@ impl Board {
         false
     }
 
+    // The value of the child that the owner goes on to.
     fn lifted(&self, node: Node, left: u32, right: u32, state: u32) -> u64 {
-        let word = match node.shape {
+        match node.shape {
             Shape::True => ZERO,
             Shape::False => TOP,
             Shape::And => self.value(left, state).max(self.value(right, state)),
@@ -104,8 +106,7 @@ impl Board {
             Shape::Dia => self.least(node, left, state),
             Shape::Box => self.greatest(node, left, state),
             Shape::Binder | Shape::Variable => self.value(left, state),
-        };
-        self.scale.prog(node.priority, word)
+        }
     }
 
     fn least(&self, node: Node, operand: u32, state: u32) -> u64 {

@@ -27,7 +27,7 @@ struct Walk {
     front: Places,
     next: Places,
     arrivals: Vec<Arrival>,
-    // Whether there was memory for all arrivals.
+    // Whether there was memory for all arrivals, and all steps fit a word.
     is_whole: bool,
     arrived: usize,
     /// For each node those of the component that are over it.
@@ -312,8 +312,9 @@ impl Walk {
         if self.waits(board, place, plain) {
             return;
         }
-        let word = plain.saturating_add(self.steps).saturating_add(1);
-        board.set_word(number, state, word);
+        let steps = self.steps.saturating_add(1);
+        self.is_whole &= board.scale.holds_steps(steps);
+        board.set_word(number, state, plain.saturating_add(steps));
         self.next.push(number, state);
     }
 
@@ -358,15 +359,16 @@ impl Walk {
         }
     }
 
-    // Whether a node has this value without steps, and its steps aren't counted yet.
+    // Whether a node has this value without steps, and more steps than are at hand, or none yet.
     fn is_open(&self, board: &Board, number: u32, state: u32, plain: u64) -> bool {
         if number == NONE || board.plain_value(board.form.real(number), state) != plain {
             return false;
         }
-        if board.form.root(number) == self.part {
-            board.word(number, state) == TOP
+        let word = if board.form.root(number) == self.part {
+            board.word(number, state)
         } else {
-            board.scale.steps(board.value(number, state)) > self.steps
-        }
+            board.value(number, state)
+        };
+        board.scale.steps(word) > self.steps
     }
 }

@@ -1,12 +1,12 @@
 // The guess of a whole table, component by component of the nodes' graph.
 
 use crate::board::{Board, Exits};
-use crate::deep::Kept;
 use crate::edges::{Edges, Kinds, fits, state_of, takes};
 use crate::form::{Form, NONE, Node, Shape, Side};
 use crate::levels::Levels;
 use crate::numbers::Numbers;
 use crate::order::Order;
+use crate::reasons::{Kept, next_priority};
 use crate::scale::{PRIORITIES, Scale, ZERO};
 use crate::stock::Stock;
 use game::build::label_sets;
@@ -22,14 +22,16 @@ enum Falls {
     Times(u8),
     /// Times, and heights where they are the same.
     Both(u8),
-    /// Two counts, which are kept for each node and state.
+    /// Counts in words, which are kept for each node and state.
     Kept(Kept),
+    /// Nothing yet.
+    Nothing,
 }
 
-/// What falls along edges, the first count first.
+/// What falls along edges: a word that is kept or a count, and a height.
 #[derive(Clone, Copy)]
 struct Rank {
-    high: u32,
+    word: u64,
     low: u32,
     height: u32,
 }
@@ -199,24 +201,48 @@ fn solve(alloc: Global, levels: &mut Levels, root: u32) -> Option<Component> {
             levels.run(alloc, root, Order::Falling);
             Falls::Times(greatest)
         }
-        _ if is_nested(&levels.board.form, root, binders) => match levels.run_deep(alloc, root) {
-            Some(kept) => Falls::Kept(kept),
-            None => return None,
-        },
+        _ if is_nested(&levels.board.form, root, binders) => {
+            if !levels.run_deep(alloc, root) {
+                return None;
+            }
+            Falls::Nothing
+        }
         _ if !levels.run_rounds(alloc, root, greatest) => return None,
         _ if greatest % 2 == 1 => Falls::Times(greatest - 1),
         _ => Falls::Both(greatest),
     };
-    if levels.board.form.side == Side::Dual && binders.nodes > 1 {
-        levels.board.count_steps(alloc, root);
-    }
-    Some(Component {
+    let part = Component {
         root,
         end: binders.end,
         nodes: binders.nodes,
         falls,
         turns: binders.turns,
-    })
+    };
+    ranked(alloc, levels, part)
+}
+
+// A component with what falls along its edges. In the dual steps are counted first: where its ranks don't fall with them, others are found.
+fn ranked(alloc: Global, levels: &mut Levels, part: Component) -> Option<Component> {
+    let has_steps = levels.board.form.side == Side::Dual && part.is_cyclic();
+    if has_steps {
+        levels.board.count_steps(alloc, part.root);
+    }
+    let are_ranks = match part.falls {
+        Falls::Nothing => false,
+        Falls::Heights => true,
+        _ => !has_steps || part.has_reasons(&levels.board),
+    };
+    if are_ranks {
+        return Some(part);
+    }
+    match (levels.run_reasons(alloc, part.root), part.falls) {
+        (Some(kept), _) => Some(Component {
+            falls: Falls::Kept(kept),
+            ..part
+        }),
+        (None, Falls::Nothing) => None,
+        _ => Some(part),
+    }
 }
 
 // Finds the values of all components bottom up, up to the first that takes too long. The answer is whether there was memory for them.
@@ -274,6 +300,110 @@ impl Component {
         self.nodes > 1
     }
 
+    // The rank of a node at a state.
+    fn rank(self, board: &Board, number: u32, state: u32) -> Rank {
+        let real = board.form.real(number);
+        let height = board.form.height(number);
+        match self.falls {
+            Falls::Heights => Rank::of(0, height),
+            Falls::Times(priority) if board.form.node(real).priority > priority => {
+                Rank::of(height, 0)
+            }
+            Falls::Times(_) => Rank::of(self.time(board.level(real, state), height), 0),
+            Falls::Both(_) => Rank::of(board.round(real, state), height),
+            Falls::Kept(_) => Rank {
+                word: board.kept_rank(real, state),
+                low: 0,
+                height,
+            },
+            Falls::Nothing => Rank::of(0, height),
+        }
+    }
+
+    // Whether a place has its reasons: along all edges for Even, along one for Odd.
+    fn has_reasons_at(self, board: &Board, number: u32, state: u32) -> bool {
+        let node = board.form.node(number);
+        match node.shape {
+            _ if board.value(number, state) == ZERO => true,
+            Shape::And => {
+                self.has_reason(board, number, state, node.left, state)
+                    || self.has_reason(board, number, state, node.right, state)
+            }
+            Shape::Box => self.has_step(board, number, node, state),
+            Shape::Dia => self.are_steps(board, number, node, state),
+            _ => {
+                self.falls_to(board, number, state, node.left, state)
+                    && self.falls_to(board, number, state, node.right, state)
+            }
+        }
+    }
+
+    // Whether a modality of Odd's has a reason, or has no step and needs none.
+    fn has_step(self, board: &Board, number: u32, node: Node, state: u32) -> bool {
+        let mut is_stuck = true;
+        for edge in board.forth.row(state) {
+            if takes(node.mask, *edge) {
+                is_stuck = false;
+                if self.has_reason(board, number, state, node.left, state_of(*edge)) {
+                    return true;
+                }
+            }
+        }
+        is_stuck
+    }
+
+    // Whether ranks fall along all steps of a modality.
+    fn are_steps(self, board: &Board, number: u32, node: Node, state: u32) -> bool {
+        for edge in board.forth.row(state) {
+            let is_taken = takes(node.mask, *edge);
+            if is_taken && !self.falls_to(board, number, state, node.left, state_of(*edge)) {
+                return false;
+            }
+        }
+        true
+    }
+
+    // Whether a child asks for the value of a place, and ranks fall to it.
+    fn has_reason(self, board: &Board, number: u32, state: u32, child: u32, target: u32) -> bool {
+        let priority = board.form.node(number).priority;
+        let asked = board.scale.prog(priority, board.value(child, target));
+        asked >= board.value(number, state) && self.falls_to(board, number, state, child, target)
+    }
+
+    // Whether the count of ranks falls to a child where it has to, and doesn't rise. What is zero or outside is below all else.
+    fn falls_to(self, board: &Board, number: u32, state: u32, child: u32, target: u32) -> bool {
+        let (Falls::Times(count) | Falls::Both(count)) = self.falls else {
+            return true;
+        };
+        let priority = board.form.node(number).priority;
+        let is_outside = board.form.root(child) != self.root;
+        if is_outside || priority > count || board.value(child, target) == ZERO {
+            return true;
+        }
+        let next = self.rank(board, child, target).low;
+        let rank = self.rank(board, number, state).low;
+        next < rank || (next == rank && priority % 2 == 1)
+    }
+
+    // Whether each place has its reasons.
+    fn has_reasons(self, board: &Board) -> bool {
+        for number in self.root..self.end {
+            if board.form.root(number) == self.root && !self.has_reasons_of(board, number) {
+                return false;
+            }
+        }
+        true
+    }
+
+    fn has_reasons_of(self, board: &Board, number: u32) -> bool {
+        for state in 0..board.states {
+            if !self.has_reasons_at(board, number, state) {
+                return false;
+            }
+        }
+        true
+    }
+
     // When a node is reached in a level.
     fn time(self, level: u32, height: u32) -> u32 {
         level.saturating_mul(self.turns).saturating_add(height)
@@ -283,20 +413,20 @@ impl Component {
 impl Rank {
     fn of(low: u32, height: u32) -> Self {
         Rank {
-            high: 0,
+            word: 0,
             low,
             height,
         }
     }
 
     fn is_below(self, other: Self) -> bool {
-        (self.high, self.low, self.height) < (other.high, other.low, other.height)
+        (self.word, self.low, self.height) < (other.word, other.low, other.height)
     }
 }
 
 impl<'a> Whole<'a> {
     /// Guesses the least progress table of the game of a system and a normal form. It stops at the first component that takes
-    /// too long. There is nothing to guess where measures don't fit a word.
+    /// too long. There is no guess where a count fits no word.
     ///
     /// # Errors
     /// Want of memory, and nothing else.
@@ -313,16 +443,14 @@ impl<'a> Whole<'a> {
     }
 
     fn on(alloc: Global, lts: &'a Lts, normal: &Normal, side: Side) -> Option<Self> {
-        match Scale::of(&vertices(lts, normal, side)) {
-            Some(scale) => match levels_of(alloc, lts, normal, side, scale, Exits::Values) {
-                Some(levels) => Whole::solved(alloc, lts, levels),
-                None => None,
-            },
+        let scale = Scale::of(&vertices(lts, normal, side));
+        match levels_of(alloc, lts, normal, side, scale, Exits::Values) {
+            Some(levels) => Whole::solved(alloc, lts, levels),
             None => None,
         }
     }
 
-    // What is found by these levels. There is nothing for want of memory.
+    // What is found by these levels. There is nothing for want of memory, or where a count fits no word.
     fn solved(alloc: Global, lts: &'a Lts, levels: Levels) -> Option<Self> {
         let mut levels = levels;
         let mut parts = Vec::new(alloc);
@@ -401,25 +529,7 @@ impl<'a> Whole<'a> {
 
     // The rank of a node at a state.
     fn rank(&self, part: Component, number: u32, state: u32) -> Rank {
-        let real = self.board.form.real(number);
-        let height = self.board.form.height(number);
-        match part.falls {
-            Falls::Heights => Rank::of(0, height),
-            Falls::Times(priority) if self.board.form.node(real).priority > priority => {
-                Rank::of(height, 0)
-            }
-            Falls::Times(_) => Rank::of(part.time(self.board.level(real, state), height), 0),
-            Falls::Both(_) => Rank::of(self.board.round(real, state), height),
-            Falls::Kept(kept) => {
-                let (high, low) = self.board.kept_rank(real, state);
-                let rank = if kept.has_levels {
-                    Rank::of(part.time(low, height), 0)
-                } else {
-                    Rank::of(low, height)
-                };
-                Rank { high, ..rank }
-            }
-        }
+        part.rank(&self.board, number, state)
     }
 
     // Whether Odd may go on from a position to this child: its value asks for that of the position, and ranks fall inside a component, but for
@@ -509,18 +619,36 @@ impl<'a> Whole<'a> {
 
     /// Writes the rank at a position.
     pub fn rank_into(&self, at: Position, rank: &mut [u32]) {
-        let Rank { high, low, height } = self.rank(at.part, at.number, at.state);
+        let Rank { word, low, height } = self.rank(at.part, at.number, at.state);
         rank.fill(0);
-        add_count(rank, 0, height);
         match at.part.falls {
-            Falls::Heights => {}
-            Falls::Times(priority) | Falls::Both(priority) => add_count(rank, priority, low),
-            Falls::Kept(kept) => {
-                add_count(rank, kept.low, low);
-                if kept.high > 0 {
-                    add_count(rank, kept.high, high);
-                }
+            Falls::Kept(kept) => self.kept_into(at.part, kept, word, height, rank),
+            Falls::Times(priority) | Falls::Both(priority) => {
+                add_count(rank, 0, height);
+                add_count(rank, priority, low)
             }
+            Falls::Heights | Falls::Nothing => add_count(rank, 0, height),
+        }
+    }
+
+    // Writes the counts of a kept rank. Levels are times, in which nodes fall by their heights.
+    fn kept_into(&self, part: Component, kept: Kept, word: u64, height: u32, rank: &mut [u32]) {
+        let mut priorities = kept.priorities;
+        for _ in 0..PRIORITIES {
+            let (Some(priority), Some(layout)) = (next_priority(priorities), &self.board.layout)
+            else {
+                break;
+            };
+            priorities &= priorities.wrapping_sub(1);
+            let count = layout.odd.count(word, priority);
+            if kept.leveled == Some(priority) {
+                add_count(rank, priority, part.time(count, height));
+            } else {
+                add_count(rank, priority, count);
+            }
+        }
+        if kept.leveled.is_none() {
+            add_count(rank, 0, height);
         }
     }
 }

@@ -31,22 +31,31 @@ impl Levels {
         let is_one = self.order.wait(node.shape) == Wait::One;
         let [left, right] = self.board.form.operands(place.node);
         match node.shape {
-            Shape::Dia | Shape::Box if is_one => self.is_before_one(place.state, node, turn),
-            Shape::Dia | Shape::Box => self.are_before(place.state, node, turn),
-            _ if is_one => {
-                self.is_before(left, place.state, turn) || self.is_before(right, place.state, turn)
-            }
-            _ => {
-                self.is_before(left, place.state, turn) && self.is_before(right, place.state, turn)
-            }
+            Shape::Dia | Shape::Box if is_one => self.is_before_one(place, node, turn),
+            Shape::Dia | Shape::Box => self.are_before(place, node, turn),
+            _ if is_one => self.has_before(place, left, turn)
+                || self.has_before(place, right, turn),
+            _ => self.waits_for_none(place, left, turn) && self.waits_for_none(place, right, turn),
         }
     }
 
+    // Whether a child that a place may rest on is final, and was before a turn.
+    fn has_before(&self, place: Place, child: u32, turn: Option<Turn>) -> bool {
+        self.is_before(child, place.state, turn) && !self.board.is_barred(place, child)
+    }
+
+    // Whether a child is, or the place doesn't wait for it.
+    fn waits_for_none(&self, place: Place, child: u32, turn: Option<Turn>) -> bool {
+        self.is_before(child, place.state, turn) || self.board.is_barred(place, child)
+    }
+
     // Whether the child of a modality is final, and was before a turn, after one of its edges.
-    fn is_before_one(&self, state: u32, node: Node, turn: Option<Turn>) -> bool {
+    fn is_before_one(&self, place: Place, node: Node, turn: Option<Turn>) -> bool {
         let child = self.board.form.real(node.left);
-        for edge in self.board.forth.row(state) {
-            if takes(node.mask, *edge) && self.is_before(child, state_of(*edge), turn) {
+        for edge in self.board.forth.row(place.state) {
+            let target = state_of(*edge);
+            let is_there = takes(node.mask, *edge) && self.is_before(child, target, turn);
+            if is_there && self.board.leads(place.node, place.state, target) {
                 return true;
             }
         }
@@ -54,10 +63,12 @@ impl Levels {
     }
 
     // The same after all of them.
-    fn are_before(&self, state: u32, node: Node, turn: Option<Turn>) -> bool {
+    fn are_before(&self, place: Place, node: Node, turn: Option<Turn>) -> bool {
         let child = self.board.form.real(node.left);
-        for edge in self.board.forth.row(state) {
-            if takes(node.mask, *edge) && !self.is_before(child, state_of(*edge), turn) {
+        for edge in self.board.forth.row(place.state) {
+            let target = state_of(*edge);
+            let is_open = takes(node.mask, *edge) && !self.is_before(child, target, turn);
+            if is_open && self.board.leads(place.node, place.state, target) {
                 return false;
             }
         }

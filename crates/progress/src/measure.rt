@@ -1,7 +1,8 @@
 // Measures.
 
 ghost use Rattle.std.specs.Prelude.{◌≡◌, ◌≤◌, ◌↔◌, ◌++◌, ◌-◌, IsTrue, length, replicate};
-ghost use Rattle.std.specs.Ordering.{is_lt};
+ghost use Rattle.std.specs.Cmp.Lexicographic.{slice_cmp};
+ghost use Rattle.std.specs.Ordering.{is_lt, nat_cmp};
 ghost use Rattle.progress.specs.Measure.{Counts, IsBelow, Measure, Top, measure_cmp};
 ghost use Rattle.progress.specs.View.{counts_of, measure_of};
 
@@ -112,7 +113,23 @@ pub(crate) fn compare(top: bool, counts: &[u32], other_top: bool, other_counts: 
         (true, true) => Ordering::Equal,
         (true, false) => Ordering::Greater,
         (false, true) => Ordering::Less,
-        (false, false) => counts.cmp(other_counts),
+        (false, false) => compare_counts(counts, other_counts),
+    }
+}
+
+/// Compares lists of counts. Mostly the first counts differ, or there are no others: then nothing else is called.
+pub(crate) fn compare_counts(counts: &[u32], others: &[u32]) -> Ordering
+    ensures { result ≡ slice_cmp nat_cmp counts.now others.now }
+{
+    match (counts.split_first(), others.split_first()) {
+        (None, None) => Ordering::Equal,
+        (None, Some(_)) => Ordering::Less,
+        (Some(_), None) => Ordering::Greater,
+        (Some((first, rest)), Some((other, more))) => match first.cmp(other) {
+            Ordering::Equal if rest.is_empty() && more.is_empty() => Ordering::Equal,
+            Ordering::Equal => rest.cmp(more),
+            order => order,
+        },
     }
 }
 

@@ -8,7 +8,7 @@ ghost use Rattle.progress.specs.Settling.{IsStill};
 ghost use Rattle.std.specs.List.{AllByRecursion};
 ghost use Rattle.progress.specs.View.{ArePut, HasWidth, ReachesAt, Rows, is_top_of, measure_of};
 
-use crate::measure::{COMPONENTS, Measure, compare};
+use crate::measure::{COMPONENTS, Measure, compare, compare_counts};
 use crate::progs::{is_better, prog_of};
 use game::graph::Game;
 use game::limits::MOST_VERTICES;
@@ -143,7 +143,7 @@ impl Rows {
             return false;
         }
         let kept = self.width.saturating_sub(priority as usize / 2);
-        let order = self.counts(next)[..kept].cmp(&self.counts(v)[..kept]);
+        let order = compare_counts(&self.counts(next)[..kept], &self.counts(v)[..kept]);
         if priority % 2 == 0 {
             order.is_le()
         } else {
@@ -258,7 +258,7 @@ fn is_at_most_kept(own: &[u32], counts: &[u32], kept: usize) -> bool
     requires kept { kept ≤ length counts.now }
     ensures { IsTrue result ↔ IsAtMost (Counts own.now) (Counts (take kept counts.now ++ replicate (length counts.now - kept) 0)) }
 {
-    match own[..kept].cmp(&counts[..kept]) {
+    match compare_counts(&own[..kept], &counts[..kept]) {
         Ordering::Less => true,
         Ordering::Equal => are_zeros(&own[kept..]),
         Ordering::Greater => false,

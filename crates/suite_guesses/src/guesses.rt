@@ -31,7 +31,7 @@ use std::thread::Threads;
 const LABELS: [&str; 3] = ["a", "b", "c"];
 
 // Variables by the depth of their binders.
-pub(crate) const VARIABLES: [&str; 4] = ["W", "X", "Y", "Z"];
+const VARIABLES: [&str; 4] = ["W", "X", "Y", "Z"];
 
 // How many systems and formulas there are, and for how many of them at least nothing is left to lift.
 const QUESTIONS: u32 = 40;

@@ -10,7 +10,7 @@ returns-then-priority-eq0 c = λ g wide.
     even_reaches_is g c.args.priority c.saturating_sub-kept.result c.self.inside.width c.counts.result.now c.counts-2.result.now next own
     (counts_are next c.is_top-2.result c.counts.result.now c.is_top-2.ensures c.if-is_top-2.false c.counts.ensures.value)
     (counts_are own c.is_top.result c.counts-2.result.now c.is_top.ensures c.if-is_top.false c.counts-2.ensures.value)
-    c.saturating_sub-kept.ensures (wide ∙ sym width) c.if-priority-eq0.true c.is_le.result c.cmp-order.result c.is_le.ensures c.cmp-order.ensures
+    c.saturating_sub-kept.ensures (wide ∙ sym width) c.if-priority-eq0.true c.is_le.result c.compare_counts-order.result c.is_le.ensures c.compare_counts-order.ensures
 
 pub returns-else-priority-eq0 : goal.returns-else-priority-eq0
 returns-else-priority-eq0 c = λ g wide.
@@ -20,4 +20,4 @@ returns-else-priority-eq0 c = λ g wide.
     odd_reaches_is g c.args.priority c.saturating_sub-kept.result c.self.inside.width c.counts.result.now c.counts-2.result.now next own
     (counts_are next c.is_top-2.result c.counts.result.now c.is_top-2.ensures c.if-is_top-2.false c.counts.ensures.value)
     (counts_are own c.is_top.result c.counts-2.result.now c.is_top.ensures c.if-is_top.false c.counts-2.ensures.value)
-    c.saturating_sub-kept.ensures (wide ∙ sym width) c.if-priority-eq0.false c.is_lt.result c.cmp-order.result c.is_lt.ensures c.cmp-order.ensures
+    c.saturating_sub-kept.ensures (wide ∙ sym width) c.if-priority-eq0.false c.is_lt.result c.compare_counts-order.result c.is_lt.ensures c.compare_counts-order.ensures
