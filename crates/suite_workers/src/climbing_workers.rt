@@ -325,7 +325,7 @@ fn is_same_table<R: Abort + AllocGlobal + Threads + Wait + Clone + Copy + Drop +
 #[test]
 fn workers_thrown_at_random_find_the_least_table(rt: HostRuntime) {
     let mut dice = Dice::new(7);
-    for run in 0..200 {
+    for run in 0..1_000 {
         assert!(rt; is_same_table(&rt, &mut dice), "run {run}");
     }
 }
