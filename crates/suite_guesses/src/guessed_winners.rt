@@ -287,8 +287,8 @@ fn large_game(
     rows.finish(rt)
 }
 
-// Threads share a game of 65,536 vertices and more: one whose edges lead far in one way, and others in another. Of the last one a third is
-// decided at once.
+// Threads share a game of 65,536 vertices and more: one whose edges lead far in one way, and others in another. Of the last one much is decided
+// at once.
 #[test]
 fn threads_guess_what_one_guesses(rt: HostRuntime) {
     are_guessed_alike(&rt, 70_000);

@@ -16,8 +16,9 @@ use game::limits::MOST_VERTICES;
 use game::player::Player;
 use std::alloc::Global;
 
-// At least this part of a game's vertices is decided or seen to be copies at once, or none is left out.
-const PART: u32 = 4;
+// At least so many of a hundred vertices are decided or seen to be copies at once, or none is left out: what is noted of all of them takes
+// as much memory as is saved.
+const LEAST_PERCENT: usize = 40;
 
 // A count of evidence is no greater.
 const GREATEST_COUNT: u64 = 16_777_216;
@@ -48,7 +49,7 @@ fn are_many(decided: &Decided) -> bool {
             count = count.saturating_add(1);
         }
     }
-    count >= (game.vertices() / PART) as usize
+    count.saturating_mul(100) >= (game.vertices() as usize).saturating_mul(LEAST_PERCENT)
 }
 
 // Puts the images of a kept vertex's successors into the list, each once and ascending, but for what its owner has no need of: what is lost,
