@@ -9,8 +9,9 @@
 
 use crate::arena::{opponent, owner, priority, successors};
 use crate::cells::NONE;
-use crate::decided::{Decided, Outcome};
+use crate::decided::{Decided, Outcome, Won};
 use crate::numbers::Numbers;
+use game::graph::Game;
 use game::player::Player;
 use std::alloc::Global;
 
@@ -30,22 +31,32 @@ const TO_EVEN: u32 = u32::MAX - 2;
 
 const TO_ODD: u32 = u32::MAX - 3;
 
-/// What a vertex is a copy of.
+// What a vertex is a copy of.
 #[derive(Clone, Copy)]
-pub(crate) struct Link {
+struct Link {
     // The vertex that it is a copy of, or itself.
     to: u32,
-    /// The successor by which its owner comes there, or `NONE` where it is no copy.
-    pub(crate) by: u32,
-    /// How far it stands above what it is a copy of.
-    pub(crate) height: u32,
+    // The successor by which its owner comes there, or `NONE` where it is no copy.
+    by: u32,
+    // How far it stands above what it is a copy of.
+    height: u32,
 }
 
-/// The vertices of a game, and those of which they are copies.
+// The vertices of a game, and those of which they are copies: a list for each part of a link, since one is of no use in a search.
 #[derive(Drop)]
-struct Links<'d> {
-    decided: &'d Decided<'d>,
-    list: Vec<Link>,
+struct Links<'g> {
+    game: &'g Game,
+    // (`NONE` where it isn't known yet.)
+    to: Numbers,
+    by: Numbers,
+    heights: Numbers,
+}
+
+// The numbers of vertices in the game without copies, as they are given.
+#[derive(Drop)]
+struct Naming {
+    numbers: Numbers,
+    kept: Numbers,
 }
 
 /// For each vertex what it is a copy of.
@@ -53,7 +64,10 @@ struct Links<'d> {
 pub(crate) struct Images {
     /// The vertex of the game without copies that has its winner.
     pub(crate) numbers: Numbers,
-    links: Vec<Link>,
+    /// Where its owner goes on if it wins: to what it is a copy of, or as it was decided. `NONE` where that isn't known before a search.
+    pub(crate) moves: Numbers,
+    /// How far it stands above what it is a copy of.
+    pub(crate) heights: Numbers,
     /// What is kept, by numbers.
     pub(crate) kept: Numbers,
 }
@@ -67,20 +81,15 @@ impl Link {
             height: 0,
         }
     }
-}
 
-impl Link {
-    // Adds a successor with its own link. The answer is whether it comes to the same as others.
-    fn join(&mut self, t: u32, next: Link) -> bool {
-        let to = match next.to {
-            NONE => t,
-            to => to,
-        };
+    // Adds a successor that is linked to a vertex, or is itself that vertex, and stands so far above it. The answer is whether it comes to the
+    // same as others.
+    fn join(&mut self, t: u32, to: u32, height: u32) -> bool {
         if self.to == NONE {
             self.to = to;
             self.by = t;
         }
-        self.height = self.height.max(next.height.saturating_add(1));
+        self.height = self.height.max(height.saturating_add(1));
         self.to == to
     }
 }
@@ -96,42 +105,36 @@ impl Outcome {
     }
 }
 
-impl<'d> Links<'d> {
-    // The links of all vertices: of those that are decided, and then, the last first, of the others. `None` for want of memory.
-    fn of(alloc: Global, decided: &'d Decided<'d>) -> Option<Self> {
-        let vertices = decided.game.vertices();
-        let mut links = Links {
-            decided,
-            list: vec![in alloc; Link::none(NONE); vertices as usize].ok()?,
-        };
-        for v in 0..vertices {
-            links.put(v, Link::none(decided.outcome(v).goal()));
+impl<'g> Links<'g> {
+    // Those of what is decided, with its moves.
+    fn of_decided(alloc: Global, game: &'g Game, outcomes: &[Outcome], moves: Numbers) -> Self {
+        let mut to = Numbers::roomy(alloc, outcomes.len());
+        for outcome in outcomes {
+            to.push(outcome.goal());
         }
-        for v in (0..vertices).rev() {
-            if links.get(v).to == NONE {
-                links.put(v, links.found(v));
+        Links {
+            game,
+            to,
+            by: moves,
+            heights: Numbers::filled(alloc, outcomes.len(), 0),
+        }
+    }
+
+    // Links all other vertices, the last first.
+    fn find_all(&mut self) {
+        for v in (0..self.game.vertices()).rev() {
+            if self.to.get(v as usize) == NONE {
+                let link = self.found(v);
+                self.to.set(v as usize, link.to);
+                self.by.set(v as usize, link.by);
+                self.heights.set(v as usize, link.height);
             }
         }
-        Some(links)
-    }
-
-    fn put(&mut self, v: u32, link: Link) {
-        let place = v as usize;
-        if place < self.list.len() {
-            self.list[place] = link;
-        }
-    }
-
-    fn get(&self, v: u32) -> Link {
-        self.list
-            .get(v as usize)
-            .copied()
-            .unwrap_or(Link::none(NONE))
     }
 
     fn found(&self, v: u32) -> Link {
-        match priority(self.decided.game, v) {
-            0 => self.found_at(v, owner(self.decided.game, v)),
+        match priority(self.game, v) {
+            0 => self.found_at(v, owner(self.game, v)),
             _ => Link::none(v),
         }
     }
@@ -141,12 +144,12 @@ impl<'d> Links<'d> {
         let won = Outcome::won_by(player).goal();
         let lost = Outcome::won_by(opponent(player)).goal();
         let mut link = Link::none(NONE);
-        for t in successors(self.decided.game, v) {
-            let next = self.get(*t);
-            if next.to == won {
+        for t in successors(self.game, v) {
+            let next = self.to.get(*t as usize);
+            if next == won {
                 return Link::none(v);
             }
-            if next.to != lost && *t != v && !link.join(*t, next) {
+            if next != lost && *t != v && !self.join(&mut link, *t, next) {
                 return Link::none(v);
             }
         }
@@ -157,10 +160,16 @@ impl<'d> Links<'d> {
         }
     }
 
+    // Adds a successor to a link, with what that is linked to.
+    fn join(&self, link: &mut Link, t: u32, next: u32) -> bool {
+        let to = if next == NONE { t } else { next };
+        link.join(t, to, self.heights.get(t as usize))
+    }
+
     // What is decided has the numbers of both ends, and what is no copy has the next ones.
-    fn number_all(&self, images: &mut Images) {
-        for v in 0..self.decided.game.vertices() {
-            match self.get(v).to {
+    fn number_all(&self, images: &mut Naming) {
+        for v in 0..self.game.vertices() {
+            match self.to.get(v as usize) {
                 TO_EVEN => images.numbers.set(v as usize, EVEN_END),
                 TO_ODD => images.numbers.set(v as usize, ODD_END),
                 to if to == v => images.keep(v),
@@ -170,7 +179,7 @@ impl<'d> Links<'d> {
     }
 
     // Finds the image of a vertex, and of all on the path of links from it. Where the path comes back to itself the vertex there is kept.
-    fn follow(&mut self, v: u32, images: &mut Images, path: &mut Numbers) {
+    fn follow(&mut self, v: u32, images: &mut Naming, path: &mut Numbers) {
         let mut last = v;
         for _ in 0..u32::MAX {
             if images.numbers.get(last as usize) != NONE {
@@ -178,10 +187,11 @@ impl<'d> Links<'d> {
             }
             images.numbers.set(last as usize, MET);
             path.push(last);
-            last = self.get(last).to;
+            last = self.to.get(last as usize);
         }
         if images.numbers.get(last as usize) == MET {
-            self.put(last, Link::none(last));
+            self.by.set(last as usize, NONE);
+            self.heights.set(last as usize, 0);
             images.keep(last);
         }
         for _ in 0..u32::MAX {
@@ -193,35 +203,24 @@ impl<'d> Links<'d> {
     }
 
     // A vertex on a path has the image of the one that it is a copy of, and stands above it.
-    fn take(&mut self, u: u32, images: &mut Images) {
+    fn take(&mut self, u: u32, images: &mut Naming) {
         if images.numbers.get(u as usize) == MET {
-            let link = self.get(u);
-            let image = images.numbers.get(link.to as usize);
-            images.numbers.set(u as usize, image);
-            let height = link.height.saturating_add(self.get(link.to).height);
-            self.put(u, Link { height, ..link });
+            let to = self.to.get(u as usize) as usize;
+            images.numbers.set(u as usize, images.numbers.get(to));
+            let height = self.heights.get(u as usize);
+            let height = height.saturating_add(self.heights.get(to));
+            self.heights.set(u as usize, height);
         }
     }
 }
 
-impl Images {
-    /// Those of all vertices. `None` for want of memory.
-    pub(crate) fn of<'d>(alloc: Global, decided: &'d Decided<'d>) -> Option<Self> {
-        let mut links = Links::of(alloc, decided)?;
-        let vertices = decided.game.vertices();
-        let mut images = Images {
+impl Naming {
+    // No vertex has a number yet.
+    fn none(alloc: Global, vertices: u32) -> Self {
+        Naming {
             numbers: Numbers::filled(alloc, vertices as usize, NONE),
-            links: Vec::new(alloc),
             kept: Numbers::none(alloc),
-        };
-        links.number_all(&mut images);
-        let mut path = Numbers::none(alloc);
-        for v in 0..vertices {
-            links.follow(v, &mut images, &mut path);
         }
-        images.kept.note(&path);
-        images.links = links.list;
-        images.whole()
     }
 
     // Keeps a vertex, with the next number.
@@ -231,9 +230,39 @@ impl Images {
         self.numbers.set(v as usize, number);
         self.kept.push(v);
     }
+}
+
+impl Images {
+    /// Those of all vertices, where some are decided, and what is decided. `None` for want of memory.
+    pub(crate) fn of(alloc: Global, decided: Decided) -> Option<(Self, Won)> {
+        let Decided {
+            game,
+            outcomes,
+            moves,
+            won,
+        } = decided;
+        let mut links = Links::of_decided(alloc, game, &outcomes, moves);
+        links.find_all();
+        let mut naming = Naming::none(alloc, game.vertices());
+        links.number_all(&mut naming);
+        let mut path = Numbers::none(alloc);
+        for v in 0..game.vertices() {
+            links.follow(v, &mut naming, &mut path);
+        }
+        naming.kept.note(&path);
+        naming.kept.note(&links.to);
+        let images = Images {
+            numbers: naming.numbers,
+            moves: links.by,
+            heights: links.heights,
+            kept: naming.kept,
+        };
+        Some((images.whole()?, won))
+    }
 
     fn whole(self) -> Option<Self> {
-        if self.numbers.is_whole() && self.kept.is_whole() {
+        let lists = [&self.numbers, &self.moves, &self.heights, &self.kept];
+        if lists.iter().all(|list| list.is_whole()) {
             Some(self)
         } else {
             None
@@ -243,13 +272,5 @@ impl Images {
     /// The image of a vertex.
     pub(crate) fn get(&self, v: u32) -> u32 {
         self.numbers.get(v as usize)
-    }
-
-    /// What a vertex is a copy of.
-    pub(crate) fn link(&self, v: u32) -> Link {
-        self.links
-            .get(v as usize)
-            .copied()
-            .unwrap_or(Link::none(NONE))
     }
 }

@@ -35,16 +35,48 @@ impl Outcome {
     }
 }
 
+/// What each player wins before a search, in the order in which it was decided.
+#[derive(Drop)]
+pub(crate) struct Won {
+    even: Numbers,
+    odd: Numbers,
+}
+
 /// What is decided of a game.
 #[derive(Drop)]
 pub(crate) struct Decided<'g> {
     pub(crate) game: &'g Game,
-    outcomes: Vec<Outcome>,
+    /// Who wins each vertex.
+    pub(crate) outcomes: Vec<Outcome>,
     /// Where its owner goes on from a vertex that it wins, or `NONE`.
     pub(crate) moves: Numbers,
-    // What each player wins, in the order in which it was decided.
-    even: Numbers,
-    odd: Numbers,
+    pub(crate) won: Won,
+}
+
+impl Won {
+    fn is_whole(&self) -> bool {
+        self.even.is_whole() && self.odd.is_whole()
+    }
+
+    /// How many vertices are decided.
+    pub(crate) fn len(&self) -> usize {
+        self.even.len().saturating_add(self.odd.len())
+    }
+
+    fn push(&mut self, v: u32, player: Player) {
+        match player {
+            Player::Even => self.even.push(v),
+            Player::Odd => self.odd.push(v),
+        }
+    }
+
+    /// What a player wins.
+    pub(crate) fn list(&self, player: Player) -> &[u32] {
+        match player {
+            Player::Even => self.even.as_slice(),
+            Player::Odd => self.odd.as_slice(),
+        }
+    }
 }
 
 impl<'g> Decided<'g> {
@@ -55,15 +87,17 @@ impl<'g> Decided<'g> {
             game,
             outcomes: vec![in alloc; Outcome::Open; vertices].ok()?,
             moves: Numbers::filled(alloc, vertices, NONE),
-            even: Numbers::none(alloc),
-            odd: Numbers::none(alloc),
+            won: Won {
+                even: Numbers::none(alloc),
+                odd: Numbers::none(alloc),
+            },
         };
         decided.sweep_all();
         decided.whole()
     }
 
     fn whole(self) -> Option<Self> {
-        if self.moves.is_whole() && self.even.is_whole() && self.odd.is_whole() {
+        if self.moves.is_whole() && self.won.is_whole() {
             Some(self)
         } else {
             None
@@ -80,7 +114,7 @@ impl<'g> Decided<'g> {
 
     // Looks at all vertices. The answer is whether many were decided.
     fn sweep_up(&mut self) -> bool {
-        let before = self.len();
+        let before = self.won.len();
         for v in 0..self.game.vertices() {
             self.look_at(v);
         }
@@ -89,7 +123,7 @@ impl<'g> Decided<'g> {
 
     // The same, the last first.
     fn sweep_down(&mut self) -> bool {
-        let before = self.len();
+        let before = self.won.len();
         for v in (0..self.game.vertices()).rev() {
             self.look_at(v);
         }
@@ -97,13 +131,8 @@ impl<'g> Decided<'g> {
     }
 
     fn are_many_after(&self, before: usize) -> bool {
-        let more = self.len().saturating_sub(before);
+        let more = self.won.len().saturating_sub(before);
         more > 0 && more >= (self.game.vertices() / PART) as usize
-    }
-
-    /// How many vertices are decided.
-    pub(crate) fn len(&self) -> usize {
-        self.even.len().saturating_add(self.odd.len())
     }
 
     pub(crate) fn outcome(&self, v: u32) -> Outcome {
@@ -155,17 +184,6 @@ impl<'g> Decided<'g> {
             self.outcomes[place] = Outcome::won_by(player);
         }
         self.moves.set(place, next);
-        match player {
-            Player::Even => self.even.push(v),
-            Player::Odd => self.odd.push(v),
-        }
-    }
-
-    /// What a player wins, in the order in which it was decided.
-    pub(crate) fn list(&self, player: Player) -> &[u32] {
-        match player {
-            Player::Even => self.even.as_slice(),
-            Player::Odd => self.odd.as_slice(),
-        }
+        self.won.push(v, player);
     }
 }

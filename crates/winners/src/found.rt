@@ -136,12 +136,16 @@ impl<'g> Found<'g> {
             ..
         } = self;
         let guessed = match smaller {
-            Some(smaller) => Guessed {
-                winners: smaller.whole(alloc, &winners)?,
-                ranks,
-                rows: smaller.rows(alloc),
-                heights: smaller.heights(alloc),
-            },
+            Some(smaller) => {
+                let winners = smaller.whole(alloc, &winners)?;
+                let (rows, heights) = smaller.rows();
+                Guessed {
+                    winners,
+                    ranks,
+                    rows,
+                    heights,
+                }
+            }
             None => Guessed {
                 winners,
                 ranks,

@@ -7,7 +7,7 @@
 use crate::arena::{opponent, owner, priority, successors};
 use crate::cells::NONE;
 use crate::copies::{EVEN_END, FIRST_KEPT, Images, ODD_END};
-use crate::decided::{Decided, Outcome};
+use crate::decided::{Decided, Outcome, Won};
 use crate::numbers::Numbers;
 use crate::ranks::{Listed, Rows};
 use crate::winning::Winners;
@@ -26,7 +26,9 @@ const GREATEST_COUNT: u64 = 16_777_216;
 /// What is left of a game.
 #[derive(Drop)]
 pub(crate) struct Smaller<'g> {
-    decided: Decided<'g>,
+    // The whole game.
+    whole: &'g Game,
+    won: Won,
     images: Images,
     game: Game,
 }
@@ -42,7 +44,7 @@ fn end_of(player: Player) -> u32 {
 // Whether enough vertices are decided, or copies at the first look.
 fn are_many(decided: &Decided) -> bool {
     let game = decided.game;
-    let mut count = decided.len();
+    let mut count = decided.won.len();
     for v in 0..game.vertices() {
         let is_open = decided.outcome(v) == Outcome::Open;
         if is_open && priority(game, v) == 0 && successors(game, v).len() == 1 {
@@ -54,12 +56,12 @@ fn are_many(decided: &Decided) -> bool {
 
 // Puts the images of a kept vertex's successors into the list, each once and ascending, but for what its owner has no need of: what is lost,
 // and the vertex itself, since it would be decided where the owner won by staying there. The answer is whether there was memory for all.
-fn put_row(decided: &Decided, images: &Images, v: u32, row: &mut Vec<u32>) -> bool {
-    let player = owner(decided.game, v);
+fn put_row(game: &Game, images: &Images, v: u32, row: &mut Vec<u32>) -> bool {
+    let player = owner(game, v);
     let (won, lost) = (end_of(player), end_of(opponent(player)));
     row.clear();
     let mut is_whole = true;
-    for t in successors(decided.game, v) {
+    for t in successors(game, v) {
         let image = images.get(*t);
         if image == won {
             row.clear();
@@ -86,14 +88,14 @@ fn ends(alloc: Global) -> Option<GameBuilder> {
 }
 
 // The game of the vertices that are kept. `None` for want of memory.
-fn left(alloc: Global, decided: &Decided, images: &Images) -> Option<Game> {
+fn left(alloc: Global, game: &Game, images: &Images) -> Option<Game> {
     let mut builder = ends(alloc)?;
     let mut row = Vec::new(alloc);
     for v in images.kept.as_slice() {
-        if builder.vertices() >= MOST_VERTICES || !put_row(decided, images, *v, &mut row) {
+        if builder.vertices() >= MOST_VERTICES || !put_row(game, images, *v, &mut row) {
             return None;
         }
-        let (player, number) = (owner(decided.game, *v), priority(decided.game, *v));
+        let (player, number) = (owner(game, *v), priority(game, *v));
         if row.len() > MOST_VERTICES || builder.push(player, number, &row).is_err() {
             return None;
         }
@@ -108,12 +110,13 @@ impl<'g> Smaller<'g> {
         if !are_many(&decided) {
             return None;
         }
-        let images = Images::of(alloc, &decided)?;
-        let game = left(alloc, &decided, &images)?;
+        let (images, won) = Images::of(alloc, decided)?;
+        let left = left(alloc, game, &images)?;
         Some(Smaller {
-            decided,
+            whole: game,
+            won,
             images,
-            game,
+            game: left,
         })
     }
 
@@ -129,7 +132,7 @@ impl<'g> Smaller<'g> {
 
     /// Who wins each vertex of the whole game, where it is known who wins those of this one.
     pub(crate) fn whole(&self, alloc: Global, found: &Winners) -> Option<Winners> {
-        let game = self.decided.game;
+        let game = self.whole;
         let mut winners = Winners::none(alloc, game);
         for v in 0..game.vertices() {
             let player = found.player(self.image(v));
@@ -140,18 +143,15 @@ impl<'g> Smaller<'g> {
 
     // Where the owner of a vertex goes on, if it wins.
     fn next(&self, v: u32, found: &Winners) -> u32 {
-        if self.decided.outcome(v) != Outcome::Open {
-            return self.decided.moves.get(v as usize);
-        }
-        match self.images.link(v).by {
+        match self.images.moves.get(v as usize) {
             NONE => self.way(v, found.next(self.image(v))),
-            by => by,
+            next => next,
         }
     }
 
     // The first successor of a kept vertex whose image is the one to which its owner goes on.
     fn way(&self, v: u32, next: Option<u32>) -> u32 {
-        for t in successors(self.decided.game, v) {
+        for t in successors(self.whole, v) {
             if Some(self.image(*t)) == next {
                 return *t;
             }
@@ -163,11 +163,11 @@ impl<'g> Smaller<'g> {
     pub(crate) fn decided(&self, player: Player) -> Listed<'_> {
         let first = match player {
             Player::Even => 0,
-            Player::Odd => self.decided.list(Player::Even).len(),
+            Player::Odd => self.won.list(Player::Even).len(),
         };
         Listed {
-            game: self.decided.game,
-            order: self.decided.list(player),
+            game: self.whole,
+            order: self.won.list(player),
             rows: Rows::From(first.saturating_add(self.game.vertices() as usize)),
         }
     }
@@ -186,9 +186,9 @@ impl<'g> Smaller<'g> {
     // The greatest height of a vertex that Odd wins.
     fn greatest_height(&self, found: &Winners) -> u32 {
         let mut greatest = 0;
-        for v in 0..self.decided.game.vertices() {
+        for v in 0..self.whole.vertices() {
             if found.player(self.image(v)) == Player::Odd {
-                greatest = greatest.max(self.images.link(v).height);
+                greatest = greatest.max(self.images.heights.get(v as usize));
             }
         }
         greatest
@@ -205,26 +205,27 @@ impl<'g> Smaller<'g> {
         count
     }
 
-    /// For each vertex of the whole game its row of ranks: that of its image, or of its own if it was decided.
-    pub(crate) fn rows(&self, alloc: Global) -> Numbers {
-        let mut rows = Numbers::copied(alloc, self.images.numbers.as_slice());
-        let mut row = self.game.vertices();
+    /// For each vertex of the whole game its row of ranks: that of its image, or of its own if it was decided. And how far it stands above
+    /// its image.
+    pub(crate) fn rows(self) -> (Numbers, Numbers) {
+        let Smaller {
+            won,
+            images,
+            game,
+            ..
+        } = self;
+        let Images {
+            mut numbers,
+            heights,
+            ..
+        } = images;
+        let mut row = game.vertices();
         for player in [Player::Even, Player::Odd] {
-            for v in self.decided.list(player) {
-                rows.set(*v as usize, row);
+            for v in won.list(player) {
+                numbers.set(*v as usize, row);
                 row = row.saturating_add(1);
             }
         }
-        rows
-    }
-
-    /// How far each vertex of the whole game stands above its image.
-    pub(crate) fn heights(&self, alloc: Global) -> Numbers {
-        let vertices = self.decided.game.vertices();
-        let mut heights = Numbers::roomy(alloc, vertices as usize);
-        for v in 0..vertices {
-            heights.push(self.images.link(v).height);
-        }
-        heights
+        (numbers, heights)
     }
 }
