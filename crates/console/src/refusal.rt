@@ -1,6 +1,6 @@
 // What is told of a refusal on standard error.
 
-use crate::sight::{Location, Sight, look};
+use crate::sight::{Location, Sight, sight_at};
 use invocation::codes::entry_of;
 use invocation::request::Command;
 use requests::error::MuError;
@@ -192,7 +192,7 @@ fn tell_in_file(rt: &HostRuntime, code: &str, name: &str, words: Option<&str>) -
 /// What stands at the place that these words name in a file.
 fn look_at(rt: &HostRuntime, name: &str, words: &str) -> io::Result<Option<Sight>> {
     match Location::in_words(words) {
-        Some(place) => look(rt, name, place),
+        Some(place) => sight_at(rt, name, place),
         None => Ok(None),
     }
 }

@@ -87,7 +87,7 @@ impl Sight {
 ///
 /// # Errors
 /// A read failed, or memory was refused.
-pub fn look(rt: &HostRuntime, name: &str, place: Location) -> io::Result<Option<Sight>> {
+pub fn sight_at(rt: &HostRuntime, name: &str, place: Location) -> io::Result<Option<Sight>> {
     if is_standard_input(name) || !fs::metadata(rt, name)?.is_file() {
         return Ok(None);
     }

@@ -3,7 +3,7 @@
 
 ghost use Rattle.std.specs.Prelude.{◌≡◌, ◌<◌};
 
-use crate::schedules::{STEP, TWO_STEPS};
+use crate::schedules::{STEP_ROWS, TWO_STEPS};
 use game::graph::Game;
 use liftcore::event::{Event, Outcome};
 use liftcore::machine::Core;
@@ -165,7 +165,7 @@ fn random_events_agree_with_their_outcomes(rt: HostRuntime) {
         .expect(&rt, "memory")
         .expect(&rt, "a game");
     let games = [
-        game_of(&rt, &STEP).expect(&rt, "a game"),
+        game_of(&rt, &STEP_ROWS).expect(&rt, "a game"),
         game_of(&rt, &TWO_STEPS).expect(&rt, "a game"),
         rolled,
     ];

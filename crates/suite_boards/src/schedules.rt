@@ -13,7 +13,7 @@ use std::process::Abort;
 use text::ReadFault;
 
 // The game of `<a>true` on two states, of which the first leads to the second by a, and the second to the first by b.
-pub const STEP: [Row; 6] = [
+pub const STEP_ROWS: [Row; 6] = [
     (Player::Even, 0, &[0]),
     (Player::Even, 1, &[1]),
     (Player::Even, 0, &[5]),
@@ -65,7 +65,7 @@ fn after(rt: &(impl Abort + AllocGlobal), first: &str, rest: &str) -> String {
 
 #[test]
 fn one_step_is_replayed(rt: HostRuntime) {
-    let game = game_of(&rt, &STEP).expect(&rt, "a game");
+    let game = game_of(&rt, &STEP_ROWS).expect(&rt, "a game");
     let text = replayed(&rt, &game, "take 0 4\nread 0 1\nraise 0\n");
     let wanted = after(&rt, "events 3 done 3 skipped 0\n", STEP_RAISED);
     assert!(rt; text.as_str() == wanted.as_str());
@@ -183,7 +183,7 @@ fn reads_of_schedules_fail_or_are_tried_again(rt: HostRuntime) {
 
 #[test]
 fn the_empty_text_is_a_schedule(rt: HostRuntime) {
-    let game = game_of(&rt, &STEP).expect(&rt, "a game");
+    let game = game_of(&rt, &STEP_ROWS).expect(&rt, "a game");
     let text = replayed(&rt, &game, "");
     let wanted =
         "events 0 done 0 skipped 0\n0 (0)\n1 top\n2 (0)\n3 (0)\n4 (0)\n5 (0)\npending 0,1,2,3,4,5\nsettled no\nquiet no\n";
@@ -238,7 +238,7 @@ const TAKEN: [(Event, Outcome); 3] = [
 
 #[test]
 fn events_that_cannot_be_done_are_skipped(rt: HostRuntime) {
-    let game = game_of(&rt, &STEP).expect(&rt, "a game");
+    let game = game_of(&rt, &STEP_ROWS).expect(&rt, "a game");
     let mut core = Core::new(rt.alloc(), &game, 1).expect(&rt, "memory");
     for event in NOT_YET {
         assert_eq!(rt; core.step(event), Outcome::Skipped);
@@ -251,7 +251,7 @@ fn events_that_cannot_be_done_are_skipped(rt: HostRuntime) {
 
 #[test]
 fn a_quiet_core_is_settled(rt: HostRuntime) {
-    let game = game_of(&rt, &STEP).expect(&rt, "a game");
+    let game = game_of(&rt, &STEP_ROWS).expect(&rt, "a game");
     let mut core = Core::new(rt.alloc(), &game, 1).expect(&rt, "memory");
     for vertex in 0..game.vertices() {
         for next in game.successors(vertex) {
@@ -268,7 +268,7 @@ fn a_quiet_core_is_settled(rt: HostRuntime) {
 
 #[test]
 fn a_run_is_its_events(rt: HostRuntime) {
-    let game = game_of(&rt, &STEP).expect(&rt, "a game");
+    let game = game_of(&rt, &STEP_ROWS).expect(&rt, "a game");
     let events = [
         Event::Take {
             worker: 0,

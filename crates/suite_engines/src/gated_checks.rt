@@ -2,7 +2,7 @@
 // The reports are those that were worked out by hand; the least system without a packed board is computed from the definition.
 
 use crate::common::same;
-use crate::reports::{report_of_the_ring, shown};
+use crate::reports::{outcome_text, report_of_the_ring};
 use engines::engine::{check, check_gated};
 use engines::error::MuError;
 use engines::request::{BoardKind, Options};
@@ -169,7 +169,7 @@ fn refused<R: Abort + AllocGlobal + Threads + Wait + Clone + Copy + Drop + Send 
     let formula = sixteen_counts(rt.alloc()).expect(rt, "memory");
     let (answer, report) = checked(rt, system, formula.as_str(), options);
     assert!(rt; report.is_empty(), "nothing is written");
-    shown(rt.alloc(), &answer).expect(rt, "memory")
+    outcome_text(rt.alloc(), &answer).expect(rt, "memory")
 }
 
 // 15 ^ 15 * 16 is above 2 ^ 62, and 14 ^ 15 * 15 is below.

@@ -258,7 +258,7 @@ fn reports_what_was_worked_out(rt: HostRuntime) {
 }
 
 /// The code and place of a refusal.
-pub fn shown(alloc: Global, answer: &Result<bool, MuError>) -> Result<String, AllocError> {
+pub fn outcome_text(alloc: Global, answer: &Result<bool, MuError>) -> Result<String, AllocError> {
     match answer {
         Ok(_) => String::from_str(alloc, "answered"),
         Err(error) => error.to_string(alloc),
@@ -298,7 +298,7 @@ fn refuses_by<R: Abort + AllocGlobal + Threads + Wait + Clone + Copy + Drop + Se
     let mut out = Vec::new(rt.alloc());
     let answer = run(rt, system, formula, engine, &mut out);
     assert!(rt; out.is_empty(), "written by {engine:?}");
-    let text = shown(rt.alloc(), &answer).expect(rt, "memory");
+    let text = outcome_text(rt.alloc(), &answer).expect(rt, "memory");
     same(rt, "refusal", text.as_str(), refusal);
 }
 
@@ -468,7 +468,7 @@ fn is_cut<R: Abort + AllocGlobal + Threads + Wait + Clone + Copy + Drop + Send +
     let answer = run(rt, RING, "<a>true", engine, &mut out);
     assert!(rt; status(&answer) == 3, "{left} by {engine:?}");
     assert!(rt; out.taken.len() == left && want.as_bytes().starts_with(out.taken.as_slice()));
-    let text = shown(rt.alloc(), &answer).expect(rt, "memory");
+    let text = outcome_text(rt.alloc(), &answer).expect(rt, "memory");
     same(rt, "refusal", text.as_str(), "W1");
 }
 

@@ -297,7 +297,7 @@ fn lifted_somehow<R: Abort + AllocGlobal + Threads + Wait + Clone + Copy + Drop 
 }
 
 /// Whether two tables of a game are the same.
-pub fn is_same(game: &Game, one: &Settled, other: &Settled) -> bool
+pub fn agree(game: &Game, one: &Settled, other: &Settled) -> bool
     requires one { one.now.game ≡ game.now }
     requires other { other.now.game ≡ game.now }
 {
@@ -319,7 +319,7 @@ fn is_same_table<R: Abort + AllocGlobal + Threads + Wait + Clone + Copy + Drop +
     let game = Arc::new(rt.alloc(), game).expect(rt, "memory");
     let one = solve_one(rt.alloc(), &game).expect(rt, "memory");
     let many = lifted_somehow(rt, dice, &game);
-    is_same(&game, &one, &many)
+    agree(&game, &one, &many)
 }
 
 #[test]

@@ -4,7 +4,7 @@
 ghost use Rattle.std.specs.Prelude.{◌≡◌, ◌<◌};
 ghost use Rattle.std.specs.Arc.{arc_value};
 
-use crate::climbing_workers::{Turns, is_same};
+use crate::climbing_workers::{Turns, agree};
 use game::graph::Game;
 use game::name::GameName;
 use measures::settle::solve_one;
@@ -40,7 +40,7 @@ fn is_solved_or_unbegun<B: Board + Drop + Sync, R: Threads + Wait + Sync>(
 {
     let turns = Turns::new();
     match solve(rt, alloc, game, board, workers, &turns) {
-        Ok(settled) => is_same(game, wanted, &settled),
+        Ok(settled) => agree(game, wanted, &settled),
         Err(SolveError::Memory) => turns.all() == 0,
     }
 }
