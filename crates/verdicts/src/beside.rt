@@ -1,13 +1,18 @@
 // What a check by a game finds out, and beside it, where several workers make both, the evidence of all that Odd wins.
 
-ghost use Rattle.std.specs.Prelude.{◌≡◌, IfOk, IfErr, Some};
+ghost use Rattle.std.specs.Prelude.{◌≡◌, ◌↔◌, IfOk, IfErr, IsTrue, ℕ, Some};
 ghost use Rattle.std.specs.Arc.{arc_value};
 ghost use Rattle.calculus.specs.Closed.{closed_formula};
+ghost use Rattle.game.specs.Wins.{OddWins};
+ghost use Rattle.evidence.specs.Best.{IsOddOf};
+ghost use Rattle.evidence.specs.Evidence.{IsGood, has};
 ghost use Rattle.requests.specs.Check.{ByGame, IsBeyond};
 ghost use Rattle.requests.specs.Solver.{IsFitting, IsUnsolved};
 ghost use Rattle.verdicts.specs.Findings.{AreFindings, AreFoundBeside, AreOddsOf, ArePosed, way_in};
 
-use crate::findings::{Findings, Helped, Posed, build_of, find_in, find_solved, solve_by_workers};
+use crate::findings::{
+    Findings, Helped, Posed, boxed, build_of, find_in, find_solved, solve_by_workers,
+};
 use crate::guessing::dual_guess_of;
 use evidence::error::EvidenceError;
 use evidence::evidence::Evidence;
@@ -20,6 +25,7 @@ use requests::watch::Watcher;
 use std::alloc::Global;
 use std::sync::Wait;
 use std::thread::{Threads, join};
+use text::Memory;
 use workers::gate::NoGate;
 
 /// What a check finds out, and the evidence of all that Odd wins where it was made beside it, or that memory was wanting for it.
@@ -39,12 +45,29 @@ fn odd_in<H: Threads + Sync>(
     requires { ArePosed posed.now }
     ensures { AreOddsOf (arc_value posed.now.game) result }
 {
-    let Texts { system, formula } = &*posed.texts;
-    let guess = dual_guess_of(alloc, system, formula, posed.priorities);
-    match odd_evidence_with(rt, alloc, &posed.game, &guess, workers) {
+    match odd_by_guess(rt, alloc, posed, workers) {
         Ok(evidence) => Ok(evidence),
         Err(error) => Err(error),
     }
+}
+
+/// The same, which a guess helps.
+fn odd_by_guess<H: Threads + Sync>(
+    rt: &H,
+    alloc: Global,
+    posed: &Posed,
+    workers: usize,
+) -> Result<Evidence, EvidenceError>
+    requires { ArePosed posed.now }
+    ensures game { IfOk result (λ e. e.game ≡ arc_value posed.now.game) }
+    ensures memory { IfErr result (λ e. e ≡ EvidenceError.Memory) }
+    ensures odd { IfOk result (λ e. IsOddOf (arc_value posed.now.game) e.evidence) }
+    ensures good { IfOk result (λ e. IsGood (arc_value posed.now.game) e.evidence) }
+    ensures exact { IfOk result (λ e. (v : ℕ) → IsTrue (has e.evidence v) ↔ OddWins (arc_value posed.now.game) v) }
+{
+    let Texts { system, formula } = &*posed.texts;
+    let guess = dual_guess_of(alloc, system, formula, posed.priorities);
+    odd_evidence_with(rt, alloc, &posed.game, &guess, workers)
 }
 
 /// The least progress table, and on a thread of its own the evidence of all that Odd wins.
@@ -137,9 +160,9 @@ fn find_beside<O: Watcher + Sync, H: Threads + Wait + Clone + Copy + Drop + Send
     ensures texts { IfOk result (λ beside. beside.found.texts.value ≡ texts) }
     ensures refusal { IfErr result (IsBeyond (ByGame options.now.priorities (Some options.now.board)) texts.system.system (closed_formula texts.formula)) }
 {
-    match Box::new(alloc, texts) {
+    match boxed(alloc, texts) {
         Ok(texts) => find_boxed(rt, alloc, texts, options, observer),
-        Err(_) => Err(MuError::Memory),
+        Err(Memory) => Err(MuError::Memory),
     }
 }
 

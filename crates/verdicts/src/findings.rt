@@ -15,6 +15,7 @@ ghost use Rattle.requests.specs.Writers.{AreKept, Lent};
 
 use crate::guessing::{dual_guess_of, guess_of};
 use crate::lifting::{SolvedGame, Winners, state_marks};
+use claims::claimed::Claims;
 use evidence::error::EvidenceError;
 use evidence::evidence::Evidence;
 use evidence::make::odd_evidence_by;
@@ -140,10 +141,17 @@ pub fn find_in<O: Watcher + Sync, H: Threads + Wait + Clone + Copy + Drop + Send
     ensures texts { IfOk result (λ found. found.texts.value ≡ texts) }
     ensures refusal { IfErr result (IsBeyond (ByGame options.now.priorities (Some options.now.board)) texts.system.system (closed_formula texts.formula)) }
 {
-    match Box::new(alloc, texts) {
+    match boxed(alloc, texts) {
         Ok(texts) => find_boxed(rt, alloc, texts, options, observer),
-        Err(_) => Err(MuError::Memory),
+        Err(Memory) => Err(MuError::Memory),
     }
+}
+
+/// The value in a box.
+pub(crate) fn boxed<T: Drop>(alloc: Global, value: T) -> Result<Box<T>, Memory>
+    ensures { IfOk result (λ held. held.value ≡ value) }
+{
+    Ok(Box::new(alloc, value)?)
 }
 
 fn find_boxed<O: Watcher + Sync, H: Threads + Wait + Clone + Copy + Drop + Send + Sync>(
@@ -185,9 +193,9 @@ fn read_and_build<R: Source + Drop, S: Source + Drop, H: Threads + Sync>(
     ensures cause { IfErr result (HaveCauses R.can_fail S.can_fail) }
 {
     match read_both(alloc, aut, formula) {
-        Ok(texts) => match Box::new(alloc, texts) {
+        Ok(texts) => match boxed(alloc, texts) {
             Ok(texts) => build_of(rt, alloc, texts, priorities, &Silent),
-            Err(_) => Err(MuError::Memory),
+            Err(Memory) => Err(MuError::Memory),
         },
         Err(error) => Err(error),
     }
@@ -270,13 +278,18 @@ pub(crate) fn solve_by_workers<
     ensures board { IfOk result (λ _. IsFitting (Some options.now.board) (arc_value posed.now.game)) }
     ensures refusal { IfErr result (IsUnsolved (Some options.now.board) (arc_value posed.now.game)) }
 {
-    let Texts { system, formula } = &*posed.texts;
-    let guess = if helped == Helped::EveryTeam || options.workers == 1 {
-        guess_of(alloc, system, formula, posed.priorities)
-    } else {
-        None
-    };
+    let is_helped = helped == Helped::EveryTeam || options.workers == 1;
+    let guess = guess_where(alloc, posed, is_helped);
     solve_seen(rt, alloc, &posed.game, options, gate, observer, &guess)
+}
+
+/// What is guessed of the game, where a guess helps.
+fn guess_where(alloc: Global, posed: &Posed, is_helped: bool) -> Option<Claims<'_>> {
+    if !is_helped {
+        return None;
+    }
+    let Texts { system, formula } = &*posed.texts;
+    guess_of(alloc, system, formula, posed.priorities)
 }
 
 /// What is found out of these texts by workers.

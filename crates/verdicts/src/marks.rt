@@ -12,6 +12,7 @@ use crate::lifting::{Solution, state_marks};
 use crate::ranked::ranked_marks;
 use calculus::closed::Closed;
 use certify::shared::certified_winners_by;
+use claims::claimed::Claims;
 use game::graph::Game;
 use lts::Memory;
 use lts::system::Lts;
@@ -139,7 +140,24 @@ fn solution_of<O: Observer + Sync, H: Threads + Wait + Clone + Copy + Drop + Sen
 {
     require_board(game, options.board)?;
     let guess = guess_of(alloc, system, formula, options.priorities);
-    if let Some(settled) = settled_by_guess(alloc, game, &guess) {
+    solution_by(rt, alloc, game, options, observer, &guess)
+}
+
+/// The same, with what is guessed of the game.
+fn solution_by<O: Observer + Sync, H: Threads + Wait + Clone + Copy + Drop + Send + Sync>(
+    rt: &H,
+    alloc: Global,
+    game: &Arc<Game, Global>,
+    options: &Options,
+    observer: &O,
+    guess: &Option<Claims<'_>>,
+) -> Result<Solution, MuError>
+    requires { IsFitting (Some options.now.board) (arc_value game.now) }
+    ensures solution { IfOk result (IsSolutionOf (arc_value game.now)) }
+    ensures board { IfOk result (λ _. IsFitting (Some options.now.board) (arc_value game.now)) }
+    ensures refusal { IfErr result (IsUnsolved (Some options.now.board) (arc_value game.now)) }
+{
+    if let Some(settled) = settled_by_guess(alloc, game, guess) {
         return Ok(Solution::Table(settled));
     }
     if let Some(marks) = certified_winners_by(
@@ -151,6 +169,8 @@ fn solution_of<O: Observer + Sync, H: Threads + Wait + Clone + Copy + Drop + Sen
     ) {
         return Ok(Solution::Marks(marks));
     }
-    let settled = solve_seen(rt, alloc, game, options, &NoGate, observer, &guess)?;
-    Ok(Solution::Table(settled))
+    match solve_seen(rt, alloc, game, options, &NoGate, observer, guess) {
+        Ok(settled) => Ok(Solution::Table(settled)),
+        Err(error) => Err(error),
+    }
 }
