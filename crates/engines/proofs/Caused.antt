@@ -8,11 +8,9 @@ use Rattle.requests.specs.declared.error.MuError.TheVariants as error
 use Rattle.requests.specs.declared.request.Wanted.{Wanted}
 use Rattle.requests.specs.Causes.{HaveCauses}
 use Rattle.requests.proofs.Caused.{no_read}
-use Rattle.engines.specs.Findings.{IsUnprepared, IsUnshown}
-use Rattle.engines.specs.declared.findings.Findings.{Findings}
-
-pub memory_caused : (aut formula : Bool) (e : MuError) → e ≡ error.Memory → HaveCauses aut formula e
-memory_caused aut formula e h = no_read (λ d. d ≡ error.Memory) aut formula e (λ no. absurd cc) (λ no. absurd cc) h
+use Rattle.verdicts.proofs.Beyond.{memory_caused}
+use Rattle.engines.specs.Prepared.{IsUnprepared, IsUnshown}
+use Rattle.verdicts.specs.declared.findings.Findings.{Findings}
 
 pub unshown_caused : (x : Findings) (aut formula : Bool) (e : MuError) → IsUnshown x e → HaveCauses aut formula e
 unshown_caused x aut formula e h = no_read (IsUnshown x) aut formula e (λ no. no) (λ no. no) h

@@ -1,7 +1,7 @@
 -- What a check has found out.
 use Rattle.std.proofs.Common.{arith, ◌≡◌, ℕ, List, Bool, false, Some, None, Ok, Err, [], inl, inr, refl, subst, sym, ap, true≢false, slice_index_or}
 use Rattle.std.specs.Option.{is_some}
-use Rattle.std.specs.Prelude.{◌⊎◌, IsTrue, IfOk, IfErr, MatchResult, Option, Result}
+use Rattle.std.specs.Prelude.{◌⊎◌, IsTrue, MatchResult, Option, Result}
 use Rattle.text.specs.Taken.{Taken}
 use Rattle.text.proofs.Writing.{Adds-none, Stays-refl}
 use Rattle.text.specs.declared.write_loop.WriteFault.{WriteFault}
@@ -9,8 +9,7 @@ use Rattle.systems.specs.System.{System}
 use Rattle.calculus.specs.Tree.{Formula}
 use Rattle.requests.specs.declared.error.MuError.{MuError}
 use Rattle.requests.specs.declared.error.MuError.TheVariants as error
-use Rattle.normal.specs.declared.priorities.Priorities.{Priorities}
-use Rattle.requests.specs.Check.{IsArenaOf, Way, BySets, ByGame, Answers, AreSpelled, AreMarks, IsBeyond, IsTextOf}
+use Rattle.requests.specs.Check.{Way, BySets, ByGame, Answers, AreSpelled, AreMarks, IsTextOf}
 use Rattle.requests.specs.Check.{HasRefused}
 use Rattle.requests.specs.declared.request.WitnessForm.{WitnessForm}
 use Rattle.requests.specs.declared.request.WitnessForm.TheVariants.{System as AsSystem, Drawing}
@@ -20,79 +19,9 @@ use Rattle.requests.specs.declared.request.ReportForm.{ReportForm}
 use Rattle.requests.specs.declared.request.Wanted.{Wanted}
 use Rattle.requests.specs.Command as request
 use Rattle.requests.specs.Strict.{AnswersBy, KnowsWords}
-use Rattle.engines.specs.Findings.{AreFindings, IsTextFound, IsUnprepared, IsUnshown, formula_of, system_of, way_in}
-use Rattle.requests.specs.Solver.{IsFitting, IsUnsolved}
-use Rattle.game.specs.Game.{Game}
-use Rattle.workers.specs.declared.team.BoardKind.{BoardKind}
-use Rattle.engines.specs.declared.findings.Findings.{Findings}
-use Rattle.requests.specs.declared.texts.Texts.{Texts}
-use Rattle.calculus.specs.Closed.{closed_formula}
-
--- That a limit is passed is told where both texts are spelled.
-pub beyond_of : (rule : Priorities) (board : Option BoardKind) (first second : List ℕ) (writers : List Lent) (l : System) (f : Formula) (e : MuError)
-    → AreSpelled first second l f
-    → IsBeyond (ByGame rule board) l f e → AreKept writers → HasRefused (ByGame rule board) first second writers e
-beyond_of rule board first second writers l f error.Memory spelled h kept = ((l, spelled.system.spelled), kept)
-beyond_of rule board first second writers l f (error.Normal e) spelled h kept = (record { l = l; f = f; spelled = spelled; beyond = h }, kept)
-beyond_of rule board first second writers l f (error.Build e) spelled h kept = (record { l = l; f = f; spelled = spelled; beyond = h }, kept)
-beyond_of rule board first second writers l f (error.Table e) spelled h kept = (record { l = l; f = f; spelled = spelled; beyond = h }, kept)
-beyond_of rule board first second writers l f (error.Solve e) spelled h kept = (record { l = l; f = f; spelled = spelled; beyond = h }, kept)
-beyond_of rule board first second writers l f (error.Arguments e) spelled h kept = absurd h
-beyond_of rule board first second writers l f error.File spelled h kept = absurd h
-beyond_of rule board first second writers l f error.Read spelled h kept = absurd h
-beyond_of rule board first second writers l f (error.System e) spelled h kept = absurd h
-beyond_of rule board first second writers l f (error.Formula e) spelled h kept = absurd h
-beyond_of rule board first second writers l f (error.Game e) spelled h kept = absurd h
-beyond_of rule board first second writers l f (error.Evidence e) spelled h kept = absurd h
-beyond_of rule board first second writers l f (error.Schedule e) spelled h kept = absurd h
-beyond_of rule board first second writers l f (error.NoLabel offset) spelled h kept = absurd h
-beyond_of rule board first second writers l f (error.Write e) spelled h kept = absurd h
-
--- What is beyond a limit before a board is asked for is so whatever board is.
-pub beyond_any : (rule : Priorities) (board : Option BoardKind) (l : System) (f : Formula) (e : MuError) → IsBeyond (ByGame rule None) l f e
-    → IsBeyond (ByGame rule board) l f e
-beyond_any rule board l f error.Memory h = tt
-beyond_any rule board l f (error.Normal e) h = h
-beyond_any rule board l f (error.Build e) h = h
-beyond_any rule board l f (error.Table e) h = absurd h.1
-beyond_any rule board l f (error.Solve e) h = absurd h.1
-beyond_any rule board l f (error.Arguments e) h = absurd h
-beyond_any rule board l f error.File h = absurd h
-beyond_any rule board l f error.Read h = absurd h
-beyond_any rule board l f (error.System e) h = absurd h
-beyond_any rule board l f (error.Formula e) h = absurd h
-beyond_any rule board l f (error.Game e) h = absurd h
-beyond_any rule board l f (error.Evidence e) h = absurd h
-beyond_any rule board l f (error.Schedule e) h = absurd h
-beyond_any rule board l f (error.NoLabel offset) h = absurd h
-beyond_any rule board l f (error.Write e) h = absurd h
-
--- A game that isn't solved is one that was made.
-pub beyond_board : (rule : Priorities) (kind : BoardKind) (l : System) (f : Formula) (g : Game) (e : MuError) → IsArenaOf rule l f g
-    → IsUnsolved (Some kind) g e
-    → IsBeyond (ByGame rule (Some kind)) l f e
-beyond_board rule kind l f g error.Memory is h = tt
-beyond_board rule kind l f g (error.Table e) is h = (is.within, subst (λ x. IsUnsolved (Some kind) x (error.Table e)) is.same h)
-beyond_board rule kind l f g (error.Solve e) is h = (is.within, subst (λ x. IsUnsolved (Some kind) x (error.Solve e)) is.same h)
-beyond_board rule kind l f g (error.Normal e) is h = absurd h
-beyond_board rule kind l f g (error.Build e) is h = absurd h
-beyond_board rule kind l f g (error.Arguments e) is h = absurd h
-beyond_board rule kind l f g error.File is h = absurd h
-beyond_board rule kind l f g error.Read is h = absurd h
-beyond_board rule kind l f g (error.System e) is h = absurd h
-beyond_board rule kind l f g (error.Formula e) is h = absurd h
-beyond_board rule kind l f g (error.Game e) is h = absurd h
-beyond_board rule kind l f g (error.Evidence e) is h = absurd h
-beyond_board rule kind l f g (error.Schedule e) is h = absurd h
-beyond_board rule kind l f g (error.NoLabel offset) is h = absurd h
-beyond_board rule kind l f g (error.Write e) is h = absurd h
-
--- What was read is what something is made of.
-pub spelled_by : {T : Type 0} → (texts_of : T → Texts) (first second : List ℕ) (texts : Texts) (r : Result T MuError)
-    → AreSpelled first second texts.system.system (closed_formula texts.formula)
-    → IfOk r (λ x. texts_of x ≡ texts) → IfOk r (λ x. AreSpelled first second (texts_of x).system.system (closed_formula (texts_of x).formula))
-spelled_by texts_of first second texts (Ok x) h e = subst (λ (t : Texts). AreSpelled first second t.system.system (closed_formula t.formula)) (sym e) h
-spelled_by texts_of first second texts (Err e) h same = tt
+use Rattle.engines.specs.Prepared.{IsTextFound, IsUnprepared, IsUnshown}
+use Rattle.verdicts.specs.Findings.{AreFindings, formula_of, system_of, way_in}
+use Rattle.verdicts.specs.declared.findings.Findings.{Findings}
 
 -- None of the writers of all texts was written to.
 pub kept_writers : (wanted : Wanted) (game even odd witness out : Taken)
@@ -241,14 +170,6 @@ alone_of way first second form game even odd witness old new (Err (error.Table e
 alone_of way first second form game even odd witness old new (Err (error.Solve e)) h = (h.0, alone_kept form game even odd witness old new h.1)
 alone_of way first second form game even odd witness old new (Err (error.Schedule e)) h = absurd h
 alone_of way first second form game even odd witness old new (Err (error.NoLabel offset)) h = absurd h
-
--- Marks that were found for each board that can be had are those of the one that is asked for; memory may be wanting anyway.
-pub marks_or_memory : {A : Type 0} (items : A → List Bool) (rule : Priorities) (board : BoardKind) (l : System) (f : Formula) (g : Game) (r : Result A MuError)
-    → IsFitting (Some board) g → IfOk r (λ marks. (b : Option BoardKind) → IsFitting b g → AreMarks (ByGame rule b) l f (items marks))
-    → IfErr r (λ e. e ≡ error.Memory)
-    → MatchResult r (λ marks. AreMarks (ByGame rule (Some board)) l f (items marks)) (IsBeyond (ByGame rule (Some board)) l f)
-marks_or_memory items rule board l f g (Ok marks) fits found memory = found (Some board) fits
-marks_or_memory items rule board l f g (Err e) fits found memory = subst (IsBeyond (ByGame rule (Some board)) l f) (sym memory) tt
 
 -- What was answered where each word of the formula is on a transition is answered strictly.
 pub strictly_answered : (strict : Bool) (way : Way) (first second : List ℕ) (writers : List Lent) (r : Result Bool MuError)

@@ -1,8 +1,5 @@
 mod Lines
 mod Checks
-mod Limits
-mod Ranking
-mod Roots
 mod Orders
 mod Lendings
 mod Winning

@@ -4,8 +4,9 @@ use Rattle.std.proofs.Common.{◌≡◌, refl, ap, ◌∙◌}
 use Rattle.std.specs.Arc.{arc_value}
 use Rattle.game.specs.Game.{Game}
 use Rattle.pgsolver.specs.Canon.{game_text}
-use Rattle.engines.specs.declared.findings.Findings.{Findings}
-use Rattle.engines.specs.Findings.{AreFindings, IsTextFound}
+use Rattle.verdicts.specs.declared.findings.Findings.{Findings}
+use Rattle.engines.specs.Prepared.{IsTextFound}
+use Rattle.verdicts.specs.Findings.{AreFindings}
 use Rattle.requests.specs.Writers.{GameText, Unasked, IsWhole, lent_for}
 use Rattle.requests.proofs.Orders as order
 pub use Rattle.requests.proofs.Orders.{one_text, stopped_at, then_more}

@@ -19,11 +19,12 @@ use Rattle.evidence.specs.Best.{IsEvenOf, IsOddOf}
 use Rattle.evidence.specs.Canon.{evidence_text}
 use Rattle.evidence.specs.Evidence.{Evidence}
 use Rattle.certify.specs.declared.pair.EvidencePair.{EvidencePair}
-use Rattle.engines.specs.declared.findings.Findings.{Findings}
+use Rattle.verdicts.specs.declared.findings.Findings.{Findings}
 use Rattle.engines.specs.declared.prepared.Prepared.{Prepared}
 use Rattle.engines.specs.declared.prepared.Shown.{Shown}
 use Rattle.requests.specs.declared.request.Wanted.{Wanted}
-use Rattle.engines.specs.Findings.{AreFindings, AreShown, IsPairOf, IsTextFound}
+use Rattle.engines.specs.Prepared.{AreShown, IsTextFound}
+use Rattle.verdicts.specs.Findings.{AreFindings, IsPairOf}
 use Rattle.requests.specs.Writers.{EvenText, GameText, OddText, Unasked, Lent, AreKept, AreWhole, AreWritten, AreWrittenUpTo, all_writers, kind_where}
 use Rattle.requests.specs.Writers.{lent_for, report_writer, witness_kind}
 use Rattle.engines.proofs.Orders.{one_text, stopped_at, then_more, unasked}

@@ -25,10 +25,11 @@ use Rattle.requests.specs.declared.request.WitnessForm.TheVariants.{System as As
 use Rattle.requests.specs.Check.{AreSpelled, ByGame, HasRefused, Way}
 use Rattle.requests.specs.Strict.{HasRefusedBy, KnowsWords}
 use Rattle.requests.specs.Writers.{AreKept, Lent, WitnessText, lent_for}
-use Rattle.engines.specs.declared.findings.Findings.{Findings}
+use Rattle.verdicts.specs.declared.findings.Findings.{Findings}
 use Rattle.engines.specs.declared.reasons.Told.{Told}
 use Rattle.engines.specs.declared.reasons.TheConstants.{MOST_TOLD}
-use Rattle.engines.specs.Findings.{AreFindings, AreShown, IsUnshown, formula_of, system_of, way_in}
+use Rattle.engines.specs.Prepared.{AreShown, IsUnshown}
+use Rattle.verdicts.specs.Findings.{AreFindings, formula_of, system_of, way_in}
 use Rattle.engines.specs.Reasons.{AreReasons, AreTold, HasNoReasons, TellsReasons, reasons, remarks_of}
 use Rattle.engines.specs.StrictReasons.{HasNoReasonsBy, TellsReasonsBy}
 use Rattle.engines.proofs.Checks.{unprepared_of}

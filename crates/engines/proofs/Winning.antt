@@ -26,10 +26,11 @@ use Rattle.witness.specs.declared.part.Play.{Play}
 use Rattle.witness.proofs.Means.{shown_of}
 use Rattle.requests.specs.Roots.{WinsRoot}
 use Rattle.requests.specs.declared.texts.Texts.{Texts}
-use Rattle.engines.specs.Findings.{AreFindings, AreShown, IsPlayShown, IsWinning, formula_of, system_of}
-use Rattle.engines.specs.declared.findings.Findings.{Findings}
-use Rattle.engines.proofs.Limits.{nodes_some}
-use Rattle.engines.proofs.Roots.{arena_roots, root_below}
+use Rattle.engines.specs.Prepared.{AreShown, IsPlayShown, IsWinning}
+use Rattle.verdicts.specs.Findings.{AreFindings, formula_of, system_of}
+use Rattle.verdicts.specs.declared.findings.Findings.{Findings}
+use Rattle.verdicts.proofs.Limits.{nodes_some}
+use Rattle.verdicts.proofs.Roots.{arena_roots, root_below}
 
 abbrev game_in : Findings → Game
 game_in x = arc_value x.solution.game

@@ -1,4 +1,4 @@
-pub mod Findings
+pub mod Prepared
 pub mod Found
 pub mod Reasons
 pub mod StrictReasons

@@ -21,10 +21,11 @@ use Rattle.requests.specs.declared.error.MuError.TheVariants as error
 use Rattle.requests.specs.Check.{AreSpelled, ByGame, HasRefused, IsWithin}
 use Rattle.requests.specs.Report.{formula_line, initial_line}
 use Rattle.requests.specs.Writers.{WitnessText, lent_for}
-use Rattle.engines.specs.declared.findings.Findings.{Findings}
+use Rattle.verdicts.specs.declared.findings.Findings.{Findings}
 use Rattle.engines.specs.declared.reasons.Told.{Told}
 use Rattle.engines.specs.declared.reasons.TheConstants.{MOST_TOLD}
-use Rattle.engines.specs.Findings.{IsPlayShown, formula_of, system_of}
+use Rattle.engines.specs.Prepared.{IsPlayShown}
+use Rattle.verdicts.specs.Findings.{formula_of, system_of}
 
 -- the formula, whether the initial state satisfies it, and what is told of a witness, with what is remarked of its states and steps
 abbrev pub reasons : Formula → Bool → Remarks → System → List Line → List ℕ

@@ -7,12 +7,10 @@ ghost use Rattle.requests.specs.Causes.{HaveCauses};
 ghost use Rattle.requests.specs.Check.{Way, BySets, ByGame, AreMarks, AreSpelled, Answers, Checks, IsBeyond, IsErrorOf};
 ghost use Rattle.requests.specs.Command.{wanted_in, way_of};
 ghost use Rattle.requests.specs.Strict.{ChecksBy};
-ghost use Rattle.engines.specs.Findings.{AreFindings, ArePrepared, IsUnprepared, formula_of, system_of, way_in};
+ghost use Rattle.engines.specs.Prepared.{ArePrepared, IsUnprepared};
+ghost use Rattle.verdicts.specs.Findings.{AreFindings, formula_of, system_of, way_in};
 ghost use Rattle.requests.specs.Writers.{all_writers, evidence_writers, game_writer, lent_writers, no_writer, report_writer};
 
-use crate::beside::{FoundBeside, find_wanted};
-use crate::findings::{Findings, find_alone, find_with};
-use crate::marks::{game_marks, plain_marks};
 use crate::no_writer::NoWriter;
 use crate::outputs::{answer, put_wanted};
 use crate::prepared::{Prepared, prepare};
@@ -29,6 +27,9 @@ use std::sync::Wait;
 use std::thread::Threads;
 use text::sink::Sink;
 use text::source::Source;
+use verdicts::beside::{FoundBeside, find_wanted};
+use verdicts::findings::{Findings, find_alone, find_with};
+use verdicts::marks::{game_marks, plain_marks};
 use workers::gate::{Gate, NoGate};
 
 /// The report and no other text.

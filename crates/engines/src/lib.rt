@@ -2,18 +2,11 @@
 // table; and the exit status.
 #![tactic(auto)]
 
-mod beside;
 pub mod engine;
 mod expectation;
-mod findings;
-mod guessing;
-mod lifting;
-mod marks;
 mod no_writer;
 mod outputs;
-mod pairs;
 mod prepared;
-mod ranked;
 pub mod reasons;
 mod report;
 pub mod status;

@@ -1,10 +1,10 @@
 // The texts of a check, written in their order: the game, Even's evidence, Odd's, the witness, the report.
 
 ghost use Rattle.std.specs.Prelude.{◌≡◌, ◌∷◌, [], Some, MatchResult, Ok, Err, slice_index_or, false};
-ghost use Rattle.engines.specs.Findings.{AreFindings, ArePrepared, AreShown, IsTextFound};
+ghost use Rattle.engines.specs.Prepared.{ArePrepared, AreShown, IsTextFound};
+ghost use Rattle.verdicts.specs.Findings.{AreFindings};
 ghost use Rattle.requests.specs.Writers.{AreWritten, EvenText, OddText, all_writers, kind_where, lent_for, report_writer, witness_kind};
 
-use crate::findings::Findings;
 use crate::prepared::{Prepared, Shown, initial_mark};
 use evidence::writer::write_evidence;
 use lts::writer::write_part;
@@ -13,6 +13,7 @@ use pgsolver::writer::write_game;
 use requests::error::MuError;
 use requests::request::WitnessForm;
 use text::sink::Sink;
+use verdicts::findings::Findings;
 use witness::drawing::write_drawing;
 
 /// Writes the texts that are wanted, and then the report.

@@ -4,12 +4,10 @@ ghost use Rattle.std.specs.Prelude.{◌≡◌, ◌<◌, IfOk, IfErr, IfSome, IsT
 ghost use Rattle.std.specs.Arc.{arc_value};
 ghost use Rattle.std.specs.Option.{is_some};
 ghost use Rattle.engines.specs.declared.prepared.Shown.{Shown};
-ghost use Rattle.engines.specs.Findings.{AreFindings, AreOddsOf, ArePrepared, AreShown, IsPairOf, IsPlayShown, IsUnprepared, IsUnshown, IsWinning, formula_of};
-ghost use Rattle.engines.specs.Findings.{system_of};
+ghost use Rattle.engines.specs.Prepared.{ArePrepared, AreShown, IsPlayShown, IsUnprepared, IsUnshown, IsWinning};
+ghost use Rattle.verdicts.specs.Findings.{AreFindings, AreOddsOf, IsPairOf, formula_of, system_of};
 ghost use Rattle.requests.specs.Report.{report_in};
 
-use crate::findings::{Findings, odd_of};
-use crate::pairs::evidence_pair;
 use crate::report::report_text;
 use certify::pair::EvidencePair;
 use evidence::error::EvidenceError;
@@ -23,6 +21,8 @@ use normal::make::normal_with;
 use requests::error::MuError;
 use requests::request::{ReportForm, Wanted, WitnessForm};
 use std::alloc::Global;
+use verdicts::findings::{Findings, odd_of};
+use verdicts::pairs::evidence_pair;
 use witness::part::{Play, witness};
 
 /// A witness, and the form in which it is written.

@@ -8,12 +8,12 @@ ghost use Rattle.requests.specs.declared.error.MuError.TheVariants as error;
 ghost use Rattle.requests.specs.declared.texts.TheConstants.{FORMULA_BYTES};
 ghost use Rattle.engines.specs.Found.{IsFound};
 ghost use Rattle.engines.specs.Status.{error_status as status_of_error};
+ghost use Rattle.requests.specs.Check.{AreMarks, IsBeyond};
 ghost use Rattle.requests.specs.Known.{AreKnown};
 ghost use Rattle.requests.specs.Texts.{IsFormulaOf};
 ghost use Rattle.engines.specs.Table.{IsRefused, Tells, answer_line, code_of, fault_code, is_as_expected, name_end, place_of, refusal_line, remark, way_by};
 
 use crate::expectation::expectation;
-use crate::marks::marks_by;
 use crate::report::marked;
 use crate::status::error_status;
 use calculus::closed::Closed;
@@ -21,10 +21,10 @@ use formula::error::{FormulaError, FormulaFault};
 use game::error::BuildError;
 use lts::system::Lts;
 use lts::{Piece, WriteFault, put, put_pieces};
-use measures::observer::Silent;
+use measures::observer::{Observer, Silent};
 use normal::error::NormalError;
 use requests::error::MuError;
-use requests::request::Table;
+use requests::request::{Options, Table};
 use requests::texts::{look_where, parse_front, read_front};
 use requests::watch::Watcher;
 use std::alloc::Global;
@@ -34,6 +34,7 @@ use tables::error::TableError;
 use text::put_number;
 use text::sink::Sink;
 use text::source::Source;
+use verdicts::marks::{game_marks, plain_marks};
 
 /// What is found of a formula at the states of a system, and what its text says is expected.
 #[derive(Clone, Copy)]
@@ -173,6 +174,30 @@ fn find_marked<U: Watcher + Sync, H: Threads + Wait + Clone + Copy + Drop + Send
     match marks_by(rt, alloc, system, formula, options, request.plain, watcher) {
         Ok(marks) => Ok(found_of(system, &marks, expectation(text))),
         Err(error) => Err(error),
+    }
+}
+
+/// A mark for each state, true where it satisfies the formula: by sets of states where it is plain, else by the game, as the
+/// options ask for.
+///
+/// # Errors
+/// Those of `plain_marks`, or of `game_marks`.
+fn marks_by<O: Observer + Sync, H: Threads + Wait + Clone + Copy + Drop + Send + Sync>(
+    rt: &H,
+    alloc: Global,
+    system: &Lts,
+    formula: &Closed,
+    options: &Options,
+    plain: bool,
+    observer: &O,
+) -> Result<Vec<bool>, MuError>
+    ensures { let l = system.now.system in let f = closed_formula formula.now in let way = way_by options.now plain in
+        MatchResult result (λ marks. AreMarks way l f marks.items) (IsBeyond way l f) }
+{
+    if plain {
+        plain_marks(alloc, system, formula)
+    } else {
+        game_marks(rt, alloc, system, formula, options, observer)
     }
 }
 

@@ -2,25 +2,25 @@
 use Rattle.std.proofs.Common.{◌≡◌, ℕ, ◌<◌, ◌≤◌, List, [], ◌∷◌, ◌++◌, refl, sym, ap, ◌∙◌, subst, arith, append_assoc, append-nil}
 use Rattle.std.specs.Prelude.{IsTrue, nat_le, drop}
 use Rattle.std.proofs.lemmas.Bool.{leb-true, and_parts}
-use Rattle.formula.specs.declared.limits.TheConstants.{DEEPEST, MOST_PARENS}
-use Rattle.formula.specs.Token.{Token, Name, NotSign, Open, Close, Dot}
-use Rattle.formula.specs.Syntax.{RegSyntax, reg_tokens, reg_fits, reg_nesting, reg_parens, Syntax, True', False', Var', Group', Neg', Both', OneOf', If'}
-use Rattle.formula.specs.Syntax.{Dia', Box', Mu', Nu', form, ends_in_binder, fits, tokens, nesting, parens, is_within_limits}
-use Rattle.formula.specs.Written.{joined, connective_token, connective_row, modal, opening, closing, bound}
-use Rattle.formula.specs.Read.{state_row}
-use Rattle.formula.specs.declared.written.Connective.{Connective}
-use Rattle.formula.specs.declared.written.Connective.TheVariants as connective
-use Rattle.formula.specs.declared.written.Brackets.{Brackets}
-use Rattle.formula.specs.declared.written.Brackets.TheVariants as brackets
-use Rattle.formula.specs.declared.written.Binder.{Binder}
-use Rattle.formula.specs.declared.written.Binder.TheVariants as binder
-use Rattle.formula.proofs.Regulars.{all_true, le_true}
-use Rattle.formula.proofs.RegularUnique.{any_form}
-use Rattle.formula.proofs.RegularSpine.{one_at}
-use Rattle.formula.proofs.Unambiguous.{any_formula}
-use Rattle.formula.proofs.States.{joined-is, modal-tokens, modal-is, bound-tokens, bound-is}
-use Rattle.formula.proofs.StateSpine.{Standing, one-state, joined-operands, own_left, joined-split, spine, first-unary}
-use Rattle.formula.proofs.StatePlaces.{unary-as, modal-as, bound-as, modal-inside, closing-row}
+use Rattle.grammar.specs.declared.limits.TheConstants.{DEEPEST, MOST_PARENS}
+use Rattle.grammar.specs.Token.{Token, Name, NotSign, Open, Close, Dot}
+use Rattle.grammar.specs.Syntax.{RegSyntax, reg_tokens, reg_fits, reg_nesting, reg_parens, Syntax, True', False', Var', Group', Neg', Both', OneOf', If'}
+use Rattle.grammar.specs.Syntax.{Dia', Box', Mu', Nu', form, ends_in_binder, fits, tokens, nesting, parens, is_within_limits}
+use Rattle.grammar.specs.Written.{joined, connective_token, connective_row, modal, opening, closing, bound}
+use Rattle.grammar.specs.Read.{state_row}
+use Rattle.grammar.specs.declared.written.Connective.{Connective}
+use Rattle.grammar.specs.declared.written.Connective.TheVariants as connective
+use Rattle.grammar.specs.declared.written.Brackets.{Brackets}
+use Rattle.grammar.specs.declared.written.Brackets.TheVariants as brackets
+use Rattle.grammar.specs.declared.written.Binder.{Binder}
+use Rattle.grammar.specs.declared.written.Binder.TheVariants as binder
+use Rattle.grammar.proofs.Regulars.{all_true, le_true}
+use Rattle.grammar.proofs.RegularUnique.{any_form}
+use Rattle.grammar.proofs.RegularSpine.{one_at}
+use Rattle.grammar.proofs.Unambiguous.{any_formula}
+use Rattle.grammar.proofs.States.{joined-is, modal-tokens, modal-is, bound-tokens, bound-is}
+use Rattle.grammar.proofs.StateSpine.{Standing, one-state, joined-operands, own_left, joined-split, spine, first-unary}
+use Rattle.grammar.proofs.StatePlaces.{unary-as, modal-as, bound-as, modal-inside, closing-row}
 
 pub record NoLarger (s g : Syntax) : Type 0 where
   pub nests : nesting s ≤ nesting g

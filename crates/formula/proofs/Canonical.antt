@@ -8,11 +8,11 @@ use Rattle.systems.specs.Label.{is_label, multiset}
 use Rattle.calculus.specs.Tree.{Action, Anything, Nothing, Names, Quoted, NotAct, AndAct, OrAct, ImpliesAct, Regular, Step, Then, Either, Star, Plus, Formula}
 use Rattle.calculus.specs.Tree.{True, False, Var, Not, And, Or, Implies, Dia, Box, Mu, Nu}
 use Rattle.calculus.specs.Canon.{infix_text, binder_text, action_text, regular_text, canon}
-use Rattle.formula.specs.Token.{Token, Name, Atom, TrueWord, FalseWord, MuWord, NuWord, TauWord, ImpliesSign, OrSign, AndSign, Bar, NotSign, Less, Greater}
-use Rattle.formula.specs.Token.{OpenBox, CloseBox, Open, Close, Dot, ChoiceSign, PlusSign, StarSign, spelling, is_free_name, IsToken, Piece, Blank, Word}
-use Rattle.formula.specs.Token.{begins, token_ends, text_of, Cuts, tokens_of, words, reserved_words}
-use Rattle.formula.specs.Syntax.{RegSyntax, Anything', Nothing', Tau', Names', Quoted', Parens', Not', And', Or', Implies', Star', Plus', Then', Either'}
-use Rattle.formula.specs.Syntax.{reg_tokens, more_names, Syntax, True', False', Var', Group', Neg', Both', OneOf', If', Dia', Box', Mu', Nu', tokens}
+use Rattle.grammar.specs.Token.{Token, Name, Atom, TrueWord, FalseWord, MuWord, NuWord, TauWord, ImpliesSign, OrSign, AndSign, Bar, NotSign, Less, Greater}
+use Rattle.grammar.specs.Token.{OpenBox, CloseBox, Open, Close, Dot, ChoiceSign, PlusSign, StarSign, spelling, is_free_name, IsToken, Piece, Blank, Word}
+use Rattle.grammar.specs.Token.{begins, token_ends, text_of, Cuts, tokens_of, words, reserved_words}
+use Rattle.grammar.specs.Syntax.{RegSyntax, Anything', Nothing', Tau', Names', Quoted', Parens', Not', And', Or', Implies', Star', Plus', Then', Either'}
+use Rattle.grammar.specs.Syntax.{reg_tokens, more_names, Syntax, True', False', Var', Group', Neg', Both', OneOf', If', Dia', Box', Mu', Nu', tokens}
 
 -- Pieces that a text is made of, whatever pieces follow, if no byte of a name comes next.
 pub record Writes (text : List ℕ) (ts : List Token) : Type 0 where

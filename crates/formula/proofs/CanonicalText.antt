@@ -6,10 +6,10 @@ use Rattle.std.proofs.lemmas.Bool.{le-leb, and_from}
 use Rattle.calculus.specs.Tree.{Action, Names, NotAct, AndAct, OrAct, ImpliesAct, Regular, Step, Then, Either, Star, Plus, Formula, True, Not, And, Or}
 use Rattle.calculus.specs.Tree.{Implies, Dia, Box, Mu, Nu}
 use Rattle.calculus.specs.Canon.{canon}
-use Rattle.formula.specs.Token.{Token, ImpliesSign, OrSign, AndSign, Greater, CloseBox, Close, Dot, ChoiceSign, PlusSign, StarSign, is_after_postfix}
-use Rattle.formula.specs.Token.{is_decided}
-use Rattle.formula.specs.Syntax.{reg_form, reg_fits, reg_tokens, more_names, option_two, action_meant, regular_meant, form, ends_in_binder, left_fits, fits}
-use Rattle.formula.specs.Syntax.{tokens, meant}
+use Rattle.grammar.specs.Token.{Token, ImpliesSign, OrSign, AndSign, Greater, CloseBox, Close, Dot, ChoiceSign, PlusSign, StarSign, is_after_postfix}
+use Rattle.grammar.specs.Token.{is_decided}
+use Rattle.grammar.specs.Syntax.{reg_form, reg_fits, reg_tokens, more_names, option_two, action_meant, regular_meant, form, ends_in_binder, left_fits, fits}
+use Rattle.grammar.specs.Syntax.{tokens, meant}
 use Rattle.formula.specs.Spells.{IsWritten, Spells}
 use Rattle.formula.proofs.Canonical.{IsSpellableAction, IsSpellableRegular, IsSpellable, canon_action, canon_regular, canon_syntax, formula_written}
 

@@ -2,14 +2,14 @@
 use Rattle.std.specs.Prelude.{◌≡◌, ℕ, ◌+◌, ◌*◌, ◌<◌, ◌≤◌, true, false, List, [], ◌∷◌, ◌++◌, length, Some, Err, slice_get, refl, if◌then◌else◌}
 use Rattle.std.proofs.Common.{arith, sym, ap, true≢false}
 use Rattle.std.proofs.lemmas.List.{length-append}
-use Rattle.formula.specs.Token.{AndSign, OrSign, ImpliesSign, Dot, ChoiceSign, StarSign, PlusSign}
-use Rattle.formula.specs.Syntax.{RegSyntax, And', Or', Implies', Star', Plus', Then', Either', reg_tokens, more_names, counts_as_action}
+use Rattle.grammar.specs.Token.{AndSign, OrSign, ImpliesSign, Dot, ChoiceSign, StarSign, PlusSign}
+use Rattle.grammar.specs.Syntax.{RegSyntax, And', Or', Implies', Star', Plus', Then', Either', reg_tokens, more_names, counts_as_action}
 use Rattle.formula.specs.Fault.{operand_fault, reg_faults}
-use Rattle.formula.specs.Written.{infixed, joins_actions, infix_token}
+use Rattle.grammar.specs.Written.{infixed, joins_actions, infix_token}
 use Rattle.formula.specs.Checked.{IsChecked}
-use Rattle.formula.specs.declared.written.Infix.{Infix}
-use Rattle.formula.specs.declared.written.Infix.TheVariants as sign
-use Rattle.formula.proofs.Regulars.{infixed-tokens}
+use Rattle.grammar.specs.declared.written.Infix.{Infix}
+use Rattle.grammar.specs.declared.written.Infix.TheVariants as sign
+use Rattle.grammar.proofs.Regulars.{infixed-tokens}
 
 pub names-count : (names : List (List ℕ)) → length (more_names names) ≡ 2 * length names
 names-count [] = refl

@@ -6,14 +6,14 @@ use Rattle.std.proofs.lemmas.List.{append-nil, map-append, drop_all, drop-drop, 
 use Rattle.std.proofs.lemmas.Bool.{and_parts}
 use Rattle.std.proofs.lemmas.Bool.Decides.{nat_tests}
 use Rattle.text.specs.Text.{is_letter}
-use Rattle.formula.specs.Token.{Token, Name, Reserved, ChoiceSign, PlusSign, spelling, IsToken, is_free_name, Piece, Word, text_of, Cuts, tokens_of}
-use Rattle.formula.specs.Token.{offsets_from, is_decided, is_after_postfix, sign_is_decided, is_reserved, begins, token_ends}
-use Rattle.formula.specs.Written.{token_of, words}
+use Rattle.grammar.specs.Token.{Token, Name, Reserved, ChoiceSign, PlusSign, spelling, IsToken, is_free_name, Piece, Word, text_of, Cuts, tokens_of}
+use Rattle.grammar.specs.Token.{offsets_from, is_decided, is_after_postfix, sign_is_decided, is_reserved, begins, token_ends}
+use Rattle.grammar.specs.Written.{token_of, words}
 use Rattle.formula.specs.Cutting.{IsFront, IsGap, IsFirst, IsDecidedBy, is_postfix_before, begins_gap, Heads, IsCut, IsLexed}
-use Rattle.formula.specs.declared.token.Token.{Token as Lexeme}
-use Rattle.formula.specs.declared.token.Token.TheVariants as lexeme
-use Rattle.formula.specs.declared.token.Placed.{Placed}
-use Rattle.formula.proofs.Regulars.{all_true}
+use Rattle.grammar.specs.declared.token.Token.{Token as Lexeme}
+use Rattle.grammar.specs.declared.token.Token.TheVariants as lexeme
+use Rattle.grammar.specs.declared.token.Placed.{Placed}
+use Rattle.grammar.proofs.Regulars.{all_true}
 use Rattle.formula.proofs.Cuts.{tokens_of-append, offsets-append, offsets-none, front-append, word-front}
 
 pub not_reserved : (l : Lexeme) → is_reserved (token_of l) ≡ false

@@ -3,8 +3,8 @@ use Rattle.std.specs.Prelude.{◌≡◌, ◌≢◌, ◌⊎◌, ℕ, ◌+◌, Boo
 use Rattle.std.specs.List.{list_any}
 use Rattle.std.proofs.Common.{sym, ◌∙◌, ap, subst, append_assoc, append-nil, true≢false, inl, inr}
 use Rattle.std.proofs.lemmas.List.{length-append}
-use Rattle.formula.specs.Token.{Reserved, PlusSign, spelling, Piece, Blank, Comment, Word, piece_text, IsPiece, piece_ends, text_of, Cuts, tokens_of}
-use Rattle.formula.specs.Token.{offsets_from, is_reserved}
+use Rattle.grammar.specs.Token.{Reserved, PlusSign, spelling, Piece, Blank, Comment, Word, piece_text, IsPiece, piece_ends, text_of, Cuts, tokens_of}
+use Rattle.grammar.specs.Token.{offsets_from, is_reserved}
 use Rattle.formula.specs.Fault.{NothingBegins, TokenFault, IsTokens}
 use Rattle.formula.specs.declared.error.FormulaFault.{FormulaFault}
 use Rattle.formula.specs.declared.error.FormulaFault.TheVariants as fault

@@ -1,13 +1,13 @@
 -- The longest front of tokens that formulas within the limits begin with is one.
 use Rattle.std.specs.Prelude.{◌≡◌, ◌⊎◌, ℕ, List, [], ◌∷◌, ◌++◌, length, IsTrue, Some, slice_get, refl}
 use Rattle.std.proofs.Common.{sym, ◌∙◌, ap, subst, append_assoc, append-nil, inl, inr}
-use Rattle.formula.specs.Token.{Token, Piece, tokens_of, offsets_from}
-use Rattle.formula.specs.Syntax.{Syntax, tokens, fits, is_within_limits}
+use Rattle.grammar.specs.Token.{Token, Piece, tokens_of, offsets_from}
+use Rattle.grammar.specs.Syntax.{Syntax, tokens, fits, is_within_limits}
 use Rattle.formula.specs.Fault.{Begins, BeginsWithin, IsTokens, GrammarFault}
 use Rattle.formula.specs.Spells.{IsWritten}
 use Rattle.formula.specs.declared.error.FormulaFault.{FormulaFault}
 use Rattle.formula.specs.declared.error.FormulaFault.TheVariants as fault
-use Rattle.formula.proofs.RegularUnique.{some_once}
+use Rattle.grammar.proofs.RegularUnique.{some_once}
 use Rattle.formula.proofs.Pieces.{heads_same, same_tokens}
 use Rattle.formula.proofs.OneCut.{same_offsets}
 

@@ -5,10 +5,10 @@ use Rattle.std.proofs.Common.{inl, inr, arith, sym, ◌∙◌, ap, subst, append
 use Rattle.std.proofs.lemmas.Bool.Decides.{leb_tells}
 use Rattle.std.proofs.lemmas.List.{length-append}
 use Rattle.std.proofs.lemmas.List.Folds.{list_any-append}
-use Rattle.formula.specs.declared.limits.TheConstants.{LONGEST_TEXT}
+use Rattle.grammar.specs.declared.limits.TheConstants.{LONGEST_TEXT}
 use Rattle.calculus.specs.Tree.{Formula}
-use Rattle.formula.specs.Token.{Token, Reserved, TrueWord, Piece, Word, IsPiece, piece_text, piece_ends, Cuts, text_of, tokens_of, offsets_from, is_reserved}
-use Rattle.formula.specs.Syntax.{Syntax, True', fits, tokens, meant, is_within_limits}
+use Rattle.grammar.specs.Token.{Token, Reserved, TrueWord, Piece, Word, IsPiece, piece_text, piece_ends, Cuts, text_of, tokens_of, offsets_from, is_reserved}
+use Rattle.grammar.specs.Syntax.{Syntax, True', fits, tokens, meant, is_within_limits}
 use Rattle.formula.specs.Spells.{IsWritten, SpellsWithin}
 use Rattle.calculus.specs.Admitted.{IsAdmitted}
 use Rattle.formula.specs.Fault.{NothingBegins, BeginsWithin, IsTokens, TokenFault, GrammarFault, TreeFault, HasFault, operand_faults, variable_faults}

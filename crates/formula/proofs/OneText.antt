@@ -2,16 +2,16 @@
 use Rattle.std.specs.Prelude.{◌⊎◌, [], ◌∷◌, ◌++◌, map, IsTrue, Some, slice_get, IsSome, refl}
 use Rattle.std.proofs.Common.{◌≡◌, ℕ, List, sym, ap, ◌∙◌, arith, inl, inr, subst}
 use Rattle.calculus.specs.Tree.{Formula}
-use Rattle.formula.specs.Token.{Piece, offsets_from}
-use Rattle.formula.specs.Syntax.{Syntax, meant, is_within_limits}
+use Rattle.grammar.specs.Token.{Piece, offsets_from}
+use Rattle.grammar.specs.Syntax.{Syntax, meant, is_within_limits}
 use Rattle.formula.specs.Spells.{IsWritten, Spells, SpellsWithin}
 use Rattle.formula.specs.Fault.{TokenFault, GrammarFault, operand_faults, variable_faults, TreeFault, HasFault}
 use Rattle.formula.specs.declared.error.FormulaFault.{FormulaFault}
 use Rattle.formula.specs.declared.error.FormulaFault.TheVariants as fault
 use Rattle.calculus.specs.Admitted.{IsAdmitted}
 use Rattle.formula.proofs.Pieces.{same_tokens}
-use Rattle.formula.proofs.RegularUnique.{some_once}
-use Rattle.formula.proofs.Unambiguous.{one_syntax}
+use Rattle.grammar.proofs.RegularUnique.{some_once}
+use Rattle.grammar.proofs.Unambiguous.{one_syntax}
 use Rattle.formula.proofs.OneCut.{one_token_fault, no_token_fault, same_offsets}
 use Rattle.formula.proofs.OneFront.{one_grammar_fault, no_grammar_fault, grammar_tokens}
 use Rattle.formula.proofs.Unreserved.{written_tokens}

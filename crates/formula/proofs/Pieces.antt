@@ -9,10 +9,10 @@ use Rattle.std.proofs.lemmas.Slice.Eq.{bytes_eq-Decides}
 use Rattle.text.specs.Text.{is_name, is_name_byte, is_letter, is_digit}
 use Rattle.systems.specs.declared.limits.TheConstants.{LONGEST_LABEL}
 use Rattle.systems.specs.Label.{is_label_byte}
-use Rattle.formula.specs.Token.{Token, Name, Reserved, Atom, TrueWord, FalseWord, MuWord, NuWord, TauWord, ImpliesSign, OrSign, AndSign, Bar, NotSign, Less}
-use Rattle.formula.specs.Token.{Greater, OpenBox, CloseBox, Open, Close, Dot, ChoiceSign, PlusSign, StarSign, spelling, words, reserved_words, is_free_name}
-use Rattle.formula.specs.Token.{IsToken, Piece, Blank, Comment, Word, piece_text, IsPiece, begins, token_ends, piece_ends, text_of, Cuts, tokens_of}
-use Rattle.formula.specs.Token.{is_after_postfix, sign_is_decided, is_decided}
+use Rattle.grammar.specs.Token.{Token, Name, Reserved, Atom, TrueWord, FalseWord, MuWord, NuWord, TauWord, ImpliesSign, OrSign, AndSign, Bar, NotSign, Less}
+use Rattle.grammar.specs.Token.{Greater, OpenBox, CloseBox, Open, Close, Dot, ChoiceSign, PlusSign, StarSign, spelling, words, reserved_words, is_free_name}
+use Rattle.grammar.specs.Token.{IsToken, Piece, Blank, Comment, Word, piece_text, IsPiece, begins, token_ends, piece_ends, text_of, Cuts, tokens_of}
+use Rattle.grammar.specs.Token.{is_after_postfix, sign_is_decided, is_decided}
 
 -- the longest front whose bytes pass, and the rest
 abbrev front : (ℕ → Bool) → List ℕ → List ℕ

@@ -6,10 +6,10 @@ use Rattle.std.proofs.Common.{arith, get_or}
 use Rattle.std.proofs.lemmas.List.{length-append}
 use Rattle.std.proofs.lemmas.Option.{slice_get-get_or}
 use Rattle.lts.proofs.Gathering.{all_append}
-use Rattle.formula.specs.Token.{Token, Close, Greater, CloseBox, AndSign, OrSign, ImpliesSign, StarSign, PlusSign, Dot, ChoiceSign, spelling, Piece, Blank}
-use Rattle.formula.specs.Token.{Comment, Word, tokens_of, offsets_from}
-use Rattle.formula.specs.Syntax.{RegSyntax, Parens', Not', And', Or', Implies', Star', Plus', Then', Either', reg_tokens, counts_as_action, Syntax, Var'}
-use Rattle.formula.specs.Syntax.{Group', Neg', Both', OneOf', If', Dia', Box', Mu', Nu', tokens}
+use Rattle.grammar.specs.Token.{Token, Close, Greater, CloseBox, AndSign, OrSign, ImpliesSign, StarSign, PlusSign, Dot, ChoiceSign, spelling, Piece, Blank}
+use Rattle.grammar.specs.Token.{Comment, Word, tokens_of, offsets_from}
+use Rattle.grammar.specs.Syntax.{RegSyntax, Parens', Not', And', Or', Implies', Star', Plus', Then', Either', reg_tokens, counts_as_action, Syntax, Var'}
+use Rattle.grammar.specs.Syntax.{Group', Neg', Both', OneOf', If', Dia', Box', Mu', Nu', tokens}
 use Rattle.calculus.specs.Admitted.{Scope, negated}
 use Rattle.formula.specs.Fault.{operand_fault, reg_faults, operand_faults, variable_fault, variable_faults}
 use Rattle.formula.specs.Checked.{is_variable_fault}

@@ -7,38 +7,39 @@ use Rattle.std.proofs.lemmas.Bool.{leb-true, and_parts}
 use Rattle.std.proofs.lemmas.Result.{IfOk-weaker}
 use Rattle.text.specs.Reads.{Reads}
 use Rattle.text.proofs.Promised.{AreLaws, keeps}
-use Rattle.formula.specs.Token.{Token, is_reserved}
+use Rattle.grammar.specs.Token.{Token, is_reserved}
 use Rattle.calculus.specs.Tree.{Formula}
-use Rattle.formula.specs.Syntax.{Syntax, meant, tokens, nesting, parens, is_within_limits}
+use Rattle.grammar.specs.Syntax.{Syntax, meant, tokens, nesting, parens, is_within_limits}
 use Rattle.formula.specs.Spells.{IsWritten, Spells, SpellsWithin}
 use Rattle.calculus.specs.Admitted.{IsAdmitted}
 use Rattle.formula.specs.Fault.{BeginsWithin, IsTokens, HasFaultAt, operand_faults, variable_faults}
 use Rattle.calculus.specs.View.{formula_of}
-use Rattle.formula.specs.Written.{words, state_syntax}
+use Rattle.grammar.specs.Written.{words, state_syntax}
 use Rattle.formula.specs.Cutting.{IsLexed, IsTokenRefusal}
-use Rattle.formula.specs.Read.{IsWhole, IsRefusal, IsState, state_tokens, state_row}
-use Rattle.formula.specs.Misread.{BeginsState, StandsState, Within, SpellsTokens, IsStateMisread, IsWholeMisread, IsGrammarRefusal}
+use Rattle.grammar.specs.Read.{IsWhole, IsState, state_tokens, state_row}
+use Rattle.formula.specs.Refused.{IsGrammarRefusal, IsRefusal}
+use Rattle.grammar.specs.Misread.{BeginsState, StandsState, Within, SpellsTokens, IsStateMisread, IsWholeMisread}
 use Rattle.formula.specs.Checked.{IsTreeRefusal, IsTold, named, is_variable_fault}
 use Rattle.calculus.specs.Closed.{closed_formula}
-use Rattle.formula.specs.declared.limits.TheConstants.{LONGEST_TEXT, DEEPEST, MOST_PARENS}
+use Rattle.grammar.specs.declared.limits.TheConstants.{LONGEST_TEXT, DEEPEST, MOST_PARENS}
 use Rattle.calculus.specs.declared.closed.Closed.{Closed}
-use Rattle.formula.specs.declared.token.Placed.{Placed}
+use Rattle.grammar.specs.declared.token.Placed.{Placed}
 use Rattle.formula.specs.declared.scope.Misplaced.{Misplaced}
-use Rattle.formula.specs.declared.state.ReadState.{ReadState}
+use Rattle.grammar.specs.declared.state.ReadState.{ReadState}
 use Rattle.calculus.specs.declared.tree.State.{State}
-use Rattle.formula.specs.declared.misread.Misread.{Misread}
-use Rattle.formula.specs.declared.misread.Misread.TheVariants as misread
+use Rattle.grammar.specs.declared.misread.Misread.{Misread}
+use Rattle.grammar.specs.declared.misread.Misread.TheVariants as misread
 use Rattle.formula.specs.declared.error.FormulaFault.{FormulaFault}
 use Rattle.formula.specs.declared.error.FormulaFault.TheVariants as fault
 use Rattle.formula.specs.declared.error.FormulaError.{FormulaError}
 use Rattle.formula.specs.declared.error.FormulaError.TheVariants as refused
-use Rattle.formula.proofs.Regulars.{all_true, le_true}
-use Rattle.formula.proofs.Unambiguous.{any_formula}
+use Rattle.grammar.proofs.Regulars.{all_true, le_true}
+use Rattle.grammar.proofs.Unambiguous.{any_formula}
 use Rattle.formula.proofs.Tokenless.{free_words}
-use Rattle.formula.proofs.Misreads.{Parts, IsPlace, misread-within}
-use Rattle.formula.proofs.StateSpine.{Standing, one-state}
-use Rattle.formula.proofs.StateEnds.{begun-by, same-row}
-use Rattle.formula.proofs.RegularRefusals.{words-length}
+use Rattle.grammar.proofs.Misreads.{Parts, IsPlace, misread-within}
+use Rattle.grammar.proofs.StateSpine.{Standing, one-state}
+use Rattle.grammar.proofs.StateEnds.{begun-by, same-row}
+use Rattle.grammar.proofs.RegularRefusals.{words-length}
 use Rattle.formula.proofs.Sense.{admitted_in}
 use Rattle.formula.proofs.OneText.{one_formula, no_fault, one_fault}
 

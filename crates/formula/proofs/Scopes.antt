@@ -2,19 +2,19 @@
 use Rattle.std.specs.Prelude.{◌≡◌, ℕ, ◌+◌, ◌<◌, Bool, true, false, not, List, [], ◌∷◌, ◌++◌, length, Result, Ok, Err, slice_get, refl}
 use Rattle.std.proofs.Common.{arith, sym, ◌∙◌, ap, subst}
 use Rattle.std.proofs.lemmas.List.{length-append}
-use Rattle.formula.specs.Syntax.{Syntax, tokens, Neg'}
+use Rattle.grammar.specs.Syntax.{Syntax, tokens, Neg'}
 use Rattle.calculus.specs.Admitted.{negated}
 use Rattle.formula.specs.Fault.{variable_faults}
-use Rattle.formula.specs.Written.{joined, connective_token}
+use Rattle.grammar.specs.Written.{joined, connective_token}
 use Rattle.formula.specs.Checked.{AreChecked, scope_of, left_parity, same}
 use Rattle.formula.specs.declared.error.FormulaFault.{FormulaFault}
 use Rattle.formula.specs.declared.scope.Binders.{Binders}
 use Rattle.formula.specs.declared.scope.Binders.TheVariants as binders
 use Rattle.formula.specs.declared.scope.Misplaced.{Misplaced}
-use Rattle.formula.specs.declared.written.Connective.{Connective}
-use Rattle.formula.specs.declared.written.Connective.TheVariants as connective
+use Rattle.grammar.specs.declared.written.Connective.{Connective}
+use Rattle.grammar.specs.declared.written.Connective.TheVariants as connective
 use Rattle.formula.proofs.Faults.{first-left}
-use Rattle.formula.proofs.States.{joined-tokens}
+use Rattle.grammar.proofs.States.{joined-tokens}
 
 same-not : (a b : Bool) → not (same a b) ≡ same a (not b)
 same-not true b = refl

@@ -4,8 +4,8 @@ use Rattle.std.specs.Option.{is_some}
 use Rattle.std.specs.Str.{bytes_eq}
 use Rattle.std.proofs.Common.{sym, ◌∙◌, ap}
 use Rattle.calculus.specs.Tree.{Formula, Not, And, Or, Implies, Dia, Box, Mu, Nu}
-use Rattle.formula.specs.Syntax.{RegSyntax, Parens', Not', And', Or', Implies', Star', Plus', Then', Either', counts_as_action, action_meant, regular_meant}
-use Rattle.formula.specs.Syntax.{option_two, Syntax, True', False', Var', Group', Neg', Both', OneOf', If', Dia', Box', Mu', Nu', meant}
+use Rattle.grammar.specs.Syntax.{RegSyntax, Parens', Not', And', Or', Implies', Star', Plus', Then', Either', counts_as_action, action_meant, regular_meant}
+use Rattle.grammar.specs.Syntax.{option_two, Syntax, True', False', Var', Group', Neg', Both', OneOf', If', Dia', Box', Mu', Nu', meant}
 use Rattle.calculus.specs.Admitted.{Scope, negated, is_free_to_stand, is_admitted_in}
 use Rattle.formula.specs.Fault.{operand_fault, reg_faults, operand_faults, variable_fault, variable_faults}
 use Rattle.formula.specs.declared.error.FormulaFault.TheVariants.{OddNegations}

@@ -2,10 +2,10 @@
 use Rattle.std.specs.Prelude.{◌≡◌, ℕ, Bool, true, false, not, ◌||◌, List, [], ◌∷◌, ◌++◌, IsTrue, IsFalse, refl, if◌then◌else◌}
 use Rattle.std.specs.List.{list_any}
 use Rattle.std.proofs.Common.{sym, ◌∙◌, ap, subst}
-use Rattle.formula.specs.Token.{Token, ChoiceSign, PlusSign, spelling, IsToken, Piece, Blank, Comment, Word, piece_ends, token_ends, text_of, Cuts, tokens_of}
-use Rattle.formula.specs.Token.{is_after_postfix, sign_is_decided, is_decided, is_reserved}
+use Rattle.grammar.specs.Token.{Token, ChoiceSign, PlusSign, spelling, IsToken, Piece, Blank, Comment, Word, piece_ends, token_ends, text_of, Cuts, tokens_of}
+use Rattle.grammar.specs.Token.{is_after_postfix, sign_is_decided, is_decided, is_reserved}
 use Rattle.formula.specs.Fault.{IsTokens}
-use Rattle.formula.proofs.Regulars.{all_true}
+use Rattle.grammar.proofs.Regulars.{all_true}
 use Rattle.formula.proofs.Pieces.{plain_token, decided}
 
 -- the token that the next ones make of this one

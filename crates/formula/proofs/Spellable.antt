@@ -4,15 +4,15 @@ use Rattle.std.specs.Prelude.{nat_le, IfSome}
 use Rattle.std.specs.List.{AllByRecursion}
 use Rattle.std.proofs.lemmas.Bool.{leb-true, le-leb, and_parts, and_from}
 use Rattle.systems.specs.Label.{multiset}
-use Rattle.formula.specs.declared.limits.TheConstants.{LONGEST_TEXT, DEEPEST, MOST_PARENS}
+use Rattle.grammar.specs.declared.limits.TheConstants.{LONGEST_TEXT, DEEPEST, MOST_PARENS}
 use Rattle.calculus.specs.Tree.{Action, Anything, Nothing, Names, Quoted, NotAct, AndAct, OrAct, ImpliesAct, Regular, Step, Then, Either, Star, Plus, Formula}
 use Rattle.calculus.specs.Tree.{True, False, Var, Not, And, Or, Implies, Dia, Box, Mu, Nu}
 use Rattle.calculus.specs.Canon.{canon}
-use Rattle.formula.specs.Token.{Token, Name, ImpliesSign, OrSign, AndSign, Greater, CloseBox, Close, Dot, ChoiceSign, PlusSign, StarSign, is_free_name}
-use Rattle.formula.specs.Token.{IsToken, Piece, Blank, Comment, Word, Cuts, tokens_of}
-use Rattle.formula.specs.Syntax.{RegSyntax, Anything', Nothing', Tau', Names', Quoted', Parens', Not', And', Or', Implies', Star', Plus', Then', Either'}
-use Rattle.formula.specs.Syntax.{reg_tokens, more_names, option_two, action_meant, regular_meant, reg_nesting, reg_parens, Syntax, True', False', Var'}
-use Rattle.formula.specs.Syntax.{Group', Neg', Both', OneOf', If', Dia', Box', Mu', Nu', tokens, meant, nesting, parens}
+use Rattle.grammar.specs.Token.{Token, Name, ImpliesSign, OrSign, AndSign, Greater, CloseBox, Close, Dot, ChoiceSign, PlusSign, StarSign, is_free_name}
+use Rattle.grammar.specs.Token.{IsToken, Piece, Blank, Comment, Word, Cuts, tokens_of}
+use Rattle.grammar.specs.Syntax.{RegSyntax, Anything', Nothing', Tau', Names', Quoted', Parens', Not', And', Or', Implies', Star', Plus', Then', Either'}
+use Rattle.grammar.specs.Syntax.{reg_tokens, more_names, option_two, action_meant, regular_meant, reg_nesting, reg_parens, Syntax, True', False', Var'}
+use Rattle.grammar.specs.Syntax.{Group', Neg', Both', OneOf', If', Dia', Box', Mu', Nu', tokens, meant, nesting, parens}
 use Rattle.formula.specs.Spells.{Spells, SpellsWithin}
 use Rattle.formula.proofs.Ascending.{multiset_again, multiset_all}
 use Rattle.formula.proofs.Canonical.{IsSpellableAction, IsSpellableRegular, IsSpellable, canon_action, canon_regular, canon_syntax}

@@ -11,12 +11,12 @@ use Rattle.std.proofs.lemmas.List.Sums.{take_while-cons}
 use Rattle.text.specs.Text.{is_name, is_name_byte, is_letter}
 use Rattle.systems.specs.declared.limits.TheConstants.{LONGEST_LABEL}
 use Rattle.systems.specs.Label.{is_label_byte}
-use Rattle.formula.specs.Token.{Token, Name, Reserved, Atom, TrueWord, FalseWord, MuWord, NuWord, TauWord, ImpliesSign, OrSign, AndSign, spelling}
-use Rattle.formula.specs.Token.{reserved_words, IsToken, Blank, Comment, Word, begins, text_of, Cuts, tokens_of, is_reserved}
-use Rattle.formula.specs.Written.{words}
+use Rattle.grammar.specs.Token.{Token, Name, Reserved, Atom, TrueWord, FalseWord, MuWord, NuWord, TauWord, ImpliesSign, OrSign, AndSign, spelling}
+use Rattle.grammar.specs.Token.{reserved_words, IsToken, Blank, Comment, Word, begins, text_of, Cuts, tokens_of, is_reserved}
+use Rattle.grammar.specs.Written.{words}
 use Rattle.formula.specs.Fault.{NothingBegins, TokenFault}
 use Rattle.formula.specs.Cutting.{IsCut, Stands, IsAtomless, IsSignless, BeginsReserved, IsTokenless, begins_gap, is_single, is_double}
-use Rattle.formula.specs.declared.token.Placed.{Placed}
+use Rattle.grammar.specs.declared.token.Placed.{Placed}
 use Rattle.formula.specs.declared.error.FormulaFault.{FormulaFault}
 use Rattle.formula.specs.declared.error.FormulaFault.TheVariants as fault
 use Rattle.formula.proofs.Cuts.{Run}

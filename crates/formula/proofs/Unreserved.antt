@@ -3,9 +3,9 @@ use Rattle.std.specs.Prelude.{ℕ, ◌||◌, List, [], ◌∷◌, ◌++◌, IsFa
 use Rattle.std.specs.List.{list_any}
 use Rattle.std.proofs.Common.{◌∙◌, ap}
 use Rattle.std.proofs.lemmas.List.Folds.{list_any-append}
-use Rattle.formula.specs.Token.{Token, Close, AndSign, OrSign, ImpliesSign, StarSign, PlusSign, Dot, ChoiceSign, Greater, CloseBox, Piece, is_reserved}
-use Rattle.formula.specs.Syntax.{RegSyntax, Names', Parens', Not', And', Or', Implies', Star', Plus', Then', Either', more_names, reg_tokens, Syntax, Group'}
-use Rattle.formula.specs.Syntax.{Neg', Both', OneOf', If', Dia', Box', Mu', Nu', tokens}
+use Rattle.grammar.specs.Token.{Token, Close, AndSign, OrSign, ImpliesSign, StarSign, PlusSign, Dot, ChoiceSign, Greater, CloseBox, Piece, is_reserved}
+use Rattle.grammar.specs.Syntax.{RegSyntax, Names', Parens', Not', And', Or', Implies', Star', Plus', Then', Either', more_names, reg_tokens, Syntax, Group'}
+use Rattle.grammar.specs.Syntax.{Neg', Both', OneOf', If', Dia', Box', Mu', Nu', tokens}
 use Rattle.formula.specs.Fault.{IsTokens}
 use Rattle.formula.specs.Spells.{IsWritten}
 

@@ -5,10 +5,10 @@ use Rattle.formula.specs.declared.error.FormulaFault.{FormulaFault}
 use Rattle.formula.specs.declared.error.FormulaFault.TheVariants as fault
 use Rattle.formula.specs.declared.error.FormulaError.{FormulaError}
 use Rattle.formula.specs.declared.error.FormulaError.TheVariants as refused
-use Rattle.formula.specs.Syntax.{Syntax}
+use Rattle.grammar.specs.Syntax.{Syntax}
 use Rattle.formula.specs.Fault.{HasFaultAt, operand_faults, variable_faults}
-use Rattle.formula.specs.declared.written.Connective.{Connective}
-use Rattle.formula.specs.declared.written.Connective.TheVariants as connective
+use Rattle.grammar.specs.declared.written.Connective.{Connective}
+use Rattle.grammar.specs.declared.written.Connective.TheVariants as connective
 use Rattle.formula.specs.declared.scope.Binders.{Binders}
 use Rattle.formula.specs.declared.scope.Binders.TheVariants as binders
 use Rattle.formula.specs.declared.scope.Misplaced.{Misplaced}

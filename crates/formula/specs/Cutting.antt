@@ -4,11 +4,11 @@ use Rattle.std.specs.Prelude.{slice_get, ◌==◌, ◌&&◌, ◌||◌, if◌then
 use Rattle.std.specs.List.{list_any}
 use Rattle.std.specs.Str.{bytes_eq}
 use Rattle.text.specs.Text.{is_name, is_name_byte}
-use Rattle.formula.specs.Token.{Token, Reserved, Atom, ChoiceSign, PlusSign, spelling, reserved_words, IsToken, Piece, Word, begins, token_ends, text_of}
-use Rattle.formula.specs.Token.{Cuts, tokens_of, offsets_from, is_decided, is_reserved}
-use Rattle.formula.specs.Written.{words}
+use Rattle.grammar.specs.Token.{Token, Reserved, Atom, ChoiceSign, PlusSign, spelling, reserved_words, IsToken, Piece, Word, begins, token_ends, text_of}
+use Rattle.grammar.specs.Token.{Cuts, tokens_of, offsets_from, is_decided, is_reserved}
+use Rattle.grammar.specs.Written.{words}
 use Rattle.formula.specs.Fault.{TokenFault}
-use Rattle.formula.specs.declared.token.Placed.{Placed}
+use Rattle.grammar.specs.declared.token.Placed.{Placed}
 use Rattle.formula.specs.declared.error.FormulaFault.{FormulaFault}
 use Rattle.formula.specs.declared.error.FormulaFault.TheVariants as fault
 use Rattle.formula.specs.declared.error.FormulaError.{FormulaError}

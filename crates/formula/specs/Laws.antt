@@ -1,6 +1,6 @@
 -- What holds of all texts of formulas.
 use Rattle.std.specs.Prelude.{◌≡◌, ℕ, ◌≤◌, List, length}
-use Rattle.formula.specs.declared.limits.TheConstants.{LONGEST_TEXT}
+use Rattle.grammar.specs.declared.limits.TheConstants.{LONGEST_TEXT}
 use Rattle.calculus.specs.Tree.{Formula}
 use Rattle.calculus.specs.Canon.{canon}
 use Rattle.formula.specs.Spells.{Spells, SpellsWithin}

@@ -1,10 +1,6 @@
-pub mod Token
-pub mod Syntax
 pub mod Spells
 pub mod Fault
-pub mod Written
-pub mod Read
-pub mod Misread
+pub mod Refused
 pub mod Cutting
 pub mod Laws
 pub mod Checked

@@ -6,13 +6,13 @@ ghost use Rattle.std.specs.List.{take_while, list_any};
 ghost use Rattle.std.specs.Str.{bytes_eq};
 ghost use Rattle.text.specs.Text.{is_letter as is_letter_of, is_name_byte as is_name_byte_of};
 ghost use Rattle.systems.specs.Label.{is_label_byte as is_label_byte_of};
-ghost use Rattle.formula.specs.Token.{ChoiceSign, PlusSign, reserved_words, begins};
-ghost use Rattle.formula.specs.Written.{token_of};
+ghost use Rattle.grammar.specs.Token.{ChoiceSign, PlusSign, reserved_words, begins};
+ghost use Rattle.grammar.specs.Written.{token_of};
 ghost use Rattle.formula.specs.Cutting.{IsGap, IsFirst, IsSingle, IsDouble, IsNamed, IsCut, IsLexed, IsDecidedBy, IsAtomless, IsSignless, BeginsReserved};
 ghost use Rattle.formula.specs.Cutting.{IsTokenless, IsTokenRefusal, begins_gap, is_double, is_single, is_postfix_before};
 
 use crate::error::{FormulaError, FormulaFault};
-use crate::token::{Placed, Token};
+use grammar::token::{Placed, Token};
 use std::alloc::Global;
 use systems::limits::LONGEST_LABEL;
 use text::bytes::{is_letter, is_name_byte};

@@ -2,14 +2,14 @@
 
 ghost use Rattle.std.specs.Prelude.{◌≡◌, ◌∷◌, map, Some, IsSome, MatchResult};
 ghost use Rattle.systems.specs.Label.{multiset as multiset_of};
-ghost use Rattle.formula.specs.Syntax.{action_meant, regular_meant, meant};
+ghost use Rattle.grammar.specs.Syntax.{action_meant, regular_meant, meant};
 ghost use Rattle.calculus.specs.View.{action_of, regular_of, formula_of};
-ghost use Rattle.formula.specs.Written.{reg_syntax, state_syntax, infixed, joined, modal, bound};
+ghost use Rattle.grammar.specs.Written.{reg_syntax, state_syntax, infixed, joined, modal, bound};
 
 use crate::error::FormulaError;
-use crate::room::boxed;
 use crate::tree::{Act, Reg, State};
-use crate::written::{Binder, Brackets, Connective, Infix, Repeat, WrittenRegular, WrittenState};
+use grammar::room::boxed;
+use grammar::written::{Binder, Brackets, Connective, Infix, Repeat, WrittenRegular, WrittenState};
 use std::alloc::Global;
 
 /// The bytes, copied.

@@ -1,12 +1,12 @@
 // Finds the operands inside modalities that are no action formulas. Places are numbers of tokens.
 
 ghost use Rattle.std.specs.Prelude.{◌≡◌, ◌+◌, ◌<◌, ◌^◌, length};
-ghost use Rattle.formula.specs.Syntax.{tokens, reg_tokens};
+ghost use Rattle.grammar.specs.Syntax.{tokens, reg_tokens};
 ghost use Rattle.formula.specs.Fault.{operand_fault, reg_faults, operand_faults};
-ghost use Rattle.formula.specs.Written.{reg_syntax, state_syntax};
+ghost use Rattle.grammar.specs.Written.{reg_syntax, state_syntax};
 ghost use Rattle.formula.specs.Checked.{IsChecked};
 
-use crate::written::{WrittenRegular, WrittenState};
+use grammar::written::{WrittenRegular, WrittenState};
 
 /// The place after an operand that begins at this place, or that of the first operand that is no action formula.
 #[cycle(operands)]

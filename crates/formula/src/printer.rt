@@ -5,7 +5,7 @@ ghost use Rattle.text.specs.Wrote.{Wrote};
 ghost use Rattle.calculus.specs.Closed.{closed_formula};
 ghost use Rattle.calculus.specs.Canon.{canon};
 ghost use Rattle.formula.specs.Spells.{IsSpellable, Spells, SpellsWithin};
-ghost use Rattle.formula.specs.declared.limits.TheConstants.{LONGEST_TEXT};
+ghost use Rattle.grammar.specs.declared.limits.TheConstants.{LONGEST_TEXT};
 
 use crate::closed::Closed;
 use calculus::put_state;

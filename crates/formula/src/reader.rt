@@ -2,12 +2,13 @@
 
 ghost use Rattle.std.specs.Prelude.{◌≡◌, ◌⊎◌, ◌<◌, ◌≤◌, [], length, map, Some, MatchResult, slice_get};
 ghost use Rattle.text.specs.Reads.{Reads};
-ghost use Rattle.formula.specs.Syntax.{meant as meant_by};
+ghost use Rattle.grammar.specs.Syntax.{meant as meant_by};
 ghost use Rattle.formula.specs.Cutting.{IsLexed};
-ghost use Rattle.formula.specs.Written.{words, state_syntax};
+ghost use Rattle.grammar.specs.Written.{words, state_syntax};
 ghost use Rattle.formula.specs.Fault.{HasFaultAt, operand_faults, variable_faults};
-ghost use Rattle.formula.specs.Read.{IsWhole, IsRefusal};
-ghost use Rattle.formula.specs.Misread.{IsWholeMisread, IsGrammarRefusal};
+ghost use Rattle.grammar.specs.Read.{IsWhole};
+ghost use Rattle.formula.specs.Refused.{IsGrammarRefusal, IsRefusal};
+ghost use Rattle.grammar.specs.Misread.{IsWholeMisread};
 ghost use Rattle.calculus.specs.Admitted.{IsAdmitted};
 ghost use Rattle.formula.specs.Checked.{IsTreeRefusal, IsTold, named};
 ghost use Rattle.formula.specs.Spells.{Spells, SpellsWithin};
@@ -17,16 +18,16 @@ ghost use Rattle.calculus.specs.View.{formula_of};
 use crate::closed::Closed;
 use crate::error::{FormulaError, FormulaFault};
 use crate::lexer::tokens;
-use crate::limits::{DEEPEST, LONGEST_TEXT, MOST_PARENS};
 use crate::meant;
-use crate::misread::Misread;
 use crate::operands::state_operands;
-use crate::room::Room;
 use crate::scope::{Binders, variables};
-use crate::state::{ANY_STATE, state};
-use crate::token::Placed;
 use crate::tree::State;
-use crate::written::WrittenState;
+use grammar::limits::{DEEPEST, LONGEST_TEXT, MOST_PARENS};
+use grammar::misread::Misread;
+use grammar::room::Room;
+use grammar::state::{ANY_STATE, state};
+use grammar::token::Placed;
+use grammar::written::WrittenState;
 use std::alloc::Global;
 
 /// The formula that the tokens are, as it is written.

@@ -1,13 +1,13 @@
 // Finds the variables that may not stand where they do. Places are numbers of tokens.
 
 ghost use Rattle.std.specs.Prelude.{◌≡◌, ℕ, ◌+◌, ◌<◌, ◌^◌, List, [], ◌∷◌, length, MatchOption, IsTrue};
-ghost use Rattle.formula.specs.Syntax.{tokens, reg_tokens};
+ghost use Rattle.grammar.specs.Syntax.{tokens, reg_tokens};
 ghost use Rattle.formula.specs.Fault.{variable_fault as fault_of, variable_faults};
-ghost use Rattle.formula.specs.Written.{reg_syntax, state_syntax, joined};
+ghost use Rattle.grammar.specs.Written.{reg_syntax, state_syntax, joined};
 ghost use Rattle.formula.specs.Checked.{AreChecked, scope_of, left_parity, is_variable_fault};
 
 use crate::error::FormulaFault;
-use crate::written::{Connective, WrittenRegular, WrittenState};
+use grammar::written::{Connective, WrittenRegular, WrittenState};
 
 /// The binders around a place, the innermost first.
 #[derive(Clone, Copy)]

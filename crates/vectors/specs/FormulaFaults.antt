@@ -4,12 +4,12 @@ use Rattle.std.specs.List.{list_any}
 use Rattle.std.specs.Str.{bytes_eq}
 use Rattle.std.proofs.Common.{arith, inl, inr, sym, ap, subst, ◌∙◌, append_assoc, true≢false}
 use Rattle.std.proofs.lemmas.Bool.Decides.{nat_tests}
-use Rattle.formula.specs.Token.{Token, Name, Reserved, Atom, Dot, Less, Greater, OpenBox, CloseBox, Open, Close, Bar, AndSign, OrSign, ImpliesSign}
-use Rattle.formula.specs.Token.{ChoiceSign, PlusSign, StarSign, NotSign, TrueWord, FalseWord, MuWord, NuWord, TauWord, Piece, Blank, Comment, Word, IsPiece}
-use Rattle.formula.specs.Token.{Cuts, is_free_name, reserved_words}
-use Rattle.formula.specs.Syntax.{Syntax, RegSyntax, Anything', Nothing', Tau', Names', Quoted', Parens', Not', And', Or', Implies', Star', Plus', Then'}
-use Rattle.formula.specs.Syntax.{Either', reg_tokens, Dia', True', Var', Mu', Neg', False', Group', Both', OneOf', If', Box', Nu', tokens, nesting}
-use Rattle.formula.specs.Syntax.{is_within_limits}
+use Rattle.grammar.specs.Token.{Token, Name, Reserved, Atom, Dot, Less, Greater, OpenBox, CloseBox, Open, Close, Bar, AndSign, OrSign, ImpliesSign}
+use Rattle.grammar.specs.Token.{ChoiceSign, PlusSign, StarSign, NotSign, TrueWord, FalseWord, MuWord, NuWord, TauWord, Piece, Blank, Comment, Word, IsPiece}
+use Rattle.grammar.specs.Token.{Cuts, is_free_name, reserved_words}
+use Rattle.grammar.specs.Syntax.{Syntax, RegSyntax, Anything', Nothing', Tau', Names', Quoted', Parens', Not', And', Or', Implies', Star', Plus', Then'}
+use Rattle.grammar.specs.Syntax.{Either', reg_tokens, Dia', True', Var', Mu', Neg', False', Group', Both', OneOf', If', Box', Nu', tokens, nesting}
+use Rattle.grammar.specs.Syntax.{is_within_limits}
 use Rattle.formula.specs.Fault.{HasFault, NothingBegins}
 use Rattle.formula.specs.declared.error.FormulaFault.TheVariants.{NoToken, Unexpected, Unfinished, ReservedWord, Unbound, OddNegations, NotAnAction, TooLarge}
 

@@ -5,8 +5,8 @@ use Rattle.calculus.specs.Tree.{Action, Anything, Names, Quoted, NotAct, AndAct,
 use Rattle.calculus.specs.Holds.{holds}
 use Rattle.calculus.specs.Admitted.{IsAdmitted, is_admitted_in}
 use Rattle.calculus.specs.Canon.{canon}
-use Rattle.formula.specs.Token.{Name, Less, Greater, ChoiceSign, PlusSign, TrueWord, Blank, Word, is_decided}
-use Rattle.formula.specs.Syntax.{Names', Parens', And', Then', Plus', Either', OneOf', Group', Dia', Mu', Var', True', fits, meant}
+use Rattle.grammar.specs.Token.{Name, Less, Greater, ChoiceSign, PlusSign, TrueWord, Blank, Word, is_decided}
+use Rattle.grammar.specs.Syntax.{Names', Parens', And', Then', Plus', Either', OneOf', Group', Dia', Mu', Var', True', fits, meant}
 use Rattle.formula.specs.Spells.{Spells, SpellsWithin}
 
 abbrev pub name_a : Action

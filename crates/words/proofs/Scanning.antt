@@ -8,8 +8,8 @@ use Rattle.systems.specs.System.{Arrow}
 use Rattle.systems.specs.Numbered.{Numbered, AreUsed, IsInside, IsTransitionOf, arrow_of, label_at}
 use Rattle.systems.specs.declared.system.Transition.{Transition}
 use Rattle.formula.specs.Cutting.{IsLexed}
-use Rattle.formula.specs.Written.{words}
-use Rattle.formula.specs.declared.token.Placed.{Placed}
+use Rattle.grammar.specs.Written.{words}
+use Rattle.grammar.specs.declared.token.Placed.{Placed}
 use Rattle.words.specs.Strange.{Term, has_term}
 use Rattle.words.specs.Noted.{is_known}
 use Rattle.words.specs.Absent.{IsFirstAbsent, first_unknown, is_on_transition}

@@ -2,7 +2,7 @@
 use Rattle.std.specs.Prelude.{◌≡◌, ℕ, Bool, true, false, not, ◌&&◌, List, [], ◌∷◌, Option, Some, None, IsTrue, if◌then◌else◌}
 use Rattle.std.specs.List.{list_any}
 use Rattle.systems.specs.System.{System}
-use Rattle.formula.specs.Token.{Token, Name, Atom, Less, Greater, OpenBox, CloseBox, Piece, Cuts, text_of, tokens_of, offsets_from, is_decided}
+use Rattle.grammar.specs.Token.{Token, Name, Atom, Less, Greater, OpenBox, CloseBox, Piece, Cuts, text_of, tokens_of, offsets_from, is_decided}
 use Rattle.words.specs.Strange.{Term, Name as NameTerm, Atom as AtomTerm, has_term}
 
 -- some transition has it

@@ -2,7 +2,7 @@
 
 ghost use Rattle.std.specs.Prelude.{◌≡◌, ◌&&◌, false, map, IfOk};
 ghost use Rattle.formula.specs.Cutting.{IsLexed};
-ghost use Rattle.formula.specs.Written.{token_of, words};
+ghost use Rattle.grammar.specs.Written.{token_of, words};
 ghost use Rattle.words.specs.Absent.{IsFirstAbsent, first_unknown, is_inside_after, is_unknown};
 ghost use Rattle.words.specs.Noted.{knows};
 

@@ -1,4 +1,4 @@
-use Rattle.engines.specs.Findings.{formula_of, system_of, way_in}
+use Rattle.verdicts.specs.Findings.{formula_of, system_of, way_in}
 use Rattle.engines.proofs.Checks.{answer_of, unprepared_all}
 use Rattle.engines.proofs.Putting.{as_asked}
 use Rattle.engines.proofs.Caused.{unprepared_caused, written_caused}

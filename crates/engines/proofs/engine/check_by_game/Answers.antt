@@ -3,9 +3,10 @@ use Rattle.calculus.specs.Closed.{closed_formula}
 use Rattle.requests.specs.declared.request.Wanted.{Wanted}
 use Rattle.requests.specs.declared.texts.Texts.{Texts}
 use Rattle.requests.specs.Check.{Answers, AreSpelled, ByGame}
-use Rattle.engines.specs.Findings.{way_in}
+use Rattle.verdicts.specs.Findings.{way_in}
 use Rattle.requests.specs.Writers.{all_writers}
-use Rattle.engines.proofs.Checks.{alone_of, beyond_of, by_way, kept_writers}
+use Rattle.engines.proofs.Checks.{alone_of, by_way, kept_writers}
+use Rattle.verdicts.proofs.Beyond.{beyond_of}
 use Rattle.requests.proofs.Caused.{beyond_caused}
 use Rattle.engines.proofs.engine.check_by_game.Goals as goal
 

@@ -1,7 +1,7 @@
 use Rattle.std.proofs.Common.{refl}
 use Rattle.engines.proofs.Checks.{by_way}
 use Rattle.engines.proofs.Lendings.{kept_all}
-use Rattle.engines.specs.Findings.{way_in}
+use Rattle.verdicts.specs.Findings.{way_in}
 use Rattle.requests.proofs.Caused.{past_reading}
 use Rattle.engines.proofs.engine.check_gated.Goals as goal
 

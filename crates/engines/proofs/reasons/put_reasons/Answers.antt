@@ -12,7 +12,7 @@ use Rattle.why.specs.declared.line.Line.{Line}
 use Rattle.why.proofs.Numbered.{each_numbered}
 use Rattle.requests.specs.Report.{formula_line, initial_line}
 use Rattle.requests.specs.declared.texts.Texts.{Texts}
-use Rattle.engines.specs.Findings.{formula_of, system_of}
+use Rattle.verdicts.specs.Findings.{formula_of, system_of}
 use Rattle.engines.proofs.Reasoning.{telling_same}
 use Rattle.engines.proofs.reasons.put_reasons.Goals as goal
 

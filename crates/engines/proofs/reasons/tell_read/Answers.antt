@@ -2,7 +2,7 @@ use Rattle.std.proofs.Common.{Some, subst, sym}
 use Rattle.calculus.specs.Closed.{closed_formula}
 use Rattle.requests.specs.declared.texts.Texts.{Texts}
 use Rattle.requests.specs.Check.{AreSpelled}
-use Rattle.engines.proofs.Checks.{beyond_of}
+use Rattle.verdicts.proofs.Beyond.{beyond_of}
 use Rattle.engines.proofs.Reasoning.{reasons_by_way, refused_kept}
 use Rattle.requests.specs.Check.{ByGame}
 use Rattle.requests.proofs.Caused.{beyond_caused}

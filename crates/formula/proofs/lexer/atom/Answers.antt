@@ -4,7 +4,7 @@ use Rattle.std.specs.List.{take_while}
 use Rattle.std.proofs.lemmas.List.{take_rest}
 use Rattle.systems.specs.declared.limits.TheConstants.{LONGEST_LABEL}
 use Rattle.systems.specs.Label.{is_label_byte}
-use Rattle.formula.specs.Token.{Atom}
+use Rattle.grammar.specs.Token.{Atom}
 use Rattle.formula.specs.Cutting.{IsFirst}
 use Rattle.formula.proofs.Cuts.{atom-front, run-of, Run}
 use Rattle.formula.proofs.Tokenless.{IsQuoted, atom-stands}

@@ -1,9 +1,9 @@
 use Rattle.std.proofs.Common.{◌≡◌, ◌∙◌, ℕ, false, List, get_or, sym}
 use Rattle.std.specs.Prelude.{Result, Ok, Err, MatchResult}
 use Rattle.text.specs.Text.{is_letter}
-use Rattle.formula.specs.Written.{token_of}
+use Rattle.grammar.specs.Written.{token_of}
 use Rattle.formula.specs.Cutting.{IsFirst, IsAtomless, BeginsReserved, IsSignless, IsTokenless}
-use Rattle.formula.specs.declared.token.Token.{Token}
+use Rattle.grammar.specs.declared.token.Token.{Token}
 use Rattle.formula.specs.declared.error.FormulaFault.{FormulaFault}
 use Rattle.formula.proofs.Tokenless.{quote-tokenless, reserved-tokenless, sign-tokenless}
 use Rattle.formula.proofs.lexer.first_token.Goals as goal

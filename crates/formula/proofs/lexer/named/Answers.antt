@@ -2,8 +2,8 @@ use Rattle.std.proofs.Common.{◌≡◌, ℕ, true, false, subst, sym, ◌∙◌
 use Rattle.std.specs.List.{list_any}
 use Rattle.std.specs.Str.{bytes_eq}
 use Rattle.text.specs.Text.{is_name_byte}
-use Rattle.formula.specs.Token.{reserved_words}
-use Rattle.formula.specs.Written.{token_of}
+use Rattle.grammar.specs.Token.{reserved_words}
+use Rattle.grammar.specs.Written.{token_of}
 use Rattle.formula.proofs.Cuts.{named-front, run-of, Run}
 use Rattle.formula.proofs.Tokenless.{reserved-stands}
 use Rattle.formula.proofs.lexer.named.Goals as goal

@@ -2,10 +2,10 @@ use Rattle.std.proofs.Common.{rules, arith, ◌≡◌, ◌+◌, ℕ, [], ◌∷�
 use Rattle.std.specs.Prelude.{slice_get, Option, IsFalse}
 use Rattle.std.proofs.lemmas.List.{take_rest}
 use Rattle.std.proofs.lemmas.Grind.{common_steps}
-use Rattle.formula.specs.Token.{begins}
-use Rattle.formula.specs.Written.{token_of}
+use Rattle.grammar.specs.Token.{begins}
+use Rattle.grammar.specs.Written.{token_of}
 use Rattle.formula.specs.Cutting.{IsGap, IsFirst, IsTokenless, IsDecidedBy, begins_gap}
-use Rattle.formula.specs.declared.token.Placed.{Placed}
+use Rattle.grammar.specs.declared.token.Placed.{Placed}
 use Rattle.formula.proofs.Lexed.{cut-none, cut-more, cut-all}
 use Rattle.formula.proofs.Tokenless.{token-fault}
 use Rattle.formula.proofs.lexer.tokens.Goals as goal

@@ -1,6 +1,6 @@
 -- what is written above its operands, with a call that boxes each between
 use Rattle.std.proofs.Common.{◌+◌, ◌*◌, max}
-use Rattle.formula.specs.declared.written.WrittenRegular.{size-WrittenRegular}
+use Rattle.grammar.specs.declared.written.WrittenRegular.{size-WrittenRegular}
 use Rattle.formula.proofs.meant.+actions.Given as goal
 
 abbrev pub decreases-action : goal.decreases-action

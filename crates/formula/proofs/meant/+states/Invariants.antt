@@ -1,6 +1,6 @@
 -- what is written above its operands, with a call that boxes each between
 use Rattle.std.proofs.Common.{◌+◌, ◌*◌, max}
-use Rattle.formula.specs.declared.written.WrittenState.{size-WrittenState}
+use Rattle.grammar.specs.declared.written.WrittenState.{size-WrittenState}
 use Rattle.formula.proofs.meant.+states.Given as goal
 
 abbrev pub decreases-state : goal.decreases-state

@@ -1,9 +1,9 @@
 use Rattle.std.proofs.Common.{rules, arith, ◌≡◌, ◌+◌, ◌^◌, ◌<◌, ℕ, false, length, map, subst, sym, ap, ◌∙◌, IsErrAnd}
 use Rattle.std.specs.Prelude.{Result, Ok, Err}
 use Rattle.std.proofs.lemmas.List.{length-map}
-use Rattle.formula.specs.Syntax.{RegSyntax, reg_tokens, more_names, counts_as_action}
+use Rattle.grammar.specs.Syntax.{RegSyntax, reg_tokens, more_names, counts_as_action}
 use Rattle.formula.specs.Fault.{reg_faults}
-use Rattle.formula.specs.Written.{reg_syntax, infixed}
+use Rattle.grammar.specs.Written.{reg_syntax, infixed}
 use Rattle.formula.specs.Checked.{IsChecked}
 use Rattle.formula.proofs.Faults.{operand-first, names-count, actions-first, regulars-first}
 use Rattle.formula.proofs.operands.+operands.Goals as goal

@@ -1,4 +1,4 @@
-use Rattle.formula.specs.Written.{state_syntax}
+use Rattle.grammar.specs.Written.{state_syntax}
 use Rattle.formula.proofs.Refusals.{operand-refused, variable-refused}
 use Rattle.formula.proofs.reader.check.Goals as goal
 

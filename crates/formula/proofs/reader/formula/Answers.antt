@@ -1,4 +1,4 @@
-use Rattle.formula.specs.Written.{state_syntax}
+use Rattle.grammar.specs.Written.{state_syntax}
 use Rattle.formula.proofs.Refusals.{grammar-told, meaning-told}
 use Rattle.formula.proofs.reader.formula.Goals as goal
 

@@ -1,7 +1,7 @@
 use Rattle.std.proofs.Common.{rules, ◌≡◌, [], map}
-use Rattle.formula.specs.Written.{words}
-use Rattle.formula.specs.declared.misread.Misread.TheVariants as misread
-use Rattle.formula.proofs.RegularRefusals.{words-length}
+use Rattle.grammar.specs.Written.{words}
+use Rattle.grammar.specs.declared.misread.Misread.TheVariants as misread
+use Rattle.grammar.proofs.RegularRefusals.{words-length}
 use Rattle.formula.proofs.Refusals.{unfinished, unexpected, too-large}
 use Rattle.formula.proofs.reader.grammar_refusal.Goals as goal
 

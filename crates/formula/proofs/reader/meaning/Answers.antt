@@ -1,7 +1,7 @@
 use Rattle.std.proofs.Common.{inr}
-use Rattle.formula.specs.Written.{state_syntax}
+use Rattle.grammar.specs.Written.{state_syntax}
 use Rattle.formula.proofs.Sense.{meant_some}
-use Rattle.formula.proofs.Handed.{refused_on}
+use Rattle.grammar.proofs.Handed.{refused_on}
 use Rattle.formula.proofs.Refusals.{meant-admitted}
 use Rattle.formula.proofs.reader.meaning.Goals as goal
 

@@ -1,7 +1,7 @@
 use Rattle.std.proofs.Common.{arith, List, subst, sym}
 use Rattle.formula.specs.Cutting.{IsLexed}
-use Rattle.formula.specs.declared.token.Placed.{Placed}
-use Rattle.formula.proofs.Handed.{refused_on}
+use Rattle.grammar.specs.declared.token.Placed.{Placed}
+use Rattle.grammar.proofs.Handed.{refused_on}
 use Rattle.formula.proofs.Refusals.{token-told}
 use Rattle.formula.proofs.reader.tree.Goals as goal
 

@@ -1,6 +1,6 @@
 use Rattle.std.proofs.Common.{rules}
-use Rattle.formula.specs.Written.{words}
-use Rattle.formula.proofs.Handed.{refused_on}
+use Rattle.grammar.specs.Written.{words}
+use Rattle.grammar.proofs.Handed.{refused_on}
 use Rattle.formula.proofs.Refusals.{whole-misread, left-over}
 use Rattle.formula.proofs.reader.written.Goals as goal
 

@@ -1,7 +1,7 @@
 use Rattle.std.proofs.Common.{rules, arith, ◌≡◌, ◌+◌, length, map, ap, ◌∙◌}
 use Rattle.std.proofs.lemmas.List.{length-map}
-use Rattle.formula.specs.Syntax.{reg_tokens, more_names}
-use Rattle.formula.specs.Written.{reg_syntax}
+use Rattle.grammar.specs.Syntax.{reg_tokens, more_names}
+use Rattle.grammar.specs.Written.{reg_syntax}
 use Rattle.formula.proofs.Faults.{names-count}
 use Rattle.formula.proofs.scope.+token_count.Goals as goal
 

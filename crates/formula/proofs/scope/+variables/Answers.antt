@@ -1,10 +1,10 @@
 use Rattle.std.proofs.Common.{◌≡◌, Bool, [], length, subst, sym, ap, ◌∙◌}
 use Rattle.std.specs.Prelude.{Err}
-use Rattle.formula.specs.Syntax.{Syntax, tokens, Neg'}
+use Rattle.grammar.specs.Syntax.{Syntax, tokens, Neg'}
 use Rattle.formula.specs.Fault.{variable_faults}
-use Rattle.formula.specs.Written.{state_syntax}
+use Rattle.grammar.specs.Written.{state_syntax}
 use Rattle.formula.specs.Checked.{AreChecked, scope_of, left_parity}
-use Rattle.formula.proofs.Handed.{refused_on}
+use Rattle.grammar.proofs.Handed.{refused_on}
 use Rattle.formula.proofs.Scopes.{variables-under, variables-first, variables-second}
 use Rattle.formula.proofs.scope.+variables.Goals as goal
 

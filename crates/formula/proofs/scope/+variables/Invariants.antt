@@ -1,6 +1,6 @@
 -- what is written above its parts, with a call on both between
 use Rattle.std.proofs.Common.{◌+◌, ◌*◌, max}
-use Rattle.formula.specs.declared.written.WrittenState.{size-WrittenState}
+use Rattle.grammar.specs.declared.written.WrittenState.{size-WrittenState}
 use Rattle.formula.proofs.scope.+variables.Given as goal
 
 abbrev pub decreases-variables : goal.decreases-variables

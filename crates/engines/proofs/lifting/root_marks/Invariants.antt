@@ -1,6 +1,0 @@
-use Rattle.calculus.specs.Meaning.{Marks}
-use Rattle.requests.specs.Roots.{WinsRoot}
-use Rattle.engines.proofs.lifting.root_marks.Given as goal
-
-abbrev pub invariant-loop-state : goal.invariant-loop-state
-invariant-loop-state l = Marks l.state l.marks.items (WinsRoot l.game)

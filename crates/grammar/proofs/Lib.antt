@@ -1,0 +1,14 @@
+pub mod Regulars
+pub mod States
+pub mod RegularUnique
+pub mod RegularSpine
+pub mod RegularPlaces
+pub mod RegularEnds
+pub mod RegularRefusals
+pub mod Unambiguous
+pub mod StateSpine
+pub mod StatePlaces
+pub mod StateEnds
+pub mod StateRefusals
+pub mod Misreads
+pub mod Handed

@@ -1,0 +1,4 @@
+pub mod Beyond
+pub mod Limits
+mod Ranking
+pub mod Roots

@@ -1,0 +1,66 @@
+-- From the winners at the root node to the marks of a check.
+use Rattle.std.proofs.Common.{◌≡◌, ◌≢◌, ◌+◌, ◌*◌, ◌≤◌, ℕ, Bool, List, length, None, Option, Some, Vec, Global, refl, sym, subst}
+use Rattle.std.specs.Prelude.{IfSome}
+use Rattle.calculus.specs.Admitted.{IsAdmitted}
+use Rattle.calculus.specs.Meaning.{Marks}
+use Rattle.calculus.specs.Tree.{Formula}
+use Rattle.systems.specs.System.{IsSystem, System}
+use Rattle.normal.specs.declared.limits.TheConstants.{GREATEST_PRIORITY, MOST_NODES}
+use Rattle.normal.specs.declared.priorities.Priorities.{Priorities}
+use Rattle.normal.specs.Nodes.{Node, greatest_priority}
+use Rattle.normal.specs.Rules.{nodes_with}
+use Rattle.normal.specs.Tree.{count}
+use Rattle.game.specs.declared.limits.TheConstants.{MOST_VERTICES}
+use Rattle.game.specs.Arena.{arena, place}
+use Rattle.game.specs.Wins.{Wins}
+use Rattle.laws.specs.Laws.{ChosenIsAdmissible, EvenWinsFormula}
+use Rattle.workers.specs.declared.team.BoardKind.{BoardKind}
+use Rattle.workers.specs.declared.team.BoardKind.TheVariants.{Auto, Locked, Packed}
+use Rattle.requests.specs.Check.{AreMarks, ByGame, game_of}
+use Rattle.requests.specs.Roots.{WinsRoot}
+use Rattle.requests.specs.Solver.{IsFitting}
+use Rattle.verdicts.proofs.Roots.{roots_mean}
+
+some_same : (a b : ℕ) → Some a ≡ Some b → a ≡ b
+some_same a b e = cc
+
+-- each other board can be had
+fits : (board : BoardKind) (rule : Priorities) (l : System) (f : Formula) → board ≢ Packed → IsFitting (Some board) (game_of rule l f)
+fits Auto rule l f n = λ h. h
+fits Locked rule l f n = λ h. h
+fits Packed rule l f n = absurd (n refl)
+
+won : (l : System) (ns : List Node) (marks : List Bool) → Marks l.states marks (λ s. Wins (arena l ns) (place (length ns) s 0))
+    → Marks l.states marks (WinsRoot (arena l ns))
+won l ns marks m = record {
+  count = m.count;
+  exact = λ s h. (
+    λ mark. (place (length ns) s 0, refl, (m.exact s h).0 mark),
+    λ w. (m.exact s h).1 (subst (Wins (arena l ns)) (sym (some_same (place (length ns) s 0) w.0 w.1)) w.2),
+  );
+}
+
+ranked : (rule : Priorities) (board : BoardKind) (l : System) (f : Formula) (marks : List Bool) → ChosenIsAdmissible → EvenWinsFormula
+    → IsSystem l → IsAdmitted f → board ≢ Packed → count f ≤ MOST_NODES → greatest_priority (nodes_with rule f) ≤ GREATEST_PRIORITY
+    → 2 + l.states * length (nodes_with rule f) ≤ MOST_VERTICES
+    → Marks l.states marks (λ s. Wins (arena l (nodes_with rule f)) (place (length (nodes_with rule f)) s 0))
+    → AreMarks (ByGame rule (Some board)) l f marks
+ranked rule board l f marks chosen wins is admitted n few low vertices m =
+    let w = won l (nodes_with rule f) marks m in
+    record {
+      within = (record { form = record { nodes = few; priorities = low }; vertices = vertices }, fits board rule l f n);
+      exact = roots_mean l f (nodes_with rule f) marks wins is admitted (chosen rule f admitted) w;
+      won = w;
+    }
+
+-- What is known of the winners in the arena of these nodes, which are those of the rule.
+pub ranked_by : (rule : Priorities) (board : BoardKind) (l : System) (f : Formula) (ns : List Node) (marks : Option (Vec Bool Global)) → ChosenIsAdmissible
+    → EvenWinsFormula → IsSystem l → IsAdmitted f → (board ≡ Packed → ⊥) → count f ≤ MOST_NODES → greatest_priority (nodes_with rule f) ≤ GREATEST_PRIORITY
+    → ns ≡ nodes_with rule f → IfSome marks (λ m. 2 + l.states * length ns ≤ MOST_VERTICES)
+    → IfSome marks (λ m. Marks l.states m.items (λ s. Wins (arena l ns) (place (length ns) s 0)))
+    → IfSome marks (λ m. AreMarks (ByGame rule (Some board)) l f m.items)
+ranked_by rule board l f ns None chosen wins is admitted n few low same vertices m = tt
+ranked_by rule board l f ns (Some marks) chosen wins is admitted n few low same vertices m =
+    ranked rule board l f marks.items chosen wins is admitted n few low
+    (subst (λ xs. 2 + l.states * length xs ≤ MOST_VERTICES) same vertices)
+    (subst (λ xs. Marks l.states marks.items (λ s. Wins (arena l xs) (place (length xs) s 0))) same m)

@@ -1,0 +1,16 @@
+use Rattle.std.proofs.Common.{◌≡◌, Some, subst}
+use Rattle.std.specs.Prelude.{IfErr, IfOk}
+use Rattle.calculus.specs.Closed.{closed_formula}
+use Rattle.requests.specs.declared.texts.Texts.{Texts}
+use Rattle.requests.specs.Check.{ByGame, IsBeyond}
+use Rattle.verdicts.proofs.beside.find_beside.Goals as goal
+
+pub returns-in-Ok-clause-texts : goal.returns-in-Ok-clause-texts
+returns-in-Ok-clause-texts g c =
+    subst (λ (t : Texts). IfOk c.find_boxed.result (λ beside. beside.found.texts.value ≡ t)) c.in-Ok.ensures c.find_boxed.ensures.texts
+
+pub returns-in-Ok-clause-refusal : goal.returns-in-Ok-clause-refusal
+returns-in-Ok-clause-refusal g c =
+    let way = ByGame c.args.options.now.priorities (Some c.args.options.now.board) in
+    subst (λ (t : Texts). IfErr c.find_boxed.result (IsBeyond way t.system.system (closed_formula t.formula))) c.in-Ok.ensures
+    c.find_boxed.ensures.refusal

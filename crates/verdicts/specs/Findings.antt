@@ -1,0 +1,93 @@
+-- What a check by a game finds out.
+use Rattle.std.specs.Prelude.{◌≡◌, ℕ, ◌↔◌, Result, IfSome, IsTrue, MatchResult, length}
+use Rattle.std.specs.Arc.{arc_value}
+use Rattle.systems.specs.System.{System}
+use Rattle.calculus.specs.Tree.{Formula}
+use Rattle.calculus.specs.Closed.{closed_formula}
+use Rattle.calculus.specs.Meaning.{Marks}
+use Rattle.game.specs.Game.{Game}
+use Rattle.game.specs.Wins.{OddWins, Wins}
+use Rattle.evidence.specs.Best.{IsEvenOf, IsOddOf}
+use Rattle.evidence.specs.Evidence.{IsGood, has}
+use Rattle.evidence.specs.View.{Piece}
+use Rattle.evidence.specs.declared.error.EvidenceError.{EvidenceError}
+use Rattle.evidence.specs.declared.error.EvidenceError.TheVariants as evidence
+use Rattle.verdicts.specs.declared.lifting.SolvedGame.{SolvedGame}
+use Rattle.verdicts.specs.declared.lifting.Winners.{Winners}
+use Rattle.verdicts.specs.declared.lifting.Winners.TheVariants.{Table, Marks as ByMarks}
+use Rattle.verdicts.specs.declared.lifting.Solution.{Solution}
+use Rattle.verdicts.specs.declared.lifting.Solution.TheVariants.{Table as HasTable, Marks as HasMarks}
+use Rattle.verdicts.specs.declared.beside.FoundBeside.{FoundBeside}
+use Rattle.verdicts.specs.declared.findings.Findings.{Findings}
+use Rattle.verdicts.specs.declared.findings.Posed.{Posed}
+use Rattle.certify.specs.declared.pair.EvidencePair.{EvidencePair}
+use Rattle.requests.specs.Check.{Way, ByGame, AreMarks, IsArenaOf}
+use Rattle.requests.specs.Solver.{IsFitting}
+
+-- The game is that of the system and the formula, and is solved, over the board that was asked for, if one was
+pub record IsSolvedGame (l : System) (f : Formula) (s : SolvedGame) : Type 0 where
+  pub game : IsArenaOf s.priorities l f (arc_value s.game)
+  pub board : IsFitting s.board (arc_value s.game)
+  pub settled : s.settled.game ≡ arc_value s.game
+
+-- They are the winners of the game.
+abbrev pub AreWinnersOf : Game → Winners → Type 0
+AreWinnersOf g (Table settled) = settled.now.game ≡ g
+AreWinnersOf g (ByMarks marks) = Marks (length g.vertices) marks.now (Wins g)
+
+-- The same of what says so.
+abbrev pub IsSolutionOf : Game → Solution → Type 0
+IsSolutionOf g (HasTable settled) = settled.game ≡ g
+IsSolutionOf g (HasMarks marks) = Marks (length g.vertices) marks.items (Wins g)
+
+-- The game that is to be solved is that of the texts.
+abbrev pub ArePosed : Posed → Type 0
+ArePosed x = IsArenaOf x.priorities x.texts.value.system.system (closed_formula x.texts.value.formula) (arc_value x.game)
+
+abbrev pub system_of : Findings → System
+system_of x = x.texts.value.system.system
+
+abbrev pub formula_of : Findings → Formula
+formula_of x = closed_formula x.texts.value.formula
+
+abbrev pub way_in : Findings → Way
+way_in x = ByGame x.solution.priorities x.solution.board
+
+-- The game is solved, and the marks are found.
+pub record AreFindings (x : Findings) : Type 0 where
+  pub solution : IsSolvedGame (system_of x) (formula_of x) x.solution
+  pub marks : AreMarks (way_in x) (system_of x) (formula_of x) x.marks.items
+
+-- evidence of all that Even wins, by the least progress table
+pub record IsEvens (g : Game) (e : Piece) : Type 0 where
+  pub game : e.game ≡ g
+  pub good : IsGood g e.evidence
+  pub exact : (v : ℕ) → IsTrue (has e.evidence v) ↔ Wins g v
+  pub best : IsEvenOf g e.evidence
+
+-- evidence of all that Odd wins, by the least progress table of the dual
+pub record IsOdds (g : Game) (e : Piece) : Type 0 where
+  pub game : e.game ≡ g
+  pub good : IsGood g e.evidence
+  pub exact : (v : ℕ) → IsTrue (has e.evidence v) ↔ OddWins g v
+  pub best : IsOddOf g e.evidence
+
+-- evidence of all that Odd wins, or memory was wanting for it
+abbrev pub AreOddsOf : Game → Result Piece EvidenceError → Type 0
+AreOddsOf g made = MatchResult made (IsOdds g) (λ e. e ≡ evidence.Memory)
+
+-- The game is solved, and the evidence of all that Odd wins may be made, too.
+pub record AreFoundBeside (x : FoundBeside) : Type 0 where
+  pub found : AreFindings x.found
+  pub odd : IfSome x.odd (AreOddsOf (arc_value x.found.solution.game))
+
+-- evidence of all that each player wins
+pub record IsPairOf (g : Game) (pair : EvidencePair) : Type 0 where
+  pub even_game : pair.even.game ≡ g
+  pub even_good : IsGood g pair.even.evidence
+  pub even_exact : (v : ℕ) → IsTrue (has pair.even.evidence v) ↔ Wins g v
+  pub odd_game : pair.odd.game ≡ g
+  pub odd_good : IsGood g pair.odd.evidence
+  pub odd_exact : (v : ℕ) → IsTrue (has pair.odd.evidence v) ↔ OddWins g v
+  pub even : IsEvenOf g pair.even.evidence
+  pub odd : IsOddOf g pair.odd.evidence

@@ -1,0 +1,373 @@
+// What a check by a game finds out before it writes.
+
+ghost use Rattle.std.specs.Prelude.{◌≡◌, ◌↔◌, IfOk, IfErr, IsTrue, ℕ, List, Some, None, Option};
+ghost use Rattle.std.specs.Arc.{arc_value};
+ghost use Rattle.calculus.specs.Closed.{closed_formula};
+ghost use Rattle.game.specs.Wins.{OddWins};
+ghost use Rattle.evidence.specs.Best.{IsOddOf};
+ghost use Rattle.evidence.specs.Evidence.{IsGood, has};
+ghost use Rattle.workers.specs.declared.team.BoardKind.{BoardKind};
+ghost use Rattle.requests.specs.Causes.{HaveCauses};
+ghost use Rattle.requests.specs.Check.{ByGame, AreSpelled, HasRefused, IsBeyond};
+ghost use Rattle.verdicts.specs.Findings.{AreFindings, ArePosed, formula_of, system_of, way_in};
+ghost use Rattle.requests.specs.Solver.{IsFitting, IsUnsolved};
+ghost use Rattle.requests.specs.Writers.{AreKept, Lent};
+
+use crate::guessing::{dual_guess_of, guess_of};
+use crate::lifting::{SolvedGame, Winners, state_marks};
+use claims::claimed::Claims;
+use evidence::error::EvidenceError;
+use evidence::evidence::Evidence;
+use evidence::make::odd_evidence_by;
+use game::graph::Game;
+use measures::guess::solve_one_by;
+use measures::observer::{Observer, Silent, Stage};
+use measures::table::Settled;
+use normal::priorities::Priorities;
+use requests::arena::arena_of;
+use requests::error::MuError;
+use requests::request::Options;
+use requests::solver::solve_seen;
+use requests::texts::{Texts, read_both};
+use requests::watch::Watcher;
+use std::alloc::Global;
+use std::sync::{Arc, Wait};
+use std::thread::Threads;
+use text::Memory;
+use text::source::Source;
+use workers::gate::{Gate, NoGate};
+use workers::team::BoardKind;
+
+/// Which teams a guess helps.
+#[derive(Clone, Copy, PartialEq, Eq)]
+pub(crate) enum Helped {
+    /// One worker alone, so that several lift.
+    OneWorker,
+    /// Every team, so that none lifts where the guess is good.
+    EveryTeam,
+}
+
+/// What a check by a game finds out, with all that its texts need but evidence.
+#[derive(Drop)]
+pub struct Findings {
+    pub texts: Box<Texts>,
+    pub solution: SolvedGame,
+    pub marks: Vec<bool>,
+}
+
+/// Both texts, and their game, which is to be solved.
+#[derive(Drop)]
+pub struct Posed {
+    pub texts: Box<Texts>,
+    pub priorities: Priorities,
+    pub game: Arc<Game, Global>,
+}
+
+/// Reads both texts, and finds out on one thread which states satisfy the formula.
+///
+/// # Errors
+/// Those of the readers, of the normal form and of the game, unchanged; U3 where a read of the formula failed, U4 for memory
+/// in the engine.
+pub fn find_alone<R: Source + Drop, S: Source + Drop, H: Threads + Sync>(
+    rt: &H,
+    alloc: Global,
+    aut: R,
+    formula: S,
+    priorities: Priorities,
+) -> Result<Findings, MuError>
+    ensures found { IfOk result AreFindings }
+    ensures way { IfOk result (λ found. way_in found ≡ ByGame priorities None) }
+    ensures spelled { (first second : List ℕ) → R.remaining aut ≡ Some first → S.remaining formula ≡ Some second
+        → IfOk result (λ found. AreSpelled first second (system_of found) (formula_of found)) }
+    ensures refusal { (first second : List ℕ) → R.remaining aut ≡ Some first → S.remaining formula ≡ Some second
+        → (writers : List Lent) → AreKept writers → IfErr result (HasRefused (ByGame priorities None) first second writers) }
+    ensures cause { IfErr result (HaveCauses R.can_fail S.can_fail) }
+{
+    match read_and_build(rt, alloc, aut, formula, priorities) {
+        Ok(posed) => find_by_one(alloc, posed),
+        Err(error) => Err(error),
+    }
+}
+
+/// Reads both texts, and finds out by the workers, over the board that the options ask for, which states satisfy the formula. Several workers
+/// lift, without the help of a guess, and the gate is told of each turn.
+///
+/// # Errors
+/// Those of `find_alone`, and those of the board and of the workers' table: T1 where the packed board can't be had, and only there.
+pub fn find_with<
+    R: Source + Drop,
+    S: Source + Drop,
+    T: Gate + Sync,
+    H: Threads + Wait + Clone + Copy + Drop + Send + Sync,
+>(
+    rt: &H,
+    alloc: Global,
+    aut: R,
+    formula: S,
+    options: &Options,
+    gate: &T,
+) -> Result<Findings, MuError>
+    ensures found { IfOk result AreFindings }
+    ensures way { IfOk result (λ found. way_in found ≡ ByGame options.now.priorities (Some options.now.board)) }
+    ensures spelled { (first second : List ℕ) → R.remaining aut ≡ Some first → S.remaining formula ≡ Some second
+        → IfOk result (λ found. AreSpelled first second (system_of found) (formula_of found)) }
+    ensures refusal { (first second : List ℕ) → R.remaining aut ≡ Some first → S.remaining formula ≡ Some second
+        → (writers : List Lent) → AreKept writers → IfErr result (HasRefused (ByGame options.now.priorities (Some options.now.board)) first second writers) }
+    ensures cause { IfErr result (HaveCauses R.can_fail S.can_fail) }
+{
+    match read_and_build(rt, alloc, aut, formula, options.priorities) {
+        Ok(posed) => {
+            let helped = Helped::OneWorker;
+            find_by_workers(rt, alloc, posed, options, helped, gate, &Silent)
+        }
+        Err(error) => Err(error),
+    }
+}
+
+/// Finds what `find_with` does, of texts that were read, and tells a watcher what is being built, searched and lifted. Where a guess of the whole
+/// table is good, no worker lifts, however many there are.
+///
+/// # Errors
+/// Those of the normal form, of the game, of the board and of the workers' table; U4.
+pub fn find_in<O: Watcher + Sync, H: Threads + Wait + Clone + Copy + Drop + Send + Sync>(
+    rt: &H,
+    alloc: Global,
+    texts: Texts,
+    options: &Options,
+    observer: &O,
+) -> Result<Findings, MuError>
+    ensures found { IfOk result AreFindings }
+    ensures way { IfOk result (λ found. way_in found ≡ ByGame options.now.priorities (Some options.now.board)) }
+    ensures texts { IfOk result (λ found. found.texts.value ≡ texts) }
+    ensures refusal { IfErr result (IsBeyond (ByGame options.now.priorities (Some options.now.board)) texts.system.system (closed_formula texts.formula)) }
+{
+    match boxed(alloc, texts) {
+        Ok(texts) => find_boxed(rt, alloc, texts, options, observer),
+        Err(Memory) => Err(MuError::Memory),
+    }
+}
+
+/// The value in a box.
+pub(crate) fn boxed<T: Drop>(alloc: Global, value: T) -> Result<Box<T>, Memory>
+    ensures { IfOk result (λ held. held.value ≡ value) }
+{
+    Ok(Box::new(alloc, value)?)
+}
+
+fn find_boxed<O: Watcher + Sync, H: Threads + Wait + Clone + Copy + Drop + Send + Sync>(
+    rt: &H,
+    alloc: Global,
+    texts: Box<Texts>,
+    options: &Options,
+    observer: &O,
+) -> Result<Findings, MuError>
+    ensures found { IfOk result AreFindings }
+    ensures way { IfOk result (λ found. way_in found ≡ ByGame options.now.priorities (Some options.now.board)) }
+    ensures texts { IfOk result (λ found. found.texts.value ≡ texts.value) }
+    ensures refusal { IfErr result (IsBeyond (ByGame options.now.priorities (Some options.now.board)) texts.value.system.system
+        (closed_formula texts.value.formula)) }
+{
+    match build_of(rt, alloc, texts, options.priorities, observer) {
+        Ok(posed) => {
+            let helped = Helped::EveryTeam;
+            find_by_workers(rt, alloc, posed, options, helped, &NoGate, observer)
+        }
+        Err(error) => Err(error),
+    }
+}
+
+/// Reads both texts, and makes their game.
+fn read_and_build<R: Source + Drop, S: Source + Drop, H: Threads + Sync>(
+    rt: &H,
+    alloc: Global,
+    aut: R,
+    formula: S,
+    priorities: Priorities,
+) -> Result<Posed, MuError>
+    ensures posed { IfOk result ArePosed }
+    ensures rule { IfOk result (λ posed. posed.priorities ≡ priorities) }
+    ensures spelled { (first second : List ℕ) → R.remaining aut ≡ Some first → S.remaining formula ≡ Some second
+        → IfOk result (λ posed. AreSpelled first second posed.texts.value.system.system (closed_formula posed.texts.value.formula)) }
+    ensures refusal { (first second : List ℕ) → R.remaining aut ≡ Some first → S.remaining formula ≡ Some second
+        → (board : Option BoardKind) (writers : List Lent) → AreKept writers → IfErr result (HasRefused (ByGame priorities board) first second writers) }
+    ensures cause { IfErr result (HaveCauses R.can_fail S.can_fail) }
+{
+    match read_both(alloc, aut, formula) {
+        Ok(texts) => match boxed(alloc, texts) {
+            Ok(texts) => build_of(rt, alloc, texts, priorities, &Silent),
+            Err(Memory) => Err(MuError::Memory),
+        },
+        Err(error) => Err(error),
+    }
+}
+
+/// Makes the game of these texts.
+pub(crate) fn build_of<O: Observer, H: Threads + Sync>(
+    rt: &H,
+    alloc: Global,
+    texts: Box<Texts>,
+    priorities: Priorities,
+    observer: &O,
+) -> Result<Posed, MuError>
+    ensures posed { IfOk result ArePosed }
+    ensures rule { IfOk result (λ posed. posed.priorities ≡ priorities) }
+    ensures texts { IfOk result (λ posed. posed.texts.value ≡ texts.value) }
+    ensures refusal { IfErr result (IsBeyond (ByGame priorities None) texts.value.system.system (closed_formula texts.value.formula)) }
+{
+    observer.sees(Stage::Building {
+        states: texts.system.states(),
+    });
+    match arena_of(
+        rt,
+        alloc,
+        &texts.system,
+        &texts.formula,
+        priorities,
+        observer.gauge(),
+    ) {
+        Ok(game) => match Arc::new(alloc, game) {
+            Ok(game) => Ok(Posed {
+                texts,
+                priorities,
+                game,
+            }),
+            Err(_) => Err(MuError::Memory),
+        },
+        Err(error) => Err(error),
+    }
+}
+
+/// What is found out of these texts on one thread.
+fn find_by_one(alloc: Global, posed: Posed) -> Result<Findings, MuError>
+    requires { ArePosed posed }
+    ensures found { IfOk result AreFindings }
+    ensures way { IfOk result (λ found. way_in found ≡ ByGame posed.priorities None) }
+    ensures texts { IfOk result (λ found. found.texts.value ≡ posed.texts.value) }
+    ensures refusal { IfErr result (λ e. e ≡ MuError.Memory) }
+{
+    match solve_posed(alloc, &posed) {
+        Ok(settled) => find_solved(alloc, posed, None, settled),
+        Err(Memory) => Err(MuError::Memory),
+    }
+}
+
+/// The least progress table, on one thread.
+fn solve_posed(alloc: Global, posed: &Posed) -> Result<Settled, Memory>
+    ensures { IfOk result (λ s. s.game ≡ arc_value posed.now.game) }
+{
+    let Texts { system, formula } = &*posed.texts;
+    let guess = guess_of(alloc, system, formula, posed.priorities);
+    solve_one_by(alloc, &posed.game, &guess, &Silent)
+}
+
+/// The least progress table, by workers, which a guess helps or not.
+pub(crate) fn solve_by_workers<
+    T: Gate + Sync,
+    O: Observer + Sync,
+    H: Threads + Wait + Clone + Copy + Drop + Send + Sync,
+>(
+    rt: &H,
+    alloc: Global,
+    posed: &Posed,
+    options: &Options,
+    helped: Helped,
+    gate: &T,
+    observer: &O,
+) -> Result<Settled, MuError>
+    ensures game { IfOk result (λ s. s.game ≡ arc_value posed.now.game) }
+    ensures board { IfOk result (λ _. IsFitting (Some options.now.board) (arc_value posed.now.game)) }
+    ensures refusal { IfErr result (IsUnsolved (Some options.now.board) (arc_value posed.now.game)) }
+{
+    let is_helped = helped == Helped::EveryTeam || options.workers == 1;
+    let guess = guess_where(alloc, posed, is_helped);
+    solve_seen(rt, alloc, &posed.game, options, gate, observer, &guess)
+}
+
+/// What is guessed of the game, where a guess helps.
+fn guess_where(alloc: Global, posed: &Posed, is_helped: bool) -> Option<Claims<'_>> {
+    if !is_helped {
+        return None;
+    }
+    let Texts { system, formula } = &*posed.texts;
+    guess_of(alloc, system, formula, posed.priorities)
+}
+
+/// What is found out of these texts by workers.
+fn find_by_workers<
+    T: Gate + Sync,
+    O: Observer + Sync,
+    H: Threads + Wait + Clone + Copy + Drop + Send + Sync,
+>(
+    rt: &H,
+    alloc: Global,
+    posed: Posed,
+    options: &Options,
+    helped: Helped,
+    gate: &T,
+    observer: &O,
+) -> Result<Findings, MuError>
+    requires { ArePosed posed }
+    ensures found { IfOk result AreFindings }
+    ensures way { IfOk result (λ found. way_in found ≡ ByGame posed.priorities (Some options.now.board)) }
+    ensures texts { IfOk result (λ found. found.texts.value ≡ posed.texts.value) }
+    ensures refusal { IfErr result (IsUnsolved (Some options.now.board) (arc_value posed.game)) }
+{
+    match solve_by_workers(rt, alloc, &posed, options, helped, gate, observer) {
+        Ok(settled) => find_solved(alloc, posed, Some(options.board), settled),
+        Err(error) => Err(error),
+    }
+}
+
+/// What is found out where the game is solved.
+pub(crate) fn find_solved(
+    alloc: Global,
+    posed: Posed,
+    board: Option<BoardKind>,
+    settled: Settled,
+) -> Result<Findings, MuError>
+    requires posed { ArePosed posed }
+    requires board { IsFitting board (arc_value posed.game) }
+    requires settled { settled.game ≡ arc_value posed.game }
+    ensures found { IfOk result AreFindings }
+    ensures way { IfOk result (λ found. way_in found ≡ ByGame posed.priorities board) }
+    ensures texts { IfOk result (λ found. found.texts.value ≡ posed.texts.value) }
+    ensures game { IfOk result (λ found. arc_value found.solution.game ≡ arc_value posed.game) }
+    ensures refusal { IfErr result (λ e. e ≡ MuError.Memory) }
+{
+    let Posed {
+        texts,
+        priorities,
+        game,
+    } = posed;
+    let Texts { system, formula } = &*texts;
+    let winners = Winners::Table(&settled);
+    let marks = state_marks(alloc, system, formula, priorities, &game, winners)?;
+    Ok(Findings {
+        texts,
+        solution: SolvedGame {
+            priorities,
+            board,
+            game,
+            settled,
+        },
+        marks,
+    })
+}
+
+/// The evidence of all that Odd wins.
+///
+/// # Errors
+/// E5.
+pub fn odd_of(alloc: Global, found: &Findings) -> Result<Evidence, EvidenceError>
+    requires { AreFindings found.now }
+    ensures game { IfOk result (λ e. e.game ≡ arc_value found.now.solution.game) }
+    ensures memory { IfErr result (λ e. e ≡ EvidenceError.Memory) }
+    ensures odd { IfOk result (λ e. IsOddOf (arc_value found.now.solution.game) e.evidence) }
+    ensures good { IfOk result (λ e. IsGood (arc_value found.now.solution.game) e.evidence) }
+    ensures exact { IfOk result (λ e. (v : ℕ) → IsTrue (has e.evidence v) ↔ OddWins (arc_value found.now.solution.game) v) }
+{
+    let solution = &found.solution;
+    let Texts { system, formula } = &*found.texts;
+    let guess = dual_guess_of(alloc, system, formula, solution.priorities);
+    odd_evidence_by(alloc, &solution.game, &guess)
+}

@@ -1,0 +1,11 @@
+// Which states satisfy a formula: by sets of states, by a ranking of its parity game that is guessed, or by the game, which is stored and solved; and the
+// evidence of both players in a game that was solved.
+#![tactic(auto)]
+
+pub mod beside;
+pub mod findings;
+mod guessing;
+pub mod lifting;
+pub mod marks;
+pub mod pairs;
+mod ranked;

@@ -1,0 +1,176 @@
+// The states of a system that satisfy a formula, of texts that are lent.
+
+ghost use Rattle.std.specs.Prelude.{◌≡◌, IfOk, IfErr, MatchResult, Some};
+ghost use Rattle.std.specs.Arc.{arc_value};
+ghost use Rattle.calculus.specs.Closed.{closed_formula};
+ghost use Rattle.requests.specs.Check.{AreMarks, BySets, ByGame, IsArenaOf, IsBeyond};
+ghost use Rattle.requests.specs.Solver.{IsFitting, IsUnsolved};
+ghost use Rattle.verdicts.specs.Findings.{IsSolutionOf};
+
+use crate::guessing::guess_of;
+use crate::lifting::{Solution, state_marks};
+use crate::ranked::ranked_marks;
+use calculus::closed::Closed;
+use certify::shared::certified_winners_by;
+use claims::claimed::Claims;
+use game::graph::Game;
+use lts::Memory;
+use lts::system::Lts;
+use meaning::plain::plain_states;
+use measures::guess::settled_by_guess;
+use measures::observer::{Observer, Stage};
+use requests::arena::arena_of;
+use requests::error::MuError;
+use requests::request::Options;
+use requests::solver::{require_board, solve_seen};
+use std::alloc::Global;
+use std::sync::{Arc, Wait};
+use std::thread::Threads;
+use workers::gate::NoGate;
+
+/// A mark for each state, true where it satisfies the formula, by sets of states.
+///
+/// # Errors
+/// U4.
+pub fn plain_marks(alloc: Global, system: &Lts, formula: &Closed) -> Result<Vec<bool>, MuError>
+    ensures { let l = system.now.system in let f = closed_formula formula.now in
+        MatchResult result (λ marks. AreMarks BySets l f marks.items) (IsBeyond BySets l f) }
+{
+    match plain_states(alloc, system, formula) {
+        Ok(marks) => Ok(marks),
+        Err(Memory) => Err(MuError::Memory),
+    }
+}
+
+/// A mark for each state, true where it satisfies the formula, by the game: by a ranking of it, where one that is guessed is good, and then it isn't stored.
+///
+/// # Errors
+/// Those of the normal form, of the game, of its board and of its workers, unchanged; U4.
+pub fn game_marks<O: Observer + Sync, H: Threads + Wait + Clone + Copy + Drop + Send + Sync>(
+    rt: &H,
+    alloc: Global,
+    system: &Lts,
+    formula: &Closed,
+    options: &Options,
+    observer: &O,
+) -> Result<Vec<bool>, MuError>
+    ensures { let l = system.now.system in let f = closed_formula formula.now in let way = ByGame options.now.priorities (Some options.now.board) in
+        MatchResult result (λ marks. AreMarks way l f marks.items) (IsBeyond way l f) }
+{
+    match ranked_marks(rt, alloc, system, formula, options, observer) {
+        Some(marks) => Ok(marks),
+        None => stored_marks(rt, alloc, system, formula, options, observer),
+    }
+}
+
+/// A mark for each state, true where it satisfies the formula, by the game, which is stored.
+///
+/// # Errors
+/// Those of `game_marks`.
+fn stored_marks<O: Observer + Sync, H: Threads + Wait + Clone + Copy + Drop + Send + Sync>(
+    rt: &H,
+    alloc: Global,
+    system: &Lts,
+    formula: &Closed,
+    options: &Options,
+    observer: &O,
+) -> Result<Vec<bool>, MuError>
+    ensures { let l = system.now.system in let f = closed_formula formula.now in let way = ByGame options.now.priorities (Some options.now.board) in
+        MatchResult result (λ marks. AreMarks way l f marks.items) (IsBeyond way l f) }
+{
+    observer.sees(Stage::Building {
+        states: system.states(),
+    });
+    match arena_of(
+        rt,
+        alloc,
+        system,
+        formula,
+        options.priorities,
+        observer.gauge(),
+    ) {
+        Ok(game) => match Arc::new(alloc, game) {
+            Ok(game) => marks_in(rt, alloc, system, formula, &game, options, observer),
+            Err(_) => Err(MuError::Memory),
+        },
+        Err(error) => Err(error),
+    }
+}
+
+/// A mark for each state, true where it satisfies the formula, in the game of both: by a guess of the whole table, where it is good;
+/// else by evidence of both players that is guessed and found good, where there is some; else by lifting.
+fn marks_in<O: Observer + Sync, H: Threads + Wait + Clone + Copy + Drop + Send + Sync>(
+    rt: &H,
+    alloc: Global,
+    system: &Lts,
+    formula: &Closed,
+    game: &Arc<Game, Global>,
+    options: &Options,
+    observer: &O,
+) -> Result<Vec<bool>, MuError>
+    requires { IsArenaOf options.now.priorities system.now.system (closed_formula formula.now) (arc_value game.now) }
+    ensures { let l = system.now.system in let f = closed_formula formula.now in let way = ByGame options.now.priorities (Some options.now.board) in
+        MatchResult result (λ marks. AreMarks way l f marks.items) (IsBeyond way l f) }
+{
+    observer.sees(Stage::Searching {
+        vertices: game.vertices(),
+    });
+    match solution_of(rt, alloc, system, formula, game, options, observer) {
+        Ok(solution) => {
+            let priorities = options.priorities;
+            state_marks(alloc, system, formula, priorities, game, solution.winners())
+        }
+        Err(error) => Err(error),
+    }
+}
+
+/// Who wins the game of both.
+fn solution_of<O: Observer + Sync, H: Threads + Wait + Clone + Copy + Drop + Send + Sync>(
+    rt: &H,
+    alloc: Global,
+    system: &Lts,
+    formula: &Closed,
+    game: &Arc<Game, Global>,
+    options: &Options,
+    observer: &O,
+) -> Result<Solution, MuError>
+    ensures solution { IfOk result (IsSolutionOf (arc_value game.now)) }
+    ensures board { IfOk result (λ _. IsFitting (Some options.now.board) (arc_value game.now)) }
+    ensures refusal { IfErr result (IsUnsolved (Some options.now.board) (arc_value game.now)) }
+{
+    require_board(game, options.board)?;
+    let guess = guess_of(alloc, system, formula, options.priorities);
+    solution_by(rt, alloc, game, options, observer, &guess)
+}
+
+/// The same, with what is guessed of the game.
+fn solution_by<O: Observer + Sync, H: Threads + Wait + Clone + Copy + Drop + Send + Sync>(
+    rt: &H,
+    alloc: Global,
+    game: &Arc<Game, Global>,
+    options: &Options,
+    observer: &O,
+    guess: &Option<Claims<'_>>,
+) -> Result<Solution, MuError>
+    requires { IsFitting (Some options.now.board) (arc_value game.now) }
+    ensures solution { IfOk result (IsSolutionOf (arc_value game.now)) }
+    ensures board { IfOk result (λ _. IsFitting (Some options.now.board) (arc_value game.now)) }
+    ensures refusal { IfErr result (IsUnsolved (Some options.now.board) (arc_value game.now)) }
+{
+    if let Some(settled) = settled_by_guess(alloc, game, guess) {
+        return Ok(Solution::Table(settled));
+    }
+    if let Some(marks) = certified_winners_by(
+        rt,
+        alloc,
+        game,
+        options.workers as usize,
+        observer.gauge(),
+    ) {
+        return Ok(Solution::Marks(marks));
+    }
+    match solve_seen(rt, alloc, game, options, &NoGate, observer, guess) {
+        Ok(settled) => Ok(Solution::Table(settled)),
+        Err(error) => Err(error),
+    }
+}
