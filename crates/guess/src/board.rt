@@ -46,8 +46,8 @@ pub(crate) struct Board {
     pub(crate) tops: Sheet,
     known: Vec<Known>,
     pub(crate) words: Vec<Words>,
-    levels: Vec<Numbers>,
-    rounds: Vec<Numbers>,
+    pub(crate) levels: Vec<Numbers>,
+    pub(crate) rounds: Vec<Numbers>,
     /// Ranks that are kept for each node and state, as words.
     pub(crate) ranks: Vec<Words>,
     /// Where their counts stand.

@@ -29,3 +29,4 @@ mod steps;
 mod stock;
 pub mod whole;
 mod withdraw;
+mod written;

@@ -120,6 +120,10 @@ impl Words {
         &self.items
     }
 
+    pub(crate) fn as_mut_slice(&mut self) -> &mut [u64] {
+        &mut self.items
+    }
+
     pub(crate) fn get(&self, place: u32) -> u64 {
         self.items.get(place as usize).copied().unwrap_or(0)
     }
