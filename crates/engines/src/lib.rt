@@ -16,6 +16,7 @@ mod prepared;
 mod ranked;
 pub mod reasons;
 mod report;
+mod sheets;
 pub mod status;
 pub mod table;
 

@@ -6,7 +6,6 @@ mod bits;
 mod blocks;
 mod board;
 pub mod columns;
-mod crew;
 mod deep;
 mod edges;
 mod few;

@@ -29,6 +29,7 @@ pub(crate) struct Writing {
 }
 
 // A count, with a word below it where the bit at this place is set.
+#[inline(always)]
 fn raised(kept: u64, place: usize, count: u64, below: u64) -> u64 {
     let is_kept = (kept >> (place % WORD as usize)) & 1 != 0;
     count.wrapping_add(if is_kept { below } else { 0 })
@@ -128,9 +129,10 @@ impl Board {
         }
         let words = self.words[node].as_mut_slice();
         match below {
-            Below::Levels(unit) => {
-                count_from(words, list(&self.levels, node), writing, unit);
-            }
+            Below::Levels(unit) => match list(&self.levels, node) {
+                [] => raise_from(words, Writing { kept: 0, ..writing }),
+                levels => count_from(words, levels, writing, unit),
+            },
             Below::Rounds(unit) => {
                 count_from(words, list(&self.rounds, node), writing, unit);
             }
