@@ -1,5 +1,7 @@
-// Claims and proposals of values that are guessed. Nothing rests on them but time: they are tested before a table is raised to them.
+// What is guessed, as it is tested: claims and proposals of values, and rankings. Nothing rests on it but time: a table is raised only to what
+// was tested, and winners are told only of a ranking that was found good.
 #![tactic(auto)]
 
 pub mod claimed;
 mod proposed;
+pub mod sheets;

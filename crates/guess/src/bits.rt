@@ -6,6 +6,7 @@ use crate::stock::Stock;
 pub(crate) const WORD: u32 = 64;
 
 /// The bit of a state in its word.
+#[inline(always)]
 pub(crate) fn bit(state: u32) -> u64 {
     1_u64 << (state % WORD)
 }
@@ -42,12 +43,28 @@ impl Sheet {
         }
     }
 
+    /// The words of all sets, one set after another.
+    pub(crate) fn into_words(self) -> Vec<u64> {
+        self.words
+    }
+
+    /// Whether a node's set has no state.
+    pub(crate) fn is_empty(&self, node: u32) -> bool {
+        (0..self.width).all(|word| self.word(node, word) == 0)
+    }
+
+    /// Whether a node's set has all states.
+    pub(crate) fn is_full(&self, node: u32) -> bool {
+        (0..self.width).all(|word| self.word(node, word) == self.full(word))
+    }
+
     /// How many words a set has.
     pub(crate) fn width(&self) -> u32 {
         self.width
     }
 
     /// All states of a word.
+    #[inline(always)]
     pub(crate) fn full(&self, word: u32) -> u64 {
         if word.saturating_add(1) == self.width {
             self.tail
@@ -56,15 +73,18 @@ impl Sheet {
         }
     }
 
+    #[inline(always)]
     fn place(&self, node: u32, word: u32) -> usize {
         node.wrapping_mul(self.width).wrapping_add(word) as usize
     }
 
+    #[inline(always)]
     pub(crate) fn word(&self, node: u32, word: u32) -> u64 {
         let place = self.place(node, word);
         self.words.get(place).copied().unwrap_or(0)
     }
 
+    #[inline(always)]
     pub(crate) fn set_word(&mut self, node: u32, word: u32, bits: u64) {
         let place = self.place(node, word);
         if place < self.words.len() {
@@ -73,6 +93,7 @@ impl Sheet {
     }
 
     /// Adds the states of a word.
+    #[inline(always)]
     pub(crate) fn add(&mut self, node: u32, word: u32, bits: u64) {
         let place = self.place(node, word);
         if place < self.words.len() {
@@ -81,6 +102,7 @@ impl Sheet {
     }
 
     /// Takes the states of a word away.
+    #[inline(always)]
     pub(crate) fn remove(&mut self, node: u32, word: u32, bits: u64) {
         let place = self.place(node, word);
         if place < self.words.len() {
@@ -88,6 +110,7 @@ impl Sheet {
         }
     }
 
+    #[inline(always)]
     pub(crate) fn has(&self, node: u32, state: u32) -> bool {
         self.word(node, state / WORD) & bit(state) != 0
     }
@@ -101,6 +124,7 @@ impl Sheet {
     }
 
     // The first bit of a set from one on that is in the same word.
+    #[inline(always)]
     fn first_within(&self, node: u32, from: u32) -> Option<u32> {
         let before = bit(from).wrapping_sub(1);
         let rest = self.word(node, from / WORD) & !before;
@@ -131,14 +155,17 @@ impl Fronts {
         }
     }
 
+    #[inline(always)]
     pub(crate) fn word(&self, node: u32, word: u32) -> u64 {
         self.bits.word(node, word)
     }
 
+    #[inline(always)]
     pub(crate) fn has(&self, node: u32, state: u32) -> bool {
         self.bits.has(node, state)
     }
 
+    #[inline(always)]
     pub(crate) fn add(&mut self, node: u32, word: u32, bits: u64) {
         let old = self.bits.word(node, word);
         self.bits.set_word(node, word, old | bits);
@@ -148,6 +175,7 @@ impl Fronts {
         }
     }
 
+    #[inline(always)]
     pub(crate) fn add_state(&mut self, node: u32, state: u32) {
         self.add(node, state / WORD, bit(state));
     }

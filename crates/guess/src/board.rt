@@ -36,6 +36,7 @@ pub(crate) enum Exits {
 /// Values, levels and rounds by node and state, with the edges and nodes that they are of. Variables are as their binders.
 #[derive(Drop)]
 pub(crate) struct Board {
+    alloc: Global,
     pub(crate) states: u32,
     pub(crate) forth: Edges,
     // As soon as they are wanted.
@@ -46,8 +47,8 @@ pub(crate) struct Board {
     pub(crate) tops: Sheet,
     known: Vec<Known>,
     pub(crate) words: Vec<Words>,
-    levels: Vec<Numbers>,
-    rounds: Vec<Numbers>,
+    pub(crate) levels: Vec<Numbers>,
+    pub(crate) rounds: Vec<Numbers>,
     /// Ranks that are kept for each node and state, as words.
     pub(crate) ranks: Vec<Words>,
     /// Where their counts stand.
@@ -97,6 +98,10 @@ fn open_numbers(numbers: &mut Numbers, alloc: Global, length: usize, are_read: b
 
 // Writes a number at these states of a word.
 fn put_number(numbers: &mut Numbers, word: u32, mut bits: u64, number: u32) {
+    if bits == u64::MAX {
+        numbers.fill_word(word, number);
+        return;
+    }
     for _ in 0..WORD {
         if bits == 0 {
             return;
@@ -118,6 +123,7 @@ impl Board {
     ) -> Self {
         let count = form.count();
         Board {
+            alloc: stock.alloc,
             states,
             forth,
             back: None,
@@ -151,6 +157,7 @@ impl Board {
     }
 
     /// The edges back from a state, where they were made.
+    #[inline(always)]
     pub(crate) fn back(&self, state: u32) -> &[u32] {
         match &self.back {
             Some(edges) => edges.row(state),
@@ -246,6 +253,7 @@ impl Board {
     }
 
     /// The level at which a node's value was found at a state.
+    #[inline(always)]
     pub(crate) fn level(&self, node: u32, state: u32) -> u32 {
         match self.levels.get(node as usize) {
             Some(levels) => levels.get(state),
@@ -253,25 +261,46 @@ impl Board {
         }
     }
 
+    #[inline(always)]
     pub(crate) fn set_level(&mut self, node: u32, state: u32, level: u32) {
-        if let Some(levels) = self.levels.get_mut(node as usize) {
+        if self.opens_levels(node, level)
+            && let Some(levels) = self.levels.get_mut(node as usize)
+        {
             levels.set(state, level);
         }
     }
 
     /// Gives a level to these states of a word.
     pub(crate) fn set_levels(&mut self, node: u32, word: u32, bits: u64, level: u32) {
-        if let Some(levels) = self.levels.get_mut(node as usize) {
+        if self.opens_levels(node, level)
+            && let Some(levels) = self.levels.get_mut(node as usize)
+        {
             put_number(levels, word, bits, level);
+        }
+    }
+
+    // Makes room for a node's levels, where there is none. The answer is whether there is some: up to the first level above zero it isn't needed.
+    #[inline(always)]
+    fn opens_levels(&mut self, node: u32, level: u32) -> bool {
+        let length = self.states as usize;
+        match self.levels.get_mut(node as usize) {
+            Some(levels) if levels.as_slice().is_empty() && level > 0 => {
+                let is_there = levels.make_room(self.alloc, length);
+                self.is_whole &= is_there;
+                is_there
+            }
+            Some(levels) => !levels.as_slice().is_empty(),
+            None => false,
         }
     }
 
     /// Forgets a node's levels. Where winners alone are looked for, they are read only where the node is final.
     pub(crate) fn clear_levels(&mut self, alloc: Global, node: u32) {
-        let is_read = self.exits == Exits::Values;
         let length = self.states as usize;
-        if let Some(levels) = self.levels.get_mut(node as usize) {
-            self.is_whole &= open_numbers(levels, alloc, length, is_read);
+        if self.exits == Exits::Values
+            && let Some(levels) = self.levels.get_mut(node as usize)
+        {
+            self.is_whole &= levels.refill(alloc, NEVER, length);
         }
     }
 
@@ -302,30 +331,6 @@ impl Board {
         let length = self.states as usize;
         if let Some(rounds) = self.rounds.get_mut(node as usize) {
             self.is_whole &= open_numbers(rounds, alloc, length, is_read);
-        }
-    }
-
-    /// The rounds of a node by state.
-    pub(crate) fn rounds_of(&self, node: u32) -> &[u32] {
-        match self.rounds.get(node as usize) {
-            Some(rounds) => rounds.as_slice(),
-            None => &[],
-        }
-    }
-
-    /// The levels of a node by state.
-    pub(crate) fn levels_of(&self, node: u32) -> &[u32] {
-        match self.levels.get(node as usize) {
-            Some(levels) => levels.as_slice(),
-            None => &[],
-        }
-    }
-
-    /// The words of a node by state.
-    pub(crate) fn words_of(&self, node: u32) -> &[u64] {
-        match self.words.get(node as usize) {
-            Some(words) => words.as_slice(),
-            None => &[],
         }
     }
 

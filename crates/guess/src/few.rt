@@ -198,12 +198,14 @@ impl Few {
     }
 }
 
+#[inline(always)]
 fn add_to(found: &mut Places, sets: &mut Sets, place: Place) {
     sets.settle(place.node, place.state / WORD, bit(place.state));
     found.push(place.node, place.state);
 }
 
 // A place becomes final where it still can.
+#[inline(always)]
 fn try_add_to(found: &mut Places, sets: &mut Sets, place: Place) {
     if sets.is_left(place.node, place.state) {
         add_to(found, sets, place)
@@ -211,6 +213,7 @@ fn try_add_to(found: &mut Places, sets: &mut Sets, place: Place) {
 }
 
 // Carries a state on by the edges back from it.
+#[inline(always)]
 fn carry_back(found: &mut Places, sets: &mut Sets, board: &Board, step: Step, state: u32) {
     let node = step.node;
     for edge in board.back(state) {

@@ -9,6 +9,7 @@ use crate::places::{Place, Places};
 use crate::rounds::{Held, KNOWN, inner_time, outer_time};
 use crate::set_rounds::push_word;
 use crate::stock::Stock;
+use crate::written::{Below, Writing};
 use std::alloc::Global;
 
 /// A block above the two lowest ones.
@@ -195,19 +196,32 @@ impl Nest {
         };
         outer.won.add(number, word, bits);
         let (held, time) = (outer.held, inner_time(outer.round));
-        let mut rest = if self.layout.is_some() { bits } else { 0 };
-        for _ in 0..WORD {
-            if rest == 0 {
-                return;
-            }
-            let state = word.wrapping_mul(WORD).wrapping_add(rest.trailing_zeros());
-            rest &= rest.wrapping_sub(1);
-            let base = self.base(levels, at, number, state);
-            let count = self.count(held.is_odd(), held.priority, time);
-            levels
-                .board
-                .set_word(number, state, base.wrapping_add(count));
+        let count = self.count(held.is_odd(), held.priority, time);
+        self.write(levels, at, number, word, bits, count);
+    }
+
+    // Writes the words of a node at these states: a count, and below it what there is in the fields of lesser blocks.
+    fn write(
+        &mut self,
+        levels: &mut Levels,
+        at: usize,
+        node: u32,
+        word: u32,
+        bits: u64,
+        count: u64,
+    ) {
+        if self.layout.is_none() {
+            return;
         }
+        let (kept, below) = self.below(levels, at, node, word);
+        let writing = Writing {
+            node,
+            word,
+            bits,
+            kept,
+            count,
+        };
+        levels.board.write(writing, below);
     }
 
     // A count in the field of a priority.
@@ -224,22 +238,31 @@ impl Nest {
         unit.wrapping_mul(u64::from(count))
     }
 
-    // What the player for whom the rounds of a block are counted has in the fields of lesser blocks.
-    fn base(&mut self, levels: &Levels, at: usize, number: u32, state: u32) -> u64 {
+    // One in the field of a priority, where that holds counts up to this one.
+    fn unit(&mut self, is_even: bool, priority: u8, most: u32) -> u64 {
+        let _most = self.count(is_even, priority, most);
+        self.count(is_even, priority, 1)
+    }
+
+    // What the player for whom the rounds of a block are counted has in the fields of lesser blocks, and at which states of a word.
+    fn below(&mut self, levels: &Levels, at: usize, number: u32, word: u32) -> (u64, Below) {
+        let none = (0, Below::Words);
         match at.checked_sub(2) {
             Some(below) => match self.outers.get(below) {
-                Some(outer) if outer.won.has(number, state) => levels.board.word(number, state),
-                _ => 0,
+                Some(outer) => (outer.won.word(number, word), Below::Words),
+                None => none,
             },
-            None if at == 1 && levels.sets.noted.has(number, state) => {
-                let round = levels.board.round(number, state);
-                self.count(self.inner.is_odd(), self.inner.priority, round)
+            None if at == 1 && levels.sets.noted.word(number, word) != 0 => {
+                let most = levels.most_time().saturating_add(2);
+                let unit = self.unit(self.inner.is_odd(), self.inner.priority, most);
+                let noted = levels.sets.noted.word(number, word);
+                (noted, Below::Rounds(unit))
             }
             None if at == 0 && levels.is_inside(number) => {
-                let level = levels.board.level(number, state);
-                self.count(self.low % 2 == 1, self.low, level)
+                let unit = self.unit(self.low % 2 == 1, self.low, levels.count());
+                (u64::MAX, Below::Levels(unit))
             }
-            None => 0,
+            None => none,
         }
     }
 
@@ -338,30 +361,20 @@ impl Nest {
     // Odd's words where there are two blocks, or one: rounds or levels.
     fn end_odd(&mut self, levels: &mut Levels, number: u32) {
         let at = if self.low % 2 == 0 { 0 } else { 1 };
-        for state in 0..levels.board.states {
-            let word = self.base(levels, at, number, state);
-            levels.board.set_word(number, state, word);
+        for word in 0..levels.sets.noted.width() {
+            let all = levels.sets.noted.full(word);
+            self.write(levels, at, number, word, all, 0);
         }
     }
 
     fn end_node(&mut self, levels: &mut Levels, held: Held, number: u32) {
+        let top = self.outers.len();
         for word in 0..levels.sets.noted.width() {
             let all = levels.sets.noted.full(word);
             let bits = all & !levels.gained(held, number, word);
-            self.end_word(levels, number, word, bits);
-        }
-    }
-
-    fn end_word(&mut self, levels: &mut Levels, number: u32, word: u32, mut bits: u64) {
-        let top = self.outers.len();
-        for _ in 0..WORD {
-            if bits == 0 {
-                return;
+            if bits != 0 {
+                self.write(levels, top, number, word, bits, 0);
             }
-            let state = word.wrapping_mul(WORD).wrapping_add(bits.trailing_zeros());
-            bits &= bits.wrapping_sub(1);
-            let base = self.base(levels, top, number, state);
-            levels.board.set_word(number, state, base);
         }
     }
 }

@@ -1,5 +1,6 @@
 // Lists that are never read or written out of bounds.
 
+use crate::bits::WORD;
 use crate::stock::Stock;
 use std::alloc::Global;
 
@@ -22,25 +23,25 @@ impl Numbers {
         }
     }
 
+    pub(crate) fn into_items(self) -> Vec<u32> {
+        self.items
+    }
+
     pub(crate) fn as_slice(&self) -> &[u32] {
         &self.items
     }
 
+    #[inline(always)]
     pub(crate) fn get(&self, place: u32) -> u32 {
         self.items.get(place as usize).copied().unwrap_or(0)
     }
 
+    #[inline(always)]
     pub(crate) fn set(&mut self, place: u32, number: u32) {
         let place = place as usize;
         if place < self.items.len() {
             self.items[place] = number;
         }
-    }
-
-    pub(crate) fn copy(&self, stock: &mut Stock) -> Self {
-        let mut items = Vec::new(stock.alloc);
-        stock.note(items.extend_from_slice(&self.items).is_ok());
-        Numbers { items }
     }
 
     /// Makes all numbers this one, of which there are so many from now on. The answer is whether there was memory for them.
@@ -64,6 +65,15 @@ impl Numbers {
         stock.is_whole()
     }
 
+    /// Makes those of a word of states this one.
+    pub(crate) fn fill_word(&mut self, word: u32, number: u32) {
+        let start = (word as usize).saturating_mul(WORD as usize);
+        let end = start.saturating_add(WORD as usize).min(self.items.len());
+        if start <= end && end <= self.items.len() {
+            self.items[start..end].fill(number);
+        }
+    }
+
     /// Makes all numbers this one.
     pub(crate) fn fill(&mut self, number: u32) {
         self.items.fill(number);
@@ -79,6 +89,7 @@ impl Numbers {
     }
 
     /// Adds one, and answers what was there.
+    #[inline(always)]
     pub(crate) fn count_up(&mut self, place: u32) -> u32 {
         let number = self.get(place);
         self.set(place, number.saturating_add(1));
@@ -116,14 +127,24 @@ impl Words {
         stock.is_whole()
     }
 
+    pub(crate) fn into_items(self) -> Vec<u64> {
+        self.items
+    }
+
     pub(crate) fn as_slice(&self) -> &[u64] {
         &self.items
     }
 
+    pub(crate) fn as_mut_slice(&mut self) -> &mut [u64] {
+        &mut self.items
+    }
+
+    #[inline(always)]
     pub(crate) fn get(&self, place: u32) -> u64 {
         self.items.get(place as usize).copied().unwrap_or(0)
     }
 
+    #[inline(always)]
     pub(crate) fn set(&mut self, place: u32, word: u64) {
         let place = place as usize;
         if place < self.items.len() {

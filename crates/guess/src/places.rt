@@ -29,10 +29,12 @@ impl Places {
         self.is_whole
     }
 
+    #[inline(always)]
     pub(crate) fn push(&mut self, node: u32, state: u32) {
         self.is_whole &= self.list.push(Place { node, state }).is_ok();
     }
 
+    #[inline(always)]
     pub(crate) fn pop(&mut self) -> Option<Place> {
         self.list.pop()
     }

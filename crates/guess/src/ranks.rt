@@ -1,20 +1,18 @@
 // Who wins each node at each state, with a ranking, component by component, bottom up. Of those below it a component takes the winners alone.
 
 use crate::blocks::Blocks;
-use crate::board::Exits;
-use crate::columns::Columns;
-use crate::crew::{Task, do_by, whole};
+use crate::board::{Board, Exits};
+use crate::columns::{Column, Columns, Counted, Halves};
 use crate::form::{Form, NONE, Side};
 use crate::layout::{Fields, Layout, MARK};
 use crate::levels::Levels;
-use crate::numbers::Numbers;
+use crate::numbers::{Numbers, Words};
 use crate::rounds::Held;
 use crate::scale::Scale;
 use crate::stock::Stock;
 use crate::whole::levels_of;
 use normal::form::Normal;
 use std::alloc::{AllocError, Global};
-use std::thread::Threads;
 use systems::system::Lts;
 use text::Memory;
 
@@ -34,15 +32,6 @@ struct Ranked {
     root: u32,
     even: Count,
     odd: Count,
-}
-
-/// A word for each state where a player wins: this one, with a number of a list as so many units.
-#[derive(Clone, Copy)]
-struct Rule<'a> {
-    base: u64,
-    unit: u64,
-    numbers: &'a [u32],
-    words: &'a [u64],
 }
 
 /// What is known of the components.
@@ -66,9 +55,13 @@ fn size(form: &Form, root: u32) -> u32 {
     size
 }
 
-// What is counted in a component of one block or two: levels in the lower one, rounds in the other one.
-fn counted(root: u32, blocks: Blocks) -> Ranked {
-    let low = Count::Levels(blocks.priority(0));
+// What is counted in a component of one block or two: levels in the lower one, if there are several, and rounds in the other one.
+fn counted(root: u32, blocks: Blocks, ends: u32) -> Ranked {
+    let low = if ends > 1 {
+        Count::Levels(blocks.priority(0))
+    } else {
+        Count::Nothing
+    };
     let high = if blocks.count() > 1 {
         Count::Rounds(blocks.priority(1))
     } else {
@@ -119,7 +112,7 @@ fn solve(alloc: Global, levels: &mut Levels, layout: &Layout, root: u32) -> Opti
     let fits = layout.even.holds(times.max(ends)) && layout.odd.holds(times.max(ends));
     match blocks.count() {
         _ if !is_done || !fits => None,
-        1 | 2 => Some(counted(root, blocks)),
+        1 | 2 => Some(counted(root, blocks, ends)),
         _ => Some(same(root, Count::Fields)),
     }
 }
@@ -146,226 +139,124 @@ impl Ranks {
         }
     }
 
-    // The words of a node where a player wins, from what is counted, above a group and what is always there.
-    fn rule(&self, fields: &Fields, count: Count, number: u32, base: u64) -> Rule<'_> {
-        let real = self.levels.board.form.real(number);
-        let is_held = self.levels.parts.get(real) >= self.levels.board.form.count();
-        let mut rule = Rule {
-            base,
-            unit: 0,
-            numbers: &[],
-            words: &[],
+    // The words of a node where a player wins, above a group and what is always there.
+    fn rule(&self, fields: &Fields, count: Count, number: u32, base: u64) -> Counted {
+        let form = &self.levels.board.form;
+        let real = form.real(number);
+        let is_held = self.levels.parts.get(real) >= form.count();
+        let (unit, counts) = match count {
+            Count::Levels(priority) if !is_held => (fields.unit(priority), real),
+            Count::Rounds(priority) => (fields.unit(priority), real.saturating_add(form.count())),
+            _ => (0, NONE),
         };
-        match count {
-            Count::Levels(priority) if !is_held => {
-                rule.unit = fields.unit(priority);
-                rule.numbers = self.levels.board.levels_of(real);
-            }
-            Count::Rounds(priority) => {
-                rule.unit = fields.unit(priority);
-                rule.numbers = self.levels.board.rounds_of(real);
-            }
-            Count::Fields => rule.words = self.levels.board.words_of(real),
-            _ => {}
-        }
-        rule
+        Counted { base, unit, counts }
     }
 
-    // A word for each state of a node.
-    fn column(&self, alloc: Global, number: u32) -> Result<Option<Vec<u64>>, AllocError> {
+    // The words of a node in a component.
+    fn halves(&self, part: Ranked, number: u32) -> Halves {
         let form = &self.levels.board.form;
-        let place = self.places.get(form.root(number));
-        let Some(part) = self.parts.get(place as usize).copied() else {
-            return Ok(None);
-        };
         let group = u64::from(form.count().saturating_sub(part.root));
         let even = group.wrapping_mul(self.layout.even.group_unit());
         let height = u64::from(form.height(number)).wrapping_mul(2);
         let odd = group.wrapping_mul(self.layout.odd.group_unit());
         let odd = odd.wrapping_add(height).wrapping_add(MARK);
-        let even = self.rule(&self.layout.even, part.even, number, even);
-        let odd = self.rule(&self.layout.odd, part.odd, number, odd);
-        let mut words = filled(alloc, even, self.levels.board.states)?;
-        self.put_odd(&mut words, form.real(number), odd);
-        Ok(Some(words))
-    }
-
-    // Writes the words of the states at which Odd wins.
-    fn put_odd(&self, words: &mut Vec<u64>, real: u32, rule: Rule<'_>) {
-        for word in 0..self.levels.board.tops.width() {
-            let tops = self.levels.board.tops.word(real, word);
-            let range = self.levels.board.states_of(word);
-            let (start, end) = (range.start as usize, range.end as usize);
-            if tops != 0 && start <= end && end <= words.len() {
-                let here = Rule {
-                    numbers: part(rule.numbers, start, end),
-                    words: part(rule.words, start, end),
-                    ..rule
-                };
-                put_word(&mut words[start..end], tops, here);
-            }
+        let real = form.real(number);
+        Halves {
+            marks: real.wrapping_mul(self.levels.board.tops.width()),
+            even: self.rule(&self.layout.even, part.even, number, even),
+            odd: self.rule(&self.layout.odd, part.odd, number, odd),
+            words: match part.even {
+                Count::Fields => real,
+                _ => NONE,
+            },
         }
     }
 
-    // The columns of all nodes, by so many threads.
-    fn columns<R: Threads + Sync>(
-        &self,
-        rt: &R,
-        alloc: Global,
-        workers: u32,
-    ) -> Result<Columns, AllocError> {
-        let mut places = no_columns(alloc, self.levels.board.form.count())?;
-        let task = ColumnTask {
-            ranks: self,
-            alloc,
-            first: 0,
-            places: &mut places,
-        };
-        do_by(rt, task, workers);
-        let mut columns = Columns {
-            words: Vec::new(alloc),
-            even_shifts: Vec::new(alloc),
-            odd_shifts: Vec::new(alloc),
-        };
-        self.put_columns(places, &mut columns)?;
-        Ok(columns)
+    // The column of a node: one word alone where one player wins all states, and nothing is counted.
+    fn column(&self, number: u32) -> Option<Column> {
+        let form = &self.levels.board.form;
+        let place = self.places.get(form.root(number));
+        let part = self.parts.get(place as usize).copied()?;
+        let halves = self.halves(part, number);
+        let tops = &self.levels.board.tops;
+        let real = form.real(number);
+        Some(match halves {
+            _ if halves.words != NONE => Column::Won(halves),
+            Halves { even, .. } if even.unit == 0 && tops.is_empty(real) => Column::Same(even.base),
+            Halves { odd, .. } if odd.unit == 0 && tops.is_full(real) => Column::Same(odd.base),
+            _ => Column::Won(halves),
+        })
     }
 
-    // A column that is not there wants memory.
-    fn put_columns(
-        &self,
-        places: Vec<Option<Vec<u64>>>,
-        columns: &mut Columns,
-    ) -> Result<(), AllocError> {
-        push_all(&mut columns.words, places)?;
-        let Layout { even, odd } = &self.layout;
-        columns.even_shifts.extend_from_slice(&even.kept)?;
-        columns.odd_shifts.extend_from_slice(&odd.kept)
+    // The columns of all nodes.
+    fn nodes(&self, alloc: Global) -> Result<Option<Vec<Column>>, AllocError> {
+        let mut nodes = Vec::new(alloc);
+        for number in 0..self.levels.board.form.count() {
+            match self.column(number) {
+                Some(column) => nodes.push(column)?,
+                None => return Ok(None),
+            }
+        }
+        Ok(Some(nodes))
+    }
+
+    // The columns, with the lists of what was counted.
+    fn into_columns(self, alloc: Global) -> Result<Option<Columns>, AllocError> {
+        let mut shifts = Shifts {
+            even: Vec::new(alloc),
+            odd: Vec::new(alloc),
+        };
+        shifts.even.extend_from_slice(&self.layout.even.kept)?;
+        shifts.odd.extend_from_slice(&self.layout.odd.kept)?;
+        let nodes = self.nodes(alloc)?;
+        let levels = self.levels;
+        match nodes {
+            Some(nodes) => Ok(Some(columns_of(alloc, levels.board, nodes, shifts)?)),
+            None => Ok(None),
+        }
     }
 }
 
-fn push_all(words: &mut Vec<Vec<u64>>, places: Vec<Option<Vec<u64>>>) -> Result<(), AllocError> {
-    for column in places {
-        match column {
-            Some(column) => words.push(column)?,
-            None => return Err(AllocError),
-        }
+/// The shifts of both players.
+#[derive(Drop)]
+struct Shifts {
+    even: Vec<u32>,
+    odd: Vec<u32>,
+}
+
+// Takes the lists out of a board: levels by node, and then rounds.
+fn columns_of(
+    alloc: Global,
+    board: Board,
+    nodes: Vec<Column>,
+    shifts: Shifts,
+) -> Result<Columns, AllocError> {
+    let mut columns = Columns {
+        nodes,
+        marks: board.tops.into_words(),
+        counts: Vec::new(alloc),
+        words: Vec::new(alloc),
+        even_shifts: shifts.even,
+        odd_shifts: shifts.odd,
+    };
+    push_counts(&mut columns.counts, board.levels)?;
+    push_counts(&mut columns.counts, board.rounds)?;
+    push_words(&mut columns.words, board.words)?;
+    Ok(columns)
+}
+
+fn push_counts(counts: &mut Vec<Vec<u32>>, lists: Vec<Numbers>) -> Result<(), AllocError> {
+    for list in lists {
+        counts.push(list.into_items())?;
     }
     Ok(())
 }
 
-fn no_columns(alloc: Global, nodes: u32) -> Result<Vec<Option<Vec<u64>>>, AllocError> {
-    let mut places = Vec::new(alloc);
-    for _ in 0..nodes {
-        places.push(None)?;
+fn push_words(words: &mut Vec<Vec<u64>>, lists: Vec<Words>) -> Result<(), AllocError> {
+    for list in lists {
+        words.push(list.into_items())?;
     }
-    Ok(places)
-}
-
-/// The columns of the nodes from the first one on, none of which is there yet.
-#[derive(Drop)]
-struct ColumnTask<'r, 'p> {
-    ranks: &'r Ranks,
-    alloc: Global,
-    first: u32,
-    places: &'p mut [Option<Vec<u64>>],
-}
-
-impl Task for ColumnTask<'_, '_> {
-    fn size(&self) -> usize {
-        let states = self.ranks.levels.board.states as usize;
-        states.saturating_mul(self.places.len())
-    }
-
-    fn cut(self, parts: u32) -> (Self, Self) {
-        let nodes = self.places.len() / parts.max(1) as usize;
-        let (ranks, alloc, first) = (self.ranks, self.alloc, self.first);
-        let (places, other_places) = self.places.split_at_mut(nodes);
-        let front = ColumnTask {
-            ranks,
-            alloc,
-            first,
-            places,
-        };
-        let rest = ColumnTask {
-            ranks,
-            alloc,
-            first: first.saturating_add(u32::try_from(nodes).unwrap_or(0)),
-            places: other_places,
-        };
-        (front, rest)
-    }
-
-    fn run(self) {
-        let (ranks, alloc, first) = (self.ranks, self.alloc, self.first);
-        let places = whole(self.places);
-        put_columns(ranks, alloc, first, places);
-    }
-}
-
-// Writes the columns of the nodes from the first one on. Want of memory is no column.
-fn put_columns(ranks: &Ranks, alloc: Global, first: u32, places: &mut [Option<Vec<u64>>]) {
-    for (number, place) in (first..u32::MAX).zip(places.iter_mut()) {
-        *place = ranks.column(alloc, number).ok().flatten();
-    }
-}
-
-// The words of a rule, for so many states.
-fn filled(alloc: Global, rule: Rule<'_>, states: u32) -> Result<Vec<u64>, AllocError> {
-    let mut words = vec![in alloc; rule.base; states as usize]?;
-    count_all(&mut words, rule.numbers, rule.unit);
-    add_all(&mut words, rule.words);
-    Ok(words)
-}
-
-fn count_all(words: &mut [u64], numbers: &[u32], unit: u64) {
-    for at in 0..words.len().min(numbers.len()) {
-        words[at] = words[at].wrapping_add(u64::from(numbers[at]).wrapping_mul(unit));
-    }
-}
-
-fn add_all(words: &mut [u64], more: &[u64]) {
-    for at in 0..words.len().min(more.len()) {
-        words[at] = words[at].wrapping_add(more[at]);
-    }
-}
-
-// The items of a list at these places, or none where it is shorter.
-fn part<T>(list: &[T], start: usize, end: usize) -> &[T] {
-    if start <= end && end <= list.len() {
-        &list[start..end]
-    } else {
-        &[]
-    }
-}
-
-// Writes the words of a rule at these states of a word, whose numbers and words it has.
-fn put_word(words: &mut [u64], bits: u64, rule: Rule<'_>) {
-    put_base(words, bits, rule.base);
-    put_numbers(words, bits, rule.numbers, rule.unit);
-    put_more(words, bits, rule.words);
-}
-
-fn put_base(words: &mut [u64], mut bits: u64, base: u64) {
-    for word in words.iter_mut() {
-        *word = if bits & 1 != 0 { base } else { *word };
-        bits >>= 1;
-    }
-}
-
-fn put_numbers(words: &mut [u64], mut bits: u64, numbers: &[u32], unit: u64) {
-    for at in 0..words.len().min(numbers.len()) {
-        let count = u64::from(numbers[at]).wrapping_mul(unit);
-        words[at] = words[at].wrapping_add(if bits & 1 != 0 { count } else { 0 });
-        bits >>= 1;
-    }
-}
-
-fn put_more(words: &mut [u64], mut bits: u64, more: &[u64]) {
-    for at in 0..words.len().min(more.len()) {
-        words[at] = words[at].wrapping_add(if bits & 1 != 0 { more[at] } else { 0 });
-        bits >>= 1;
-    }
+    Ok(())
 }
 
 // What is not known yet of the components of these levels. There is nothing for want of memory.
@@ -405,15 +296,9 @@ fn solved(alloc: Global, ranks: Ranks) -> Option<Ranks> {
 ///
 /// # Errors
 /// Want of memory, and nothing else.
-pub fn columns<R: Threads + Sync>(
-    rt: &R,
-    alloc: Global,
-    lts: &Lts,
-    normal: &Normal,
-    workers: u32,
-) -> Result<Option<Columns>, Memory> {
+pub fn columns(alloc: Global, lts: &Lts, normal: &Normal) -> Result<Option<Columns>, Memory> {
     match find_in(alloc, lts, normal) {
-        Some(ranks) => Ok(Some(ranks.columns(rt, alloc, workers)?)),
+        Some(ranks) => Ok(ranks.into_columns(alloc)?),
         None => Ok(None),
     }
 }

@@ -203,6 +203,7 @@ impl Board {
     }
 
     /// Whether a play may go on along an edge at a modality.
+    #[inline(always)]
     pub(crate) fn leads(&self, number: u32, state: u32, target: u32) -> bool {
         if self.reasons.is_none() {
             return true;
@@ -212,6 +213,7 @@ impl Board {
     }
 
     /// The states of a word at which a play doesn't go on to a child of a node that has two.
+    #[inline(always)]
     pub(crate) fn barred(&self, number: u32, child: u32, word: u32) -> u64 {
         match &self.reasons {
             Some(reasons) => {
@@ -228,6 +230,7 @@ impl Board {
     }
 
     /// The same at one state.
+    #[inline(always)]
     pub(crate) fn is_barred(&self, place: Place, child: u32) -> bool {
         let word = self.barred(place.node, child, place.state / WORD);
         word & bit(place.state) != 0

@@ -45,6 +45,8 @@ pub(crate) struct Sets {
     sizes: Numbers,
     // Of a node that waits for all successors: how many of the first it waits for no more.
     cursors: Vec<Numbers>,
+    // For each such node whether it waits for less than all of them at some state.
+    moved: Numbers,
     // How many states were looked at in place of edges back.
     spent: u64,
     /// What was gained in some round: where winners alone are looked for it is final in no later one.
@@ -68,6 +70,7 @@ impl Sets {
             fronts: Fronts::new(stock, nodes, states),
             sizes: Numbers::filled(stock, 0, nodes as usize),
             cursors: no_numbers(stock, nodes),
+            moved: Numbers::filled(stock, 0, nodes as usize),
             spent: 0,
             noted: Sheet::new(stock, nodes, states),
             bars: exits == Exits::Marks,
@@ -134,8 +137,11 @@ impl Sets {
 
     /// Forgets for which successors a node waits.
     pub(crate) fn clear_cursors(&mut self, alloc: Global, node: u32, states: u32) {
-        if let Some(cursors) = self.cursors.get_mut(node as usize) {
+        if let Some(cursors) = self.cursors.get_mut(node as usize)
+            && (cursors.as_slice().is_empty() || self.moved.get(node) != 0)
+        {
             self.is_whole &= cursors.refill(alloc, 0, states as usize);
+            self.moved.set(node, 0);
         }
     }
 
@@ -156,11 +162,13 @@ impl Sets {
     }
 
     /// The states of a word at which a node can still become final.
+    #[inline(always)]
     pub(crate) fn left(&self, node: u32, word: u32) -> u64 {
         self.open.word(node, word)
     }
 
     /// Whether a node can still become final at a state.
+    #[inline(always)]
     pub(crate) fn is_left(&self, node: u32, state: u32) -> bool {
         self.open.has(node, state)
     }
@@ -172,6 +180,7 @@ impl Sets {
     }
 
     /// The same where nothing is carried on from there by these sets.
+    #[inline(always)]
     pub(crate) fn settle(&mut self, node: u32, word: u32, bits: u64) {
         self.done.add(node, word, bits);
         self.open.remove(node, word, bits);
@@ -233,6 +242,7 @@ impl Sets {
     }
 
     /// Whether a node that waits for both children still waits for this one.
+    #[inline(always)]
     pub(crate) fn waits_for(&self, board: &Board, place: Place, child: u32) -> bool {
         !self.done.has(child, place.state) && !board.is_barred(place, child)
     }
@@ -325,7 +335,10 @@ impl Sets {
             let target = state_of(*edge);
             let is_open = takes(step.mask, *edge) && !self.done.has(step.operand, target);
             if is_open && board.leads(step.node, state, target) {
-                cursors.set(state, passed);
+                if passed != first {
+                    cursors.set(state, passed);
+                    self.moved.set(step.node, 1);
+                }
                 return false;
             }
             passed = passed.saturating_add(1);

@@ -19,7 +19,7 @@ fn copied_names(alloc: Global, names: &[Vec<u8>]) -> Result<Vec<Vec<u8>>, AllocE
 
 /// A copy of an action formula.
 #[cycle(copies)]
-pub fn copied(alloc: Global, action: &Act) -> Result<Act, AllocError>
+pub fn copied_action(alloc: Global, action: &Act) -> Result<Act, AllocError>
     ensures { IfOk result (λ copy. action_of copy ≡ action_of action.now) }
 {
     match action {
@@ -38,6 +38,6 @@ pub fn copied(alloc: Global, action: &Act) -> Result<Act, AllocError>
 fn boxed(alloc: Global, action: &Act) -> Result<Box<Act>, AllocError>
     ensures { IfOk result (λ copy. action_of copy.value ≡ action_of action.now) }
 {
-    let copy = copied(alloc, action)?;
+    let copy = copied_action(alloc, action)?;
     Ok(Box::new(alloc, copy)?)
 }

@@ -7,7 +7,7 @@ ghost use Rattle.normal.specs.View.{shape_of, nodes_of};
 ghost use Rattle.normal.specs.Part.{tree_of, binders_of};
 ghost use Rattle.normal.specs.Writes.{Writes};
 
-use crate::action::copied;
+use crate::action::copied_action;
 use crate::limits::MOST_NODES;
 use crate::node::{Kind, Node};
 use crate::part::{Part, Scope, binder_of};
@@ -210,7 +210,7 @@ impl<'p> Preorder<'p> {
         ensures { OnOk result (Writes self.old self.new (Modality flag (action_of action.now) (tree_of operand.now (vec_len self.old.nodes + 1)))) }
     {
         let at = self.nodes.len() as u32;
-        let action = copied(self.alloc, action)?;
+        let action = copied_action(self.alloc, action)?;
         self.leaf(modality_of(flag, action, at + 1))?;
         self.part(operand)
     }

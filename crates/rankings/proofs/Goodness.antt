@@ -14,8 +14,8 @@ use Rattle.rankings.specs.Ranking.{IsGoodRanking, IsRanked, IsRising, winner_of}
 use Rattle.rankings.proofs.Places.{arena_closed, each_vertex, number_at, place_below}
 use Rattle.rankings.proofs.Ranked.{ranked_one}
 
-pub good_from : (c : Cells) (l : System) (nodes : List Node) → length c.columns ≡ length nodes → IsRising (ranking_of c)
-    → ((s k : ℕ) (node : Node) → s < l.states → slice_get nodes k ≡ Some node → IsRanked (ranking_of c) (cell c k s) (vertex_of l (length c.columns) s node))
+pub good_from : (c : Cells) (l : System) (nodes : List Node) → length c.nodes ≡ length nodes → IsRising (ranking_of c)
+    → ((s k : ℕ) (node : Node) → s < l.states → slice_get nodes k ≡ Some node → IsRanked (ranking_of c) (cell c k s) (vertex_of l (length c.nodes) s node))
     → IsGoodRanking (arena l nodes) (ranking_of c)
 good_from c l nodes e rising ranked = record {
   rising = rising;
@@ -30,7 +30,7 @@ good_from c l nodes e rising ranked = record {
 }
 
 pub marks_win : (c : Cells) (l : System) (nodes : List Node) (marks : List Bool) → RankingDecides → IsForm nodes → 2 + l.states * length nodes ≤ 16777216
-    → length c.columns ≡ length nodes → IsGoodRanking (arena l nodes) (ranking_of c) → Marks l.states marks (λ s. winner_of (cell c 0 s) ≡ Even)
+    → length c.nodes ≡ length nodes → IsGoodRanking (arena l nodes) (ranking_of c) → Marks l.states marks (λ s. winner_of (cell c 0 s) ≡ Even)
     → Marks l.states marks (λ s. Wins (arena l nodes) (place (length nodes) s 0))
 marks_win c l nodes marks decides form few e good m = record { count = m.count; exact = exact }
   where

@@ -6,3 +6,4 @@ mod Rows
 mod Shifts
 mod Steps
 mod Goodness
+mod Lent

@@ -16,16 +16,16 @@ use Rattle.rankings.specs.Cells.{Cells, cell, number_in}
 use Rattle.rankings.specs.Laws.{IsClosed}
 
 -- past both sinks
-past_two : (c : Cells) (v m : ℕ) → v ≡ 2 + m → number_in c v ≡ cell c (m % length c.columns) (m / length c.columns)
+past_two : (c : Cells) (v m : ℕ) → v ≡ 2 + m → number_in c v ≡ cell c (m % length c.nodes) (m / length c.nodes)
 past_two c zero m e = absurd (omega arith)
 past_two c (suc zero) m e = absurd (omega arith)
-past_two c (suc (suc n)) m e = let h : n ≡ m = omega arith in ap (λ i. cell c (i % length c.columns) (i / length c.columns)) h
+past_two c (suc (suc n)) m e = let h : n ≡ m = omega arith in ap (λ i. cell c (i % length c.nodes) (i / length c.nodes)) h
 
 -- the number of a state with a node
-pub number_at : (c : Cells) (n s k : ℕ) → length c.columns ≡ n → k < n → number_in c (place n s k) ≡ cell c k s
+pub number_at : (c : Cells) (n s k : ℕ) → length c.nodes ≡ n → k < n → number_in c (place n s k) ≡ cell c k s
 number_at c n s k e h =
-    let col : (s * n + k) % length c.columns ≡ k = ap (λ m. (s * n + k) % m) e ∙ mod-mul-add s n k h in
-    let row : (s * n + k) / length c.columns ≡ s = ap (λ m. (s * n + k) / m) e ∙ div-mul-add s n k h in
+    let col : (s * n + k) % length c.nodes ≡ k = ap (λ m. (s * n + k) % m) e ∙ mod-mul-add s n k h in
+    let row : (s * n + k) / length c.nodes ≡ s = ap (λ m. (s * n + k) / m) e ∙ div-mul-add s n k h in
     past_two c (place n s k) (s * n + k) refl ∙ (λ i. cell c (col i) (row i))
 
 -- successors are vertices

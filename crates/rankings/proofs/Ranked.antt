@@ -1,6 +1,6 @@
 -- Vertices are ranked, where their numbers follow as they have to.
 use Rattle.std.proofs.Common.{◌≡◌, ◌≢◌, ℕ, ◌<◌, ◌⊎◌, Bool, true, List, [], ◌∷◌, length, map, refl, sym, ap, subst, ◌∙◌, inl, inr, arith, true≢false}
-use Rattle.std.specs.Prelude.{Contains, if◌then◌else◌, slice_index_or}
+use Rattle.std.specs.Prelude.{Contains, if◌then◌else◌}
 use Rattle.systems.specs.Numbered.{Numbered}
 use Rattle.systems.specs.System.{IsSystem}
 use Rattle.systems.specs.declared.system.Transition.{Transition}
@@ -58,10 +58,10 @@ else_in : (xs : List ℕ) (v : ℕ) → ((u : ℕ) → Contains xs u → ⊥) �
 else_in [] v h = contains_first v []
 else_in (x ∷ xs) v h = absurd (h x (contains_first x xs))
 
-module _ (c : Cells) (l : Numbered) (x : Slopes) (s k : ℕ) (node : Node) (is : IsNode (length c.columns) node)
+module _ (c : Cells) (l : Numbered) (x : Slopes) (s k : ℕ) (node : Node) (is : IsNode (length c.nodes) node)
     (slopes : AreSlopes (ranking_of c) node.priority x) where
   abbrev n : ℕ
-  n = length c.columns
+  n = length c.nodes
 
   abbrev r : Ranking
   r = ranking_of c
@@ -91,7 +91,7 @@ module _ (c : Cells) (l : Numbered) (x : Slopes) (s k : ℕ) (node : Node) (is :
 
   module _ (flag : Bool) (a : Action) (m : ℕ) (e : node.shape ≡ ModalityNode flag a m) (ok : IsSystem l.system) (below : s < l.system.states)
       (set : List Bool) (exact : IsSetOf a l.labels set)
-      (f : StepsFollowAt l x (owner_of node.shape) set (slice_index_or c.columns k []) (slice_index_or c.columns m []) (number_in c (if flag then 1 else 0)) s)
+      (f : StepsFollowAt l x (owner_of node.shape) set (cell c k) (cell c m) (number_in c (if flag then 1 else 0)) s)
     where
       abbrev at : ℕ → ℕ
       at t = place n t m
@@ -153,21 +153,21 @@ module _ (c : Cells) (l : Numbered) (x : Slopes) (s k : ℕ) (node : Node) (is :
       }
 
 -- the same of equal owners and columns
-pub two_moved : (x : Slopes) (o p : Player) (a b d a' b' d' : List ℕ) (s : ℕ) → o ≡ p → a ≡ a' → b ≡ b' → d ≡ d'
-    → TwoFollow x o (slice_index_or a s 0) (slice_index_or b s 0) (slice_index_or d s 0)
-    → TwoFollow x p (slice_index_or a' s 0) (slice_index_or b' s 0) (slice_index_or d' s 0)
+pub two_moved : (x : Slopes) (o p : Player) (a b d a' b' d' : ℕ → ℕ) (s : ℕ) → o ≡ p → a ≡ a' → b ≡ b' → d ≡ d'
+    → TwoFollow x o (a s) (b s) (d s)
+    → TwoFollow x p (a' s) (b' s) (d' s)
 two_moved x o p a b d a' b' d' s e f g h t =
-    subst (λ q. TwoFollow x q (slice_index_or a' s 0) (slice_index_or b' s 0) (slice_index_or d' s 0)) e
-    (subst (λ z. TwoFollow x o (slice_index_or z s 0) (slice_index_or b' s 0) (slice_index_or d' s 0)) f
-    (subst (λ z. TwoFollow x o (slice_index_or a s 0) (slice_index_or z s 0) (slice_index_or d' s 0)) g
-    (subst (λ z. TwoFollow x o (slice_index_or a s 0) (slice_index_or b s 0) (slice_index_or z s 0)) h t)))
+    subst (λ q. TwoFollow x q (a' s) (b' s) (d' s)) e
+    (subst (λ z. TwoFollow x o (z s) (b' s) (d' s)) f
+    (subst (λ z. TwoFollow x o (a s) (z s) (d' s)) g
+    (subst (λ z. TwoFollow x o (a s) (b s) (z s)) h t)))
 
-pub steps_moved : (l : Numbered) (x : Slopes) (o p : Player) (set : List Bool) (a b a' b' : List ℕ) (m s : ℕ) → o ≡ p → a ≡ a' → b ≡ b'
+pub steps_moved : (l : Numbered) (x : Slopes) (o p : Player) (set : List Bool) (a b a' b' : ℕ → ℕ) (m s : ℕ) → o ≡ p → a ≡ a' → b ≡ b'
     → StepsFollowAt l x o set a b m s → StepsFollowAt l x p set a' b' m s
 steps_moved l x o p set a b a' b' m s e f g t =
     subst (λ q. StepsFollowAt l x q set a' b' m s) e (subst (λ z. StepsFollowAt l x o set z b' m s) f (subst (λ z. StepsFollowAt l x o set a z m s) g t))
 
-pub two_columns : (x : Slopes) (a b a' b' : List ℕ) (s : ℕ) → a ≡ a' → b ≡ b' → CanFollow x (slice_index_or a s 0) (slice_index_or b s 0)
-    → CanFollow x (slice_index_or a' s 0) (slice_index_or b' s 0)
+pub two_columns : (x : Slopes) (a b a' b' : ℕ → ℕ) (s : ℕ) → a ≡ a' → b ≡ b' → CanFollow x (a s) (b s)
+    → CanFollow x (a' s) (b' s)
 two_columns x a b a' b' s e f h =
-    subst (λ z. CanFollow x (slice_index_or z s 0) (slice_index_or b' s 0)) e (subst (λ z. CanFollow x (slice_index_or a s 0) (slice_index_or z s 0)) f h)
+    subst (λ z. CanFollow x (z s) (b' s)) e (subst (λ z. CanFollow x (a s) (z s)) f h)

@@ -1,5 +1,6 @@
 pub mod Ranking
 pub mod Cells
+pub mod Columns
 pub mod Slopes
 pub mod Stored
 pub mod Laws

@@ -1,5 +1,5 @@
 -- What numbers are compared by at the vertices of one priority.
-use Rattle.std.specs.Prelude.{◌≡◌, ◌≢◌, ◌↔◌, ◌⊎◌, ◌<◌, ℕ, Bool, true, false, List, Contains, IsTrue, map, slice_index_or}
+use Rattle.std.specs.Prelude.{◌≡◌, ◌≢◌, ◌↔◌, ◌⊎◌, ◌<◌, ℕ, Bool, true, false, List, Contains, IsTrue, map}
 use Rattle.std.specs.List.{AllByRecursion}
 use Rattle.systems.specs.Numbered.{IsInside, Numbered, arrow_of, arrows_from}
 use Rattle.systems.specs.declared.system.Transition.{Transition}
@@ -31,19 +31,19 @@ abbrev pub IsNoStep : List Bool → List Transition → Type 0
 IsNoStep set row = (t : Transition) → Contains row t → is_in set t ≡ false
 
 -- The same where the successors are those of a modality with this set of labels: its child, whose numbers are these, at the targets, or else the sink.
-pub record StepsFollow (x : Slopes) (owner : Player) (own : ℕ) (set : List Bool) (row : List Transition) (next : List ℕ) (sink : ℕ) : Type 0 where
+pub record StepsFollow (x : Slopes) (owner : Player) (own : ℕ) (set : List Bool) (row : List Transition) (next : ℕ → ℕ) (sink : ℕ) : Type 0 where
   pub mine : owner ≡ winner_of own
-      → ((t : Transition) × Contains row t × (is_in set t ≡ true) × CanFollow x own (slice_index_or next t.target 0)) ⊎ (IsNoStep set row × CanFollow x own sink)
-  pub theirs : owner ≢ winner_of own → (t : Transition) → Contains row t → is_in set t ≡ true → CanFollow x own (slice_index_or next t.target 0)
+      → ((t : Transition) × Contains row t × (is_in set t ≡ true) × CanFollow x own (next t.target)) ⊎ (IsNoStep set row × CanFollow x own sink)
+  pub theirs : owner ≢ winner_of own → (t : Transition) → Contains row t → is_in set t ≡ true → CanFollow x own (next t.target)
   pub none : IsNoStep set row → CanFollow x own sink
 
 -- At state s the vertex of a modality, which this player owns, is ranked: for the transitions that go from there.
-pub record StepsFollowAt (l : Numbered) (x : Slopes) (owner : Player) (set : List Bool) (own next : List ℕ) (sink s : ℕ) : Type 0 where
+pub record StepsFollowAt (l : Numbered) (x : Slopes) (owner : Player) (set : List Bool) (own next : ℕ → ℕ) (sink s : ℕ) : Type 0 where
   pub row : List Transition
   pub arrows : map (arrow_of l.labels) row ≡ arrows_from l.system s
   pub inside : IsInside l row
   pub numbers : AllByRecursion (λ t. t.label < 4294967296) row
-  pub steps : StepsFollow x owner (slice_index_or own s 0) set row next sink
+  pub steps : StepsFollow x owner (own s) set row next sink
 
 -- The sink to which a modality of this owner leads where there is no step: the true one for a box, which is Odd's, and the false one for a diamond.
 abbrev pub sink_of : Player → ℕ

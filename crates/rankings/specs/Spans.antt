@@ -9,4 +9,4 @@ use Rattle.rankings.specs.Ranking.{IsRanked}
 -- The vertices of all nodes with the states from the first one up to the end are ranked.
 abbrev pub AreRanked : Numbered → List Node → Cells → ℕ → ℕ → Type 0
 AreRanked l nodes c first end = (s k : ℕ) (node : Node) → first ≤ s → s < end → slice_get nodes k ≡ Some node
-    → IsRanked (ranking_of c) (cell c k s) (vertex_of l.system (length c.columns) s node)
+    → IsRanked (ranking_of c) (cell c k s) (vertex_of l.system (length c.nodes) s node)

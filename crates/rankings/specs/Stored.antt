@@ -4,7 +4,14 @@ use Rattle.rankings.specs.Cells.{AreShifts, Cells}
 use Rattle.rankings.specs.declared.sheet.Sheet.TheInside.{Inside}
 
 abbrev pub cells_of : Inside → Cells
-cells_of c = record { columns = map (λ column. column.items) c.columns.items; evens = c.evens.items; odds = c.odds.items }
+cells_of c = record {
+  nodes = c.columns.nodes.items;
+  marks = c.columns.marks.items;
+  counts = map (λ list. list.items) c.columns.counts.items;
+  words = map (λ list. list.items) c.columns.words.items;
+  evens = c.evens.items;
+  odds = c.odds.items;
+}
 
 pub record IsStored (c : Inside) : Type 0 where
   pub evens : AreShifts c.evens.items

@@ -7,9 +7,11 @@ ghost use Rattle.normal.specs.View.{node_of, shape_of};
 ghost use Rattle.game.specs.Arena.{vertex_of};
 ghost use Rattle.game.specs.Steps.{IsSetFor};
 ghost use Rattle.rankings.specs.Cells.{cell, ranking_of};
+ghost use Rattle.rankings.specs.Columns.{number_at};
 ghost use Rattle.rankings.specs.Ranking.{IsRanked, winner_of};
 ghost use Rattle.rankings.specs.Slopes.{TwoFollow, StepsFollow, StepsFollowAt, CanFollow, sink_of};
 
+use crate::column::Numbers;
 use crate::sheet::Sheet;
 use crate::slope::Slopes;
 use crate::slopes::winner;
@@ -53,6 +55,7 @@ const TRUE_SINK: u64 = 0;
 const FALSE_SINK: u64 = 1;
 
 // Whether a number says that this player wins.
+#[inline(always)]
 pub(crate) fn is_winner(player: Player, number: u64) -> bool
     ensures { IsTrue result ↔ (player ≡ winner_of number) }
 {
@@ -60,6 +63,7 @@ pub(crate) fn is_winner(player: Player, number: u64) -> bool
 }
 
 // Whether the label of a transition is in the set.
+#[inline(always)]
 fn has(set: &[bool], label: u32) -> bool
     ensures { result ≡ slice_index_or set.now label false }
 {
@@ -67,6 +71,7 @@ fn has(set: &[bool], label: u32) -> bool
 }
 
 // Whether a vertex is ranked whose successors have these two numbers.
+#[inline(always)]
 fn two_lead(owner: Player, slopes: Slopes, own: u64, first: u64, second: u64) -> bool
     ensures { IsTrue result → TwoFollow slopes owner own first second }
 {
@@ -78,24 +83,24 @@ fn two_lead(owner: Player, slopes: Slopes, own: u64, first: u64, second: u64) ->
 }
 
 // Whether the vertex of a modality is ranked, from whose state these transitions go.
+#[inline(always)]
 fn steps_lead(
     owner: Player,
     slopes: Slopes,
     own: u64,
     set: &[bool],
     row: &[Transition],
-    next: &[u64],
+    next: Numbers<'_>,
     sink: u64,
 ) -> bool
-    requires { AllByRecursion (λ t. t.target < length next.now) row.now }
-    ensures { IsTrue result → StepsFollow slopes owner own set.now row.now next.now sink }
+    ensures { IsTrue result → StepsFollow slopes owner own set.now row.now (number_at next.entry) sink }
 {
     let is_own = is_winner(owner, own);
     let mut some = false;
     for step in row {
         if has(set, step.label) {
             some = true;
-            if slopes.let_follow(own, next[step.target as usize]) == is_own {
+            if slopes.let_follow(own, next.number(step.target)) == is_own {
                 return is_own;
             }
         }
@@ -108,12 +113,11 @@ fn steps_lead(
 }
 
 // Whether the vertices of a constant are ranked.
-fn constants_lead(slopes: Slopes, own: &[u64], sink: u64, span: Span) -> bool
-    requires { span.end ≤ length own.now }
-    ensures { IsTrue result → (s : ℕ) → span.first ≤ s → s < span.end → CanFollow slopes (slice_index_or own.now s 0) sink }
+fn constants_lead(slopes: Slopes, own: Numbers<'_>, sink: u64, span: Span) -> bool
+    ensures { IsTrue result → (s : ℕ) → span.first ≤ s → s < span.end → CanFollow slopes (number_at own.entry s) sink }
 {
     for s in span.first..span.end {
-        if !slopes.let_follow(own[s as usize], sink) {
+        if !slopes.let_follow(own.number(s), sink) {
             return false;
         }
     }
@@ -121,13 +125,11 @@ fn constants_lead(slopes: Slopes, own: &[u64], sink: u64, span: Span) -> bool
 }
 
 // Whether the vertices of a node with one child, at the same state, are ranked.
-fn singles_lead(slopes: Slopes, own: &[u64], next: &[u64], span: Span) -> bool
-    requires own { span.end ≤ length own.now }
-    requires next { span.end ≤ length next.now }
-    ensures { IsTrue result → (s : ℕ) → span.first ≤ s → s < span.end → CanFollow slopes (slice_index_or own.now s 0) (slice_index_or next.now s 0) }
+fn singles_lead(slopes: Slopes, own: Numbers<'_>, next: Numbers<'_>, span: Span) -> bool
+    ensures { IsTrue result → (s : ℕ) → span.first ≤ s → s < span.end → CanFollow slopes (number_at own.entry s) (number_at next.entry s) }
 {
     for s in span.first..span.end {
-        if !slopes.let_follow(own[s as usize], next[s as usize]) {
+        if !slopes.let_follow(own.number(s), next.number(s)) {
             return false;
         }
     }
@@ -138,20 +140,22 @@ fn singles_lead(slopes: Slopes, own: &[u64], next: &[u64], span: Span) -> bool
 fn junctions_lead(
     owner: Player,
     slopes: Slopes,
-    own: &[u64],
-    left: &[u64],
-    right: &[u64],
+    own: Numbers<'_>,
+    left: Numbers<'_>,
+    right: Numbers<'_>,
     span: Span,
 ) -> bool
-    requires own { span.end ≤ length own.now }
-    requires left { span.end ≤ length left.now }
-    requires right { span.end ≤ length right.now }
     ensures { IsTrue result → (s : ℕ) → span.first ≤ s → s < span.end
-        → TwoFollow slopes owner (slice_index_or own.now s 0) (slice_index_or left.now s 0) (slice_index_or right.now s 0) }
+        → TwoFollow slopes owner (number_at own.entry s) (number_at left.entry s) (number_at right.entry s) }
 {
     for s in span.first..span.end {
-        let at = s as usize;
-        if !two_lead(owner, slopes, own[at], left[at], right[at]) {
+        if !two_lead(
+            owner,
+            slopes,
+            own.number(s),
+            left.number(s),
+            right.number(s),
+        ) {
             return false;
         }
     }
@@ -185,21 +189,19 @@ fn modalities_lead(
     lts: &Lts,
     owner: Player,
     slopes: Slopes,
-    own: &[u64],
+    own: Numbers<'_>,
     set: &[bool],
-    next: &[u64],
+    next: Numbers<'_>,
     span: Span,
 ) -> bool
-    requires states { span.end ≤ lts.now.system.states }
-    requires own { lts.now.system.states ≤ length own.now }
-    requires next { lts.now.system.states ≤ length next.now }
+    requires { span.end ≤ lts.now.system.states }
     ensures { IsTrue result → (s : ℕ) → span.first ≤ s → s < span.end
-        → StepsFollowAt lts.now slopes owner set.now own.now next.now (sink_of owner) s }
+        → StepsFollowAt lts.now slopes owner set.now (number_at own.entry) (number_at next.entry) (sink_of owner) s }
 {
     let sink = sink(owner);
     for s in span.first..span.end {
         let row = lts.from(s);
-        if !are_words(row) || !steps_lead(owner, slopes, own[s as usize], set, row, next, sink) {
+        if !are_words(row) || !steps_lead(owner, slopes, own.number(s), set, row, next, sink) {
             return false;
         }
     }
@@ -216,12 +218,11 @@ pub(crate) fn is_ranked(
     span: Span,
 ) -> bool
     requires states { span.end ≤ lts.now.system.states }
-    requires columns { AllByRecursion (λ column. length column ≡ lts.now.system.states) sheet.now.columns }
-    requires node { IsNode (length sheet.now.columns) (node_of node.now) }
-    requires number { number < length sheet.now.columns }
+    requires node { IsNode (length sheet.now.nodes) (node_of node.now) }
+    requires number { number < length sheet.now.nodes }
     requires set { IsSetFor lts.now.labels (shape_of node.now.kind) set.now }
     ensures { IsTrue result → (s : ℕ) → span.first ≤ s → s < span.end
-        → IsRanked (ranking_of sheet.now) (cell sheet.now number s) (vertex_of lts.now.system (length sheet.now.columns) s (node_of node.now)) }
+        → IsRanked (ranking_of sheet.now) (cell sheet.now number s) (vertex_of lts.now.system (length sheet.now.nodes) s (node_of node.now)) }
 {
     let _states = lts.states();
     let slopes = sheet.slopes(node.priority);

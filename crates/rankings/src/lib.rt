@@ -3,7 +3,9 @@
 
 ghost use Rattle.rankings.specs.Laws.{RankingDecides};
 
+pub mod column;
 mod columns;
+mod numbers;
 pub mod sheet;
 mod slope;
 mod slopes;

@@ -1,10 +1,12 @@
 // Rankings of arenas, a column of numbers for each node.
 
-ghost use Rattle.std.specs.Prelude.{◌≡◌, ◌<◌, ◌≤◌, IfSome, IsTrue, [], length, map, slice_index_or};
-ghost use Rattle.std.specs.List.{AllByRecursion};
-ghost use Rattle.rankings.specs.Cells.{AreShifts, ranking_of, shift_in};
+ghost use Rattle.std.specs.Prelude.{◌≡◌, ◌≤◌, IfSome, IsTrue, length, slice_index_or};
+ghost use Rattle.rankings.specs.Cells.{AreShifts, cell, ranking_of, shift_in};
+ghost use Rattle.rankings.specs.Columns.{number_at};
 ghost use Rattle.rankings.specs.Ranking.{IsRising};
 
+use crate::column::{Columns, Numbers};
+use crate::numbers::numbers;
 use crate::slope::{Slope, Slopes};
 use crate::slopes::is_of;
 use game::player::Player;
@@ -17,7 +19,7 @@ const LAST_SHIFT: u32 = 63;
 /// numbers don't count there.
 #[derive(Drop)]
 pub struct Sheet {
-    columns: Vec<Vec<u64>>,
+    columns: Columns,
     evens: Vec<u32>,
     odds: Vec<u32>,
 }
@@ -64,24 +66,12 @@ fn shift_of(shifts: &[u32], priority: u32) -> u32
     or_last(shifts, priority)
 }
 
-// Whether each column has so many numbers.
-fn are_long(columns: &[Vec<u64>], states: u32) -> bool
-    ensures { IsTrue result → AllByRecursion (λ column. length column ≡ states) (map (λ column. column.items) columns.now) }
-{
-    for column in columns {
-        if column.len() != states as usize {
-            return false;
-        }
-    }
-    true
-}
-
 impl Sheet {
     ghost use Rattle.rankings.specs.Slopes.{AreSlopes};
     ghost use Rattle.rankings.specs.Stored.{IsStored, cells_of};
 
     /// The sheet of these columns and shifts, of which each list is by priority. There is none where the shifts fall, or one is above 63.
-    pub fn of(columns: Vec<Vec<u64>>, evens: Vec<u32>, odds: Vec<u32>) -> Option<Sheet>
+    pub fn of(columns: Columns, evens: Vec<u32>, odds: Vec<u32>) -> Option<Sheet>
         ensures { IfSome result (λ c. c ≡ cells_of (record { columns = columns; evens = evens; odds = odds })) }
     {
         if are_shifts(&evens) && are_shifts(&odds) {
@@ -102,20 +92,18 @@ impl Sheet {
         let _ = &self.columns;
     }
 
-    /// Whether there is a column for each of so many nodes, with a number for each of so many states.
-    pub(crate) fn has_size(&self, nodes: u32, states: u32) -> bool
-        ensures nodes { IsTrue result → length self.now.columns ≡ nodes }
-        ensures states { IsTrue result → AllByRecursion (λ column. length column ≡ states) self.now.columns }
+    /// Whether there is a column for each of so many nodes.
+    pub(crate) fn has_size(&self, nodes: u32) -> bool
+        ensures { IsTrue result → length self.now.nodes ≡ nodes }
     {
-        self.columns.len() == nodes as usize && are_long(&self.columns, states)
+        self.columns.nodes.len() == nodes as usize
     }
 
     /// The numbers of a node, by state.
-    pub(crate) fn column(&self, node: u32) -> &[u64]
-        requires { node < length self.now.columns }
-        ensures { result.now ≡ slice_index_or self.now.columns node [] }
+    pub(crate) fn column(&self, node: u32) -> Numbers<'_>
+        ensures { number_at result ≡ cell self.now node }
     {
-        &self.columns[node as usize]
+        numbers(&self.columns, node)
     }
 
     // How many bits don't count for a player at a priority.

@@ -10,6 +10,7 @@ use crate::slope::{Slope, Slopes};
 use game::player::Player;
 
 /// The player that a number says wins.
+#[inline(always)]
 pub(crate) fn winner(number: u64) -> Player
     ensures { result ≡ winner_of number }
 {
@@ -31,6 +32,7 @@ pub(crate) fn is_of(player: Player, priority: u32) -> bool
 }
 
 // Whether what counts of a number doesn't rise from one to the next, and falls where it has to.
+#[inline(always)]
 fn descends(slope: Slope, own: u64, next: u64) -> bool
     ensures { IsTrue result ↔ ((next / 2 ^ slope.shift ≤ own / 2 ^ slope.shift)
         × (IsTrue slope.falls → next / 2 ^ slope.shift < own / 2 ^ slope.shift)) }
@@ -41,6 +43,7 @@ fn descends(slope: Slope, own: u64, next: u64) -> bool
 
 impl Slopes {
     /// Whether the play goes on well from a vertex with one number at one with the next.
+    #[inline(always)]
     pub(crate) fn let_follow(self, own: u64, next: u64) -> bool
         ensures { (r : Ranking) (p : ℕ) → AreSlopes r p self → (IsTrue result ↔ GoesOn r (winner_of own) p own next) }
     {

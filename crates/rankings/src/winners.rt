@@ -1,7 +1,6 @@
 // Who wins an arena that isn't stored.
 
 ghost use Rattle.std.specs.Prelude.{◌≡◌, ◌+◌, ◌*◌, ◌<◌, ◌≤◌, IfOk, IfSome, IsTrue, length, map};
-ghost use Rattle.std.specs.List.{AllByRecursion};
 ghost use Rattle.std.specs.Thread.{IsSync};
 ghost use Rattle.calculus.specs.Meaning.{Marks};
 ghost use Rattle.normal.specs.Normal.{normal_nodes};
@@ -31,8 +30,7 @@ const LEAST_SPLIT: u64 = 262_144;
 fn are_ranked(lts: &Lts, form: &Normal, sets: &[Vec<bool>], sheet: &Sheet, span: Span) -> bool
     requires sets { AreSets lts.now.labels (normal_nodes form.now) (map (λ set. set.items) sets.now) }
     requires count { length sets.now ≡ length (normal_nodes form.now) }
-    requires nodes { length sheet.now.columns ≡ length (normal_nodes form.now) }
-    requires columns { AllByRecursion (λ column. length column ≡ lts.now.system.states) sheet.now.columns }
+    requires nodes { length sheet.now.nodes ≡ length (normal_nodes form.now) }
     requires states { span.end ≤ lts.now.system.states }
     ensures { IsTrue result → AreRanked lts.now (normal_nodes form.now) sheet.now span.first span.end }
 {
@@ -59,8 +57,7 @@ fn are_ranked_by<R: Threads + Sync>(
 ) -> bool
     requires sets { AreSets lts.now.labels (normal_nodes form.now) (map (λ set. set.items) sets.now) }
     requires count { length sets.now ≡ length (normal_nodes form.now) }
-    requires nodes { length sheet.now.columns ≡ length (normal_nodes form.now) }
-    requires columns { AllByRecursion (λ column. length column ≡ lts.now.system.states) sheet.now.columns }
+    requires nodes { length sheet.now.nodes ≡ length (normal_nodes form.now) }
     requires states { span.end ≤ lts.now.system.states }
     ensures { IsTrue result → AreRanked lts.now (normal_nodes form.now) sheet.now span.first span.end }
 {
@@ -71,8 +68,7 @@ fn are_ranked_by<R: Threads + Sync>(
     let see_first = || -> bool
         requires sets { AreSets lts.now.labels (normal_nodes form.now) (map (λ set. set.items) sets.now) }
         requires count { length sets.now ≡ length (normal_nodes form.now) }
-        requires nodes { length sheet.now.columns ≡ length (normal_nodes form.now) }
-        requires columns { AllByRecursion (λ column. length column ≡ lts.now.system.states) sheet.now.columns }
+        requires nodes { length sheet.now.nodes ≡ length (normal_nodes form.now) }
         requires states { first.end ≤ lts.now.system.states }
         ensures { IsTrue result → AreRanked lts.entry.now (normal_nodes form.entry.now) sheet.entry.now first.first first.end }
     { are_ranked(lts, form, sets, sheet, first) };
@@ -81,8 +77,7 @@ fn are_ranked_by<R: Threads + Sync>(
         requires threads { 0 < threads }
         requires sets { AreSets lts.now.labels (normal_nodes form.now) (map (λ set. set.items) sets.now) }
         requires count { length sets.now ≡ length (normal_nodes form.now) }
-        requires nodes { length sheet.now.columns ≡ length (normal_nodes form.now) }
-        requires columns { AllByRecursion (λ column. length column ≡ lts.now.system.states) sheet.now.columns }
+        requires nodes { length sheet.now.nodes ≡ length (normal_nodes form.now) }
         requires states { rest.end ≤ lts.now.system.states }
         ensures { IsTrue result → AreRanked lts.entry.now (normal_nodes form.entry.now) sheet.entry.now rest.first rest.end }
     { are_ranked_by(rt, lts, form, sets, sheet, rest, threads - 1) };
@@ -101,8 +96,7 @@ fn is_good<R: Threads + Sync>(
 ) -> bool
     requires sets { AreSets lts.now.labels (normal_nodes form.now) (map (λ set. set.items) sets.now) }
     requires count { length sets.now ≡ length (normal_nodes form.now) }
-    ensures size { IsTrue result → length sheet.now.columns ≡ length (normal_nodes form.now) }
-    ensures columns { IsTrue result → AllByRecursion (λ column. length column ≡ lts.now.system.states) sheet.now.columns }
+    ensures size { IsTrue result → length sheet.now.nodes ≡ length (normal_nodes form.now) }
     ensures good { IsTrue result → IsGoodRanking (arena lts.now.system (normal_nodes form.now)) (ranking_of sheet.now) }
 {
     sheet.known();
@@ -111,20 +105,17 @@ fn is_good<R: Threads + Sync>(
         first: 0,
         end: states,
     };
-    sheet.has_size(form.count(), states)
-        && are_ranked_by(rt, lts, form, sets, sheet, whole, threads)
+    sheet.has_size(form.count()) && are_ranked_by(rt, lts, form, sets, sheet, whole, threads)
 }
 
 // A mark for each state, true where the sheet says that Even wins its vertex with the root node.
 fn marks_of(alloc: Global, sheet: &Sheet, states: u32) -> Result<Vec<bool>, AllocError>
-    requires root { 0 < length sheet.now.columns }
-    requires columns { AllByRecursion (λ column. length column ≡ states) sheet.now.columns }
     ensures { IfOk result (λ marks. Marks states marks.items (λ s. winner_of (cell sheet.now 0 s) ≡ Player.Even)) }
 {
     let column = sheet.column(0);
     let mut marks = Vec::with_capacity(alloc, states as usize)?;
     for s in 0..states {
-        marks.push(is_winner(Player::Even, column[s as usize]))?;
+        marks.push(is_winner(Player::Even, column.number(s)))?;
     }
     Ok(marks)
 }

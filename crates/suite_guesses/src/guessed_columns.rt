@@ -3,11 +3,11 @@
 
 use crate::guesses::{Question, roll_question};
 use calculus::closed::Closed;
+use claims::sheets::sheet_of;
 use guess::ranks::columns;
 use lts::Lts;
 use meaning::plain::plain_states;
 use normal::make::normal;
-use rankings::sheet::Sheet;
 use rankings::winners::root_winners;
 use samples::dice::Dice;
 use samples::texts::{formula_of, system_of};
@@ -28,10 +28,10 @@ fn is_ranked(rt: &(impl Abort + Threads + AllocGlobal + Sync), question: &Questi
         form,
         ..
     } = question;
-    let Some(guessed) = columns(rt, rt.alloc(), lts, form, 1).expect(rt, "memory") else {
+    let Some(guessed) = columns(rt.alloc(), lts, form).expect(rt, "memory") else {
         return false;
     };
-    let sheet = Sheet::of(guessed.words, guessed.even_shifts, guessed.odd_shifts);
+    let sheet = sheet_of(rt.alloc(), guessed);
     let sheet = sheet.expect(rt, "shifts that don't fall");
     let found = root_winners(rt, rt.alloc(), lts, form, &sheet, 1);
     let found = found.expect(rt, "a good ranking");
@@ -85,9 +85,9 @@ fn marks_by(
     workers: u32,
 ) -> Vec<bool> {
     let form = normal(rt.alloc(), formula).expect(rt, "a normal form");
-    let guessed = columns(rt, rt.alloc(), lts, &form, workers).expect(rt, "memory");
+    let guessed = columns(rt.alloc(), lts, &form).expect(rt, "memory");
     let guessed = guessed.expect(rt, "a guess");
-    let sheet = Sheet::of(guessed.words, guessed.even_shifts, guessed.odd_shifts);
+    let sheet = sheet_of(rt.alloc(), guessed);
     let sheet = sheet.expect(rt, "shifts that don't fall");
     let marks = root_winners(rt, rt.alloc(), lts, &form, &sheet, workers);
     marks.expect(rt, "a good ranking")

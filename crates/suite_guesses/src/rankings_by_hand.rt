@@ -1,6 +1,7 @@
 // Rankings of arenas, made by hand: which are good, and what they tell.
 
 use normal::form::Normal;
+use rankings::column::{Column, Columns};
 use rankings::sheet::Sheet;
 use rankings::winners::root_winners;
 use samples::texts::{form_of, system_of};
@@ -13,12 +14,19 @@ const SYSTEM: &str = "des (0,2,3)\n(0,\"a\",1)\n(2,\"b\",2)\n";
 // The columns as they are written, by node.
 type Rows<'a> = &'a [[u64; 3]];
 
-fn columns_of(alloc: Global, rows: Rows<'_>) -> Result<Vec<Vec<u64>>, AllocError> {
-    let mut columns = Vec::new(alloc);
-    for row in rows {
-        columns.push(Vec::from_slice(alloc, row.as_slice())?)?;
+fn columns_of(alloc: Global, rows: Rows<'_>) -> Result<Columns, AllocError> {
+    let mut nodes = Vec::new(alloc);
+    let mut words = Vec::new(alloc);
+    for (place, row) in (0..u32::MAX).zip(rows) {
+        nodes.push(Column::Listed(place))?;
+        words.push(Vec::from_slice(alloc, row.as_slice())?)?;
     }
-    Ok(columns)
+    Ok(Columns {
+        nodes,
+        marks: Vec::new(alloc),
+        counts: Vec::new(alloc),
+        words,
+    })
 }
 
 fn sheet_of(alloc: Global, rows: Rows<'_>, evens: &[u32], odds: &[u32]) -> Option<Sheet> {

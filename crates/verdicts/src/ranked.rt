@@ -10,6 +10,7 @@ ghost use Rattle.game.specs.Wins.{Wins};
 ghost use Rattle.requests.specs.Check.{AreMarks, ByGame};
 
 use calculus::closed::Closed;
+use claims::sheets::sheet_of;
 use guess::ranks::columns;
 use laws::{chosen_is_admissible, even_wins_where_meant};
 use lts::system::Lts;
@@ -23,19 +24,13 @@ use std::alloc::Global;
 use std::thread::Threads;
 use workers::team::BoardKind;
 
-/// The ranking that is guessed by so many threads, if there is one.
-fn guessed_sheet<H: Threads + Sync>(
-    rt: &H,
-    alloc: Global,
-    system: &Lts,
-    form: &Normal,
-    workers: u32,
-) -> Option<Sheet> {
-    let guessed = columns(rt, alloc, system, form, workers).ok()??;
-    Sheet::of(guessed.words, guessed.even_shifts, guessed.odd_shifts)
+/// The ranking that is guessed, if there is one.
+fn guessed_sheet(alloc: Global, system: &Lts, form: &Normal) -> Option<Sheet> {
+    let guessed = columns(alloc, system, form).ok()??;
+    sheet_of(alloc, guessed)
 }
 
-/// A mark for each state, true where Even wins its vertex with the root node, where the ranking that is guessed is good. So many threads guess and test.
+// A mark for each state, true where Even wins its vertex with the root node, where the ranking that is guessed is good. So many threads test it.
 fn guessed_winners<H: Threads + Sync>(
     rt: &H,
     alloc: Global,
@@ -47,7 +42,7 @@ fn guessed_winners<H: Threads + Sync>(
     ensures wins { IfSome result (λ marks. Marks system.now.system.states marks.items
         (λ s. Wins (arena system.now.system (normal_nodes form.now)) (place (length (normal_nodes form.now)) s 0))) }
 {
-    match guessed_sheet(rt, alloc, system, form, workers) {
+    match guessed_sheet(alloc, system, form) {
         Some(sheet) => root_winners(rt, alloc, system, form, &sheet, workers),
         None => None,
     }

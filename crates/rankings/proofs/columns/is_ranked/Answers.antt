@@ -1,10 +1,12 @@
-use Rattle.std.proofs.Common.{◌≡◌, ◌<◌, ℕ, ◌∷◌, inl, inr, arith, List, [], length, true, false, ap, sym, subst, slice_index_or}
+use Rattle.std.proofs.Common.{◌≡◌, ◌<◌, ℕ, ◌∷◌, inl, inr, arith, [], length, true, false, ap, sym, subst}
 use Rattle.normal.specs.Form.{IsShape}
 use Rattle.normal.specs.View.{node_of, shape_of}
 use Rattle.calculus.specs.View.{action_of}
 use Rattle.game.specs.declared.player.Player.TheVariants.{Even, Odd}
 use Rattle.game.specs.Arena.{owner_of, place, successors_of}
 use Rattle.game.specs.Steps.{IsSetFor}
+use Rattle.rankings.specs.Cells.{cell}
+use Rattle.rankings.specs.Columns.{number_at}
 use Rattle.rankings.specs.Slopes.{CanFollow}
 use Rattle.rankings.proofs.Ranked.{constant_ranked, junction_ranked, modality_ranked, single_ranked, steps_moved, two_columns, two_moved}
 use Rattle.rankings.proofs.columns.is_ranked.Goals as goal
@@ -13,31 +15,31 @@ pub returns-in-True : goal.returns-in-True
 returns-in-True c = λ yes s h i.
     constant_ranked c.args.sheet.now c.args.lts.now c.slopes-slopes.result s c.args.number (node_of c.args.node.now) c.requires.node c.slopes-slopes.ensures true
     (ap shape_of c.in-True.is)
-    (subst (λ (own : List ℕ). CanFollow c.slopes-slopes.result (slice_index_or own s 0) 0) c.column-own.ensures (c.constants_lead.ensures yes s h i))
+    (subst (λ (own : ℕ → ℕ). CanFollow c.slopes-slopes.result (own s) 0) c.column-own.ensures (c.constants_lead.ensures yes s h i))
 
 pub returns-in-False : goal.returns-in-False
 returns-in-False c = λ yes s h i.
     constant_ranked c.args.sheet.now c.args.lts.now c.slopes-slopes.result s c.args.number (node_of c.args.node.now) c.requires.node c.slopes-slopes.ensures false
     (ap shape_of c.in-False.is)
-    (subst (λ (own : List ℕ). CanFollow c.slopes-slopes.result (slice_index_or own s 0) 1) c.column-own.ensures (c.constants_lead-in-False.ensures yes s h i))
+    (subst (λ (own : ℕ → ℕ). CanFollow c.slopes-slopes.result (own s) 1) c.column-own.ensures (c.constants_lead-in-False.ensures yes s h i))
 
 pub returns-in-And : goal.returns-in-And
 returns-in-And c = λ yes s h i.
     junction_ranked c.args.sheet.now c.args.lts.now c.slopes-slopes.result s c.args.number (node_of c.args.node.now) c.requires.node c.slopes-slopes.ensures false
     c.in-And.left c.in-And.right (ap shape_of c.in-And.is)
-    (two_moved c.slopes-slopes.result Odd (owner_of (shape_of c.args.node.now.kind)) c.column-own.result.now c.column-left.result.now c.column-right.result.now
-    (slice_index_or c.args.sheet.now.columns c.args.number []) (slice_index_or c.args.sheet.now.columns c.in-And.left [])
-    (slice_index_or c.args.sheet.now.columns c.in-And.right []) s (sym (ap (λ k. owner_of (shape_of k)) c.in-And.is)) c.column-own.ensures
+    (two_moved c.slopes-slopes.result Odd (owner_of (shape_of c.args.node.now.kind)) (number_at c.column-own.result) (number_at c.column-left.result) (number_at c.column-right.result)
+    (cell c.args.sheet.now c.args.number) (cell c.args.sheet.now c.in-And.left)
+    (cell c.args.sheet.now c.in-And.right) s (sym (ap (λ k. owner_of (shape_of k)) c.in-And.is)) c.column-own.ensures
     c.column-left.ensures c.column-right.ensures (c.junctions_lead.ensures yes s h i))
 
 pub returns-in-Or : goal.returns-in-Or
 returns-in-Or c = λ yes s h i.
     junction_ranked c.args.sheet.now c.args.lts.now c.slopes-slopes.result s c.args.number (node_of c.args.node.now) c.requires.node c.slopes-slopes.ensures true
     c.in-Or.left c.in-Or.right (ap shape_of c.in-Or.is)
-    (two_moved c.slopes-slopes.result Even (owner_of (shape_of c.args.node.now.kind)) c.column-own.result.now c.column-left-in-Or.result.now
-    c.column-right-in-Or.result.now
-    (slice_index_or c.args.sheet.now.columns c.args.number []) (slice_index_or c.args.sheet.now.columns c.in-Or.left [])
-    (slice_index_or c.args.sheet.now.columns c.in-Or.right []) s (sym (ap (λ k. owner_of (shape_of k)) c.in-Or.is)) c.column-own.ensures
+    (two_moved c.slopes-slopes.result Even (owner_of (shape_of c.args.node.now.kind)) (number_at c.column-own.result) (number_at c.column-left-in-Or.result)
+    (number_at c.column-right-in-Or.result)
+    (cell c.args.sheet.now c.args.number) (cell c.args.sheet.now c.in-Or.left)
+    (cell c.args.sheet.now c.in-Or.right) s (sym (ap (λ k. owner_of (shape_of k)) c.in-Or.is)) c.column-own.ensures
     c.column-left-in-Or.ensures c.column-right-in-Or.ensures (c.junctions_lead-in-Or.ensures yes s h i))
 
 pub returns-in-Dia : goal.returns-in-Dia
@@ -45,8 +47,8 @@ returns-in-Dia c = λ yes s h i.
     modality_ranked c.args.sheet.now c.args.lts.now c.slopes-slopes.result s c.args.number (node_of c.args.node.now) c.requires.node c.slopes-slopes.ensures true
     (action_of c.in-Dia.field-0) c.in-Dia.child (ap shape_of c.in-Dia.is) c.states-states.ensures.known (let b = c.requires.states in let e = c.states-states.ensures.count in omega arith) c.args.set.now
     (subst (λ k. IsSetFor c.args.lts.now.labels (shape_of k) c.args.set.now) c.in-Dia.is c.requires.set)
-    (steps_moved c.args.lts.now c.slopes-slopes.result Even (owner_of (shape_of c.args.node.now.kind)) c.args.set.now c.column-own.result.now
-    c.column-next.result.now (slice_index_or c.args.sheet.now.columns c.args.number []) (slice_index_or c.args.sheet.now.columns c.in-Dia.child []) 1 s
+    (steps_moved c.args.lts.now c.slopes-slopes.result Even (owner_of (shape_of c.args.node.now.kind)) c.args.set.now (number_at c.column-own.result)
+    (number_at c.column-next.result) (cell c.args.sheet.now c.args.number) (cell c.args.sheet.now c.in-Dia.child) 1 s
     (sym (ap (λ k. owner_of (shape_of k)) c.in-Dia.is)) c.column-own.ensures c.column-next.ensures (c.modalities_lead.ensures yes s h i))
 
 pub returns-in-Box : goal.returns-in-Box
@@ -54,15 +56,15 @@ returns-in-Box c = λ yes s h i.
     modality_ranked c.args.sheet.now c.args.lts.now c.slopes-slopes.result s c.args.number (node_of c.args.node.now) c.requires.node c.slopes-slopes.ensures false
     (action_of c.in-Box.field-0) c.in-Box.child (ap shape_of c.in-Box.is) c.states-states.ensures.known (let b = c.requires.states in let e = c.states-states.ensures.count in omega arith) c.args.set.now
     (subst (λ k. IsSetFor c.args.lts.now.labels (shape_of k) c.args.set.now) c.in-Box.is c.requires.set)
-    (steps_moved c.args.lts.now c.slopes-slopes.result Odd (owner_of (shape_of c.args.node.now.kind)) c.args.set.now c.column-own.result.now
-    c.column-next-in-Box.result.now (slice_index_or c.args.sheet.now.columns c.args.number []) (slice_index_or c.args.sheet.now.columns c.in-Box.child []) 0 s
+    (steps_moved c.args.lts.now c.slopes-slopes.result Odd (owner_of (shape_of c.args.node.now.kind)) c.args.set.now (number_at c.column-own.result)
+    (number_at c.column-next-in-Box.result) (cell c.args.sheet.now c.args.number) (cell c.args.sheet.now c.in-Box.child) 0 s
     (sym (ap (λ k. owner_of (shape_of k)) c.in-Box.is)) c.column-own.ensures c.column-next-in-Box.ensures (c.modalities_lead-in-Box.ensures yes s h i))
 
 pub returns-in-Mu : goal.returns-in-Mu
 returns-in-Mu c = λ yes s h i.
-    let n : ℕ = length c.args.sheet.now.columns in
-    let follows = two_columns c.slopes-slopes.result c.column-own.result.now c.column.result.now (slice_index_or c.args.sheet.now.columns c.args.number [])
-    (slice_index_or c.args.sheet.now.columns c.in-Mu.child []) s c.column-own.ensures c.column.ensures (c.singles_lead.ensures yes s h i) in
+    let n : ℕ = length c.args.sheet.now.nodes in
+    let follows = two_columns c.slopes-slopes.result (number_at c.column-own.result) (number_at c.column.result) (cell c.args.sheet.now c.args.number)
+    (cell c.args.sheet.now c.in-Mu.child) s c.column-own.ensures c.column.ensures (c.singles_lead.ensures yes s h i) in
     let ranked = λ (e : successors_of c.args.lts.now.system n s (shape_of c.args.node.now.kind) ≡ place n s c.in-Mu.child ∷ []) (low : c.in-Mu.child < n).
     single_ranked c.args.sheet.now c.args.lts.now c.slopes-slopes.result s c.args.number (node_of c.args.node.now) c.requires.node c.slopes-slopes.ensures
     c.in-Mu.child e low follows in

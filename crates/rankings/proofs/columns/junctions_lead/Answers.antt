@@ -1,9 +1,13 @@
-use Rattle.std.proofs.Common.{slice_index_or}
+use Rattle.rankings.specs.Columns.{number_at}
 use Rattle.rankings.specs.Slopes.{TwoFollow}
+use Rattle.rankings.proofs.Lent.{two_numbers}
 use Rattle.rankings.proofs.Rows.{more_states}
 use Rattle.rankings.proofs.columns.junctions_lead.Goals as goal
 
 pub loop-s-preserved : goal.loop-s-preserved
 loop-s-preserved c =
-    more_states (λ s. TwoFollow c.args.slopes c.args.owner (slice_index_or c.args.own.now s 0) (slice_index_or c.args.left.now s 0)
-    (slice_index_or c.args.right.now s 0)) c.args.span.first c.loop-s.s c.loop-s.invariant (c.two_lead.ensures c.if-not-two_lead.false)
+    more_states (λ s. TwoFollow c.args.slopes c.args.owner (number_at c.args.own s) (number_at c.args.left s)
+    (number_at c.args.right s)) c.args.span.first c.loop-s.s c.loop-s.invariant
+    (two_numbers c.args.slopes c.args.owner c.number.result c.number-in-loop-s.result c.number-in-loop-s-2.result (number_at c.args.own c.loop-s.s)
+    (number_at c.args.left c.loop-s.s) (number_at c.args.right c.loop-s.s) c.number.ensures c.number-in-loop-s.ensures c.number-in-loop-s-2.ensures
+    (c.two_lead.ensures c.if-not-two_lead.false))

@@ -3,6 +3,8 @@ use mathlib.Core.Bool.{beq}
 use Rattle.std.specs.Prelude.{IsTrue}
 use Rattle.systems.specs.declared.system.Transition.{Transition}
 use Rattle.game.specs.Steps.{is_in}
+use Rattle.rankings.specs.Columns.{number_at}
+use Rattle.rankings.specs.Ranking.{GoesOn, winner_of}
 use Rattle.rankings.specs.Slopes.{CanFollow}
 use Rattle.rankings.proofs.Rows.{at_contained, contained_at, more_at, stands}
 use Rattle.rankings.proofs.columns.steps_lead.Goals.{then-has+else-let_follow-is_own, else-has}
@@ -21,15 +23,16 @@ loop-step-preserved c =
     elim c.if-has.branch [
       | then-has+else-let_follow-is_own w ↦ record {
         followed = λ i t h e inside no.
-            more_at (λ u. is_in c.args.set.now u ≡ true → CanFollow c.args.slopes c.args.own (slice_index_or c.args.next.now u.target 0)) row n d
+            more_at (λ u. is_in c.args.set.now u ≡ true → CanFollow c.args.slopes c.args.own (number_at c.args.next u.target)) row n d
             c.loop-step-test.true (λ j u k f i. old.followed j u k f i no)
-            (λ i r p a. (w.let_follow.ensures r p a).0 (follows w.let_follow.result c.is_winner-is_own.result w.if-let_follow-is_own.false no)) i t h e inside;
+            (λ i r p a. subst (λ z. GoesOn r (winner_of c.args.own) p c.args.own z) w.number.ensures
+            ((w.let_follow.ensures r p a).0 (follows w.let_follow.result c.is_winner-is_own.result w.if-let_follow-is_own.false no))) i t h e inside;
         none = λ f. absurd (true≢false (sym w.some-is ∙ f));
         found = λ s. (n, slice_index_or row n d, stands row n d c.loop-step-test.true, sym c.has.ensures ∙ w.if-has.true);
       }
       | else-has w ↦ record {
         followed = λ i t h e inside no.
-            more_at (λ u. is_in c.args.set.now u ≡ true → CanFollow c.args.slopes c.args.own (slice_index_or c.args.next.now u.target 0)) row n d
+            more_at (λ u. is_in c.args.set.now u ≡ true → CanFollow c.args.slopes c.args.own (number_at c.args.next u.target)) row n d
             c.loop-step-test.true (λ j u k f i. old.followed j u k f i no)
             (λ i. absurd (true≢false (sym i ∙ (sym c.has.ensures ∙ w.if-has.false)))) i t h e inside;
         none = λ f. more_at (λ u. is_in c.args.set.now u ≡ false) row n d c.loop-step-test.true (old.none (sym w.some-is ∙ f)) (sym c.has.ensures ∙ w.if-has.false);
@@ -40,7 +43,7 @@ loop-step-preserved c =
 pub returns-then-some : goal.returns-then-some
 returns-then-some c = λ yes. record {
   mine = λ o. absurd (true≢false (sym (c.is_winner-is_own.ensures.1 o) ∙ not_true c.is_winner-is_own.result yes));
-  theirs = λ o. contained_at (λ t. is_in c.args.set.now t ≡ true → CanFollow c.args.slopes c.args.own (slice_index_or c.args.next.now t.target 0)) c.args.row.now
+  theirs = λ o. contained_at (λ t. is_in c.args.set.now t ≡ true → CanFollow c.args.slopes c.args.own (number_at c.args.next t.target)) c.args.row.now
       c.loop-step.step-index
       c.loop-step-test.false
       (λ i t h e inside. c.loop-step.invariant.followed i t h e inside (not_true c.is_winner-is_own.result yes));

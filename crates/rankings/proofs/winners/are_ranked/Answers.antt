@@ -29,7 +29,7 @@ loop-number-preserved c =
     let here = c.is_ranked.ensures c.if-not-is_ranked.false in
     λ k s node h first end at.
     more_nodes (λ j (x : Node). IsRanked (ranking_of c.args.sheet.now) (cell c.args.sheet.now j s)
-    (vertex_of c.args.lts.now.system (length c.args.sheet.now.columns) s x)) (normal_nodes c.args.form.now) c.loop-number.number (node_of c.node.result.now)
+    (vertex_of c.args.lts.now.system (length c.args.sheet.now.nodes) s x)) (normal_nodes c.args.form.now) c.loop-number.number (node_of c.node.result.now)
     c.node.ensures (λ j x i e. c.loop-number.invariant j s x i first end e) (here s first end) k node h at
 
 pub returns : goal.returns

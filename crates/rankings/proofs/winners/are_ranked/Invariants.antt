@@ -9,4 +9,4 @@ use Rattle.rankings.proofs.winners.are_ranked.Given as goal
 
 abbrev pub invariant-loop-number : goal.invariant-loop-number
 invariant-loop-number l = (k s : ℕ) (node : Node) → k < l.number → l.span.first ≤ s → s < l.span.end → slice_get (normal_nodes l.form) k ≡ Some node
-    → IsRanked (ranking_of l.sheet) (cell l.sheet k s) (vertex_of l.lts.system (length l.sheet.columns) s node)
+    → IsRanked (ranking_of l.sheet) (cell l.sheet k s) (vertex_of l.lts.system (length l.sheet.nodes) s node)

@@ -1,0 +1,20 @@
+use Rattle.std.proofs.Common.{subst}
+use Rattle.rankings.specs.Columns.{number_at}
+use Rattle.rankings.specs.Slopes.{StepsFollow, StepsFollowAt, sink_of}
+use Rattle.rankings.proofs.Rows.{more_states}
+use Rattle.rankings.proofs.columns.modalities_lead.Goals as goal
+
+pub loop-s-preserved : goal.loop-s-preserved
+loop-s-preserved c =
+    more_states (λ s. StepsFollowAt c.args.lts.now c.args.slopes c.args.owner c.args.set.now (number_at c.args.own) (number_at c.args.next)
+    (sink_of c.args.owner) s) c.args.span.first c.loop-s.s c.loop-s.invariant
+    (record {
+      row = c.from-row.result.now;
+      arrows = c.from-row.ensures.arrows;
+      inside = c.from-row.ensures.inside;
+      numbers = c.are_words.ensures c.if-not-are_words.false;
+      steps = subst (λ m. StepsFollow c.args.slopes c.args.owner (number_at c.args.own c.loop-s.s) c.args.set.now c.from-row.result.now
+          (number_at c.args.next) m) c.sink-sink.ensures
+          (subst (λ n. StepsFollow c.args.slopes c.args.owner n c.args.set.now c.from-row.result.now (number_at c.args.next) c.sink-sink.result) c.number.ensures
+          (c.steps_lead.ensures c.if-not-steps_lead.false));
+    })

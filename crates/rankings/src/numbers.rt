@@ -1,0 +1,123 @@
+// The numbers of a column, by state.
+
+ghost use Rattle.std.specs.Prelude.{◌≡◌, [], map, slice_index_or};
+ghost use Rattle.rankings.specs.Columns.{counted_at, is_marked, number_at, kept_number, won_at};
+
+use crate::column::{Column, Columns, Counted, Half, Halves, Numbers, Shown};
+
+// A list, by its place, or none.
+fn list<T>(lists: &[Vec<T>], place: u32) -> &[T]
+    ensures { result.now ≡ slice_index_or (map (λ list. list.items) lists.now) place [] }
+{
+    match lists.get(place as usize) {
+        Some(list) => list.as_slice(),
+        None => &[],
+    }
+}
+
+// Whether the mark of a state is set, where the marks begin with this word.
+#[inline(always)]
+fn has_mark(marks: &[u64], first: u32, state: u32) -> bool
+    ensures { result ≡ is_marked marks.now first state }
+{
+    let word = marks.get(first as usize + (state / 64) as usize);
+    (word.copied().unwrap_or(0) >> (state % 64)) % 2 == 1
+}
+
+impl Half<'_> {
+    #[inline(always)]
+    fn number(self, state: u32) -> u64
+        ensures { result ≡ counted_at self.entry.base self.entry.unit self.entry.counts.now state }
+    {
+        let count = self.counts.get(state as usize).copied().unwrap_or(0);
+        let counted = self.unit.wrapping_mul(u64::from(count));
+        self.base.wrapping_add(counted)
+    }
+}
+
+impl Shown<'_> {
+    #[inline(always)]
+    fn number(self, state: u32) -> u64
+        ensures { result ≡ won_at self.entry state }
+    {
+        let number = if has_mark(self.marks, self.first, state) {
+            self.odd.number(state)
+        } else {
+            self.even.number(state)
+        };
+        let word = self.words.get(state as usize).copied().unwrap_or(0);
+        number.wrapping_add(word)
+    }
+}
+
+impl Numbers<'_> {
+    /// The number of a state.
+    #[inline(always)]
+    pub(crate) fn number(self, state: u32) -> u64
+        ensures { result ≡ number_at self.entry state }
+    {
+        match self {
+            Numbers::Same(number) => number,
+            Numbers::Listed(words) => words.get(state as usize).copied().unwrap_or(0),
+            Numbers::Won(shown) => shown.number(state),
+        }
+    }
+}
+
+// A player's numbers, with their list.
+fn half(columns: &Columns, counted: Counted) -> Half<'_>
+    ensures base { result.base ≡ counted.base }
+    ensures unit { result.unit ≡ counted.unit }
+    ensures counts { result.counts.now ≡ slice_index_or (map (λ list. list.items) columns.now.counts.items) counted.counts [] }
+{
+    Half {
+        base: counted.base,
+        unit: counted.unit,
+        counts: list(&columns.counts, counted.counts),
+    }
+}
+
+// The numbers of both players, with their lists.
+fn shown(columns: &Columns, halves: Halves) -> Shown<'_>
+    ensures { won_at result ≡ kept_number columns.now.marks.items (map (λ list. list.items) columns.now.counts.items) (map (λ list. list.items) columns.now.words.items)
+        (Column.Won halves) }
+{
+    let marks = columns.marks.as_slice();
+    let even = half(columns, halves.even);
+    let odd = half(columns, halves.odd);
+    let words = list(&columns.words, halves.words);
+    Shown {
+        marks,
+        first: halves.marks,
+        even,
+        odd,
+        words,
+    }
+}
+
+// The numbers of a column.
+fn lent(columns: &Columns, column: Column) -> Numbers<'_>
+    ensures { number_at result ≡ kept_number columns.now.marks.items (map (λ list. list.items) columns.now.counts.items) (map (λ list. list.items) columns.now.words.items) column }
+{
+    match column {
+        Column::Same(number) => Numbers::Same(number),
+        Column::Listed(place) => Numbers::Listed(list(&columns.words, place)),
+        Column::Won(halves) => Numbers::Won(shown(columns, halves)),
+    }
+}
+
+// A node's column, or else zero at each state.
+fn column(columns: &Columns, node: u32) -> Column
+    ensures { result ≡ slice_index_or columns.now.nodes.items node (Column.Same 0) }
+{
+    let column = columns.nodes.get(node as usize);
+    column.copied().unwrap_or(Column::Same(0))
+}
+
+/// The numbers of a node.
+pub(crate) fn numbers(columns: &Columns, node: u32) -> Numbers<'_>
+    ensures { number_at result ≡ kept_number columns.now.marks.items (map (λ list. list.items) columns.now.counts.items) (map (λ list. list.items) columns.now.words.items)
+        (slice_index_or columns.now.nodes.items node (Column.Same 0)) }
+{
+    lent(columns, column(columns, node))
+}
