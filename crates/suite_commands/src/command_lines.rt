@@ -632,7 +632,7 @@ fn help_shows_what_is_served(rt: HostRuntime) {
 }
 
 /// The first line is the program's name with its version, the second one what `rt version` says of the toolchain.
-const TOLD_VERSION: &str = "mucheck 0.9.0\nproved with rattle-kit-13b logic dac8208d650f15bf\n";
+const TOLD_VERSION: &str = "mucheck 0.9.0\nproved with rattle-kit-13f logic dac8208d650f15bf\n";
 
 #[test]
 fn version_tells_the_toolchain(rt: HostRuntime) {
