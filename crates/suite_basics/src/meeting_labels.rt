@@ -55,8 +55,8 @@ fn label_from(system: &Lts, state: u32) -> Option<&[u8]> {
 fn each_is_told_from_the_others(rt: HostRuntime) {
     let text = ring(rt.alloc()).expect(&rt, "memory");
     let system = read_aut(rt.alloc(), text.as_bytes()).expect(&rt, "a system");
-    assert_eq!(rt; system.labels(), LABELS);
-    assert_eq!(rt; system.transitions(), 2 * LABELS);
+    assert!(rt; system.labels() == LABELS);
+    assert!(rt; system.transitions() == 2 * LABELS);
     for state in 0..2 * LABELS {
         let wanted = label(rt.alloc(), state % LABELS).expect(&rt, "memory");
         assert!(rt; label_from(&system, state as u32) == Some(wanted.as_bytes()));

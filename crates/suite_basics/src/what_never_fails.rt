@@ -64,12 +64,12 @@ fn write(out: &mut Taking, text: &[u8]) -> Result<(), WriteFault>
 #[test]
 fn what_never_fails_is_read(rt: HostRuntime) {
     let system = read(rt.alloc(), b"des (0, 1, 2)\n(0, \"a\", 1)\n");
-    assert_eq!(rt; system.expect(&rt, "spelled").states(), 2);
+    assert!(rt; system.expect(&rt, "spelled").states() == 2);
 }
 
 #[test]
 fn what_never_fails_is_written_to(rt: HostRuntime) {
     let mut out = Taking { count: 0 };
     assert!(rt; write(&mut out, b"seven..").is_ok());
-    assert_eq!(rt; out.count, 7);
+    assert!(rt; out.count == 7);
 }
