@@ -23,8 +23,8 @@ pub fn tell_fault(rt: &HostRuntime, system: &Lts, strict: bool, name: &str) {
 fn fault_of(rt: &HostRuntime, system: &Lts, strict: bool, name: &str) -> Option<MuError> {
     let formula = open(rt, name).ok()?;
     let text = read_front(rt.alloc(), formula).ok()?;
-    match parse_front(rt.alloc(), &text) {
-        Ok(_) => look_where(rt.alloc(), system, &text, strict).err(),
-        Err(error) => Some(error),
+    match parse_front(rt.alloc(), &text).err() {
+        None => look_where(rt.alloc(), system, &text, strict).err(),
+        Some(error) => Some(error),
     }
 }

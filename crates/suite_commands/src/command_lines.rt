@@ -127,22 +127,68 @@ fn request_of(alloc: Global, words: &[String]) -> Result<String, AllocError> {
     }
 }
 
-/// Lines and what they ask for, with the defaults of the program's description.
-const TAKEN: [(&str, &str); 57] = [
+/// Checks and what they ask for, with the defaults of the program's description: how they solve, and what they write beside the report.
+const CHECKS: [(&str, &str); 13] = [
     (
         "mucheck check - f",
         "check - f nested 1 16 auto false - - - report",
     ),
     (
+        "mucheck check s f --workers 8",
+        "check s f nested 8 16 auto false - - - report",
+    ),
+    (
+        "mucheck check s f --shards 256 --workers 64 --board locked",
+        "check s f nested 64 256 locked false - - - report",
+    ),
+    (
+        "mucheck check --board packed s --workers 2 f --game g --evidence e",
+        "check s f nested 2 16 packed false g e - report",
+    ),
+    (
+        "mucheck check s f --game g",
+        "check s f nested 1 16 auto false g - - report",
+    ),
+    (
+        "mucheck check --evidence e s f --game g",
+        "check s f nested 1 16 auto false g e - report",
+    ),
+    (
+        "mucheck check s f",
+        "check s f nested 1 16 auto false - - - report",
+    ),
+    (
+        "mucheck check s f --priorities dependent",
+        "check s f dependent 1 16 auto false - - - report",
+    ),
+    (
+        "mucheck check s f --witness w.dot",
+        "check s f nested 1 16 auto false - - w.dot report",
+    ),
+    (
+        "mucheck check f f",
+        "check f f nested 1 16 auto false - - - report",
+    ),
+    (
+        "mucheck check e f --evidence e --game o",
+        "check e f nested 1 16 auto false o e - report",
+    ),
+    (
+        "mucheck check s f --game /dev/stdout --witness /dev/stdout",
+        "check s f nested 1 16 auto false /dev/stdout - /dev/stdout report",
+    ),
+    (
+        "mucheck check /dev/null f --game /dev/null --witness /dev/null",
+        "check /dev/null f nested 1 16 auto false /dev/null - /dev/null report",
+    ),
+];
+
+/// Checks in other ways, or with other reports.
+const REPORTS: [(&str, &str); 16] = [
+    (
         "mucheck check s - --plain",
         "check s - nested 1 16 auto true - - - report",
     ),
-    (
-        "mucheck table s f - g",
-        "table s f,-,g nested 1 16 auto false",
-    ),
-    ("mucheck verify g - o", "verify g - o"),
-    ("mucheck replay s f -", "replay s f - 2"),
     (
         "mucheck check s --strict f",
         "check s f nested 1 16 auto false - - - report strict",
@@ -150,27 +196,6 @@ const TAKEN: [(&str, &str); 57] = [
     (
         "mucheck check s f --stats",
         "check s f nested 1 16 auto false - - - report stats",
-    ),
-    (
-        "mucheck solve --stats g",
-        "solve g nested 1 16 auto - stats",
-    ),
-    (
-        "mucheck solve g --evidence e --workers 2",
-        "solve g nested 2 16 auto e",
-    ),
-    ("mucheck solve --evidence e e", "solve e nested 1 16 auto e"),
-    (
-        "mucheck why --strict s f",
-        "why s f nested 1 16 auto strict",
-    ),
-    (
-        "mucheck table s f --strict g",
-        "table s f,g nested 1 16 auto false strict",
-    ),
-    (
-        "mucheck table s --plain f --strict",
-        "table s f nested 1 16 auto true strict",
     ),
     (
         "mucheck check --plain s f --quiet --strict",
@@ -200,59 +225,13 @@ const TAKEN: [(&str, &str); 57] = [
         "mucheck check s f --states=yes --limit=4294967295",
         "check s f nested 1 16 auto false - - - 4294967295 of true",
     ),
-    ("mucheck why s f", "why s f nested 1 16 auto"),
-    (
-        "mucheck why --workers 3 s f --priorities dependent",
-        "why s f dependent 3 16 auto",
-    ),
-    ("mucheck table s f", "table s f nested 1 16 auto false"),
-    (
-        "mucheck table s f g --plain h",
-        "table s f,g,h nested 1 16 auto true",
-    ),
-    (
-        "mucheck table --board locked s f --workers 2 g --priorities dependent --shards 3",
-        "table s f,g dependent 2 3 locked false",
-    ),
-    (
-        "mucheck check s f --workers 8",
-        "check s f nested 8 16 auto false - - - report",
-    ),
-    (
-        "mucheck check s f --shards 256 --workers 64 --board locked",
-        "check s f nested 64 256 locked false - - - report",
-    ),
-    (
-        "mucheck check --board packed s --workers 2 f --game g --evidence e",
-        "check s f nested 2 16 packed false g e - report",
-    ),
-    (
-        "mucheck check s f --game g",
-        "check s f nested 1 16 auto false g - - report",
-    ),
-    (
-        "mucheck check --evidence e s f --game g",
-        "check s f nested 1 16 auto false g e - report",
-    ),
     (
         "mucheck check s f --plain --workers 64 --board packed",
         "check s f nested 64 16 packed true - - - report",
     ),
     (
-        "mucheck check s f",
-        "check s f nested 1 16 auto false - - - report",
-    ),
-    (
-        "mucheck check s f --priorities dependent",
-        "check s f dependent 1 16 auto false - - - report",
-    ),
-    (
         "mucheck check --plain s --priorities nested f",
         "check s f nested 1 16 auto true - - - report",
-    ),
-    (
-        "mucheck check s f --witness w.dot",
-        "check s f nested 1 16 auto false - - w.dot report",
     ),
     (
         "mucheck check --quiet s f",
@@ -270,21 +249,50 @@ const TAKEN: [(&str, &str); 57] = [
         "mucheck check -q s f",
         "check s f nested 1 16 auto false - - - quiet",
     ),
+];
+
+/// Other commands.
+const OTHERS: [(&str, &str); 28] = [
     (
-        "mucheck check f f",
-        "check f f nested 1 16 auto false - - - report",
+        "mucheck table s f - g",
+        "table s f,-,g nested 1 16 auto false",
+    ),
+    ("mucheck verify g - o", "verify g - o"),
+    ("mucheck replay s f -", "replay s f - 2"),
+    (
+        "mucheck solve --stats g",
+        "solve g nested 1 16 auto - stats",
     ),
     (
-        "mucheck check e f --evidence e --game o",
-        "check e f nested 1 16 auto false o e - report",
+        "mucheck solve g --evidence e --workers 2",
+        "solve g nested 2 16 auto e",
+    ),
+    ("mucheck solve --evidence e e", "solve e nested 1 16 auto e"),
+    (
+        "mucheck why --strict s f",
+        "why s f nested 1 16 auto strict",
     ),
     (
-        "mucheck check s f --game /dev/stdout --witness /dev/stdout",
-        "check s f nested 1 16 auto false /dev/stdout - /dev/stdout report",
+        "mucheck table s f --strict g",
+        "table s f,g nested 1 16 auto false strict",
     ),
     (
-        "mucheck check /dev/null f --game /dev/null --witness /dev/null",
-        "check /dev/null f nested 1 16 auto false /dev/null - /dev/null report",
+        "mucheck table s --plain f --strict",
+        "table s f nested 1 16 auto true strict",
+    ),
+    ("mucheck why s f", "why s f nested 1 16 auto"),
+    (
+        "mucheck why --workers 3 s f --priorities dependent",
+        "why s f dependent 3 16 auto",
+    ),
+    ("mucheck table s f", "table s f nested 1 16 auto false"),
+    (
+        "mucheck table s f g --plain h",
+        "table s f,g,h nested 1 16 auto true",
+    ),
+    (
+        "mucheck table --board locked s f --workers 2 g --priorities dependent --shards 3",
+        "table s f,g dependent 2 3 locked false",
     ),
     ("mucheck explain A2", "explain A2"),
     ("mucheck help", "help -"),
@@ -308,18 +316,26 @@ const TAKEN: [(&str, &str); 57] = [
     ("mucheck replay --workers 64 s f t", "replay s f t 64"),
 ];
 
+fn takes(rt: &(impl Abort + AllocGlobal), line: &str, wanted: &str) {
+    let words = words(rt.alloc(), line).expect(rt, "memory");
+    let asked = request_of(rt.alloc(), words.as_slice()).expect(rt, "memory");
+    same(rt, line, asked.as_str(), wanted);
+}
+
 #[test]
-fn takes_command_lines(rt: HostRuntime) {
-    for (line, wanted) in &TAKEN {
-        let words = words(rt.alloc(), line).expect(&rt, "memory");
-        same(
-            &rt,
-            line,
-            request_of(rt.alloc(), words.as_slice())
-                .expect(&rt, "memory")
-                .as_str(),
-            wanted,
-        );
+fn takes_checks(rt: HostRuntime) {
+    for (line, wanted) in &CHECKS {
+        takes(&rt, line, wanted);
+    }
+    for (line, wanted) in &REPORTS {
+        takes(&rt, line, wanted);
+    }
+}
+
+#[test]
+fn takes_other_commands(rt: HostRuntime) {
+    for (line, wanted) in &OTHERS {
+        takes(&rt, line, wanted);
     }
 }
 

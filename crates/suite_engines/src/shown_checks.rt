@@ -144,7 +144,7 @@ fn a_witness_is_what_the_answer_rests_on(rt: HostRuntime) {
             assert!(rt; answer.ok() == Some(row.holds), "{}", row.formula);
             assert!(rt; has(&writers.witness, row.part), "{}", row.formula);
             assert!(rt; writers.game.taken.is_empty());
-            assert_eq!(rt; writers.even.taken.is_empty(), !evidence);
+            assert!(rt; writers.even.taken.is_empty() != evidence);
             assert!(rt; !writers.report.taken.is_empty());
         }
     }

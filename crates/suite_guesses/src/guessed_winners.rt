@@ -250,7 +250,7 @@ fn steps_and_way(rt: &(impl Abort + AllocGlobal), steps: u32, way: u32) -> Game 
 fn copies_are_counted_above_what_they_are_copies_of(rt: HostRuntime) {
     for (steps, way) in [(1, 1), (1_000, 1_000), (5_000, 5_000), (2, 100_000)] {
         let game = steps_and_way(&rt, steps, way);
-        assert_eq!(rt; evens(&rt, &game), Some(0), "{steps} {way}");
+        assert!(rt; evens(&rt, &game) == Some(0), "{steps} {way}");
     }
 }
 
@@ -331,8 +331,8 @@ fn a_gauge_shows_a_long_search(rt: HostRuntime) {
     let mut dice = Dice::new(11);
     let game = large_game(&rt, &mut dice, 70_000, 70_000, 10);
     let found = evens(&rt, &game);
-    assert_eq!(rt; evens_seen(&rt, &game, 1), found);
-    assert_eq!(rt; evens_seen(&rt, &game, 4), found);
+    assert!(rt; evens_seen(&rt, &game, 1) == found);
+    assert!(rt; evens_seen(&rt, &game, 4) == found);
 }
 
 // Even has the even vertices, and Odd the odd ones.
@@ -354,7 +354,7 @@ fn on_a_ladder_each_wins_the_own_vertices(rt: HostRuntime) {
         rows.add(&rt, owner_of(v), (v % 2) as u8, &next);
     }
     let game = rows.finish(&rt);
-    assert_eq!(rt; evens(&rt, &game), Some(50_000));
+    assert!(rt; evens(&rt, &game) == Some(50_000));
 }
 
 // Each vertex has its number as priority, and leads to all others. Each player goes between two of the own.
@@ -372,7 +372,7 @@ fn in_a_clique_each_wins_the_own_vertices(rt: HostRuntime) {
         rows.add(&rt, owner_of(u32::from(v)), v, others.as_slice());
     }
     let game = rows.finish(&rt);
-    assert_eq!(rt; evens(&rt, &game), Some(16));
+    assert!(rt; evens(&rt, &game) == Some(16));
 }
 
 // A way of rows and a round. The way ends at a vertex that leads to itself. Before it come so many vertices of the greatest odd
@@ -404,9 +404,9 @@ fn climb(rt: &(impl Abort + AllocGlobal), levels: u8, width: u32, winner: Player
 fn who_wins_at_the_end_of_a_way_wins_the_climb(rt: HostRuntime) {
     for (levels, width) in [(1, 5), (4, 100), (15, 2_000)] {
         let game = climb(&rt, levels, width, Player::Even);
-        assert_eq!(rt; evens(&rt, &game), Some(game.vertices()));
+        assert!(rt; evens(&rt, &game) == Some(game.vertices()));
         let game = climb(&rt, levels, width, Player::Odd);
-        assert_eq!(rt; evens(&rt, &game), Some(0));
+        assert!(rt; evens(&rt, &game) == Some(0));
     }
 }
 
@@ -467,7 +467,7 @@ fn a_hub_of_many_ways_is_evens(rt: HostRuntime) {
         rows.add(&rt, Player::Odd, 0, &[way, way + 1]);
     }
     let game = rows.finish(&rt);
-    assert_eq!(rt; evens(&rt, &game), Some(60_001));
+    assert!(rt; evens(&rt, &game) == Some(60_001));
 }
 
 const LEVELS: u8 = 29;

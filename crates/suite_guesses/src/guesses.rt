@@ -229,7 +229,7 @@ pub(crate) fn ends_alike(
 
 // Whether nothing is left to lift. All that is guessed is accepted.
 fn is_whole(rt: &impl Abort, ended: Ended) -> bool {
-    assert_eq!(rt; ended.accepted, ended.guessed);
+    assert!(rt; ended.accepted == ended.guessed);
     ended.whole
 }
 

@@ -1,0 +1,45 @@
+// Tests of texts, of formulas with their meaning and their normal forms, of games, of evidence and of witnesses, by what the crates offer to others.
+#![tactic(auto)]
+
+#[cfg(test)]
+mod batches;
+#[cfg(test)]
+mod canonical_texts;
+#[cfg(test)]
+mod common;
+#[cfg(test)]
+mod evidence_texts;
+#[cfg(test)]
+mod formula_texts;
+#[cfg(test)]
+mod game_texts;
+#[cfg(test)]
+mod games;
+#[cfg(test)]
+mod gauges;
+#[cfg(test)]
+mod good_evidence;
+#[cfg(test)]
+mod labels;
+#[cfg(test)]
+mod lines_and_tokens;
+#[cfg(test)]
+mod meanings;
+#[cfg(test)]
+mod meeting_labels;
+#[cfg(test)]
+mod normal_forms;
+#[cfg(test)]
+mod normal_texts;
+#[cfg(test)]
+mod plain_lines;
+#[cfg(test)]
+mod strange_words;
+#[cfg(test)]
+mod system_texts;
+#[cfg(test)]
+mod what_never_fails;
+#[cfg(test)]
+mod witnesses;
+#[cfg(test)]
+mod written_systems;

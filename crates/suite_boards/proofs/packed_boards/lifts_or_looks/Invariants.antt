@@ -1,5 +1,0 @@
-use Rattle.tables.specs.Seats.{IsSeatOf}
-use Rattle.suite_boards.proofs.packed_boards.lifts_or_looks.Given as goal
-
-abbrev pub invariant-loop : goal.invariant-loop
-invariant-loop l = IsSeatOf l.board l.seat

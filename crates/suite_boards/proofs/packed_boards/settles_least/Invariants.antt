@@ -1,5 +1,0 @@
-use Rattle.tables.specs.Seats.{IsSeatOf}
-use Rattle.suite_boards.proofs.packed_boards.settles_least.Given as goal
-
-abbrev pub invariant-loop-v : goal.invariant-loop-v
-invariant-loop-v l = IsSeatOf l.board l.seat
