@@ -8,7 +8,7 @@ ghost use Rattle.game.specs.Wins.{Wins};
 ghost use Rattle.evidence.specs.Evidence.{has};
 ghost use Rattle.evidence.specs.Laws.{IsSmall};
 
-use crate::guessed::guessed_pair;
+use crate::guessed::pair_of;
 use crate::pair::EvidencePair;
 use crate::small::is_small;
 use evidence::evidence::Evidence;
@@ -18,6 +18,7 @@ use evidence::verify::check_both;
 use game::graph::Game;
 use gauge::Gauge;
 use std::alloc::{AllocError, Global};
+use winners::guess::{guess_soonest, guess_winners};
 
 /// A mark for each vertex that Even's evidence has.
 ///
@@ -54,7 +55,8 @@ fn checked_marks(alloc: Global, game: &Game, pair: &EvidencePair) -> Option<Vec<
 pub fn certified_winners(alloc: Global, game: &Game, gauge: Option<&Gauge>) -> Option<Vec<bool>>
     ensures { IfSome result (λ marks. Marks (length game.now.vertices) marks.items (Wins game.now)) }
 {
-    let pair = guessed_pair(alloc, game, gauge)?;
+    let guessed = guess_soonest(alloc, game, gauge).ok()??;
+    let pair = pair_of(alloc, game, &guessed)?;
     checked_marks(alloc, game, &pair)
 }
 
@@ -91,6 +93,7 @@ fn are_small(game: &Game, pair: &EvidencePair) -> bool
 pub fn certified_evidence(alloc: Global, game: &Game, gauge: Option<&Gauge>) -> Option<EvidencePair>
     ensures { IfSome result (AreFull game.now) }
 {
-    let pair = guessed_pair(alloc, game, gauge)?;
+    let guessed = guess_winners(alloc, game, gauge).ok()??;
+    let pair = pair_of(alloc, game, &guessed)?;
     checked_pair(game, pair)
 }

@@ -9,10 +9,9 @@ use evidence::draft::Draft;
 use evidence::evidence::Evidence;
 use game::graph::Game;
 use game::player::Player;
-use gauge::Gauge;
 use std::alloc::Global;
 use text::Memory;
-use winners::guess::{Guessed, guess_winners};
+use winners::guess::Guessed;
 
 // Puts what is guessed of a vertex into the evidence of its winner. A move to no vertex of the game is left out.
 fn put_guessed(game: &Game, guessed: &Guessed, draft: &mut Draft, v: u32, rank: &mut [u32])
@@ -23,7 +22,7 @@ fn put_guessed(game: &Game, guessed: &Guessed, draft: &mut Draft, v: u32, rank: 
     ensures player { draft.new.evidence.player ≡ draft.old.evidence.player }
     ensures rank { length rank.new ≡ length rank.old }
 {
-    guessed.put_rank(v, rank);
+    guessed.put_rank(game, v, rank);
     let vertices = game.vertices();
     let next = guessed.next(v).filter(|next| *next < vertices);
     draft.put(v, next, rank);
@@ -49,16 +48,11 @@ pub(crate) fn evidence_of(
     Ok(draft.into_evidence())
 }
 
-// Evidence of all that each player is guessed to win. There is none where the guess took too long, or for want of memory.
-pub(crate) fn guessed_pair(
-    alloc: Global,
-    game: &Game,
-    gauge: Option<&Gauge>,
-) -> Option<EvidencePair>
+// Evidence of all that each player is guessed to win. There is none for want of memory.
+pub(crate) fn pair_of(alloc: Global, game: &Game, guessed: &Guessed) -> Option<EvidencePair>
     ensures { IfSome result (AreOf game.now) }
 {
-    let guessed = guess_winners(alloc, game, gauge).ok()??;
-    let even = evidence_of(alloc, game, &guessed, Player::Even).ok()?;
-    let odd = evidence_of(alloc, game, &guessed, Player::Odd).ok()?;
+    let even = evidence_of(alloc, game, guessed, Player::Even).ok()?;
+    let odd = evidence_of(alloc, game, guessed, Player::Odd).ok()?;
     Some(EvidencePair { even, odd })
 }

@@ -11,7 +11,7 @@ use samples::games::push;
 use std::alloc::Global;
 use std::process::Abort;
 use std::thread::Threads;
-use winners::guess::{Guessed, guess_winners, guess_winners_by};
+use winners::guess::{Guessed, guess_soonest, guess_winners, guess_winners_by};
 
 // One more than the greatest priority of a game.
 const PRIORITIES: u8 = 33;
@@ -67,8 +67,8 @@ impl Tested<'_> {
         let priority = self.game.priority(v);
         let kept = self.kept(player, priority);
         let (mut rank, mut next) = ([0_u32; COUNTS], [0_u32; COUNTS]);
-        self.guessed.put_rank(v, &mut rank);
-        self.guessed.put_rank(t, &mut next);
+        self.guessed.put_rank(self.game, v, &mut rank);
+        self.guessed.put_rank(self.game, t, &mut next);
         if self.guessed.winner(t) != player || kept > COUNTS {
             return false;
         }
@@ -94,7 +94,7 @@ impl Tested<'_> {
     // Whether evidence may have the counts of a vertex.
     fn is_small_at(&self, v: u32) -> bool {
         let mut rank = [0_u32; COUNTS];
-        self.guessed.put_rank(v, &mut rank);
+        self.guessed.put_rank(self.game, v, &mut rank);
         for count in rank {
             if count > GREATEST_COUNT {
                 return false;
@@ -117,12 +117,20 @@ impl Tested<'_> {
     }
 }
 
-// How many vertices Even wins by a guess. `None` where the guess isn't good.
+// How many vertices Even wins by a guess, whose ranks are counted in either way. `None` where one isn't good.
 fn evens(rt: &(impl Abort + AllocGlobal), game: &Game) -> Option<u32> {
     let guessed = guess_winners(rt.alloc(), game, None)
         .expect(rt, "memory")
         .expect(rt, "a guess");
-    evens_of(game, &guessed)
+    let soonest = guess_soonest(rt.alloc(), game, None)
+        .expect(rt, "memory")
+        .expect(rt, "a guess");
+    let count = evens_of(game, &guessed);
+    if evens_of(game, &soonest) == count {
+        count
+    } else {
+        None
+    }
 }
 
 // The same by a guess of four threads.

@@ -11,22 +11,32 @@ use game::player::Player;
 pub(crate) struct Tops {
     pub(crate) player: Player,
     least: u8,
+    /// The greatest of all.
+    pub(crate) greatest: u8,
 }
 
 impl Tops {
     /// Those of a part in which no priority of Even's comes up to the first number, and none of Odd's to the other.
     pub(crate) fn above(even: u8, odd: u8) -> Self {
+        let greatest = even.max(odd).saturating_sub(1);
         if odd > even {
             Tops {
                 player: Player::Odd,
                 least: even,
+                greatest,
             }
         } else {
             Tops {
                 player: Player::Even,
                 least: odd,
+                greatest,
             }
         }
+    }
+
+    /// The greatest priority of the other parity, where there is one.
+    pub(crate) fn below(self) -> u8 {
+        self.least.saturating_sub(1)
     }
 
     pub(crate) fn has(self, priority: u8) -> bool {

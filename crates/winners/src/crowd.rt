@@ -7,12 +7,14 @@ use crate::cells::{NONE, Region, Regions};
 use crate::claim::Tops;
 use crate::flood::Flood;
 use crate::meter::Meter;
+use crate::moments::{Moments, Times};
 use crate::numbers::Numbers;
 use crate::share::{Crew, Look};
-use crate::shared::{Place, Shared};
+use crate::shared::{MOST_REGIONS, Place, Shared};
 use crate::winning::Winners;
 use game::player::Player;
 use std::alloc::{AllocError, Global};
+use std::mem;
 use std::thread::Threads;
 
 /// A part that is to be decided. All of its vertices are in the region.
@@ -57,9 +59,10 @@ pub(crate) struct Crowd<'g, R> {
     arena: Arena<'g>,
     shared: Shared,
     tasks: Vec<Task>,
-    // Whether there was memory for all tasks and lists.
+    // Whether there was memory for all tasks and lists, and a number for each region and moment.
     is_whole: bool,
     last: u32,
+    moments: Moments,
     meter: Meter<'g>,
 }
 
@@ -97,11 +100,8 @@ impl Look for Entering<'_> {
         for v in vertices {
             let place = self.shared.get(*v);
             if self.from.has(place.region) {
-                let place = Place {
-                    region: self.to,
-                    next: place.next,
-                };
-                self.shared.set(*v, place);
+                let region = self.to;
+                self.shared.set(*v, Place { region, ..place });
             }
         }
         Numbers::none(self.alloc)
@@ -116,6 +116,7 @@ struct Topping<'a> {
     shared: &'a Shared,
     tops: Tops,
     near: Region,
+    now: u32,
 }
 
 impl Look for Topping<'_> {
@@ -125,7 +126,9 @@ impl Look for Topping<'_> {
             if self.tops.has(self.arena.priority(*v)) {
                 let place = Place {
                     region: self.near,
+                    time: self.now,
                     next: NONE,
+                    ..self.shared.get(*v)
                 };
                 self.shared.set(*v, place);
                 found.push(*v);
@@ -148,7 +151,7 @@ struct Choosing<'a> {
 impl Look for Choosing<'_> {
     fn look_at(&self, vertices: &[u32]) -> Numbers {
         for v in vertices {
-            let is_own = self.arena.owner(*v) == self.tops.player;
+            let is_own = self.shared.get(*v).owner == self.tops.player;
             if is_own && self.tops.has(self.arena.priority(*v)) {
                 self.choose(*v);
             }
@@ -159,10 +162,10 @@ impl Look for Choosing<'_> {
 
 impl Choosing<'_> {
     fn choose(&self, v: u32) {
-        let region = self.shared.region(v);
+        let place = self.shared.get(v);
         for t in self.arena.successors(v) {
             if self.held.has(self.shared.region(*t)) {
-                self.shared.set(v, Place { region, next: *t });
+                self.shared.set(v, Place { next: *t, ..place });
                 return;
             }
         }
@@ -200,10 +203,11 @@ impl<'g, R: Threads + Sync> Crowd<'g, R> {
         Ok(Crowd {
             crew,
             arena,
-            shared: Shared::new(crew.alloc, arena.vertices())?,
+            shared: Shared::new(crew.alloc, arena)?,
             tasks: Vec::new(crew.alloc),
             is_whole: true,
             last: 0,
+            moments: Moments::none(crew.alloc, arena.vertices()),
             meter,
         })
     }
@@ -253,8 +257,10 @@ impl<'g, R: Threads + Sync> Crowd<'g, R> {
         self.is_whole &= self.tasks.push(task).is_ok();
     }
 
+    // (Where there are too many, this search is given up.)
     fn fresh(&mut self) -> Region {
-        self.last = self.last.wrapping_add(1);
+        self.last = self.last.saturating_add(1);
+        self.is_whole &= self.last < MOST_REGIONS;
         Region::numbered(self.last)
     }
 
@@ -307,8 +313,15 @@ impl<'g, R: Threads + Sync> Crowd<'g, R> {
         self.note(&found);
     }
 
-    // Draws all that a player can force to these, which are drawn.
-    fn spread(&mut self, list: &mut Numbers, player: Player, over: Regions, to: Region) {
+    // Draws all that a player can force to these, which are drawn. Its ranks have to fall on the way for priorities up to this one.
+    fn spread(
+        &mut self,
+        list: &mut Numbers,
+        player: Player,
+        over: Regions,
+        to: Region,
+        priority: u8,
+    ) {
         let flood = Flood {
             alloc: self.crew.alloc,
             arena: self.arena,
@@ -316,10 +329,12 @@ impl<'g, R: Threads + Sync> Crowd<'g, R> {
             player,
             over,
             to,
+            now: 0,
         };
-        let looks = flood.spread(self.crew, list);
+        let looks = flood.spread(self.crew, list, &mut self.moments, priority);
         self.meter.count_all(looks);
         self.note(list);
+        self.is_whole &= self.moments.are_whole();
     }
 
     // Finds what the player of the greatest priorities can force to them. The rest is to be decided.
@@ -338,10 +353,11 @@ impl<'g, R: Threads + Sync> Crowd<'g, R> {
             shared: &self.shared,
             tops,
             near,
+            now: self.moments.now(),
         };
         let mut top = self.crew.look(list, &topping);
         let over = Regions::same(part.region);
-        self.spread(&mut top, tops.player, over, near);
+        self.spread(&mut top, tops.player, over, near, tops.below());
         let rest = self.those_in(list, over);
         let vertices = Numbers::copied(self.crew.alloc, rest.as_slice());
         self.note(&vertices);
@@ -375,7 +391,7 @@ impl<'g, R: Threads + Sync> Crowd<'g, R> {
         let other = opponent(core.tops.player);
         let won = core.part.won.of(other);
         self.enter(lost.as_slice(), theirs, won);
-        self.spread(lost, other, core.held(), won);
+        self.spread(lost, other, core.held(), won, core.tops.greatest);
         let vertices = self.those_in(core.part.vertices.as_slice(), core.held());
         let region = self.fresh();
         self.enter(vertices.as_slice(), core.held(), region);
@@ -402,12 +418,17 @@ impl<'g, R: Threads + Sync> Crowd<'g, R> {
     }
 
     // What each wins, if there is memory for it.
-    fn winners(&self, won: Regions) -> Option<Winners> {
-        let mut winners = Winners::none(self.crew.alloc, self.arena.game);
+    fn winners(&mut self, won: Regions) -> Option<Winners> {
+        let alloc = self.crew.alloc;
+        let mut winners = Winners::none(alloc, self.arena.game);
+        let mut last = Numbers::roomy(alloc, self.arena.vertices() as usize);
         for v in 0..self.arena.vertices() {
             let place = self.shared.get(v);
             winners.add(self.arena.game, v, won.player(place.region), place.next);
+            last.push(place.time);
         }
+        let moments = mem::replace(&mut self.moments, Moments::none(alloc, 0));
+        winners.times = Some(Times { moments, last });
         winners.whole()
     }
 }

@@ -1,9 +1,10 @@
-// Attractors that several threads make: ring by ring, where a ring is large.
+// Attractors that several threads make, ring by ring: a vertex of a ring leads to those before it, or has to.
 
 use crate::arena::Arena;
 use crate::cells::{NONE, Region, Regions};
+use crate::moments::Moments;
 use crate::numbers::Numbers;
-use crate::share::{Crew, LEAST_LIST, Look};
+use crate::share::{Crew, Look};
 use crate::shared::{Place, Shared};
 use game::player::Player;
 use std::alloc::Global;
@@ -20,6 +21,8 @@ pub(crate) struct Flood<'a> {
     pub(crate) over: Regions,
     /// To what they belong then.
     pub(crate) to: Region,
+    /// The moment of the ring that is being made.
+    pub(crate) now: u32,
 }
 
 impl Look for Flood<'_> {
@@ -34,28 +37,27 @@ impl Look for Flood<'_> {
 }
 
 impl Flood<'_> {
-    /// Draws all that these vertices draw, which belong there already; none is left in the list. The answer is how many were looked at. What
-    /// is drawn belongs there then, and isn't drawn once more: so this ends.
+    /// Draws all that these vertices draw, which belong there already; none is left in the list. For each ring a moment of this priority
+    /// passes. The answer is how many were looked at. What is drawn belongs there then, and isn't drawn once more: so this ends.
     pub(crate) fn spread<R: Threads + Sync>(
-        &self,
+        self,
         crew: &Crew<'_, R>,
         list: &mut Numbers,
+        moments: &mut Moments,
+        priority: u8,
     ) -> usize {
         let mut looks = 0_usize;
         for _ in 0..u64::MAX {
-            if list.len() >= LEAST_LIST {
-                looks = looks.saturating_add(list.len());
-                let drawn = crew.look(list.as_slice(), self);
-                list.replace(drawn);
-                continue;
+            if list.is_empty() {
+                break;
             }
-            match list.pop() {
-                Some(v) => {
-                    looks = looks.saturating_add(1);
-                    self.draw_before(v, list);
-                }
-                None => break,
-            }
+            looks = looks.saturating_add(list.len());
+            let ring = Flood {
+                now: moments.pass(priority),
+                ..self
+            };
+            let drawn = crew.look(list.as_slice(), &ring);
+            list.replace(drawn);
         }
         looks
     }
@@ -72,7 +74,7 @@ impl Flood<'_> {
 
     // Draws a vertex to a successor of it, if that can be forced, and says whether this is what drew it.
     fn draw(&self, u: u32, place: Place, v: u32) -> bool {
-        let next = if self.arena.owner(u) == self.player {
+        let next = if place.owner == self.player {
             v
         } else if self.has_way_out(u, place) {
             return false;
@@ -81,40 +83,45 @@ impl Flood<'_> {
         };
         let drawn = Place {
             region: self.to,
+            time: self.now,
             next,
+            ..place
         };
         self.shared.exchange(u, place, drawn)
     }
 
-    // Whether a vertex of the opponent's leads to one that isn't drawn. Where such a one was seen last is kept in place of a move, and
-    // looked at first: so each successor is passed by twice at most.
+    // Whether a vertex of the opponent's leads to one that isn't drawn. The one that was seen last is kept in place of a move, and looked at
+    // first, then those after it: so each successor is passed by twice at most.
     fn has_way_out(&self, u: u32, place: Place) -> bool {
+        if self.is_left(place.next) {
+            return true;
+        }
         let successors = self.arena.successors(u);
-        let last = (place.next as usize).min(successors.len());
+        let last = successors.binary_search(&place.next).unwrap_or(0);
         let seen = match self.way_out(successors, last, successors.len()) {
             Some(seen) => Some(seen),
             None => self.way_out(successors, 0, last),
         };
-        let Some(seen) = seen else {
+        let Some(next) = seen else {
             return false;
         };
-        if seen != place.next {
-            let kept = Place {
-                region: place.region,
-                next: seen,
-            };
-            self.shared.exchange(u, place, kept);
-        }
+        self.shared.exchange(u, place, Place { next, ..place });
         true
     }
 
-    // Where the first of these successors stands that isn't drawn.
+    // The first of these successors that isn't drawn.
     fn way_out(&self, successors: &[u32], from: usize, to: usize) -> Option<u32> {
         for place in from..to.min(successors.len()) {
-            if self.over.has(self.shared.region(successors[place])) {
-                return u32::try_from(place).ok();
+            if self.is_left(successors[place]) {
+                return Some(successors[place]);
             }
         }
         None
+    }
+
+    // Whether a vertex wasn't drawn before this ring.
+    fn is_left(&self, v: u32) -> bool {
+        let place = self.shared.get(v);
+        self.over.has(place.region) || (place.region == self.to && place.time == self.now)
     }
 }

@@ -1,7 +1,8 @@
 // Winners that were found, and the orders of what both win, by which ranks are counted: of a smaller game where that was searched, unless
 // counts would become too great so.
 
-use crate::guess::Guessed;
+use crate::guess::{Guessed, Ordered, Ranking};
+use crate::moments::Timed;
 use crate::numbers::Numbers;
 use crate::order::order_of;
 use crate::ranks::{Counted, Listed, Ranks, Rows};
@@ -22,24 +23,24 @@ pub(crate) struct Found<'g> {
     weight: u32,
 }
 
-/// What each player wins, in an order by which its ranks are counted. `None` where its moves don't win, or for want of memory.
+// What each player wins, in an order by which its ranks are counted. `None` where its moves don't win, or for want of memory.
 #[derive(Drop)]
-pub(crate) struct Orders {
+struct Orders {
     even: Option<Numbers>,
     odd: Option<Numbers>,
 }
 
 impl Orders {
-    /// One after the other.
-    pub(crate) fn of(alloc: Global, found: &Found) -> Self {
+    // One after the other.
+    fn of(alloc: Global, found: &Found) -> Self {
         Orders {
             even: found.order(alloc, Player::Even),
             odd: found.order(alloc, Player::Odd),
         }
     }
 
-    /// Side by side.
-    pub(crate) fn of_by<R: Threads + Sync>(rt: &R, alloc: Global, found: &Found) -> Self {
+    // Side by side.
+    fn of_by<R: Threads + Sync>(rt: &R, alloc: Global, found: &Found) -> Self {
         let (even, odd) = join(
             rt,
             || found.order(alloc, Player::Even),
@@ -82,7 +83,7 @@ impl<'g> Found<'g> {
     }
 
     // The game whose vertices are put in order.
-    fn ordered(&self) -> &Game {
+    fn arena(&self) -> &Game {
         match &self.smaller {
             Some(smaller) => smaller.game(),
             None => self.game,
@@ -90,7 +91,7 @@ impl<'g> Found<'g> {
     }
 
     fn order(&self, alloc: Global, player: Player) -> Option<Numbers> {
-        order_of(alloc, self.ordered(), &self.winners, player)
+        order_of(alloc, self.arena(), &self.winners, player)
     }
 
     // What comes before the order of what a player wins.
@@ -107,7 +108,7 @@ impl<'g> Found<'g> {
 
     // How many rows of ranks there are: one for each vertex that is put in order or was decided before.
     fn rows(&self) -> usize {
-        let ordered = self.ordered().vertices() as usize;
+        let ordered = self.arena().vertices() as usize;
         let even = self.decided(Player::Even).order.len();
         let odd = self.decided(Player::Odd).order.len();
         ordered.saturating_add(even).saturating_add(odd)
@@ -117,15 +118,45 @@ impl<'g> Found<'g> {
     fn rank(&self, ranks: &mut Ranks, player: Player, order: &Numbers) {
         let counted = Counted::of(self.game, player, self.weight);
         let other = Listed {
-            game: self.ordered(),
+            game: self.arena(),
             order: order.as_slice(),
             rows: Rows::Numbered,
         };
         ranks.add(counted, self.decided(player), other);
     }
 
-    /// What is guessed of the whole game, by these orders. `None` where the moves of one player don't win, or for want of memory.
-    pub(crate) fn guessed(self, alloc: Global, orders: Orders) -> Option<Guessed> {
+    /// Whether the search noted when it came to each vertex of the whole game.
+    pub(crate) fn is_timed(&self) -> bool {
+        match &self.winners.times {
+            Some(times) => self.smaller.is_none() && times.moments.are_whole(),
+            None => false,
+        }
+    }
+
+    /// What is guessed, with ranks by the moments of the search. `None` for want of memory.
+    pub(crate) fn timed(mut self, alloc: Global) -> Option<Guessed> {
+        let times = self.winners.times.take()?;
+        let timed = Timed::of(alloc, self.game, times);
+        let guessed = Guessed {
+            winners: self.winners,
+            ranking: Ranking::Timed(timed),
+        };
+        guessed.whole()
+    }
+
+    /// What is guessed of the whole game, with ranks by orders. `None` where the moves of one player don't win, or for want of memory.
+    pub(crate) fn ordered(self, alloc: Global) -> Option<Guessed> {
+        let orders = Orders::of(alloc, &self);
+        self.guessed(alloc, orders)
+    }
+
+    /// The same, where both orders are made side by side.
+    pub(crate) fn ordered_by<R: Threads + Sync>(self, rt: &R, alloc: Global) -> Option<Guessed> {
+        let orders = Orders::of_by(rt, alloc, &self);
+        self.guessed(alloc, orders)
+    }
+
+    fn guessed(self, alloc: Global, orders: Orders) -> Option<Guessed> {
         let (even, odd) = (orders.even?, orders.odd?);
         let mut ranks = Ranks::of(alloc, self.rows(), self.game);
         self.rank(&mut ranks, Player::Even, &even);
@@ -135,23 +166,22 @@ impl<'g> Found<'g> {
             smaller,
             ..
         } = self;
-        let guessed = match smaller {
+        let (winners, rows, heights) = match smaller {
             Some(smaller) => {
                 let winners = smaller.whole(alloc, &winners)?;
                 let (rows, heights) = smaller.rows();
-                Guessed {
-                    winners,
-                    ranks,
-                    rows,
-                    heights,
-                }
+                (winners, rows, heights)
             }
-            None => Guessed {
-                winners,
-                ranks,
-                rows: Numbers::none(alloc),
-                heights: Numbers::none(alloc),
-            },
+            None => (winners, Numbers::none(alloc), Numbers::none(alloc)),
+        };
+        let ordered = Ordered {
+            ranks,
+            rows,
+            heights,
+        };
+        let guessed = Guessed {
+            winners,
+            ranking: Ranking::Ordered(ordered),
         };
         guessed.whole()
     }

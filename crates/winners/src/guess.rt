@@ -1,7 +1,9 @@
 // A guess of who wins each vertex, with reasons.
 
+use crate::arena::priority;
 use crate::finding::{LEAST_SHARED, find_in, find_in_by};
-use crate::found::{Found, Orders};
+use crate::found::Found;
+use crate::moments::Timed;
 use crate::numbers::Numbers;
 use crate::ranks::Ranks;
 use crate::share::Crew;
@@ -18,11 +20,50 @@ use text::Memory;
 #[derive(Drop)]
 pub struct Guessed {
     pub(crate) winners: Winners,
+    pub(crate) ranking: Ranking,
+}
+
+/// How ranks are counted.
+#[derive(Drop)]
+pub(crate) enum Ranking {
+    /// By an order of what each player wins.
+    Ordered(Ordered),
+    /// By the moments of the search.
+    Timed(Timed),
+}
+
+/// The ranks that come of orders.
+#[derive(Drop)]
+pub(crate) struct Ordered {
     pub(crate) ranks: Ranks,
     /// The row of ranks that each vertex has, where it isn't its own.
     pub(crate) rows: Numbers,
     /// How much is added to the last count of a vertex that Odd wins.
     pub(crate) heights: Numbers,
+}
+
+impl Ordered {
+    fn is_whole(&self) -> bool {
+        self.ranks.is_whole() && self.rows.is_whole() && self.heights.is_whole()
+    }
+
+    // Writes the rank of a vertex that the player wins.
+    fn put(&self, v: u32, player: Player, rank: &mut [u32]) {
+        let row = self.rows.get_or(v as usize, v);
+        self.ranks.put(row as usize, rank);
+        if player == Player::Odd {
+            self.ranks.add_to_last(self.heights.get(v as usize), rank);
+        }
+    }
+}
+
+impl Ranking {
+    fn is_whole(&self) -> bool {
+        match self {
+            Ranking::Ordered(ordered) => ordered.is_whole(),
+            Ranking::Timed(timed) => timed.is_whole(),
+        }
+    }
 }
 
 impl Guessed {
@@ -38,17 +79,17 @@ impl Guessed {
 
     /// Writes the rank of the vertex: one count for each priority of the other parity than the winner's, the greatest first.
     /// Counts that find no place are left out, and places past the last count as they are.
-    pub fn put_rank(&self, v: u32, rank: &mut [u32]) {
-        let row = self.rows.get_or(v as usize, v);
-        self.ranks.put(row as usize, rank);
-        if self.winner(v) == Player::Odd {
-            self.ranks.add_to_last(self.heights.get(v as usize), rank);
+    pub fn put_rank(&self, game: &Game, v: u32, rank: &mut [u32]) {
+        let player = self.winner(v);
+        match &self.ranking {
+            Ranking::Ordered(ordered) => ordered.put(v, player, rank),
+            Ranking::Timed(timed) => timed.put(v, player, priority(game, v), rank),
         }
     }
 
     /// What is guessed, if there was memory for all.
     pub(crate) fn whole(self) -> Option<Self> {
-        if self.ranks.is_whole() && self.rows.is_whole() && self.heights.is_whole() {
+        if self.ranking.is_whole() {
             Some(self)
         } else {
             None
@@ -57,7 +98,8 @@ impl Guessed {
 }
 
 /// Guesses the winners of a game, within a number of steps that is about linear in its size. `None` where that did not suffice, or for want of
-/// memory. A gauge shows how far a long search has come, in vertices and edges that are looked at.
+/// memory. A gauge shows how far a long search has come, in vertices and edges that are looked at. The ranks are counted by an order of what
+/// each player wins.
 ///
 /// # Errors
 /// Want of memory, and nothing else.
@@ -66,15 +108,39 @@ pub fn guess_winners(
     game: &Game,
     gauge: Option<&Gauge>,
 ) -> Result<Option<Guessed>, Memory> {
+    match find(alloc, game, gauge) {
+        Ok(Some(found)) => Ok(found.ordered(alloc)),
+        Ok(None) => Ok(None),
+        Err(memory) => Err(memory),
+    }
+}
+
+/// The same with the ranks that are at hand soonest: by the moments of the search, where it noted them.
+///
+/// # Errors
+/// Want of memory, and nothing else.
+pub fn guess_soonest(
+    alloc: Global,
+    game: &Game,
+    gauge: Option<&Gauge>,
+) -> Result<Option<Guessed>, Memory> {
+    match find(alloc, game, gauge) {
+        Ok(Some(found)) if found.is_timed() => Ok(found.timed(alloc)),
+        Ok(Some(found)) => Ok(found.ordered(alloc)),
+        Ok(None) => Ok(None),
+        Err(memory) => Err(memory),
+    }
+}
+
+// What a search finds.
+fn find<'g>(
+    alloc: Global,
+    game: &'g Game,
+    gauge: Option<&Gauge>,
+) -> Result<Option<Found<'g>>, Memory> {
     let smaller = Smaller::of(alloc, game);
     let winners = find_in(alloc, searched(game, &smaller), gauge)?;
-    Ok(match Found::of(alloc, game, smaller, winners) {
-        Some(found) => {
-            let orders = Orders::of(alloc, &found);
-            found.guessed(alloc, orders)
-        }
-        None => None,
-    })
+    Ok(Found::of(alloc, game, smaller, winners))
 }
 
 /// The same by so many threads, where the game is large. Of two searches side by side the gauge shows the recursion.
@@ -89,16 +155,14 @@ pub fn guess_winners_by<R: Threads + Sync>(
     gauge: Option<&Gauge>,
 ) -> Result<Option<Guessed>, Memory> {
     if workers < 2 || game.vertices() < LEAST_SHARED {
-        return guess_winners(alloc, game, gauge);
+        return guess_soonest(alloc, game, gauge);
     }
     let crew = Crew { rt, alloc, workers };
     let smaller = Smaller::of(alloc, game);
     let winners = find_in_by(&crew, searched(game, &smaller), gauge)?;
     Ok(match Found::of(alloc, game, smaller, winners) {
-        Some(found) => {
-            let orders = Orders::of_by(rt, alloc, &found);
-            found.guessed(alloc, orders)
-        }
+        Some(found) if found.is_timed() => found.timed(alloc),
+        Some(found) => found.ordered_by(rt, alloc),
         None => None,
     })
 }

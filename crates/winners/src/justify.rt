@@ -8,11 +8,13 @@
 use crate::arena::{Arena, opponent, winner_by};
 use crate::cells::NONE;
 use crate::meter::Meter;
+use crate::moments::{Moments, Times};
 use crate::numbers::Numbers;
 use crate::standings::{Standing, Standings, State};
 use crate::winning::Winners;
 use game::player::Player;
 use std::alloc::{AllocError, Global};
+use std::mem;
 
 // How many vertices turn at once: few enough to lie near still when their predecessors are looked at.
 const TURNED_AT_ONCE: usize = 256;
@@ -31,6 +33,7 @@ pub(crate) struct Justification<'g> {
     arena: Arena<'g>,
     standings: Standings,
     moves: Numbers,
+    times: Times,
     meter: Meter<'g>,
     // Whether there was memory for all moves, and all that turned or was shaken.
     is_whole: bool,
@@ -44,12 +47,14 @@ impl<'g> Justification<'g> {
     ) -> Result<Self, AllocError> {
         let standings = Standings::new(alloc, arena)?;
         let moves = Numbers::filled(alloc, arena.vertices() as usize, NONE);
-        let is_whole = moves.is_whole();
+        let times = Times::none(alloc, arena.vertices());
+        let is_whole = moves.is_whole() && times.last.is_whole();
         Ok(Justification {
             alloc,
             arena,
             standings,
             moves,
+            times,
             meter,
             is_whole,
         })
@@ -118,12 +123,14 @@ impl<'g> Justification<'g> {
     }
 
     // What each wins, if there is memory for it.
-    fn winners(&self) -> Option<Winners> {
+    fn winners(&mut self) -> Option<Winners> {
         let mut winners = Winners::none(self.alloc, self.arena.game);
         for v in 0..self.arena.vertices() {
             let next = self.moves.get(v as usize);
             winners.add(self.arena.game, v, self.standings.player(v), next);
         }
+        let none = Times::none(self.alloc, 0);
+        winners.times = Some(mem::replace(&mut self.times, none));
         winners.whole()
     }
 
@@ -173,10 +180,12 @@ impl<'g> Justification<'g> {
     }
 
     fn justify(&mut self, priority: u8) {
+        let now = self.times.moments.now();
         for _ in 0..u32::MAX {
             match self.standings.pop_calm(priority) {
                 Some(v) if self.standings.state(v) == State::Calm => {
                     self.standings.set_state(v, State::Justified);
+                    self.times.last.set(v as usize, now);
                     self.meter.count_all(1);
                 }
                 Some(_) => {}
@@ -189,7 +198,9 @@ impl<'g> Justification<'g> {
     fn turn(&mut self, priority: u8, turned: &[u32]) -> u8 {
         let mut list = Vec::new(self.alloc);
         let player = opponent(winner_by(priority));
+        let now = self.times.moments.pass(priority);
         for v in turned {
+            self.times.last.set(*v as usize, now);
             self.standings.set_state(*v, State::Justified);
             self.standings.set_player(*v, player);
             let shaken = Shaken {

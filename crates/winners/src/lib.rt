@@ -15,6 +15,7 @@ mod found;
 pub mod guess;
 mod justify;
 mod meter;
+mod moments;
 pub mod numbers;
 mod order;
 mod parts;

@@ -40,16 +40,24 @@ impl Counted {
         }
     }
 
-    // How many there are.
-    fn width(self) -> usize {
+    /// How many there are.
+    pub(crate) fn width(self) -> usize {
         match self.player {
             Player::Even => (usize::from(self.greatest) + 1) / 2,
             Player::Odd => usize::from(self.greatest) / 2 + 1,
         }
     }
 
-    // How many of them are not below this one.
-    fn kept(self, priority: u8) -> usize {
+    /// How many of them are above this one.
+    pub(crate) fn above(self, priority: u32) -> usize {
+        match u8::try_from(priority) {
+            Ok(priority) => self.kept(priority.saturating_add(1)),
+            Err(_) => 0,
+        }
+    }
+
+    /// How many of them are not below this one.
+    pub(crate) fn kept(self, priority: u8) -> usize {
         let below = match self.player {
             Player::Even => usize::from(priority) / 2,
             Player::Odd => (usize::from(priority) + 1) / 2,

@@ -2,6 +2,7 @@
 
 use crate::arena::owner;
 use crate::cells::NONE;
+use crate::moments::Times;
 use crate::numbers::Numbers;
 use game::graph::Game;
 use game::player::Player;
@@ -14,6 +15,8 @@ pub(crate) struct Winners {
     moves: Numbers,
     // Whether there was memory for all players.
     is_whole: bool,
+    /// When the search came to each vertex, where it noted that.
+    pub(crate) times: Option<Times>,
 }
 
 impl Winners {
@@ -24,6 +27,7 @@ impl Winners {
             players: Vec::with_capacity(alloc, vertices).unwrap_or(Vec::new(alloc)),
             moves: Numbers::roomy(alloc, vertices),
             is_whole: true,
+            times: None,
         }
     }
 
