@@ -39,6 +39,8 @@ pub(crate) struct Board {
     alloc: Global,
     pub(crate) states: u32,
     pub(crate) forth: Edges,
+    /// Whether edges lead nearby.
+    pub(crate) are_near: bool,
     // As soon as they are wanted.
     back: Option<Edges>,
     pub(crate) form: Form,
@@ -125,6 +127,7 @@ impl Board {
         Board {
             alloc: stock.alloc,
             states,
+            are_near: forth.are_near(states),
             forth,
             back: None,
             scale,
@@ -151,7 +154,7 @@ impl Board {
     pub(crate) fn open_back(&mut self, alloc: Global) {
         if self.back.is_none() {
             let mut stock = Stock::new(alloc);
-            self.back = Some(self.forth.reversed(&mut stock, self.states));
+            self.back = Some(self.forth.reversed(&mut stock, self.states, self.are_near));
             self.is_whole &= stock.is_whole();
         }
     }
@@ -263,9 +266,18 @@ impl Board {
 
     #[inline(always)]
     pub(crate) fn set_level(&mut self, node: u32, state: u32, level: u32) {
-        if self.opens_levels(node, level)
-            && let Some(levels) = self.levels.get_mut(node as usize)
-        {
+        let Some(levels) = self.levels.get_mut(node as usize) else {
+            return;
+        };
+        if levels.is_inside(state) {
+            levels.set(state, level);
+        } else if self.opens_levels(node, level) {
+            self.set_level_there(node, state, level);
+        }
+    }
+
+    fn set_level_there(&mut self, node: u32, state: u32, level: u32) {
+        if let Some(levels) = self.levels.get_mut(node as usize) {
             levels.set(state, level);
         }
     }
@@ -280,7 +292,7 @@ impl Board {
     }
 
     // Makes room for a node's levels, where there is none. The answer is whether there is some: up to the first level above zero it isn't needed.
-    #[inline(always)]
+    #[inline(never)]
     fn opens_levels(&mut self, node: u32, level: u32) -> bool {
         let length = self.states as usize;
         match self.levels.get_mut(node as usize) {

@@ -3,12 +3,11 @@
 use crate::bits::{WORD, bit};
 use crate::board::Board;
 use crate::edges::{state_of, takes};
-use crate::form::{Form, Shape};
-use crate::numbers::Numbers;
+use crate::form::{Form, NONE, Shape};
 use crate::order::{Order, Wait};
 use crate::places::{Place, Places};
 use crate::sets::{Sets, Step};
-use crate::stock::Stock;
+use std::alloc::Global;
 
 // A level begins at few states where they are at most this part of all, or as few as this.
 const PART: u32 = 64;
@@ -18,6 +17,8 @@ const FEW: usize = 64;
 /// How a node's states are carried on to one over it.
 #[derive(Clone, Copy)]
 enum Way {
+    /// There is none over it.
+    None,
     /// To a binder, a level later.
     Later,
     /// At once.
@@ -28,22 +29,26 @@ enum Way {
     Back(Step),
 }
 
-/// A node and one over it.
+/// A node over another one, and where the next link of that stands.
 #[derive(Clone, Copy)]
 struct Link {
-    under: u32,
     over: u32,
     way: Way,
+    more: u32,
 }
 
-/// What is over each node of a part.
+const NO_LINK: Link = Link {
+    over: NONE,
+    way: Way::None,
+    more: NONE,
+};
+
+/// What is over each node of a part: the first link of a node has its number as its place.
 #[derive(Drop)]
 struct Links {
     list: Vec<Link>,
     // Whether there was memory for all.
     is_whole: bool,
-    // For each node the first link from it, and for the one after the last how many there are.
-    starts: Numbers,
 }
 
 /// What is final in a level, with what is over each node of the part at hand.
@@ -62,50 +67,54 @@ pub(crate) fn are_few(many: usize, states: u32) -> bool {
 }
 
 impl Links {
-    fn push(&mut self, under: u32, over: u32, way: Way) {
-        self.is_whole &= self.list.push(Link { under, over, way }).is_ok();
+    // Forgets all links of so many nodes.
+    fn clear(&mut self, nodes: u32) {
+        self.list.clear();
+        for _ in 0..nodes {
+            self.is_whole &= self.list.push(NO_LINK).is_ok();
+        }
+    }
+
+    // A node comes over another one, before those that do so far.
+    fn add(&mut self, under: u32, over: u32, way: Way) {
+        let Some(first) = self.list.get(under as usize).copied() else {
+            return;
+        };
+        let more = match first.way {
+            Way::None => NONE,
+            _ => self.keep(first),
+        };
+        if let Some(link) = self.list.get_mut(under as usize) {
+            *link = Link { over, way, more };
+        }
+    }
+
+    // Keeps a link behind all others. The answer is its place.
+    fn keep(&mut self, link: Link) -> u32 {
+        let place = u32::try_from(self.list.len()).unwrap_or(NONE);
+        self.is_whole &= self.list.push(link).is_ok();
+        place
     }
 
     // The links to a junction from one of its children.
-    fn push_joined(&mut self, wait: Wait, over: u32, under: u32, other: u32) {
+    fn add_joined(&mut self, wait: Wait, over: u32, under: u32, other: u32) {
         match wait {
-            Wait::Both => self.push(under, over, Way::With(other)),
-            _ => self.push(under, over, Way::Now),
-        }
-    }
-
-    fn order(&mut self) {
-        self.list.sort_unstable_by_key(|link| link.under);
-        self.starts.fill(0);
-        for link in &self.list {
-            self.starts.count_up(link.under.saturating_add(1));
-        }
-        self.starts.sum_up();
-    }
-
-    // The links from a node.
-    fn from(&self, node: u32) -> &[Link] {
-        let start = self.starts.get(node) as usize;
-        let end = self.starts.get(node.saturating_add(1)) as usize;
-        if start <= end && end <= self.list.len() {
-            &self.list[start..end]
-        } else {
-            &[]
+            Wait::Both => self.add(under, over, Way::With(other)),
+            _ => self.add(under, over, Way::Now),
         }
     }
 }
 
 impl Few {
-    /// Nothing, for so many nodes.
-    pub(crate) fn new(stock: &mut Stock, nodes: u32) -> Self {
+    /// Nothing.
+    pub(crate) fn new(alloc: Global) -> Self {
         Few {
             links: Links {
-                list: Vec::new(stock.alloc),
+                list: Vec::new(alloc),
                 is_whole: true,
-                starts: Numbers::filled(stock, 0, (nodes as usize).saturating_add(1)),
             },
-            found: Places::new(stock.alloc),
-            next: Places::new(stock.alloc),
+            found: Places::new(alloc),
+            next: Places::new(alloc),
         }
     }
 
@@ -114,9 +123,9 @@ impl Few {
         self.links.is_whole && self.found.is_whole() && self.next.is_whole()
     }
 
-    /// Forgets all nodes and places.
-    pub(crate) fn clear(&mut self) {
-        self.links.list.clear();
+    /// Forgets all places, and what is over so many nodes.
+    pub(crate) fn clear(&mut self, nodes: u32) {
+        self.links.clear(nodes);
         self.found.clear();
         self.next.clear();
     }
@@ -128,8 +137,8 @@ impl Few {
         let wait = order.wait(shape);
         match shape {
             Shape::And | Shape::Or => {
-                self.links.push_joined(wait, node, left, right);
-                self.links.push_joined(wait, node, right, left)
+                self.links.add_joined(wait, node, left, right);
+                self.links.add_joined(wait, node, right, left)
             }
             Shape::Dia | Shape::Box => {
                 let step = Step {
@@ -138,16 +147,11 @@ impl Few {
                     mask: form.node(node).mask,
                     wait,
                 };
-                self.links.push(left, node, Way::Back(step))
+                self.links.add(left, node, Way::Back(step))
             }
-            Shape::Binder => self.links.push(left, node, Way::Later),
+            Shape::Binder => self.links.add(left, node, Way::Later),
             _ => {}
         }
-    }
-
-    /// Orders the links to all nodes that were added.
-    pub(crate) fn order_links(&mut self) {
-        self.links.order();
     }
 
     /// How many binders become final in the next level, each once or more.
@@ -170,29 +174,65 @@ impl Few {
         self.next.pop()
     }
 
-    /// Carries what has become final on to all that does so with it, and gives that a level.
-    pub(crate) fn spread(&mut self, board: &mut Board, sets: &mut Sets, level: u32) {
+    /// Finds levels from this one on, as long as each begins at few states. The answer is the one that comes after the last.
+    pub(crate) fn climb(&mut self, board: &mut Board, sets: &mut Sets, first: u32) -> u32 {
+        let mut level = first;
+        for _ in 0..u64::MAX {
+            self.spread(board, sets, level);
+            level = level.saturating_add(1);
+            if !are_few(self.next.len(), board.states) || !self.begin(sets) {
+                break;
+            }
+        }
+        level
+    }
+
+    // Binders that were put off become final. The answer is whether there are some.
+    #[inline(always)]
+    fn begin(&mut self, sets: &mut Sets) -> bool {
+        for _ in 0..u64::MAX {
+            let Some(place) = self.next.pop() else {
+                break;
+            };
+            try_add_to(&mut self.found, sets, place);
+        }
+        !self.found.is_empty()
+    }
+
+    // Carries what has become final on to all that does so with it, and gives that a level.
+    #[inline(always)]
+    fn spread(&mut self, board: &mut Board, sets: &mut Sets, level: u32) {
         for _ in 0..u64::MAX {
             let Some(place) = self.found.pop() else {
                 break;
             };
             board.set_level(place.node, place.state, level);
-            for link in self.links.from(place.node) {
-                let next = Place {
-                    node: link.over,
-                    state: place.state,
-                };
-                if board.is_barred(next, place.node) {
-                    continue;
-                }
-                match link.way {
-                    Way::Later => self.next.push(next.node, next.state),
-                    Way::Back(step) => {
-                        carry_back(&mut self.found, sets, board, step, place.state);
-                    }
-                    Way::With(other) if sets.waits_for(board, next, other) => {}
-                    Way::Now | Way::With(_) => try_add_to(&mut self.found, sets, next),
-                }
+            self.carry(board, sets, place);
+        }
+    }
+
+    // Carries a place on to all nodes over its own.
+    #[inline(always)]
+    fn carry(&mut self, board: &Board, sets: &mut Sets, place: Place) {
+        let mut at = place.node;
+        for _ in 0..self.links.list.len() {
+            let Some(link) = self.links.list.get(at as usize) else {
+                break;
+            };
+            at = link.more;
+            let next = Place {
+                node: link.over,
+                state: place.state,
+            };
+            if board.is_barred(next, place.node) {
+                continue;
+            }
+            match link.way {
+                Way::None => break,
+                Way::Later => self.next.push(next.node, next.state),
+                Way::Back(step) => carry_back(&mut self.found, sets, board, step, place.state),
+                Way::With(other) if sets.waits_for(board, next, other) => {}
+                Way::Now | Way::With(_) => try_add_to(&mut self.found, sets, next),
             }
         }
     }

@@ -109,7 +109,7 @@ impl Levels {
             first: 0,
             depth: 0,
             next: Fronts::new(stock, marked, board.states),
-            few: Few::new(stock, count),
+            few: Few::new(alloc),
             is_listed: false,
             last_time: 0,
             limit: TOP,
@@ -177,7 +177,7 @@ impl Levels {
         self.members.clear();
         self.sources.clear();
         self.events.clear();
-        self.few.clear();
+        self.few.clear(self.board.form.count());
         self.is_listed = false;
         self.seen = 0;
         self.runs = self.runs.saturating_add(1);
@@ -189,7 +189,6 @@ impl Levels {
             }
         }
         self.members.sort_unstable_by_key(|member| member.height);
-        self.few.order_links();
         self.enter_all();
         self.events.sort_unstable_by_key(|event| event.key);
     }
@@ -290,9 +289,8 @@ impl Levels {
     pub(crate) fn climb(&mut self) {
         for _ in 0..u64::MAX {
             if self.is_listed {
-                let level = self.depth;
-                self.few.spread(&mut self.board, &mut self.sets, level);
-                self.end_level();
+                let first = self.depth;
+                self.depth = self.few.climb(&mut self.board, &mut self.sets, first);
             } else {
                 self.spread();
                 self.put_off();

@@ -44,6 +44,12 @@ impl Numbers {
         }
     }
 
+    /// Whether there is a number at a place.
+    #[inline(always)]
+    pub(crate) fn is_inside(&self, place: u32) -> bool {
+        (place as usize) < self.items.len()
+    }
+
     /// Makes all numbers this one, of which there are so many from now on. The answer is whether there was memory for them.
     pub(crate) fn refill(&mut self, alloc: Global, number: u32, length: usize) -> bool {
         if self.items.len() == length {

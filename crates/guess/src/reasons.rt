@@ -205,15 +205,15 @@ impl Board {
     /// Whether a play may go on along an edge at a modality.
     #[inline(always)]
     pub(crate) fn leads(&self, number: u32, state: u32, target: u32) -> bool {
-        if self.reasons.is_none() {
-            return true;
-        }
+        self.reasons.is_none() || self.leads_by_reasons(number, state, target)
+    }
+
+    fn leads_by_reasons(&self, number: u32, state: u32, target: u32) -> bool {
         let node = self.form.node(number);
         node.shape != Shape::Box || self.is_reason(number, node.left, state, target)
     }
 
     /// The states of a word at which a play doesn't go on to a child of a node that has two.
-    #[inline(always)]
     pub(crate) fn barred(&self, number: u32, child: u32, word: u32) -> u64 {
         match &self.reasons {
             Some(reasons) => {
@@ -232,8 +232,8 @@ impl Board {
     /// The same at one state.
     #[inline(always)]
     pub(crate) fn is_barred(&self, place: Place, child: u32) -> bool {
-        let word = self.barred(place.node, child, place.state / WORD);
-        word & bit(place.state) != 0
+        self.reasons.is_some()
+            && self.barred(place.node, child, place.state / WORD) & bit(place.state) != 0
     }
 
     /// Whether a node is outside a component of which ranks are looked for: there Odd has won.

@@ -15,6 +15,9 @@ const FEW: u32 = 2000;
 // Before edges back are made so many states are looked at in their place: this often as many as there are.
 const PATIENCE: u64 = 4;
 
+// The same where edges lead nearby: then edges back are soon made.
+const PATIENCE_NEARBY: u64 = 1;
+
 /// A modality: the node, its operand, the kinds of labels that it takes, and what it waits for.
 #[derive(Clone, Copy)]
 pub(crate) struct Step {
@@ -278,7 +281,12 @@ impl Sets {
             return Way::Pull;
         }
         let spent = self.spent.saturating_add(u64::from(left));
-        if board.has_back() || spent > u64::from(board.states).saturating_mul(PATIENCE) {
+        let patience = if board.are_near {
+            PATIENCE_NEARBY
+        } else {
+            PATIENCE
+        };
+        if board.has_back() || spent > u64::from(board.states).saturating_mul(patience) {
             return Way::Push;
         }
         self.spent = spent;
