@@ -1,6 +1,7 @@
 // The files that a command writes beside its report.
 
 use crate::refusal::Refusal;
+use crate::same::{even_of, odd_of};
 use invocation::names::{EvidenceNames, is_drawing};
 use requests::error::MuError;
 use requests::request::{ReportForm, Wanted, WitnessForm};
@@ -94,20 +95,12 @@ impl<'a> Files<'a> {
 
     /// The file of Even's evidence.
     pub fn even(&'a self) -> FileWriter<'a> {
-        self.writer(
-            self.evidence_names
-                .as_ref()
-                .map(|names| names.even.as_str()),
-            &self.even,
-        )
+        self.writer(even_of(self.evidence_names.as_ref()), &self.even)
     }
 
     /// The file of Odd's evidence.
     pub fn odd(&'a self) -> FileWriter<'a> {
-        self.writer(
-            self.evidence_names.as_ref().map(|names| names.odd.as_str()),
-            &self.odd,
-        )
+        self.writer(odd_of(self.evidence_names.as_ref()), &self.odd)
     }
 
     /// A writer for each of them, and that of the report.

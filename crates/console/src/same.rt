@@ -32,6 +32,22 @@ struct Place<'a> {
     identity: Option<Identity<'a>>,
 }
 
+/// The file of Even's evidence, where evidence is asked for.
+pub(crate) fn even_of(evidence: Option<&EvidenceNames>) -> Option<&str> {
+    match evidence {
+        Some(names) => Some(names.even.as_str()),
+        None => None,
+    }
+}
+
+/// The file of Odd's.
+pub(crate) fn odd_of(evidence: Option<&EvidenceNames>) -> Option<&str> {
+    match evidence {
+        Some(names) => Some(names.odd.as_str()),
+        None => None,
+    }
+}
+
 /// Refuses a check that would write to a file twice, or to one that it reads, whatever their names are. What is no file, as a pipe or a
 /// terminal, has nothing that could be destroyed.
 ///
@@ -43,8 +59,7 @@ pub fn keep_apart<'a>(
     outputs: &Outputs<'a>,
     evidence: Option<&'a EvidenceNames>,
 ) -> Result<(), ArgumentError> {
-    let even = evidence.map(|names| names.even.as_str());
-    let odd = evidence.map(|names| names.odd.as_str());
+    let (even, odd) = (even_of(evidence), odd_of(evidence));
     all_apart(
         &[
             written(rt, CheckFile::Game, outputs.game),
@@ -69,8 +84,7 @@ pub fn keep_game_apart<'a>(
     solve: &Solve<'a>,
     evidence: Option<&'a EvidenceNames>,
 ) -> Result<(), MuError> {
-    let even = evidence.map(|names| names.even.as_str());
-    let odd = evidence.map(|names| names.odd.as_str());
+    let (even, odd) = (even_of(evidence), odd_of(evidence));
     let places = [
         written(rt, CheckFile::EvenEvidence, even),
         written(rt, CheckFile::OddEvidence, odd),
