@@ -69,7 +69,7 @@ def large(generator: str, questions: tuple[str, ...], actions: Actions, seconds:
 
 def protocol(generator: str, sizes: tuple[int, ...], quick: tuple[int, ...], actions: Actions) -> Systems:
     """A model of which all is asked."""
-    return Systems(generator, sizes, quick, actions, ALL, ALL, seconds=42)
+    return Systems(generator, sizes, quick, actions, ALL, ALL, seconds=60)
 
 
 def random_game(count: int, priorities: int) -> Game:
@@ -95,12 +95,12 @@ FAMILIES: dict[str, Systems | Games | Shared] = {
     "token-ring": protocol("token-ring", (12,), (5,), Actions('"enter(0)"', '"want(0)"', '"enter(0)"', "pass")),
     "elevator": protocol("elevator", (12,), (4,), Actions('"open(0)"', '"call(0)"', '"open(0)"', "close")),
     "window": protocol("window", (4, 3), (2, 2), Actions('"deliver(0)"', '"accept(0)"', '"deliver(0)"', "lose")),
-    "random": large("random", LARGE, LETTERS, seconds=170),
-    "live": large("live", LARGE, LETTERS, seconds=170),
-    "ring": large("ring", (*REACHING, ask.ENDLESS), Actions("home", "turn", "home", "home"), seconds=70),
-    "path": large("path", REACHING, Actions("arrive", "go", "arrive", "go"), seconds=50),
-    "chain": large("chain", REACHING, Actions("top", "up", "top", "down"), seconds=50),
-    "alternation": Systems("live", (20_000,), (200,), LETTERS, DEEP, DEEP, seconds=40),
+    "random": large("random", LARGE, LETTERS, seconds=90),
+    "live": large("live", LARGE, LETTERS, seconds=60),
+    "ring": large("ring", (*REACHING, ask.ENDLESS), Actions("home", "turn", "home", "home"), seconds=65),
+    "path": large("path", REACHING, Actions("arrive", "go", "arrive", "go"), seconds=20),
+    "chain": large("chain", REACHING, Actions("top", "up", "top", "down"), seconds=30),
+    "alternation": Systems("live", (20_000,), (200,), LETTERS, DEEP, DEEP, seconds=20),
     "ladders": Games(
         (
             Game("ladder", "ladder", (500_000,), (500,)),
@@ -108,9 +108,9 @@ FAMILIES: dict[str, Systems | Games | Shared] = {
             Game("recursive ladder, 15 levels", "recursive-ladder", (15, 1), (15, 1)),
             Game("recursive ladders, 15 levels", "recursive-ladder", (15, 1_334), (15, 13)),
         ),
-        seconds=50,
+        seconds=20,
     ),
-    "cliques": Games((Game("clique", "clique", (500,), (20,)), Game("clique", "clique", (2_000,), (50,))), seconds=30),
+    "cliques": Games((Game("clique", "clique", (500,), (20,)), Game("clique", "clique", (2_000,), (50,))), seconds=15),
     "climbs": Games(
         (
             Game("climb, 4 rows, Even wins", "climb", (4, 100, 0), (2, 10, 0)),
@@ -120,7 +120,7 @@ FAMILIES: dict[str, Systems | Games | Shared] = {
             Game("slow lifting, 3 levels", "slow-lifting", (3, 1_000), (3, 4)),
             Game("slow lifting, 10 levels", "slow-lifting", (10, 100), (10, 2)),
         ),
-        seconds=110,
+        seconds=20,
     ),
     "random-games": Games(
         (
@@ -132,7 +132,7 @@ FAMILIES: dict[str, Systems | Games | Shared] = {
             random_game(10_000, 30),
             random_game(100_000, 30),
         ),
-        seconds=130,
+        seconds=60,
     ),
     "layers": Games(
         (
@@ -140,7 +140,7 @@ FAMILIES: dict[str, Systems | Games | Shared] = {
             Game("stairs of 4", "stairs", (60_000, 4), (60, 4)),
             Game("stairs of 10", "stairs", (30_000, 10), (30, 10)),
         ),
-        seconds=30,
+        seconds=20,
     ),
     "products": Games(
         (
@@ -152,7 +152,7 @@ FAMILIES: dict[str, Systems | Games | Shared] = {
             product_game(170_000, 6),
             product_game(125_000, 8),
         ),
-        seconds=90,
+        seconds=60,
     ),
     "workers": Shared(
         (random_game(1_000_000, 4), random_game(1_000_000, 10), near_game(10), product_game(250_000, 4), product_game(170_000, 6)),
@@ -161,6 +161,6 @@ FAMILIES: dict[str, Systems | Games | Shared] = {
         (2_000,),
         LETTERS,
         LARGE,
-        seconds=160,
+        seconds=150,
     ),
 }

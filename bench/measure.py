@@ -10,17 +10,18 @@ from dataclasses import dataclass
 from pathlib import Path
 from select import select
 from time import monotonic, perf_counter
-from typing import Sequence
 
 SHORTEST_RUN = 0.5
+MOST_TURNS, SECONDS_OF_TURNS = 5, 4
 YES, NO = 0, 1
 KIB = 1024
 
 
 @dataclass(frozen=True)
 class Run:
-    """A run that ended, or was stopped at its limit; `told` is the first line of standard error."""
+    """A run of these words that ended, or was stopped at its limit; `told` is the first line of standard error."""
 
+    words: tuple[str | Path, ...]
     seconds: float
     limit: float
     peak_bytes: int
@@ -32,6 +33,11 @@ class Run:
     def is_answer(self) -> bool:
         """Whether it came to an end with an answer, and not with a refusal."""
         return not self.is_stopped and self.status in (YES, NO)
+
+    @property
+    def turns(self) -> int:
+        """How often it is made, since what is short differs from run to run: as often as some seconds allow."""
+        return max(1, min(MOST_TURNS, int(SECONDS_OF_TURNS / self.seconds))) if self.is_answer else 1
 
 
 class Stopwatch:
@@ -50,8 +56,22 @@ class Stopwatch:
         limit = min(self.longest_run, self.end - monotonic())
         return run(words, limit) if limit >= SHORTEST_RUN else None
 
+    def least(self, *firsts: Run | None) -> list[Run | None]:
+        """The shortest of all turns of each of these runs. They take turns, so that what else the machine does meets all of them."""
+        runs = list(firsts)
+        for turn in range(1, MOST_TURNS):
+            for place, first in enumerate(firsts):
+                if first and turn < first.turns:
+                    runs[place] = shorter(runs[place], self.run(*first.words))
+        return runs
 
-def run(words: Sequence[str | Path], limit: float) -> Run:
+
+def shorter(run: Run, other: Run | None) -> Run:
+    """The one that took less time, of those that came to an end."""
+    return other if other and other.is_answer and other.seconds < run.seconds else run
+
+
+def run(words: tuple[str | Path, ...], limit: float) -> Run:
     """Runs these words for so many seconds at most."""
     with tempfile.TemporaryFile() as told:
         began = perf_counter()
@@ -60,7 +80,7 @@ def run(words: Sequence[str | Path], limit: float) -> Run:
         seconds = perf_counter() - began
         told.seek(0)
         lines = told.read().decode(errors="replace").splitlines()
-    return Run(seconds, limit, usage.ru_maxrss * KIB, process.returncode, is_stopped, lines[0] if lines else "")
+    return Run(words, seconds, limit, usage.ru_maxrss * KIB, process.returncode, is_stopped, lines[0] if lines else "")
 
 
 def wait_for(process: subprocess.Popen, limit: float) -> tuple[bool, os.struct_rusage]:

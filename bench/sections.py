@@ -83,8 +83,7 @@ def systems_told(family: Systems, bench: Bench) -> str:
     stopwatch = bench.stopwatch
     file = bench.made("systems.py", family.generator, family.quick if bench.is_quick else family.sizes)
     _, transitions, states = first_line(file).strip("des ()\n").split(",")
-    cat = stopwatch.run("cat", file)
-    reading = stopwatch.run(bench.program, "check", file, bench.written("formula", READING), "--plain")
+    cat, reading = stopwatch.least(stopwatch.run("cat", file), system_reading(bench, file))
     rows = list(question_rows(family, bench, file, reading))
     return (
         f"{sentence(systems.SYSTEMS[family.generator].__doc__)} {int(states):,} states, {int(transitions):,} transitions, "
@@ -93,6 +92,11 @@ def systems_told(family: Systems, bench: Bench) -> str:
         f"Here the event is `{family.actions.event}`, the request `{family.actions.request}`, the answer `{family.actions.answer}` "
         f"and the excuse `{family.actions.excuse}`.\n\n{tables.table(QUESTION_HEAD + QUESTION_RATIOS, rows)}"
     )
+
+
+def system_reading(bench: Bench, file: Path) -> Run | None:
+    """Reading a system alone: a formula whose answer costs nothing."""
+    return bench.stopwatch.run(bench.program, "check", file, bench.written("formula", READING), "--plain")
 
 
 def question_rows(family: Systems, bench: Bench, file: Path, reading: Run | None) -> Iterator[list[str]]:
@@ -104,6 +108,7 @@ def question_rows(family: Systems, bench: Bench, file: Path, reading: Run | None
         is_done = game is not None and game.is_answer
         by_four = stopwatch.run(*words, "--workers", WORKERS) if is_done else None
         sets = stopwatch.run(*words, "--plain")
+        game, by_four, sets = stopwatch.least(game, by_four, sets)
         wanted = is_done and question in family.with_evidence
         evidence = stopwatch.run(*words, "--evidence", bench.evidence()) if wanted else None
         runs = (game, by_four, sets, evidence)
@@ -134,10 +139,9 @@ def game_row(game: Game, bench: Bench) -> list[str]:
     stopwatch = bench.stopwatch
     file = bench.made("games.py", game.generator, game.quick if bench.is_quick else game.sizes)
     vertices = int(first_line(file).strip("parity ;\n")) + 1
-    cat = stopwatch.run("cat", file)
-    reading = game_reading(bench, file)
-    one = stopwatch.run(bench.program, "solve", file)
+    cat, reading, one = stopwatch.run("cat", file), game_reading(bench, file), stopwatch.run(bench.program, "solve", file)
     by_four = stopwatch.run(bench.program, "solve", file, "--workers", WORKERS) if one and one.is_answer else None
+    cat, reading, one, by_four = stopwatch.least(cat, reading, one, by_four)
     cells = [cell for run in (reading, one, by_four) for cell in (tables.seconds(run), tables.memory(run))]
     ratios = [tables.ratio(*pair) for pair in ((reading, cat), (one, reading), (by_four, one))]
     return [game.title, f"{vertices:,}", tables.size_of(file), tables.seconds(cat), *cells, *ratios]
@@ -163,13 +167,14 @@ def shared_games(family: Shared, bench: Bench) -> Iterator[list[str]]:
     """The row of each game."""
     for game in family.games:
         file = bench.made("games.py", game.generator, game.quick if bench.is_quick else game.sizes)
-        yield shared_row(game.title, (bench.program, "solve", file), game_reading(bench, file), bench)
+        [reading] = bench.stopwatch.least(game_reading(bench, file))
+        yield shared_row(game.title, (bench.program, "solve", file), reading, bench)
 
 
 def shared_questions(family: Shared, bench: Bench) -> Iterator[list[str]]:
     """The row of each question."""
     file = bench.made("systems.py", family.generator, family.quick if bench.is_quick else family.sizes)
-    reading = bench.stopwatch.run(bench.program, "check", file, bench.written("formula", READING), "--plain")
+    [reading] = bench.stopwatch.least(system_reading(bench, file))
     for question in family.questions:
         words = (bench.program, "check", file, bench.written("formula", formula(question, family.actions)))
         yield shared_row(question, words, reading, bench)
@@ -182,6 +187,7 @@ def shared_row(title: str, words: tuple[str | Path, ...], reading: Run | None, b
     some = stopwatch.run(*words, "--workers", WORKERS)
     many = stopwatch.run(*words, "--workers", MANY_WORKERS)
     locked = stopwatch.run(*words, "--workers", WORKERS, "--board", "locked", "--shards", MOST_SHARDS)
+    one, some, many, locked = stopwatch.least(one, some, many, locked)
     cells = [cell for run in (one, some) for cell in (tables.seconds(run), tables.memory(run))]
     ratios = [tables.ratio(one, some), tables.ratio_past(one, some, reading), tables.ratio(many, some), tables.ratio(locked, some)]
     return [title, tables.seconds(reading), *cells, tables.seconds(many), tables.seconds(locked), *ratios, tables.memory_ratio(some, one)]
