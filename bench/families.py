@@ -42,6 +42,18 @@ class Games:
 
 
 @dataclass(frozen=True)
+class Arenas:
+    """The games of questions on a system, by its generator in `systems.py` and its numbers, full and quick."""
+
+    generator: str
+    sizes: tuple[int, ...]
+    quick: tuple[int, ...]
+    actions: Actions
+    questions: tuple[str, ...]
+    seconds: int
+
+
+@dataclass(frozen=True)
 class Shared:
     """Work for several workers: games, and questions on a system, by its generator in `systems.py`."""
 
@@ -87,7 +99,7 @@ def product_game(states: int, depth: int) -> Game:
     return Game(f"product, {depth} priorities", "product", (states, 3, depth), (states // 1_000, 3, depth))
 
 
-FAMILIES: dict[str, Systems | Games | Shared] = {
+FAMILIES: dict[str, Systems | Games | Arenas | Shared] = {
     "philosophers": protocol("philosophers", (13,), (6,), Actions('"eat(0)"', '"take(0)"', '"eat(0)"', '"leave(1)"')),
     "counter": protocol("counter", (17,), (8,), Actions("carry", "reset", "carry", "(idle || reset)")),
     "buffer": protocol("buffer", (11, 3), (6, 2), Actions('"get(0)"', '"put(0)"', '"get(0)"', '"get(1)"')),
@@ -154,6 +166,7 @@ FAMILIES: dict[str, Systems | Games | Shared] = {
         ),
         seconds=60,
     ),
+    "arenas": Arenas("live", (1_000_000,), (2_000,), LETTERS, (ask.NOTHING, ask.RESPONSE, ask.ENDLESS), seconds=60),
     "workers": Shared(
         (random_game(1_000_000, 4), random_game(1_000_000, 10), near_game(10), product_game(250_000, 4), product_game(170_000, 6)),
         "random",

@@ -11,7 +11,7 @@ from typing import Iterator
 import games
 import systems
 import tables
-from families import Game, Games, Shared, Systems
+from families import Arenas, Game, Games, Shared, Systems
 from measure import Run, Stopwatch
 from questions import READING, formula
 
@@ -29,9 +29,9 @@ class Bench:
     folder: Path
     is_quick: bool
 
-    def made(self, maker: str, generator: str, sizes: tuple[int, ...]) -> Path:
-        """The file with the text that this generator makes."""
-        file = self.folder / "text"
+    def made(self, maker: str, generator: str, sizes: tuple[int, ...], name: str = "text") -> Path:
+        """The file of this name with the text that this generator makes."""
+        file = self.folder / name
         with file.open("wb") as out:
             subprocess.run([sys.executable, "-B", HERE / maker, generator, *map(str, sizes)], stdout=out, check=True)
         return file
@@ -51,13 +51,15 @@ class Bench:
         return self.folder / "evidence"
 
 
-def section(name: str, family: Systems | Games | Shared, bench: Bench) -> str:
+def section(name: str, family: Systems | Games | Arenas | Shared, bench: Bench) -> str:
     """The title of a family, and its table. What time other families left is there for this one, too."""
     bench.stopwatch.add(QUICK_SECONDS if bench.is_quick else family.seconds)
     if isinstance(family, Systems):
         told = systems_told(family, bench)
     elif isinstance(family, Games):
         told = games_told(family, bench)
+    elif isinstance(family, Arenas):
+        told = arenas_told(family, bench)
     else:
         told = shared_told(family, bench)
     return f"## {name}\n\n{told}"
@@ -117,8 +119,8 @@ def question_rows(family: Systems, bench: Bench, file: Path, reading: Run | None
         yield [question, tables.answer(runs), *cells, *ratios]
 
 
-GAME_HEAD = ["Game", "Vertices", "Text, MB", "`cat`, s", "Reading, s", "MB", "1 worker, s", "MB", "4 workers, s", "MB"]
-GAME_RATIOS = ["Reading / `cat`", "1 worker / reading", "4 workers / 1"]
+GAME_HEAD = ["Vertices", "Text, MB", "`cat`, s", "Reading, s", "MB", "1 worker, s", "MB", "4 workers, s", "MB", "Evidence, s", "MB"]
+GAME_RATIOS = ["Reading / `cat`", "1 worker / reading", "4 workers / 1", "Evidence / 1 worker"]
 
 
 def games_told(family: Games, bench: Bench) -> str:
@@ -126,7 +128,7 @@ def games_told(family: Games, bench: Bench) -> str:
     rows = [game_row(game, bench) for game in family.games]
     generators = dict.fromkeys(game.generator for game in family.games)
     kinds = "\n".join(f"- {generator}: {sentence(games.GAMES[generator].__doc__)}" for generator in generators)
-    return f"{kinds}\n\n{tables.table(GAME_HEAD + GAME_RATIOS, rows)}"
+    return f"{kinds}\n\n{tables.table(['Game', *GAME_HEAD, *GAME_RATIOS], rows)}"
 
 
 def game_reading(bench: Bench, file: Path) -> Run | None:
@@ -136,15 +138,41 @@ def game_reading(bench: Bench, file: Path) -> Run | None:
 
 def game_row(game: Game, bench: Bench) -> list[str]:
     """The row of a game."""
-    stopwatch = bench.stopwatch
     file = bench.made("games.py", game.generator, game.quick if bench.is_quick else game.sizes)
+    return [game.title, *game_cells(bench, file)]
+
+
+def game_cells(bench: Bench, file: Path) -> list[str]:
+    """What it takes to read a game, to solve it by one worker and by four, and to solve it with the evidence of both players."""
+    stopwatch = bench.stopwatch
     vertices = int(first_line(file).strip("parity ;\n")) + 1
     cat, reading, one = stopwatch.run("cat", file), game_reading(bench, file), stopwatch.run(bench.program, "solve", file)
-    by_four = stopwatch.run(bench.program, "solve", file, "--workers", WORKERS) if one and one.is_answer else None
-    cat, reading, one, by_four = stopwatch.least(cat, reading, one, by_four)
-    cells = [cell for run in (reading, one, by_four) for cell in (tables.seconds(run), tables.memory(run))]
-    ratios = [tables.ratio(*pair) for pair in ((reading, cat), (one, reading), (by_four, one))]
-    return [game.title, f"{vertices:,}", tables.size_of(file), tables.seconds(cat), *cells, *ratios]
+    is_done = one is not None and one.is_answer
+    by_four = stopwatch.run(bench.program, "solve", file, "--workers", WORKERS) if is_done else None
+    evidence = stopwatch.run(bench.program, "solve", file, "--evidence", bench.evidence()) if is_done else None
+    cat, reading, one, by_four, evidence = stopwatch.least(cat, reading, one, by_four, evidence)
+    cells = [cell for run in (reading, one, by_four, evidence) for cell in (tables.seconds(run), tables.memory(run))]
+    ratios = [tables.ratio(*pair) for pair in ((reading, cat), (one, reading), (by_four, one), (evidence, one))]
+    return [f"{vertices:,}", tables.size_of(file), tables.seconds(cat), *cells, *ratios]
+
+
+def arenas_told(family: Arenas, bench: Bench) -> str:
+    """The games of questions on a system, each written as a text and solved as such."""
+    system = bench.made("systems.py", family.generator, family.quick if bench.is_quick else family.sizes, "system")
+    rows = [[question, *game_cells(bench, arena(question, system, family, bench))] for question in family.questions]
+    return (
+        f"The games of questions on the system `{family.generator}` of {(family.quick if bench.is_quick else family.sizes)[0]:,} states, "
+        f"written by `check --game` and solved as texts, of which nothing but the text is known.\n\n"
+        f"{tables.table(['Question', *GAME_HEAD, *GAME_RATIOS], rows)}"
+    )
+
+
+def arena(question: str, system: Path, family: Arenas, bench: Bench) -> Path:
+    """The file with the game of this question."""
+    file = bench.folder / "text"
+    words = (bench.program, "check", system, bench.written("formula", formula(question, family.actions)), "--quiet", "--game", file)
+    subprocess.run(words, stdout=subprocess.DEVNULL, stderr=subprocess.DEVNULL)
+    return file
 
 
 SHARED_HEAD = ["Work", "Reading, s", "1 worker, s", "MB", "4 workers, s", "MB", "64 workers, s", "4 workers, locked, s"]
