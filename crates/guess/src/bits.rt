@@ -202,10 +202,6 @@ impl Fronts {
         self.words.first_within(node, block.wrapping_mul(WORD))
     }
 
-    pub(crate) fn is_empty(&self, node: u32) -> bool {
-        self.next(node, 0).is_none()
-    }
-
     pub(crate) fn count(&self, node: u32) -> u32 {
         let mut count = 0_u32;
         let mut from = 0;

@@ -80,11 +80,6 @@ impl Numbers {
         }
     }
 
-    /// Makes all numbers this one.
-    pub(crate) fn fill(&mut self, number: u32) {
-        self.items.fill(number);
-    }
-
     /// Makes each number the sum of those up to it.
     pub(crate) fn sum_up(&mut self) {
         let mut sum = 0_u32;
