@@ -114,6 +114,14 @@ impl Sets {
         }
     }
 
+    /// The same at the states of all words.
+    pub(crate) fn note_row(&mut self, node: u32, bits: &[u64]) {
+        self.noted.add_row(node, bits);
+        if self.bars {
+            self.open.remove_row(node, bits);
+        }
+    }
+
     /// Says whether what was noted is final in no later round. Nothing is final from the beginning, or never.
     pub(crate) fn bar_noted(&mut self, alloc: Global, states: u32, bars: bool) {
         self.bars = bars;
