@@ -2,7 +2,7 @@
 
 use crate::bits::{Sheet, WORD, bit};
 use crate::codes::Codes;
-use crate::edges::{Edges, takes};
+use crate::edges::{Edges, kinds_of, takes};
 use crate::form::{Form, Side};
 use crate::layout::Layout;
 use crate::numbers::{Numbers, Words};
@@ -168,6 +168,17 @@ impl Board {
             Some(edges) => edges.row(state),
             None => &[],
         }
+    }
+
+    /// The kinds of the edges from each state of a word, as bits.
+    pub(crate) fn kinds_in(&self, word: u32) -> [u64; WORD as usize] {
+        let mut kinds = [0; WORD as usize];
+        let mut state = word.saturating_mul(WORD);
+        for kind in &mut kinds {
+            *kind = kinds_of(self.forth.row(state));
+            state = state.saturating_add(1);
+        }
+        kinds
     }
 
     /// Whether an edge from a state is of a kind in a mask.

@@ -13,6 +13,9 @@ use std::mem;
 // Above this part of all states, all is found anew.
 const MANY: u32 = 20;
 
+// Up to so many levels are soon found.
+const FEW_LEVELS: u32 = 2;
+
 /// What held binders lose next.
 #[derive(Drop)]
 struct Gone {
@@ -100,10 +103,14 @@ impl Levels {
         self.sets.done.word(node, word) & !self.sets.done.word(operand, word)
     }
 
-    // Finds the states of held binders at which the operand isn't final.
+    // Finds the states of held binders at which the operand isn't final. Before edges back are made, few of them count as many where all is
+    // soon found anew.
     fn find_gone(&mut self, held: Held, gone: &mut Gone) {
         gone.clear();
-        gone.are_many = self.count_gone(held) > self.most_places();
+        let count = self.count_gone(held);
+        let is_soon = self.board.exits == Exits::Marks && self.count() <= FEW_LEVELS;
+        gone.are_many = count > self.most_places()
+            || (count > 0 && is_soon && self.sets.looks_on(&self.board, self.board.states));
         if gone.are_many {
             return;
         }
