@@ -1,6 +1,7 @@
 // Sets of states, one for each node, as bits.
 
 use crate::stock::Stock;
+use std::ops::Range;
 
 /// How many states have their bits in one word.
 pub(crate) const WORD: u32 = 64;
@@ -14,6 +15,59 @@ pub(crate) fn bit(state: u32) -> u64 {
 /// How many words hold so many bits.
 pub(crate) fn words_for(bits: u32) -> u32 {
     bits.div_ceil(WORD)
+}
+
+// Adds the states of words to others.
+fn add_to(words: &mut [u64], bits: &[u64]) {
+    for at in 0..words.len().min(bits.len()) {
+        words[at] |= bits[at];
+    }
+}
+
+// Takes the states of words away from others.
+fn remove_from(words: &mut [u64], bits: &[u64]) {
+    for at in 0..words.len().min(bits.len()) {
+        words[at] &= !bits[at];
+    }
+}
+
+// The same of those that are kept.
+fn add_within(words: &mut [u64], bits: &[u64], kept: &[u64]) {
+    for at in 0..words.len().min(bits.len()).min(kept.len()) {
+        words[at] |= bits[at] & kept[at];
+    }
+}
+
+fn remove_within(words: &mut [u64], bits: &[u64], kept: &[u64]) {
+    for at in 0..words.len().min(bits.len()).min(kept.len()) {
+        words[at] &= !(bits[at] & kept[at]);
+    }
+}
+
+/// Whether states of words are all kept.
+pub(crate) fn are_within(bits: &[u64], kept: &[u64]) -> bool {
+    for at in 0..bits.len().min(kept.len()) {
+        if bits[at] & !kept[at] != 0 {
+            return false;
+        }
+    }
+    bits.len() <= kept.len()
+}
+
+/// Whether some are.
+pub(crate) fn meet(bits: &[u64], kept: &[u64]) -> bool {
+    for at in 0..bits.len().min(kept.len()) {
+        if bits[at] & kept[at] != 0 {
+            return true;
+        }
+    }
+    false
+}
+
+fn copy_to(words: &mut [u64], bits: &[u64]) {
+    for at in 0..words.len().min(bits.len()) {
+        words[at] = bits[at];
+    }
 }
 
 /// A set for each node. Past the last word of the last node nothing is read but zero, and nothing is written.
@@ -117,10 +171,87 @@ impl Sheet {
 
     /// Makes a node's set all states, or none.
     pub(crate) fn fill(&mut self, node: u32, is_in: bool) {
-        for word in 0..self.width {
-            let bits = if is_in { self.full(word) } else { 0 };
-            self.set_word(node, word, bits);
+        let Range { start, end } = self.range(node);
+        if start <= end && end <= self.words.len() {
+            self.words[start..end].fill(if is_in { u64::MAX } else { 0 });
         }
+        if is_in {
+            self.cut(node);
+        }
+    }
+
+    // Takes away from a node's set what are no states.
+    fn cut(&mut self, node: u32) {
+        let last = self.width.saturating_sub(1);
+        let bits = self.word(node, last) & self.full(last);
+        self.set_word(node, last, bits);
+    }
+
+    // Where the words of a node's set are.
+    fn range(&self, node: u32) -> Range<usize> {
+        let width = self.width as usize;
+        let start = (node as usize).saturating_mul(width);
+        start..start.saturating_add(width)
+    }
+
+    /// The words of a node's set.
+    pub(crate) fn row(&self, node: u32) -> &[u64] {
+        let Range { start, end } = self.range(node);
+        if start <= end && end <= self.words.len() {
+            &self.words[start..end]
+        } else {
+            &[]
+        }
+    }
+
+    /// Adds all states of these words.
+    pub(crate) fn add_row(&mut self, node: u32, bits: &[u64]) {
+        let Range { start, end } = self.range(node);
+        if start <= end && end <= self.words.len() {
+            add_to(&mut self.words[start..end], bits);
+        }
+    }
+
+    /// Takes all states of these words away.
+    pub(crate) fn remove_row(&mut self, node: u32, bits: &[u64]) {
+        let Range { start, end } = self.range(node);
+        if start <= end && end <= self.words.len() {
+            remove_from(&mut self.words[start..end], bits);
+        }
+    }
+
+    /// Adds the states of these words that are kept.
+    pub(crate) fn add_row_within(&mut self, node: u32, bits: &[u64], kept: &[u64]) {
+        let Range { start, end } = self.range(node);
+        if start <= end && end <= self.words.len() {
+            add_within(&mut self.words[start..end], bits, kept);
+        }
+    }
+
+    /// Takes those away.
+    pub(crate) fn remove_row_within(&mut self, node: u32, bits: &[u64], kept: &[u64]) {
+        let Range { start, end } = self.range(node);
+        if start <= end && end <= self.words.len() {
+            remove_within(&mut self.words[start..end], bits, kept);
+        }
+    }
+
+    /// Makes a node's set the states of these words.
+    pub(crate) fn set_row(&mut self, node: u32, bits: &[u64]) {
+        let Range { start, end } = self.range(node);
+        if start <= end && end <= self.words.len() {
+            copy_to(&mut self.words[start..end], bits);
+        }
+    }
+
+    /// Makes a node's set all states but those of these words.
+    pub(crate) fn set_rest(&mut self, node: u32, bits: &[u64]) {
+        let Range { start, end } = self.range(node);
+        if start <= end && end <= self.words.len() {
+            self.words[start..end].fill(u64::MAX);
+            remove_from(&mut self.words[start..end], bits);
+        }
+        self.cut(node);
     }
 
     // The first bit of a set from one on that is in the same word.
@@ -200,10 +331,6 @@ impl Fronts {
         }
         let block = self.next_block(node, (from / WORD).saturating_add(1))?;
         self.words.first_within(node, block.wrapping_mul(WORD))
-    }
-
-    pub(crate) fn is_empty(&self, node: u32) -> bool {
-        self.next(node, 0).is_none()
     }
 
     pub(crate) fn count(&self, node: u32) -> u32 {

@@ -1,10 +1,12 @@
 // What is known of each node at each state.
 
 use crate::bits::{Sheet, WORD, bit};
-use crate::edges::{Edges, takes};
+use crate::codes::Codes;
+use crate::edges::{Edges, kinds_of, takes};
 use crate::form::{Form, Side};
 use crate::layout::Layout;
 use crate::numbers::{Numbers, Words};
+use crate::pairs::{Pairs, no_pairs};
 use crate::reasons::Reasons;
 use crate::scale::{Scale, TOP, ZERO};
 use crate::stock::Stock;
@@ -36,7 +38,7 @@ pub(crate) enum Exits {
 /// Values, levels and rounds by node and state, with the edges and nodes that they are of. Variables are as their binders.
 #[derive(Drop)]
 pub(crate) struct Board {
-    alloc: Global,
+    pub(crate) alloc: Global,
     pub(crate) states: u32,
     pub(crate) forth: Edges,
     /// Whether edges lead nearby.
@@ -51,6 +53,12 @@ pub(crate) struct Board {
     pub(crate) words: Vec<Words>,
     pub(crate) levels: Vec<Numbers>,
     pub(crate) rounds: Vec<Numbers>,
+    /// The rounds of nodes that have no list of them.
+    pub(crate) times: Codes,
+    /// The ranks of nodes that have no list of words.
+    pub(crate) codes: Codes,
+    /// Which of those each player has, where they are two at most.
+    pub(crate) pairs: Vec<Pairs>,
     /// Ranks that are kept for each node and state, as words.
     pub(crate) ranks: Vec<Words>,
     /// Where their counts stand.
@@ -87,15 +95,6 @@ fn no_knowledge(stock: &mut Stock, nodes: u32) -> Vec<Known> {
         stock.note(known.push(Known::Tops).is_ok());
     }
     known
-}
-
-// Makes room for so many numbers, all `NEVER` if they are to be read before they are written. The answer is whether there was memory for them.
-fn open_numbers(numbers: &mut Numbers, alloc: Global, length: usize, are_read: bool) -> bool {
-    if are_read {
-        numbers.refill(alloc, NEVER, length)
-    } else {
-        numbers.make_room(alloc, length)
-    }
 }
 
 // Writes a number at these states of a word.
@@ -137,6 +136,9 @@ impl Board {
             words: no_words(stock, count),
             levels: no_numbers(stock, count),
             rounds: no_numbers(stock, count),
+            times: Codes::new(stock, count, states),
+            codes: Codes::new(stock, count, states),
+            pairs: no_pairs(stock, count),
             ranks: no_words(stock, count),
             layout: None,
             reasons: None,
@@ -166,6 +168,17 @@ impl Board {
             Some(edges) => edges.row(state),
             None => &[],
         }
+    }
+
+    /// The kinds of the edges from each state of a word, as bits.
+    pub(crate) fn kinds_in(&self, word: u32) -> [u64; WORD as usize] {
+        let mut kinds = [0; WORD as usize];
+        let mut state = word.saturating_mul(WORD);
+        for kind in &mut kinds {
+            *kind = kinds_of(self.forth.row(state));
+            state = state.saturating_add(1);
+        }
+        kinds
     }
 
     /// Whether an edge from a state is of a kind in a mask.
@@ -339,10 +352,11 @@ impl Board {
 
     /// Forgets a node's rounds. Where winners alone are looked for, they are read only where they are noted.
     pub(crate) fn clear_rounds(&mut self, alloc: Global, node: u32) {
-        let is_read = self.exits == Exits::Values;
         let length = self.states as usize;
-        if let Some(rounds) = self.rounds.get_mut(node as usize) {
-            self.is_whole &= open_numbers(rounds, alloc, length, is_read);
+        if self.exits == Exits::Values
+            && let Some(rounds) = self.rounds.get_mut(node as usize)
+        {
+            self.is_whole &= rounds.refill(alloc, NEVER, length);
         }
     }
 

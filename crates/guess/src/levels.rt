@@ -450,6 +450,7 @@ impl Levels {
     fn step(&mut self, step: Step) {
         match self.sets.way(&self.board, step) {
             Way::None => {}
+            Way::Whole => self.sets.add_whole(&self.board, step),
             Way::Pull => self.sets.pull(&self.board, step),
             Way::Push => {
                 self.board.open_back(self.alloc);

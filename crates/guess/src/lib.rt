@@ -5,6 +5,7 @@
 mod bits;
 mod blocks;
 mod board;
+mod codes;
 pub mod columns;
 mod deep;
 mod edges;
@@ -16,6 +17,7 @@ mod levels;
 mod nested;
 mod numbers;
 mod order;
+mod pairs;
 mod places;
 pub mod ranks;
 mod reasons;

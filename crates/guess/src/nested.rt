@@ -1,15 +1,14 @@
 // Components of three blocks of binders or more, and for ranks of fewer. The binders of all but the lowest are held. Whenever those of a
 // block have lost states, all below is found anew.
 
-use crate::bits::{Sheet, WORD, bit};
+use crate::bits::Sheet;
 use crate::blocks::Blocks;
+use crate::codes::Writing;
 use crate::layout::Layout;
 use crate::levels::Levels;
-use crate::places::{Place, Places};
-use crate::rounds::{Held, KNOWN, inner_time, outer_time};
-use crate::set_rounds::push_word;
+use crate::rounds::{Held, inner_time, outer_time};
 use crate::stock::Stock;
-use crate::written::{Below, Writing};
+use crate::written::Below;
 use std::alloc::Global;
 
 /// A block above the two lowest ones.
@@ -31,6 +30,10 @@ struct Nest {
     outers: Vec<Outer>,
     /// Where counts stand in words, if these are wanted.
     layout: Option<Layout>,
+    /// What binders of a block lose.
+    lost: Sheet,
+    /// The states at hand of one node.
+    fresh: Sheet,
     /// Whether all counts fit their fields.
     fits: bool,
     /// Whether there was memory for all blocks.
@@ -59,48 +62,27 @@ impl Levels {
         budget: &mut u64,
     ) -> bool {
         let mut nest = self.nest(alloc, part, blocks, layout);
-        let mut gone = Places::new(alloc);
         for _ in 0..u32::MAX {
             *budget = budget.saturating_sub(self.size());
             self.run(alloc, part, blocks.order());
             if !self.run_sets(alloc, nest.inner, budget) {
                 return false;
             }
-            if !nest.turn(self, &mut gone) {
+            if !nest.turn(self) {
                 break;
             }
         }
         nest.end(self);
-        nest.fits && nest.is_whole && gone.is_whole()
-    }
-
-    // Finds the states that the held binders of any block lose to their operands.
-    fn find_lost(&self, held: Held, lost: &mut Places) {
-        for node in held.part..self.board.form.count() {
-            if self.parts.get(node) != held.held {
-                continue;
-            }
-            self.find_lost_of(held, node, lost);
-        }
-    }
-
-    fn find_lost_of(&self, held: Held, node: u32, lost: &mut Places) {
-        let [operand, _] = self.board.form.operands(node);
-        for word in 0..self.sets.noted.width() {
-            let bits = self.gained(held, operand, word) & !self.gained(held, node, word);
-            push_word(lost, node, word, bits);
-        }
+        nest.fits && nest.is_whole
     }
 
     // Holds the binders of all blocks but the lowest.
     fn nest(&mut self, alloc: Global, part: u32, blocks: &Blocks, layout: Option<Layout>) -> Nest {
+        let mut stock = Stock::new(alloc);
         let nodes = self.board.form.count();
         let inner = Held::of(&self.board.form, part, blocks, 1);
         self.hold(alloc, inner);
         self.sets.open_given(alloc, nodes, self.board.states);
-        if layout.is_some() {
-            self.make_words(alloc, part);
-        }
         let mut nest = Nest {
             part,
             nodes,
@@ -108,8 +90,10 @@ impl Levels {
             inner,
             outers: Vec::new(alloc),
             layout,
+            lost: Sheet::new(&mut stock, nodes, self.board.states),
+            fresh: Sheet::new(&mut stock, 1, self.board.states),
             fits: true,
-            is_whole: true,
+            is_whole: stock.is_whole(),
         };
         for block in 2..blocks.count() {
             let held = Held::of(&self.board.form, part, blocks, block);
@@ -118,15 +102,6 @@ impl Levels {
         }
         nest.give(self);
         nest
-    }
-
-    // Makes room for the words of a component.
-    fn make_words(&mut self, alloc: Global, part: u32) {
-        for number in part..self.board.form.count() {
-            if self.is_real(part, number) && self.parts.get(number) != KNOWN {
-                self.board.make_words(alloc, number);
-            }
-        }
     }
 }
 
@@ -144,17 +119,15 @@ impl Nest {
     }
 
     // Another round of the lowest block whose binders lose states. The answer is whether there is one.
-    fn turn(&mut self, levels: &mut Levels, gone: &mut Places) -> bool {
+    fn turn(&mut self, levels: &mut Levels) -> bool {
         for at in 0..self.outers.len() {
             let Some(outer) = self.outers.get(at) else {
                 break;
             };
             let held = outer.held;
             self.keep(levels, at, held);
-            gone.clear();
-            levels.find_lost(held, gone);
-            if !gone.is_empty() {
-                self.lose(levels, at, gone.as_slice());
+            if self.find_lost(levels, held) {
+                self.lose(levels, at);
                 self.restart(levels, at);
                 self.give(levels);
                 return true;
@@ -163,61 +136,72 @@ impl Nest {
         false
     }
 
-    // The states of a word whose words are known from a block on.
-    fn known(&self, at: usize, number: u32, word: u32) -> u64 {
-        let mut bits = 0;
-        for outer in self.outers.iter().skip(at) {
-            bits |= outer.won.word(number, word);
+    // Finds the states that the binders of a block lose. The answer is whether there are some.
+    fn find_lost(&mut self, levels: &Levels, held: Held) -> bool {
+        let mut some = false;
+        for node in self.part..self.nodes {
+            if levels.parts.get(node) == held.held {
+                some |= self.find_lost_of(levels, held, node);
+            }
         }
-        bits
+        some
+    }
+
+    fn find_lost_of(&mut self, levels: &Levels, held: Held, node: u32) -> bool {
+        let [operand, _] = levels.board.form.operands(node);
+        levels.board.gain(held, operand, &mut self.lost, node);
+        levels.board.gain(held, node, &mut self.fresh, 0);
+        self.lost.remove_row(node, self.fresh.row(0));
+        !self.lost.is_empty(node)
     }
 
     // Keeps the words of what was gained in a round of a block.
     fn keep(&mut self, levels: &mut Levels, at: usize, held: Held) {
         for number in self.part..self.nodes {
             if levels.is_below(held, number) {
-                self.keep_node(levels, at, held, number);
+                levels.board.gain(held, number, &mut self.fresh, 0);
+                self.keep_fresh(levels, at, number);
             }
         }
     }
 
-    fn keep_node(&mut self, levels: &mut Levels, at: usize, held: Held, number: u32) {
-        for word in 0..levels.sets.noted.width() {
-            let bits = levels.gained(held, number, word) & !self.known(at, number, word);
-            if bits != 0 {
-                self.keep_word(levels, at, number, word, bits);
-            }
-        }
-    }
-
-    fn keep_word(&mut self, levels: &mut Levels, at: usize, number: u32, word: u32, bits: u64) {
+    // Keeps the words of these states of a node that aren't known from a block on.
+    fn keep_fresh(&mut self, levels: &mut Levels, at: usize, number: u32) {
+        self.forget_known(at, number);
         let Some(outer) = self.outers.get_mut(at) else {
             return;
         };
-        outer.won.add(number, word, bits);
+        if self.fresh.is_empty(0) {
+            return;
+        }
+        outer.won.add_row(number, self.fresh.row(0));
         let (held, time) = (outer.held, inner_time(outer.round));
         let count = self.count(held.is_odd(), held.priority, time);
-        self.write(levels, at, number, word, bits, count);
+        self.write(levels, at, number, count);
     }
 
-    // Writes the words of a node at these states: a count, and below it what there is in the fields of lesser blocks.
-    fn write(
-        &mut self,
-        levels: &mut Levels,
-        at: usize,
-        node: u32,
-        word: u32,
-        bits: u64,
-        count: u64,
-    ) {
+    // Takes away from the states at hand those whose words are known from a block on.
+    fn forget_known(&mut self, at: usize, number: u32) {
+        for outer in self.outers.iter().skip(at) {
+            self.fresh.remove_row(0, outer.won.row(number));
+        }
+    }
+
+    // Writes the words of a node at the states at hand: a count, and below it what there is in the fields of lesser blocks.
+    fn write(&mut self, levels: &mut Levels, at: usize, node: u32, count: u64) {
         if self.layout.is_none() {
             return;
         }
-        let (kept, below) = self.below(levels, at, node, word);
+        let below = self.below(levels, at, node);
+        let kept = match (below, at.checked_sub(2).and_then(|at| self.outers.get(at))) {
+            (Below::Words, Some(outer)) => outer.won.row(node),
+            (Below::Rounds(_), _) => levels.sets.noted.row(node),
+            (Below::Levels(_), _) => self.fresh.row(0),
+            _ => &[],
+        };
         let writing = Writing {
             node,
-            word,
-            bits,
+            bits: self.fresh.row(0),
             kept,
             count,
         };
@@ -244,52 +228,58 @@ impl Nest {
         self.count(is_even, priority, 1)
     }
 
-    // What the player for whom the rounds of a block are counted has in the fields of lesser blocks, and at which states of a word.
-    fn below(&mut self, levels: &Levels, at: usize, number: u32, word: u32) -> (u64, Below) {
-        let none = (0, Below::Words);
-        match at.checked_sub(2) {
-            Some(below) => match self.outers.get(below) {
-                Some(outer) => (outer.won.word(number, word), Below::Words),
-                None => none,
-            },
-            None if at == 1 && levels.sets.noted.word(number, word) != 0 => {
+    // What the player for whom the rounds of a block are counted has in the fields of lesser blocks.
+    fn below(&mut self, levels: &Levels, at: usize, number: u32) -> Below {
+        match at {
+            0 if levels.is_inside(number) => {
+                let unit = self.unit(self.low % 2 == 1, self.low, levels.count());
+                Below::Levels(unit)
+            }
+            0 => Below::Nothing,
+            1 if levels.sets.noted.is_empty(number) => Below::Nothing,
+            1 => {
                 let most = levels.most_time().saturating_add(2);
                 let unit = self.unit(self.inner.is_odd(), self.inner.priority, most);
-                let noted = levels.sets.noted.word(number, word);
-                (noted, Below::Rounds(unit))
+                Below::Rounds(unit)
             }
-            None if at == 0 && levels.is_inside(number) => {
-                let unit = self.unit(self.low % 2 == 1, self.low, levels.count());
-                (u64::MAX, Below::Levels(unit))
-            }
-            None => none,
+            _ => Below::Words,
         }
     }
 
-    // The binders of a block lose these places.
-    fn lose(&mut self, levels: &mut Levels, at: usize, gone: &[Place]) {
+    // The binders of a block lose the states that were found.
+    fn lose(&mut self, levels: &mut Levels, at: usize) {
         let Some(outer) = self.outers.get_mut(at) else {
             return;
         };
-        let (held, round) = (outer.held, outer.round);
-        outer.round = round.saturating_add(1);
-        levels.mark(held, gone, round);
-        let word = self.count(held.is_odd(), held.priority, outer_time(round));
-        for place in gone {
-            let Place { node, state } = *place;
-            let bits = bit(state);
-            if self.known(at, node, state / WORD) & bits == 0 {
-                self.set_word(levels, node, state, word);
-                if let Some(outer) = self.outers.get_mut(at) {
-                    outer.won.add(node, state / WORD, bits);
-                }
+        let (held, time) = (outer.held, outer_time(outer.round));
+        outer.round = outer.round.saturating_add(1);
+        let count = self.count(held.is_odd(), held.priority, time);
+        for node in self.part..self.nodes {
+            if levels.parts.get(node) == held.held {
+                self.lose_node(levels, at, node, time, count);
             }
         }
     }
 
-    fn set_word(&self, levels: &mut Levels, node: u32, state: u32, word: u64) {
+    fn lose_node(&mut self, levels: &mut Levels, at: usize, node: u32, time: u32, count: u64) {
+        let Some(outer) = self.outers.get(at) else {
+            return;
+        };
+        let lost = self.lost.row(node);
+        levels.mark_row(outer.held, node, lost, time);
+        self.fresh.set_row(0, lost);
+        self.forget_known(at, node);
+        if let Some(outer) = self.outers.get_mut(at) {
+            outer.won.add_row(node, self.fresh.row(0));
+        }
         if self.layout.is_some() {
-            levels.board.set_word(node, state, word);
+            let writing = Writing {
+                node,
+                bits: self.fresh.row(0),
+                kept: &[],
+                count,
+            };
+            levels.board.write(writing, Below::Nothing);
         }
     }
 
@@ -312,35 +302,27 @@ impl Nest {
     }
 
     fn give_node(&self, levels: &mut Levels, number: u32) {
-        for word in 0..levels.sets.noted.width() {
-            self.give_word(levels, number, word);
-        }
-    }
-
-    fn give_word(&self, levels: &mut Levels, number: u32, word: u32) {
-        let (mut even, mut odd) = (0, levels.board.zeros(number, word));
+        let sets = &mut levels.sets;
+        let (even, odd) = if self.low % 2 == 1 {
+            (&mut sets.given, &mut sets.barred)
+        } else {
+            (&mut sets.barred, &mut sets.given)
+        };
+        even.fill(number, false);
+        odd.fill(number, false);
+        levels.board.give_zeros(odd, number);
         for outer in &self.outers {
-            let won = outer.won.word(number, word);
+            let won = outer.won.row(number);
             if outer.held.is_odd() {
-                even |= won;
+                even.add_row(number, won);
             } else {
-                odd |= won;
+                odd.add_row(number, won);
             }
         }
         if levels.parts.get(number) >= self.nodes {
-            let tops = levels.board.tops.word(number, word);
-            levels
-                .board
-                .tops
-                .set_word(number, word, (tops | odd) & !even);
+            levels.board.tops.add_row(number, odd.row(number));
+            levels.board.tops.remove_row(number, even.row(number));
         }
-        let (given, barred) = if self.low % 2 == 1 {
-            (even, odd)
-        } else {
-            (odd, even)
-        };
-        levels.sets.given.set_word(number, word, given);
-        levels.sets.barred.set_word(number, word, barred);
     }
 
     // The words of the player for whom the rounds of the greatest block aren't counted, and those of Odd where there are two blocks, or one.
@@ -361,20 +343,15 @@ impl Nest {
     // Odd's words where there are two blocks, or one: rounds or levels.
     fn end_odd(&mut self, levels: &mut Levels, number: u32) {
         let at = if self.low % 2 == 0 { 0 } else { 1 };
-        for word in 0..levels.sets.noted.width() {
-            let all = levels.sets.noted.full(word);
-            self.write(levels, at, number, word, all, 0);
-        }
+        self.fresh.fill(0, true);
+        self.write(levels, at, number, 0);
     }
 
     fn end_node(&mut self, levels: &mut Levels, held: Held, number: u32) {
-        let top = self.outers.len();
-        for word in 0..levels.sets.noted.width() {
-            let all = levels.sets.noted.full(word);
-            let bits = all & !levels.gained(held, number, word);
-            if bits != 0 {
-                self.write(levels, top, number, word, bits, 0);
-            }
+        levels.board.gain(held, number, &mut self.lost, number);
+        self.fresh.set_rest(0, self.lost.row(number));
+        if !self.fresh.is_empty(0) {
+            self.write(levels, self.outers.len(), number, 0);
         }
     }
 }

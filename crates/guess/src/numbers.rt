@@ -4,6 +4,28 @@ use crate::bits::WORD;
 use crate::stock::Stock;
 use std::alloc::Global;
 
+// Makes numbers one where their bits are set, and zero elsewhere.
+fn spread(numbers: &mut [u32], mut bits: u64) {
+    for number in numbers {
+        *number = (bits & 1) as u32;
+        bits >>= 1;
+    }
+}
+
+// Copies numbers that fit.
+fn narrow(numbers: &mut [u32], words: &[u64]) {
+    for at in 0..numbers.len().min(words.len()) {
+        numbers[at] = words[at] as u32;
+    }
+}
+
+// Copies words.
+fn copy(words: &mut [u64], others: &[u64]) {
+    for at in 0..words.len().min(others.len()) {
+        words[at] = others[at];
+    }
+}
+
 /// An item for each place. Past the last place nothing is read but a given one, and nothing is written.
 #[derive(Drop)]
 pub(crate) struct Numbers {
@@ -80,9 +102,22 @@ impl Numbers {
         }
     }
 
-    /// Makes all numbers this one.
-    pub(crate) fn fill(&mut self, number: u32) {
-        self.items.fill(number);
+    /// Makes those of a word of states one where their bits are set, and zero elsewhere.
+    pub(crate) fn put_bits(&mut self, word: u32, bits: u64) {
+        let start = (word as usize).saturating_mul(WORD as usize);
+        let end = start.saturating_add(WORD as usize).min(self.items.len());
+        if start <= end && end <= self.items.len() {
+            spread(&mut self.items[start..end], bits);
+        }
+    }
+
+    /// Writes those of a word of states.
+    pub(crate) fn put_word(&mut self, word: u32, numbers: &[u64; WORD as usize]) {
+        let start = (word as usize).saturating_mul(WORD as usize);
+        let end = start.saturating_add(WORD as usize).min(self.items.len());
+        if start <= end && end <= self.items.len() {
+            narrow(&mut self.items[start..end], numbers);
+        }
     }
 
     /// Makes each number the sum of those up to it.
@@ -143,6 +178,15 @@ impl Words {
 
     pub(crate) fn as_mut_slice(&mut self) -> &mut [u64] {
         &mut self.items
+    }
+
+    /// Writes those of a word of states.
+    pub(crate) fn put_word(&mut self, word: u32, words: &[u64; WORD as usize]) {
+        let start = (word as usize).saturating_mul(WORD as usize);
+        let end = start.saturating_add(WORD as usize).min(self.items.len());
+        if start <= end && end <= self.items.len() {
+            copy(&mut self.items[start..end], words);
+        }
     }
 
     #[inline(always)]

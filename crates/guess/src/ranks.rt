@@ -7,6 +7,7 @@ use crate::form::{Form, NONE, Side};
 use crate::layout::{Fields, Layout, MARK};
 use crate::levels::Levels;
 use crate::numbers::{Numbers, Words};
+use crate::pairs;
 use crate::rounds::Held;
 use crate::scale::Scale;
 use crate::stock::Stock;
@@ -82,6 +83,15 @@ fn counted(root: u32, blocks: Blocks, ends: u32) -> Ranked {
     }
 }
 
+// Words that are the same at all states.
+fn same_at_all(base: u64) -> Counted {
+    Counted {
+        base,
+        unit: 0,
+        counts: NONE,
+    }
+}
+
 fn same(root: u32, count: Count) -> Ranked {
     Ranked {
         root,
@@ -108,6 +118,11 @@ fn solve(alloc: Global, levels: &mut Levels, layout: &Layout, root: u32) -> Opti
         2 => levels.run_two(alloc, held),
         _ => levels.run_blocks(alloc, root, &blocks, Some(*layout), &mut budget),
     };
+    match blocks.count() {
+        1 => {}
+        2 => levels.close_rounds(root),
+        _ => levels.close_words(alloc, root),
+    }
     let (times, ends) = (levels.most_time(), levels.count());
     let fits = layout.even.holds(times.max(ends)) && layout.odd.holds(times.max(ends));
     match blocks.count() {
@@ -140,16 +155,33 @@ impl Ranks {
     }
 
     // The words of a node where a player wins, above a group and what is always there.
-    fn rule(&self, fields: &Fields, count: Count, number: u32, base: u64) -> Counted {
-        let form = &self.levels.board.form;
-        let real = form.real(number);
-        let is_held = self.levels.parts.get(real) >= form.count();
-        let (unit, counts) = match count {
-            Count::Levels(priority) if !is_held => (fields.unit(priority), real),
-            Count::Rounds(priority) => (fields.unit(priority), real.saturating_add(form.count())),
-            _ => (0, NONE),
-        };
-        Counted { base, unit, counts }
+    fn rule(&self, fields: &Fields, count: Count, number: u32, kept: pairs::Ranks) -> Counted {
+        let board = &self.levels.board;
+        let real = board.form.real(number);
+        let is_held = self.levels.parts.get(real) >= board.form.count();
+        let pairs::Ranks { base, unit } = kept;
+        match count {
+            Count::Levels(priority) if !is_held => Counted {
+                base,
+                unit: fields.unit(priority),
+                counts: real,
+            },
+            Count::Rounds(priority) if board.has_rounds(real) => Counted {
+                base,
+                unit: fields.unit(priority),
+                counts: real.saturating_add(board.form.count()),
+            },
+            Count::Rounds(priority) => {
+                let round = fields.unit(priority).wrapping_mul(board.only_round(real));
+                same_at_all(base.wrapping_add(round))
+            }
+            Count::Fields if unit != 0 => Counted {
+                base,
+                unit,
+                counts: real,
+            },
+            _ => same_at_all(base),
+        }
     }
 
     // The words of a node in a component.
@@ -161,12 +193,16 @@ impl Ranks {
         let odd = group.wrapping_mul(self.layout.odd.group_unit());
         let odd = odd.wrapping_add(height).wrapping_add(MARK);
         let real = form.real(number);
+        let board = &self.levels.board;
+        let [mut evens, mut odds] = board.even_and_odd(real);
+        evens.base = evens.base.wrapping_add(even);
+        odds.base = odds.base.wrapping_add(odd);
         Halves {
-            marks: real.wrapping_mul(self.levels.board.tops.width()),
-            even: self.rule(&self.layout.even, part.even, number, even),
-            odd: self.rule(&self.layout.odd, part.odd, number, odd),
+            marks: real.wrapping_mul(board.tops.width()),
+            even: self.rule(&self.layout.even, part.even, number, evens),
+            odd: self.rule(&self.layout.odd, part.odd, number, odds),
             words: match part.even {
-                Count::Fields => real,
+                Count::Fields if board.has_list(real) => real,
                 _ => NONE,
             },
         }

@@ -53,13 +53,6 @@ impl Kept {
     }
 }
 
-impl Reasons {
-    /// The states of a word at which places are won by Odd from the beginning.
-    pub(crate) fn zeros(&self, node: u32, word: u32) -> u64 {
-        self.zeros.word(node, word)
-    }
-}
-
 impl Levels {
     /// Finds ranks for the values of a component. The answer is where they stand, and nothing where they aren't found.
     pub(crate) fn run_reasons(&mut self, alloc: Global, part: u32) -> Option<Kept> {
@@ -78,6 +71,7 @@ impl Levels {
         for number in part..self.board.form.count() {
             if self.board.form.root(number) == part {
                 self.parts.set(number, part);
+                self.board.codes.fill(number, ZERO);
             }
         }
         self.board.open_reasons(alloc, part);
@@ -85,8 +79,18 @@ impl Levels {
         let mut budget = self.budget();
         let are_found = self.run_blocks(alloc, part, blocks, Some(*layout), &mut budget);
         self.close_marks(alloc);
+        self.list_words(part);
         self.board.close_reasons(part);
         are_found
+    }
+
+    // Lists the ranks of a component's nodes.
+    fn list_words(&mut self, part: u32) {
+        for number in part..self.board.form.count() {
+            if self.is_real(part, number) && !self.board.has_list(number) {
+                self.board.list_words(number);
+            }
+        }
     }
 }
 
@@ -241,11 +245,10 @@ impl Board {
         self.reasons.is_some() && self.form.root(number) != part
     }
 
-    /// The states of a word at which a place is won by Odd from the beginning.
-    pub(crate) fn zeros(&self, number: u32, word: u32) -> u64 {
-        match &self.reasons {
-            Some(reasons) => reasons.zeros(number, word),
-            None => 0,
+    /// Adds the states at which a place is won by Odd from the beginning.
+    pub(crate) fn give_zeros(&self, set: &mut Sheet, number: u32) {
+        if let Some(reasons) = &self.reasons {
+            set.add_row(number, reasons.zeros.row(number));
         }
     }
 

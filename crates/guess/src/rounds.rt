@@ -1,12 +1,13 @@
 // Components of nodes whose binders have both parities, those of the greatest priority around the others: round by round.
 
-use crate::bits::{WORD, bit};
+use crate::bits::Sheet;
 use crate::blocks::Blocks;
 use crate::board::{Board, Exits, Known, NEVER};
 use crate::form::{Form, Shape};
 use crate::levels::Levels;
 use crate::order::Order;
 use crate::scale::{TOP, ZERO};
+use crate::stock::Stock;
 use std::alloc::Global;
 
 // How many rounds there are at most, and at how many places at least.
@@ -104,9 +105,12 @@ impl Levels {
                 self.board.fill_words(alloc, number, held.first());
             }
         }
+        let mut stock = Stock::new(alloc);
+        let mut fresh = Sheet::new(&mut stock, 1, self.board.states);
+        self.board.is_whole &= stock.is_whole();
         for round in 0..self.most_rounds() {
             self.run(alloc, held.part, held.order());
-            self.note(held, round);
+            self.note(held, round, &mut fresh);
             if !self.turn(held, round) {
                 self.keep(held, round);
                 return true;
@@ -171,49 +175,39 @@ impl Levels {
     pub(crate) fn restart(&mut self, held: Held) {
         self.last_time = 0;
         for number in held.part..self.board.form.count() {
-            if self.parts.get(number) == held.held {
+            let is_held = self.parts.get(number) == held.held;
+            if is_held {
                 self.board.refill_held(held, number);
+            }
+            if is_held || self.is_below(held, number) {
                 self.sets.forget_noted(number);
-            } else if self.is_below(held, number) {
-                self.sets.forget_noted(number);
+                self.board.times.forget(number);
             }
         }
     }
 
-    // The states of a word that the player has for whom rounds are counted: the one who wins more with each.
-    pub(crate) fn gained(&self, held: Held, number: u32, word: u32) -> u64 {
-        let tops = self.board.tops.word(number, word);
-        if held.is_odd() {
-            self.board.tops.full(word) & !tops
-        } else {
-            tops
-        }
-    }
-
-    /// Notes what was gained in a round.
-    pub(crate) fn note(&mut self, held: Held, round: u32) {
+    /// Notes what was gained in a round, with a set of one node for the states at hand.
+    pub(crate) fn note(&mut self, held: Held, round: u32, fresh: &mut Sheet) {
         self.last_time = inner_time(round);
         for number in held.part..self.board.form.count() {
             if self.is_below(held, number) {
-                self.note_gained(held, number, inner_time(round));
+                self.board.gain(held, number, fresh, 0);
+                fresh.remove_row(0, self.sets.noted.row(number));
+                self.note_row(number, fresh.row(0), inner_time(round));
             }
         }
     }
 
-    fn note_gained(&mut self, held: Held, number: u32, time: u32) {
-        for word in 0..self.sets.noted.width() {
-            let bits = self.gained(held, number, word) & !self.sets.noted.word(number, word);
-            if bits != 0 {
-                self.sets.note(number, word, bits);
-                self.board.set_rounds(number, word, bits, time);
-            }
-        }
+    /// Notes the round of these states of a word.
+    pub(crate) fn note_word(&mut self, number: u32, word: u32, bits: u64, time: u32) {
+        self.sets.note(number, word, bits);
+        self.board.note_word(number, word, bits, time);
     }
 
-    /// Notes the round of a state.
-    pub(crate) fn note_state(&mut self, number: u32, state: u32, time: u32) {
-        self.sets.note(number, state / WORD, bit(state));
-        self.board.set_round(number, state, time);
+    /// The same of the states of all words.
+    pub(crate) fn note_row(&mut self, number: u32, bits: &[u64], time: u32) {
+        self.sets.note_row(number, bits);
+        self.board.note_row(number, bits, time);
     }
 
     // Lifts the held binders. The answer is whether one changed.
@@ -247,6 +241,16 @@ impl Levels {
 }
 
 impl Board {
+    /// Makes a set the states that the player has for whom rounds are counted: the one who wins more with each.
+    pub(crate) fn gain(&self, held: Held, number: u32, set: &mut Sheet, node: u32) {
+        let tops = self.tops.row(number);
+        if held.is_odd() {
+            set.set_rest(node, tops);
+        } else {
+            set.set_row(node, tops);
+        }
+    }
+
     // Lifts a held binder. The answer is whether it changed.
     fn turn_node(&mut self, number: u32) -> bool {
         let priority = self.form.node(number).priority;

@@ -3,6 +3,7 @@
 use crate::bits::{Fronts, Sheet, WORD, bit};
 use crate::board::{Board, Exits, no_numbers};
 use crate::edges::{state_of, takes};
+use crate::form::Shape;
 use crate::numbers::Numbers;
 use crate::order::Wait;
 use crate::places::Place;
@@ -36,6 +37,8 @@ pub(crate) enum Way {
     Pull,
     /// By the edges back.
     Push,
+    /// To all states that have a step, since there are all.
+    Whole,
 }
 
 /// Sets by node.
@@ -114,6 +117,14 @@ impl Sets {
         }
     }
 
+    /// The same at the states of all words.
+    pub(crate) fn note_row(&mut self, node: u32, bits: &[u64]) {
+        self.noted.add_row(node, bits);
+        if self.bars {
+            self.open.remove_row(node, bits);
+        }
+    }
+
     /// Says whether what was noted is final in no later round. Nothing is final from the beginning, or never.
     pub(crate) fn bar_noted(&mut self, alloc: Global, states: u32, bars: bool) {
         self.bars = bars;
@@ -150,18 +161,56 @@ impl Sets {
 
     /// A modality that waits for all successors is final where it has none to wait for.
     pub(crate) fn add_stuck(&mut self, board: &Board, node: u32) {
-        let is_new = self.seen.get(node) == 0;
+        self.see_stuck(board, node);
         for word in 0..self.done.width() {
-            if is_new {
-                let bits = stuck_in(board, node, word);
-                self.stuck.set_word(node, word, bits);
-            }
             let bits = self.stuck.word(node, word) & self.left(node, word);
             if bits != 0 {
                 self.add(node, word, bits);
             }
         }
-        self.seen.set(node, 1);
+    }
+
+    // Finds where a modality has no step, and others of its component, if that isn't known yet.
+    fn see_stuck(&mut self, board: &Board, node: u32) {
+        if self.seen.get(node) != 0 {
+            return;
+        }
+        let part = board.form.root(node);
+        for word in 0..self.done.width() {
+            self.see_stuck_in(board, part, word, board.kinds_in(word));
+        }
+        for number in part..board.form.count() {
+            if is_modality(board, part, number) {
+                self.seen.set(number, 1);
+            }
+        }
+    }
+
+    // The same at the states of a word, of which these are the kinds of labels.
+    fn see_stuck_in(&mut self, board: &Board, part: u32, word: u32, kinds: [u64; WORD as usize]) {
+        for number in part..board.form.count() {
+            if is_modality(board, part, number) {
+                let mask = board.form.node(number).mask;
+                let bits = stuck_in(kinds, mask) & self.done.full(word);
+                self.stuck.set_word(number, word, bits);
+            }
+        }
+    }
+
+    /// Where an operand is final at all states, a modality is that has a step, or waits for all.
+    pub(crate) fn add_whole(&mut self, board: &Board, step: Step) {
+        if step.wait == Wait::One {
+            self.see_stuck(board, step.node);
+        }
+        for word in 0..self.done.width() {
+            let mut bits = self.left(step.node, word);
+            if step.wait == Wait::One {
+                bits &= !self.stuck.word(step.node, word);
+            }
+            if bits != 0 {
+                self.add(step.node, word, bits);
+            }
+        }
     }
 
     /// The states of a word at which a node can still become final.
@@ -277,9 +326,21 @@ impl Sets {
         if many == 0 {
             return Way::None;
         }
+        if many == board.states && board.reasons.is_none() {
+            return Way::Whole;
+        }
         if many > FEW && many.saturating_mul(8) > left {
             return Way::Pull;
         }
+        if self.looks_on(board, left) {
+            Way::Pull
+        } else {
+            Way::Push
+        }
+    }
+
+    /// Whether so many states are still looked at in place of edges back, which aren't made yet.
+    pub(crate) fn looks_on(&mut self, board: &Board, left: u32) -> bool {
         let spent = self.spent.saturating_add(u64::from(left));
         let patience = if board.are_near {
             PATIENCE_NEARBY
@@ -287,10 +348,10 @@ impl Sets {
             PATIENCE
         };
         if board.has_back() || spent > u64::from(board.states).saturating_mul(patience) {
-            return Way::Push;
+            return false;
         }
         self.spent = spent;
-        Way::Pull
+        true
     }
 
     /// Carries states on by the edges back.
@@ -397,14 +458,26 @@ impl Sets {
     }
 }
 
-// The states of a word from which a modality has no step.
-fn stuck_in(board: &Board, node: u32, word: u32) -> u64 {
-    let mask = board.form.node(node).mask;
+// Whether a node is a modality of a component.
+fn is_modality(board: &Board, part: u32, number: u32) -> bool {
+    let is_here = board.form.root(number) == part;
+    is_here && matches!(board.form.node(number).shape, Shape::Dia | Shape::Box)
+}
+
+// The states of a word with none of the kinds in a mask.
+fn stuck_in(kinds: [u64; WORD as usize], mask: u64) -> u64 {
+    let (mut some, mut all) = (0, u64::MAX);
+    for kind in kinds {
+        some |= kind;
+        all &= kind;
+    }
+    if some & mask == 0 || all & mask != 0 {
+        return if some & mask == 0 { u64::MAX } else { 0 };
+    }
     let mut bits = 0;
-    for state in board.states_of(word) {
-        if !board.has_step(state, mask) {
-            bits |= bit(state);
-        }
+    for kind in kinds {
+        bits >>= 1;
+        bits |= if kind & mask == 0 { 1 << (WORD - 1) } else { 0 };
     }
     bits
 }
