@@ -7,3 +7,4 @@ mod Shifts
 mod Steps
 mod Goodness
 mod Lent
+mod Always

@@ -112,10 +112,26 @@ fn steps_lead(
     }
 }
 
+// Whether both columns have one number at all states, and the play goes on well from the one to the other.
+fn always_follows(slopes: Slopes, own: Numbers<'_>, next: Numbers<'_>) -> bool
+    ensures { IsTrue result → (s t : ℕ) → CanFollow slopes (number_at own.entry s) (number_at next.entry t) }
+{
+    match own {
+        Numbers::Same(number) => match next {
+            Numbers::Same(other) => slopes.let_follow(number, other),
+            _ => false,
+        },
+        _ => false,
+    }
+}
+
 // Whether the vertices of a constant are ranked.
 fn constants_lead(slopes: Slopes, own: Numbers<'_>, sink: u64, span: Span) -> bool
     ensures { IsTrue result → (s : ℕ) → span.first ≤ s → s < span.end → CanFollow slopes (number_at own.entry s) sink }
 {
+    if always_follows(slopes, own, Numbers::Same(sink)) {
+        return true;
+    }
     for s in span.first..span.end {
         if !slopes.let_follow(own.number(s), sink) {
             return false;
@@ -128,6 +144,9 @@ fn constants_lead(slopes: Slopes, own: Numbers<'_>, sink: u64, span: Span) -> bo
 fn singles_lead(slopes: Slopes, own: Numbers<'_>, next: Numbers<'_>, span: Span) -> bool
     ensures { IsTrue result → (s : ℕ) → span.first ≤ s → s < span.end → CanFollow slopes (number_at own.entry s) (number_at next.entry s) }
 {
+    if always_follows(slopes, own, next) {
+        return true;
+    }
     for s in span.first..span.end {
         if !slopes.let_follow(own.number(s), next.number(s)) {
             return false;
@@ -148,6 +167,9 @@ fn junctions_lead(
     ensures { IsTrue result → (s : ℕ) → span.first ≤ s → s < span.end
         → TwoFollow slopes owner (number_at own.entry s) (number_at left.entry s) (number_at right.entry s) }
 {
+    if always_follows(slopes, own, left) && always_follows(slopes, own, right) {
+        return true;
+    }
     for s in span.first..span.end {
         if !two_lead(
             owner,
@@ -184,6 +206,13 @@ fn are_words(row: &[Transition]) -> bool
     true
 }
 
+// The same from a modality, whichever transitions there are.
+fn steps_always_lead(slopes: Slopes, own: Numbers<'_>, next: Numbers<'_>, sink: u64) -> bool
+    ensures { IsTrue result → (s t : ℕ) → CanFollow slopes (number_at own.entry s) (number_at next.entry t) × CanFollow slopes (number_at own.entry s) sink }
+{
+    always_follows(slopes, own, next) && always_follows(slopes, own, Numbers::Same(sink))
+}
+
 // Whether the vertices of a modality, which this player owns, are ranked.
 fn modalities_lead(
     lts: &Lts,
@@ -199,9 +228,13 @@ fn modalities_lead(
         → StepsFollowAt lts.now slopes owner set.now (number_at own.entry) (number_at next.entry) (sink_of owner) s }
 {
     let sink = sink(owner);
+    let always = steps_always_lead(slopes, own, next, sink);
     for s in span.first..span.end {
         let row = lts.from(s);
-        if !are_words(row) || !steps_lead(owner, slopes, own.number(s), set, row, next, sink) {
+        if !are_words(row) {
+            return false;
+        }
+        if !always && !steps_lead(owner, slopes, own.number(s), set, row, next, sink) {
             return false;
         }
     }
