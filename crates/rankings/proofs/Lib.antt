@@ -8,3 +8,4 @@ mod Steps
 mod Goodness
 mod Lent
 mod Always
+mod Plain

@@ -259,16 +259,18 @@ pub(crate) fn is_ranked(
 {
     let _states = lts.states();
     let slopes = sheet.slopes(node.priority);
-    let own = sheet.column(number);
+    let own = sheet.column_in(number, span.first, span.end);
     match &node.kind {
         Kind::True => constants_lead(slopes, own, TRUE_SINK, span),
         Kind::False => constants_lead(slopes, own, FALSE_SINK, span),
         Kind::And(left, right) => {
-            let (left, right) = (sheet.column(*left), sheet.column(*right));
+            let left = sheet.column_in(*left, span.first, span.end);
+            let right = sheet.column_in(*right, span.first, span.end);
             junctions_lead(Player::Odd, slopes, own, left, right, span)
         }
         Kind::Or(left, right) => {
-            let (left, right) = (sheet.column(*left), sheet.column(*right));
+            let left = sheet.column_in(*left, span.first, span.end);
+            let right = sheet.column_in(*right, span.first, span.end);
             junctions_lead(Player::Even, slopes, own, left, right, span)
         }
         Kind::Dia(_, child) => {
@@ -280,7 +282,8 @@ pub(crate) fn is_ranked(
             modalities_lead(lts, Player::Odd, slopes, own, set, next, span)
         }
         Kind::Mu(child) | Kind::Nu(child) | Kind::Var(child) => {
-            singles_lead(slopes, own, sheet.column(*child), span)
+            let next = sheet.column_in(*child, span.first, span.end);
+            singles_lead(slopes, own, next, span)
         }
     }
 }
