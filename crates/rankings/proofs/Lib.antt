@@ -8,4 +8,4 @@ mod Steps
 mod Goodness
 mod Lent
 mod Always
-mod Plain
+mod Full

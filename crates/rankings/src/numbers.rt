@@ -78,10 +78,10 @@ fn is_plain(shown: Shown<'_>, first: u32, end: u32) -> bool
     ensures { IsTrue result → (s : ℕ) → first ≤ s → s < end
         → won_at shown.entry s ≡ counted_at shown.entry.even.base shown.entry.even.unit shown.entry.even.counts.now s }
 {
-    if !shown.words.is_empty() {
+    if first >= end || !shown.words.is_empty() {
         return false;
     }
-    for word in first / 64..end / 64 + 1 {
+    for word in first / 64..(end - 1) / 64 + 1 {
         if marks_in(shown, word) != 0 {
             return false;
         }
@@ -89,7 +89,23 @@ fn is_plain(shown: Shown<'_>, first: u32, end: u32) -> bool
     true
 }
 
-/// The numbers of the states of a span, with no marks where Even wins all of them.
+// Whether Odd is said to win all of them, and no words are added.
+fn is_full(shown: Shown<'_>, first: u32, end: u32) -> bool
+    ensures { IsTrue result → (s : ℕ) → first ≤ s → s < end
+        → won_at shown.entry s ≡ counted_at shown.entry.odd.base shown.entry.odd.unit shown.entry.odd.counts.now s }
+{
+    if first >= end || !shown.words.is_empty() {
+        return false;
+    }
+    for word in first / 64..(end - 1) / 64 + 1 {
+        if marks_in(shown, word) != u64::MAX {
+            return false;
+        }
+    }
+    true
+}
+
+/// The numbers of the states of a span, with no marks where one player wins all of them.
 pub(crate) fn within<'a>(numbers: Numbers<'a>, first: u32, end: u32) -> Numbers<'a>
     ensures { (s : ℕ) → first ≤ s → s < end → number_at result s ≡ number_at numbers.entry s }
 {
@@ -97,6 +113,8 @@ pub(crate) fn within<'a>(numbers: Numbers<'a>, first: u32, end: u32) -> Numbers<
         Numbers::Won(shown) => {
             if is_plain(shown, first, end) {
                 Numbers::Counted(shown.even)
+            } else if is_full(shown, first, end) {
+                Numbers::Counted(shown.odd)
             } else {
                 Numbers::Won(shown)
             }
