@@ -7,3 +7,5 @@ mod Shifts
 mod Steps
 mod Goodness
 mod Lent
+mod Always
+mod Full

@@ -17,7 +17,7 @@ use Rattle.laws.proofs.Flags.{cases}
 use Rattle.laws.proofs.Lists.{in_map, of_map, of_two, only_in}
 use Rattle.rankings.specs.Cells.{Cells, cell, number_in, ranking_of}
 use Rattle.rankings.specs.Ranking.{GoesOn, IsRanked, Ranking, winner_of}
-use Rattle.rankings.specs.Slopes.{AreSlopes, CanFollow, IsNoStep, StepsFollowAt, TwoFollow}
+use Rattle.rankings.specs.Slopes.{AreSlopes, CanFollow, IsNoStep, StepsFollow, StepsFollowAt, TwoFollow}
 use Rattle.rankings.specs.declared.slope.Slopes.{Slopes}
 use Rattle.rankings.proofs.Places.{number_at}
 use Rattle.rankings.proofs.Steps.{step_of, target_of}
@@ -152,22 +152,26 @@ module _ (c : Cells) (l : Numbered) (x : Slopes) (s k : ℕ) (node : Node) (is :
         ];
       }
 
--- the same of equal owners and columns
-pub two_moved : (x : Slopes) (o p : Player) (a b d a' b' d' : ℕ → ℕ) (s : ℕ) → o ≡ p → a ≡ a' → b ≡ b' → d ≡ d'
-    → TwoFollow x o (a s) (b s) (d s)
-    → TwoFollow x p (a' s) (b' s) (d' s)
-two_moved x o p a b d a' b' d' s e f g h t =
-    subst (λ q. TwoFollow x q (a' s) (b' s) (d' s)) e
-    (subst (λ z. TwoFollow x o (z s) (b' s) (d' s)) f
-    (subst (λ z. TwoFollow x o (a s) (z s) (d' s)) g
-    (subst (λ z. TwoFollow x o (a s) (b s) (z s)) h t)))
+-- the same of equal owners and numbers
+pub two_moved : (x : Slopes) (o p : Player) (a b d a' b' d' : ℕ) → o ≡ p → a ≡ a' → b ≡ b' → d ≡ d' → TwoFollow x o a b d → TwoFollow x p a' b' d'
+two_moved x o p a b d a' b' d' e f g h t =
+    subst (λ q. TwoFollow x q a' b' d') e
+    (subst (λ z. TwoFollow x o z b' d') f
+    (subst (λ z. TwoFollow x o a z d') g
+    (subst (λ z. TwoFollow x o a b z) h t)))
 
-pub steps_moved : (l : Numbered) (x : Slopes) (o p : Player) (set : List Bool) (a b a' b' : ℕ → ℕ) (m s : ℕ) → o ≡ p → a ≡ a' → b ≡ b'
+pub steps_moved : (l : Numbered) (x : Slopes) (o p : Player) (set : List Bool) (a b a' b' : ℕ → ℕ) (m s : ℕ) → o ≡ p → a s ≡ a' s → b ≡ b'
     → StepsFollowAt l x o set a b m s → StepsFollowAt l x p set a' b' m s
 steps_moved l x o p set a b a' b' m s e f g t =
-    subst (λ q. StepsFollowAt l x q set a' b' m s) e (subst (λ z. StepsFollowAt l x o set z b' m s) f (subst (λ z. StepsFollowAt l x o set a z m s) g t))
+    subst (λ q. StepsFollowAt l x q set a' b' m s) e
+    (subst (λ z. StepsFollowAt l x o set a' z m s) g
+    (record {
+      row = t.row;
+      arrows = t.arrows;
+      inside = t.inside;
+      numbers = t.numbers;
+      steps = subst (λ n. StepsFollow x o n set t.row b m) f t.steps;
+    }))
 
-pub two_columns : (x : Slopes) (a b a' b' : ℕ → ℕ) (s : ℕ) → a ≡ a' → b ≡ b' → CanFollow x (a s) (b s)
-    → CanFollow x (a' s) (b' s)
-two_columns x a b a' b' s e f h =
-    subst (λ z. CanFollow x (z s) (b' s)) e (subst (λ z. CanFollow x (a s) (z s)) f h)
+pub two_columns : (x : Slopes) (a b a' b' : ℕ) → a ≡ a' → b ≡ b' → CanFollow x a b → CanFollow x a' b'
+two_columns x a b a' b' e f h = subst (λ z. CanFollow x z b') e (subst (λ z. CanFollow x a z) f h)

@@ -34,3 +34,4 @@ abbrev pub number_at : Numbers → ℕ → ℕ
 number_at (lent.Same n) = λ s. n
 number_at (lent.Listed words) = λ s. slice_index_or words.now s 0
 number_at (lent.Won x) = won_at x
+number_at (lent.Counted h) = counted_at h.base h.unit h.counts.now

@@ -63,4 +63,5 @@ pub(crate) enum Numbers<'a> {
     Same(u64),
     Listed(&'a [u64]),
     Won(Shown<'a>),
+    Counted(Half<'a>),
 }

@@ -112,10 +112,26 @@ fn steps_lead(
     }
 }
 
+// Whether both columns have one number at all states, and the play goes on well from the one to the other.
+fn always_follows(slopes: Slopes, own: Numbers<'_>, next: Numbers<'_>) -> bool
+    ensures { IsTrue result → (s t : ℕ) → CanFollow slopes (number_at own.entry s) (number_at next.entry t) }
+{
+    match own {
+        Numbers::Same(number) => match next {
+            Numbers::Same(other) => slopes.let_follow(number, other),
+            _ => false,
+        },
+        _ => false,
+    }
+}
+
 // Whether the vertices of a constant are ranked.
 fn constants_lead(slopes: Slopes, own: Numbers<'_>, sink: u64, span: Span) -> bool
     ensures { IsTrue result → (s : ℕ) → span.first ≤ s → s < span.end → CanFollow slopes (number_at own.entry s) sink }
 {
+    if always_follows(slopes, own, Numbers::Same(sink)) {
+        return true;
+    }
     for s in span.first..span.end {
         if !slopes.let_follow(own.number(s), sink) {
             return false;
@@ -128,6 +144,9 @@ fn constants_lead(slopes: Slopes, own: Numbers<'_>, sink: u64, span: Span) -> bo
 fn singles_lead(slopes: Slopes, own: Numbers<'_>, next: Numbers<'_>, span: Span) -> bool
     ensures { IsTrue result → (s : ℕ) → span.first ≤ s → s < span.end → CanFollow slopes (number_at own.entry s) (number_at next.entry s) }
 {
+    if always_follows(slopes, own, next) {
+        return true;
+    }
     for s in span.first..span.end {
         if !slopes.let_follow(own.number(s), next.number(s)) {
             return false;
@@ -148,6 +167,9 @@ fn junctions_lead(
     ensures { IsTrue result → (s : ℕ) → span.first ≤ s → s < span.end
         → TwoFollow slopes owner (number_at own.entry s) (number_at left.entry s) (number_at right.entry s) }
 {
+    if always_follows(slopes, own, left) && always_follows(slopes, own, right) {
+        return true;
+    }
     for s in span.first..span.end {
         if !two_lead(
             owner,
@@ -184,6 +206,13 @@ fn are_words(row: &[Transition]) -> bool
     true
 }
 
+// The same from a modality, whichever transitions there are.
+fn steps_always_lead(slopes: Slopes, own: Numbers<'_>, next: Numbers<'_>, sink: u64) -> bool
+    ensures { IsTrue result → (s t : ℕ) → CanFollow slopes (number_at own.entry s) (number_at next.entry t) × CanFollow slopes (number_at own.entry s) sink }
+{
+    always_follows(slopes, own, next) && always_follows(slopes, own, Numbers::Same(sink))
+}
+
 // Whether the vertices of a modality, which this player owns, are ranked.
 fn modalities_lead(
     lts: &Lts,
@@ -199,9 +228,13 @@ fn modalities_lead(
         → StepsFollowAt lts.now slopes owner set.now (number_at own.entry) (number_at next.entry) (sink_of owner) s }
 {
     let sink = sink(owner);
+    let always = steps_always_lead(slopes, own, next, sink);
     for s in span.first..span.end {
         let row = lts.from(s);
-        if !are_words(row) || !steps_lead(owner, slopes, own.number(s), set, row, next, sink) {
+        if !are_words(row) {
+            return false;
+        }
+        if !always && !steps_lead(owner, slopes, own.number(s), set, row, next, sink) {
             return false;
         }
     }
@@ -226,16 +259,18 @@ pub(crate) fn is_ranked(
 {
     let _states = lts.states();
     let slopes = sheet.slopes(node.priority);
-    let own = sheet.column(number);
+    let own = sheet.column_in(number, span.first, span.end);
     match &node.kind {
         Kind::True => constants_lead(slopes, own, TRUE_SINK, span),
         Kind::False => constants_lead(slopes, own, FALSE_SINK, span),
         Kind::And(left, right) => {
-            let (left, right) = (sheet.column(*left), sheet.column(*right));
+            let left = sheet.column_in(*left, span.first, span.end);
+            let right = sheet.column_in(*right, span.first, span.end);
             junctions_lead(Player::Odd, slopes, own, left, right, span)
         }
         Kind::Or(left, right) => {
-            let (left, right) = (sheet.column(*left), sheet.column(*right));
+            let left = sheet.column_in(*left, span.first, span.end);
+            let right = sheet.column_in(*right, span.first, span.end);
             junctions_lead(Player::Even, slopes, own, left, right, span)
         }
         Kind::Dia(_, child) => {
@@ -247,7 +282,8 @@ pub(crate) fn is_ranked(
             modalities_lead(lts, Player::Odd, slopes, own, set, next, span)
         }
         Kind::Mu(child) | Kind::Nu(child) | Kind::Var(child) => {
-            singles_lead(slopes, own, sheet.column(*child), span)
+            let next = sheet.column_in(*child, span.first, span.end);
+            singles_lead(slopes, own, next, span)
         }
     }
 }

@@ -1,6 +1,6 @@
 // The numbers of a column, by state.
 
-ghost use Rattle.std.specs.Prelude.{◌≡◌, [], map, slice_index_or};
+ghost use Rattle.std.specs.Prelude.{◌≡◌, ◌+◌, ◌<◌, ◌≤◌, ℕ, IsTrue, [], map, slice_index_or};
 ghost use Rattle.rankings.specs.Columns.{counted_at, is_marked, number_at, kept_number, won_at};
 
 use crate::column::{Column, Columns, Counted, Half, Halves, Numbers, Shown};
@@ -60,7 +60,66 @@ impl Numbers<'_> {
             Numbers::Same(number) => number,
             Numbers::Listed(words) => words.get(state as usize).copied().unwrap_or(0),
             Numbers::Won(shown) => shown.number(state),
+            Numbers::Counted(half) => half.number(state),
         }
+    }
+}
+
+// A word of marks, this many after the first.
+fn marks_in(shown: Shown<'_>, word: u32) -> u64
+    ensures { result ≡ slice_index_or shown.entry.marks.now (shown.entry.first + word) 0 }
+{
+    let word = shown.marks.get(shown.first as usize + word as usize);
+    word.copied().unwrap_or(0)
+}
+
+// Whether Even is said to win all states of a span, and no words are added.
+fn is_plain(shown: Shown<'_>, first: u32, end: u32) -> bool
+    ensures { IsTrue result → (s : ℕ) → first ≤ s → s < end
+        → won_at shown.entry s ≡ counted_at shown.entry.even.base shown.entry.even.unit shown.entry.even.counts.now s }
+{
+    if first >= end || !shown.words.is_empty() {
+        return false;
+    }
+    for word in first / 64..(end - 1) / 64 + 1 {
+        if marks_in(shown, word) != 0 {
+            return false;
+        }
+    }
+    true
+}
+
+// Whether Odd is said to win all of them, and no words are added.
+fn is_full(shown: Shown<'_>, first: u32, end: u32) -> bool
+    ensures { IsTrue result → (s : ℕ) → first ≤ s → s < end
+        → won_at shown.entry s ≡ counted_at shown.entry.odd.base shown.entry.odd.unit shown.entry.odd.counts.now s }
+{
+    if first >= end || !shown.words.is_empty() {
+        return false;
+    }
+    for word in first / 64..(end - 1) / 64 + 1 {
+        if marks_in(shown, word) != u64::MAX {
+            return false;
+        }
+    }
+    true
+}
+
+/// The numbers of the states of a span, with no marks where one player wins all of them.
+pub(crate) fn within<'a>(numbers: Numbers<'a>, first: u32, end: u32) -> Numbers<'a>
+    ensures { (s : ℕ) → first ≤ s → s < end → number_at result s ≡ number_at numbers.entry s }
+{
+    match numbers {
+        Numbers::Won(shown) => {
+            if is_plain(shown, first, end) {
+                Numbers::Counted(shown.even)
+            } else if is_full(shown, first, end) {
+                Numbers::Counted(shown.odd)
+            } else {
+                Numbers::Won(shown)
+            }
+        }
+        _ => numbers,
     }
 }
 

@@ -1,12 +1,12 @@
 // Rankings of arenas, a column of numbers for each node.
 
-ghost use Rattle.std.specs.Prelude.{◌≡◌, ◌≤◌, IfSome, IsTrue, length, slice_index_or};
+ghost use Rattle.std.specs.Prelude.{◌≡◌, ◌<◌, ◌≤◌, ℕ, IfSome, IsTrue, length, slice_index_or};
 ghost use Rattle.rankings.specs.Cells.{AreShifts, cell, ranking_of, shift_in};
 ghost use Rattle.rankings.specs.Columns.{number_at};
 ghost use Rattle.rankings.specs.Ranking.{IsRising};
 
 use crate::column::{Columns, Numbers};
-use crate::numbers::numbers;
+use crate::numbers::{numbers, within};
 use crate::slope::{Slope, Slopes};
 use crate::slopes::is_of;
 use game::player::Player;
@@ -104,6 +104,13 @@ impl Sheet {
         ensures { number_at result ≡ cell self.now node }
     {
         numbers(&self.columns, node)
+    }
+
+    /// The numbers of a node at the states of a span.
+    pub(crate) fn column_in(&self, node: u32, first: u32, end: u32) -> Numbers<'_>
+        ensures { (s : ℕ) → first ≤ s → s < end → number_at result s ≡ cell self.now node s }
+    {
+        within(self.column(node), first, end)
     }
 
     // How many bits don't count for a player at a priority.
