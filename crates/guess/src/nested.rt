@@ -34,6 +34,8 @@ struct Nest {
     lost: Sheet,
     /// The states at hand of one node.
     fresh: Sheet,
+    /// Those of them at which something is below a count.
+    kept: Sheet,
     /// Whether all counts fit their fields.
     fits: bool,
     /// Whether there was memory for all blocks.
@@ -92,6 +94,7 @@ impl Levels {
             layout,
             lost: Sheet::new(&mut stock, nodes, self.board.states),
             fresh: Sheet::new(&mut stock, 1, self.board.states),
+            kept: Sheet::new(&mut stock, 1, self.board.states),
             fits: true,
             is_whole: stock.is_whole(),
         };
@@ -193,19 +196,28 @@ impl Nest {
             return;
         }
         let below = self.below(levels, at, node);
-        let kept = match (below, at.checked_sub(2).and_then(|at| self.outers.get(at))) {
-            (Below::Words, Some(outer)) => outer.won.row(node),
-            (Below::Rounds(_), _) => levels.sets.noted.row(node),
-            (Below::Levels(_), _) => self.fresh.row(0),
-            _ => &[],
-        };
+        self.keep_below(levels, at, node, below);
         let writing = Writing {
             node,
             bits: self.fresh.row(0),
-            kept,
+            kept: self.kept.row(0),
             count,
         };
         levels.board.write(writing, below);
+    }
+
+    // Finds the states of a node at which there is something below.
+    fn keep_below(&mut self, levels: &Levels, at: usize, node: u32, below: Below) {
+        match below {
+            Below::Words => {
+                if let Some(outer) = self.outers.get(at.saturating_sub(2)) {
+                    self.kept.set_row(0, outer.won.row(node));
+                }
+            }
+            Below::Rounds(_) => self.kept.set_row(0, levels.sets.noted.row(node)),
+            Below::Levels(_) => self.kept.fill(0, true),
+            Below::Nothing => {}
+        }
     }
 
     // A count in the field of a priority.
@@ -232,7 +244,7 @@ impl Nest {
     fn below(&mut self, levels: &Levels, at: usize, number: u32) -> Below {
         match at {
             0 if levels.is_inside(number) => {
-                let unit = self.unit(self.low % 2 == 1, self.low, levels.count());
+                let unit = self.unit(self.is_low_odd(), self.low, levels.count());
                 Below::Levels(unit)
             }
             0 => Below::Nothing,
@@ -302,26 +314,47 @@ impl Nest {
     }
 
     fn give_node(&self, levels: &mut Levels, number: u32) {
-        let sets = &mut levels.sets;
-        let (even, odd) = if self.low % 2 == 1 {
-            (&mut sets.given, &mut sets.barred)
-        } else {
-            (&mut sets.barred, &mut sets.given)
-        };
-        even.fill(number, false);
-        odd.fill(number, false);
-        levels.board.give_zeros(odd, number);
+        levels.sets.given.fill(number, false);
+        levels.sets.barred.fill(number, false);
+        self.give_zeros(levels, number);
         for outer in &self.outers {
             let won = outer.won.row(number);
-            if outer.held.is_odd() {
-                even.add_row(number, won);
+            if outer.held.is_odd() == self.is_low_odd() {
+                levels.sets.given.add_row(number, won);
             } else {
-                odd.add_row(number, won);
+                levels.sets.barred.add_row(number, won);
             }
         }
         if levels.parts.get(number) >= self.nodes {
-            levels.board.tops.add_row(number, odd.row(number));
-            levels.board.tops.remove_row(number, even.row(number));
+            self.give_tops(levels, number);
+        }
+    }
+
+    // Whether the binders of the lowest block are Odd's.
+    fn is_low_odd(&self) -> bool {
+        self.low % 2 == 1
+    }
+
+    fn give_zeros(&self, levels: &mut Levels, number: u32) {
+        let zeros = levels.board.zeros(number);
+        if self.is_low_odd() {
+            levels.sets.barred.add_row(number, zeros);
+        } else {
+            levels.sets.given.add_row(number, zeros);
+        }
+    }
+
+    fn give_tops(&self, levels: &mut Levels, number: u32) {
+        let (given, barred) = (
+            levels.sets.given.row(number),
+            levels.sets.barred.row(number),
+        );
+        if self.is_low_odd() {
+            levels.board.tops.add_row(number, barred);
+            levels.board.tops.remove_row(number, given);
+        } else {
+            levels.board.tops.add_row(number, given);
+            levels.board.tops.remove_row(number, barred);
         }
     }
 
@@ -350,8 +383,9 @@ impl Nest {
     fn end_node(&mut self, levels: &mut Levels, held: Held, number: u32) {
         levels.board.gain(held, number, &mut self.lost, number);
         self.fresh.set_rest(0, self.lost.row(number));
+        let top = self.outers.len();
         if !self.fresh.is_empty(0) {
-            self.write(levels, self.outers.len(), number, 0);
+            self.write(levels, top, number, 0);
         }
     }
 }

@@ -245,10 +245,11 @@ impl Board {
         self.reasons.is_some() && self.form.root(number) != part
     }
 
-    /// Adds the states at which a place is won by Odd from the beginning.
-    pub(crate) fn give_zeros(&self, set: &mut Sheet, number: u32) {
-        if let Some(reasons) = &self.reasons {
-            set.add_row(number, reasons.zeros.row(number));
+    /// The states at which a place is won by Odd from the beginning.
+    pub(crate) fn zeros(&self, number: u32) -> &[u64] {
+        match &self.reasons {
+            Some(reasons) => reasons.zeros.row(number),
+            None => &[],
         }
     }
 

@@ -108,9 +108,10 @@ impl Levels {
     fn find_gone(&mut self, held: Held, gone: &mut Gone) {
         gone.clear();
         let count = self.count_gone(held);
+        let states = self.board.states;
         let is_soon = self.board.exits == Exits::Marks && self.count() <= FEW_LEVELS;
         gone.are_many = count > self.most_places()
-            || (count > 0 && is_soon && self.sets.looks_on(&self.board, self.board.states));
+            || (count > 0 && is_soon && self.sets.looks_on(&self.board, states));
         if gone.are_many {
             return;
         }

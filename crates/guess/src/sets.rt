@@ -179,6 +179,10 @@ impl Sets {
         for word in 0..self.done.width() {
             self.see_stuck_in(board, part, word, board.kinds_in(word));
         }
+        self.note_seen(board, part);
+    }
+
+    fn note_seen(&mut self, board: &Board, part: u32) {
         for number in part..board.form.count() {
             if is_modality(board, part, number) {
                 self.seen.set(number, 1);
@@ -464,15 +468,24 @@ fn is_modality(board: &Board, part: u32, number: u32) -> bool {
     is_here && matches!(board.form.node(number).shape, Shape::Dia | Shape::Box)
 }
 
-// The states of a word with none of the kinds in a mask.
-fn stuck_in(kinds: [u64; WORD as usize], mask: u64) -> u64 {
+// The kinds that some state of a word has, and those that all have.
+fn some_and_all(kinds: &[u64]) -> (u64, u64) {
     let (mut some, mut all) = (0, u64::MAX);
     for kind in kinds {
-        some |= kind;
-        all &= kind;
+        some |= *kind;
+        all &= *kind;
     }
-    if some & mask == 0 || all & mask != 0 {
-        return if some & mask == 0 { u64::MAX } else { 0 };
+    (some, all)
+}
+
+// The states of a word with none of the kinds in a mask.
+fn stuck_in(kinds: [u64; WORD as usize], mask: u64) -> u64 {
+    let (some, all) = some_and_all(&kinds);
+    if some & mask == 0 {
+        return u64::MAX;
+    }
+    if all & mask != 0 {
+        return 0;
     }
     let mut bits = 0;
     for kind in kinds {

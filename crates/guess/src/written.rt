@@ -132,6 +132,20 @@ fn part_of(writing: Writing<'_>, word: u32) -> Part {
     }
 }
 
+// The numbers of a node that are counted below, by state.
+fn list_below<'a>(
+    levels: &'a [Numbers],
+    rounds: &'a [Numbers],
+    node: usize,
+    below: Below,
+) -> &'a [u32] {
+    match below {
+        Below::Levels(_) => list(levels, node),
+        Below::Rounds(_) => list(rounds, node),
+        _ => &[],
+    }
+}
+
 // Writes the words of a part, where these numbers are counted below, if any are.
 fn write_part(words: &mut [u64], numbers: &[u32], part: Part, below: Below) {
     match below {
@@ -192,11 +206,7 @@ impl Board {
             return;
         }
         let words = self.words[node].as_mut_slice();
-        let numbers = match below {
-            Below::Levels(_) => list(&self.levels, node),
-            Below::Rounds(_) => list(&self.rounds, node),
-            _ => &[],
-        };
+        let numbers = list_below(&self.levels, &self.rounds, node, below);
         for word in 0..self.tops.width() {
             let part = part_of(writing, word);
             if part.bits != 0 {
