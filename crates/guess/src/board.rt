@@ -1,6 +1,7 @@
 // What is known of each node at each state.
 
 use crate::bits::{Sheet, WORD, bit};
+use crate::crew::Crew;
 use crate::edges::{Edges, takes};
 use crate::form::{Form, Side};
 use crate::layout::Layout;
@@ -36,7 +37,7 @@ pub(crate) enum Exits {
 /// Values, levels and rounds by node and state, with the edges and nodes that they are of. Variables are as their binders.
 #[derive(Drop)]
 pub(crate) struct Board {
-    alloc: Global,
+    pub(crate) alloc: Global,
     pub(crate) states: u32,
     pub(crate) forth: Edges,
     /// Whether edges lead nearby.
@@ -151,10 +152,13 @@ impl Board {
     }
 
     /// Makes the edges back from each state, if they aren't there yet.
-    pub(crate) fn open_back(&mut self, alloc: Global) {
+    pub(crate) fn open_back<C: Crew>(&mut self, crew: &C, alloc: Global) {
         if self.back.is_none() {
             let mut stock = Stock::new(alloc);
-            self.back = Some(self.forth.reversed(&mut stock, self.states, self.are_near));
+            let back = self
+                .forth
+                .reversed(crew, &mut stock, self.states, self.are_near);
+            self.back = Some(back);
             self.is_whole &= stock.is_whole();
         }
     }

@@ -2,10 +2,12 @@
 // rests on them but time: what is guessed has to be tested.
 #![tactic(auto)]
 
+mod back;
 mod bits;
 mod blocks;
 mod board;
 pub mod columns;
+mod crew;
 mod deep;
 mod edges;
 mod few;
@@ -17,10 +19,12 @@ mod nested;
 mod numbers;
 mod order;
 mod places;
+mod pull;
 pub mod ranks;
 mod reasons;
 mod rounds;
 pub mod scale;
+mod scan;
 mod set_rounds;
 mod sets;
 mod single;

@@ -3,6 +3,7 @@
 
 use crate::bits::{Sheet, WORD, bit};
 use crate::blocks::Blocks;
+use crate::crew::Crew;
 use crate::layout::Layout;
 use crate::levels::Levels;
 use crate::places::{Place, Places};
@@ -50,8 +51,9 @@ impl Outer {
 impl Levels {
     /// Finds who wins in a component, with the words of each node where a layout says how they are, while what is left of this budget allows. The
     /// answer is whether the rounds came to an end, and all counts fit.
-    pub(crate) fn run_blocks(
+    pub(crate) fn run_blocks<C: Crew>(
         &mut self,
+        crew: &C,
         alloc: Global,
         part: u32,
         blocks: &Blocks,
@@ -62,8 +64,8 @@ impl Levels {
         let mut gone = Places::new(alloc);
         for _ in 0..u32::MAX {
             *budget = budget.saturating_sub(self.size());
-            self.run(alloc, part, blocks.order());
-            if !self.run_sets(alloc, nest.inner, budget) {
+            self.run(crew, alloc, part, blocks.order());
+            if !self.run_sets(crew, alloc, nest.inner, budget) {
                 return false;
             }
             if !nest.turn(self, &mut gone) {

@@ -2,6 +2,7 @@
 
 use crate::bits::{WORD, bit};
 use crate::board::{Board, Exits, NEVER};
+use crate::crew::{Alone, Crew};
 use crate::levels::Levels;
 use crate::places::{Place, Places};
 use crate::rounds::{Held, inner_time, outer_time};
@@ -14,7 +15,13 @@ const MANY: u32 = 20;
 
 impl Levels {
     /// Goes on after the first round, while what is left of this budget allows. The answer is whether the rounds came to an end.
-    pub(crate) fn run_sets(&mut self, alloc: Global, held: Held, budget: &mut u64) -> bool {
+    pub(crate) fn run_sets<C: Crew>(
+        &mut self,
+        crew: &C,
+        alloc: Global,
+        held: Held,
+        budget: &mut u64,
+    ) -> bool {
         let mut gone = Places::new(alloc);
         let mut next = Places::new(alloc);
         let mut left = *budget;
@@ -26,7 +33,8 @@ impl Levels {
                 break;
             }
             self.mark(held, gone.as_slice(), round);
-            let work = self.shrink(alloc, held, round.saturating_add(1), &mut gone, &mut next);
+            let next_round = round.saturating_add(1);
+            let work = self.shrink(crew, alloc, held, next_round, &mut gone, &mut next);
             left = left.saturating_sub(work);
             mem::swap(&mut gone, &mut next);
         }
@@ -35,8 +43,9 @@ impl Levels {
     }
 
     // One more round, after these places of held binders are gone: those that go next. The answer is how much it took.
-    fn shrink(
+    fn shrink<C: Crew>(
         &mut self,
+        crew: &C,
         alloc: Global,
         held: Held,
         round: u32,
@@ -45,11 +54,12 @@ impl Levels {
     ) -> u64 {
         next.clear();
         if gone.len() > (self.board.states / MANY) as usize {
-            self.run(alloc, held.part, held.order());
+            self.run(crew, alloc, held.part, held.order());
             self.note(held, round);
             self.find_gone(held, next);
             return self.size();
         }
+        self.board.open_back(crew, alloc);
         self.withdraw(gone);
         for place in gone.as_slice() {
             if !self.sets.done.has(place.node, place.state) {
@@ -117,7 +127,7 @@ impl Levels {
             }
         }
         self.keep(held, round);
-        self.run(alloc, held.part, held.order())
+        self.run(&Alone, alloc, held.part, held.order())
     }
 }
 
