@@ -2,6 +2,7 @@
 
 use crate::bits::{Sheet, WORD, bit};
 use crate::codes::Codes;
+use crate::crew::Crew;
 use crate::edges::{Edges, kinds_of, takes};
 use crate::form::{Form, Side};
 use crate::layout::Layout;
@@ -153,10 +154,13 @@ impl Board {
     }
 
     /// Makes the edges back from each state, if they aren't there yet.
-    pub(crate) fn open_back(&mut self, alloc: Global) {
+    pub(crate) fn open_back<C: Crew>(&mut self, crew: &C, alloc: Global) {
         if self.back.is_none() {
             let mut stock = Stock::new(alloc);
-            self.back = Some(self.forth.reversed(&mut stock, self.states, self.are_near));
+            let back = self
+                .forth
+                .reversed(crew, &mut stock, self.states, self.are_near);
+            self.back = Some(back);
             self.is_whole &= stock.is_whole();
         }
     }

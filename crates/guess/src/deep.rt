@@ -4,6 +4,7 @@
 use crate::bits::{Sheet, WORD};
 use crate::blocks::Blocks;
 use crate::board::{Known, no_words};
+use crate::crew::Alone;
 use crate::form::Shape;
 use crate::levels::Levels;
 use crate::numbers::Words;
@@ -117,7 +118,7 @@ impl Deep {
     fn find_rest(&self, levels: &mut Levels, alloc: Global) -> bool {
         let left = Blocks::below(&levels.board.form, self.part, self.end);
         if left.count() <= 1 {
-            levels.run(alloc, self.part, left.order());
+            levels.run(&Alone, alloc, self.part, left.order());
             return true;
         }
         levels.run_rounds(alloc, self.part, self.priority)
@@ -177,13 +178,13 @@ impl Deep {
     fn solve(&mut self, levels: &mut Levels, alloc: Global) -> bool {
         if self.blocks.count() > 2 {
             let blocks = self.blocks;
-            return levels.run_blocks(alloc, self.part, &blocks, None, &mut self.budget);
+            return levels.run_blocks(&Alone, alloc, self.part, &blocks, None, &mut self.budget);
         }
         let held = Held::of(&levels.board.form, self.part, &self.blocks, 1);
         levels.hold(alloc, held);
-        levels.run(alloc, self.part, held.order());
+        levels.run(&Alone, alloc, self.part, held.order());
         self.budget = self.budget.saturating_sub(levels.size());
-        levels.run_sets(alloc, held, &mut self.budget)
+        levels.run_sets(&Alone, alloc, held, &mut self.budget)
     }
 
     // Notes the values that the limit at hand tells. The answer is whether held binders have some.

@@ -2,6 +2,7 @@
 
 use crate::bits::{Fronts, Sheet, WORD};
 use crate::board::{Board, Exits, Known};
+use crate::crew::Crew;
 use crate::few::{Few, are_few};
 use crate::form::{NONE, Node, Shape};
 use crate::later::Later;
@@ -119,14 +120,14 @@ impl Levels {
     }
 
     /// Finds the values of a part, whose binders have the parity of this order, from those of the nodes outside.
-    pub(crate) fn run(&mut self, alloc: Global, part: u32, order: Order) {
+    pub(crate) fn run<C: Crew>(&mut self, crew: &C, alloc: Global, part: u32, order: Order) {
         self.part = part;
         self.order = order;
         self.value = order.first();
         self.depth = 0;
         self.first = self.board.values.len();
-        self.begin(alloc);
-        self.climb();
+        self.begin(crew, alloc);
+        self.climb(crew);
         self.finish();
     }
 
@@ -173,7 +174,7 @@ impl Levels {
         least
     }
 
-    fn begin(&mut self, alloc: Global) {
+    fn begin<C: Crew>(&mut self, crew: &C, alloc: Global) {
         self.members.clear();
         self.sources.clear();
         self.events.clear();
@@ -183,7 +184,7 @@ impl Levels {
         self.runs = self.runs.saturating_add(1);
         for number in 0..self.board.form.count() {
             if self.is_inside(number) {
-                self.open(alloc, number);
+                self.open(crew, alloc, number);
             } else if self.is_held(number) {
                 self.see(number);
             }
@@ -212,7 +213,7 @@ impl Levels {
     }
 
     // Takes a node into the part, and forgets what was known of it.
-    fn open(&mut self, alloc: Global, node: u32) {
+    fn open<C: Crew>(&mut self, crew: &C, alloc: Global, node: u32) {
         let height = self.board.form.height(node);
         self.is_whole &= self.members.push(Member { node, height }).is_ok();
         self.few.link(&self.board.form, self.order, node);
@@ -286,13 +287,13 @@ impl Levels {
         self.is_whole &= self.events.push(event).is_ok();
     }
 
-    pub(crate) fn climb(&mut self) {
+    pub(crate) fn climb<C: Crew>(&mut self, crew: &C) {
         for _ in 0..u64::MAX {
             if self.is_listed {
                 let first = self.depth;
                 self.depth = self.few.climb(&mut self.board, &mut self.sets, first);
             } else {
-                self.spread();
+                self.spread(crew);
                 self.put_off();
                 self.record();
             }
@@ -420,25 +421,28 @@ impl Levels {
     }
 
     // Carries what is final from children to parents, up to the binders.
-    fn spread(&mut self) {
+    fn spread<C: Crew>(&mut self, crew: &C) {
         for at in 0..self.members.len() {
             if let Some(member) = self.members.get(at).copied() {
-                self.spread_to(member.node);
+                self.spread_to(crew, member.node);
             }
         }
     }
 
-    fn spread_to(&mut self, number: u32) {
+    fn spread_to<C: Crew>(&mut self, crew: &C, number: u32) {
         let node = self.board.form.node(number);
         let wait = self.order.wait(node.shape);
         let [left, right] = self.board.form.operands(number);
         match node.shape {
-            Shape::Dia | Shape::Box => self.step(Step {
-                node: number,
-                operand: left,
-                mask: node.mask,
-                wait,
-            }),
+            Shape::Dia | Shape::Box => {
+                let step = Step {
+                    node: number,
+                    operand: left,
+                    mask: node.mask,
+                    wait,
+                };
+                self.step(crew, step)
+            }
             Shape::And | Shape::Or => {
                 self.sets.join_both(&self.board, number, left, right, wait);
             }
@@ -447,13 +451,13 @@ impl Levels {
     }
 
     // Carries an operand's states on to a modality.
-    fn step(&mut self, step: Step) {
-        match self.sets.way(&self.board, step) {
+    fn step<C: Crew>(&mut self, crew: &C, step: Step) {
+        match self.sets.way(crew, &self.board, step) {
             Way::None => {}
             Way::Whole => self.sets.add_whole(&self.board, step),
-            Way::Pull => self.sets.pull(&self.board, step),
+            Way::Pull => self.sets.pull(crew, &self.board, step),
             Way::Push => {
-                self.board.open_back(self.alloc);
+                self.board.open_back(crew, self.alloc);
                 self.sets.push(&self.board, step);
             }
         }

@@ -2,11 +2,13 @@
 // rests on them but time: what is guessed has to be tested.
 #![tactic(auto)]
 
+mod back;
 mod bits;
 mod blocks;
 mod board;
 mod codes;
 pub mod columns;
+mod crew;
 mod deep;
 mod edges;
 mod few;
@@ -19,10 +21,12 @@ mod numbers;
 mod order;
 mod pairs;
 mod places;
+mod pull;
 pub mod ranks;
 mod reasons;
 mod rounds;
 pub mod scale;
+mod scan;
 mod set_rounds;
 mod sets;
 mod single;

@@ -4,6 +4,7 @@
 use crate::bits::Sheet;
 use crate::blocks::Blocks;
 use crate::codes::Writing;
+use crate::crew::Crew;
 use crate::layout::Layout;
 use crate::levels::Levels;
 use crate::rounds::{Held, inner_time, outer_time};
@@ -55,8 +56,9 @@ impl Outer {
 impl Levels {
     /// Finds who wins in a component, with the words of each node where a layout says how they are, while what is left of this budget allows. The
     /// answer is whether the rounds came to an end, and all counts fit.
-    pub(crate) fn run_blocks(
+    pub(crate) fn run_blocks<C: Crew>(
         &mut self,
+        crew: &C,
         alloc: Global,
         part: u32,
         blocks: &Blocks,
@@ -66,8 +68,8 @@ impl Levels {
         let mut nest = self.nest(alloc, part, blocks, layout);
         for _ in 0..u32::MAX {
             *budget = budget.saturating_sub(self.size());
-            self.run(alloc, part, blocks.order());
-            if !self.run_sets(alloc, nest.inner, budget) {
+            self.run(crew, alloc, part, blocks.order());
+            if !self.run_sets(crew, alloc, nest.inner, budget) {
                 return false;
             }
             if !nest.turn(self) {

@@ -53,6 +53,17 @@ impl Numbers {
         &self.items
     }
 
+    pub(crate) fn as_mut_slice(&mut self) -> &mut [u32] {
+        &mut self.items
+    }
+
+    /// All numbers but so many of the first.
+    pub(crate) fn rest_mut(&mut self, first: usize) -> &mut [u32] {
+        let first = first.min(self.items.len());
+        let (_, rest) = self.items.split_at_mut(first);
+        rest
+    }
+
     #[inline(always)]
     pub(crate) fn get(&self, place: u32) -> u32 {
         self.items.get(place as usize).copied().unwrap_or(0)

@@ -3,6 +3,7 @@
 use crate::blocks::Blocks;
 use crate::board::{Board, Exits};
 use crate::columns::{Column, Columns, Counted, Halves};
+use crate::crew::{Crew, Team};
 use crate::form::{Form, NONE, Side};
 use crate::layout::{Fields, Layout, MARK};
 use crate::levels::Levels;
@@ -14,6 +15,7 @@ use crate::stock::Stock;
 use crate::whole::levels_of;
 use normal::form::Normal;
 use std::alloc::{AllocError, Global};
+use std::thread::Threads;
 use systems::system::Lts;
 use text::Memory;
 
@@ -101,9 +103,15 @@ fn same(root: u32, count: Count) -> Ranked {
 }
 
 // Finds who wins in a component. The answer is nothing where that takes too long, or where a count doesn't fit.
-fn solve(alloc: Global, levels: &mut Levels, layout: &Layout, root: u32) -> Option<Ranked> {
+fn solve<C: Crew>(
+    crew: &C,
+    alloc: Global,
+    levels: &mut Levels,
+    layout: &Layout,
+    root: u32,
+) -> Option<Ranked> {
     if size(&levels.board.form, root) <= 1 {
-        levels.board.lift(alloc, root);
+        levels.board.lift(crew, alloc, root);
         return Some(same(root, Count::Nothing));
     }
     let blocks = Blocks::of(&levels.board.form, root);
@@ -112,11 +120,11 @@ fn solve(alloc: Global, levels: &mut Levels, layout: &Layout, root: u32) -> Opti
     let is_done = match blocks.count() {
         0 => false,
         1 => {
-            levels.run(alloc, root, blocks.order());
+            levels.run(crew, alloc, root, blocks.order());
             true
         }
-        2 => levels.run_two(alloc, held),
-        _ => levels.run_blocks(alloc, root, &blocks, Some(*layout), &mut budget),
+        2 => levels.run_two(crew, alloc, held),
+        _ => levels.run_blocks(crew, alloc, root, &blocks, Some(*layout), &mut budget),
     };
     match blocks.count() {
         1 => {}
@@ -134,17 +142,17 @@ fn solve(alloc: Global, levels: &mut Levels, layout: &Layout, root: u32) -> Opti
 
 impl Ranks {
     // Finds who wins in each component, bottom up. The answer is whether it was found of all.
-    fn solve_all(&mut self, alloc: Global) -> bool {
+    fn solve_all<C: Crew>(&mut self, crew: &C, alloc: Global) -> bool {
         for root in (0..self.levels.board.form.count()).rev() {
-            if self.levels.board.form.root(root) == root && !self.solve(alloc, root) {
+            if self.levels.board.form.root(root) == root && !self.solve(crew, alloc, root) {
                 return false;
             }
         }
         self.levels.is_whole()
     }
 
-    fn solve(&mut self, alloc: Global, root: u32) -> bool {
-        match solve(alloc, &mut self.levels, &self.layout, root) {
+    fn solve<C: Crew>(&mut self, crew: &C, alloc: Global, root: u32) -> bool {
+        match solve(crew, alloc, &mut self.levels, &self.layout, root) {
             Some(part) => {
                 let place = u32::try_from(self.parts.len()).unwrap_or(NONE);
                 self.places.set(root, place);
@@ -308,19 +316,19 @@ fn open(alloc: Global, levels: Levels, layout: Layout) -> Option<Ranks> {
 }
 
 // The components of these levels. There is nothing where the winners of one aren't found.
-fn find(alloc: Global, levels: Levels) -> Option<Ranks> {
+fn find<C: Crew>(crew: &C, alloc: Global, levels: Levels) -> Option<Ranks> {
     match Layout::of(&levels.board.form) {
         Some(layout) => match open(alloc, levels, layout) {
-            Some(ranks) => solved(alloc, ranks),
+            Some(ranks) => solved(crew, alloc, ranks),
             None => None,
         },
         None => None,
     }
 }
 
-fn solved(alloc: Global, ranks: Ranks) -> Option<Ranks> {
+fn solved<C: Crew>(crew: &C, alloc: Global, ranks: Ranks) -> Option<Ranks> {
     let mut ranks = ranks;
-    if ranks.solve_all(alloc) {
+    if ranks.solve_all(crew, alloc) {
         Some(ranks)
     } else {
         None
@@ -328,20 +336,26 @@ fn solved(alloc: Global, ranks: Ranks) -> Option<Ranks> {
 }
 
 /// Guesses who wins each node of a normal form at each state of a system, as a ranking. The answer is nothing where that takes too long,
-/// where its counts don't fit a word, or for want of memory.
+/// where its counts don't fit a word, or for want of memory. Of a large system so many threads share what they can.
 ///
 /// # Errors
 /// Want of memory, and nothing else.
-pub fn columns(alloc: Global, lts: &Lts, normal: &Normal) -> Result<Option<Columns>, Memory> {
-    match find_in(alloc, lts, normal) {
+pub fn columns<R: Threads>(
+    rt: &R,
+    alloc: Global,
+    lts: &Lts,
+    normal: &Normal,
+    workers: u32,
+) -> Result<Option<Columns>, Memory> {
+    match find_in(&Team { rt, workers }, alloc, lts, normal) {
         Some(ranks) => Ok(ranks.into_columns(alloc)?),
         None => Ok(None),
     }
 }
 
-fn find_in(alloc: Global, lts: &Lts, normal: &Normal) -> Option<Ranks> {
+fn find_in<C: Crew>(crew: &C, alloc: Global, lts: &Lts, normal: &Normal) -> Option<Ranks> {
     match levels_of(alloc, lts, normal, Side::Own, Scale::none(), Exits::Marks) {
-        Some(levels) => find(alloc, levels),
+        Some(levels) => find(crew, alloc, levels),
         None => None,
     }
 }

@@ -5,6 +5,7 @@
 use crate::bits::{Sheet, WORD, bit};
 use crate::blocks::Blocks;
 use crate::board::{Board, Known, no_words};
+use crate::crew::Alone;
 use crate::form::{Shape, Side};
 use crate::layout::Layout;
 use crate::levels::Levels;
@@ -77,7 +78,7 @@ impl Levels {
         self.board.open_reasons(alloc, part);
         self.open_marks(alloc);
         let mut budget = self.budget();
-        let are_found = self.run_blocks(alloc, part, blocks, Some(*layout), &mut budget);
+        let are_found = self.run_blocks(&Alone, alloc, part, blocks, Some(*layout), &mut budget);
         self.close_marks(alloc);
         self.list_words(part);
         self.board.close_reasons(part);

@@ -3,6 +3,7 @@
 use crate::bits::Sheet;
 use crate::blocks::Blocks;
 use crate::board::{Board, Exits, Known, NEVER};
+use crate::crew::{Alone, Crew};
 use crate::form::{Form, Shape};
 use crate::levels::Levels;
 use crate::order::Order;
@@ -81,21 +82,21 @@ impl Levels {
     pub(crate) fn run_rounds(&mut self, alloc: Global, part: u32, priority: u8) -> bool {
         let held = Held::greatest(&self.board.form, part, priority);
         self.hold(alloc, held);
-        self.run(alloc, part, held.order());
+        self.run(&Alone, alloc, part, held.order());
         if self.has_events() {
             self.run_values(alloc, held)
         } else {
             let mut budget = self.budget();
-            self.run_sets(alloc, held, &mut budget)
+            self.run_sets(&Alone, alloc, held, &mut budget)
         }
     }
 
     /// Finds who wins in a part of two blocks, of which the greater is held. The answer is whether the rounds came to an end.
-    pub(crate) fn run_two(&mut self, alloc: Global, held: Held) -> bool {
+    pub(crate) fn run_two<C: Crew>(&mut self, crew: &C, alloc: Global, held: Held) -> bool {
         self.hold(alloc, held);
-        self.run(alloc, held.part, held.order());
+        self.run(crew, alloc, held.part, held.order());
         let mut budget = self.budget();
-        self.run_sets(alloc, held, &mut budget)
+        self.run_sets(crew, alloc, held, &mut budget)
     }
 
     // Rounds over values.
@@ -109,7 +110,7 @@ impl Levels {
         let mut fresh = Sheet::new(&mut stock, 1, self.board.states);
         self.board.is_whole &= stock.is_whole();
         for round in 0..self.most_rounds() {
-            self.run(alloc, held.part, held.order());
+            self.run(&Alone, alloc, held.part, held.order());
             self.note(held, round, &mut fresh);
             if !self.turn(held, round) {
                 self.keep(held, round);

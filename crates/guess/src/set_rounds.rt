@@ -2,6 +2,7 @@
 
 use crate::bits::{Sheet, WORD, bit};
 use crate::board::{Board, Exits, NEVER};
+use crate::crew::{Alone, Crew};
 use crate::levels::Levels;
 use crate::places::{Place, Places};
 use crate::rounds::{Held, inner_time, outer_time};
@@ -44,7 +45,13 @@ impl Gone {
 
 impl Levels {
     /// Goes on after the first round, while what is left of this budget allows. The answer is whether the rounds came to an end.
-    pub(crate) fn run_sets(&mut self, alloc: Global, held: Held, budget: &mut u64) -> bool {
+    pub(crate) fn run_sets<C: Crew>(
+        &mut self,
+        crew: &C,
+        alloc: Global,
+        held: Held,
+        budget: &mut u64,
+    ) -> bool {
         let mut gone = Gone::new(alloc);
         let mut next = Gone::new(alloc);
         let mut stock = Stock::new(alloc);
@@ -58,10 +65,11 @@ impl Levels {
                 break;
             }
             let work = if gone.are_many {
-                self.renew(alloc, held, round, &mut fresh);
+                self.renew(crew, alloc, held, round, &mut fresh);
                 self.find_gone(held, &mut next);
                 self.size()
             } else {
+                self.board.open_back(crew, alloc);
                 self.shrink(held, round, &mut gone.places, &mut next)
             };
             left = left.saturating_sub(work);
@@ -72,9 +80,16 @@ impl Levels {
     }
 
     // One more round, after many places of held binders are gone: all is found anew.
-    fn renew(&mut self, alloc: Global, held: Held, round: u32, fresh: &mut Sheet) {
+    fn renew<C: Crew>(
+        &mut self,
+        crew: &C,
+        alloc: Global,
+        held: Held,
+        round: u32,
+        fresh: &mut Sheet,
+    ) {
         self.mark_many(held, round, fresh);
-        self.run(alloc, held.part, held.order());
+        self.run(crew, alloc, held.part, held.order());
         self.note(held, round.saturating_add(1), fresh);
     }
 
@@ -209,7 +224,7 @@ impl Levels {
             }
         }
         self.keep(held, round);
-        self.run(alloc, held.part, held.order())
+        self.run(&Alone, alloc, held.part, held.order())
     }
 }
 

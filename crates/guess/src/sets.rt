@@ -1,12 +1,15 @@
 // At which states each node's value is final, and those from which that isn't carried on yet.
 
-use crate::bits::{Fronts, Sheet, WORD, bit};
+use crate::bits::{Fronts, Sheet, WORD, bit, words_for};
 use crate::board::{Board, Exits, no_numbers};
+use crate::crew::Crew;
 use crate::edges::{state_of, takes};
 use crate::form::Shape;
-use crate::numbers::Numbers;
+use crate::numbers::{Numbers, Words};
 use crate::order::Wait;
 use crate::places::Place;
+use crate::pull::{Pull, first_open};
+use crate::scan::{Scan, Sought};
 use crate::stock::Stock;
 use std::alloc::Global;
 
@@ -64,6 +67,8 @@ pub(crate) struct Sets {
     // Where a modality has no step, for those of which this is known.
     stuck: Sheet,
     seen: Numbers,
+    // What was looked for last, by word.
+    found: Words,
     /// Whether there was memory for all.
     pub(crate) is_whole: bool,
 }
@@ -84,6 +89,7 @@ impl Sets {
             barred: Sheet::new(stock, 0, states),
             stuck: Sheet::new(stock, nodes, states),
             seen: Numbers::filled(stock, 0, nodes as usize),
+            found: Words::filled(stock, 0, words_for(states) as usize),
             is_whole: true,
         }
     }
@@ -322,18 +328,24 @@ impl Sets {
         }
     }
 
+    // How many states a modality isn't final at.
+    fn states_left(&self, board: &Board, step: Step) -> u32 {
+        board.states.saturating_sub(self.sizes.get(step.node))
+    }
+
     /// How an operand's states are carried on to a modality: by the edges back from them, or where they are many, or few are left, along
-    /// the edges of what is left.
-    pub(crate) fn way(&mut self, board: &Board, step: Step) -> Way {
+    /// the edges of what is left, which threads share.
+    pub(crate) fn way<C: Crew>(&mut self, crew: &C, board: &Board, step: Step) -> Way {
         let many = self.fronts.count(step.operand);
-        let left = board.states.saturating_sub(self.sizes.get(step.node));
+        let left = self.states_left(board, step);
         if many == 0 {
             return Way::None;
         }
         if many == board.states && board.reasons.is_none() {
             return Way::Whole;
         }
-        if many > FEW && many.saturating_mul(8) > left {
+        let share = left / crew.hands(left as usize).max(1);
+        if many > FEW && many.saturating_mul(8) > share {
             return Way::Pull;
         }
         if self.looks_on(board, left) {
@@ -403,62 +415,55 @@ impl Sets {
             return false;
         };
         let first = cursors.get(state);
-        let mut passed = first;
-        for edge in board.forth.row_from(state, first) {
-            let target = state_of(*edge);
-            let is_open = takes(step.mask, *edge) && !self.done.has(step.operand, target);
-            if is_open && board.leads(step.node, state, target) {
-                if passed != first {
-                    cursors.set(state, passed);
-                    self.moved.set(step.node, 1);
-                }
-                return false;
-            }
-            passed = passed.saturating_add(1);
+        let Some(passed) = first_open(board, &self.done, step, state, first) else {
+            return true;
+        };
+        if passed != first {
+            cursors.set(state, passed);
+            self.moved.set(step.node, 1);
         }
-        true
+        false
     }
 
     /// Carries states on from those that are left.
-    pub(crate) fn pull(&mut self, board: &Board, step: Step) {
-        for word in 0..self.done.width() {
-            let left = self.left(step.node, word);
-            let bits = self.pulled(board, step, word, left);
-            if bits != 0 {
-                self.add(step.node, word, bits);
-            }
-        }
-    }
-
-    // At which of these states of a word a modality's value is final.
-    fn pulled(&mut self, board: &Board, step: Step, word: u32, mut left: u64) -> u64 {
-        let mut bits = 0;
-        for _ in 0..WORD {
-            if left == 0 {
-                break;
-            }
-            let place = left.trailing_zeros();
-            left &= left.wrapping_sub(1);
-            let state = word.wrapping_mul(WORD).wrapping_add(place);
-            if self.is_reached(board, step, state) {
-                bits |= bit(place);
-            }
-        }
-        bits
-    }
-
-    fn is_reached(&mut self, board: &Board, step: Step, state: u32) -> bool {
+    pub(crate) fn pull<C: Crew>(&mut self, crew: &C, board: &Board, step: Step) {
+        let states = self.states_left(board, step);
+        let pull = Pull {
+            board,
+            step,
+            done: &self.done,
+            open: &self.open,
+            fronts: &self.fronts,
+        };
         if step.wait == Wait::All {
-            return self.has_all(board, step, state);
+            self.moved.set(step.node, 1);
         }
-        for edge in board.forth.row(state) {
-            let target = state_of(*edge);
-            let is_there = takes(step.mask, *edge) && self.fronts.has(step.operand, target);
-            if is_there && board.leads(step.node, state, target) {
-                return true;
+        crew.scan(Scan {
+            sought: Sought::Reached(pull),
+            states,
+            first: 0,
+            words: self.found.as_mut_slice(),
+            cursors: cursors_of(&mut self.cursors, step),
+        });
+        self.add_found(step.node);
+    }
+
+    // A node is final at the states that were found.
+    fn add_found(&mut self, node: u32) {
+        for word in 0..self.done.width() {
+            let bits = self.found.get(word);
+            if bits != 0 {
+                self.add(node, word, bits);
             }
         }
-        false
+    }
+}
+
+// The cursors of a modality, if it waits for all successors.
+fn cursors_of(cursors: &mut [Numbers], step: Step) -> &mut [u32] {
+    match cursors.get_mut(step.node as usize) {
+        Some(cursors) if step.wait == Wait::All => cursors.as_mut_slice(),
+        _ => &mut [],
     }
 }
 

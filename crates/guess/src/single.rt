@@ -1,18 +1,21 @@
 // The values of a node that is on no cycle: one pass over its children's.
 
-use crate::bits::bit;
 use crate::board::{Board, Exits, Known};
+use crate::crew::Crew;
 use crate::edges::{state_of, takes};
 use crate::form::{Node, Shape};
+use crate::numbers::Words;
 use crate::scale::{TOP, ZERO};
+use crate::scan::{Scan, Sought};
+use crate::stock::Stock;
 use std::alloc::Global;
 
 impl Board {
     /// Lifts a node at each state.
-    pub(crate) fn lift(&mut self, alloc: Global, number: u32) {
+    pub(crate) fn lift<C: Crew>(&mut self, crew: &C, alloc: Global, number: u32) {
         let node = self.form.node(number);
         if self.has_tops(number, node) {
-            self.lift_sets(number, node);
+            self.lift_sets(crew, number, node);
             return;
         }
         self.fill_words(alloc, number, ZERO);
@@ -43,8 +46,16 @@ impl Board {
         }
     }
 
-    fn lift_sets(&mut self, number: u32, node: Node) {
+    fn lift_sets<C: Crew>(&mut self, crew: &C, number: u32, node: Node) {
         let [left, right] = self.form.operands(number);
+        match node.shape {
+            Shape::Dia | Shape::Box => self.step_sets(crew, number, node, left),
+            _ => self.join_sets(number, node, left, right),
+        }
+        self.set_known(number, Known::Tops);
+    }
+
+    fn join_sets(&mut self, number: u32, node: Node, left: u32, right: u32) {
         for word in 0..self.tops.width() {
             let (these, those) = (self.tops.word(left, word), self.tops.word(right, word));
             let bits = match node.shape {
@@ -52,28 +63,35 @@ impl Board {
                 Shape::False => self.tops.full(word),
                 Shape::And => these | those,
                 Shape::Or => these & those,
-                Shape::Dia | Shape::Box => self.stepped(node, left, word),
-                Shape::Binder | Shape::Variable => these,
+                _ => these,
             };
             self.tops.set_word(number, word, bits);
         }
-        self.set_known(number, Known::Tops);
     }
 
-    // At which states of a word a modality has top.
-    fn stepped(&self, node: Node, operand: u32, word: u32) -> u64 {
-        let mut bits = 0;
-        for state in self.states_of(word) {
-            let has_top = if node.shape == Shape::Dia {
-                self.has_tops_after(node.mask, operand, state)
-            } else {
-                self.has_top_after(node.mask, operand, state)
-            };
-            if has_top {
-                bits |= bit(state);
-            }
+    fn step_sets<C: Crew>(&mut self, crew: &C, number: u32, node: Node, operand: u32) {
+        let mut stock = Stock::new(self.alloc);
+        let mut found = Words::filled(&mut stock, 0, self.tops.width() as usize);
+        crew.scan(Scan {
+            sought: Sought::Topped(self, node, operand),
+            states: self.states,
+            first: 0,
+            words: found.as_mut_slice(),
+            cursors: &mut [],
+        });
+        for word in 0..self.tops.width() {
+            self.tops.set_word(number, word, found.get(word));
         }
-        bits
+        self.is_whole &= stock.is_whole();
+    }
+
+    /// Whether a modality has top at a state.
+    #[inline(always)]
+    pub(crate) fn has_top(&self, node: Node, operand: u32, state: u32) -> bool {
+        match node.shape {
+            Shape::Dia => self.has_tops_after(node.mask, operand, state),
+            _ => self.has_top_after(node.mask, operand, state),
+        }
     }
 
     // Whether a node has top after each edge of a kind in a mask.

@@ -2,6 +2,7 @@
 // another, from the values without them: a vertex has one step more than the successor that it goes on to, among those of the same value.
 
 use crate::board::{Board, Known, no_numbers};
+use crate::crew::Alone;
 use crate::edges::{state_of, takes};
 use crate::form::{Form, NONE, Node, Shape};
 use crate::numbers::Numbers;
@@ -154,7 +155,7 @@ impl Walk {
             self.open(alloc, board, number);
         }
         self.arrivals.sort_unstable_by_key(|arrival| arrival.steps);
-        board.open_back(alloc);
+        board.open_back(&Alone, alloc);
         self.run(board);
     }
 

@@ -1,6 +1,7 @@
 // The guess of a whole table, component by component of the nodes' graph.
 
 use crate::board::{Board, Exits};
+use crate::crew::Alone;
 use crate::edges::{Edges, Kinds, fits, state_of, takes};
 use crate::form::{Form, NONE, Node, Shape, Side};
 use crate::levels::Levels;
@@ -190,15 +191,15 @@ fn solve(alloc: Global, levels: &mut Levels, root: u32) -> Option<Component> {
     let greatest = binders.greatest;
     let falls = match (binders.nodes, binders.odd, binders.even) {
         (1, _, _) => {
-            levels.board.lift(alloc, root);
+            levels.board.lift(&Alone, alloc, root);
             Falls::Heights
         }
         (_, true, false) => {
-            levels.run(alloc, root, Order::Rising);
+            levels.run(&Alone, alloc, root, Order::Rising);
             Falls::Heights
         }
         (_, false, true) => {
-            levels.run(alloc, root, Order::Falling);
+            levels.run(&Alone, alloc, root, Order::Falling);
             Falls::Times(greatest)
         }
         _ if is_nested(&levels.board.form, root, binders) => {

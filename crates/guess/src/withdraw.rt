@@ -1,6 +1,7 @@
 // Sets of states that shrink: held binders lose states, and with them goes what rested on those alone.
 
 use crate::board::Exits;
+use crate::crew::Alone;
 use crate::edges::{state_of, takes};
 use crate::few::are_few;
 use crate::form::{Node, Shape};
@@ -77,7 +78,7 @@ impl Levels {
 
     /// Takes these places of held binders away, and all that rests on them alone, which the list has then too.
     pub(crate) fn withdraw(&mut self, list: &mut Places) {
-        self.board.open_back(self.alloc);
+        self.board.open_back(&Alone, self.alloc);
         let held = list.len();
         for place in list.as_slice() {
             self.sets.remove(place.node, place.state);
@@ -90,7 +91,7 @@ impl Levels {
         }
         self.bring_back(list.as_slice(), held);
         self.value = self.order.first();
-        self.climb()
+        self.climb(&Alone)
     }
 
     // Takes away what rests on a place.

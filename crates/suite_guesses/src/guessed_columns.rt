@@ -28,7 +28,7 @@ fn is_ranked(rt: &(impl Abort + Threads + AllocGlobal + Sync), question: &Questi
         form,
         ..
     } = question;
-    let Some(guessed) = columns(rt.alloc(), lts, form).expect(rt, "memory") else {
+    let Some(guessed) = columns(rt, rt.alloc(), lts, form, 1).expect(rt, "memory") else {
         return false;
     };
     let sheet = sheet_of(rt.alloc(), guessed);
@@ -55,7 +55,7 @@ fn columns_are_good_rankings(rt: HostRuntime) {
 }
 
 // States of a system that is large enough for threads.
-const MANY: u32 = 60_000;
+const MANY: u32 = 140_000;
 
 // A system with two steps from each state but some, to any state.
 fn large_system(alloc: Global, dice: &mut Dice) -> Result<String, AllocError> {
@@ -85,7 +85,7 @@ fn marks_by(
     workers: u32,
 ) -> Vec<bool> {
     let form = normal(rt.alloc(), formula).expect(rt, "a normal form");
-    let guessed = columns(rt.alloc(), lts, &form).expect(rt, "memory");
+    let guessed = columns(rt, rt.alloc(), lts, &form, workers).expect(rt, "memory");
     let guessed = guessed.expect(rt, "a guess");
     let sheet = sheet_of(rt.alloc(), guessed);
     let sheet = sheet.expect(rt, "shifts that don't fall");
@@ -102,6 +102,7 @@ fn threads_find_the_same_winners(rt: HostRuntime) {
         "nu X. (<true>true && [true]X)",
         "mu X. (<true>true && [!a]X)",
         "nu X. mu Y. ([a]X && [!a]Y)",
+        "nu X. mu Y. nu Z. ((<a>X || [b]Y) && [true]Z)",
     ] {
         let formula = formula_of(rt.alloc(), text).expect(&rt, "a formula");
         let marks = plain_states(rt.alloc(), &lts, &formula).expect(&rt, "memory");

@@ -24,13 +24,19 @@ use std::alloc::Global;
 use std::thread::Threads;
 use workers::team::BoardKind;
 
-/// The ranking that is guessed, if there is one.
-fn guessed_sheet(alloc: Global, system: &Lts, form: &Normal) -> Option<Sheet> {
-    let guessed = columns(alloc, system, form).ok()??;
+// The ranking that so many threads guess, if there is one.
+fn guessed_sheet<H: Threads>(
+    rt: &H,
+    alloc: Global,
+    system: &Lts,
+    form: &Normal,
+    workers: u32,
+) -> Option<Sheet> {
+    let guessed = columns(rt, alloc, system, form, workers).ok()??;
     sheet_of(alloc, guessed)
 }
 
-// A mark for each state, true where Even wins its vertex with the root node, where the ranking that is guessed is good. So many threads test it.
+// A mark for each state, true where Even wins its vertex with the root node, where the ranking that is guessed is good. So many threads guess and test it.
 fn guessed_winners<H: Threads + Sync>(
     rt: &H,
     alloc: Global,
@@ -42,7 +48,7 @@ fn guessed_winners<H: Threads + Sync>(
     ensures wins { IfSome result (λ marks. Marks system.now.system.states marks.items
         (λ s. Wins (arena system.now.system (normal_nodes form.now)) (place (length (normal_nodes form.now)) s 0))) }
 {
-    match guessed_sheet(alloc, system, form) {
+    match guessed_sheet(rt, alloc, system, form, workers) {
         Some(sheet) => root_winners(rt, alloc, system, form, &sheet, workers),
         None => None,
     }
