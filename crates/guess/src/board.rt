@@ -2,7 +2,7 @@
 
 use crate::bits::{Sheet, WORD, bit};
 use crate::edges::{Edges, takes};
-use crate::form::{Form, Side};
+use crate::form::{Form, Shape, Side};
 use crate::layout::Layout;
 use crate::numbers::{Numbers, Words};
 use crate::reasons::Reasons;
@@ -50,6 +50,8 @@ pub(crate) struct Board {
     known: Vec<Known>,
     pub(crate) words: Vec<Words>,
     pub(crate) levels: Vec<Numbers>,
+    /// Whether binders have levels of their own.
+    pub(crate) keeps_binders: bool,
     pub(crate) rounds: Vec<Numbers>,
     /// Ranks that are kept for each node and state, as words.
     pub(crate) ranks: Vec<Words>,
@@ -136,6 +138,7 @@ impl Board {
             known: no_knowledge(stock, count),
             words: no_words(stock, count),
             levels: no_numbers(stock, count),
+            keeps_binders: true,
             rounds: no_numbers(stock, count),
             ranks: no_words(stock, count),
             layout: None,
@@ -165,6 +168,23 @@ impl Board {
         match &self.back {
             Some(edges) => edges.row(state),
             None => &[],
+        }
+    }
+
+    /// Where the edges back from a state stand.
+    #[inline(always)]
+    pub(crate) fn back_ends(&self, state: u32) -> (u32, u32) {
+        match &self.back {
+            Some(edges) => edges.ends(state),
+            None => (0, 0),
+        }
+    }
+
+    #[inline(always)]
+    pub(crate) fn back_edge(&self, at: u32) -> u32 {
+        match &self.back {
+            Some(edges) => edges.at(at),
+            None => 0,
         }
     }
 
@@ -294,6 +314,9 @@ impl Board {
     // Makes room for a node's levels, where there is none. The answer is whether there is some: up to the first level above zero it isn't needed.
     #[inline(never)]
     fn opens_levels(&mut self, node: u32, level: u32) -> bool {
+        if !self.keeps_binders && self.form.node(node).shape == Shape::Binder {
+            return false;
+        }
         let length = self.states as usize;
         match self.levels.get_mut(node as usize) {
             Some(levels) if levels.as_slice().is_empty() && level > 0 => {

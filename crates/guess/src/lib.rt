@@ -13,6 +13,7 @@ mod form;
 mod later;
 mod layout;
 mod levels;
+mod links;
 mod nested;
 mod numbers;
 mod order;

@@ -3,7 +3,7 @@
 use crate::blocks::Blocks;
 use crate::board::{Board, Exits};
 use crate::columns::{Column, Columns, Counted, Halves};
-use crate::form::{Form, NONE, Side};
+use crate::form::{Form, NONE, Shape, Side};
 use crate::layout::{Fields, Layout, MARK};
 use crate::levels::Levels;
 use crate::numbers::{Numbers, Words};
@@ -32,6 +32,8 @@ struct Ranked {
     root: u32,
     even: Count,
     odd: Count,
+    /// Whether the levels of its binders are kept.
+    keeps_binders: bool,
 }
 
 /// What is known of the components.
@@ -67,18 +69,16 @@ fn counted(root: u32, blocks: Blocks, ends: u32) -> Ranked {
     } else {
         Count::Nothing
     };
-    if blocks.priority(0) % 2 == 1 {
-        Ranked {
-            root,
-            even: low,
-            odd: high,
-        }
+    let (even, odd) = if blocks.priority(0) % 2 == 1 {
+        (low, high)
     } else {
-        Ranked {
-            root,
-            even: high,
-            odd: low,
-        }
+        (high, low)
+    };
+    Ranked {
+        root,
+        even,
+        odd,
+        keeps_binders: blocks.count() > 1,
     }
 }
 
@@ -87,6 +87,7 @@ fn same(root: u32, count: Count) -> Ranked {
         root,
         even: count,
         odd: count,
+        keeps_binders: true,
     }
 }
 
@@ -102,7 +103,7 @@ fn solve(alloc: Global, levels: &mut Levels, layout: &Layout, root: u32) -> Opti
     let is_done = match blocks.count() {
         0 => false,
         1 => {
-            levels.run(alloc, root, blocks.order());
+            levels.run_one(alloc, root, blocks.order());
             true
         }
         2 => levels.run_two(alloc, held),
@@ -140,16 +141,46 @@ impl Ranks {
     }
 
     // The words of a node where a player wins, above a group and what is always there.
-    fn rule(&self, fields: &Fields, count: Count, number: u32, base: u64) -> Counted {
+    fn rule(&self, fields: &Fields, part: Ranked, count: Count, node: u32, base: u64) -> Counted {
         let form = &self.levels.board.form;
-        let real = form.real(number);
-        let is_held = self.levels.parts.get(real) >= form.count();
-        let (unit, counts) = match count {
-            Count::Levels(priority) if !is_held => (fields.unit(priority), real),
-            Count::Rounds(priority) => (fields.unit(priority), real.saturating_add(form.count())),
-            _ => (0, NONE),
+        let is_held = self.levels.parts.get(node) >= form.count();
+        match count {
+            Count::Levels(priority) if !is_held && part.keeps_binders => Counted {
+                base,
+                unit: fields.unit(priority),
+                counts: node,
+            },
+            Count::Levels(priority) if !is_held => self.leveled(fields.unit(priority), node, base),
+            Count::Rounds(priority) => Counted {
+                base,
+                unit: fields.unit(priority),
+                counts: node.saturating_add(form.count()),
+            },
+            _ => Counted {
+                base,
+                unit: 0,
+                counts: NONE,
+            },
+        }
+    }
+
+    // The words of a node by its level, where those of binders aren't kept: a binder comes a level after its operand.
+    fn leveled(&self, unit: u64, node: u32, base: u64) -> Counted {
+        let form = &self.levels.board.form;
+        let mut words = Counted {
+            base,
+            unit,
+            counts: node,
         };
-        Counted { base, unit, counts }
+        for _ in 0..form.count() {
+            if form.node(words.counts).shape != Shape::Binder {
+                break;
+            }
+            let [operand, _] = form.operands(words.counts);
+            words.counts = operand;
+            words.base = words.base.wrapping_add(unit);
+        }
+        words
     }
 
     // The words of a node in a component.
@@ -163,8 +194,8 @@ impl Ranks {
         let real = form.real(number);
         Halves {
             marks: real.wrapping_mul(self.levels.board.tops.width()),
-            even: self.rule(&self.layout.even, part.even, number, even),
-            odd: self.rule(&self.layout.odd, part.odd, number, odd),
+            even: self.rule(&self.layout.even, part, part.even, real, even),
+            odd: self.rule(&self.layout.odd, part, part.odd, real, odd),
             words: match part.even {
                 Count::Fields => real,
                 _ => NONE,
