@@ -4,7 +4,7 @@ use crate::bits::{Sheet, WORD, bit};
 use crate::codes::Codes;
 use crate::crew::Crew;
 use crate::edges::{Edges, kinds_of, takes};
-use crate::form::{Form, Side};
+use crate::form::{Form, Shape, Side};
 use crate::layout::Layout;
 use crate::numbers::{Numbers, Words};
 use crate::pairs::{Pairs, no_pairs};
@@ -53,6 +53,8 @@ pub(crate) struct Board {
     known: Vec<Known>,
     pub(crate) words: Vec<Words>,
     pub(crate) levels: Vec<Numbers>,
+    /// Whether binders have levels of their own.
+    pub(crate) keeps_binders: bool,
     pub(crate) rounds: Vec<Numbers>,
     /// The rounds of nodes that have no list of them.
     pub(crate) times: Codes,
@@ -136,6 +138,7 @@ impl Board {
             known: no_knowledge(stock, count),
             words: no_words(stock, count),
             levels: no_numbers(stock, count),
+            keeps_binders: true,
             rounds: no_numbers(stock, count),
             times: Codes::new(stock, count, states),
             codes: Codes::new(stock, count, states),
@@ -183,6 +186,23 @@ impl Board {
             state = state.saturating_add(1);
         }
         kinds
+    }
+
+    /// Where the edges back from a state stand.
+    #[inline(always)]
+    pub(crate) fn back_ends(&self, state: u32) -> (u32, u32) {
+        match &self.back {
+            Some(edges) => edges.ends(state),
+            None => (0, 0),
+        }
+    }
+
+    #[inline(always)]
+    pub(crate) fn back_edge(&self, at: u32) -> u32 {
+        match &self.back {
+            Some(edges) => edges.at(at),
+            None => 0,
+        }
     }
 
     /// Whether an edge from a state is of a kind in a mask.
@@ -311,6 +331,9 @@ impl Board {
     // Makes room for a node's levels, where there is none. The answer is whether there is some: up to the first level above zero it isn't needed.
     #[inline(never)]
     fn opens_levels(&mut self, node: u32, level: u32) -> bool {
+        if !self.keeps_binders && self.form.node(node).shape == Shape::Binder {
+            return false;
+        }
         let length = self.states as usize;
         match self.levels.get_mut(node as usize) {
             Some(levels) if levels.as_slice().is_empty() && level > 0 => {

@@ -3,53 +3,18 @@
 use crate::bits::{WORD, bit};
 use crate::board::Board;
 use crate::edges::{state_of, takes};
-use crate::form::{Form, NONE, Shape};
+use crate::form::Form;
+use crate::links::{Chain, Link, Links, Way};
 use crate::order::{Order, Wait};
 use crate::places::{Place, Places};
 use crate::sets::{Sets, Step};
 use std::alloc::Global;
+use std::mem;
 
 // A level begins at few states where they are at most this part of all, or as few as this.
 const PART: u32 = 64;
 
 const FEW: usize = 64;
-
-/// How a node's states are carried on to one over it.
-#[derive(Clone, Copy)]
-enum Way {
-    /// There is none over it.
-    None,
-    /// To a binder, a level later.
-    Later,
-    /// At once.
-    Now,
-    /// Where this child is final too.
-    With(u32),
-    /// By the edges back.
-    Back(Step),
-}
-
-/// A node over another one, and where the next link of that stands.
-#[derive(Clone, Copy)]
-struct Link {
-    over: u32,
-    way: Way,
-    more: u32,
-}
-
-const NO_LINK: Link = Link {
-    over: NONE,
-    way: Way::None,
-    more: NONE,
-};
-
-/// What is over each node of a part: the first link of a node has its number as its place.
-#[derive(Drop)]
-struct Links {
-    list: Vec<Link>,
-    // Whether there was memory for all.
-    is_whole: bool,
-}
 
 /// What is final in a level, with what is over each node of the part at hand.
 #[derive(Drop)]
@@ -59,68 +24,49 @@ pub(crate) struct Few {
     found: Places,
     /// Binders that become final in the next level.
     next: Places,
+    /// Those that do so in the level at hand.
+    begun: Places,
+}
+
+/// A level that is found place by place.
+#[derive(Drop)]
+struct Climb<'a> {
+    links: &'a Links,
+    found: &'a mut Places,
+    next: &'a mut Places,
+    begun: &'a mut Places,
+    board: &'a mut Board,
+    sets: &'a mut Sets,
+    level: u32,
+}
+
+// How many of all states are few.
+fn most_few(states: u32) -> usize {
+    FEW.max((states / PART) as usize)
 }
 
 /// Whether so many of all states are few.
 pub(crate) fn are_few(many: usize, states: u32) -> bool {
-    many <= FEW.max((states / PART) as usize)
-}
-
-impl Links {
-    // Forgets all links of so many nodes.
-    fn clear(&mut self, nodes: u32) {
-        self.list.clear();
-        for _ in 0..nodes {
-            self.is_whole &= self.list.push(NO_LINK).is_ok();
-        }
-    }
-
-    // A node comes over another one, before those that do so far.
-    fn add(&mut self, under: u32, over: u32, way: Way) {
-        let Some(first) = self.list.get(under as usize).copied() else {
-            return;
-        };
-        let more = match first.way {
-            Way::None => NONE,
-            _ => self.keep(first),
-        };
-        if let Some(link) = self.list.get_mut(under as usize) {
-            *link = Link { over, way, more };
-        }
-    }
-
-    // Keeps a link behind all others. The answer is its place.
-    fn keep(&mut self, link: Link) -> u32 {
-        let place = u32::try_from(self.list.len()).unwrap_or(NONE);
-        self.is_whole &= self.list.push(link).is_ok();
-        place
-    }
-
-    // The links to a junction from one of its children.
-    fn add_joined(&mut self, wait: Wait, over: u32, under: u32, other: u32) {
-        match wait {
-            Wait::Both => self.add(under, over, Way::With(other)),
-            _ => self.add(under, over, Way::Now),
-        }
-    }
+    many <= most_few(states)
 }
 
 impl Few {
     /// Nothing.
     pub(crate) fn new(alloc: Global) -> Self {
         Few {
-            links: Links {
-                list: Vec::new(alloc),
-                is_whole: true,
-            },
+            links: Links::new(alloc),
             found: Places::new(alloc),
             next: Places::new(alloc),
+            begun: Places::new(alloc),
         }
     }
 
     /// Whether there was memory for all.
     pub(crate) fn is_whole(&self) -> bool {
-        self.links.is_whole && self.found.is_whole() && self.next.is_whole()
+        self.links.is_whole()
+            && self.found.is_whole()
+            && self.next.is_whole()
+            && self.begun.is_whole()
     }
 
     /// Forgets all places, and what is over so many nodes.
@@ -132,26 +78,7 @@ impl Few {
 
     /// Adds the links to a node from its children.
     pub(crate) fn link(&mut self, form: &Form, order: Order, node: u32) {
-        let [left, right] = form.operands(node);
-        let shape = form.node(node).shape;
-        let wait = order.wait(shape);
-        match shape {
-            Shape::And | Shape::Or => {
-                self.links.add_joined(wait, node, left, right);
-                self.links.add_joined(wait, node, right, left)
-            }
-            Shape::Dia | Shape::Box => {
-                let step = Step {
-                    node,
-                    operand: left,
-                    mask: form.node(node).mask,
-                    wait,
-                };
-                self.links.add(left, node, Way::Back(step))
-            }
-            Shape::Binder => self.links.add(left, node, Way::Later),
-            _ => {}
-        }
+        self.links.link(form, order, node);
     }
 
     /// How many binders become final in the next level, each once or more.
@@ -161,7 +88,8 @@ impl Few {
 
     /// A place becomes final.
     pub(crate) fn add(&mut self, sets: &mut Sets, place: Place) {
-        add_to(&mut self.found, sets, place)
+        sets.settle(place.node, place.state / WORD, bit(place.state));
+        self.found.push(place.node, place.state);
     }
 
     /// A binder becomes final in the next level, where it still can.
@@ -176,103 +104,224 @@ impl Few {
 
     /// Finds levels from this one on, as long as each begins at few states. The answer is the one that comes after the last.
     pub(crate) fn climb(&mut self, board: &mut Board, sets: &mut Sets, first: u32) -> u32 {
-        let mut level = first;
-        for _ in 0..u64::MAX {
-            self.spread(board, sets, level);
-            level = level.saturating_add(1);
-            if !are_few(self.next.len(), board.states) || !self.begin(sets) {
+        let chain = if board.reasons.is_none() {
+            self.links.chain()
+        } else {
+            None
+        };
+        for place in self.found.as_slice() {
+            board.set_level(place.node, place.state, first);
+        }
+        let most = most_few(board.states);
+        let mut climb = Climb {
+            links: &self.links,
+            found: &mut self.found,
+            next: &mut self.next,
+            begun: &mut self.begun,
+            board,
+            sets,
+            level: first,
+        };
+        match &chain {
+            Some(chain) => climb.climb_along(chain, most),
+            None => climb.climb(most),
+        }
+        climb.level
+    }
+}
+
+impl Climb<'_> {
+    // Goes on from level to level, as long as no more binders than these become final.
+    #[inline(always)]
+    fn climb(&mut self, most: usize) {
+        for _ in 0..u32::MAX {
+            self.spread();
+            self.level = self.level.saturating_add(1);
+            if self.next.len() > most || !self.begin() {
                 break;
             }
         }
-        level
+    }
+
+    // The same along a chain.
+    #[inline(never)]
+    fn climb_along(&mut self, chain: &Chain, most: usize) {
+        self.spread();
+        for _ in 0..u32::MAX {
+            self.level = self.level.saturating_add(1);
+            if self.next.len() > most || !self.pass_along(chain) {
+                break;
+            }
+        }
+    }
+
+    // A binder becomes final where it was put off, and its chain with it. The answer is whether it does at some state.
+    #[inline(always)]
+    fn pass_along(&mut self, chain: &Chain) -> bool {
+        let mut some = false;
+        mem::swap(self.next, self.begun);
+        for _ in 0..self.begun.len() {
+            let Some(Place { state, .. }) = self.begun.pop() else {
+                break;
+            };
+            if self.sets.is_left(chain.binder, state) {
+                some = true;
+                self.settle_binder(Place {
+                    node: chain.binder,
+                    state,
+                });
+                self.carry_along(chain, state);
+            }
+        }
+        some
+    }
+
+    #[inline(always)]
+    fn carry_along(&mut self, chain: &Chain, state: u32) {
+        let (first, end) = self.board.back_ends(state);
+        for at in first..end {
+            let edge = self.board.back_edge(at);
+            let source = state_of(edge);
+            if takes(chain.mask, edge) && self.sets.is_left(chain.modality, source) {
+                self.rise_along(chain, source);
+            }
+        }
+    }
+
+    #[inline(always)]
+    fn rise_along(&mut self, chain: &Chain, state: u32) {
+        self.settle(chain.modality, state);
+        for node in chain.over.as_slice() {
+            if !self.sets.is_left(*node, state) {
+                return;
+            }
+            self.settle(*node, state);
+        }
+        self.next.push(chain.binder, state);
     }
 
     // Binders that were put off become final. The answer is whether there are some.
     #[inline(always)]
-    fn begin(&mut self, sets: &mut Sets) -> bool {
-        for _ in 0..u64::MAX {
+    fn begin(&mut self) -> bool {
+        for _ in 0..self.next.len() {
             let Some(place) = self.next.pop() else {
                 break;
             };
-            try_add_to(&mut self.found, sets, place);
+            if self.sets.is_left(place.node, place.state) {
+                self.settle_binder(place);
+                self.found.push(place.node, place.state);
+            }
         }
         !self.found.is_empty()
     }
 
-    // Carries what has become final on to all that does so with it, and gives that a level.
     #[inline(always)]
-    fn spread(&mut self, board: &mut Board, sets: &mut Sets, level: u32) {
+    fn settle_binder(&mut self, place: Place) {
+        let Place { node, state } = place;
+        self.sets.settle(node, state / WORD, bit(state));
+        if self.board.keeps_binders {
+            self.board.set_level(node, state, self.level);
+        }
+    }
+
+    #[inline(always)]
+    fn settle(&mut self, node: u32, state: u32) {
+        self.sets.settle(node, state / WORD, bit(state));
+        self.board.set_level(node, state, self.level);
+    }
+
+    // Carries what has become final on to all that does so with it, and gives that the level.
+    #[inline(always)]
+    fn spread(&mut self) {
         for _ in 0..u64::MAX {
             let Some(place) = self.found.pop() else {
                 break;
             };
-            board.set_level(place.node, place.state, level);
-            self.carry(board, sets, place);
+            self.carry(place);
         }
     }
 
     // Carries a place on to all nodes over its own.
     #[inline(always)]
-    fn carry(&mut self, board: &Board, sets: &mut Sets, place: Place) {
-        let mut at = place.node;
-        for _ in 0..self.links.list.len() {
-            let Some(link) = self.links.list.get(at as usize) else {
-                break;
+    fn carry(&mut self, place: Place) {
+        let links = self.links;
+        for link in links.over(place.node) {
+            self.carry_by(link, place);
+        }
+    }
+
+    #[inline(always)]
+    fn carry_by(&mut self, link: &Link, place: Place) {
+        let next = Place {
+            node: link.over,
+            state: place.state,
+        };
+        if self.board.is_barred(next, place.node) {
+            return;
+        }
+        match &link.way {
+            Way::Later => self.next.push(next.node, next.state),
+            Way::Back(step) => self.carry_back(step, place.state),
+            Way::With(other) if self.sets.waits_for(self.board, next, *other) => {}
+            Way::Now | Way::With(_) => self.reach(next),
+        }
+    }
+
+    // A place becomes final where it still can.
+    #[inline(always)]
+    fn reach(&mut self, place: Place) {
+        if self.sets.is_left(place.node, place.state) {
+            self.rise(place)
+        }
+    }
+
+    // A place of no binder becomes final, and with it those over it at the same state.
+    #[inline(always)]
+    fn rise(&mut self, place: Place) {
+        let Place { mut node, state } = place;
+        let links = self.links;
+        for _ in 0..u32::MAX {
+            self.settle(node, state);
+            let [link] = links.over(node) else {
+                return;
             };
-            at = link.more;
-            let next = Place {
+            let over = Place {
                 node: link.over,
-                state: place.state,
+                state,
             };
-            if board.is_barred(next, place.node) {
-                continue;
+            if self.board.is_barred(over, node) {
+                return;
             }
-            match link.way {
-                Way::None => break,
-                Way::Later => self.next.push(next.node, next.state),
-                Way::Back(step) => carry_back(&mut self.found, sets, board, step, place.state),
-                Way::With(other) if sets.waits_for(board, next, other) => {}
-                Way::Now | Way::With(_) => try_add_to(&mut self.found, sets, next),
+            match &link.way {
+                Way::Later => return self.next.push(link.over, state),
+                Way::Back(_) => return self.found.push(node, state),
+                Way::With(other) if self.sets.waits_for(self.board, over, *other) => return,
+                Way::Now | Way::With(_) if !self.sets.is_left(over.node, state) => return,
+                Way::Now | Way::With(_) => node = over.node,
             }
         }
     }
-}
 
-#[inline(always)]
-fn add_to(found: &mut Places, sets: &mut Sets, place: Place) {
-    sets.settle(place.node, place.state / WORD, bit(place.state));
-    found.push(place.node, place.state);
-}
-
-// A place becomes final where it still can.
-#[inline(always)]
-fn try_add_to(found: &mut Places, sets: &mut Sets, place: Place) {
-    if sets.is_left(place.node, place.state) {
-        add_to(found, sets, place)
-    } else {}
-}
-
-// Carries a state on by the edges back from it.
-#[inline(always)]
-fn carry_back(found: &mut Places, sets: &mut Sets, board: &Board, step: Step, state: u32) {
-    let node = step.node;
-    for edge in board.back(state) {
-        let source = state_of(*edge);
-        if !takes(step.mask, *edge) || !sets.is_left(node, source) {
-            continue;
-        }
-        if !board.leads(node, source, state) {
-            continue;
-        }
-        if step.wait == Wait::One || sets.has_all(board, step, source) {
-            add_to(
-                found,
-                sets,
-                Place {
+    // Carries a state on by the edges back from it.
+    #[inline(always)]
+    fn carry_back(&mut self, step: &Step, state: u32) {
+        let Step { node, mask, .. } = *step;
+        let (first, end) = self.board.back_ends(state);
+        for at in first..end {
+            let edge = self.board.back_edge(at);
+            let source = state_of(edge);
+            if !takes(mask, edge) || !self.sets.is_left(node, source) {
+                continue;
+            }
+            if !self.board.leads(node, source, state) {
+                continue;
+            }
+            if step.wait == Wait::One || self.sets.has_all(self.board, *step, source) {
+                self.rise(Place {
                     node,
                     state: source,
-                },
-            );
+                });
+            }
         }
     }
 }

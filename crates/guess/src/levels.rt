@@ -131,6 +131,13 @@ impl Levels {
         self.finish();
     }
 
+    /// Finds who wins in a part of one block. The levels of binders aren't kept: each is that of the operand and one more.
+    pub(crate) fn run_one<C: Crew>(&mut self, crew: &C, alloc: Global, part: u32, order: Order) {
+        self.board.keeps_binders = false;
+        self.run(crew, alloc, part, order);
+        self.board.keeps_binders = true;
+    }
+
     /// Whether there was memory for all.
     pub(crate) fn is_whole(&self) -> bool {
         let are_sets = self.sets.is_whole && self.few.is_whole();

@@ -16,6 +16,7 @@ mod form;
 mod later;
 mod layout;
 mod levels;
+mod links;
 mod nested;
 mod numbers;
 mod order;

@@ -4,7 +4,7 @@ use crate::blocks::Blocks;
 use crate::board::{Board, Exits};
 use crate::columns::{Column, Columns, Counted, Halves};
 use crate::crew::{Crew, Team};
-use crate::form::{Form, NONE, Side};
+use crate::form::{Form, NONE, Shape, Side};
 use crate::layout::{Fields, Layout, MARK};
 use crate::levels::Levels;
 use crate::numbers::{Numbers, Words};
@@ -35,6 +35,8 @@ struct Ranked {
     root: u32,
     even: Count,
     odd: Count,
+    /// Whether the levels of its binders are kept.
+    keeps_binders: bool,
 }
 
 /// What is known of the components.
@@ -70,18 +72,16 @@ fn counted(root: u32, blocks: Blocks, ends: u32) -> Ranked {
     } else {
         Count::Nothing
     };
-    if blocks.priority(0) % 2 == 1 {
-        Ranked {
-            root,
-            even: low,
-            odd: high,
-        }
+    let (even, odd) = if blocks.priority(0) % 2 == 1 {
+        (low, high)
     } else {
-        Ranked {
-            root,
-            even: high,
-            odd: low,
-        }
+        (high, low)
+    };
+    Ranked {
+        root,
+        even,
+        odd,
+        keeps_binders: blocks.count() > 1,
     }
 }
 
@@ -99,6 +99,7 @@ fn same(root: u32, count: Count) -> Ranked {
         root,
         even: count,
         odd: count,
+        keeps_binders: true,
     }
 }
 
@@ -120,7 +121,7 @@ fn solve<C: Crew>(
     let is_done = match blocks.count() {
         0 => false,
         1 => {
-            levels.run(crew, alloc, root, blocks.order());
+            levels.run_one(crew, alloc, root, blocks.order());
             true
         }
         2 => levels.run_two(crew, alloc, held),
@@ -163,17 +164,25 @@ impl Ranks {
     }
 
     // The words of a node where a player wins, above a group and what is always there.
-    fn rule(&self, fields: &Fields, count: Count, number: u32, kept: pairs::Ranks) -> Counted {
+    fn rule(
+        &self,
+        fields: &Fields,
+        part: Ranked,
+        count: Count,
+        number: u32,
+        kept: pairs::Ranks,
+    ) -> Counted {
         let board = &self.levels.board;
         let real = board.form.real(number);
         let is_held = self.levels.parts.get(real) >= board.form.count();
         let pairs::Ranks { base, unit } = kept;
         match count {
-            Count::Levels(priority) if !is_held => Counted {
+            Count::Levels(priority) if !is_held && part.keeps_binders => Counted {
                 base,
                 unit: fields.unit(priority),
                 counts: real,
             },
+            Count::Levels(priority) if !is_held => self.leveled(fields.unit(priority), real, base),
             Count::Rounds(priority) if board.has_rounds(real) => Counted {
                 base,
                 unit: fields.unit(priority),
@@ -192,6 +201,25 @@ impl Ranks {
         }
     }
 
+    // The words of a node by its level, where those of binders aren't kept: a binder comes a level after its operand.
+    fn leveled(&self, unit: u64, node: u32, base: u64) -> Counted {
+        let form = &self.levels.board.form;
+        let mut words = Counted {
+            base,
+            unit,
+            counts: node,
+        };
+        for _ in 0..form.count() {
+            if form.node(words.counts).shape != Shape::Binder {
+                break;
+            }
+            let [operand, _] = form.operands(words.counts);
+            words.counts = operand;
+            words.base = words.base.wrapping_add(unit);
+        }
+        words
+    }
+
     // The words of a node in a component.
     fn halves(&self, part: Ranked, number: u32) -> Halves {
         let form = &self.levels.board.form;
@@ -207,8 +235,8 @@ impl Ranks {
         odds.base = odds.base.wrapping_add(odd);
         Halves {
             marks: real.wrapping_mul(board.tops.width()),
-            even: self.rule(&self.layout.even, part.even, number, evens),
-            odd: self.rule(&self.layout.odd, part.odd, number, odds),
+            even: self.rule(&self.layout.even, part, part.even, number, evens),
+            odd: self.rule(&self.layout.odd, part, part.odd, number, odds),
             words: match part.even {
                 Count::Fields if board.has_list(real) => real,
                 _ => NONE,
