@@ -93,7 +93,8 @@ fn mask_of(code: usize) -> u32 {
 
 // The bits of so many codes.
 fn mask_of_all(count: usize) -> u32 {
-    let end = 1_u32.checked_shl(count as u32).unwrap_or(0);
+    let places = u32::try_from(count).unwrap_or(u32::BITS);
+    let end = 1_u32.checked_shl(places).unwrap_or(0);
     end.wrapping_sub(1)
 }
 

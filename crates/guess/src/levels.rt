@@ -126,7 +126,7 @@ impl Levels {
         self.value = order.first();
         self.depth = 0;
         self.first = self.board.values.len();
-        self.begin(crew, alloc);
+        self.begin(alloc);
         self.climb(crew);
         self.finish();
     }
@@ -181,7 +181,7 @@ impl Levels {
         least
     }
 
-    fn begin<C: Crew>(&mut self, crew: &C, alloc: Global) {
+    fn begin(&mut self, alloc: Global) {
         self.members.clear();
         self.sources.clear();
         self.events.clear();
@@ -191,7 +191,7 @@ impl Levels {
         self.runs = self.runs.saturating_add(1);
         for number in 0..self.board.form.count() {
             if self.is_inside(number) {
-                self.open(crew, alloc, number);
+                self.open(alloc, number);
             } else if self.is_held(number) {
                 self.see(number);
             }
@@ -220,7 +220,7 @@ impl Levels {
     }
 
     // Takes a node into the part, and forgets what was known of it.
-    fn open<C: Crew>(&mut self, crew: &C, alloc: Global, node: u32) {
+    fn open(&mut self, alloc: Global, node: u32) {
         let height = self.board.form.height(node);
         self.is_whole &= self.members.push(Member { node, height }).is_ok();
         self.few.link(&self.board.form, self.order, node);

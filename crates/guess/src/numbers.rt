@@ -15,7 +15,7 @@ fn spread(numbers: &mut [u32], mut bits: u64) {
 // Copies numbers that fit.
 fn narrow(numbers: &mut [u32], words: &[u64]) {
     for at in 0..numbers.len().min(words.len()) {
-        numbers[at] = words[at] as u32;
+        numbers[at] = u32::try_from(words[at]).unwrap_or(u32::MAX);
     }
 }
 
