@@ -97,6 +97,10 @@ impl Sheet {
         }
     }
 
+    pub(crate) fn words_mut(&mut self) -> &mut [u64] {
+        &mut self.words
+    }
+
     /// The words of all sets, one set after another.
     pub(crate) fn into_words(self) -> Vec<u64> {
         self.words
@@ -187,8 +191,8 @@ impl Sheet {
         self.set_word(node, last, bits);
     }
 
-    // Where the words of a node's set are.
-    fn range(&self, node: u32) -> Range<usize> {
+    /// Where the words of a node's set are.
+    pub(crate) fn range(&self, node: u32) -> Range<usize> {
         let width = self.width as usize;
         let start = (node as usize).saturating_mul(width);
         start..start.saturating_add(width)

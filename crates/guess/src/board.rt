@@ -12,6 +12,7 @@ use crate::reasons::Reasons;
 use crate::scale::{Scale, TOP, ZERO};
 use crate::stock::Stock;
 use std::alloc::Global;
+use std::mem;
 
 /// The level of what was never reached.
 pub(crate) const NEVER: u32 = u32::MAX;
@@ -188,6 +189,11 @@ impl Board {
         kinds
     }
 
+    /// All edges back, where they were made.
+    pub(crate) fn back_edges(&self) -> Option<&Edges> {
+        self.back.as_ref()
+    }
+
     /// Where the edges back from a state stand.
     #[inline(always)]
     pub(crate) fn back_ends(&self, state: u32) -> (u32, u32) {
@@ -310,6 +316,18 @@ impl Board {
             levels.set(state, level);
         } else if self.opens_levels(node, level) {
             self.set_level_there(node, state, level);
+        }
+    }
+
+    /// Makes room for the levels of a node that has levels above zero.
+    pub(crate) fn make_levels(&mut self, node: u32) {
+        self.opens_levels(node, 1);
+    }
+
+    /// Exchanges a node's levels with these.
+    pub(crate) fn swap_levels(&mut self, node: u32, levels: &mut Numbers) {
+        if let Some(own) = self.levels.get_mut(node as usize) {
+            mem::swap(own, levels);
         }
     }
 

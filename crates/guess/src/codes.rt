@@ -246,20 +246,7 @@ impl Codes {
 
     /// The same at the states of all words.
     pub(crate) fn put_row(&mut self, node: u32, bits: &[u64], number: u64) -> bool {
-        let Some(code) = self.code(node, number) else {
-            return false;
-        };
-        let mut rest = code;
-        for plane in 0..PLANES {
-            let row = Codes::row(node, plane);
-            if rest % 2 == 1 {
-                self.planes.add_row(row, bits);
-            } else {
-                self.planes.remove_row(row, bits);
-            }
-            rest /= 2;
-        }
-        true
+        self.put_row_within(node, bits, bits, number)
     }
 
     /// Writes a count, with the numbers of other codes below it, each so many times. The answer is whether there were codes for all: if not,

@@ -4,10 +4,11 @@ use crate::bits::{WORD, bit};
 use crate::board::Board;
 use crate::edges::{state_of, takes};
 use crate::form::Form;
-use crate::links::{Chain, Link, Links, Way};
+use crate::links::{Link, Links, Way};
 use crate::order::{Order, Wait};
 use crate::places::{Place, Places};
 use crate::sets::{Sets, Step};
+use crate::trail::{Chain, Turns};
 use std::alloc::Global;
 use std::mem;
 
@@ -122,7 +123,7 @@ impl Few {
             sets,
             level: first,
         };
-        match &chain {
+        match chain {
             Some(chain) => climb.climb_along(chain, most),
             None => climb.climb(most),
         }
@@ -144,60 +145,13 @@ impl Climb<'_> {
     }
 
     // The same along a chain.
-    #[inline(never)]
-    fn climb_along(&mut self, chain: &Chain, most: usize) {
+    fn climb_along(&mut self, mut chain: Chain, most: usize) {
         self.spread();
-        for _ in 0..u32::MAX {
-            self.level = self.level.saturating_add(1);
-            if self.next.len() > most || !self.pass_along(chain) {
-                break;
-            }
-        }
-    }
-
-    // A binder becomes final where it was put off, and its chain with it. The answer is whether it does at some state.
-    #[inline(always)]
-    fn pass_along(&mut self, chain: &Chain) -> bool {
-        let mut some = false;
-        mem::swap(self.next, self.begun);
-        for _ in 0..self.begun.len() {
-            let Some(Place { state, .. }) = self.begun.pop() else {
-                break;
-            };
-            if self.sets.is_left(chain.binder, state) {
-                some = true;
-                self.settle_binder(Place {
-                    node: chain.binder,
-                    state,
-                });
-                self.carry_along(chain, state);
-            }
-        }
-        some
-    }
-
-    #[inline(always)]
-    fn carry_along(&mut self, chain: &Chain, state: u32) {
-        let (first, end) = self.board.back_ends(state);
-        for at in first..end {
-            let edge = self.board.back_edge(at);
-            let source = state_of(edge);
-            if takes(chain.mask, edge) && self.sets.is_left(chain.modality, source) {
-                self.rise_along(chain, source);
-            }
-        }
-    }
-
-    #[inline(always)]
-    fn rise_along(&mut self, chain: &Chain, state: u32) {
-        self.settle(chain.modality, state);
-        for node in chain.over.as_slice() {
-            if !self.sets.is_left(*node, state) {
-                return;
-            }
-            self.settle(*node, state);
-        }
-        self.next.push(chain.binder, state);
+        let turns = Turns {
+            begun: self.begun,
+            next: self.next,
+        };
+        self.level = chain.climb(self.board, self.sets, turns, self.level, most);
     }
 
     // Binders that were put off become final. The answer is whether there are some.

@@ -33,6 +33,7 @@ mod sets;
 mod single;
 mod steps;
 mod stock;
+mod trail;
 pub mod whole;
 mod withdraw;
 mod written;

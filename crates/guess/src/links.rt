@@ -3,6 +3,7 @@
 use crate::form::{Form, Shape};
 use crate::order::{Order, Wait};
 use crate::sets::Step;
+use crate::trail::{Chain, Track};
 use std::alloc::Global;
 
 /// How a node's states are carried on to one over it.
@@ -33,15 +34,6 @@ pub(crate) struct Links {
     binders: Vec<u32>,
     // Whether there was memory for all.
     is_whole: bool,
-}
-
-/// How a binder's states are carried on to itself: to one modality by the edges back, and at once to the nodes over that.
-#[derive(Drop)]
-pub(crate) struct Chain {
-    pub(crate) binder: u32,
-    pub(crate) modality: u32,
-    pub(crate) mask: u64,
-    pub(crate) over: Vec<u32>,
 }
 
 impl Links {
@@ -125,8 +117,8 @@ impl Links {
         match link.way {
             Way::Back(step) if step.wait == Wait::One => {
                 self.chain_over(Chain {
-                    binder: *binder,
-                    modality: step.node,
+                    binder: Track::new(self.alloc, *binder),
+                    modality: Track::new(self.alloc, step.node),
                     mask: step.mask,
                     over: Vec::new(self.alloc),
                 })
@@ -137,14 +129,14 @@ impl Links {
 
     // The same with the nodes over its modality, up to the binder.
     fn chain_over(&self, mut chain: Chain) -> Option<Chain> {
-        let mut node = chain.modality;
+        let mut node = chain.modality.node;
         for _ in 0..self.lists.len() {
             let [link] = self.over(node) else {
                 return None;
             };
             match link.way {
-                Way::Now => chain.over.push(link.over).ok()?,
-                Way::Later if link.over == chain.binder => return Some(chain),
+                Way::Now => chain.over.push(Track::new(self.alloc, link.over)).ok()?,
+                Way::Later if link.over == chain.binder.node => return Some(chain),
                 _ => return None,
             }
             node = link.over;

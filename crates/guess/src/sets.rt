@@ -235,6 +235,16 @@ impl Sets {
         self.open.has(node, state)
     }
 
+    /// The place of a node's first word among all words.
+    pub(crate) fn first_word(&self, node: u32) -> usize {
+        self.open.range(node).start
+    }
+
+    /// All words of states at which nodes are final, and of those at which they can still become so.
+    pub(crate) fn words_mut(&mut self) -> (&mut [u64], &mut [u64]) {
+        (self.done.words_mut(), self.open.words_mut())
+    }
+
     /// A node's value is final at these states of a word.
     pub(crate) fn add(&mut self, node: u32, word: u32, bits: u64) {
         self.settle(node, word, bits);
@@ -347,6 +357,9 @@ impl Sets {
         let share = left / crew.hands(left as usize).max(1);
         if many > FEW && many.saturating_mul(8) > share {
             return Way::Pull;
+        }
+        if board.are_near && many <= FEW {
+            return Way::Push;
         }
         if self.looks_on(board, left) {
             Way::Pull
