@@ -8,4 +8,5 @@ mod Steps
 mod Goodness
 mod Lent
 mod Always
+mod Units
 mod Full

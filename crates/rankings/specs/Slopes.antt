@@ -7,6 +7,7 @@ use Rattle.game.specs.declared.player.Player.{Player}
 use Rattle.game.specs.declared.player.Player.TheVariants.{Even, Odd}
 use Rattle.game.specs.Steps.{is_in}
 use Rattle.game.specs.Wins.{IsOf}
+use Rattle.rankings.specs.declared.slope.Slope.{Slope}
 use Rattle.rankings.specs.declared.slope.Slopes.{Slopes}
 use Rattle.rankings.specs.Ranking.{GoesOn, Ranking, winner_of}
 
@@ -16,6 +17,11 @@ pub record AreSlopes (r : Ranking) (p : ℕ) (x : Slopes) : Type 0 where
   pub even_falls : IsTrue x.even.falls ↔ IsOf Odd p
   pub odd : x.odd.shift ≡ r.shift Odd p
   pub odd_falls : IsTrue x.odd.falls ↔ IsOf Even p
+
+-- that of a player
+abbrev pub slope_for : Slopes → Player → Slope
+slope_for x Even = x.even
+slope_for x Odd = x.odd
 
 -- From a vertex with the first number, at any priority that has these slopes, the play goes on well at one with the second.
 abbrev pub CanFollow : Slopes → ℕ → ℕ → Type 0

@@ -155,6 +155,18 @@ fn singles_lead(slopes: Slopes, own: Numbers<'_>, next: Numbers<'_>, span: Span)
     true
 }
 
+// Whether the vertices of a node with this child alone are ranked.
+fn single_leads(sheet: &Sheet, slopes: Slopes, number: u32, child: u32, span: Span) -> bool
+    ensures { IsTrue result → (s : ℕ) → span.first ≤ s → s < span.end → CanFollow slopes (cell sheet.now number s) (cell sheet.now child s) }
+{
+    if sheet.counts_follow(slopes, number, child, span.first, span.end) {
+        return true;
+    }
+    let own = sheet.column_in(number, span.first, span.end);
+    let next = sheet.column_in(child, span.first, span.end);
+    singles_lead(slopes, own, next, span)
+}
+
 // Whether the vertices of a junction are ranked.
 fn junctions_lead(
     owner: Player,
@@ -282,8 +294,7 @@ pub(crate) fn is_ranked(
             modalities_lead(lts, Player::Odd, slopes, own, set, next, span)
         }
         Kind::Mu(child) | Kind::Nu(child) | Kind::Var(child) => {
-            let next = sheet.column_in(*child, span.first, span.end);
-            singles_lead(slopes, own, next, span)
+            single_leads(sheet, slopes, number, *child, span)
         }
     }
 }

@@ -5,6 +5,7 @@ ghost use Rattle.rankings.specs.Laws.{RankingDecides};
 
 pub mod column;
 mod columns;
+mod counted;
 mod numbers;
 pub mod sheet;
 mod slope;

@@ -1,12 +1,12 @@
 // The numbers of a column, by state.
 
-ghost use Rattle.std.specs.Prelude.{◌≡◌, ◌+◌, ◌<◌, ◌≤◌, ℕ, IsTrue, [], map, slice_index_or};
+ghost use Rattle.std.specs.Prelude.{◌≡◌, ◌+◌, ◌/◌, ◌<◌, ◌≤◌, ℕ, IsTrue, [], map, slice_index_or};
 ghost use Rattle.rankings.specs.Columns.{counted_at, is_marked, number_at, kept_number, won_at};
 
 use crate::column::{Column, Columns, Counted, Half, Halves, Numbers, Shown};
 
-// A list, by its place, or none.
-fn list<T>(lists: &[Vec<T>], place: u32) -> &[T]
+/// A list, by its place, or none.
+pub(crate) fn list<T>(lists: &[Vec<T>], place: u32) -> &[T]
     ensures { result.now ≡ slice_index_or (map (λ list. list.items) lists.now) place [] }
 {
     match lists.get(place as usize) {
@@ -65,12 +65,29 @@ impl Numbers<'_> {
     }
 }
 
-// A word of marks, this many after the first.
-fn marks_in(shown: Shown<'_>, word: u32) -> u64
-    ensures { result ≡ slice_index_or shown.entry.marks.now (shown.entry.first + word) 0 }
+/// A word of marks, this many after the first.
+pub(crate) fn word_at(marks: &[u64], first: u32, word: u32) -> u64
+    ensures { result ≡ slice_index_or marks.now (first + word) 0 }
 {
-    let word = shown.marks.get(shown.first as usize + word as usize);
+    let word = marks.get(first as usize + word as usize);
     word.copied().unwrap_or(0)
+}
+
+// Whether all words of marks of a span are this one, and no words are added.
+fn are_marks(shown: Shown<'_>, first: u32, end: u32, marks: u64) -> bool
+    ensures words { IsTrue result → shown.entry.words.now ≡ [] }
+    ensures marks { IsTrue result → (s : ℕ) → first ≤ s → s < end
+        → slice_index_or shown.entry.marks.now (shown.entry.first + s / 64) 0 ≡ marks }
+{
+    if first >= end || !shown.words.is_empty() {
+        return false;
+    }
+    for word in first / 64..(end - 1) / 64 + 1 {
+        if word_at(shown.marks, shown.first, word) != marks {
+            return false;
+        }
+    }
+    true
 }
 
 // Whether Even is said to win all states of a span, and no words are added.
@@ -78,15 +95,7 @@ fn is_plain(shown: Shown<'_>, first: u32, end: u32) -> bool
     ensures { IsTrue result → (s : ℕ) → first ≤ s → s < end
         → won_at shown.entry s ≡ counted_at shown.entry.even.base shown.entry.even.unit shown.entry.even.counts.now s }
 {
-    if first >= end || !shown.words.is_empty() {
-        return false;
-    }
-    for word in first / 64..(end - 1) / 64 + 1 {
-        if marks_in(shown, word) != 0 {
-            return false;
-        }
-    }
-    true
+    are_marks(shown, first, end, 0)
 }
 
 // Whether Odd is said to win all of them, and no words are added.
@@ -94,15 +103,7 @@ fn is_full(shown: Shown<'_>, first: u32, end: u32) -> bool
     ensures { IsTrue result → (s : ℕ) → first ≤ s → s < end
         → won_at shown.entry s ≡ counted_at shown.entry.odd.base shown.entry.odd.unit shown.entry.odd.counts.now s }
 {
-    if first >= end || !shown.words.is_empty() {
-        return false;
-    }
-    for word in first / 64..(end - 1) / 64 + 1 {
-        if marks_in(shown, word) != u64::MAX {
-            return false;
-        }
-    }
-    true
+    are_marks(shown, first, end, u64::MAX)
 }
 
 /// The numbers of the states of a span, with no marks where one player wins all of them.
@@ -165,8 +166,8 @@ fn lent(columns: &Columns, column: Column) -> Numbers<'_>
     }
 }
 
-// A node's column, or else zero at each state.
-fn column(columns: &Columns, node: u32) -> Column
+/// A node's column, or else zero at each state.
+pub(crate) fn column(columns: &Columns, node: u32) -> Column
     ensures { result ≡ slice_index_or columns.now.nodes.items node (Column.Same 0) }
 {
     let column = columns.nodes.get(node as usize);

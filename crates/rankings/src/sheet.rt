@@ -6,6 +6,7 @@ ghost use Rattle.rankings.specs.Columns.{number_at};
 ghost use Rattle.rankings.specs.Ranking.{IsRising};
 
 use crate::column::{Columns, Numbers};
+use crate::counted::counts_follow;
 use crate::numbers::{numbers, within};
 use crate::slope::{Slope, Slopes};
 use crate::slopes::is_of;
@@ -67,7 +68,7 @@ fn shift_of(shifts: &[u32], priority: u32) -> u32
 }
 
 impl Sheet {
-    ghost use Rattle.rankings.specs.Slopes.{AreSlopes};
+    ghost use Rattle.rankings.specs.Slopes.{AreSlopes, CanFollow};
     ghost use Rattle.rankings.specs.Stored.{IsStored, cells_of};
 
     /// The sheet of these columns and shifts, of which each list is by priority. There is none where the shifts fall, or one is above 63.
@@ -111,6 +112,20 @@ impl Sheet {
         ensures { (s : ℕ) → first ≤ s → s < end → number_at result s ≡ cell self.now node s }
     {
         within(self.column(node), first, end)
+    }
+
+    /// Whether the play goes on well from a node to another one at the states of a span, as far as that is known without a look at each.
+    pub(crate) fn counts_follow(
+        &self,
+        slopes: Slopes,
+        own: u32,
+        next: u32,
+        first: u32,
+        end: u32,
+    ) -> bool
+        ensures { IsTrue result → (s : ℕ) → first ≤ s → s < end → CanFollow slopes (cell self.now own s) (cell self.now next s) }
+    {
+        counts_follow(&self.columns, slopes, own, next, first, end)
     }
 
     // How many bits don't count for a player at a priority.

@@ -31,9 +31,9 @@ pub(crate) fn is_of(player: Player, priority: u32) -> bool
     }
 }
 
-// Whether what counts of a number doesn't rise from one to the next, and falls where it has to.
+/// Whether what counts of a number doesn't rise from one to the next, and falls where it has to.
 #[inline(always)]
-fn descends(slope: Slope, own: u64, next: u64) -> bool
+pub(crate) fn descends(slope: Slope, own: u64, next: u64) -> bool
     ensures { IsTrue result ↔ ((next / 2 ^ slope.shift ≤ own / 2 ^ slope.shift)
         × (IsTrue slope.falls → next / 2 ^ slope.shift < own / 2 ^ slope.shift)) }
 {

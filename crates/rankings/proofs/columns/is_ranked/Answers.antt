@@ -62,9 +62,7 @@ returns-in-Box c = λ yes s h i.
 pub returns-in-Mu : goal.returns-in-Mu
 returns-in-Mu c = λ yes s h i.
     let n : ℕ = length c.args.sheet.now.nodes in
-    let follows = two_columns c.slopes-slopes.result (number_at c.column_in-own.result s) (number_at c.column_in-next.result s)
-    (cell c.args.sheet.now c.args.number s) (cell c.args.sheet.now c.in-Mu.child s) (c.column_in-own.ensures s h i) (c.column_in-next.ensures s h i)
-    (c.singles_lead.ensures yes s h i) in
+    let follows = c.single_leads.ensures yes s h i in
     let ranked = λ (e : successors_of c.args.lts.now.system n s (shape_of c.args.node.now.kind) ≡ place n s c.in-Mu.child ∷ []) (low : c.in-Mu.child < n).
     single_ranked c.args.sheet.now c.args.lts.now c.slopes-slopes.result s c.args.number (node_of c.args.node.now) c.requires.node c.slopes-slopes.ensures
     c.in-Mu.child e low follows in
