@@ -2,9 +2,9 @@
 
 use crate::blocks::Blocks;
 use crate::board::{Board, Exits};
-use crate::columns::{Column, Columns, Counted, Halves};
 use crate::crew::{Crew, Team};
 use crate::form::{Form, NONE, Shape, Side};
+use crate::guessed::Guessed;
 use crate::layout::{Fields, Layout, MARK};
 use crate::levels::Levels;
 use crate::numbers::{Numbers, Words};
@@ -13,6 +13,7 @@ use crate::rounds::Held;
 use crate::scale::Scale;
 use crate::stock::Stock;
 use crate::whole::levels_of;
+use columns::column::{Column, Columns, Counted, Halves};
 use normal::form::Normal;
 use std::alloc::{AllocError, Global};
 use std::thread::Threads;
@@ -272,44 +273,32 @@ impl Ranks {
         Ok(Some(nodes))
     }
 
-    // The columns, with the lists of what was counted.
-    fn into_columns(self, alloc: Global) -> Result<Option<Columns>, AllocError> {
-        let mut shifts = Shifts {
-            even: Vec::new(alloc),
-            odd: Vec::new(alloc),
-        };
-        shifts.even.extend_from_slice(&self.layout.even.kept)?;
-        shifts.odd.extend_from_slice(&self.layout.odd.kept)?;
+    // The ranking, with the lists of what was counted.
+    fn into_guessed(self, alloc: Global) -> Result<Option<Guessed>, AllocError> {
+        let mut even_shifts = Vec::new(alloc);
+        let mut odd_shifts = Vec::new(alloc);
+        even_shifts.extend_from_slice(&self.layout.even.kept)?;
+        odd_shifts.extend_from_slice(&self.layout.odd.kept)?;
         let nodes = self.nodes(alloc)?;
         let levels = self.levels;
         match nodes {
-            Some(nodes) => Ok(Some(columns_of(alloc, levels.board, nodes, shifts)?)),
+            Some(nodes) => Ok(Some(Guessed {
+                columns: columns_of(alloc, levels.board, nodes)?,
+                even_shifts,
+                odd_shifts,
+            })),
             None => Ok(None),
         }
     }
 }
 
-/// The shifts of both players.
-#[derive(Drop)]
-struct Shifts {
-    even: Vec<u32>,
-    odd: Vec<u32>,
-}
-
 // Takes the lists out of a board: levels by node, and then rounds.
-fn columns_of(
-    alloc: Global,
-    board: Board,
-    nodes: Vec<Column>,
-    shifts: Shifts,
-) -> Result<Columns, AllocError> {
+fn columns_of(alloc: Global, board: Board, nodes: Vec<Column>) -> Result<Columns, AllocError> {
     let mut columns = Columns {
         nodes,
         marks: board.tops.into_words(),
         counts: Vec::new(alloc),
         words: Vec::new(alloc),
-        even_shifts: shifts.even,
-        odd_shifts: shifts.odd,
     };
     push_counts(&mut columns.counts, board.levels)?;
     push_counts(&mut columns.counts, board.rounds)?;
@@ -374,9 +363,9 @@ pub fn columns<R: Threads>(
     lts: &Lts,
     normal: &Normal,
     workers: u32,
-) -> Result<Option<Columns>, Memory> {
+) -> Result<Option<Guessed>, Memory> {
     match find_in(&Team { rt, workers }, alloc, lts, normal) {
-        Some(ranks) => Ok(ranks.into_columns(alloc)?),
+        Some(ranks) => Ok(ranks.into_guessed(alloc)?),
         None => Ok(None),
     }
 }

@@ -14,8 +14,8 @@ use Rattle.laws.proofs.Flags.{below_or_not, cases}
 use Rattle.rankings.specs.Columns.{counted_at, is_marked, kept_number, won_by}
 use Rattle.rankings.specs.Ranking.{GoesOn, Ranking, winner_of}
 use Rattle.rankings.specs.Slopes.{AreSlopes, CanFollow, slope_for}
-use Rattle.rankings.specs.declared.column.Column.TheVariants.{Won}
-use Rattle.rankings.specs.declared.column.Halves.{Halves}
+use Rattle.columns.specs.declared.column.Column.TheVariants.{Won}
+use Rattle.columns.specs.declared.column.Halves.{Halves}
 use Rattle.rankings.specs.declared.slope.Slope.{Slope}
 use Rattle.rankings.specs.declared.slope.Slopes.{Slopes}
 use Rattle.rankings.proofs.Ranked.{two_columns}

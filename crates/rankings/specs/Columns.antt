@@ -1,8 +1,8 @@
 -- The numbers of columns.
 use Rattle.std.specs.Prelude.{ℕ, ◌+◌, ◌*◌, ◌%◌, ◌/◌, ◌^◌, Bool, List, [], if◌then◌else◌, ◌==◌, slice_index_or}
-use Rattle.rankings.specs.declared.column.Column.{Column}
-use Rattle.rankings.specs.declared.column.Column.TheVariants as kept
-use Rattle.rankings.specs.declared.column.Halves.{Halves}
+use Rattle.columns.specs.declared.column.Column.{Column}
+use Rattle.columns.specs.declared.column.Column.TheVariants as kept
+use Rattle.columns.specs.declared.column.Halves.{Halves}
 use Rattle.rankings.specs.declared.column.Numbers.{Numbers}
 use Rattle.rankings.specs.declared.column.Numbers.TheVariants as lent
 use Rattle.rankings.specs.declared.column.Shown.{Shown}

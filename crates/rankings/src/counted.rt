@@ -2,15 +2,15 @@
 
 ghost use Rattle.std.specs.Prelude.{◌≡◌, ◌+◌, ◌*◌, ◌%◌, ◌<◌, ◌≤◌, ◌^◌, ℕ, IsTrue, map, slice_index_or};
 ghost use Rattle.std.specs.List.{AllByRecursion};
-ghost use Rattle.rankings.specs.declared.column.Halves.{Halves};
+ghost use Rattle.columns.specs.declared.column.Halves.{Halves};
 ghost use Rattle.rankings.specs.Columns.{counted_at, is_marked, kept_number};
 ghost use Rattle.rankings.specs.Ranking.{winner_of};
 ghost use Rattle.rankings.specs.Slopes.{CanFollow, slope_for};
 
-use crate::column::{Column, Columns, Counted, Halves};
 use crate::numbers::{column, list, word_at};
 use crate::slope::{Slope, Slopes};
 use crate::slopes::{descends, winner};
+use columns::column::{Column, Columns, Counted, Halves};
 use game::player::Player;
 
 // The greatest count.

@@ -3,9 +3,9 @@
 
 ghost use Rattle.rankings.specs.Laws.{RankingDecides};
 
-pub mod column;
-mod columns;
+mod column;
 mod counted;
+mod nodes;
 mod numbers;
 pub mod sheet;
 mod slope;

@@ -3,7 +3,8 @@
 ghost use Rattle.std.specs.Prelude.{◌≡◌, ◌+◌, ◌/◌, ◌<◌, ◌≤◌, ℕ, IsTrue, [], map, slice_index_or};
 ghost use Rattle.rankings.specs.Columns.{counted_at, is_marked, number_at, kept_number, won_at};
 
-use crate::column::{Column, Columns, Counted, Half, Halves, Numbers, Shown};
+use crate::column::{Half, Numbers, Shown};
+use columns::column::{Column, Columns, Counted, Halves};
 
 /// A list, by its place, or none.
 pub(crate) fn list<T>(lists: &[Vec<T>], place: u32) -> &[T]

@@ -5,11 +5,12 @@ ghost use Rattle.rankings.specs.Cells.{AreShifts, cell, ranking_of, shift_in};
 ghost use Rattle.rankings.specs.Columns.{number_at};
 ghost use Rattle.rankings.specs.Ranking.{IsRising};
 
-use crate::column::{Columns, Numbers};
+use crate::column::Numbers;
 use crate::counted::counts_follow;
 use crate::numbers::{numbers, within};
 use crate::slope::{Slope, Slopes};
 use crate::slopes::is_of;
+use columns::column::Columns;
 use game::player::Player;
 use std::marker::Model;
 

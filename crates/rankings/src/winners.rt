@@ -12,7 +12,7 @@ ghost use Rattle.rankings.specs.Cells.{cell, ranking_of};
 ghost use Rattle.rankings.specs.Ranking.{IsGoodRanking, winner_of};
 ghost use Rattle.rankings.specs.Spans.{AreRanked};
 
-use crate::columns::{Span, is_ranked, is_winner};
+use crate::nodes::{Span, is_ranked, is_winner};
 use crate::ranking_decides;
 use crate::sheet::Sheet;
 use game::build::label_sets;

@@ -3,11 +3,12 @@
 
 use crate::guesses::{Question, roll_question};
 use calculus::closed::Closed;
-use claims::sheets::sheet_of;
+use guess::guessed::Guessed;
 use guess::ranks::columns;
 use lts::Lts;
 use meaning::plain::plain_states;
 use normal::make::normal;
+use rankings::sheet::Sheet;
 use rankings::winners::root_winners;
 use samples::dice::Dice;
 use samples::texts::{formula_of, system_of};
@@ -20,6 +21,10 @@ const QUESTIONS: u32 = 40;
 
 const LEAST_RANKED: u32 = 38;
 
+fn sheet_of(guessed: Guessed) -> Option<Sheet> {
+    Sheet::of(guessed.columns, guessed.even_shifts, guessed.odd_shifts)
+}
+
 // Whether a system and a formula have a good ranking that is guessed. If they have, its marks are to be those of the formula's meaning.
 fn is_ranked(rt: &(impl Abort + Threads + AllocGlobal + Sync), question: &Question) -> bool {
     let Question {
@@ -31,7 +36,7 @@ fn is_ranked(rt: &(impl Abort + Threads + AllocGlobal + Sync), question: &Questi
     let Some(guessed) = columns(rt, rt.alloc(), lts, form, 1).expect(rt, "memory") else {
         return false;
     };
-    let sheet = sheet_of(rt.alloc(), guessed);
+    let sheet = sheet_of(guessed);
     let sheet = sheet.expect(rt, "shifts that don't fall");
     let found = root_winners(rt, rt.alloc(), lts, form, &sheet, 1);
     let found = found.expect(rt, "a good ranking");
@@ -87,7 +92,7 @@ fn marks_by(
     let form = normal(rt.alloc(), formula).expect(rt, "a normal form");
     let guessed = columns(rt, rt.alloc(), lts, &form, workers).expect(rt, "memory");
     let guessed = guessed.expect(rt, "a guess");
-    let sheet = sheet_of(rt.alloc(), guessed);
+    let sheet = sheet_of(guessed);
     let sheet = sheet.expect(rt, "shifts that don't fall");
     let marks = root_winners(rt, rt.alloc(), lts, &form, &sheet, workers);
     marks.expect(rt, "a good ranking")

@@ -1,7 +1,7 @@
 // Rankings of arenas, made by hand: which are good, and what they tell.
 
+use columns::column::{Column, Columns, Counted, Halves};
 use normal::form::Normal;
-use rankings::column::{Column, Columns};
 use rankings::sheet::Sheet;
 use rankings::winners::root_winners;
 use samples::texts::{form_of, system_of};
@@ -44,11 +44,19 @@ fn told(
     evens: &[u32],
     odds: &[u32],
 ) -> Option<[bool; 3]> {
+    let sheet = sheet_of(rt.alloc(), rows, evens, odds)?;
+    told_by(rt, formula, &sheet)
+}
+
+fn told_by(
+    rt: &(impl Threads + AllocGlobal + Sync),
+    formula: &str,
+    sheet: &Sheet,
+) -> Option<[bool; 3]> {
     let alloc = rt.alloc();
     let system = system_of(alloc, SYSTEM).ok()?;
     let form = form_of(alloc, formula)?;
-    let sheet = sheet_of(alloc, rows, evens, odds)?;
-    let marks = root_winners(rt, alloc, &system, &form, &sheet, 1)?;
+    let marks = root_winners(rt, alloc, &system, &form, sheet, 1)?;
     match marks.as_slice() {
         [first, second, third] => Some([*first, *second, *third]),
         _ => None,
@@ -101,6 +109,77 @@ fn fixpoints_that_only_go_on(rt: HostRuntime) {
             &[1]
         ) == None
     );
+}
+
+// A node's marks of the states that Odd wins, and the bases of both players. Even counts by twos.
+type Row = (u64, u64, u64);
+
+// No list.
+const NONE: u32 = u32::MAX;
+
+fn halves(marks: u32, row: Row) -> Halves {
+    let (_, even, odd) = row;
+    Halves {
+        marks,
+        even: Counted {
+            base: even,
+            unit: 2,
+            counts: 0,
+        },
+        odd: Counted {
+            base: odd,
+            unit: 0,
+            counts: NONE,
+        },
+        words: NONE,
+    }
+}
+
+// Columns that count by one list: one at the first state, none at the others.
+fn counted_columns(alloc: Global, rows: &[Row]) -> Result<Columns, AllocError> {
+    let mut nodes = Vec::new(alloc);
+    let mut marks = Vec::new(alloc);
+    for (place, row) in (0..u32::MAX).zip(rows) {
+        nodes.push(Column::Won(halves(place, *row)))?;
+        marks.push(row.0)?;
+    }
+    let mut counts = Vec::new(alloc);
+    counts.push(Vec::from_slice(alloc, &[1, 0, 0])?)?;
+    Ok(Columns {
+        nodes,
+        marks,
+        counts,
+        words: Vec::new(alloc),
+    })
+}
+
+// Where no way is endless a box is won by how far the end is, and the binder above it by one more; at the last state by nobody's end.
+fn told_by_counts(rt: &(impl Threads + AllocGlobal + Sync), rows: &[Row]) -> Option<[bool; 3]> {
+    let alloc = rt.alloc();
+    let columns = counted_columns(alloc, rows).ok()?;
+    let evens = Vec::from_slice(alloc, &[0, 1]).ok()?;
+    let odds = Vec::from_slice(alloc, &[1, 4]).ok()?;
+    let sheet = Sheet::of(columns, evens, odds)?;
+    told_by(rt, "mu X. [true]X", &sheet)
+}
+
+// A binder, its operand and its variable count by the same list: it is told from their bases, marks and units whether each is ranked.
+#[test]
+fn nodes_that_count_by_one_list(rt: HostRuntime) {
+    let good = [(4, 2, 3), (4, 0, 7), (4, 2, 5)];
+    assert!(rt; told_by_counts(&rt, &good) == Some([true, true, false]));
+    let more = [(4, 4, 3), (4, 2, 7), (4, 4, 5)];
+    assert!(rt; told_by_counts(&rt, &more) == Some([true, true, false]));
+    let stays = [(4, 0, 3), (4, 0, 7), (4, 0, 5)];
+    assert!(rt; told_by_counts(&rt, &stays) == None);
+    let rises = [(4, 2, 3), (4, 0, 7), (4, 0, 5)];
+    assert!(rt; told_by_counts(&rt, &rises) == None);
+    let climbs = [(4, 2, 3), (4, 0, 7), (4, 2, 3)];
+    assert!(rt; told_by_counts(&rt, &climbs) == None);
+    let lies = [(0, 2, 3), (4, 0, 7), (4, 2, 5)];
+    assert!(rt; told_by_counts(&rt, &lies) == None);
+    let wraps = [(4, u64::MAX - 1, 3), (4, 0, 7), (4, u64::MAX - 1, 5)];
+    assert!(rt; told_by_counts(&rt, &wraps) == None);
 }
 
 // A sheet needs a column for each node and a number for each state, and shifts that don't fall.

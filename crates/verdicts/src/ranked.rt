@@ -10,7 +10,6 @@ ghost use Rattle.game.specs.Wins.{Wins};
 ghost use Rattle.requests.specs.Check.{AreMarks, ByGame};
 
 use calculus::closed::Closed;
-use claims::sheets::sheet_of;
 use guess::ranks::columns;
 use laws::{chosen_is_admissible, even_wins_where_meant};
 use lts::system::Lts;
@@ -33,7 +32,7 @@ fn guessed_sheet<H: Threads>(
     workers: u32,
 ) -> Option<Sheet> {
     let guessed = columns(rt, alloc, system, form, workers).ok()??;
-    sheet_of(alloc, guessed)
+    Sheet::of(guessed.columns, guessed.even_shifts, guessed.odd_shifts)
 }
 
 // A mark for each state, true where Even wins its vertex with the root node, where the ranking that is guessed is good. So many threads guess and test it.

@@ -1,7 +1,7 @@
 use Rattle.std.proofs.Common.{◌≡◌, ◌∙◌, ℕ, List, ap, map, sym, slice_index_or}
 use Rattle.rankings.specs.Columns.{kept_number}
-use Rattle.rankings.specs.declared.column.Column.{Column}
-use Rattle.rankings.specs.declared.column.Column.TheVariants.{Same, Won}
+use Rattle.columns.specs.declared.column.Column.{Column}
+use Rattle.columns.specs.declared.column.Column.TheVariants.{Same, Won}
 use Rattle.rankings.proofs.Ranked.{two_columns}
 use Rattle.rankings.proofs.counted.counts_follow.Goals as goal
 

@@ -7,8 +7,8 @@ use Rattle.rankings.specs.Columns.{number_at}
 use Rattle.rankings.specs.Ranking.{GoesOn, winner_of}
 use Rattle.rankings.specs.Slopes.{CanFollow}
 use Rattle.rankings.proofs.Rows.{at_contained, contained_at, more_at, stands}
-use Rattle.rankings.proofs.columns.steps_lead.Goals.{then-has+else-let_follow-is_own, else-has}
-use Rattle.rankings.proofs.columns.steps_lead.Goals as goal
+use Rattle.rankings.proofs.nodes.steps_lead.Goals.{then-has+else-let_follow-is_own, else-has}
+use Rattle.rankings.proofs.nodes.steps_lead.Goals as goal
 
 follows : (b is : Bool) → beq b is ≡ false → is ≡ false → b ≡ true
 follows true is e f = refl

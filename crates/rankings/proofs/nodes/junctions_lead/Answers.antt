@@ -3,7 +3,7 @@ use Rattle.rankings.specs.Columns.{number_at}
 use Rattle.rankings.specs.Slopes.{TwoFollow}
 use Rattle.rankings.proofs.Lent.{two_numbers}
 use Rattle.rankings.proofs.Rows.{more_states}
-use Rattle.rankings.proofs.columns.junctions_lead.Goals as goal
+use Rattle.rankings.proofs.nodes.junctions_lead.Goals as goal
 
 pub loop-s-preserved : goal.loop-s-preserved
 loop-s-preserved c =

@@ -9,7 +9,7 @@ use Rattle.rankings.specs.Cells.{cell}
 use Rattle.rankings.specs.Columns.{number_at}
 use Rattle.rankings.specs.Slopes.{CanFollow}
 use Rattle.rankings.proofs.Ranked.{constant_ranked, junction_ranked, modality_ranked, single_ranked, steps_moved, two_columns, two_moved}
-use Rattle.rankings.proofs.columns.is_ranked.Goals as goal
+use Rattle.rankings.proofs.nodes.is_ranked.Goals as goal
 
 pub returns-in-True : goal.returns-in-True
 returns-in-True c = λ yes s h i.

@@ -4,7 +4,7 @@ use Rattle.systems.specs.declared.system.Transition.{Transition}
 use Rattle.game.specs.Steps.{is_in}
 use Rattle.rankings.specs.Columns.{number_at}
 use Rattle.rankings.specs.Slopes.{CanFollow}
-use Rattle.rankings.proofs.columns.steps_lead.Given as goal
+use Rattle.rankings.proofs.nodes.steps_lead.Given as goal
 
 abbrev pub invariant-loop-step : goal.invariant-loop-step
 invariant-loop-step l = record {

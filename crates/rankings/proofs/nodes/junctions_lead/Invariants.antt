@@ -1,7 +1,7 @@
 use Rattle.std.proofs.Common.{◌<◌, ◌≤◌, ℕ}
 use Rattle.rankings.specs.Columns.{number_at}
 use Rattle.rankings.specs.Slopes.{TwoFollow}
-use Rattle.rankings.proofs.columns.junctions_lead.Given as goal
+use Rattle.rankings.proofs.nodes.junctions_lead.Given as goal
 
 abbrev pub invariant-loop-s : goal.invariant-loop-s
 invariant-loop-s l = (s : ℕ) → l.fn.span.first ≤ s → s < l.s

@@ -3,8 +3,8 @@ use Rattle.rankings.specs.Columns.{number_at}
 use Rattle.rankings.specs.Slopes.{StepsFollow, StepsFollowAt, sink_of}
 use Rattle.rankings.proofs.Always.{always_follow}
 use Rattle.rankings.proofs.Rows.{more_states}
-use Rattle.rankings.proofs.columns.modalities_lead.Goals.{else-not-always-via-then-not-always+else-not-steps_lead, else-not-always-via-else-not-always}
-use Rattle.rankings.proofs.columns.modalities_lead.Goals as goal
+use Rattle.rankings.proofs.nodes.modalities_lead.Goals.{else-not-always-via-then-not-always+else-not-steps_lead, else-not-always-via-else-not-always}
+use Rattle.rankings.proofs.nodes.modalities_lead.Goals as goal
 
 pub loop-s-preserved : goal.loop-s-preserved
 loop-s-preserved c =

@@ -1,7 +1,7 @@
 use Rattle.std.proofs.Common.{◌<◌, ◌≤◌, ℕ}
 use Rattle.rankings.specs.Columns.{number_at}
 use Rattle.rankings.specs.Slopes.{CanFollow}
-use Rattle.rankings.proofs.columns.constants_lead.Given as goal
+use Rattle.rankings.proofs.nodes.constants_lead.Given as goal
 
 abbrev pub invariant-loop-s : goal.invariant-loop-s
 invariant-loop-s l = (s : ℕ) → l.fn.span.first ≤ s → s < l.s → CanFollow l.slopes (number_at l.own s) l.sink
