@@ -5,6 +5,7 @@ use crate::notes::note_all;
 use crate::stats::{Running, Stats, Step, name_of, told_texts};
 use calculus::closed::Closed;
 use gauge::{Gauge, Reading};
+use hints::strange::{Word, strange_words};
 use lts::system::Lts;
 use measures::observer::{Observer, Stage};
 use requests::watch::Watcher;
@@ -14,7 +15,6 @@ use std::sync::{Arc, Condvar, Mutex, Wait};
 use std::thread::{JoinHandle, Threads};
 use std::time::{Clock, Duration, Instant};
 use std::{io, thread};
-use words::strange::{Word, strange_words};
 
 /// How long a run may be until it has a line, in milliseconds.
 const FIRST: u64 = 2000;

@@ -1,7 +1,7 @@
 // Notes on the words of a formula that no label of a system has.
 
+use hints::strange::Word;
 use std::io;
-use words::strange::Word;
 
 /// Writes a note for each word. It names the formula's file, where that is one of several.
 pub fn note_all(rt: HostRuntime, file: Option<&str>, words: &[Word<'_>]) -> io::Result<()> {

@@ -2,7 +2,7 @@
 use Rattle.std.specs.Prelude.{◌≡◌, ◌⊎◌, ℕ, Bool, List, Option, Some, None, Result, MatchResult, IsTrue}
 use Rattle.systems.specs.System.{System}
 use Rattle.lts.specs.Aut.{IsAut}
-use Rattle.words.specs.Absent.{IsFirstAbsent}
+use Rattle.hints.specs.Absent.{IsFirstAbsent}
 use Rattle.requests.specs.declared.error.MuError.{MuError}
 use Rattle.requests.specs.declared.error.MuError.TheVariants as error
 use Rattle.requests.specs.Check.{Way, HasReported, HasRefused}

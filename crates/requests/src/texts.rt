@@ -9,7 +9,7 @@ ghost use Rattle.requests.specs.Texts.{IsFormulaOf, IsReadRefusal, IsReadFault, 
 ghost use Rattle.requests.specs.Check.{Way, BySets, AreSpelled, HasRefused, IsErrorOf};
 ghost use Rattle.requests.specs.Known.{AreKnown};
 ghost use Rattle.requests.specs.Strict.{HasRefusedBy, IsLookRefusal, IsUnread, KnowsWords};
-ghost use Rattle.words.specs.Absent.{IsFirstAbsent};
+ghost use Rattle.hints.specs.Absent.{IsFirstAbsent};
 ghost use Rattle.requests.specs.Writers.{AreKept, Lent};
 
 use crate::error::MuError;
@@ -17,6 +17,7 @@ use crate::watch::Watcher;
 use calculus::closed::Closed;
 use formula::limits::LONGEST_TEXT;
 use formula::parse;
+use hints::absent::first_absent;
 use lts::reader::read_aut;
 use lts::system::Lts;
 use measures::observer::{Silent, Stage};
@@ -24,7 +25,6 @@ use std::alloc::Global;
 use std::io::Read;
 use text::source::{Noted, Source};
 use text::{Memory, ReadFault};
-use words::absent::first_absent;
 
 /// One byte more than the longest text of a formula: nothing behind it is read.
 pub const FORMULA_BYTES: u64 = LONGEST_TEXT as u64 + 1;

@@ -1,11 +1,11 @@
 // Words of formulas that no label of a system has. The systems are small, and which words are strange was read off them.
 
 use crate::common::same;
+use hints::absent::first_absent;
+use hints::strange::{Word, strange_words};
 use samples::texts::{RING, formula_of, repeated, system_of};
 use std::alloc::{AllocError, Global};
 use std::process::Abort;
-use words::absent::first_absent;
-use words::strange::{Word, strange_words};
 
 /// The words, each with its kind, in their order.
 fn shown(alloc: Global, words: &[Word<'_>]) -> Result<String, AllocError> {

@@ -1,7 +1,0 @@
-use Rattle.std.proofs.Common.{◌≡◌, take}
-use Rattle.words.specs.Strange.{Term}
-use Rattle.words.specs.Noted.{is_known, knows}
-use Rattle.words.proofs.strange.known_in.Given as goal
-
-abbrev pub invariant-loop-number : goal.invariant-loop-number
-invariant-loop-number l = (t : Term) → knows l.known t ≡ is_known (take l.number l.system.labels) t
