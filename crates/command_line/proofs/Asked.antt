@@ -3,10 +3,7 @@ use Rattle.std.proofs.Common.{◌≡◌, ◌∙◌, ap₂, refl, subst, sym, ℕ
 use Rattle.std.specs.Prelude.{option_map}
 use Rattle.std.specs.Borrow.{Bor}
 use Rattle.std.specs.Str.Parse.{IsNumeral, ParsesUnsigned, digits_value, without_leading_plus}
-use Rattle.clap.specs.Words.{Text, TriesOne, first_of, first_value, found_of, one_of, one_text, rows_of, subcommand_name_of, subcommand_rows_of}
-use Rattle.clap.specs.Simple.{subcommand_rows}
-use Rattle.clap.specs.declared.parser.matches.ArgMatches.{ArgMatches}
-use Rattle.clap.specs.declared.parser.matches.ArgMatches.TheViews.{out-ArgMatches}
+use Rattle.clap.specs.Words.{Text, TriesOne, first_of, first_value, one_of, one_text, rows_of}
 use Rattle.clap.specs.declared.parser.matches.Found.{Found}
 use Rattle.clap.proofs.WalkLemmas.{first_value-rows, one_text-rows}
 use Rattle.command_line.specs.CommandLine.{IsNumberOf}
@@ -66,10 +63,3 @@ paired f g (Some x) (Some p) first second =
     let one : f x ≡ p.0 = cc in
     let two : g x ≡ p.1 = cc in
     ap₂ (λ y z. Some (y, z)) (sym one) (sym two)
-
--- the command that the matches name, with its own matches
-pub subcommand_read : (m : ArgMatches) (found : Option (Bor Text × Bor ArgMatches)) → option_map (λ p. p.0.now) found ≡ subcommand_name_of m
-    → option_map (λ p. rows_of (found_of p.1.now)) found ≡ option_map (λ p. p.1) (subcommand_rows (out-ArgMatches m).subcommand)
-    → subcommand_rows_of m ≡ option_map (λ p. (p.0.now, rows_of (found_of p.1.now))) found
-subcommand_read m found name rows =
-    paired (λ p. p.0.now) (λ p. rows_of (found_of p.1.now)) found (subcommand_rows_of m) (name ∙ sym (fused _ (λ q. q.0) (out-ArgMatches m).subcommand)) rows

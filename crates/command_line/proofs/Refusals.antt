@@ -19,10 +19,10 @@ use Rattle.requests.specs.declared.request.Why.{Why as WhyRequest}
 use Rattle.invocation.specs.declared.request.Command.{Command}
 use Rattle.invocation.specs.declared.request.Command.TheVariants.{Check, Explain, Help, Normal, Replay, Solve, Table, Verify, Version, Why}
 use Rattle.invocation.specs.declared.request.Outputs.{Outputs}
-use Rattle.invocation.specs.Command.{IsComplete, IsForSome, IsPlainAlone, IsReportAlone, is_named}
+use Rattle.invocation.specs.Command.{IsComplete, IsForSome, IsPlainAlone, is_named}
 use Rattle.command_line.specs.CommandLine.{AreOutputs, IsCheck, IsCommand, IsFile, IsFileIfAny, IsNormal, IsNumberIfAny, IsNumberOf, IsNumberOr}
 use Rattle.command_table.specs.Table.{IsTable}
-use Rattle.command_line.specs.CommandLine.{IsReplay, IsSolve, IsTableRequest, IsVerify, IsWhy, answer_word, form_by, stands}
+use Rattle.command_line.specs.CommandLine.{IsReplay, IsSolve, IsVerify, IsWhy, answer_word, form_by, stands}
 use Rattle.invocation.specs.Refused.{IfArguments}
 use Rattle.command_line.specs.Refusals.{AsksForNone, HasNoForm, IsNoAnswer, IsUntaken}
 
@@ -97,11 +97,6 @@ only_why rows none (Why why) is complete plain = none why is.1 complete
 only_why rows none command is complete plain =
     let other : key (codes "why") ≡ key_of command = key_is (codes "why") rows command is in absurd (omega arith)
 
-pub only_table : (rows : List Row) → ((table : TableRequest) → IsTableRequest rows table → IsComplete (Table table) → ⊥) → AsksForNone (codes "table") rows
-only_table rows none (Table table) is complete plain = none table is.1 complete
-only_table rows none command is complete plain =
-    let other : key (codes "table") ≡ key_of command = key_is (codes "table") rows command is in absurd (omega arith)
-
 pub only_normal : (rows : List Row) → ((form : Normalize) → IsNormal rows form → IsComplete (Normal form) → ⊥) → AsksForNone (codes "normal") rows
 only_normal rows none (Normal form) is complete plain = none form is.1 complete
 only_normal rows none command is complete plain =
@@ -141,14 +136,6 @@ none_named (Some f) e = cc
 
 stays_none : (rows : List Row) (id : Text) (mine other : Option (Bor Text)) → IsFileIfAny rows id mine → IsFileIfAny rows id other → other ≡ None → mine ≡ None
 stays_none rows id mine other is that none = none_named mine (sym is ∙ (that ∙ ap (option_map (λ (f : Bor Text). f.now)) none))
-
--- where one reading of the outputs has no file, each has none
-pub stays_alone : (rows : List Row) (mine other : Outputs) → AreOutputs rows mine → AreOutputs rows other → IsReportAlone other → IsReportAlone mine
-stays_alone rows mine other is that alone = (
-  stays_none rows (codes "game") mine.game other.game is.game that.game alone.0,
-  stays_none rows (codes "evidence") mine.evidence other.evidence is.evidence that.evidence alone.1,
-  stays_none rows (codes "witness") mine.witness other.witness is.witness that.witness alone.2,
-)
 
 -- a name that stands there and is empty is none
 pub empty_if_any : (found : Option Text) (name : Text) → found ≡ Some name → name ≡ [] → (file : Option (Bor Text)) → found ≡ option_map (λ f. f.now) file

@@ -1,5 +1,5 @@
 -- What was solved, and written of it.
-use Rattle.std.proofs.Common.{◌≡◌, ◌≤◌, ℕ, List, ◌∷◌, Bool, true, false, Some, Result, Ok, Err, inl, inr, refl, subst, sym}
+use Rattle.std.proofs.Common.{◌≡◌, ◌≤◌, ℕ, List, Bool, true, false, Some, Result, Ok, Err, inl, inr, refl, subst, sym}
 use Rattle.text.proofs.Writing.{Stays-refl}
 use Rattle.text.specs.Taken.{Taken, Adds}
 use Rattle.std.specs.Prelude.{◌↔◌, IsTrue, MatchResult}
@@ -19,12 +19,12 @@ use Rattle.game.specs.Game.{Game, IsGame, greatest}
 use Rattle.game.specs.Wins.{OddWins, Wins}
 use Rattle.game.specs.declared.player.Player.TheVariants.{Even, Odd}
 use Rattle.workers.specs.declared.team.BoardKind.{BoardKind}
-use Rattle.requests.proofs.Orders.{one_text, stopped_at, then_more, unasked}
+use Rattle.requests.proofs.Orders.{one_text, stopped_at, unasked}
 use Rattle.requests.specs.declared.error.MuError.{MuError}
 use Rattle.requests.specs.declared.error.MuError.TheVariants as error
 use Rattle.requests.specs.declared.request.ReportForm.TheVariants.{Whole}
 use Rattle.requests.specs.Solver.{IsFitting, IsUnsolved}
-use Rattle.requests.specs.Writers.{EvenText, OddText, ReportText, Lent, IsLentFor, AreKept, AreWritten, lent_for, report_writer}
+use Rattle.requests.specs.Writers.{EvenText, ReportText, Lent, IsLentFor, AreKept, AreWritten, lent_for, report_writer}
 use Rattle.commands.specs.Solves.{Answers, HasRefused, IsTextOf, IsUnproved, solve_writers}
 use Rattle.commands.specs.Spelled.{IsGameOf}
 use Rattle.commands.specs.Winners.{AreWinners, winners_text}
@@ -157,16 +157,3 @@ odd_stopped g marks pair old new odd_old odd_new out r full h whole front =
       (evidence_text pair.even.evidence, even_text g pair full, whole),
       inl ((evidence_text pair.odd.evidence, odd_text g pair full, front), (Stays-refl out, tt)),
     ))
-
--- both were written, and then who wins
-pub all_put : (g : Game) (marks : List Bool) (pair : EvidencePair) (text : List ℕ) (old new odd_old odd_new out_old out_new : Taken)
-    (r : Result Unit WriteFault) → AreFull g pair → text ≡ winners_text marks → Adds old new (evidence_text pair.even.evidence)
-    → Adds odd_old odd_new (evidence_text pair.odd.evidence) → Wrote out_old out_new r text
-    → AreWritten (IsTextOf g marks) (solve_writers true old new odd_old odd_new out_old out_new) r
-all_put g marks pair text old new odd_old odd_new out_old out_new r full is even odd wrote =
-    let report = report_writer Whole out_old out_new in
-    then_more (IsTextOf g marks) (lent_for EvenText old new) (lent_for OddText odd_old odd_new ∷ report) r
-    (evidence_text pair.even.evidence, even_text g pair full, even)
-    (then_more (IsTextOf g marks) (lent_for OddText odd_old odd_new) report r
-    (evidence_text pair.odd.evidence, odd_text g pair full, odd)
-    (winners_put g marks text out_old out_new r is wrote))

@@ -19,7 +19,7 @@ use Rattle.requests.specs.declared.request.ReportForm.{ReportForm}
 use Rattle.requests.specs.declared.request.Wanted.{Wanted}
 use Rattle.requests.specs.Command as request
 use Rattle.requests.specs.Strict.{AnswersBy, KnowsWords}
-use Rattle.engines.specs.Prepared.{IsTextFound, IsUnprepared, IsUnshown}
+use Rattle.engines.specs.Prepared.{IsUnprepared, IsUnshown}
 use Rattle.verdicts.specs.Findings.{AreFindings, formula_of, system_of, way_in}
 use Rattle.verdicts.specs.declared.findings.Findings.{Findings}
 
@@ -81,16 +81,6 @@ answer_of way first second writers l f marks (Ok x) r spelled found written e =
     })
 answer_of way first second writers l f marks (Err fault) r spelled found begun e =
     subst (Answers way first second writers) (sym e) (record { l = l; f = f; marks = marks; spelled = spelled; found = found; begun = begun })
-
--- The same of what was found out.
-pub found_answer : (x : Findings) (way : Way) (first second : List ℕ) (writers : List Lent) (wrote : Result Unit WriteFault) (r : Result Bool MuError)
-    → way_in x ≡ way → AreFindings x
-    → AreSpelled first second (system_of x) (formula_of x) → AreWritten (IsTextFound x) writers wrote
-    → MatchResult wrote (λ _. r ≡ Ok (slice_index_or x.marks.items (system_of x).initial false)) (λ fault. r ≡ Err (error.Write fault))
-    → Answers way first second writers r
-found_answer x way first second writers wrote r e found spelled written answered =
-    by_way (way_in x) way first second writers r e
-    (answer_of (way_in x) first second writers (system_of x) (formula_of x) x.marks.items wrote r spelled found.marks written answered)
 
 -- The writer of a witness that is wanted is lent for it.
 witness_lent : (form : Option WitnessForm) → IsTrue (is_some form) → (witness_kind form ≡ WitnessText) ⊎ (witness_kind form ≡ DrawingText)

@@ -58,13 +58,6 @@ next_number wanted marks s left h some is =
     ap (λ ns. number_lines (take left ns)) all ∙ ap number_lines (take_next left s rest some) in
     first ∙ sym (append_assoc (decimal s) line_end (number_lines (take (left - 1) rest)))
 
--- else they are those from the next state on
-pub same_numbers : (wanted : Bool) (marks : List Bool) (s left : ℕ) → s < length marks → is_mark wanted (get_or marks s false) ≡ false
-    → number_lines (take left (numbers_with wanted s (drop s marks))) ≡ number_lines (take left (numbers_with wanted (s + 1) (drop (s + 1) marks)))
-same_numbers wanted marks s left h is =
-    ap (λ ns. number_lines (take left ns))
-    (ap (numbers_with wanted s) (from_state marks s h) ∙ passed wanted (get_or marks s false) s (drop (s + 1) marks) is)
-
 -- where none is left to be written, there are no lines
 pub none_left : (left : ℕ) (ns ms : List ℕ) → left ≡ 0 → number_lines (take left ns) ≡ number_lines (take left ms)
 none_left left ns ms e = rw e refl

@@ -1,7 +1,6 @@
 -- What the checker's tests say.
 use Rattle.std.proofs.Common.{◌≡◌, ◌≢◌, ◌↔◌, ℕ, suc, ◌+◌, ◌-◌, ◌/◌, ◌<◌, ◌≤◌, Bool, List, [], ◌∷◌, length, take, refl, sym, ap, subst, ◌∙◌, inl, inr, arith}
 use Rattle.std.proofs.Common.{count_by, nat_le, Contains, IsTrue, Some, None, Option, option_map}
-use Rattle.std.specs.List.{AllByRecursion}
 use Rattle.std.specs.declared.cmp.Ordering.{Ordering}
 use Rattle.std.specs.Ordering.{is_le, is_lt, nat_cmp}
 use Rattle.std.specs.Cmp.Lexicographic.{slice_cmp}
@@ -9,11 +8,11 @@ use Rattle.std.proofs.lemmas.List.{length-map}
 use Rattle.std.proofs.lemmas.Option.{slice_get_within}
 use Rattle.game.specs.declared.player.Player.{Player}
 use Rattle.game.specs.declared.player.Player.TheVariants.{Even, Odd}
-use Rattle.game.specs.Game.{Game, IsAscending, IsGame, IsVertex, Vertex, greatest, opponent, vertex}
+use Rattle.game.specs.Game.{Game, IsGame, IsVertex, Vertex, greatest, opponent, vertex}
 use Rattle.game.specs.Wins.{IsOf}
 use Rattle.progress.specs.Measure.{Counts, IsBelow, odd_down}
 use Rattle.progress.proofs.Components.{kept_is}
-use Rattle.progress.proofs.Bests.{vertex_here, vertex_tells}
+use Rattle.progress.proofs.Bests.{vertex_tells}
 use Rattle.progress.proofs.Lists.{all_got, contains_first, contains_none, contains_cases}
 use Rattle.progress.proofs.Measures.{below_at_most}
 use Rattle.evidence.specs.Checking.{IsAlong, IsFaultAt, IsLeastFault}
@@ -125,17 +124,6 @@ below_is g e p rank t z player b here same wide f =
 module _ (g : Game) (v : ℕ) (inside : v < length g.vertices) (game : IsGame g) where
   is_vertex : (x : Vertex) → vertex g v ≡ Some x → IsVertex (length g.vertices) x
   is_vertex x at = all_got (IsVertex (length g.vertices)) g.vertices v x game.vertices at
-
-  pub successors_inside : (ts : List ℕ) → option_map (λ x. x.successors) (vertex g v) ≡ Some ts → AllByRecursion (λ t. t < length g.vertices) ts
-  successors_inside ts e = let x = vertex_here g v inside in subst (λ us. AllByRecursion (λ t. t < length g.vertices) us)
-      (vertex_tells (λ y. y.successors) g v ts x.0 x.1 e) (is_vertex x.0 x.1).within
-
-  pub some_successors : (ts : List ℕ) → option_map (λ x. x.successors) (vertex g v) ≡ Some ts → 0 < length ts
-  some_successors ts e = let x = vertex_here g v inside in let q = ap length (vertex_tells (λ y. y.successors) g v ts x.0 x.1 e)
-      in let l = (is_vertex x.0 x.1).some in omega arith
-
-  pub ascending_of : (x : Vertex) → vertex g v ≡ Some x → IsAscending x.successors
-  ascending_of x at = (is_vertex x at).ascending
 
 module _ (g of : Game) (same : of ≡ g) (e : Evidence) (v : ℕ) (owner : Player) (rank : List ℕ) (own : option_map (λ x. x.owner) (vertex g v) ≡ Some owner)
     (x : Vertex) (at : vertex g v ≡ Some x) where

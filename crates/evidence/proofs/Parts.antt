@@ -149,18 +149,18 @@ module _ (l part : System) (is : IsPart l part) where
 -- ------------------------------------------------------------------ vertices
 
 -- a vertex of an arena is a sink, or a state with a node
-record IsSeat (states n u : ℕ) : Type 0 where
-  state : ℕ
-  node : ℕ
-  below : state < states
-  few : node < n
-  is : u ≡ place n state node
+pub record IsSeat (states n u : ℕ) : Type 0 where
+  pub state : ℕ
+  pub node : ℕ
+  pub below : state < states
+  pub few : node < n
+  pub is : u ≡ place n state node
 
 some_nodes : (states n : ℕ) → 0 < states * n → 0 < n
 some_nodes states zero h = let z : states * 0 ≡ 0 = omega arith in absurd (omega arith)
 some_nodes states (suc n) h = omega arith
 
-seat_of : (states n u : ℕ) → 2 ≤ u → u < 2 + states * n → IsSeat states n u
+pub seat_of : (states n u : ℕ) → 2 ≤ u → u < 2 + states * n → IsSeat states n u
 seat_of states n u two h =
     let q = div-add-mod' (u - 2) n in
     let p : 0 < n = some_nodes states n (omega arith) in

@@ -1,5 +1,5 @@
 -- What the program finds on a line, step by step.
-use Rattle.std.proofs.Common.{◌≡◌, ℕ, suc, ◌+◌, ◌-◌, ◌<◌, ◌≤◌, Bool, true, false, cond, MatchBool, List, [], ◌∷◌, ◌++◌, length, take, drop, set, Option, Some}
+use Rattle.std.proofs.Common.{◌≡◌, ℕ, suc, ◌+◌, ◌-◌, ◌<◌, ◌≤◌, Bool, true, false, cond, MatchBool, List, [], ◌∷◌, ◌++◌, length, take, set, Option, Some}
 use Rattle.std.proofs.Common.{None, codes, refl, sym, ap, ap₂, ◌∙◌, arith, append_assoc, append-nil, add-one, inl, inr}
 use Rattle.std.specs.Prelude.{nat_le}
 use Rattle.std.specs.Str.{bytes_eq}
@@ -9,7 +9,7 @@ use Rattle.std.proofs.lemmas.Bool.Decides.{leb_tells}
 use Rattle.std.proofs.Math.Seq.{take-suc-set}
 use Rattle.text.specs.Tokens.{cut_at, whole_number, ◌>>=◌}
 use Rattle.evidence.specs.declared.limits.TheConstants.{GREATEST_COUNT}
-use Rattle.evidence.specs.Scan.{count_before, counts_of, end_of, fields_of, move_of, number_of, rank_of, read_move}
+use Rattle.evidence.specs.Scan.{count_before, counts_of, end_of, fields_of, move_of, number_of, read_move}
 use Rattle.evidence.proofs.Scanned.{whole_none, whole_some}
 
 -- ---- moves
@@ -91,11 +91,6 @@ front_none (Some more) = refl
 abbrev pub IsReadTo : List ℕ → List ℕ → ℕ → List ℕ → Type 0
 IsReadTo bytes counts k rest = counts_of (length counts) bytes ≡ with_front (take k counts) (counts_of (length counts - k) rest)
 
-pub read_none : (bytes counts : List ℕ) → IsReadTo bytes counts 0 bytes
-read_none bytes counts =
-    let all : length counts ≡ length counts - 0 = omega arith in
-    ap (λ n. counts_of n bytes) all ∙ front_none (counts_of (length counts - 0) bytes)
-
 pub comma_end : (k n : ℕ) → k + 1 < n → 44 ≡ end_of (n - (k + 1))
 comma_end k n h = let e : n - (k + 1) ≡ suc (n - (k + 2)) = omega arith in ap end_of (sym e)
 
@@ -143,19 +138,3 @@ read_all bytes counts k (c ∷ rest) false so past to from =
     let none : length counts - k ≡ 0 = omega arith in so ∙ ap (λ n. with_front (take k counts) (counts_of n (c ∷ rest))) none
 
 -- ---- the rank
-
-pub rank_without : (counts bytes : List ℕ) (b : Bool) → length counts ≡ 0 → b ≡ bytes_eq bytes (codes "()")
-    → MatchBool b (rank_of (length counts) bytes ≡ Some counts) (rank_of (length counts) bytes ≡ None)
-rank_without [] bytes true none e = rw (← e) refl
-rank_without [] bytes false none e = rw (← e) refl
-rank_without (c ∷ counts) bytes b none e = absurd (omega (arith, none))
-
-pub rank_opened : (counts bytes rest : List ℕ) → 0 < length counts → bytes_eq (take 1 bytes) (codes "(") ≡ true → rest ≡ drop 1 bytes
-    → counts_of (length counts) rest ≡ rank_of (length counts) bytes
-rank_opened [] bytes rest some opened e = absurd (omega (arith, some))
-rank_opened (c ∷ counts) bytes rest some opened e = ap (counts_of (suc (length counts))) e
-    ∙ sym (ap (λ b. cond b (counts_of (suc (length counts)) (drop 1 bytes)) None) opened)
-
-pub rank_closed : (counts bytes : List ℕ) → 0 < length counts → bytes_eq (take 1 bytes) (codes "(") ≡ false → rank_of (length counts) bytes ≡ None
-rank_closed [] bytes some closed = absurd (omega (arith, some))
-rank_closed (c ∷ counts) bytes some closed = ap (λ b. cond b (counts_of (suc (length counts)) (drop 1 bytes)) None) closed

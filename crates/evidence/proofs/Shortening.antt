@@ -105,12 +105,6 @@ drop_nothing zero text none = none
 drop_nothing (suc n) [] none = refl
 drop_nothing (suc n) (b ∷ text) none = absurd cc
 
--- nothing was at hand
-pub on_nothing : (d : ℕ) (kept : List ℕ) (old mid : Option (List ℕ)) → KeepsLeft old mid → IfKnown old mid (TakesOn d kept kept (Some d))
-on_nothing d kept None mid same = tt
-on_nothing d kept (Some text) None same = absurd same
-on_nothing d kept (Some text) (Some left) same = ([], sym same, refl, refl, puts_nothing kept)
-
 -- all bytes were kept
 pub kept_all : (d : ℕ) (run : List ℕ) (i : ℕ) (old now : List ℕ) (after : ℕ) → length run ≤ i → KeptSo d (take i run) old now after → KeptSo d run old now after
 kept_all d run i old now after past so = subst (λ r. KeptSo d r old now after) (take_all i run past) so

@@ -66,25 +66,10 @@ rest_decides g player text left BadHeader place begins (good, faulty, at) = absu
 rest_decides g player text left BadLine place begins (good, faulty, at) = (player, pieces_of left, good, begins, faulty, at)
 rest_decides g player text left BadVertex place begins (good, faulty, at) = (player, pieces_of left, good, begins, faulty, at)
 
--- a fault below the header decides
-pub rest_fault : (g : Game) (player : Player) (old mid : Option (List ℕ)) (e : EvidenceError) → IfKnown old mid (BeginsWith player)
-    → Refuses mid (HasRestFault (length g.vertices) (length (counted player g))) e → Refuses old (HasFault g) e
-rest_fault g player None mid e begins wrong = tt
-rest_fault g player (Some text) None e begins wrong = absurd begins
-rest_fault g player (Some text) (Some left) errors.Read begins wrong = tt
-rest_fault g player (Some text) (Some left) errors.Memory begins wrong = tt
-rest_fault g player (Some text) (Some left) (errors.Fault fault line) begins wrong = rest_decides g player text left fault line begins wrong
-
 headless : (g : Game) (text : List ℕ) (fault : EvidenceFault) (place : ℕ) → HasNoHeader text fault place → HasFault g text fault place
 headless g text BadHeader place h = (h.1, h.2)
 headless g text BadLine place h = absurd (let e = h.0 in cc)
 headless g text BadVertex place h = absurd (let e = h.0 in cc)
-
-pub header_fault : (g : Game) (old : Option (List ℕ)) (e : EvidenceError) → Refuses old HasNoHeader e → Refuses old (HasFault g) e
-header_fault g None e wrong = tt
-header_fault g (Some text) errors.Read wrong = tt
-header_fault g (Some text) errors.Memory wrong = tt
-header_fault g (Some text) (errors.Fault fault line) wrong = headless g text fault line wrong
 
 laws : (g : Game) → AreLaws (IsEvidenceText g) (IsEvidenceText g) (IsEvidenceText g) (HasFaultAt g)
 laws g = record {

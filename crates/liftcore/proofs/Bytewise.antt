@@ -15,7 +15,7 @@ use Rattle.liftcore.specs.Begun.{IsBegun, IsUnspaced, IsValue}
 use Rattle.liftcore.specs.Scan.{event_at, event_with, two_numbers}
 use Rattle.liftcore.specs.declared.event.Event.{Event}
 use Rattle.liftcore.specs.declared.event.Event.TheVariants as event
-use Rattle.liftcore.specs.declared.line.Part.TheVariants.{Faulty, Vertex, Word, Worker}
+use Rattle.liftcore.specs.declared.line.Part.TheVariants.{Faulty, Vertex, Worker}
 use Rattle.liftcore.proofs.Lines.{digits_free}
 
 -- ---- digits
@@ -219,14 +219,6 @@ too_long front rest free long =
           (bind_none (two_numbers whole_number p.1) (λ both. event_with p.0 both.0 both.1) (λ both. no_long_event p.0 both.0 both.1 longer))
     ] refl
 
-pub word_space : (line word : List ℕ) → line ≡ word → IsUnspaced word → IsBegun (line ++ 32 ∷ []) word (Worker None)
-word_space line word is free = ([], ap (λ l. l ++ 32 ∷ []) is, free, refl)
-
-pub word_more : (line word new : List ℕ) (b : ℕ) → line ≡ word → IsUnspaced word → (b == 32) ≡ false → new ≡ word ++ b ∷ []
-    → IsBegun (line ++ b ∷ []) new Word
-word_more line word new b is free other grown =
-    (ap (λ l. l ++ b ∷ []) is ∙ sym grown, subst IsUnspaced (sym grown) (unspaced_more word b free other))
-
 pub word_full : (line word : List ℕ) (b : ℕ) → line ≡ word → IsUnspaced word → (b == 32) ≡ false → 5 ≤ length word → IsBegun (line ++ b ∷ []) word Faulty
 word_full line word b is free other full = λ rest.
     too_long (line ++ b ∷ []) rest (subst (λ l. IsUnspaced (l ++ b ∷ [])) (sym is) (unspaced_more word b free other))
@@ -250,13 +242,6 @@ worker_bad line word n b (digits, is, free, value) none stuck = λ rest.
     ∙ no_event_behind word (digits ++ b ∷ rest) free (stuck digits value rest)
     (two_stuck digits rest b (value_free digits n value) (stuck digits value) (λ e. subst (IsValue digits) (none e) value))
 
-pub worker_space : (line word : List ℕ) (w : ℕ) → IsBegun line word (Worker (Some w)) → IsBegun (line ++ 32 ∷ []) word (Vertex w None)
-worker_space line word w (digits, is, free, value) =
-    (digits, [], ap (λ l. l ++ 32 ∷ []) is ∙ append_assoc word (32 ∷ digits) (32 ∷ []), free, value, refl)
-
-pub worker_none : (line word : List ℕ) → IsBegun line word (Worker None) → IsBegun (line ++ 32 ∷ []) word Faulty
-worker_none line word begun = worker_bad line word None 32 begun (λ e. refl) (λ digits value rest. no_digit digits rest 32 refl)
-
 pub vertex_more : (line word : List ℕ) (w m b : ℕ) (n : Option ℕ) → IsBegun line word (Vertex w n)
     → ((digits : List ℕ) → IsValue digits n → whole_number (digits ++ b ∷ []) ≡ Some m) → IsBegun (line ++ b ∷ []) word (Vertex w (Some m))
 vertex_more line word w m b n (numeral, digits, is, free, first, value) more = (
@@ -278,9 +263,6 @@ vertex_bad line word w b n (numeral, digits, is, free, first, value) stuck = λ 
     ∙ no_event_behind word bytes free (no_digit numeral (digits ++ b ∷ rest) 32 refl)
     (two_second bytes numeral (digits ++ b ∷ rest) w (cut_finds 32 numeral (digits ++ b ∷ rest) (value_free numeral (Some w) first)) first
     (stuck digits value rest))
-
-pub faulty_more : (line word : List ℕ) (b : ℕ) → IsBegun line word Faulty → IsBegun (line ++ b ∷ []) word Faulty
-faulty_more line word b stuck = λ rest. ap (event_at whole_number) (append_assoc line (b ∷ []) rest) ∙ stuck (b ∷ rest)
 
 -- ---- the event of the line
 

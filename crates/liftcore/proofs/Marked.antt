@@ -1,17 +1,17 @@
 -- Marks, and the numbers that are marked.
-use Rattle.std.proofs.Common.{◌≡◌, ◌≢◌, ℕ, zero, suc, ◌+◌, ◌<◌, ◌≤◌, ◌==◌, ◌&&◌, ◌||◌, ◌⊎◌, Bool, true, false, cond, not, List, [], ◌∷◌, ◌++◌, length, take}
-use Rattle.std.proofs.Common.{filter, count_by, replicate, refl, sym, ◌∙◌, ap, subst, inl, inr, arith, true≢false, Contains, slice_index, slice_index_or}
+use Rattle.std.proofs.Common.{◌≡◌, ◌≢◌, ℕ, zero, suc, ◌+◌, ◌<◌, ◌≤◌, ◌==◌, ◌&&◌, ◌||◌, ◌⊎◌, Bool, true, false, cond, not, List, [], ◌∷◌, ◌++◌, length}
+use Rattle.std.proofs.Common.{filter, count_by, replicate, refl, sym, ◌∙◌, ap, subst, inl, inr, arith, true≢false, Contains, slice_index_or}
 use Rattle.std.proofs.Common.{slice_set}
 use Rattle.std.specs.Prelude.{nat_lt}
 use Rattle.std.proofs.lemmas.Bool.{cases_eq, ne_eqb, ltb-true, lt-ltb, cases_lt}
-use Rattle.std.proofs.lemmas.List.{get_or-set_other, get_or-set_same, get_or_past, get_or-replicate, length-set, length-replicate, take_more}
+use Rattle.std.proofs.lemmas.List.{get_or-set_other, get_or-set_same, get_or_past, get_or-replicate, length-set, length-replicate}
 use Rattle.std.specs.List.{list_any, range_with_len}
 use Rattle.game.specs.NumberSet.{with_number}
 use Rattle.progress.proofs.Lists.{contains_cases, contains_first, contains_later, contains_none, count_no, count_yes}
 use Rattle.liftcore.specs.Core.{without}
 use Rattle.liftcore.specs.Marks.{IsMarked, members}
 use Rattle.liftcore.specs.Work.{AreOwed}
-use Rattle.liftcore.proofs.Sets.{cases, eqb_same, gives_any, gives_filter, gives_range, or_right, same_eqb}
+use Rattle.liftcore.proofs.Sets.{cases, eqb_same, gives_any, gives_filter, gives_range, same_eqb}
 
 -- ---- filters of ranges
 
@@ -188,29 +188,6 @@ any_last p (y ∷ ys) x = or_more (p y) (any_last p ys x)
     or_more : (b : Bool) → list_any p (ys ++ x ∷ []) ≡ (list_any p ys || p x) → (b || list_any p (ys ++ x ∷ [])) ≡ ((b || list_any p ys) || p x)
     or_more true e = refl
     or_more false e = e
-
--- one more vertex that is owed
-pub owed_more : (ts : List ℕ) (i : ℕ) (owed : List Bool) → i < length ts → slice_index ts i < length owed → AreOwed (take i ts) owed
-    → AreOwed (take (i + 1) ts) (slice_set owed (slice_index ts i) true)
-owed_more ts i owed h l are v = sym (ap (list_any (λ t. t == v)) (take_more ts i 0 h) ∙ any_last (λ t. t == v) (take i ts) (slice_index ts i) ∙ at)
-  where
-    at : (list_any (λ t. t == v) (take i ts) || slice_index ts i == v) ≡ slice_index_or (slice_set owed (slice_index ts i) true) v false
-    at = elim (cases_eq v (slice_index ts i)) [
-      | inl e ↦ (
-          let same = same_eqb (slice_index ts i) v (sym e) in
-          or_right (list_any (λ t. t == v) (take i ts)) (slice_index ts i == v) same
-          ∙ sym (ap (λ k. slice_index_or (slice_set owed (slice_index ts i) true) k false) e ∙ get_or-set_same owed (slice_index ts i) true false l)
-          )
-      | inr e ↦ (
-          let apart = ne_eqb (slice_index ts i) v (λ q. e (sym q)) in
-          ap (λ b. list_any (λ t. t == v) (take i ts) || b) apart ∙ or_nothing (list_any (λ t. t == v) (take i ts)) ∙ sym (are v)
-          ∙ sym (get_or-set_other owed (slice_index ts i) v true false e)
-          )
-    ]
-      where
-        or_nothing : (b : Bool) → (b || false) ≡ b
-        or_nothing true = refl
-        or_nothing false = refl
 
 -- the marks of the predecessors are those of no other
 pub owed_members : (p : ℕ → Bool) (n : ℕ) (owed : List Bool) → length owed ≡ n → AreOwed (filter p (range_with_len 0 n)) owed

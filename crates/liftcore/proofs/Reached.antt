@@ -56,9 +56,6 @@ count_last p (y ∷ ys) x =
       | inr e ↦ omega (arith, count_no p y (ys ++ x ∷ []) e, count_no p y ys e, rest)
     ]
 
-pub none_come : (c : Core) → Comes c [] 0 0 c
-none_come c = record { dones = []; steps = refl; done_is = refl; skipped_is = refl }
-
 pub done_comes : (a b c : Core) (events all : List Event) (event : Event) (done more skipped left : ℕ) → Comes a events done skipped b → Step b event true c
     → all ≡ events ++ event ∷ [] → more ≡ done + 1
     → left ≡ skipped → Comes a all more left c

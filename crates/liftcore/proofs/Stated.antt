@@ -14,7 +14,7 @@ use Rattle.progress.specs.Progress.{IsLift, greater_of, value_at}
 use Rattle.progress.specs.Progs.{IsDemandOf}
 use Rattle.progress.specs.Tables.{Table}
 use Rattle.progress.proofs.Measures.{at_most_itself, not_below}
-use Rattle.liftcore.specs.Core.{Core, Holding, Idle, Note, Owing, Worker, is_empty, is_idle, noted, owing, with_note, without}
+use Rattle.liftcore.specs.Core.{Core, Holding, Idle, Note, Owing, Worker, is_idle, noted, owing, with_note, without}
 use Rattle.liftcore.specs.Marks.{IsMarked, members}
 use Rattle.liftcore.specs.Reading.{AreRead, successors_of, values_of}
 use Rattle.liftcore.specs.Seats.{AreIdle, HasSeat, IsSeat, core_of, notes_of, worker_of}
@@ -313,10 +313,3 @@ one_busy seats i x h e busy all = busy (idle_is (worker_of x)
     idle_is Idle q = refl
     idle_is (Holding u notes) q = absurd (true≢false (sym q))
     idle_is (Owing owed) q = absurd (true≢false (sym q))
-
-pub none_pending : (xs : List ℕ) → xs ≡ [] → is_empty xs ≡ true
-none_pending xs e = ap is_empty e
-
-pub pending_none : (xs : List ℕ) → is_empty xs ≡ true → xs ≡ []
-pending_none [] e = refl
-pending_none (x ∷ xs) e = absurd (true≢false (sym e))

@@ -109,12 +109,6 @@ none_taken bytes old = λ workers vertices text left h. h
 next_bytes : (bytes : List ℕ) (i : ℕ) → i < length bytes → drop i bytes ≡ get_or bytes i 0 ∷ drop (i + 1) bytes
 next_bytes bytes i below = rw (add-one i) (drop-cons bytes i 0 below)
 
-pub one_taken : (bytes : List ℕ) (i : ℕ) (old now new : Intake) → i < length bytes → TakesTo bytes i old now → Takes (get_or bytes i 0 ∷ []) now new
-    → TakesTo bytes (i + 1) old new
-one_taken bytes i old now new below so one = λ workers vertices text left h.
-    one workers vertices text (drop (i + 1) bytes ++ left)
-    (subst (λ l. HasTaken workers vertices text (l ++ left) now) (next_bytes bytes i below) (so workers vertices text left h))
-
 pub one_tells : (bytes : List ℕ) (i : ℕ) (old now : Intake) (error : ScheduleError) → i < length bytes → TakesTo bytes i old now
     → Tells (get_or bytes i 0 ∷ []) now error → Tells bytes old error
 one_tells bytes i old now error below so tells = λ workers vertices text left h.
@@ -191,18 +185,9 @@ block_tells block (Some left) before error front tells = λ workers vertices tex
     let whole : left ≡ block ++ drop (length block) left = sym (take-append-drop (length block) left) ∙ ap (λ l. l ++ drop (length block) left) front in
     tells workers vertices text (drop (length block) left) (subst (λ l. HasTaken workers vertices text l before) whole h)
 
-pub nothing_taken : (old mid : Option (List ℕ)) (intake : Intake) → Keeps old mid → IfKnown old mid (TakesBlock intake intake true)
-nothing_taken None mid intake same = tt
-nothing_taken (Some text) None intake same = absurd same
-nothing_taken (Some text) (Some left) intake same = ([], sym same, λ workers vertices all rest h. h, λ e. absurd cc)
-
 -- what was left of the text is read on
 abbrev pub ReadsOn : Intake → Intake → List ℕ → List ℕ → Type 0
 ReadsOn old now left rest = (workers vertices : ℕ) (text : List ℕ) → HasTaken workers vertices text left old → HasTaken workers vertices text rest now
-
-pub reads_none : (old : Option (List ℕ)) (intake : Intake) → IfKnown old old (ReadsOn intake intake)
-reads_none None intake = tt
-reads_none (Some left) intake = λ workers vertices text h. h
 
 on_block : (old now new : Intake) (more : Bool) (left mid rest : List ℕ) → ReadsOn old now left mid → TakesBlock now new more mid rest
     → ReadsOn old new left rest

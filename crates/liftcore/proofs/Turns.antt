@@ -1,6 +1,6 @@
 -- What is read lies below.
-use Rattle.std.proofs.Common.{◌≡◌, ℕ, ◌+◌, ◌<◌, Bool, true, false, List, length, take, sym, ◌∙◌, ap, subst, inl, inr, arith, Option, Some, None, slice_index}
-use Rattle.std.proofs.Common.{slice_index_or, slice_set, option_map, refl, true≢false}
+use Rattle.std.proofs.Common.{◌≡◌, ℕ, ◌+◌, ◌<◌, true, false, List, length, take, sym, ◌∙◌, ap, subst, inl, inr, arith, Option, Some, None, slice_index}
+use Rattle.std.proofs.Common.{slice_index_or, slice_set, option_map, refl}
 use Rattle.std.proofs.lemmas.Bool.{cases_eq}
 use Rattle.std.proofs.lemmas.List.{get_or-set_other, get_or-set_same, get_or-take, length-set, length-take-le}
 use Rattle.std.proofs.lemmas.Option.{slice_get_within}
@@ -121,14 +121,3 @@ code_below g now r ts values m h d =
     (subst (λ (r : Reading). IsDemandOf g r.vertex (take (length ts) values) m) h.view d) in
     subst (λ (g : Game). LiesBelow g now.vertex m) h.same
     (lifted_below now m is (inside_here g now r ts values h) h.all (subst (λ (g : Game). IsDemandOf g now.vertex (values_of now) m) (sym h.same) d'))
-
--- Nothing is read.
-pub begin_keeps : (g : Game) (r : Reading) (v : ℕ) (marks : List Bool) → IsReading r → r.game ≡ g → length marks ≡ length r.marks
-    → ((k : ℕ) → k < length (successors_at (vertex g v)) → slice_index_or marks k false ≡ false)
-    → IsReading (record { game = r.game; vertex = v; marks = marks; values = r.values })
-begin_keeps g r v marks is same long none = record {
-  game = is.game;
-  even = is.even ∙ sym long;
-  room = λ w in'. omega (arith, is.room w in');
-  below = λ k in' mark. absurd (true≢false (sym mark ∙ none k (subst (λ (g : Game). k < length (successors_at (vertex g v))) same in')));
-}

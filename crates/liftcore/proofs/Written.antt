@@ -63,8 +63,5 @@ next_unmarked marks v first h e = ap (left first)
     (ap (filter (λ u. slice_index_or marks u false)) (range_next v (length marks) h)
     ∙ ap (λ b. cond b (v ∷ marked_from marks (v + 1)) (marked_from marks (v + 1))) e)
 
-pub none_marked : (marks : List Bool) (v : ℕ) (first : Bool) → length marks ≤ v → left first (marked_from marks v) ≡ left first []
-none_marked marks v first h = ap (λ xs. left first (filter (λ u. slice_index_or marks u false) xs)) (range_none v (length marks) h)
-
 pub all_marked : (marks : List Bool) → marked_from marks 0 ≡ members marks
 all_marked marks = let e : length marks - 0 ≡ length marks = omega arith in ap (λ n. filter (λ u. slice_index_or marks u false) (range_with_len 0 n)) e

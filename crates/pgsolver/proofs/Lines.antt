@@ -1,5 +1,5 @@
 -- The lines of a game's text, piece by piece.
-use Rattle.std.proofs.Common.{◌≡◌, ℕ, suc, ◌+◌, ◌<◌, ◌≤◌, List, [], ◌∷◌, ◌++◌, length, drop, get_or, codes, decimal, Option, Some, Result, refl, sym, ap, ap₂}
+use Rattle.std.proofs.Common.{◌≡◌, ℕ, suc, ◌+◌, ◌<◌, ◌≤◌, List, [], ◌∷◌, ◌++◌, length, drop, get_or, codes, decimal, Option, Some, refl, sym, ap, ap₂}
 use Rattle.std.proofs.Common.{subst, ◌∙◌, append-nil, add-one, arith}
 use Rattle.std.specs.Prelude.{option_map, slice_get}
 use Rattle.game.specs.declared.player.Player.{Player}
@@ -7,12 +7,9 @@ use Rattle.game.specs.Game.{Vertex}
 use Rattle.lts.specs.Canon.{line_end}
 use Rattle.std.proofs.Math.Seq.{drop-cons}
 use Rattle.std.proofs.Math.ListN.{drop_of_length-le}
-use Rattle.std.proofs.lemmas.Option.{slice_get-get_or}
 use Rattle.game.specs.declared.player.Player.TheVariants.{Even}
-use Rattle.game.specs.Game.{Game, vertex}
-use Rattle.text.specs.Taken.{Taken}
-use Rattle.text.specs.Wrote.{Wrote, lines_from}
-use Rattle.text.proofs.Writing.{Wrote-as}
+use Rattle.game.specs.Game.{Game}
+use Rattle.text.specs.Wrote.{lines_from}
 use Rattle.pgsolver.specs.Canon.{front_text, successors_text, name_text, vertex_line, vertex_lines, line_at, line_of}
 
 -- the numbers, with a comma before each but the first, before which this stands
@@ -76,8 +73,3 @@ all_lines g = more_lines (line_at g) g.named 0 g.vertices here
   where
     here : (i : ℕ) → i < length g.vertices → line_at g (0 + i) ≡ line_of g.named (0 + i) (slice_get g.vertices i)
     here i h = let same : 0 + i ≡ i = omega arith in rw same refl
-
--- what was written of a vertex that is there is its line
-pub line_there : {T E : Type 0} → (g : Game) (v : ℕ) (a b : Taken) (r : Result T E) → v < length g.vertices
-    → ((x : Vertex) → vertex g v ≡ Some x → Wrote a b r (vertex_line g.named v x)) → Wrote a b r (line_at g v)
-line_there g v a b r h each = let there = slice_get-get_or g.vertices v other h in Wrote-as a b r _ _ (sym (ap (line_of g.named v) there)) (each _ there)

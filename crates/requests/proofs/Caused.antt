@@ -52,10 +52,6 @@ pub unsolved_caused : {T : Type 0} → (board : Option BoardKind) (g : Game) (au
 unsolved_caused None g aut formula r h = no_reads (IsUnsolved None g) aut formula r (λ x. x) (λ x. x) h
 unsolved_caused (Some board) g aut formula r h = no_reads (IsUnsolved (Some board) g) aut formula r (λ x. x) (λ x. x) h
 
--- what holds of no failure of this kind
-pub not_told : {E : Type 0} → (P : E → Type 0) (can_fail : Bool) (failed e : E) → (P failed → ⊥) → P e → HasCause can_fail failed e
-not_told P can_fail failed e none h is = absurd (none (subst P is h))
-
 -- where more can fail
 pub more_reads : {T : Type 0} → (a b c d : Bool) (r : Result T MuError) → (IsTrue a → IsTrue c) → (IsTrue b → IsTrue d) → IfErr r (HaveCauses a b)
     → IfErr r (HaveCauses c d)

@@ -1,8 +1,8 @@
 -- A formula's text of which no more is read than shows that it is too long.
-use Rattle.std.specs.Prelude.{IfOk, IfSome, Option, Result, option_map}
+use Rattle.std.specs.Prelude.{IfSome, Option, option_map}
 use Rattle.std.specs.Io.Take.{take_limit, take_inner, take_remaining}
 use Rattle.std.specs.declared.io.traits.Take.{Take}
-use Rattle.std.proofs.Common.{◌≡◌, ◌<◌, ℕ, List, [], ◌++◌, length, take, Some, None, Ok, Err, inl, inr, sym, ap, ◌∙◌, subst, arith}
+use Rattle.std.proofs.Common.{◌≡◌, ◌<◌, ℕ, List, [], ◌++◌, length, take, Some, None, inl, inr, sym, ap, ◌∙◌, subst, arith}
 use Rattle.std.proofs.lemmas.List.{take_all, length-take}
 use Rattle.calculus.specs.Tree.{Formula}
 use Rattle.formula.specs.Spells.{Spells, SpellsWithin}
@@ -57,14 +57,6 @@ formula_of_front (Some all) front text f h e s admitted only =
 pub refused_of : (all front text : List ℕ) (error : FormulaError) → front ≡ take 1048577 all → text ≡ front → IsTold text error → IsTold all error
 refused_of all front text (Fault fault offset) h e f = fault_front 1048577 all fault offset (omega arith) (subst (λ t. HasFault t fault offset) (e ∙ h) f)
 refused_of all front text Memory h e f = tt
-
--- What is said of each text that begins with what was read is said of the reader's, where that is known.
-pub at_front : {T E : Type 0} → (known : Option (List ℕ)) (front read : List ℕ) (r : Result T E) (P : List ℕ → T → Type 0)
-    → IfSome known (λ all. front ≡ take 1048577 all) → read ≡ front → ((text : List ℕ) → read ≡ take 1048577 text → IfOk r (P text))
-    → IfOk r (λ x. IfSome known (λ text. P text x))
-at_front None front read (Ok x) P h e f = tt
-at_front None front read (Err x) P h e f = tt
-at_front (Some text) front read r P h e f = f text (e ∙ h)
 
 -- What spells a formula is its front.
 pub whole_spelled : (known : Option (List ℕ)) (front : List ℕ) (f : Formula) → IfSome known (λ all. front ≡ take 1048577 all)

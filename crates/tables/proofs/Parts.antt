@@ -1,5 +1,5 @@
 -- Shards, filled place by place and raised.
-use Rattle.progress.proofs.Common.{◌≡◌, ℕ, ◌+◌, ◌*◌, ◌/◌, ◌%◌, ◌<◌, ◌≤◌, true, false, length, replicate, refl, sym, ap, subst, ◌∙◌, inl, inr, arith}
+use Rattle.progress.proofs.Common.{◌≡◌, ℕ, ◌+◌, ◌*◌, ◌/◌, ◌%◌, ◌<◌, ◌≤◌, true, false, length, replicate, sym, ap, subst, ◌∙◌, inl, inr, arith}
 use Rattle.progress.proofs.Common.{lt_of_lt_of_le, slice_set, eqb_tells, length-set, length-replicate, get_or-replicate, Game, IsGame, Measure, Top, Counts}
 use Rattle.progress.proofs.Common.{opening, value_at, zeros, bounds, components, IsOpening, LiesBelow, Rows}
 use Rattle.std.specs.Int.{div_ceil}
@@ -7,7 +7,7 @@ use Rattle.std.proofs.lemmas.Grind.{div_ceil_times}
 use Rattle.std.proofs.lemmas.Nat.{div-add-mod', div-mul-add}
 use Rattle.std.proofs.Math.Nat.{div-lt_iff_lt-mul}
 use Rattle.progress.proofs.Plain.{bounds_long, opening_below, opening_is, value_set_other, value_set_same, zeros_are}
-use Rattle.tables.specs.Part.{Part, IsStoredPart}
+use Rattle.tables.specs.Part.{IsStoredPart}
 
 -- a vertex of a shard is told by its place
 pub vertex_is : (v shards index place : ℕ) → v % shards ≡ index → v / shards ≡ place → v ≡ place * shards + index
@@ -103,29 +103,3 @@ filled_part g index shards place r game some is all = record {
   };
   wide = is.width;
 }
-
--- a raised part
-pub set_part : (g : Game) (p : Part) (r new : Rows) (v : ℕ) (m : Measure)
-    → IsStoredPart g (record { index = p.index; shards = p.shards; values = r.values }) r.width → v < length g.vertices
-    → v % p.shards ≡ p.index → LiesBelow g v m → new ≡ record { width = r.width; values = slice_set r.values (v / p.shards) m }
-    → IsStoredPart g (record { index = p.index; shards = p.shards; values = new.values }) new.width
-set_part g p r new v m is h here below set = record {
-  part = record {
-    game = is.part.game;
-    some = is.part.some;
-    long = λ u l. let i = is.part.long u l in omega (arith, i, long);
-    below = λ u l it. subst (LiesBelow g u) (sym (ap (λ (s : Rows). value_at s.values (u / p.shards)) set)) (at u l it);
-  };
-  wide = ap (λ (s : Rows). s.width) set ∙ is.wide;
-}
-  where
-    long : length new.values ≡ length r.values
-    long = ap (λ (s : Rows). length s.values) set ∙ length-set r.values (v / p.shards) m
-
-    at : (u : ℕ) → u < length g.vertices → u % p.shards ≡ p.index → LiesBelow g u (value_at (slice_set r.values (v / p.shards) m) (u / p.shards))
-    at u l it = elim (eqb_tells (u / p.shards) (v / p.shards)) [
-      | inl w ↦ (let same : v ≡ u = vertex_is v p.shards p.index (v / p.shards) here refl ∙ sym (vertex_is u p.shards p.index (v / p.shards) it w.1) in
-          subst (λ q. LiesBelow g u (value_at (slice_set r.values (v / p.shards) m) q)) (sym w.1)
-          (subst (LiesBelow g u) (sym (value_set_same r.values (v / p.shards) m (is.part.long v h))) (subst (λ q. LiesBelow g q m) same below)))
-      | inr w ↦ subst (LiesBelow g u) (sym (value_set_other r.values (v / p.shards) (u / p.shards) m w.1)) (is.part.below u l it)
-    ]

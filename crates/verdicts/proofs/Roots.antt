@@ -1,10 +1,10 @@
 -- The vertices of the states with the root node.
 use Rattle.std.proofs.Common.{◌≡◌, ◌+◌, ◌*◌, ◌<◌, ◌≤◌, ℕ, Bool, false, List, [], ◌∷◌, ◌++◌, length, Some, get_or, refl, sym, ap, ◌∙◌, subst, inl, inr}
 use Rattle.std.proofs.Common.{length-append, arith}
-use Rattle.std.specs.Prelude.{MatchOption, IsTrue, ◌↔◌, option_map}
+use Rattle.std.specs.Prelude.{IsTrue, ◌↔◌, option_map}
 use Rattle.std.proofs.Math.Nat.{mul-lt-mul_of_pos_right}
 use Rattle.game.specs.Game.{Game, IsGame}
-use Rattle.game.specs.Arena.{AreNames, arena, place, place_in}
+use Rattle.game.specs.Arena.{arena, place, place_in}
 use Rattle.game.specs.Wins.{Wins}
 use Rattle.std.proofs.Math.ListN.{get_or-append}
 use Rattle.std.proofs.Math.Seq.{get_or-append_seam}
@@ -18,9 +18,6 @@ use Rattle.normal.specs.Nodes.{Node}
 use Rattle.laws.specs.Admissible.{IsNodes}
 use Rattle.laws.specs.Laws.{EvenWinsFormula}
 use Rattle.requests.specs.Roots.{HasRoots, WinsRoot}
-
-pub root_names : (states s : ℕ) (g : Game) → HasRoots states g → s < states → AreNames g s 0
-root_names states s g (nodes, some, named) h = subst (λ n. MatchOption n ⊥ (λ m. (s < m.0) × (0 < m.1))) (sym named) (h, omega (arith, some))
 
 some_same : (a b : ℕ) → Some a ≡ Some b → a ≡ b
 some_same a b e = cc

@@ -1,13 +1,12 @@
 -- The play comes to each transition of a witness over transitions of the witness.
-use Rattle.std.proofs.Common.{◌≡◌, ℕ, zero, suc, ◌+◌, ◌*◌, ◌<◌, ◌≤◌, Bool, true, false, List, [], ◌∷◌, length, map, filter, refl, sym, ap, subst, ◌∙◌}
+use Rattle.std.proofs.Common.{◌≡◌, ℕ, zero, suc, ◌+◌, ◌*◌, ◌<◌, Bool, true, false, List, [], ◌∷◌, length, map, filter, refl, sym, ap, subst, ◌∙◌}
 use Rattle.std.proofs.Common.{inl, inr, arith, IsTrue, Contains, Some, None, Option, true≢false, cond, if◌then◌else◌}
-use Rattle.std.specs.Prelude.{◌/◌, ◌%◌, ◌-◌, slice_get, ◌==◌, ◌&&◌}
+use Rattle.std.specs.Prelude.{◌/◌, ◌-◌, slice_get, ◌==◌, ◌&&◌}
 use Rattle.std.specs.List.{list_any, range_with_len}
 use Rattle.std.proofs.lemmas.List.{get_or_default}
 use Rattle.std.proofs.lemmas.List.Elements.{All-from_recursion}
-use Rattle.std.proofs.lemmas.Nat.{div-add-mod', div-mul-add}
+use Rattle.std.proofs.lemmas.Nat.{div-mul-add}
 use Rattle.std.proofs.lemmas.Bool.{eqb-true}
-use Rattle.std.proofs.Math.Nat.{div-lt_iff_lt-mul, mod-lt}
 use Rattle.std.proofs.lemmas.Option.{slice_get_within, get_or_from_slice_get}
 use Rattle.systems.specs.Path.{IsPath}
 use Rattle.systems.specs.System.{Arrow, IsSystem, System}
@@ -28,30 +27,12 @@ use Rattle.laws.proofs.Vertices.{node_in, vertex_is}
 use Rattle.evidence.specs.Evidence.{Evidence, IsGood}
 use Rattle.evidence.specs.Witness.{Goes, HasArrows, IsReached, is_taken, is_taken_at, witness}
 use Rattle.evidence.specs.declared.verdict.Fault.TheVariants.{Move}
+use Rattle.evidence.proofs.Parts.{seat_of}
 use Rattle.evidence.proofs.Taken.{witness_has}
 use Rattle.witness.specs.Witness.{IsShown, root_of}
 use Rattle.why.specs.Telling.{IsConnected, LeadsTo, arrow_at}
 
 -- ------------------------------------------------------------------ places
-
--- a vertex of an arena is a sink, or a state with a node
-record IsSeat (states n u : ℕ) : Type 0 where
-  state : ℕ
-  node : ℕ
-  below : state < states
-  few : node < n
-  is : u ≡ place n state node
-
-some_nodes : (states n : ℕ) → 0 < states * n → 0 < n
-some_nodes states zero h = let z : states * 0 ≡ 0 = omega arith in absurd (omega arith)
-some_nodes states (suc n) h = omega arith
-
-seat_of : (states n u : ℕ) → 2 ≤ u → u < 2 + states * n → IsSeat states n u
-seat_of states n u two h =
-    let q = div-add-mod' (u - 2) n in
-    let p : 0 < n = some_nodes states n (omega arith) in
-    let l : u - 2 < states * n = omega arith in
-    record { state = (u - 2) / n; node = (u - 2) % n; below = (div-lt_iff_lt-mul p).1 l; few = mod-lt (u - 2) p; is = omega (arith, q) }
 
 -- one place is that of one state
 same_state : (n s k t j : ℕ) → k < n → j < n → place n s k ≡ place n t j → s ≡ t

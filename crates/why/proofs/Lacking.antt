@@ -1,14 +1,14 @@
 -- What is lacking at a state, as it is found.
 use Rattle.std.proofs.Common.{◌≡◌, ℕ, ◌<◌, Bool, true, false, List, [], ◌∷◌, Option, Some, None, length, map, refl, sym, ap, ap₂, ◌∙◌, arith, true≢false}
 use Rattle.std.specs.Option.{is_some}
-use Rattle.std.specs.Prelude.{not, nat_lt, option_map, slice_get, if◌then◌else◌}
+use Rattle.std.specs.Prelude.{not, option_map, if◌then◌else◌}
 use Rattle.std.proofs.lemmas.Bool.{le-ltb}
 use Rattle.systems.specs.System.{System}
 use Rattle.calculus.specs.Tree.{Action}
 use Rattle.normal.specs.Nodes.{Node}
 use Rattle.normal.specs.Tree.{Shape, ConstantNode, JunctionNode, ModalityNode, FixpointNode, VariableNode}
 use Rattle.game.specs.Arena.{arena, or_else, place, place_in, successors_of, targets, vertex_of}
-use Rattle.game.specs.Game.{Game, Vertex, vertex}
+use Rattle.game.specs.Game.{Game, vertex}
 use Rattle.laws.proofs.Vertices.{node_in, vertex_is}
 use Rattle.witness.proofs.Keeping.{place_is}
 use Rattle.why.specs.Lacks.{action_at, action_in, action_of_node, is_barred, is_none}
@@ -43,19 +43,6 @@ barred_is l nodes g s k here a same inside few at is =
 -- where the vertex stands
 pub here_is : (l : System) (nodes : List Node) (g : Game) (s k here : ℕ) → g ≡ arena l nodes → place_in g s k ≡ Some here → here ≡ place (length nodes) s k
 here_is l nodes g s k here same at = place_is g l.states (length nodes) s k here (ap (λ (h : Game). h.named) same) at
-
--- what the first successor says
-pub stuck_by : (o : Option Vertex) (xs : List ℕ) → option_map (λ (v : Vertex). v.successors) o ≡ Some xs → is_stuck o ≡ is_low xs
-stuck_by None xs e = absurd cc
-stuck_by (Some v) xs e = let q : v.successors ≡ xs = cc in ap is_low q
-
-pub low_first : (xs : List ℕ) (x : ℕ) → slice_get xs 0 ≡ Some x → is_low xs ≡ nat_lt x 2
-low_first [] x e = absurd cc
-low_first (y ∷ ys) x e = let q : y ≡ x = cc in ap (λ z. nat_lt z 2) q
-
-pub low_none : (xs : List ℕ) → slice_get xs 0 ≡ None → is_low xs ≡ false
-low_none [] e = refl
-low_none (y ∷ ys) e = absurd cc
 
 -- where there is an action
 pub some_there : {A B : Type 0} (f : A → B) (o : Option A) (p : Option B) (b : Bool) → option_map f o ≡ p → is_some o ≡ not b → b ≡ false

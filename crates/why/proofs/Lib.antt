@@ -1,4 +1,3 @@
-pub mod Marks
 pub mod Told
 pub mod Walking
 pub mod Arrows

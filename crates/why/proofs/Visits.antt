@@ -1,8 +1,7 @@
 -- A walk over an excerpt of a system.
 use Rattle.std.proofs.Common.{◌≡◌, ℕ, ◌-◌, ◌<◌, ◌⊎◌, Bool, true, false, List, [], ◌∷◌, ◌++◌, length, refl, sym, subst, ◌∙◌, inl, inr, arith, Contains}
-use Rattle.std.proofs.Common.{Option, Some, None, Vec}
+use Rattle.std.proofs.Common.{Option, Some, None}
 use Rattle.std.specs.Prelude.{MatchOption}
-use Rattle.std.specs.Global.{Global}
 use Rattle.systems.specs.System.{System}
 use Rattle.systems.specs.declared.system.Transition.{Transition}
 use Rattle.why.specs.Telling.{HasNoStep, arrow_at, steps}
@@ -88,27 +87,6 @@ module _ (l : System) (most : ℕ) (old mid new : Walk) (way : Way) (fresh : Boo
       dropped None (more.walk (old.waiting.items ++ way ∷ []) None first)
 
 -- ------------------------------------------------------------------ what waits is taken
-
--- the walk speaks of the rest, whatever its list of what waits
-pub walk_as : (l : System) (most : ℕ) (w : Walk) (v : Vec Way Global) (ws others : List Way) (o : Option ℕ) → ws ≡ others → IsWalk l most w ws o
-    → IsWalk l most (record { reached = w.reached; told = w.told; count = w.count; waiting = v; lines = w.lines }) others o
-walk_as l most w v ws others o same is =
-    let at = subst (λ xs. IsWalk l most w xs o) same is in
-    record {
-      states = at.states;
-      arrows = at.arrows;
-      each = at.each;
-      reached = at.reached;
-      told = at.told;
-      count = at.count;
-      rest = at.rest;
-      few = at.few;
-      onward = at.onward;
-      ends = at.ends;
-      stopped = at.stopped;
-      opened = at.opened;
-      waits = at.waits;
-    }
 
 pub no_more : (o : Option Way) (P : Type 0) (Q : Way → Type 0) → MatchOption o P Q → ((x : Way) → o ≡ Some x → ⊥) → P
 no_more None P Q h none = h

@@ -1,5 +1,5 @@
 -- A walk goes on until nothing waits.
-use Rattle.std.proofs.Common.{◌≡◌, ℕ, suc, ◌+◌, ◌-◌, ◌*◌, ◌<◌, ◌≤◌, ◌⊎◌, Bool, true, false, not, List, [], ◌∷◌, ◌++◌, length, replicate, refl, sym, ap, subst}
+use Rattle.std.proofs.Common.{◌≡◌, ℕ, suc, ◌+◌, ◌-◌, ◌<◌, ◌⊎◌, Bool, true, false, not, List, [], ◌∷◌, ◌++◌, length, replicate, refl, sym, ap, subst}
 use Rattle.std.proofs.Common.{◌∙◌, inl, inr, arith, IsTrue, Contains, Option, Some, None, true≢false, length-append}
 use Rattle.std.specs.Prelude.{MatchBool, slice_set}
 use Rattle.std.proofs.lemmas.Bool.{cases_lt}
@@ -7,12 +7,13 @@ use Rattle.std.proofs.Math.ListN.{length-set}
 use Rattle.std.proofs.lemmas.List.{length-replicate}
 use Rattle.systems.specs.System.{System}
 use Rattle.systems.specs.Path.{IsPath}
+use Rattle.witness.specs.Walk.{is_marked, unmarked}
+use Rattle.witness.proofs.Setting.{all_unmarked, no_mark, none_fewer, none_unmarked, one_fewer, set_adds, set_keeps, set_there}
 use Rattle.why.specs.Telling.{EachFollows, HasNoStep, IsConnected, IsReached, IsTelling, LeadsTo, arrow_at, steps, stops}
-use Rattle.why.specs.Walk.{HasLetBlockWait, HasLetWait, HasTold, HasToldMore, IsFull, IsWalk, Waits, is_marked, unmarked}
+use Rattle.why.specs.Walk.{HasLetBlockWait, HasLetWait, HasTold, HasToldMore, IsFull, IsWalk, Waits}
 use Rattle.why.specs.declared.line.Line.TheVariants.{Step, Stop}
 use Rattle.why.specs.declared.walk.Walk.{Walk}
 use Rattle.why.specs.declared.walk.Way.{Way}
-use Rattle.why.proofs.Marks.{all_unmarked, no_mark, none_fewer, none_unmarked, one_fewer, set_adds, set_keeps, set_there}
 use Rattle.why.proofs.Told.{each_more, reached_before, reached_now, reached_stays, steps_of_step, steps_of_stop, still_reached, stop_before, stop_now}
 use Rattle.why.proofs.Told.{stop_stays, stops_of_step, told_before, told_now, told_stays, was_reached}
 
@@ -208,9 +209,6 @@ module _ (l : System) (most : ℕ) (old new : Walk) (n t blanks : ℕ) (again : 
       opened = λ s is. ((opened_is s is).0, λ c. (opened_is s is).1 (subst (λ ss. Contains ss s) same_stops c));
       waits = λ m h. ((w.waits m h).0, on (arrow_at l m).source (w.waits m h).1);
     }
-
-  to_target : (s : ℕ) → t ≡ s → (arrow_at l n).target ≡ s
-  to_target s e = target ∙ e
 
   walk_by : (waiting : List Way) (o : Option ℕ) → IsWalk l most old waiting o → (b : Bool) → again ≡ b
       → MatchBool (not b) (o ≡ None → IsWalk l most new waiting (Some (arrow_at l n).target)) (IsWalk l most new waiting o)
@@ -472,8 +470,3 @@ walk_ends l most w waiting none connected is = record {
     ])
 
 -- ------------------------------------------------------------------ the walk comes to an end
-
-pub falls_or_stays : (u v n w x : ℕ) (fresh : Bool) → MatchBool fresh (u ≡ suc v) (u ≡ v) → MatchBool fresh (x ≤ w + n) (x ≡ w)
-    → v * (n + 1) + x ≤ u * (n + 1) + w
-falls_or_stays u v n w x true e h = let z : u * (n + 1) ≡ v * (n + 1) + (n + 1) = ap (λ k. k * (n + 1)) e ∙ omega arith in omega (arith, z, h)
-falls_or_stays u v n w x false e h = let z : u * (n + 1) ≡ v * (n + 1) = ap (λ k. k * (n + 1)) e in omega (arith, z, h)

@@ -1,11 +1,12 @@
 -- A walk over a system, as it tells its transitions.
 use Rattle.std.specs.Prelude.{◌≡◌, ℕ, suc, MatchBool, ◌+◌, ◌*◌, ◌≤◌, ◌<◌, ◌↔◌, ◌⊎◌, Bool, false, List, [], ◌∷◌, length}
-use Rattle.std.specs.Prelude.{IsTrue, Contains, Option, None, Some, if◌then◌else◌}
+use Rattle.std.specs.Prelude.{IsTrue, Contains, Option, None, Some}
 use Rattle.std.specs.List.{slice_index_or}
 use Rattle.std.specs.List.Sorted.{IsNonDecreasingBy}
 use Rattle.systems.specs.System.{System}
 use Rattle.systems.specs.Numbered.{IsInside, system_with}
 use Rattle.systems.specs.declared.system.Transition.{Transition}
+use Rattle.witness.specs.Walk.{is_marked, unmarked}
 use Rattle.why.specs.Telling.{EachFollows, HasNoStep, IsReached, arrow_at, steps, stops}
 use Rattle.why.specs.declared.walk.Block.{Block}
 use Rattle.why.specs.declared.walk.Excerpt.{Excerpt}
@@ -15,14 +16,6 @@ use Rattle.why.specs.declared.walk.Way.{Way}
 -- the system that is told
 abbrev pub told_of : Excerpt → System
 told_of excerpt = system_with excerpt.system.now excerpt.transitions.now
-
-abbrev pub is_marked : List Bool → ℕ → Bool
-is_marked marks i = slice_index_or marks i false
-
--- how many are not marked
-abbrev pub unmarked : List Bool → ℕ
-unmarked [] = 0
-unmarked (m ∷ marks) = if m then unmarked marks else suc (unmarked marks)
 
 -- So many are told as may be, of more.
 abbrev pub IsFull : System → (most count : ℕ) → Type 0

@@ -1,5 +1,5 @@
--- One more vertex is marked.
-use Rattle.std.proofs.Common.{◌≡◌, ℕ, zero, suc, ◌<◌, ◌⊎◌, Bool, true, false, List, [], ◌∷◌, length, refl, sym, ap, inl, inr, arith, IsTrue, true≢false}
+-- One more is marked.
+use Rattle.std.proofs.Common.{◌≡◌, ℕ, zero, suc, ◌<◌, ◌⊎◌, Bool, true, false, List, [], ◌∷◌, length, replicate, refl, sym, ap, inl, inr, arith, IsTrue, true≢false}
 use Rattle.std.specs.Prelude.{slice_set}
 use Rattle.witness.specs.Walk.{is_marked, unmarked}
 
@@ -33,3 +33,26 @@ pub marked_within : (marks : List Bool) (u : ℕ) → IsTrue (is_marked marks u)
 marked_within [] u h = absurd (true≢false (sym h))
 marked_within (m ∷ marks) zero h = omega arith
 marked_within (m ∷ marks) (suc u) h = let l = marked_within marks u h in omega (arith, l)
+
+pub none_fewer : (marks : List Bool) (i : ℕ) → is_marked marks i ≡ true → unmarked (slice_set marks i true) ≡ unmarked marks
+none_fewer [] i e = refl
+none_fewer (true ∷ marks) zero e = refl
+none_fewer (false ∷ marks) zero e = cc
+none_fewer (true ∷ marks) (suc i) e = none_fewer marks i e
+none_fewer (false ∷ marks) (suc i) e = ap suc (none_fewer marks i e)
+
+-- at first none is
+pub no_mark : (n u : ℕ) → IsTrue (is_marked (replicate n false) u) → ⊥
+no_mark zero u h = true≢false (sym h)
+no_mark (suc n) zero h = true≢false (sym h)
+no_mark (suc n) (suc u) h = no_mark n u h
+
+pub all_unmarked : (n : ℕ) → unmarked (replicate n false) ≡ n
+all_unmarked zero = refl
+all_unmarked (suc n) = ap suc (all_unmarked n)
+
+-- where each is marked
+pub none_unmarked : (marks : List Bool) → ((u : ℕ) → u < length marks → IsTrue (is_marked marks u)) → unmarked marks ≡ 0
+none_unmarked [] h = refl
+none_unmarked (true ∷ marks) h = none_unmarked marks (λ u lt. h (suc u) (omega arith))
+none_unmarked (false ∷ marks) h = absurd (true≢false (sym (h 0 (omega arith))))

@@ -1,6 +1,6 @@
 -- A walk goes on until nothing waits.
 use Rattle.std.proofs.Common.{◌≡◌, ◌≢◌, ℕ, zero, suc, ◌<◌, ◌⊎◌, Bool, true, false, List, [], ◌∷◌, ◌++◌, length, refl, sym, ap, subst, ◌∙◌, inl, inr, arith}
-use Rattle.std.proofs.Common.{IsTrue, Contains, Option, Some, None, length-append, replicate, true≢false}
+use Rattle.std.proofs.Common.{IsTrue, Contains, Option, Some, None, length-append, replicate}
 use Rattle.std.specs.Prelude.{MatchOption, option_map, slice_get, slice_set}
 use Rattle.std.proofs.Math.ListN.{length-set}
 use Rattle.std.proofs.lemmas.List.{length-replicate}
@@ -16,21 +16,9 @@ use Rattle.evidence.specs.Evidence.{Entry, Evidence, IsGood, entry_at}
 use Rattle.evidence.specs.Witness.{Goes, IsReached}
 use Rattle.evidence.specs.declared.verdict.Fault.TheVariants.{Move}
 use Rattle.witness.specs.Walk.{AreGoals, IsWalk, Visits, is_marked}
-use Rattle.witness.proofs.Setting.{one_fewer, set_adds, set_keeps, set_there}
+use Rattle.witness.proofs.Setting.{no_mark, one_fewer, set_adds, set_keeps, set_there}
 
 -- ------------------------------------------------------------------ visits
-
--- a vertex that was marked
-pub visits_marked : (marks : List Bool) (waiting : List ℕ) (u : ℕ) → IsTrue (is_marked marks u) → Visits marks waiting (u ∷ []) marks waiting
-visits_marked marks waiting u h = record {
-  long = refl;
-  kept = λ t k. k;
-  all = λ t k. subst (λ z. IsTrue (is_marked marks z)) (sym (only_in u t k)) h;
-  only = λ t k. inl k;
-  waits = λ t k. k;
-  from = λ t k. inl k;
-  rest = refl;
-}
 
 -- a vertex that was not
 pub visits_new : (marks : List Bool) (waiting : List ℕ) (u : ℕ) → u < length marks → is_marked marks u ≡ false
@@ -46,18 +34,6 @@ visits_new marks waiting u h fresh = record {
   waits = λ t k. Contains-append_left waiting (u ∷ []) t k;
   from = λ t k. elim (Contains-push_cases waiting u t k) [ inl old ↦ inl old | inr e ↦ inr (subst (λ z. Contains (u ∷ []) z) e (contains_first u [])) ];
   rest = (let few = one_fewer marks u h fresh in omega (arith, few, length-append waiting (u ∷ [])));
-}
-
--- no vertex
-pub visits_none : (marks : List Bool) (waiting : List ℕ) → Visits marks waiting [] marks waiting
-visits_none marks waiting = record {
-  long = refl;
-  kept = λ t k. k;
-  all = λ t k. absurd (contains_none t k);
-  only = λ t k. inl k;
-  waits = λ t k. k;
-  from = λ t k. inl k;
-  rest = refl;
 }
 
 -- some vertices, and one more
@@ -92,10 +68,6 @@ either_player Even Even = inl refl
 either_player Even Odd = inr (λ e. cc)
 either_player Odd Even = inr (λ e. cc)
 either_player Odd Odd = inl refl
-
--- from a vertex that the evidence has not
-pub no_goals : (g : Game) (e : Evidence) (u : ℕ) → entry_at e u ≡ None → AreGoals g e u []
-no_goals g e u none = λ t. ((λ go. (let q : Some go.0 ≡ None = sym go.2 ∙ none in absurd cc)), λ k. absurd (contains_none t k))
 
 module _ (g : Game) (e : Evidence) (good : IsGood g e) (u : ℕ) (x : Entry) (v : Vertex) (here : entry_at e u ≡ Some x) (at : vertex g u ≡ Some v) where
   same_entry : (y : Entry) → entry_at e u ≡ Some y → y ≡ x
@@ -175,11 +147,6 @@ no_more (Some x) P Q h none = absurd (none x refl)
 -- ------------------------------------------------------------------ the walk
 
 module _ (g : Game) (e : Evidence) (root : ℕ) where
-  no_mark : (n t : ℕ) → IsTrue (is_marked (replicate n false) t) → ⊥
-  no_mark zero t h = true≢false (sym h)
-  no_mark (suc n) zero h = true≢false (sym h)
-  no_mark (suc n) (suc t) h = no_mark n t h
-
   pub walk_begins : (n : ℕ) (marks : List Bool) (waiting : List ℕ) → n ≡ length g.vertices → Visits (replicate n false) [] (root ∷ []) marks waiting
       → IsWalk g e root marks waiting
   walk_begins n marks waiting long v = record {
