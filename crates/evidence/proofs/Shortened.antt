@@ -8,7 +8,8 @@ use Rattle.std.proofs.lemmas.List.{take_all, length-take-le}
 use Rattle.std.proofs.lemmas.Slice.Eq.{bytes_eq-Decides}
 use Rattle.text.specs.Text.{is_digit, is_numeral, value_of}
 use Rattle.text.specs.Tokens.{capped, cut_at, is_other, ◌>>=◌}
-use Rattle.text.proofs.Scanning.{cut_finds, none_other, run_is}
+use Rattle.text.proofs.Scanning.{cut_finds, no_numeral, none_other, run_is}
+use Rattle.text.proofs.Streaming.{all_front, digit_more, first_digit, grows, high, numeral_front, times_ten}
 use Rattle.text.proofs.Spaced.{numeral_digits}
 use Rattle.evidence.specs.declared.limits.TheConstants.{GREATEST_COUNT, MOST_DIGITS}
 use Rattle.evidence.specs.Scan.{count_before, counts_of, end_of, fields_of, move_of, number_of, rank_of, read_move}
@@ -180,38 +181,6 @@ digits_short d (b ∷ bytes) few all =
 pub number_front_is : (bytes : List ℕ) → list_all is_digit bytes ≡ true → short bytes ≡ take 11 bytes
 number_front_is bytes all = digits_short 0 bytes (omega arith) all
 
-abbrev digit_more : ℕ → ℕ → ℕ
-digit_more n d = 10 * n + (d - 48)
-
-grows : (digits : List ℕ) (n : ℕ) → n ≤ fold digit_more n digits
-grows [] n = omega arith
-grows (d ∷ digits) n = omega (arith, grows digits (digit_more n d))
-
-abbrev times_ten : ℕ → ℕ → ℕ
-times_ten m zero = m
-times_ten m (suc n) = times_ten (10 * m) n
-
-high : (n : ℕ) (digits : List ℕ) (m v : ℕ) → n ≤ length digits → m ≤ v → times_ten m n ≤ fold digit_more v digits
-high zero digits m v long low = omega (arith, low, grows digits v)
-high (suc n) [] m v long low = absurd (omega (arith, long))
-high (suc n) (d ∷ digits) m v long low = high n digits (10 * m) (digit_more v d) (omega (arith, long)) (omega (arith, low))
-
-all_front : (p : ℕ → Bool) (n : ℕ) (run : List ℕ) → list_all p run ≡ true → list_all p (take n run) ≡ true
-all_front p zero run all = refl
-all_front p (suc n) [] all = refl
-all_front p (suc n) (b ∷ run) all = let h = and_parts (p b) (list_all p run) all in rw h.0 (all_front p n run h.1)
-
--- whether digits are a numeral their first two tell
-numeral_front : (n : ℕ) (run : List ℕ) → list_all is_digit run ≡ true → is_numeral (take (suc (suc n)) run) ≡ is_numeral run
-numeral_front n [] all = refl
-numeral_front n (d ∷ []) all = ap (λ l. is_numeral (d ∷ l)) (take_all (suc n) [] (omega arith))
-numeral_front n (d ∷ e ∷ run) all =
-    let some : list_all is_digit (d ∷ e ∷ take n run) ≡ true = all_front is_digit (suc (suc n)) (d ∷ e ∷ run) all in rw (some, all) refl
-
-first_digit : (d : ℕ) (run : List ℕ) → 1 ≤ length run → is_numeral (d ∷ run) ≡ true → 49 ≤ d
-first_digit d [] some h = absurd (omega arith)
-first_digit d (e ∷ run) some h = leb-true 49 d (and_parts (nat_le 49 d) (list_all is_digit (d ∷ e ∷ run)) h).0
-
 -- a numeral of so many digits is great
 great : (n : ℕ) (run : List ℕ) → suc n ≤ length run → 1 ≤ n → is_numeral run ≡ true → times_ten 1 n ≤ value_of run
 great n [] long some h = absurd (omega (arith, long))
@@ -261,10 +230,6 @@ number_short bytes =
           let b : is_numeral (short bytes) ≡ false = no_numeral (short bytes) (all_short 0 bytes ∙ none) in
           rw (a, b) refl
     ] refl
-  where
-    no_numeral : (bytes : List ℕ) → list_all is_digit bytes ≡ false → is_numeral bytes ≡ false
-    no_numeral bytes none = elim (is_numeral bytes) as (λ t. is_numeral bytes ≡ t → t ≡ false)
-        [ true ↦ λ e. absurd (true≢false (sym (numeral_digits bytes e) ∙ none)) | false ↦ λ e. refl ] refl
 
 -- ---- counts and ranks
 

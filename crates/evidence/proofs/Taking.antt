@@ -96,37 +96,6 @@ short_bad kept old new before fault taken whole = known_only {P = TakesShort kep
 
 -- ---- a line at hand
 
-cut_here : (run rest : List ℕ) → list_any (λ b. b == 10) run ≡ false → (first_piece (run ++ 10 ∷ rest) ≡ run) × (below (run ++ 10 ∷ rest) ≡ rest)
-cut_here [] rest none = (refl, refl)
-cut_here (b ∷ run) rest none =
-    elim (b == 10) as (λ c. (c || list_any (λ b. b == 10) run) ≡ false → (cond c [] (b ∷ first_piece (run ++ 10 ∷ rest)) ≡ b ∷ run)
-    × (cond c (run ++ 10 ∷ rest) (below (run ++ 10 ∷ rest)) ≡ rest)) [
-      | true ↦ λ e. absurd cc
-      | false ↦ λ e. let (piece, under) = cut_here run rest e in (ap (λ l. b ∷ l) piece, under)
-    ] none
-
-pub here_taken : (block line more : List ℕ) (n : ℕ) (old mid new : Option (List ℕ)) (limit : Option ℕ) → IfSome old (λ xs. StartsWith xs block)
-    → Keeps old mid → IfSome old (λ _. IfSome limit (λ n. length block ≤ n)) → DropsConsumable mid new limit n
-    → cut_at 10 block ≡ Some (line, more) → n ≡ length line + 1 → IfKnown old new (TakesFirst line)
-here_taken block line more n None mid new limit front same fits drops cut long = tt
-here_taken block line more n (Some text) None new limit front same fits drops cut long = absurd same
-here_taken block line more n (Some text) (Some left) new limit front same fits drops cut long =
-    let (plain, split) = cut_gives 10 block line more cut in
-    let within : n ≤ length block = omega (arith, long, ap length split, length-append line (10 ∷ more)) in
-    let new-is : new ≡ Some (drop n left) = drops (fits_count limit within fits) in
-    let rest = more ++ drop (length block) text in
-    let whole : text ≡ line ++ 10 ∷ rest = sym (take-append-drop (length block) text) ∙ ap (λ l. l ++ drop (length block) text) (front ∙ split)
-    ∙ append_assoc line (10 ∷ more) (drop (length block) text) in
-    let (one, under) = cut_here line rest plain in
-    let longer : n ≡ length (line ++ 10 ∷ []) = omega (arith, long, length-append line (10 ∷ [])) in
-    let split_one : text ≡ (line ++ 10 ∷ []) ++ rest = whole ∙ sym (append_assoc line (10 ∷ []) rest) in
-    let back : drop n text ≡ rest = ap (λ k. drop k text) longer ∙ front_rest text (line ++ 10 ∷ []) rest split_one in
-    rw (new-is, same) (ap first_piece whole ∙ one, back ∙ sym under ∙ ap below (sym whole))
-  where
-    fits_count : (limit : Option ℕ) → n ≤ length block → IfSome limit (λ n. length block ≤ n) → IfSome limit (λ m. n ≤ m)
-    fits_count None within fits = tt
-    fits_count (Some m) within fits = omega (arith, fits, within)
-
 pub here_read : {T : Type 0} (line : List ℕ) (old new : Option (List ℕ)) (before after : Entries) (r : Result T EvidenceFault)
     → IfKnown old new (TakesFirst line) → OnOk r (IsAdded line before after) → IfErr r (IsWrongLine before line) → ReadsNext old new before after r
 here_read line old new before after (Ok x) taken added wrong = (line, added, taken)

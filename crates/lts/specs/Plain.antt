@@ -1,25 +1,18 @@
 -- A line as tools write it, without blanks: what it says, and what follows its end.
-use Rattle.std.specs.Prelude.{◌≡◌, ℕ, Bool, not, ◌&&◌, ◌==◌, List, ◌∷◌, ◌++◌, Option, Some, None, IsTrue}
+use Rattle.std.specs.Prelude.{◌≡◌, ℕ, Bool, not, nat_le, ◌&&◌, ◌==◌, List, ◌∷◌, ◌++◌, Option, Some, None, IsTrue}
 use Rattle.std.specs.List.{list_all}
 use Rattle.text.specs.Text.{is_numeral, value_of}
 use Rattle.text.specs.Tokens.{capped}
 use Rattle.lts.specs.declared.scan.Ends.{Ends}
 use Rattle.lts.specs.Scan.{PassesTransition}
 
--- no quote, and no end of a line
+-- a byte of a label as tools write one: no quote, and nothing below a space, so no end of a line either
 abbrev pub is_inner : ℕ → Bool
-is_inner b = not (b == 34) && not (b == 10)
+is_inner b = nat_le 32 b && not (b == 34)
 
 -- `(source,"label",target)`, and what follows
 abbrev pub plain_text : List ℕ → List ℕ → List ℕ → List ℕ → List ℕ
 plain_text source label target rest = 40 ∷ source ++ (44 ∷ 34 ∷ label ++ (34 ∷ 44 ∷ target ++ (41 ∷ rest)))
-
--- the number in front, or the greatest of its type, and what follows it
-pub record IsNumberThen (value : ℕ) (text left : List ℕ) : Type 0 where
-  pub digits : List ℕ
-  pub numeral : IsTrue (is_numeral digits)
-  pub is : value ≡ capped (value_of digits)
-  pub cut : text ≡ digits ++ left
 
 -- the plain line in front, and what follows its LF
 pub record IsPlainThen (source : ℕ) (label : List ℕ) (target : ℕ) (text left : List ℕ) : Type 0 where

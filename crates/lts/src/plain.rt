@@ -1,12 +1,10 @@
 // A line as tools write it, `(12,"label",34)` and an LF, read off a block at once.
 
-ghost use Rattle.std.specs.Prelude.{◌≡◌, ◌+◌, ◌*◌, ◌≤◌, ◌++◌, length, take, drop, IfSome, IsTrue};
+ghost use Rattle.std.specs.Prelude.{◌≡◌, ◌≤◌, ◌++◌, length, drop, IfSome, IsTrue};
 ghost use Rattle.std.specs.List.{prefix_len, list_all};
-ghost use Rattle.text.specs.Text.{is_digit, value_of};
-ghost use Rattle.lts.specs.Plain.{is_inner, IsNumberThen, IsPlainThen};
+ghost use Rattle.lts.specs.Plain.{is_inner, IsPlainThen};
 
-// To a number up to this one another digit can be added.
-const MOST_BEFORE_A_DIGIT: u32 = 99_999_999;
+use text::scan::number_here;
 
 /// What such a line says, and how many bytes it has with its LF.
 #[derive(Clone, Copy)]
@@ -24,37 +22,6 @@ fn past<'a>(bytes: &'a [u8], sign: &[u8]) -> Option<&'a [u8]>
     bytes.strip_prefix(sign)
 }
 
-// The digits in front, which something else follows: their number, and how many they are. There are nine at most, so that no number is too great.
-fn digits(bytes: &[u8]) -> Option<(u32, usize)>
-    ensures value { IfSome result (λ found. found.0 ≡ value_of (take found.1 bytes.now)) }
-    ensures digits { IfSome result (λ found. IsTrue (list_all is_digit (take found.1 bytes.now))) }
-    ensures within { IfSome result (λ found. found.1 ≤ length bytes.now) }
-{
-    let mut value = 0u32;
-    for (count, byte) in bytes.iter().enumerate() {
-        if !byte.is_ascii_digit() {
-            return Some((value, count));
-        }
-        if value > MOST_BEFORE_A_DIGIT {
-            return None;
-        }
-        value = value * 10 + u32::from(*byte - b'0');
-    }
-    None
-}
-
-// The number in front, and what follows it. One with more than nine digits isn't taken.
-fn number(bytes: &[u8]) -> Option<(u32, &[u8])>
-    ensures { IfSome result (λ found. IsNumberThen found.0 bytes.now found.1.now) }
-{
-    let (value, count) = digits(bytes)?;
-    let (numeral, rest) = bytes.split_at(count);
-    match numeral {
-        [] | [b'0', _, ..] => None,
-        _ => Some((value, rest)),
-    }
-}
-
 // How many bytes of a label stand in front.
 fn inner(bytes: &[u8]) -> usize
     ensures count { result ≡ prefix_len is_inner bytes.now }
@@ -62,7 +29,7 @@ fn inner(bytes: &[u8]) -> usize
 {
     bytes
         .iter()
-        .take_while(|byte| **byte != b'"' && **byte != b'\n')
+        .take_while(|byte| **byte >= b' ' && **byte != b'"')
         .count()
 }
 
@@ -80,11 +47,11 @@ pub(crate) fn plain_line(block: &[u8]) -> Option<PlainLine<'_>>
     ensures within { IfSome result (λ line. line.len ≤ length block.now) }
 {
     let rest = past(block, b"(")?;
-    let (source, rest) = number(rest)?;
+    let (source, rest) = number_here(rest)?;
     let rest = past(rest, b",\"")?;
     let (label, rest) = label(rest);
     let rest = past(rest, b"\",")?;
-    let (target, rest) = number(rest)?;
+    let (target, rest) = number_here(rest)?;
     let rest = past(rest, b")\n")?;
     Some(PlainLine {
         source,

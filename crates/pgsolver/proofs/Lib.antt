@@ -4,6 +4,7 @@ pub mod Scanning
 pub mod Sets
 pub mod Same
 pub mod Passing
+pub mod Unspaced
 pub mod AtHand
 pub mod Placing
 pub mod Judging

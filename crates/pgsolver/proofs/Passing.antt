@@ -1,5 +1,5 @@
 -- What is read token by token says of the first line of the text.
-use Rattle.std.proofs.Common.{◌≡◌, ◌≢◌, ℕ, suc, ◌+◌, ◌≤◌, Bool, true, false, cond, not, ◌&&◌, ◌==◌, nat_eq, List, [], ◌∷◌, ◌++◌, length, take, drop}
+use Rattle.std.proofs.Common.{◌≡◌, ◌≢◌, ℕ, suc, ◌+◌, ◌≤◌, Bool, true, false, cond, ◌==◌, nat_eq, List, [], ◌∷◌, ◌++◌, length, take, drop}
 use Rattle.std.proofs.Common.{inl, inr, Option, Some, None, refl, sym, ap, ◌∙◌, subst, append_assoc, arith, true≢false}
 use Rattle.std.specs.Prelude.{IfSome, MatchBool, codes, nat_le}
 use Rattle.std.specs.List.{list_all, prefix_len}
@@ -8,10 +8,10 @@ use Rattle.std.specs.Cmp.Lexicographic.{pointwise}
 use Rattle.std.proofs.lemmas.Bool.{ne_eqb, and_parts, leb-true, cases_lt}
 use Rattle.std.proofs.lemmas.List.{take_all, length-take-le}
 use Rattle.std.proofs.lemmas.List.Folds.{list_all-append}
-use Rattle.text.specs.Text.{is_blank, is_digit, is_numeral, value_of, without_end}
+use Rattle.text.specs.Text.{is_blank, is_digit, is_numeral, value_of}
 use Rattle.text.specs.Lines.{IfKnown}
 use Rattle.text.specs.Tokens.{capped, past_blanks, sign_at, number_at, number_before, cut_at, quoted_at, end_at, ◌>>=◌}
-use Rattle.text.specs.Stream.{first_piece, line_of, below, next_of, is_inside, Shows, Passes, PassesSign, PassesKept, PassesLine, Ends}
+use Rattle.text.specs.Stream.{line_of, below, next_of, is_inside, Shows, Passes, PassesSign, PassesKept, PassesLine, Ends}
 use Rattle.text.proofs.Spaced.{begins}
 use Rattle.text.proofs.Scanning.{past_gap, run_none, if_some, sign_here}
 use Rattle.text.proofs.Streaming.{known_then, known_only, known_both, Then, One, sign_stops, sign_goes_on, token_stops, token_goes_on}
@@ -26,48 +26,14 @@ use Rattle.pgsolver.specs.Scan as at
 use Rattle.pgsolver.specs.Scan.{header_at, gap_at, number_gap, owner_of, owner_at, head_at, first_at, more_at, targets_at, targets_behind, name_at, name_behind}
 use Rattle.pgsolver.specs.Scan.{tail_at, line_at, FindsMore}
 use Rattle.pgsolver.specs.Passes.{Skips, SkipsTo, IsPast, PassesGap, PassesComma, PassesDigit, HasRead, PassesMore, rest_at, PassesTargets, PassesName, PassesTail, PassesVertex}
+use Rattle.text.proofs.Streaming.{all_of, inside_of, line_cons, line_run, line_stops}
 use Rattle.pgsolver.proofs.Adding.{HasAdded, added_none, added_more, added_wrong, added_all, none_found, first_found}
 use Rattle.pgsolver.proofs.Same.{set_push}
 
 -- ---- the blanks in front of the first line
 
-line_cons : (b : ℕ) (text : List ℕ) → is_inside b ≡ true → (line_of (b ∷ text) ≡ b ∷ line_of text) × (below (b ∷ text) ≡ below text)
-line_cons b text inside =
-    elim (b == 10) as (λ c. (b == 10) ≡ c → (not c && not (b == 13)) ≡ true → (line_of (b ∷ text) ≡ b ∷ line_of text) × (below (b ∷ text) ≡ below text)) [
-      | true ↦ λ e h. absurd cc
-      | false ↦ λ e h. elim (b == 13) as (λ d. (b == 13) ≡ d → not d ≡ true → (line_of (b ∷ text) ≡ b ∷ line_of text) × (below (b ∷ text) ≡ below text)) [
-        | true ↦ λ f k. absurd cc
-        | false ↦ λ f k. (rw e (goes_on (first_piece text) f), rw e refl)
-      ] refl h
-    ] refl inside
-  where
-    goes_on : (piece : List ℕ) → (b == 13) ≡ false → without_end 13 (b ∷ piece) ≡ b ∷ without_end 13 piece
-    goes_on [] f = rw f refl
-    goes_on (c ∷ piece) f = refl
-
 blank_inside : (b : ℕ) → is_blank b ≡ true → is_inside b ≡ true
-blank_inside b has =
-    let a : (b == 10) ≡ false = ne_eqb b 10 (λ e. true≢false (sym has ∙ ap is_blank e)) in
-    let c : (b == 13) ≡ false = ne_eqb b 13 (λ e. true≢false (sym has ∙ ap is_blank e)) in
-    rw (a, c) refl
-
-blank_run : (run text : List ℕ) → list_all is_blank run ≡ true → (line_of (run ++ text) ≡ run ++ line_of text) × (below (run ++ text) ≡ below text)
-blank_run [] text all = (refl, refl)
-blank_run (b ∷ run) text all =
-    let h = and_parts (is_blank b) (list_all is_blank run) all in
-    let (line, under) = blank_run run text h.1 in
-    let (first, down) = line_cons b (run ++ text) (blank_inside b h.0) in
-    (first ∙ ap (λ l. b ∷ l) line, down ∙ under)
-
--- what does not begin with a byte of the class has no line that does
-line_stops : (p : ℕ → Bool) (text : List ℕ) → IfSome (next_of text) (λ b. p b ≡ false) → begins p (line_of text) ≡ false
-line_stops p [] stop = refl
-line_stops p (b ∷ text) stop =
-    elim (b == 10) as (λ c. begins p (without_end 13 (cond c [] (b ∷ first_piece text))) ≡ false) [ true ↦ refl | false ↦ first (first_piece text) ]
-  where
-    first : (piece : List ℕ) → begins p (without_end 13 (b ∷ piece)) ≡ false
-    first [] = elim (b == 13) as (λ c. begins p (cond c [] (b ∷ [])) ≡ false) [ true ↦ refl | false ↦ stop ]
-    first (c ∷ piece) = stop
+blank_inside = inside_of is_blank refl refl
 
 -- what is left begins the line past the blanks
 record Behind (text left : List ℕ) : Type 0 where
@@ -76,7 +42,7 @@ record Behind (text left : List ℕ) : Type 0 where
 
 behind : (text left : List ℕ) → Skips text left → Behind text left
 behind text left runs =
-    let (line, under) = blank_run runs.run left runs.all in
+    let (line, under) = line_run runs.run left (all_of is_blank is_inside blank_inside runs.run runs.all) in
     let stop = line_stops is_blank left runs.stop in
     let past : past_blanks (line_of text) ≡ line_of left = ap (λ t. past_blanks (line_of t)) runs.cut ∙ ap past_blanks line
     ∙ past_gap runs.run (line_of left) runs.all stop in

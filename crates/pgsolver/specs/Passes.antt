@@ -82,8 +82,3 @@ abbrev pub PassesVertex : List ℕ → Option Head → List ℕ → List ℕ →
 PassesVertex targets (Some head) text left =
     (numbers : List ℕ) × (line_at (first text) ≡ Some (line_of head numbers)) × (set_of targets ≡ set_of numbers) × (left ≡ below text)
 PassesVertex targets None text left = line_at (first text) ≡ None
-
--- the same; or nothing is taken
-abbrev pub PassesAtHand : List ℕ → Option (Option Head) → List ℕ → List ℕ → Type 0
-PassesAtHand targets (Some found) text left = PassesVertex targets found text left
-PassesAtHand targets None text left = left ≡ text

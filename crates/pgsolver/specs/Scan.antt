@@ -100,8 +100,3 @@ line_at line = do
 abbrev pub FindsMore : List ℕ → List ℕ → Option (List ℕ) → Option (List ℕ × List ℕ) → Type 0
 FindsMore old new None found = found ≡ None
 FindsMore old new (Some rest) found = (numbers : List ℕ) × (new ≡ old ++ numbers) × (found ≡ Some (numbers, rest))
-
--- The line was found, its successors as this list.
-abbrev pub FindsLine : List ℕ → Option Head → Option Line → Type 0
-FindsLine targets None found = found ≡ None
-FindsLine targets (Some head) found = found ≡ Some (line_of head targets)

@@ -6,6 +6,7 @@ pub mod error;
 mod intake;
 pub mod law;
 pub mod limits;
+mod plain;
 pub mod reader;
 mod rows;
 mod scan;

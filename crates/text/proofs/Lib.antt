@@ -1,6 +1,7 @@
 pub mod Spaced
 pub mod Scanning
 pub mod Streaming
+pub mod AtHand
 pub mod Plain
 pub mod Cutting
 pub mod Writing

@@ -10,7 +10,7 @@ use Rattle.std.proofs.lemmas.List.Sums.{fold-append}
 use Rattle.std.proofs.lemmas.List.Folds.{list_all-append}
 use Rattle.std.proofs.Math.ListN.{get_or-append}
 use Rattle.text.specs.Text.{with_first, pieces_of, without_cr, lines, is_digit, is_numeral, value_of, IsNumeral, IsSpaced}
-use Rattle.text.proofs.Scanning.{long_numeral}
+use Rattle.text.proofs.Scanning.{well_begun}
 
 -- a byte that ends no line
 abbrev pub plain : ℕ → Bool
@@ -62,7 +62,7 @@ is_numeral_of : (n : ℕ) (ds : List ℕ) → IsDecimal n ds → is_numeral ds �
 is_numeral_of n [] h = absurd (omega (arith, h.some))
 is_numeral_of n (d ∷ []) h = (and_parts (is_digit d) true h.digits).0
 is_numeral_of n (d ∷ e ∷ ds) h =
-    sym (long_numeral true (d ∷ e ∷ ds) (omega arith) (h.first (positive n h.alone)) (sym h.digits))
+    sym (well_begun (d ∷ e ∷ ds) (omega arith) h.digits) ∙ le-leb 49 d (h.first (positive n h.alone))
   where
     positive : (n : ℕ) → (n ≡ 0 → length (d ∷ e ∷ ds) ≡ 1) → 1 ≤ n
     positive zero alone = absurd (omega (arith, alone refl))

@@ -1,23 +1,33 @@
 -- What the tests on the front of a line say of the line.
 use Rattle.std.proofs.Common.{◌≡◌, ℕ, suc, ◌+◌, ◌-◌, ◌*◌, ◌<◌, ◌≤◌, Bool, true, false, cond, not, ◌&&◌, ◌||◌, nat_eq, nat_lt, ◌==◌, min, List, [], ◌∷◌, ◌++◌}
-use Rattle.std.proofs.Common.{length, get_or, take, drop, Option, Some, None, refl, sym, ap, ◌∙◌, subst, append_assoc, arith}
+use Rattle.std.proofs.Common.{zero, nat_le, append-nil, true≢false, length, get_or, take, drop, Option, Some, None, refl, sym, ap, ◌∙◌, subst, append_assoc, arith}
 use Rattle.std.specs.List.{list_all, list_any, prefix_len}
 use Rattle.std.specs.Cmp.Lexicographic.{pointwise}
 use Rattle.std.proofs.Math.Seq.{take-append_seam, drop-append-add}
-use Rattle.std.proofs.lemmas.Bool.{le-leb, lt-ltb, ltb-true, eq-eqb, eqb-true, and_parts}
+use Rattle.std.proofs.lemmas.Bool.{lt-ltb, le-ltb, ltb-true, eq-eqb, eqb-true, and_parts}
 use Rattle.std.proofs.lemmas.List.{take-append-drop, length-append}
-use Rattle.std.proofs.lemmas.List.Sums.{fold_more}
+use Rattle.std.proofs.lemmas.List.Sums.{fold_more, prefix_len_is}
 use Rattle.std.proofs.lemmas.List.Prefix.{front_rest}
 use Rattle.std.proofs.lemmas.Slice.Eq.{bytes_eq-Decides}
+use Rattle.memchr.specs.Find.{IsFirstByte, is_byte}
 use Rattle.text.specs.Text.{is_blank, is_digit, is_numeral, value_of, IsSpaced}
-use Rattle.text.specs.Tokens.{capped, past_blanks, sign_at, number_at, cut_at, quoted_at, end_at, number_before, is_other, whole_number, ◌>>=◌}
+use Rattle.text.specs.Tokens.{capped, past_blanks, sign_at, number_here, number_at, cut_at, quoted_at, end_at, number_before, is_other, whole_number, ◌>>=◌}
 use Rattle.text.proofs.Spaced.{begins, numeral_digits, digit_no_blank, no_digit, all_other}
 
--- two digits or more are a number where the first is not 0
-pub long_numeral : (r : Bool) (digits : List ℕ) → 2 ≤ length digits → 49 ≤ get_or digits 0 0 → r ≡ list_all is_digit digits → r ≡ is_numeral digits
-long_numeral r [] long first e = absurd (omega arith)
-long_numeral r (d ∷ []) long first e = absurd (omega (arith))
-long_numeral r (d ∷ f ∷ ds) long first e = rw (le-leb 49 d first) e
+-- digits are a number by the first of them
+pub well_begun : (digits : List ℕ) → 2 ≤ length digits → list_all is_digit digits ≡ true → nat_le 49 (get_or digits 0 0) ≡ is_numeral digits
+well_begun [] long all = absurd (omega arith)
+well_begun (d ∷ []) long all = absurd (omega arith)
+well_begun (d ∷ f ∷ ds) long all = rw all (and_true (nat_le 49 d))
+  where
+    and_true : (b : Bool) → b ≡ (b && true)
+    and_true true = refl
+    and_true false = refl
+
+-- not where a byte that is none stands among them
+pub no_numeral : (bytes : List ℕ) → list_all is_digit bytes ≡ false → is_numeral bytes ≡ false
+no_numeral bytes none = elim (is_numeral bytes) as (λ t. is_numeral bytes ≡ t → t ≡ false)
+    [ true ↦ λ e. absurd (true≢false (sym (numeral_digits bytes e) ∙ none)) | false ↦ λ e. refl ] refl
 
 -- the number of the digits, with one more
 pub value_more : (digits : List ℕ) (i v m d w : ℕ) → i < length digits → v ≡ capped (value_of (take i digits)) → m ≡ min (v * 10) 4294967295
@@ -39,6 +49,19 @@ pub run_is : (p : ℕ → Bool) (xs ys : List ℕ) → list_all p xs ≡ true �
 run_is p [] ys all stop = run_none p ys stop
 run_is p (x ∷ xs) ys all stop = let h = and_parts (p x) (list_all p xs) all in let rest = run_is p xs ys h.1 stop in rw h.0 (omega (arith, rest))
 
+-- it is so long where what stands there doesn't pass
+pub run_ends : (p : ℕ → Bool) (line : List ℕ) (n : ℕ) → n < length line → list_all p (take n line) ≡ true → p (get_or line n 0) ≡ false
+    → n ≡ prefix_len p line
+run_ends p [] n low all stop = absurd (omega (arith, low))
+run_ends p (x ∷ line) zero low all stop = rw stop refl
+run_ends p (x ∷ line) (suc n) low all stop =
+    let h = and_parts (p x) (list_all p (take n line)) all in
+    let rest : n ≡ prefix_len p line = run_ends p line n (omega (arith, low)) h.1 stop in
+    rw h.0 (omega (arith, rest))
+
+pub prefix_all : (p : ℕ → Bool) (line : List ℕ) → list_all p line ≡ true → prefix_len p line ≡ length line
+prefix_all p line all = ap (prefix_len p) (sym (append-nil line)) ∙ run_is p line [] all refl
+
 pub run_passes : (p : ℕ → Bool) (xs : List ℕ) → list_all p (take (prefix_len p xs) xs) ≡ true
 run_passes p [] = refl
 run_passes p (x ∷ xs) =
@@ -46,6 +69,25 @@ run_passes p (x ∷ xs) =
       | true ↦ λ e. let more : 1 + prefix_len p xs ≡ suc (prefix_len p xs) = omega arith in rw (more, e) (run_passes p xs)
       | false ↦ λ e. refl
     ] refl
+
+-- ---- a byte that is looked for
+
+not_here : (b : Bool) → ¬ (b ≡ true) → not b ≡ true
+not_here b never = elim b as (λ b. ¬ (b ≡ true) → not b ≡ true) [ true ↦ λ never. absurd (never refl) | false ↦ λ never. refl ] never
+
+pub byte_none : (byte : ℕ) (line : List ℕ) → IsFirstByte (is_byte byte) line None → cut_at byte line ≡ None
+unfolding cut_at
+byte_none byte line nowhere =
+    let all : prefix_len (is_other byte) line ≡ length line = prefix_len_is (is_other byte) line (length line) 0 (omega arith)
+    (λ k low. not_here (get_or line k 0 == byte) (nowhere k (omega arith) low)) (λ more. absurd (omega (arith, more))) in
+    rw all (ap (λ c. cond c (Some (take (length line) line, drop (length line + 1) line)) None) (le-ltb (length line) (length line) (omega arith)))
+
+pub byte_some : (byte n : ℕ) (line : List ℕ) → IsFirstByte (is_byte byte) line (Some n) → cut_at byte line ≡ Some (take n line, drop (n + 1) line)
+unfolding cut_at
+byte_some byte n line (none, here) =
+    let count : prefix_len (is_other byte) line ≡ n = prefix_len_is (is_other byte) line n 0 (omega (arith, none.high))
+    (λ k low. not_here (get_or line k 0 == byte) (none.before k (omega arith) low)) (λ more. ap not here) in
+    rw (count, lt-ltb n (length line) none.high) refl
 
 -- ---- tests that found something
 
@@ -133,6 +175,22 @@ number_finds x c cs line ts hx h (gap, rest, blank, e, more) =
 pub whole_gives : (bytes : List ℕ) (v : ℕ) → whole_number bytes ≡ Some v → (is_numeral bytes ≡ true) × (v ≡ capped (value_of bytes))
 unfolding whole_number
 whole_gives bytes v e = let h = if_some (is_numeral bytes) (capped (value_of bytes)) v e in (h.0, sym h.1)
+
+-- a number stands right in front
+pub record HasNumber (value : ℕ) (text left : List ℕ) : Type 0 where
+  pub digits : List ℕ
+  pub numeral : is_numeral digits ≡ true
+  pub is : value ≡ capped (value_of digits)
+  pub cut : text ≡ digits ++ left
+
+pub number_here_gives : (line : List ℕ) (v : ℕ) (rest : List ℕ) → number_here line ≡ Some (v, rest) → HasNumber v line rest
+unfolding number_here
+number_here_gives line v rest e =
+    let count = prefix_len is_digit line in
+    let h = if_some (is_numeral (take count line)) (capped (value_of (take count line)), drop count line) (v, rest) e in
+    let value : capped (value_of (take count line)) ≡ v = ap (λ p. p.0) h.1 in
+    let back : drop count line ≡ rest = ap (λ p. p.1) h.1 in
+    record { digits = take count line; numeral = h.0; is = sym value; cut = sym (take-append-drop count line) ∙ ap (λ l. take count line ++ l) back }
 
 pub whole_finds : (bytes : List ℕ) → is_numeral bytes ≡ true → whole_number bytes ≡ Some (capped (value_of bytes))
 unfolding whole_number

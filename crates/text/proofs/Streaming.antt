@@ -23,7 +23,7 @@ use Rattle.text.specs.Stream.{PassesKept, PassesLine, Ends}
 use Rattle.text.specs.declared.stream.Class.{Class}
 use Rattle.text.specs.declared.stream.Class.TheVariants.{Blank, Digit, Inner}
 use Rattle.text.proofs.Spaced.{begins}
-use Rattle.text.proofs.Scanning.{past_gap, run_is, run_passes, cut_finds, sign_here, none_other, whole_gives}
+use Rattle.text.proofs.Scanning.{past_gap, run_is, run_passes, cut_finds, sign_here, none_other, whole_gives, prefix_all}
 
 pub known_then : {P Q R : List ℕ → List ℕ → Type 0} (old mid new : Option (List ℕ)) → IfKnown old mid P → IfKnown mid new Q
     → ((text left rest : List ℕ) → P text left → Q left rest → R text rest) → IfKnown old new R
@@ -96,7 +96,7 @@ pub no_run : (class : Class) (most : ℕ) (old : Option (List ℕ)) (kept : List
 no_run class most None kept none = tt
 no_run class most (Some text) kept none = record { run = []; cut = refl; all = refl; front = none ∙ sym (take_all most [] (omega arith)) }
 
-front_all : (p : ℕ → Bool) (run rest : List ℕ) → list_all p run ≡ true → list_all p (run ++ rest) ≡ list_all p rest
+pub front_all : (p : ℕ → Bool) (run rest : List ℕ) → list_all p run ≡ true → list_all p (run ++ rest) ≡ list_all p rest
 front_all p run rest all = list_all-append p run rest ∙ ap (λ b. b && list_all p rest) all
 
 -- it goes on
@@ -194,7 +194,7 @@ ran class most count before after block ended (Some text) (Some left) new limit 
 
 -- ---- the first line
 
-line_cons : (b : ℕ) (text : List ℕ) → is_inside b ≡ true → (line_of (b ∷ text) ≡ b ∷ line_of text) × (below (b ∷ text) ≡ below text)
+pub line_cons : (b : ℕ) (text : List ℕ) → is_inside b ≡ true → (line_of (b ∷ text) ≡ b ∷ line_of text) × (below (b ∷ text) ≡ below text)
 line_cons b text inside =
     elim (b == 10) as (λ c. (b == 10) ≡ c → (not c && not (b == 13)) ≡ true → (line_of (b ∷ text) ≡ b ∷ line_of text) × (below (b ∷ text) ≡ below text)) [
       | true ↦ λ e h. absurd cc
@@ -208,7 +208,7 @@ line_cons b text inside =
     goes_on [] f = rw f refl
     goes_on (c ∷ piece) f = refl
 
-line_run : (run text : List ℕ) → list_all is_inside run ≡ true → (line_of (run ++ text) ≡ run ++ line_of text) × (below (run ++ text) ≡ below text)
+pub line_run : (run text : List ℕ) → list_all is_inside run ≡ true → (line_of (run ++ text) ≡ run ++ line_of text) × (below (run ++ text) ≡ below text)
 line_run [] text all = (refl, refl)
 line_run (b ∷ run) text all =
     let h = and_parts (is_inside b) (list_all is_inside run) all in
@@ -216,18 +216,18 @@ line_run (b ∷ run) text all =
     let (first, down) = line_cons b (run ++ text) h.0 in
     (first ∙ ap (λ l. b ∷ l) line, down ∙ under)
 
-all_of : (p q : ℕ → Bool) → ((b : ℕ) → p b ≡ true → q b ≡ true) → (run : List ℕ) → list_all p run ≡ true → list_all q run ≡ true
+pub all_of : (p q : ℕ → Bool) → ((b : ℕ) → p b ≡ true → q b ≡ true) → (run : List ℕ) → list_all p run ≡ true → list_all q run ≡ true
 all_of p q h [] all = refl
 all_of p q h (b ∷ run) all = let a = and_parts (p b) (list_all p run) all in rw (h b a.0) (all_of p q h run a.1)
 
-inside_of : (p : ℕ → Bool) → p 10 ≡ false → p 13 ≡ false → (b : ℕ) → p b ≡ true → is_inside b ≡ true
+pub inside_of : (p : ℕ → Bool) → p 10 ≡ false → p 13 ≡ false → (b : ℕ) → p b ≡ true → is_inside b ≡ true
 inside_of p ten thirteen b has =
     let a : (b == 10) ≡ false = ne_eqb b 10 (λ e. true≢false (sym has ∙ ap p e ∙ ten)) in
     let c : (b == 13) ≡ false = ne_eqb b 13 (λ e. true≢false (sym has ∙ ap p e ∙ thirteen)) in
     rw (a, c) refl
 
 -- what does not begin with a byte of the class has no line that does
-line_stops : (p : ℕ → Bool) (text : List ℕ) → IfSome (next_of text) (λ b. p b ≡ false) → begins p (line_of text) ≡ false
+pub line_stops : (p : ℕ → Bool) (text : List ℕ) → IfSome (next_of text) (λ b. p b ≡ false) → begins p (line_of text) ≡ false
 line_stops p [] stop = refl
 line_stops p (b ∷ text) stop =
     elim (b == 10) as (λ c. begins p (without_end 13 (cond c [] (b ∷ first_piece text))) ≡ false) [ true ↦ refl | false ↦ first (first_piece text) ]
@@ -327,18 +327,18 @@ sign_missing token next (Some text) (Some left) (runs, at) other =
 
 -- ---- numbers
 
-abbrev digit_more : ℕ → ℕ → ℕ
+abbrev pub digit_more : ℕ → ℕ → ℕ
 digit_more n d = 10 * n + (d - 48)
 
-grows : (digits : List ℕ) (n : ℕ) → n ≤ fold digit_more n digits
+pub grows : (digits : List ℕ) (n : ℕ) → n ≤ fold digit_more n digits
 grows [] n = omega arith
 grows (d ∷ digits) n = omega (arith, grows digits (digit_more n d))
 
-abbrev times_ten : ℕ → ℕ → ℕ
+abbrev pub times_ten : ℕ → ℕ → ℕ
 times_ten m zero = m
 times_ten m (suc n) = times_ten (10 * m) n
 
-high : (n : ℕ) (digits : List ℕ) (m v : ℕ) → n ≤ length digits → m ≤ v → times_ten m n ≤ fold digit_more v digits
+pub high : (n : ℕ) (digits : List ℕ) (m v : ℕ) → n ≤ length digits → m ≤ v → times_ten m n ≤ fold digit_more v digits
 high zero digits m v long low = omega (arith, low, grows digits v)
 high (suc n) [] m v long low = absurd (omega (arith, long))
 high (suc n) (d ∷ digits) m v long low = high n digits (10 * m) (digit_more v d) (omega (arith, long)) (omega (arith, low))
@@ -347,18 +347,18 @@ high (suc n) (d ∷ digits) m v long low = high n digits (10 * m) (digit_more v 
 many : (d : ℕ) (digits : List ℕ) → 49 ≤ d → 10 ≤ length digits → capped (value_of (d ∷ digits)) ≡ 4294967295
 many d digits first long = let low : 10000000000 ≤ value_of (d ∷ digits) = high 10 digits 1 (digit_more 0 d) long (omega (arith, first)) in omega (arith, low)
 
-all_front : (p : ℕ → Bool) (n : ℕ) (run : List ℕ) → list_all p run ≡ true → list_all p (take n run) ≡ true
+pub all_front : (p : ℕ → Bool) (n : ℕ) (run : List ℕ) → list_all p run ≡ true → list_all p (take n run) ≡ true
 all_front p n run all = (and_parts (list_all p (take n run)) (list_all p (drop n run))
     (sym (list_all-append p (take n run) (drop n run)) ∙ ap (list_all p) (take-append-drop n run) ∙ all)).0
 
 -- whether digits are a numeral their first two tell
-numeral_front : (n : ℕ) (run : List ℕ) → list_all is_digit run ≡ true → is_numeral (take (suc (suc n)) run) ≡ is_numeral run
+pub numeral_front : (n : ℕ) (run : List ℕ) → list_all is_digit run ≡ true → is_numeral (take (suc (suc n)) run) ≡ is_numeral run
 numeral_front n [] all = refl
 numeral_front n (d ∷ []) all = ap (λ l. is_numeral (d ∷ l)) (take_all (suc n) [] (omega arith))
 numeral_front n (d ∷ e ∷ run) all =
     let some : list_all is_digit (d ∷ e ∷ take n run) ≡ true = all_front is_digit (suc (suc n)) (d ∷ e ∷ run) all in rw (some, all) refl
 
-first_digit : (d : ℕ) (run : List ℕ) → 1 ≤ length run → is_numeral (d ∷ run) ≡ true → 49 ≤ d
+pub first_digit : (d : ℕ) (run : List ℕ) → 1 ≤ length run → is_numeral (d ∷ run) ≡ true → 49 ≤ d
 first_digit d [] some h = absurd (omega arith)
 first_digit d (e ∷ run) some h = leb-true 49 d (and_parts (nat_le 49 d) (list_all is_digit (d ∷ e ∷ run)) h).0
 
@@ -442,7 +442,11 @@ piece_run (b ∷ run) text all =
       | false ↦ λ e. (ap (λ l. b ∷ l) piece, under)
     ] h.0
 
-end_run : (end : ℕ) (run : List ℕ) (c : ℕ) (cs : List ℕ) → without_end end (run ++ c ∷ cs) ≡ run ++ without_end end (c ∷ cs)
+-- the line before an LF
+pub piece_here : (run rest : List ℕ) → list_all (is_other 10) run ≡ true → (first_piece (run ++ 10 ∷ rest) ≡ run) × (below (run ++ 10 ∷ rest) ≡ rest)
+piece_here run rest all = let (piece, under) = piece_run run (10 ∷ rest) all in (piece ∙ append-nil run, under)
+
+pub end_run : (end : ℕ) (run : List ℕ) (c : ℕ) (cs : List ℕ) → without_end end (run ++ c ∷ cs) ≡ run ++ without_end end (c ∷ cs)
 end_run end [] c cs = refl
 end_run end (b ∷ []) c cs = refl
 end_run end (b ∷ d ∷ run) c cs = ap (λ l. b ∷ l) (end_run end (d ∷ run) c cs)
@@ -451,9 +455,6 @@ all_end : (p : ℕ → Bool) (end : ℕ) (run : List ℕ) → list_all p run ≡
 all_end p end [] all = refl
 all_end p end (b ∷ []) all = elim (b == end) as (λ c. list_all p (cond c [] (b ∷ [])) ≡ true) [ true ↦ refl | false ↦ all ]
 all_end p end (b ∷ c ∷ run) all = let h = and_parts (p b) (list_all p (c ∷ run)) all in rw h.0 (all_end p end (c ∷ run) h.1)
-
-prefix_all : (p : ℕ → Bool) (line : List ℕ) → list_all p line ≡ true → prefix_len p line ≡ length line
-prefix_all p line all = ap (prefix_len p) (sym (append-nil line)) ∙ run_is p line [] all refl
 
 cut_none : (byte : ℕ) (line : List ℕ) → list_all (is_other byte) line ≡ true → cut_at byte line ≡ None
 unfolding cut_at

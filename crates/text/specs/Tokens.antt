@@ -29,7 +29,13 @@ sign_at token line = let start = past_blanks line in if pointwise nat_eq (take (
 unfoldable pub whole_number : List ℕ → Option ℕ
 whole_number bytes = if is_numeral bytes then Some (capped (value_of bytes)) else None
 
--- the number, and what follows it
+-- the number right in front, and what follows it
+unfoldable pub number_here : List ℕ → Option (ℕ × List ℕ)
+number_here line =
+    let count = prefix_len is_digit line in
+    if is_numeral (take count line) then Some (capped (value_of (take count line)), drop count line) else None
+
+-- the number past the blanks, and what follows it
 unfoldable pub number_at : List ℕ → Option (ℕ × List ℕ)
 number_at line =
     let start = past_blanks line in
