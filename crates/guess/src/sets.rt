@@ -22,6 +22,9 @@ const PATIENCE: u64 = 4;
 // The same where edges lead nearby: then edges back are soon made.
 const PATIENCE_NEARBY: u64 = 1;
 
+// Few states that are so many times fewer than those that are left grow for many rounds, and are carried on by edges back from the first.
+const THIN: u32 = 256;
+
 /// A modality: the node, its operand, the kinds of labels that it takes, and what it waits for.
 #[derive(Clone, Copy)]
 pub(crate) struct Step {
@@ -358,7 +361,7 @@ impl Sets {
         if many > FEW && many.saturating_mul(8) > share {
             return Way::Pull;
         }
-        if board.are_near && many <= FEW {
+        if many <= FEW && (board.are_near || many < left / THIN) {
             return Way::Push;
         }
         if self.looks_on(board, left) {
