@@ -17,7 +17,7 @@ use std::marker::Brand;
 use std::process::Abort;
 use std::sync::atomic::{AtomicU64, Ordering};
 use std::sync::{Arc, Wait};
-use std::thread::{Threads, yield_now};
+use std::thread::Threads;
 use tables::locked::LockedBoard;
 use tables::packed::PackedBoard;
 use workers::gate::{Gate, NoGate};
@@ -37,8 +37,8 @@ impl Turns {
         }
     }
 
-    // Those of one worker.
-    fn of(&self, worker: usize) -> u64 {
+    /// Those of one worker.
+    pub fn of(&self, worker: usize) -> u64 {
         match self.by.get(worker) {
             Some(turns) => turns.load(Ordering::SeqCst),
             None => 0,
@@ -63,8 +63,8 @@ impl Gate for Turns {
     }
 }
 
-// The table that workers over words come to.
-fn lifted_over_words<G: Gate + Sync, R: Abort + AllocGlobal + Threads + Wait + Sync>(
+/// The table that workers over words come to.
+pub fn lifted_over_words<G: Gate + Sync, R: Abort + AllocGlobal + Threads + Wait + Sync>(
     rt: &R,
     game: &Arc<Game, Global>,
     workers: usize,
@@ -186,81 +186,6 @@ fn what_rises_once_is_shared(rt: HostRuntime) {
         assert!(rt; all >= 100_000 && all < 200_000, "{all}");
         assert!(rt; are_shared(&turns, workers), "{workers}");
     }
-}
-
-/// How many vertices lead to the hub.
-const LEADING: u32 = 100_000;
-
-/// Where Odd wins.
-const TRAP: u32 = 199_998;
-
-/// The hub, which stands last.
-const HUB: u32 = 199_999;
-
-/// How often the hub has a turn: it rises through the ones of 22 vertices and then to top, and at last stays.
-const HUB_TURNS: u64 = 24;
-
-// One more vertex of the game of the hub: those that lead there, 20 of them with priority 1; as many that stand alone; the trap; and
-// the hub, where Even asks for less by staying until that is top.
-fn push_leading(builder: &mut GameBuilder, v: u32) -> Result<(), AllocError> {
-    if v < 20 {
-        push(builder, Player::Even, 1, &[HUB])
-    } else if v < LEADING {
-        push(builder, Player::Even, 0, &[HUB])
-    } else if v < TRAP {
-        push(builder, Player::Even, 0, &[v])
-    } else if v == TRAP {
-        push(builder, Player::Even, 1, &[TRAP])
-    } else {
-        push(builder, Player::Even, 1, &[TRAP, HUB])
-    }
-}
-
-/// Counts turns, and holds the first of two workers until the hub has had all of its turns.
-#[derive(Drop)]
-struct Holding {
-    turns: Turns,
-    hub: AtomicU64,
-}
-
-/// How often a worker that is held looks at most.
-const MOST_LOOKS: u64 = 50_000_000;
-
-impl Gate for Holding {
-    fn before(&self, worker: usize, v: u32) {
-        self.turns.before(worker, v);
-        if v == HUB {
-            self.hub.fetch_add(1, Ordering::SeqCst);
-        }
-        if worker > 0 {
-            return;
-        }
-        for _ in 0..MOST_LOOKS {
-            if self.hub.load(Ordering::SeqCst) >= HUB_TURNS {
-                return;
-            }
-            yield_now();
-        }
-    }
-}
-
-// While the first worker is held, all that lead to the hub are pending. So the hub's rises give none of them, and each has one turn.
-#[test]
-fn what_is_pending_is_given_once_however_often_its_hub_rises(rt: HostRuntime) {
-    let mut builder = GameBuilder::new(rt.alloc());
-    for v in 0..=HUB {
-        push_leading(&mut builder, v).expect(&rt, "memory");
-    }
-    let game = builder.finish().expect(&rt, "a game");
-    let game = Arc::new(rt.alloc(), game).expect(&rt, "memory");
-    let gate = Holding {
-        turns: Turns::new(),
-        hub: AtomicU64::new(0),
-    };
-    lifted_over_words(&rt, &game, 2, &gate);
-    assert!(rt; gate.hub.load(Ordering::SeqCst) == HUB_TURNS);
-    assert!(rt; gate.turns.of(0) == u64::from(LEADING));
-    assert!(rt; gate.turns.all() == u64::from(HUB) + HUB_TURNS);
 }
 
 // The table that workers over shards come to.

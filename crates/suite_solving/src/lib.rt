@@ -6,6 +6,8 @@ mod boards;
 #[cfg(test)]
 mod climbing_workers;
 #[cfg(test)]
+mod hubs;
+#[cfg(test)]
 mod many_workers;
 #[cfg(test)]
 mod observers;

@@ -6,6 +6,7 @@ use Rattle.crossbeam_deque.specs.Handles.{worker_view}
 use Rattle.crossbeam_deque.specs.declared.handles.Worker.{Worker}
 use Rattle.progress.proofs.Common.{get_or_default}
 use Rattle.workers.specs.Jobs.{Gave, more_given}
+use Rattle.workers.specs.Turns.{first_in_block}
 use Rattle.workers.specs.declared.jobs.Given.{Given}
 
 pub given_none : (given : Given) → given ≡ more_given given []
@@ -25,17 +26,22 @@ module _ {A P : Type 0} where
 pub place_of : (us : List ℕ) (u : ℕ) → Contains us u → (k : ℕ) × (k < length us) × (slice_index us k ≡ u)
 place_of us u (k, l, e) = (k, l, get_or_default us k 0 u l ∙ e)
 
--- the first of some vertices were pending or given, and one more
+-- a block begins no later than its vertices
+pub block_inside : (u vertices : ℕ) → u < vertices → first_in_block u < vertices
+block_inside u vertices inside = omega (arith, inside)
+
+-- the first of some vertices were pending, or their blocks given, and one more
 pub offered_next : (was_pending : ℕ → Type 0) (us : List ℕ) (i : ℕ) (jobs more : List ℕ)
-    → ((k : ℕ) → k < i → was_pending (slice_index us k) ⊎ Contains jobs (slice_index us k))
-    → was_pending (slice_index us i) ⊎ Contains more (slice_index us i)
-    → (k : ℕ) → k < i + 1 → was_pending (slice_index us k) ⊎ Contains (jobs ++ more) (slice_index us k)
-offered_next was_pending us i jobs more before here = below_more (λ k. was_pending (slice_index us k) ⊎ Contains (jobs ++ more) (slice_index us k)) i
+    → ((k : ℕ) → k < i → was_pending (slice_index us k) ⊎ Contains jobs (first_in_block (slice_index us k)))
+    → was_pending (slice_index us i) ⊎ Contains more (first_in_block (slice_index us i))
+    → (k : ℕ) → k < i + 1 → was_pending (slice_index us k) ⊎ Contains (jobs ++ more) (first_in_block (slice_index us k))
+offered_next was_pending us i jobs more before here = below_more (λ k. was_pending (slice_index us k)
+    ⊎ Contains (jobs ++ more) (first_in_block (slice_index us k))) i
     (λ k l. elim (before k l) [
       | inl w ↦ inl w
-      | inr w ↦ inr (Contains-append_left jobs more (slice_index us k) w)
+      | inr w ↦ inr (Contains-append_left jobs more (first_in_block (slice_index us k)) w)
     ])
     (elim here [
       | inl w ↦ inl w
-      | inr w ↦ inr (Contains-append_right jobs more (slice_index us i) w)
+      | inr w ↦ inr (Contains-append_right jobs more (first_in_block (slice_index us i)) w)
     ])

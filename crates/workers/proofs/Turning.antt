@@ -1,5 +1,5 @@
 -- Turns, one after another.
-use Rattle.std.proofs.Common.{◌≡◌, ℕ, suc, ◌+◌, ◌<◌, ◌≤◌, List, [], ◌∷◌, ◌++◌, length, take, slice_index, slice_set, add-one, ap, append_assoc, arith, refl, sym, ◌∙◌}
+use Rattle.std.proofs.Common.{◌≡◌, ℕ, suc, ◌+◌, ◌<◌, ◌≤◌, List, [], ◌∷◌, ◌++◌, length, take, slice_index, slice_set, add-one, ap, append_assoc, arith, refl, subst, sym, ◌∙◌}
 use Rattle.std.proofs.Common.{inl, inr, min, zero, ◌*◌, mul-suc, mul-zero}
 use Rattle.std.specs.Int.{div_ceil}
 use Rattle.std.proofs.lemmas.Bool.Decides.{leb_tells}
@@ -48,6 +48,22 @@ turns_next g was_pending (u ∷ vs) v before mine given jobs (first, rest, own, 
   ap (λ (xs : List ℕ). xs ++ jobs) split ∙ append_assoc own others jobs,
   work,
   turns_next g was_pending vs v rest mine others jobs more is,
+)
+
+-- some turns, and then others
+pub turns_both : (g : Game) (was_pending : ℕ → Type 0) (vs us : List ℕ) (before after : List Access) (given jobs : List ℕ)
+    → AreTurns g was_pending vs before given → AreTurns g was_pending us after jobs → AreTurns g was_pending (vs ++ us) (before ++ after) (given ++ jobs)
+turns_both g was_pending [] us before after given jobs (none, no-jobs) are =
+    subst (λ xs. AreTurns g was_pending us (xs ++ after) (given ++ jobs)) (sym none) (subst (λ js. AreTurns g was_pending us after (js ++ jobs)) (sym no-jobs) are)
+turns_both g was_pending (v ∷ vs) us before after given jobs (first, rest, own, others, cut, split, work, more) are = (
+  first,
+  rest ++ after,
+  own,
+  others ++ jobs,
+  ap (λ (xs : List Access). xs ++ after) cut ∙ append_assoc first rest after,
+  ap (λ (xs : List ℕ). xs ++ jobs) split ∙ append_assoc own others jobs,
+  work,
+  turns_both g was_pending vs us rest after others jobs more are,
 )
 
 mul_suc_up : (n k : ℕ) → n ≤ n * suc k

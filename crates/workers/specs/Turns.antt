@@ -1,15 +1,20 @@
 -- What workers do in their turns.
-use Rattle.std.specs.Prelude.{◌≡◌, ◌⊎◌, ◌++◌, ◌*◌, ◌+◌, ◌-◌, ℕ, Bool, IsTrue, List, [], ◌∷◌, Contains, min}
+use Rattle.std.specs.Prelude.{◌≡◌, ◌⊎◌, ◌++◌, ◌*◌, ◌%◌, ◌+◌, ◌-◌, ℕ, Bool, IsTrue, List, [], ◌∷◌, Contains, min}
 use Rattle.std.specs.Int.{div_ceil}
 use Rattle.std.specs.List.{range_with_len}
 use Rattle.game.specs.Game.{Game}
 use Rattle.game.specs.Predecessors.{predecessors}
 use Rattle.tables.specs.Turns.{IsTurn}
 use Rattle.tables.specs.declared.access.Access.{Access}
+use Rattle.workers.specs.declared.marks.TheConstants.{BLOCK}
 
--- each predecessor of the vertex was pending, or is one of these jobs
+-- the first vertex of the block in which a vertex stands
+abbrev pub first_in_block : ℕ → ℕ
+first_in_block v = v - v % BLOCK
+
+-- each predecessor of the vertex was pending, or its block is one of these jobs
 abbrev pub AreGiven : Game → (ℕ → Type 0) → ℕ → List ℕ → Type 0
-AreGiven g was_pending v jobs = (u : ℕ) → Contains (predecessors g v) u → was_pending u ⊎ Contains jobs u
+AreGiven g was_pending v jobs = (u : ℕ) → Contains (predecessors g v) u → was_pending u ⊎ Contains jobs (first_in_block u)
 
 -- a turn at the vertex, and where it rose its predecessors are given
 pub record IsWork (g : Game) (was_pending : ℕ → Type 0) (v : ℕ) (accesses : List Access) (jobs : List ℕ) : Type 0 where
@@ -23,6 +28,10 @@ AreTurns g was_pending [] accesses jobs = (accesses ≡ []) × (jobs ≡ [])
 AreTurns g was_pending (v ∷ vs) accesses jobs =
     (first rest : List Access) × (mine others : List ℕ) × (accesses ≡ first ++ rest) × (jobs ≡ mine ++ others) × IsWork g was_pending v first mine
     × AreTurns g was_pending vs rest others
+
+-- such turns at some vertices
+abbrev pub AreSomeTurns : Game → (ℕ → Type 0) → List Access → List ℕ → Type 0
+AreSomeTurns g was_pending accesses jobs = (vs : List ℕ) × AreTurns g was_pending vs accesses jobs
 
 -- accesses that were made and jobs that were given, of which this holds
 abbrev pub Done : (List Access → Type 0) → (List ℕ → Type 0) → (List Access → List ℕ → Type 0) → Type 0

@@ -1,4 +1,4 @@
-// Deques of jobs, each job a vertex.
+// Deques of jobs, each job a vertex, which stands for the block that begins with it.
 
 ghost use Rattle.std.specs.Prelude.{◌≡◌, ◌<◌, ◌∷◌, [], false, IfOk, IfSome, IsTrue, length, vec_len};
 ghost use Rattle.workers.specs.Jobs.{Gave, IsFilled};

@@ -4,12 +4,12 @@ ghost use Rattle.std.specs.Prelude.{◌≡◌, ◌<◌, ◌≤◌, ◌+◌, ◌+
 ghost use Rattle.tables.specs.Turns.{By, IsTurn};
 ghost use Rattle.workers.specs.Floor.{IsOneGame};
 ghost use Rattle.workers.specs.Jobs.{Gave, IsFilled};
-ghost use Rattle.workers.specs.Turns.{AreGiven, AreTurns, Done, HasWorked, IsWork, first_own, own_vertices};
+ghost use Rattle.workers.specs.Turns.{AreGiven, AreSomeTurns, AreTurns, Done, HasWorked, IsWork, first_own, own_vertices};
 
 use crate::floor::Floor;
 use crate::gate::Gate;
 use crate::jobs::{Own, find, give};
-use crate::marks::Pending;
+use crate::marks::{BLOCK, Pending, block_of};
 use game::graph::Game;
 use game::name::GameName;
 use game::predecessors::Predecessors;
@@ -18,8 +18,8 @@ use measures::table::{PlainTable, opening_value};
 use std::sync::Wait;
 use tables::board::Board;
 
-// Gives those predecessors of a vertex that aren't pending, and says whether all were taken. One that isn't taken stays marked: it is
-// left to the final settling.
+// Gives the blocks of those predecessors of a vertex that aren't pending, and says whether all were taken. What isn't taken stays marked:
+// it is left to the final settling.
 fn give_predecessors<K: GameName, M: Pending>(
     predecessors: &Predecessors,
     marks: &M,
@@ -31,7 +31,7 @@ fn give_predecessors<K: GameName, M: Pending>(
     ensures refused { result ≡ false → IsFilled own.old own.new }
 {
     for u in predecessors.get(v) {
-        if marks.set(*u) && !give(own, *u) {
+        if marks.set(*u) && !give(own, block_of(*u)) {
             return false;
         }
     }
@@ -201,6 +201,34 @@ fn first_turns<K: GameName, B: Board, G: Gate, M: Pending>(
     true
 }
 
+// Turns at those vertices of a block that are pending. The answer says whether the worker can go on.
+fn block_turns<K: GameName, B: Board, G: Gate, M: Pending>(
+    floor: &Floor<K, B, G, M>,
+    number: usize,
+    own: &mut Own<K>,
+    seat: &mut B::Seat,
+    turn: &mut Option<Turn>,
+    block: u32,
+) -> bool
+    requires one { IsOneGame K.game floor.now.game.now (B.game floor.now.board.now) floor.now.first.now.game }
+    requires seat { B.fits floor.now.board.now seat.old }
+    requires turn { IfSome turn.old (λ t. t.game ≡ K.game) }
+    ensures seat { B.fits floor.now.board.now seat.new }
+    ensures turn { IfSome turn.new (λ t. t.game ≡ K.game) }
+    ensures turned { IsTrue result → Done (B.did floor.now.board.now seat.old seat.new) (Gave own.old own.new)
+        (AreSomeTurns K.game (M.was_pending floor.now.marks.now)) }
+    ensures stopped { result ≡ false → B.is_read floor.now.board.now ⊎ IsFilled own.old own.new }
+{
+    floor.marks.begin(block);
+    let end = block.saturating_add(BLOCK).min(floor.game.vertices());
+    for v in block..end {
+        if floor.marks.is_set(v) && !turn_at(floor, number, own, seat, turn, v) {
+            return false;
+        }
+    }
+    true
+}
+
 // A job of one's own, or of another's, for which the worker rests where there is none. None once all rest.
 fn next_job<K: GameName, B, G, M, R: Wait>(
     rt: &R,
@@ -239,10 +267,10 @@ fn take_turns<K: GameName, B: Board, G: Gate, M: Pending, R: Wait>(
             floor.rest.lie_down();
             return;
         }
-        let Some(v) = next_job(rt, floor, number, own) else {
+        let Some(block) = next_job(rt, floor, number, own) else {
             return;
         };
-        able = turn_at(floor, number, own, seat, &mut turn, v);
+        able = block_turns(floor, number, own, seat, &mut turn, block);
     }
 }
 

@@ -1,9 +1,9 @@
-use Rattle.std.proofs.Common.{ℕ, ◌++◌, ◌∷◌, [], List, append_assoc, arith, inl, inr, length, max, subst, sym}
+use Rattle.std.proofs.Common.{ℕ, ◌++◌, [], List, append_assoc, arith, inl, inr, length, max, subst, sym}
 use Rattle.std.proofs.lemmas.List.{append-nil}
 use Rattle.workers.specs.Jobs.{Gave}
 use Rattle.workers.specs.Turns.{AreTurns, own_vertices}
 use Rattle.workers.proofs.Giving.{gave_both}
-use Rattle.workers.proofs.Turning.{turns_next}
+use Rattle.workers.proofs.Turning.{turns_both}
 use Rattle.workers.proofs.worker.take_turns.Goals as goal
 
 pub loop-init : goal.loop-init
@@ -31,24 +31,23 @@ loop-preserved g c =
     let game = g.K.GameName.game in
     let was_pending = g.M.Pending.was_pending c.args.floor.now.marks.now in
     let own = own_vertices (length game.vertices) (max (length c.args.floor.now.others.now) 1) c.args.number in
-    let v = c.in-Some-next_job.v in
     let was = c.loop.invariant.worked c.if-not-able.false in record {
-      seat = c.turn_at-able.ensures.seat;
-      turn = c.turn_at-able.ensures.turn;
+      seat = c.block_turns-able.ensures.seat;
+      turn = c.block_turns-able.ensures.turn;
       worked = λ yes.
-          let now = c.turn_at-able.ensures.turned yes in (
+          let now = c.block_turns-able.ensures.turned yes in (
             was.0 ++ now.0,
             was.1 ++ now.1,
-            g.met.B.Board.chained c.args.floor.now.board.now c.args.seat.now c.loop.seat c.turn_at-able.new.seat was.0 now.0 was.2 now.2,
-            gave_both c.args.own.now c.loop.own c.turn_at-able.new.own was.1 now.1 was.3
-                (gave_both c.loop.own c.next_job.new.own c.turn_at-able.new.own [] now.1 c.next_job.ensures.kept now.3),
+            g.met.B.Board.chained c.args.floor.now.board.now c.args.seat.now c.loop.seat c.block_turns-able.new.seat was.0 now.0 was.2 now.2,
+            gave_both c.args.own.now c.loop.own c.block_turns-able.new.own was.1 now.1 was.3
+                (gave_both c.loop.own c.next_job.new.own c.block_turns-able.new.own [] now.1 c.next_job.ensures.kept now.3),
             (
-              was.4.0 ++ v ∷ [],
-              subst (λ (vs : List ℕ). AreTurns game was_pending vs (was.0 ++ now.0) (was.1 ++ now.1)) (append_assoc own was.4.0 (v ∷ []))
-                  (turns_next game was_pending (own ++ was.4.0) v was.0 now.0 was.1 now.1 was.4.1 now.4),
+              was.4.0 ++ now.4.0,
+              subst (λ (vs : List ℕ). AreTurns game was_pending vs (was.0 ++ now.0) (was.1 ++ now.1)) (append_assoc own was.4.0 now.4.0)
+                  (turns_both game was_pending (own ++ was.4.0) now.4.0 was.0 now.0 was.1 now.1 was.4.1 now.4.1),
             ),
           );
-      stopped = λ no. elim (c.turn_at-able.ensures.stopped no) [
+      stopped = λ no. elim (c.block_turns-able.ensures.stopped no) [
         | inl w ↦ inl w
         | inr w ↦ inr (let room = was.3.1 in let kept = c.next_job.ensures.kept.1 in omega (arith, w, room, kept))
       ];

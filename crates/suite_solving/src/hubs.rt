@@ -1,0 +1,139 @@
+// A vertex to which very many others lead, and which rises again and again: what it gives workers to lift is bounded by how many vertices
+// there are.
+
+ghost use Rattle.std.specs.Prelude.{◌≡◌, ◌+◌, ◌<◌, ◌≤◌};
+
+use crate::climbing_workers::{Turns, lifted_over_words};
+use game::graph::{Game, GameBuilder};
+use game::player::Player;
+use samples::games::push;
+use std::alloc::{AllocError, Global};
+use std::fs;
+use std::process::Abort;
+use std::sync::Arc;
+use std::sync::atomic::{AtomicU64, Ordering};
+use std::thread::yield_now;
+use workers::gate::{Gate, NoGate};
+
+/// How many of those that lead to the hub have priority 1.
+const COUNTED: u32 = 20;
+
+/// How often the hub has a turn: it rises through the ones of 22 vertices and then to top, and at last stays.
+const HUB_TURNS: u64 = 24;
+
+/// A game of so many vertices that lead to a hub, as many that stand alone as are asked for, a trap where Odd wins, and the hub.
+#[derive(Clone, Copy)]
+struct Hub {
+    leading: u32,
+    alone: u32,
+}
+
+impl Hub {
+    fn trap(self) -> u32
+        requires { self.leading + self.alone < 4000000 }
+        ensures { result ≡ self.leading + self.alone }
+    {
+        self.leading + self.alone
+    }
+
+    // One more vertex. Even asks for less at the hub by staying there until that is top.
+    fn push(self, builder: &mut GameBuilder, v: u32) -> Result<(), AllocError>
+        requires { self.leading + self.alone < 4000000 }
+    {
+        let trap = self.trap();
+        let hub = trap + 1;
+        if v < COUNTED {
+            push(builder, Player::Even, 1, &[hub])
+        } else if v < self.leading {
+            push(builder, Player::Even, 0, &[hub])
+        } else if v < trap {
+            push(builder, Player::Even, 0, &[v])
+        } else if v == trap {
+            push(builder, Player::Even, 1, &[trap])
+        } else {
+            push(builder, Player::Even, 1, &[trap, hub])
+        }
+    }
+
+    fn game(self, rt: &(impl Abort + AllocGlobal)) -> Arc<Game, Global>
+        requires { self.leading + self.alone < 4000000 }
+    {
+        let mut builder = GameBuilder::new(rt.alloc());
+        for v in 0..self.trap() + 2 {
+            self.push(&mut builder, v).expect(rt, "memory");
+        }
+        let game = builder.finish().expect(rt, "a game");
+        Arc::new(rt.alloc(), game).expect(rt, "memory")
+    }
+}
+
+/// Counts turns, and holds the first of two workers until the hub has had all of its turns.
+#[derive(Drop)]
+struct Holding {
+    turns: Turns,
+    hub: u32,
+    of_hub: AtomicU64,
+}
+
+/// How often a worker that is held looks at most.
+const MOST_LOOKS: u64 = 50_000_000;
+
+impl Gate for Holding {
+    fn before(&self, worker: usize, v: u32) {
+        self.turns.before(worker, v);
+        if v == self.hub {
+            self.of_hub.fetch_add(1, Ordering::SeqCst);
+        }
+        if worker > 0 {
+            return;
+        }
+        for _ in 0..MOST_LOOKS {
+            if self.of_hub.load(Ordering::SeqCst) >= HUB_TURNS {
+                return;
+            }
+            yield_now();
+        }
+    }
+}
+
+// While the first worker is held, all that lead to the hub are pending. So the hub's rises give none of them, and each has one turn.
+#[test]
+fn what_is_pending_is_given_once_however_often_its_hub_rises(rt: HostRuntime) {
+    let hub = Hub {
+        leading: 100_000,
+        alone: 99_998,
+    };
+    let game = hub.game(&rt);
+    let gate = Holding {
+        turns: Turns::new(),
+        hub: hub.trap() + 1,
+        of_hub: AtomicU64::new(0),
+    };
+    lifted_over_words(&rt, &game, 2, &gate);
+    assert!(rt; gate.of_hub.load(Ordering::SeqCst) == HUB_TURNS);
+    assert!(rt; gate.turns.of(0) == u64::from(hub.leading));
+    assert!(rt; gate.turns.all() == u64::from(hub.trap() + 1) + HUB_TURNS);
+}
+
+// What the system tells of this process's memory under a name, in kilobytes.
+fn kilobytes(rt: HostRuntime, name: &str) -> Option<u64> {
+    let status = fs::read_to_string(&rt, "/proc/self/status").ok()?;
+    let (_, rest) = status.split_once(name)?;
+    let (number, _) = rest.trim_start().split_once(" ")?;
+    number.parse::<u64>().ok()
+}
+
+// Each time that the hub rises a million vertices may rise with it. A list of them all, a word or more each, would come to gigabytes.
+#[test]
+fn a_hub_that_a_million_lead_to_is_lifted_in_little_room(rt: HostRuntime) {
+    let hub = Hub {
+        leading: 1_000_000,
+        alone: 0,
+    };
+    let game = hub.game(&rt);
+    let before = kilobytes(rt, "VmRSS:").expect(&rt, "a number");
+    lifted_over_words(&rt, &game, 4, &NoGate);
+    let most = kilobytes(rt, "VmHWM:").expect(&rt, "a number");
+    let taken = most.saturating_sub(before) / 1_000;
+    assert!(rt; taken <= 200, "{taken} MB");
+}
