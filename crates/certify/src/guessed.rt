@@ -22,7 +22,7 @@ fn put_guessed(game: &Game, guessed: &Guessed, draft: &mut Draft, v: u32, rank: 
     ensures player { draft.new.evidence.player ≡ draft.old.evidence.player }
     ensures rank { length rank.new ≡ length rank.old }
 {
-    guessed.put_rank(game, v, rank);
+    guessed.put_rank(v, rank);
     let vertices = game.vertices();
     let next = guessed.next(v).filter(|next| *next < vertices);
     draft.put(v, next, rank);

@@ -22,7 +22,7 @@ const PATIENCE: u64 = 4;
 // The same where edges lead nearby: then edges back are soon made.
 const PATIENCE_NEARBY: u64 = 1;
 
-// Few states that are so many times fewer than those that are left grow for many rounds, and are carried on by edges back from the first.
+// Few states that are so many times fewer than those that are left grow for many rounds. Where they are the first, they are carried on by edges back.
 const THIN: u32 = 256;
 
 /// A modality: the node, its operand, the kinds of labels that it takes, and what it waits for.
@@ -361,7 +361,7 @@ impl Sets {
         if many > FEW && many.saturating_mul(8) > share {
             return Way::Pull;
         }
-        if many <= FEW && (board.are_near || many < left / THIN) {
+        if many <= FEW && (board.are_near || self.begins_thin(many, left)) {
             return Way::Push;
         }
         if self.looks_on(board, left) {
@@ -369,6 +369,11 @@ impl Sets {
         } else {
             Way::Push
         }
+    }
+
+    // Whether what is carried on first is thin. What gets thin later has nearly come to its end.
+    fn begins_thin(&self, many: u32, left: u32) -> bool {
+        self.spent == 0 && many < left / THIN
     }
 
     /// Whether so many states are still looked at in place of edges back, which aren't made yet.

@@ -67,8 +67,8 @@ impl Tested<'_> {
         let priority = self.game.priority(v);
         let kept = self.kept(player, priority);
         let (mut rank, mut next) = ([0_u32; COUNTS], [0_u32; COUNTS]);
-        self.guessed.put_rank(self.game, v, &mut rank);
-        self.guessed.put_rank(self.game, t, &mut next);
+        self.guessed.put_rank(v, &mut rank);
+        self.guessed.put_rank(t, &mut next);
         if self.guessed.winner(t) != player || kept > COUNTS {
             return false;
         }
@@ -94,7 +94,7 @@ impl Tested<'_> {
     // Whether evidence may have the counts of a vertex.
     fn is_small_at(&self, v: u32) -> bool {
         let mut rank = [0_u32; COUNTS];
-        self.guessed.put_rank(self.game, v, &mut rank);
+        self.guessed.put_rank(v, &mut rank);
         for count in rank {
             if count > GREATEST_COUNT {
                 return false;

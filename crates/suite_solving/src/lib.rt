@@ -8,6 +8,8 @@ mod climbing_workers;
 #[cfg(test)]
 mod hubs;
 #[cfg(test)]
+mod late_rises;
+#[cfg(test)]
 mod many_workers;
 #[cfg(test)]
 mod observers;

@@ -14,7 +14,6 @@ use crate::shared::{MOST_REGIONS, Place, Shared};
 use crate::winning::Winners;
 use game::player::Player;
 use std::alloc::{AllocError, Global};
-use std::mem;
 use std::thread::Threads;
 
 /// A part that is to be decided. All of its vertices are in the region.
@@ -207,7 +206,7 @@ impl<'g, R: Threads + Sync> Crowd<'g, R> {
             tasks: Vec::new(crew.alloc),
             is_whole: true,
             last: 0,
-            moments: Moments::none(crew.alloc, arena.vertices()),
+            moments: Moments::none(crew.alloc, arena.game),
             meter,
         })
     }
@@ -427,7 +426,7 @@ impl<'g, R: Threads + Sync> Crowd<'g, R> {
             winners.add(self.arena.game, v, won.player(place.region), place.next);
             last.push(place.time);
         }
-        let moments = mem::replace(&mut self.moments, Moments::none(alloc, 0));
+        let moments = self.moments.take(alloc);
         winners.times = Some(Times { moments, last });
         winners.whole()
     }

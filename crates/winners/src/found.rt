@@ -2,9 +2,10 @@
 // counts would become too great so.
 
 use crate::guess::{Guessed, Ordered, Ranking};
-use crate::moments::Timed;
+use crate::moments::{Counts, Moments, Timed};
 use crate::numbers::Numbers;
 use crate::order::order_of;
+use crate::places::Places;
 use crate::ranks::{Counted, Listed, Ranks, Rows};
 use crate::smaller::Smaller;
 use crate::winning::Winners;
@@ -94,10 +95,10 @@ impl<'g> Found<'g> {
         order_of(alloc, self.arena(), &self.winners, player)
     }
 
-    // What comes before the order of what a player wins.
-    fn decided(&self, player: Player) -> Listed<'_> {
+    // What comes before all else that a player wins, with rows after so many others.
+    fn decided(&self, player: Player, after: usize) -> Listed<'_> {
         match &self.smaller {
-            Some(smaller) => smaller.decided(player),
+            Some(smaller) => smaller.decided(player, after),
             None => Listed {
                 game: self.game,
                 order: &[],
@@ -106,42 +107,83 @@ impl<'g> Found<'g> {
         }
     }
 
-    // How many rows of ranks there are: one for each vertex that is put in order or was decided before.
-    fn rows(&self) -> usize {
-        let ordered = self.arena().vertices() as usize;
-        let even = self.decided(Player::Even).order.len();
-        let odd = self.decided(Player::Odd).order.len();
-        ordered.saturating_add(even).saturating_add(odd)
+    // How many vertices were decided before the search.
+    fn decided_rows(&self) -> usize {
+        let even = self.decided(Player::Even, 0).order.len();
+        let odd = self.decided(Player::Odd, 0).order.len();
+        even.saturating_add(odd)
     }
 
     // Adds the ranks of what a player wins.
     fn rank(&self, ranks: &mut Ranks, player: Player, order: &Numbers) {
         let counted = Counted::of(self.game, player, self.weight);
+        let arena = self.arena();
+        let first = self.decided(player, arena.vertices() as usize);
         let other = Listed {
-            game: self.arena(),
+            game: arena,
             order: order.as_slice(),
             rows: Rows::Numbered,
         };
-        ranks.add(counted, self.decided(player), other);
+        ranks.add(counted, first, other);
     }
 
-    /// Whether the search noted when it came to each vertex of the whole game.
+    /// Whether the search noted when it came to each vertex.
     pub(crate) fn is_timed(&self) -> bool {
         match &self.winners.times {
-            Some(times) => self.smaller.is_none() && times.moments.are_whole(),
+            Some(times) => times.moments.are_whole(),
             None => false,
         }
     }
 
-    /// What is guessed, with ranks by the moments of the search. `None` for want of memory.
+    /// What is guessed of the whole game, with ranks by the moments of the search. `None` for want of memory.
     pub(crate) fn timed(mut self, alloc: Global) -> Option<Guessed> {
         let times = self.winners.times.take()?;
-        let timed = Timed::of(alloc, self.game, times);
+        let mut decided = Ranks::of(alloc, self.decided_rows(), self.game);
+        let even = self.counts(alloc, Player::Even, &mut decided, &times.moments);
+        let odd = self.counts(alloc, Player::Odd, &mut decided, &times.moments);
+        let settled = times.settled(self.arena());
+        let (winners, places) = self.into_whole(alloc)?;
+        let timed = Timed {
+            settled,
+            even,
+            odd,
+            decided,
+            places,
+        };
         let guessed = Guessed {
-            winners: self.winners,
+            winners,
             ranking: Ranking::Timed(timed),
         };
         guessed.whole()
+    }
+
+    // The counts of a player at each moment, after the ranks of what was decided for it, which are added.
+    fn counts(
+        &self,
+        alloc: Global,
+        player: Player,
+        ranks: &mut Ranks,
+        moments: &Moments,
+    ) -> Counts {
+        let counted = Counted::of(self.game, player, self.weight);
+        let decided = ranks.add_first(counted, self.decided(player, 0));
+        Counts::of(alloc, counted, decided, moments)
+    }
+
+    // Who wins each vertex of the whole game, and where its rank stands. `None` for want of memory.
+    fn into_whole(self, alloc: Global) -> Option<(Winners, Places)> {
+        let Found {
+            winners,
+            smaller,
+            ..
+        } = self;
+        match smaller {
+            Some(smaller) => {
+                let winners = smaller.whole(alloc, &winners)?;
+                Some((winners, smaller.places()))
+            }
+            None => Some((winners, Places::own(alloc))),
+        }
     }
 
     /// What is guessed of the whole game, with ranks by orders. `None` where the moves of one player don't win, or for want of memory.
@@ -158,30 +200,16 @@ impl<'g> Found<'g> {
 
     fn guessed(self, alloc: Global, orders: Orders) -> Option<Guessed> {
         let (even, odd) = (orders.even?, orders.odd?);
-        let mut ranks = Ranks::of(alloc, self.rows(), self.game);
+        let rows = self
+            .decided_rows()
+            .saturating_add(self.arena().vertices() as usize);
+        let mut ranks = Ranks::of(alloc, rows, self.game);
         self.rank(&mut ranks, Player::Even, &even);
         self.rank(&mut ranks, Player::Odd, &odd);
-        let Found {
-            winners,
-            smaller,
-            ..
-        } = self;
-        let (winners, rows, heights) = match smaller {
-            Some(smaller) => {
-                let winners = smaller.whole(alloc, &winners)?;
-                let (rows, heights) = smaller.rows();
-                (winners, rows, heights)
-            }
-            None => (winners, Numbers::none(alloc), Numbers::none(alloc)),
-        };
-        let ordered = Ordered {
-            ranks,
-            rows,
-            heights,
-        };
+        let (winners, places) = self.into_whole(alloc)?;
         let guessed = Guessed {
             winners,
-            ranking: Ranking::Ordered(ordered),
+            ranking: Ranking::Ordered(Ordered { ranks, places }),
         };
         guessed.whole()
     }

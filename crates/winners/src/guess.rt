@@ -1,10 +1,9 @@
 // A guess of who wins each vertex, with reasons.
 
-use crate::arena::priority;
 use crate::finding::{LEAST_SHARED, find_in, find_in_by};
 use crate::found::Found;
 use crate::moments::Timed;
-use crate::numbers::Numbers;
+use crate::places::Places;
 use crate::ranks::Ranks;
 use crate::share::Crew;
 use crate::smaller::Smaller;
@@ -36,23 +35,19 @@ pub(crate) enum Ranking {
 #[derive(Drop)]
 pub(crate) struct Ordered {
     pub(crate) ranks: Ranks,
-    /// The row of ranks that each vertex has, where it isn't its own.
-    pub(crate) rows: Numbers,
-    /// How much is added to the last count of a vertex that Odd wins.
-    pub(crate) heights: Numbers,
+    pub(crate) places: Places,
 }
 
 impl Ordered {
     fn is_whole(&self) -> bool {
-        self.ranks.is_whole() && self.rows.is_whole() && self.heights.is_whole()
+        self.ranks.is_whole() && self.places.is_whole()
     }
 
     // Writes the rank of a vertex that the player wins.
     fn put(&self, v: u32, player: Player, rank: &mut [u32]) {
-        let row = self.rows.get_or(v as usize, v);
-        self.ranks.put(row as usize, rank);
+        self.ranks.put(self.places.row(v) as usize, rank);
         if player == Player::Odd {
-            self.ranks.add_to_last(self.heights.get(v as usize), rank);
+            self.ranks.add_to_last(self.places.height(v), rank);
         }
     }
 }
@@ -79,11 +74,11 @@ impl Guessed {
 
     /// Writes the rank of the vertex: one count for each priority of the other parity than the winner's, the greatest first.
     /// Counts that find no place are left out, and places past the last count as they are.
-    pub fn put_rank(&self, game: &Game, v: u32, rank: &mut [u32]) {
+    pub fn put_rank(&self, v: u32, rank: &mut [u32]) {
         let player = self.winner(v);
         match &self.ranking {
             Ranking::Ordered(ordered) => ordered.put(v, player, rank),
-            Ranking::Timed(timed) => timed.put(v, player, priority(game, v), rank),
+            Ranking::Timed(timed) => timed.put(v, player, rank),
         }
     }
 

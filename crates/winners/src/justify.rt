@@ -34,6 +34,9 @@ pub(crate) struct Justification<'g> {
     standings: Standings,
     moves: Numbers,
     times: Times,
+    // Lists that are used again: which vertices turn, and which are shaken then.
+    turned: Numbers,
+    shaken: Vec<Shaken>,
     meter: Meter<'g>,
     // Whether there was memory for all moves, and all that turned or was shaken.
     is_whole: bool,
@@ -47,7 +50,7 @@ impl<'g> Justification<'g> {
     ) -> Result<Self, AllocError> {
         let standings = Standings::new(alloc, arena)?;
         let moves = Numbers::filled(alloc, arena.vertices() as usize, NONE);
-        let times = Times::none(alloc, arena.vertices());
+        let times = Times::none(alloc, arena.game);
         let is_whole = moves.is_whole() && times.last.is_whole();
         Ok(Justification {
             alloc,
@@ -55,6 +58,8 @@ impl<'g> Justification<'g> {
             standings,
             moves,
             times,
+            turned: Numbers::none(alloc),
+            shaken: Vec::new(alloc),
             meter,
             is_whole,
         })
@@ -112,14 +117,17 @@ impl<'g> Justification<'g> {
 
     // Justifies the vertices of a priority, or turns some. The answer is the least priority to be looked at.
     fn justify_or_turn(&mut self, priority: u8) -> u8 {
-        let turned = self.look(priority);
+        let mut turned = mem::replace(&mut self.turned, Numbers::none(self.alloc));
+        self.look(priority, &mut turned);
         self.is_whole &= turned.is_whole();
-        if turned.is_empty() {
+        let least = if turned.is_empty() {
             self.justify(priority);
             priority.saturating_add(1)
         } else {
             self.turn(priority, turned.as_slice())
-        }
+        };
+        self.turned = turned;
+        least
     }
 
     // What each wins, if there is memory for it.
@@ -129,24 +137,22 @@ impl<'g> Justification<'g> {
             let next = self.moves.get(v as usize);
             winners.add(self.arena.game, v, self.standings.player(v), next);
         }
-        let none = Times::none(self.alloc, 0);
-        winners.times = Some(mem::replace(&mut self.times, none));
+        winners.times = Some(self.times.take(self.alloc));
         winners.whole()
     }
 
-    // Looks at open vertices of a priority, the last first. The answer is which turn.
-    fn look(&mut self, priority: u8) -> Numbers {
-        let mut turned = Numbers::none(self.alloc);
+    // Looks at open vertices of a priority, the last first, and lists which turn.
+    fn look(&mut self, priority: u8, turned: &mut Numbers) {
+        turned.clear();
         for _ in 0..u64::MAX {
             if turned.len() >= TURNED_AT_ONCE {
                 break;
             }
             match self.standings.pop_open(priority) {
-                Some(v) => self.look_at(v, priority, &mut turned),
+                Some(v) => self.look_at(v, priority, turned),
                 None => break,
             }
         }
-        turned
     }
 
     fn look_at(&mut self, v: u32, priority: u8, turned: &mut Numbers) {
@@ -196,7 +202,8 @@ impl<'g> Justification<'g> {
 
     // Turns these, and takes the reasons from all that rest on them. The answer is the least priority to be looked at.
     fn turn(&mut self, priority: u8, turned: &[u32]) -> u8 {
-        let mut list = Vec::new(self.alloc);
+        let mut list = mem::replace(&mut self.shaken, Vec::new(self.alloc));
+        list.clear();
         let player = opponent(winner_by(priority));
         let now = self.times.moments.pass(priority);
         for v in turned {
@@ -209,7 +216,9 @@ impl<'g> Justification<'g> {
             };
             self.is_whole &= list.push(shaken).is_ok();
         }
-        self.shake_all(&mut list).min(priority)
+        let least = self.shake_all(&mut list).min(priority);
+        self.shaken = list;
+        least
     }
 
     // Shakes all of a list, to which more is added: what was justified, and no longer is. The answer is the least priority of what was opened.

@@ -19,6 +19,7 @@ mod moments;
 pub mod numbers;
 mod order;
 mod parts;
+mod places;
 mod race;
 mod ranks;
 mod recursion;

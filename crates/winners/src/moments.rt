@@ -3,23 +3,26 @@
 // A search passes a moment whenever vertices turn to a player, or are drawn to what is a player's. It has a priority: that of what turned, or
 // the greatest that the ranks of what was drawn have to fall for. By then all vertices of lesser priorities, or all that were drawn before, are
 // settled. Each vertex has the number of the last moment that had passed when it was settled. Its rank is, for each priority that is counted and
-// isn't less than its own, how many moments of that priority or a greater one had passed.
+// isn't less than its own, how many moments of that priority or a greater one had passed. Where a smaller game was searched, what was decided
+// before counts first, and of lesser priorities it alone does.
 //
 // Why ranks fall: let an edge that the winner's moves leave lead from v to t, and q be a priority that is counted and not less than v's. If t has
 // a greater priority than q, its count is zero. Else, if t was settled no later than v, its count is no greater; and where v has priority q itself
 // its own moment counts, and t was settled before. If t was settled later, then no moment of q or more passed meanwhile: that would have
 // come when t was settled, and what unsettles t unsettles all that rests on it.
 
-use crate::arena::PRIORITIES;
+use crate::arena::{PRIORITIES, greatest, priority};
 use crate::numbers::Numbers;
-use crate::ranks::Counted;
+use crate::places::Places;
+use crate::ranks::{Counted, Ranks};
 use crate::shared::MOST_MOMENTS;
 use game::graph::Game;
 use game::player::Player;
 use std::alloc::Global;
+use std::mem;
 
-// There is a moment for so many vertices at most, or none is noted: else a rank for each moment takes too much memory.
-const VERTICES_PER_MOMENT: u32 = 8;
+// The ranks of all moments take so many words for each vertex at most, or they are not noted: else they take too much memory.
+const WORDS_PER_VERTEX: u32 = 4;
 
 /// The priorities of the moments that a search has passed.
 #[derive(Drop)]
@@ -37,29 +40,70 @@ pub(crate) struct Times {
     pub(crate) last: Numbers,
 }
 
-/// The ranks that come of such times.
+/// The ranks that come of such times. What was decided before the search has ranks of its own.
 #[derive(Drop)]
 pub(crate) struct Timed {
-    last: Numbers,
-    even: Counts,
-    odd: Counts,
+    /// When each vertex that was searched was settled, as words.
+    pub(crate) settled: Numbers,
+    pub(crate) even: Counts,
+    pub(crate) odd: Counts,
+    pub(crate) decided: Ranks,
+    pub(crate) places: Places,
 }
 
-// The counts of a player: a row for each moment, and one for the time before.
+/// The counts of a player: a row for each moment, and one for the time before.
 #[derive(Drop)]
-struct Counts {
+pub(crate) struct Counts {
     counted: Counted,
     counts: Numbers,
 }
 
+// When a vertex was settled, and its priority.
+#[derive(Clone, Copy)]
+struct Settled {
+    time: u32,
+    priority: u8,
+}
+
+// In a word the time is counted by so many: more than there are priorities.
+const TIME_UNIT: u32 = 64;
+
+impl Settled {
+    fn word(self) -> u32 {
+        self.time
+            .saturating_mul(TIME_UNIT)
+            .saturating_add(u32::from(self.priority))
+    }
+
+    fn of(word: u32) -> Self {
+        Settled {
+            time: word / TIME_UNIT,
+            priority: u8::try_from(word % TIME_UNIT).unwrap_or(u8::MAX),
+        }
+    }
+}
+
 impl Moments {
-    /// None has passed in a search of a game of so many vertices.
-    pub(crate) fn none(alloc: Global, vertices: u32) -> Self {
+    /// None has passed in a search of this game. The ranks of both players have a word for each priority up to the greatest.
+    pub(crate) fn none(alloc: Global, game: &Game) -> Self {
+        let priorities = u32::from(greatest(game)).saturating_add(1);
+        let words = game.vertices().saturating_mul(WORDS_PER_VERTEX);
+        let most = words.checked_div(priorities).unwrap_or(0);
         Moments {
             priorities: Numbers::none(alloc),
-            most: (vertices / VERTICES_PER_MOMENT).min(MOST_MOMENTS - 1) as usize,
+            most: most.min(MOST_MOMENTS - 1) as usize,
             are_few: true,
         }
+    }
+
+    /// Those that have passed, of which none is left here.
+    pub(crate) fn take(&mut self, alloc: Global) -> Self {
+        let none = Moments {
+            priorities: Numbers::none(alloc),
+            most: 0,
+            are_few: true,
+        };
+        mem::replace(self, none)
     }
 
     /// Passes one of this priority, and tells its number.
@@ -84,69 +128,94 @@ impl Moments {
 }
 
 impl Times {
-    /// No moment has passed in a search of a game of so many vertices.
-    pub(crate) fn none(alloc: Global, vertices: u32) -> Self {
+    /// No moment has passed in a search of this game.
+    pub(crate) fn none(alloc: Global, game: &Game) -> Self {
         Times {
-            moments: Moments::none(alloc, vertices),
-            last: Numbers::filled(alloc, vertices as usize, 0),
+            moments: Moments::none(alloc, game),
+            last: Numbers::filled(alloc, game.vertices() as usize, 0),
         }
+    }
+
+    /// What was noted, of which nothing is left here.
+    pub(crate) fn take(&mut self, alloc: Global) -> Self {
+        Times {
+            moments: self.moments.take(alloc),
+            last: mem::replace(&mut self.last, Numbers::none(alloc)),
+        }
+    }
+
+    /// For each vertex of the game that was searched when it was settled, with its priority.
+    pub(crate) fn settled(self, game: &Game) -> Numbers {
+        let mut settled = self.last;
+        for v in 0..game.vertices() {
+            let time = settled.get(v as usize);
+            let priority = priority(game, v);
+            settled.set(v as usize, Settled { time, priority }.word());
+        }
+        settled
     }
 }
 
 impl Counts {
-    fn of(alloc: Global, game: &Game, player: Player, moments: &Moments) -> Self {
-        let counted = Counted::of(game, player, 1);
+    /// Those of a player at each moment, where there are so many of what was decided before.
+    pub(crate) fn of(
+        alloc: Global,
+        counted: Counted,
+        decided: [u32; PRIORITIES],
+        moments: &Moments,
+    ) -> Self {
         let width = counted.width().min(PRIORITIES);
-        let mut row = [0_u32; PRIORITIES];
+        let mut row = decided;
         let mut counts = Numbers::copied(alloc, &row[..width]);
         counts.make_room(moments.priorities.len().saturating_mul(width));
         for priority in moments.priorities.as_slice() {
-            count_up(&mut row[..width], counted.above(*priority));
+            counted.count_up(&mut row[..width], *priority);
             counts.extend(&row[..width]);
         }
         Counts { counted, counts }
     }
 
-    // Writes the rank of a vertex of this priority that was settled then.
-    fn put(&self, time: u32, priority: u8, rank: &mut [u32]) {
-        let from = (time as usize).saturating_mul(self.counted.width());
-        let kept = self.counted.kept(priority).min(rank.len());
+    // Writes the rank of a vertex. Of lesser priorities than its own the counts are those of what was decided before.
+    fn put(&self, settled: Settled, rank: &mut [u32]) {
+        let width = self.counted.width();
+        let from = (settled.time as usize).saturating_mul(width);
+        let kept = self.counted.kept(settled.priority).min(rank.len());
         for place in 0..kept {
             rank[place] = self.counts.get(from.saturating_add(place));
         }
-        for place in kept..rank.len() {
-            rank[place] = 0;
+        for place in kept..rank.len().min(width) {
+            rank[place] = self.counts.get(place);
         }
-    }
-}
-
-// Adds one to the counts from a place on.
-fn count_up(row: &mut [u32], from: usize) {
-    for place in from..row.len() {
-        row[place] = row[place].saturating_add(1);
     }
 }
 
 impl Timed {
-    pub(crate) fn of(alloc: Global, game: &Game, times: Times) -> Self {
-        Timed {
-            even: Counts::of(alloc, game, Player::Even, &times.moments),
-            odd: Counts::of(alloc, game, Player::Odd, &times.moments),
-            last: times.last,
+    /// Whether there was memory for all.
+    pub(crate) fn is_whole(&self) -> bool {
+        let counts_are_whole = self.even.counts.is_whole() && self.odd.counts.is_whole();
+        let rows_are_whole = self.settled.is_whole() && self.decided.is_whole();
+        counts_are_whole && rows_are_whole && self.places.is_whole()
+    }
+
+    /// Writes the rank of a vertex that the player wins.
+    pub(crate) fn put(&self, v: u32, player: Player, rank: &mut [u32]) {
+        let row = self.places.row(v) as usize;
+        if row < self.settled.len() {
+            let settled = Settled::of(self.settled.get(row));
+            self.counts(player).put(settled, rank);
+        } else {
+            self.decided
+                .put(row.saturating_sub(self.settled.len()), rank);
+        }
+        if player == Player::Odd {
+            self.decided.add_to_last(self.places.height(v), rank);
         }
     }
 
-    /// Whether there was memory for all.
-    pub(crate) fn is_whole(&self) -> bool {
-        self.last.is_whole() && self.even.counts.is_whole() && self.odd.counts.is_whole()
-    }
-
-    /// Writes the rank of a vertex of this priority that the player wins.
-    pub(crate) fn put(&self, v: u32, player: Player, priority: u8, rank: &mut [u32]) {
-        let time = self.last.get(v as usize);
+    fn counts(&self, player: Player) -> &Counts {
         match player {
-            Player::Even => self.even.put(time, priority, rank),
-            Player::Odd => self.odd.put(time, priority, rank),
+            Player::Even => &self.even,
+            Player::Odd => &self.odd,
         }
     }
 }

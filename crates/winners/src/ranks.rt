@@ -40,6 +40,16 @@ impl Counted {
         }
     }
 
+    /// Counts a vertex of this priority, or a greater one, for each that is not above it.
+    pub(crate) fn count_up(self, row: &mut [u32], priority: u32) {
+        let last = self.width().saturating_sub(1);
+        for place in self.above(priority)..row.len() {
+            let is_of_zeros = self.player == Player::Odd && place == last;
+            let more = if is_of_zeros { self.weight } else { 1 };
+            row[place] = row[place].saturating_add(more);
+        }
+    }
+
     /// How many there are.
     pub(crate) fn width(self) -> usize {
         match self.player {
@@ -48,8 +58,8 @@ impl Counted {
         }
     }
 
-    /// How many of them are above this one.
-    pub(crate) fn above(self, priority: u32) -> usize {
+    // How many of them are above this one.
+    fn above(self, priority: u32) -> usize {
         match u8::try_from(priority) {
             Ok(priority) => self.kept(priority.saturating_add(1)),
             Err(_) => 0,
@@ -124,11 +134,17 @@ impl Ranks {
     /// Adds those of a player's vertices, which stand in two lists. Of a priority that is not less than the vertex's own the count is of
     /// the vertices that have it, up to this one; of a lesser one it is zero, and in the other list that of all of the first.
     pub(crate) fn add(&mut self, counted: Counted, first: Listed, other: Listed) {
+        let all = self.add_first(counted, first);
+        let mut counts = all;
+        self.add_all(counted, other, &all, &mut counts);
+    }
+
+    /// Adds those of the first list alone, and tells the counts at its end.
+    pub(crate) fn add_first(&mut self, counted: Counted, first: Listed) -> [u32; PRIORITIES] {
         let mut counts = [0_u32; PRIORITIES];
         let none = [0_u32; PRIORITIES];
         self.add_all(counted, first, &none, &mut counts);
-        let all = counts;
-        self.add_all(counted, other, &all, &mut counts);
+        counts
     }
 
     /// Whether there was memory for all.

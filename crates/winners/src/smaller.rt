@@ -8,7 +8,7 @@ use crate::arena::{opponent, owner, priority, successors};
 use crate::cells::NONE;
 use crate::copies::{EVEN_END, FIRST_KEPT, Images, ODD_END};
 use crate::decided::{Decided, Outcome, Won};
-use crate::numbers::Numbers;
+use crate::places::Places;
 use crate::ranks::{Listed, Rows};
 use crate::winning::Winners;
 use game::graph::{Game, GameBuilder};
@@ -159,8 +159,8 @@ impl<'g> Smaller<'g> {
         NONE
     }
 
-    /// What is decided for a player, in an order. Its rows come after those of this game's vertices, Even's first.
-    pub(crate) fn decided(&self, player: Player) -> Listed<'_> {
+    /// What is decided for a player, in an order. Its rows come after so many others, Even's first.
+    pub(crate) fn decided(&self, player: Player, after: usize) -> Listed<'_> {
         let first = match player {
             Player::Even => 0,
             Player::Odd => self.won.list(Player::Even).len(),
@@ -168,14 +168,17 @@ impl<'g> Smaller<'g> {
         Listed {
             game: self.whole,
             order: self.won.list(player),
-            rows: Rows::From(first.saturating_add(self.game.vertices() as usize)),
+            rows: Rows::From(first.saturating_add(after)),
         }
     }
 
     /// For how many a vertex of priority 0 counts: one more than the greatest height. `None` where counts become too great so.
     pub(crate) fn weight(&self, found: &Winners) -> Option<u32> {
         let weight = self.greatest_height(found).saturating_add(1);
-        let all = self.lost_zeros(found).saturating_add(1);
+        let all = self
+            .lost_zeros(found)
+            .saturating_add(found.moments())
+            .saturating_add(1);
         if all.saturating_mul(u64::from(weight)) <= GREATEST_COUNT {
             Some(weight)
         } else {
@@ -196,7 +199,7 @@ impl<'g> Smaller<'g> {
 
     // How many vertices of priority 0 Odd wins that are no copies.
     fn lost_zeros(&self, found: &Winners) -> u64 {
-        let mut count = self.decided(Player::Odd).zeros();
+        let mut count = self.decided(Player::Odd, 0).zeros();
         for v in FIRST_KEPT..self.game.vertices() {
             if found.player(v) == Player::Odd && priority(&self.game, v) == 0 {
                 count = count.saturating_add(1);
@@ -205,9 +208,8 @@ impl<'g> Smaller<'g> {
         count
     }
 
-    /// For each vertex of the whole game its row of ranks: that of its image, or of its own if it was decided. And how far it stands above
-    /// its image.
-    pub(crate) fn rows(self) -> (Numbers, Numbers) {
+    /// Where the ranks of the whole game's vertices stand: those of what is decided after those of this game.
+    pub(crate) fn places(self) -> Places {
         let Smaller {
             won,
             images,
@@ -226,6 +228,9 @@ impl<'g> Smaller<'g> {
                 row = row.saturating_add(1);
             }
         }
-        (numbers, heights)
+        Places {
+            rows: numbers,
+            heights,
+        }
     }
 }

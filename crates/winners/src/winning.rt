@@ -47,6 +47,14 @@ impl Winners {
         }
     }
 
+    /// How many moments have passed, where they were noted.
+    pub(crate) fn moments(&self) -> u64 {
+        match &self.times {
+            Some(times) => u64::from(times.moments.now()),
+            None => 0,
+        }
+    }
+
     pub(crate) fn player(&self, v: u32) -> Player {
         self.players
             .get(v as usize)
