@@ -18,14 +18,14 @@ use tables::packed::PackedBoard;
 use workers::gate::Gate;
 use workers::solving::solve_from;
 
-// The first three vertices are one worker's own, of which the first reads the fourth. That rises at its turn, the first one of another worker. The
-// fifth has its turn after that.
+// The first three vertices are one worker's own, of which the first reads the fourth. That rises once, at its turn, the first one of another worker.
+// The fifth has its turn after that.
 const ROWS: [Row; 6] = [
     (Player::Even, 0, &[READ]),
     (Player::Even, 0, &[1]),
     (Player::Even, 0, &[2]),
     (Player::Even, 1, &[AFTER]),
-    (Player::Even, 1, &[5]),
+    (Player::Even, 0, &[5]),
     (Player::Even, 0, &[5]),
 ];
 
