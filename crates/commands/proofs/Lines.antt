@@ -1,18 +1,22 @@
 -- The lines of the winners.
-use Rattle.std.proofs.Common.{◌≡◌, ◌+◌, ◌<◌, ◌≤◌, ℕ, Bool, false, List, [], ◌++◌, length, drop, get_or, decimal, refl, sym, ap, ◌∙◌, append_assoc, add-one}
-use Rattle.std.proofs.Math.Seq.{drop-cons}
-use Rattle.std.proofs.Math.ListN.{drop_of_length-le}
-use Rattle.commands.specs.Winners.{even_or_odd, winner_lines}
+use Rattle.std.proofs.Common.{◌≡◌, ◌+◌, ℕ, suc, Bool, List, [], ◌∷◌, ◌++◌, Some, length, decimal, refl, sym, ap, ap₂, subst, ◌∙◌, append_assoc, arith}
+use Rattle.std.specs.Prelude.{slice_get}
+use Rattle.text.specs.Wrote.{lines_from}
+use Rattle.commands.specs.Winners.{even_or_odd, line_at, winner_line, winner_lines}
 
--- the lines from a vertex on begin with that vertex's
-pub next_line : (marks : List Bool) (v : ℕ) → v < length marks
-    → winner_lines v (drop v marks) ≡ (decimal v ++ even_or_odd (get_or marks v false)) ++ winner_lines (v + 1) (drop (v + 1) marks)
-next_line marks v h =
-    let mark = even_or_odd (get_or marks v false) in
-    let rest = winner_lines (v + 1) (drop (v + 1) marks) in
-    let first : winner_lines v (drop v marks) ≡ decimal v ++ (mark ++ rest) = rw (drop-cons marks v false, add-one v) refl in
-    first ∙ sym (append_assoc (decimal v) mark rest)
+-- Where the line of each number is that of the mark there, the lines are those of the marks.
+lines_of : (line : ℕ → List ℕ) (v : ℕ) (marks : List Bool)
+    → ((i : ℕ) (mark : Bool) → slice_get marks i ≡ Some mark → line (v + i) ≡ decimal (v + i) ++ even_or_odd mark)
+    → lines_from line v (length marks) ≡ winner_lines v marks
+lines_of line v [] each = refl
+lines_of line v (mark ∷ marks) each =
+    let none_more : v + 0 ≡ v = omega arith in
+    let one_more : (i : ℕ) → v + suc i ≡ (v + 1) + i = λ i. omega arith in
+    let rest = lines_of line (v + 1) marks (λ i m h. subst (λ n. line n ≡ decimal n ++ even_or_odd m) (one_more i) (each (suc i) m h)) in
+    let first = subst (λ n. line n ≡ decimal n ++ even_or_odd mark) none_more (each 0 mark refl) in
+    ap₂ (λ a b. a ++ b) first rest ∙ append_assoc (decimal v) (even_or_odd mark) (winner_lines (v + 1) marks)
 
--- past the last vertex no lines are left
-pub no_lines : (marks : List Bool) (v : ℕ) → length marks ≤ v → winner_lines v (drop v marks) ≡ []
-no_lines marks v h = ap (winner_lines v) (drop_of_length-le marks h)
+-- the lines by number are all of them
+pub all_lines : (marks : List Bool) → lines_from (line_at marks) 0 (length marks) ≡ winner_lines 0 marks
+all_lines marks = lines_of (line_at marks) 0 marks
+    (λ i mark h. (let same : 0 + i ≡ i = omega arith in ap (line_at marks) same ∙ (ap (winner_line i) h ∙ ap (λ n. decimal n ++ even_or_odd mark) (sym same))))

@@ -113,9 +113,9 @@ solved_of board text g marks writers (Err fault) r is fits exact written e =
     (record { g = g; marks = marks; game = is; fits = fits; exact = exact; begun = written })
 
 -- who wins is written alone
-pub winners_put : (g : Game) (marks : List Bool) (text : List ℕ) (old new : Taken) (r : Result Unit WriteFault) → text ≡ winners_text marks
-    → Wrote old new r text → AreWritten (IsTextOf g marks) (report_writer Whole old new) r
-winners_put g marks text old new r is wrote = one_text (IsTextOf g marks) (lent_for (ReportText Whole) old new) r text is wrote
+pub winners_put : (g : Game) (marks : List Bool) (old new : Taken) (r : Result Unit WriteFault) → Wrote old new r (winners_text marks)
+    → AreWritten (IsTextOf g marks) (report_writer Whole old new) r
+winners_put g marks old new r wrote = one_text (IsTextOf g marks) (lent_for (ReportText Whole) old new) r (winners_text marks) refl wrote
 
 -- ------------------------------------------------------------------ with evidence
 

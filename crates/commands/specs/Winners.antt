@@ -1,5 +1,5 @@
 -- Who wins each vertex of a game, and what is written of it.
-use Rattle.std.specs.Prelude.{◌≡◌, ◌↔◌, ℕ, ◌+◌, ◌<◌, Bool, List, [], ◌∷◌, ◌++◌, length, count_by, codes, decimal, if◌then◌else◌}
+use Rattle.std.specs.Prelude.{◌≡◌, ◌↔◌, ℕ, ◌+◌, ◌<◌, Bool, List, [], ◌∷◌, ◌++◌, Option, Some, None, length, count_by, codes, decimal, if◌then◌else◌, slice_get}
 use Rattle.lts.specs.Canon.{line_end}
 use Rattle.calculus.specs.Meaning.{marked}
 use Rattle.game.specs.Game.{Game}
@@ -18,6 +18,14 @@ sizes_text vertices even = codes "vertices " ++ (decimal vertices ++ (line_end +
 -- the end of a line that tells who wins
 abbrev pub even_or_odd : Bool → List ℕ
 even_or_odd mark = (if mark then codes " even" else codes " odd") ++ line_end
+
+-- the line of a vertex with this mark
+abbrev pub winner_line : ℕ → Option Bool → List ℕ
+winner_line v (Some mark) = decimal v ++ even_or_odd mark
+winner_line v None = []
+
+abbrev pub line_at : List Bool → ℕ → List ℕ
+line_at marks v = winner_line v (slice_get marks v)
 
 -- a line for each vertex from v on
 abbrev pub winner_lines : ℕ → List Bool → List ℕ

@@ -1,6 +1,6 @@
 // The engine of the command `solve`.
 
-ghost use Rattle.std.specs.Prelude.{◌≡◌, ℕ, Bool, IfErr, false, true, List, Option, Some, Ok, Err, MatchResult};
+ghost use Rattle.std.specs.Prelude.{◌≡◌, ℕ, IfErr, false, true, List, Option, Some, Ok, Err, MatchResult};
 ghost use Rattle.std.specs.Arc.{arc_value};
 ghost use Rattle.std.specs.Option.{is_some};
 ghost use Rattle.certify.specs.Pair.{AreFull};
@@ -12,15 +12,15 @@ ghost use Rattle.text.specs.Cause.{HasCause};
 ghost use Rattle.commands.specs.Causes.{game_unread};
 ghost use Rattle.commands.specs.Spelled.{IsGameOf};
 ghost use Rattle.commands.specs.Solves.{Answers, IsTextOf, Solves, solve_writers};
-ghost use Rattle.commands.specs.Winners.{AreWinners, winners_text as text_of};
+ghost use Rattle.commands.specs.Winners.{AreWinners};
 ghost use Rattle.game.specs.Game.{Game};
 
 use crate::solution::{evidence_by, winners_by};
-use crate::winner_text::{even_marks, winners_text};
+use crate::winner_text::{even_marks, write_winners};
 use certify::pair::EvidencePair;
 use evidence::writer::write_evidence;
 use game::graph::Game;
-use lts::{WriteFault, put};
+use lts::WriteFault;
 use measures::observer::{Observer, Silent, Stage};
 use pgsolver::read_game;
 use requests::error::MuError;
@@ -155,26 +155,20 @@ fn solve_and_write<
     match winners_by(rt, alloc, game, options, observer) {
         Ok(marks) => {
             observer.sees(Stage::Writing);
-            write_winners(alloc, game, &marks, out)
+            put_winners(game, &marks, out)
         }
         Err(error) => Err(error),
     }
 }
 
 /// Writes who wins each vertex.
-fn write_winners<W: Sink>(
-    alloc: Global,
-    game: &Game,
-    marks: &[bool],
-    out: &mut W,
-) -> Result<bool, MuError>
+fn put_winners<W: Sink>(game: &Game, marks: &[bool], out: &mut W) -> Result<bool, MuError>
     requires { AreWinners game.now marks.now }
     ensures answers { (board : BoardKind) (text : List ℕ) → IsGameOf text game.now → IsFitting (Some board) game.now
         → Answers board text (report_writer Whole (W.taken out.old) (W.taken out.new)) result }
     ensures cause { IfErr result (HasCause false game_unread) }
 {
-    let text = winners_text(alloc, marks)?;
-    answer(put(out, &text))
+    answer(write_winners(marks, out))
 }
 
 /// Makes evidence of all that each player wins, and writes both texts of it and who wins each vertex.
@@ -222,24 +216,23 @@ fn write_all<E: Sink, O: Sink, W: Sink>(
     ensures cause { IfErr result (HasCause false game_unread) }
 {
     let marks = even_marks(alloc, game, &pair.even)?;
-    let text = winners_text(alloc, &marks)?;
-    answer(put_all(pair, &text, even, odd, out))
+    answer(put_all(pair, &marks, even, odd, out))
 }
 
 /// Writes the three texts, one after another.
 fn put_all<E: Sink, O: Sink, W: Sink>(
     pair: &EvidencePair,
-    text: &[u8],
+    marks: &[bool],
     even: &mut E,
     odd: &mut O,
     out: &mut W,
 ) -> Result<(), WriteFault>
-    ensures { (g : Game) (marks : List Bool) → AreFull g pair.now → text.now ≡ text_of marks → AreWritten (IsTextOf g marks) (solve_writers true
+    ensures { (g : Game) → AreFull g pair.now → AreWritten (IsTextOf g marks.now) (solve_writers true
         (E.taken even.old) (E.taken even.new) (O.taken odd.old) (O.taken odd.new) (W.taken out.old) (W.taken out.new)) result }
 {
     write_evidence(&pair.even, even)?;
     write_evidence(&pair.odd, odd)?;
-    put(out, text)
+    write_winners(marks, out)
 }
 
 /// True, where all was written.

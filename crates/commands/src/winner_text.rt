@@ -20,6 +20,7 @@ use measures::table::Settled;
 use requests::error::MuError;
 use std::alloc::{AllocError, Global};
 use std::thread::Threads;
+use text::batch::{Lines, put_lines};
 use text::sink::Sink;
 
 /// A mark for each vertex of a solved game, true where Even wins it.
@@ -89,23 +90,11 @@ fn marks_of(alloc: Global, game: &Game, settled: &Settled) -> Result<Vec<bool>, 
     Ok(marks)
 }
 
-/// The text of the marks: how many vertices there are, how many of them Even wins, and a line for each.
+/// Writes how many vertices there are, how many of them Even wins, and a line for each.
 ///
 /// # Errors
-/// U4.
-pub(crate) fn winners_text(alloc: Global, marks: &[bool]) -> Result<Vec<u8>, MuError>
-    ensures text { IfOk result (λ text. text.items ≡ text_of marks.now) }
-    ensures refusal { IfErr result (λ e. e ≡ MuError.Memory) }
-{
-    let mut text = Vec::new(alloc);
-    // A vector refuses what there is no memory for, and nothing else.
-    match write_winners(marks, &mut text) {
-        Ok(()) => Ok(text),
-        Err(WriteFault) => Err(MuError::Memory),
-    }
-}
-
-fn write_winners<W: Sink>(marks: &[bool], out: &mut W) -> Result<(), WriteFault>
+/// After a fault the writer holds a beginning of that.
+pub(crate) fn write_winners<W: Sink>(marks: &[bool], out: &mut W) -> Result<(), WriteFault>
     ensures { Wrote (W.taken out.old) (W.taken out.new) result (text_of marks.now) }
 {
     write_sizes(marks, out)?;
@@ -127,13 +116,33 @@ fn write_sizes<W: Sink>(marks: &[bool], out: &mut W) -> Result<(), WriteFault>
     )
 }
 
+// A line for each mark.
+#[derive(Clone, Copy)]
+struct WinnerLines<'a> {
+    marks: &'a [bool],
+}
+
+impl Lines for WinnerLines<'_> {
+    ghost use Rattle.std.specs.Prelude.{length};
+    ghost use Rattle.commands.specs.Winners.{line_at};
+
+    ghost count = { λ lines. length lines.marks.now };
+
+    ghost line = { λ lines v. line_at lines.marks.now v };
+
+    fn count(&self) -> usize {
+        self.marks.len()
+    }
+
+    fn put_line<W: Sink>(&self, number: usize, writer: &mut W) -> Result<(), WriteFault> {
+        write_line(number, self.marks[number], writer)
+    }
+}
+
 fn write_lines<W: Sink>(marks: &[bool], out: &mut W) -> Result<(), WriteFault>
     ensures { Wrote (W.taken out.old) (W.taken out.new) result (winner_lines 0 marks.now) }
 {
-    for (v, mark) in marks.iter().enumerate() {
-        write_line(v, *mark, out)?;
-    }
-    Ok(())
+    put_lines(&WinnerLines { marks }, out)
 }
 
 fn write_line<W: Sink>(v: usize, mark: bool, out: &mut W) -> Result<(), WriteFault>
@@ -141,7 +150,7 @@ fn write_line<W: Sink>(v: usize, mark: bool, out: &mut W) -> Result<(), WriteFau
 {
     put_pieces(
         out,
-        &[Piece::Number(v as u64), Piece::Bytes(winner_line(mark))],
+        &[Piece::Number(v as u64), Piece::Bytes(end_of_line(mark))],
     )
 }
 
@@ -153,7 +162,7 @@ fn count_marked(marks: &[bool]) -> usize
 }
 
 /// The end of a line that tells who wins.
-fn winner_line(mark: bool) -> &'static [u8]
+fn end_of_line(mark: bool) -> &'static [u8]
     ensures { result.now ≡ even_or_odd mark }
 {
     if mark { b" even\n" } else { b" odd\n" }

@@ -8,4 +8,4 @@ pub returns-in-Ok-clause-answers : goal.returns-in-Ok-clause-answers
 returns-in-Ok-clause-answers g c = λ text is.
     let board = c.args.options.now.board in
     let fits = subst (IsFitting (Some board)) (sym c.deref.ensures) c.in-Ok.ensures.board in
-    c.write_winners.ensures.answers board text (subst (IsGameOf text) (sym c.deref.ensures) is) fits
+    c.put_winners.ensures.answers board text (subst (IsGameOf text) (sym c.deref.ensures) is) fits
