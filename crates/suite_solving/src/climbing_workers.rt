@@ -169,8 +169,8 @@ fn push_branch(builder: &mut GameBuilder, vertices: u32, v: u32) -> Result<(), A
     }
 }
 
-// A worker's own vertices have their first turns by nobody else. Each vertex rises once, so there are less than two turns for each, and
-// a quarter of all first turns is more than a tenth of all turns.
+// Each worker has a turn at each of its own vertices. Each vertex rises once, so there are about two turns for each: where a block is given again
+// while somebody goes through it, two may come to a vertex at the same time. So a quarter of the vertices is more than a tenth of all turns.
 #[test]
 fn what_rises_once_is_shared(rt: HostRuntime) {
     let mut builder = GameBuilder::new(rt.alloc());
@@ -183,7 +183,7 @@ fn what_rises_once_is_shared(rt: HostRuntime) {
         let turns = Turns::new();
         lifted_over_words(&rt, &game, workers, &turns);
         let all = turns.all();
-        assert!(rt; all >= 100_000 && all < 200_000, "{all}");
+        assert!(rt; all >= 100_000 && all < 220_000, "{all}");
         assert!(rt; are_shared(&turns, workers), "{workers}");
     }
 }
