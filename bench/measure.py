@@ -12,7 +12,7 @@ from select import select
 from time import monotonic, perf_counter
 
 SHORTEST_RUN = 0.5
-MOST_TURNS, SECONDS_OF_TURNS = 5, 2
+MOST_TURNS, SECONDS_OF_TURNS = 12, 3
 YES, NO = 0, 1
 KIB = 1024
 

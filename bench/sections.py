@@ -215,7 +215,7 @@ def shared_row(title: str, words: tuple[str | Path, ...], reading: Run | None, b
     some = stopwatch.run(*words, "--workers", WORKERS)
     many = stopwatch.run(*words, "--workers", MANY_WORKERS)
     locked = stopwatch.run(*words, "--workers", WORKERS, "--board", "locked", "--shards", MOST_SHARDS)
-    one, some, many, locked = stopwatch.least(one, some, many, locked)
+    reading, one, some, many, locked = stopwatch.least(reading, one, some, many, locked)
     cells = [cell for run in (one, some) for cell in (tables.seconds(run), tables.memory(run))]
     ratios = [tables.ratio(one, some), tables.ratio_past(one, some, reading), tables.ratio(many, some), tables.ratio(locked, some)]
     return [title, tables.seconds(reading), *cells, tables.seconds(many), tables.seconds(locked), *ratios, tables.memory_ratio(some, one)]
