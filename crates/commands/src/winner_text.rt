@@ -14,7 +14,7 @@ use game::graph::Game;
 use game::player::Player;
 use gauge::Gauge;
 use laws::games::{not_both_win, one_wins};
-use lts::{Piece, WriteFault, put_pieces};
+use lts::{Piece, WriteFault, put, put_number, put_pieces};
 use measures::settle::even_wins;
 use measures::table::Settled;
 use requests::error::MuError;
@@ -148,10 +148,8 @@ fn write_lines<W: Sink>(marks: &[bool], out: &mut W) -> Result<(), WriteFault>
 fn write_line<W: Sink>(v: usize, mark: bool, out: &mut W) -> Result<(), WriteFault>
     ensures { Wrote (W.taken out.old) (W.taken out.new) result (decimal v ++ even_or_odd mark) }
 {
-    put_pieces(
-        out,
-        &[Piece::Number(v as u64), Piece::Bytes(end_of_line(mark))],
-    )
+    put_number(out, b"", v as u64)?;
+    put(out, end_of_line(mark))
 }
 
 /// How many are marked.

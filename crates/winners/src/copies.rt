@@ -240,6 +240,7 @@ impl Images {
             outcomes,
             moves,
             won,
+            ..
         } = decided;
         let mut links = Links::of_decided(alloc, game, &outcomes, moves);
         links.find_all();

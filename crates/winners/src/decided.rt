@@ -51,6 +51,8 @@ pub(crate) struct Decided<'g> {
     /// Where its owner goes on from a vertex that it wins, or `NONE`.
     pub(crate) moves: Numbers,
     pub(crate) won: Won,
+    /// How many of those that the last sweep left open lead to one vertex alone and have priority 0: copies at the first look.
+    pub(crate) copies: usize,
 }
 
 impl Won {
@@ -91,6 +93,7 @@ impl<'g> Decided<'g> {
                 even: Numbers::none(alloc),
                 odd: Numbers::none(alloc),
             },
+            copies: 0,
         };
         decided.sweep_all();
         decided.whole()
@@ -115,6 +118,7 @@ impl<'g> Decided<'g> {
     // Looks at all vertices. The answer is whether many were decided.
     fn sweep_up(&mut self) -> bool {
         let before = self.won.len();
+        self.copies = 0;
         for v in 0..self.game.vertices() {
             self.look_at(v);
         }
@@ -124,6 +128,7 @@ impl<'g> Decided<'g> {
     // The same, the last first.
     fn sweep_down(&mut self) -> bool {
         let before = self.won.len();
+        self.copies = 0;
         for v in (0..self.game.vertices()).rev() {
             self.look_at(v);
         }
@@ -158,8 +163,15 @@ impl<'g> Decided<'g> {
             match self.next_of(v, player) {
                 Some(NONE) => self.decide(v, opponent(player), NONE),
                 Some(next) => self.decide(v, player, next),
-                None => {}
+                None => self.leave(v),
             }
+        }
+    }
+
+    // Leaves a vertex open.
+    fn leave(&mut self, v: u32) {
+        if priority(self.game, v) == 0 && successors(self.game, v).len() == 1 {
+            self.copies = self.copies.saturating_add(1);
         }
     }
 

@@ -157,7 +157,8 @@ impl<'g> Found<'g> {
         guessed.whole()
     }
 
-    // The counts of a player at each moment, after the ranks of what was decided for it, which are added.
+    // The counts of a player at each moment, after the ranks of what was decided for it, which are added. Of a player that wins nothing
+    // of what was searched none is asked for.
     fn counts(
         &self,
         alloc: Global,
@@ -167,6 +168,11 @@ impl<'g> Found<'g> {
     ) -> Counts {
         let counted = Counted::of(self.game, player, self.weight);
         let decided = ranks.add_first(counted, self.decided(player, 0));
+        let moments: &[u32] = if self.winners.wins_some(player) {
+            moments.priorities()
+        } else {
+            &[]
+        };
         Counts::of(alloc, counted, decided, moments)
     }
 

@@ -117,6 +117,9 @@ impl<'g> Justification<'g> {
 
     // Justifies the vertices of a priority, or turns some. The answer is the least priority to be looked at.
     fn justify_or_turn(&mut self, priority: u8) -> u8 {
+        if self.standings.is_idle(priority) {
+            return priority.saturating_add(1);
+        }
         let mut turned = mem::replace(&mut self.turned, Numbers::none(self.alloc));
         self.look(priority, &mut turned);
         self.is_whole &= turned.is_whole();
@@ -130,15 +133,12 @@ impl<'g> Justification<'g> {
         least
     }
 
-    // What each wins, if there is memory for it.
+    // What each wins, if there is memory for it. A vertex has a move here only where it is the winner's own.
     fn winners(&mut self) -> Option<Winners> {
-        let mut winners = Winners::none(self.alloc, self.arena.game);
-        for v in 0..self.arena.vertices() {
-            let next = self.moves.get(v as usize);
-            winners.add(self.arena.game, v, self.standings.player(v), next);
-        }
-        winners.times = Some(self.times.take(self.alloc));
-        winners.whole()
+        let players = self.standings.players(self.alloc)?;
+        let moves = mem::replace(&mut self.moves, Numbers::none(self.alloc));
+        let times = self.times.take(self.alloc);
+        Winners::timed(players, moves, times).whole()
     }
 
     // Looks at open vertices of a priority, the last first, and lists which turn.
@@ -156,18 +156,18 @@ impl<'g> Justification<'g> {
     }
 
     fn look_at(&mut self, v: u32, priority: u8, turned: &mut Numbers) {
-        let Standing { state, owner, .. } = self.standings.get(v);
-        if state != State::Open {
+        let standing = self.standings.get(v);
+        if standing.state != State::Open {
             return;
         }
-        let next = self.next_of(v, owner);
+        let next = self.next_of(v, standing.owner);
         self.moves.set(v as usize, next.unwrap_or(NONE));
         let player = match next {
-            Some(_) => owner,
-            None => opponent(owner),
+            Some(_) => standing.owner,
+            None => opponent(standing.owner),
         };
         if player == winner_by(priority) {
-            self.standings.push_calm(v, priority);
+            self.standings.calm(v, standing);
         } else {
             turned.push(v);
         }
@@ -175,28 +175,37 @@ impl<'g> Justification<'g> {
 
     // A successor of a player's.
     fn next_of(&mut self, v: u32, player: Player) -> Option<u32> {
-        self.meter.count_all(1);
-        for t in self.arena.successors(v) {
+        let successors = self.arena.successors(v);
+        let mut next = None;
+        let mut lost = 0_usize;
+        for t in successors {
             if self.standings.player(*t) == player {
-                return Some(*t);
+                next = Some(*t);
+                break;
             }
-            self.meter.count_all(1);
+            lost = lost.saturating_add(1);
         }
-        None
+        self.meter.count(lost);
+        next
     }
 
     fn justify(&mut self, priority: u8) {
         let now = self.times.moments.now();
         for _ in 0..u32::MAX {
             match self.standings.pop_calm(priority) {
-                Some(v) if self.standings.state(v) == State::Calm => {
-                    self.standings.set_state(v, State::Justified);
-                    self.times.last.set(v as usize, now);
-                    self.meter.count_all(1);
-                }
-                Some(_) => {}
+                Some(v) => self.justify_at(v, now),
                 None => break,
             }
+        }
+    }
+
+    // Justifies a vertex, if it is still calm.
+    fn justify_at(&mut self, v: u32, now: u32) {
+        let standing = self.standings.get(v);
+        if standing.state == State::Calm {
+            self.standings.put(v, standing.at(State::Justified));
+            self.times.last.set(v as usize, now);
+            self.meter.count_all(1);
         }
     }
 
@@ -208,8 +217,8 @@ impl<'g> Justification<'g> {
         let now = self.times.moments.pass(priority);
         for v in turned {
             self.times.last.set(*v as usize, now);
-            self.standings.set_state(*v, State::Justified);
-            self.standings.set_player(*v, player);
+            let standing = self.standings.get(*v).at(State::Justified);
+            self.standings.put(*v, Standing { player, ..standing });
             let shaken = Shaken {
                 v: *v,
                 is_other: true,
@@ -240,13 +249,16 @@ impl<'g> Justification<'g> {
         self.meter.count(before.len());
         for u in before {
             let standing = self.standings.get(*u);
-            if standing.state == State::Justified && self.rests(*u, standing, shaken.v) {
-                let favoured = self.favour(*u, standing);
-                self.is_whole &= list.push(favoured).is_ok();
-            } else if standing.state != State::Calm || !shaken.is_other {
+            let player = if standing.state == State::Justified
+                && self.rests(*u, standing, shaken.v)
+            {
+                self.favour(*u, standing, list)
+            } else if standing.state == State::Calm && shaken.is_other {
+                standing.player
+            } else {
                 continue;
-            }
-            self.standings.open(*u, standing.priority);
+            };
+            self.standings.open(*u, Standing { player, ..standing });
             least = standing.priority.min(least);
         }
         least
@@ -257,13 +269,14 @@ impl<'g> Justification<'g> {
         standing.player != standing.owner || self.moves.get(u as usize) == v
     }
 
-    // Gives a vertex back to the player that its priority favours.
-    fn favour(&mut self, v: u32, standing: Standing) -> Shaken {
+    // Lists a vertex that goes back to the player that its priority favours, and tells which that is.
+    fn favour(&mut self, v: u32, standing: Standing, list: &mut Vec<Shaken>) -> Player {
         let favoured = winner_by(standing.priority);
-        self.standings.set_player(v, favoured);
-        Shaken {
+        let shaken = Shaken {
             v,
             is_other: standing.player != favoured,
-        }
+        };
+        self.is_whole &= list.push(shaken).is_ok();
+        favoured
     }
 }

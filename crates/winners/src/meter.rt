@@ -30,6 +30,12 @@ const FAR_TIMES: u64 = 4;
 // Where threads share the work, they may look at each vertex so often.
 const SHARED_TIMES: u64 = 30;
 
+// One of so many vertices is in a sample.
+const SAMPLED: u32 = 16;
+
+// An odd number by which places are scattered.
+const SCATTER: u32 = 0x9E37_79B9;
+
 // A first try may always look so often.
 const LEAST_FIRST: u64 = 65_536;
 
@@ -42,6 +48,8 @@ pub(crate) struct Meter<'r> {
     looks: u64,
     budget: u64,
     late: u64,
+    // How many looks there will have been when they are shown next.
+    shown_next: u64,
     race: Option<&'r Race>,
     gauge: Option<&'r Gauge>,
 }
@@ -53,6 +61,7 @@ impl<'r> Meter<'r> {
             looks: 0,
             budget: size.saturating_mul(TIMES).saturating_add(LEAST_BUDGET),
             late: size.saturating_mul(LATE_TIMES),
+            shown_next: SHOWN_AT_ONCE,
             race: None,
             gauge: None,
         }
@@ -64,6 +73,7 @@ impl<'r> Meter<'r> {
             looks: 0,
             budget: LEAST_FIRST,
             late: LEAST_FIRST,
+            shown_next: SHOWN_AT_ONCE,
             race: None,
             gauge: None,
         }
@@ -76,6 +86,7 @@ impl<'r> Meter<'r> {
             looks: 0,
             budget: looks,
             late: looks,
+            shown_next: SHOWN_AT_ONCE,
             race: None,
             gauge: None,
         }
@@ -104,20 +115,19 @@ impl<'r> Meter<'r> {
 
     /// A vertex has been looked at, with so many edges.
     pub(crate) fn count(&mut self, edges: usize) {
-        self.count_all(edges);
-        self.count_all(1);
+        self.count_all(edges.saturating_add(1));
     }
 
     /// So many vertices have been looked at.
     pub(crate) fn count_all(&mut self, vertices: usize) {
-        let before = self.looks;
-        self.looks = before.saturating_add(vertices as u64);
-        if before / SHOWN_AT_ONCE != self.looks / SHOWN_AT_ONCE {
+        self.looks = self.looks.saturating_add(vertices as u64);
+        if self.looks >= self.shown_next {
             self.show();
         }
     }
 
-    fn show(&self) {
+    fn show(&mut self) {
+        self.shown_next = self.looks.saturating_add(SHOWN_AT_ONCE);
         if let Some(gauge) = self.gauge {
             gauge.put(self.looks);
         }
@@ -160,10 +170,11 @@ fn count_near(v: u32, successors: &[u32]) -> u64 {
     count
 }
 
-/// For each priority how many looks at its vertices a first try may take.
+/// For each priority how many looks at its vertices a first try may take, as a sample of the vertices tells.
 pub(crate) fn first_looks(arena: Arena) -> [u64; PRIORITIES] {
     let (mut looks, mut near) = ([0_u64; PRIORITIES], [0_u64; PRIORITIES]);
-    for v in 0..arena.vertices() {
+    for number in 0..arena.vertices() / SAMPLED {
+        let v = sampled(number);
         let successors = arena.successors(v);
         let count = count_near(v, successors);
         let far = (successors.len() as u64).saturating_sub(count);
@@ -175,9 +186,16 @@ pub(crate) fn first_looks(arena: Arena) -> [u64; PRIORITIES] {
     }
     let times = near_times(&looks);
     for place in 0..PRIORITIES {
-        looks[place] = looks[place].saturating_add(near[place].saturating_mul(times));
+        let all = looks[place].saturating_add(near[place].saturating_mul(times));
+        looks[place] = all.saturating_mul(u64::from(SAMPLED));
     }
     looks
+}
+
+// The one of so many vertices that stands for them in a sample: at no step that a game could have, too.
+fn sampled(number: u32) -> u32 {
+    let place = number.wrapping_mul(SCATTER).rotate_left(16) % SAMPLED;
+    number.saturating_mul(SAMPLED).saturating_add(place)
 }
 
 // How often a first try may look along an edge that leads nearby, where so many looks at all else fall to each priority.

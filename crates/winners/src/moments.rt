@@ -121,6 +121,11 @@ impl Moments {
         u32::try_from(self.priorities.len()).unwrap_or(u32::MAX)
     }
 
+    /// The priorities of all that have passed, in order.
+    pub(crate) fn priorities(&self) -> &[u32] {
+        self.priorities.as_slice()
+    }
+
     /// Whether each was noted.
     pub(crate) fn are_whole(&self) -> bool {
         self.are_few && self.priorities.is_whole()
@@ -162,13 +167,13 @@ impl Counts {
         alloc: Global,
         counted: Counted,
         decided: [u32; PRIORITIES],
-        moments: &Moments,
+        moments: &[u32],
     ) -> Self {
         let width = counted.width().min(PRIORITIES);
         let mut row = decided;
         let mut counts = Numbers::copied(alloc, &row[..width]);
-        counts.make_room(moments.priorities.len().saturating_mul(width));
-        for priority in moments.priorities.as_slice() {
+        counts.make_room(moments.len().saturating_mul(width));
+        for priority in moments {
             counted.count_up(&mut row[..width], *priority);
             counts.extend(&row[..width]);
         }

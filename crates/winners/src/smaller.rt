@@ -7,7 +7,7 @@
 use crate::arena::{opponent, owner, priority, successors};
 use crate::cells::NONE;
 use crate::copies::{EVEN_END, FIRST_KEPT, Images, ODD_END};
-use crate::decided::{Decided, Outcome, Won};
+use crate::decided::{Decided, Won};
 use crate::places::Places;
 use crate::ranks::{Listed, Rows};
 use crate::winning::Winners;
@@ -43,15 +43,9 @@ fn end_of(player: Player) -> u32 {
 
 // Whether enough vertices are decided, or copies at the first look.
 fn are_many(decided: &Decided) -> bool {
-    let game = decided.game;
-    let mut count = decided.won.len();
-    for v in 0..game.vertices() {
-        let is_open = decided.outcome(v) == Outcome::Open;
-        if is_open && priority(game, v) == 0 && successors(game, v).len() == 1 {
-            count = count.saturating_add(1);
-        }
-    }
-    count.saturating_mul(100) >= (game.vertices() as usize).saturating_mul(LEAST_PERCENT)
+    let count = decided.won.len().saturating_add(decided.copies);
+    let vertices = decided.game.vertices() as usize;
+    count.saturating_mul(100) >= vertices.saturating_mul(LEAST_PERCENT)
 }
 
 // Puts the images of a kept vertex's successors into the list, each once and ascending, but for what its owner has no need of: what is lost,

@@ -23,6 +23,13 @@ pub(crate) struct Standing {
     pub(crate) priority: u8,
 }
 
+impl Standing {
+    /// The same, come so far.
+    pub(crate) fn at(self, state: State) -> Self {
+        Standing { state, ..self }
+    }
+}
+
 // That of what is no vertex.
 const NOBODY: Standing = Standing {
     player: Player::Even,
@@ -62,16 +69,13 @@ impl Standings {
     fn open_all(&mut self, arena: Arena) {
         for v in 0..arena.vertices() {
             let priority = arena.priority(v);
-            let place = v as usize;
-            if place < self.list.len() {
-                self.list[place] = Standing {
-                    player: winner_by(priority),
-                    state: State::Open,
-                    owner: arena.owner(v),
-                    priority,
-                };
-            }
-            self.open(v, priority);
+            let standing = Standing {
+                player: winner_by(priority),
+                state: State::Open,
+                owner: arena.owner(v),
+                priority,
+            };
+            self.open(v, standing);
         }
     }
 
@@ -83,30 +87,37 @@ impl Standings {
         self.get(v).player
     }
 
-    pub(crate) fn state(&self, v: u32) -> State {
-        self.get(v).state
+    /// The players of all vertices. `None` for want of memory.
+    pub(crate) fn players(&self, alloc: Global) -> Option<Vec<Player>> {
+        let mut players = Vec::with_capacity(alloc, self.list.len()).ok()?;
+        for standing in &self.list {
+            players.push(standing.player).ok()?;
+        }
+        Some(players)
     }
 
-    pub(crate) fn set_player(&mut self, v: u32, player: Player) {
+    /// Writes what stands at a vertex.
+    pub(crate) fn put(&mut self, v: u32, standing: Standing) {
         let place = v as usize;
         if place < self.list.len() {
-            self.list[place].player = player;
+            self.list[place] = standing;
         }
     }
 
-    pub(crate) fn set_state(&mut self, v: u32, state: State) {
-        let place = v as usize;
-        if place < self.list.len() {
-            self.list[place].state = state;
-        }
-    }
-
-    /// A vertex of this priority is to be looked at.
-    pub(crate) fn open(&mut self, v: u32, priority: u8) {
-        self.set_state(v, State::Open);
-        let place = usize::from(priority);
+    /// A vertex is to be looked at. The rest stands there as it is given.
+    pub(crate) fn open(&mut self, v: u32, standing: Standing) {
+        self.put(v, standing.at(State::Open));
+        let place = usize::from(standing.priority);
         if place < self.layers.len() {
             self.are_whole &= self.layers[place].open.push(v).is_ok();
+        }
+    }
+
+    /// Whether no vertex of this priority is open or calm.
+    pub(crate) fn is_idle(&self, priority: u8) -> bool {
+        match self.layers.get(usize::from(priority)) {
+            Some(layer) => layer.open.is_empty() && layer.calm.is_empty(),
+            None => true,
         }
     }
 
@@ -120,10 +131,10 @@ impl Standings {
         }
     }
 
-    /// A vertex of this priority is calm.
-    pub(crate) fn push_calm(&mut self, v: u32, priority: u8) {
-        self.set_state(v, State::Calm);
-        let place = usize::from(priority);
+    /// A vertex is calm. The rest stands there as it is given.
+    pub(crate) fn calm(&mut self, v: u32, standing: Standing) {
+        self.put(v, standing.at(State::Calm));
+        let place = usize::from(standing.priority);
         if place < self.layers.len() {
             self.are_whole &= self.layers[place].calm.push(v).is_ok();
         }

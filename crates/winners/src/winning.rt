@@ -31,6 +31,16 @@ impl Winners {
         }
     }
 
+    /// All vertices, with their winners, the moves at those that are the winners' own, and when the search came to them.
+    pub(crate) fn timed(players: Vec<Player>, moves: Numbers, times: Times) -> Self {
+        Winners {
+            players,
+            moves,
+            is_whole: true,
+            times: Some(times),
+        }
+    }
+
     /// The next vertex, its winner, and the move that it has if it is the winner's own.
     pub(crate) fn add(&mut self, game: &Game, v: u32, player: Player, next: u32) {
         self.is_whole &= self.players.push(player).is_ok();
@@ -45,6 +55,11 @@ impl Winners {
         } else {
             None
         }
+    }
+
+    /// Whether the player wins any vertex.
+    pub(crate) fn wins_some(&self, player: Player) -> bool {
+        self.players.iter().any(|it| *it == player)
     }
 
     /// How many moments have passed, where they were noted.
