@@ -5,7 +5,7 @@ use Rattle.systems.specs.System.{System, IsSystem}
 use Rattle.calculus.specs.Tree.{Formula, Mu, Nu}
 use Rattle.calculus.specs.Admitted.{Scope}
 use Rattle.calculus.specs.Meaning.{Env, with_set, iterate, mean}
-use Rattle.calculus.specs.FixpointLaws.{told, body, IsBody, MeaningIsDecided, BodyIsMonotone, IteratesReach, MuIsLeast, NuIsGreatest}
+use Rattle.calculus.specs.FixpointLaws.{told_by_tests, body, IsBody, MeaningIsDecided, BodyIsMonotone, IteratesReach, MuIsLeast, NuIsGreatest}
 use Rattle.calculus.proofs.Fixpoints.{IsDecided, IsWithin, upward, downward, in_closed, has_kept, low_closed, high_kept, low_reached, high_reached}
 use Rattle.calculus.proofs.Grown.{inner_grows, grown}
 use Rattle.calculus.proofs.Decided.{Told, with_told, mean_decided}
@@ -46,26 +46,26 @@ module _ (l : System) (ok : IsSystem l) (scope : Scope) (name : List ℕ) (f : F
   pub nu_greatest : (U : ℕ → Type 0) → IsWithin l.states U (body l f e name U) → IsWithin l.states U (mean l (Nu name f) e)
   nu_greatest U kept = has_kept l.states (body l f e name) body_grows U kept l.states
 
-told_by : (l : System) (ok : IsSystem l) (tests : List ℕ → ℕ → Bool) → Told l ok (told tests)
+told_by : (l : System) (ok : IsSystem l) (tests : List ℕ → ℕ → Bool) → Told l ok (told_by_tests tests)
 told_by l ok tests name = (tests name, λ s lt. (λ h. h, λ h. h))
 
 pub meaning_is_decided : MeaningIsDecided
-meaning_is_decided l f tests ok = mean_decided l ok f (told tests) (told_by l ok tests)
+meaning_is_decided l f tests ok = mean_decided l ok f (told_by_tests tests) (told_by l ok tests)
 
 pub body_is_monotone : BodyIsMonotone
-body_is_monotone l scope name f tests U V ok is_body uv = body_grows l ok scope name f is_body (told tests) (λ t. IsTrue (U t)) (λ t. IsTrue (V t)) uv
+body_is_monotone l scope name f tests U V ok is_body uv = body_grows l ok scope name f is_body (told_by_tests tests) (λ t. IsTrue (U t)) (λ t. IsTrue (V t)) uv
 
 pub iterates_reach : IteratesReach
-iterates_reach l scope name f tests k ok is_body le = reach l ok scope name f is_body (told tests) (told_by l ok tests) k le
+iterates_reach l scope name f tests k ok is_body le = reach l ok scope name f is_body (told_by_tests tests) (told_by l ok tests) k le
 
 pub mu_is_least : MuIsLeast
 mu_is_least l scope name f tests ok is_body = (
-  mu_fixed l ok scope name f is_body (told tests) (told_by l ok tests),
-  λ U closed. mu_least l ok scope name f is_body (told tests) (λ t. IsTrue (U t)) closed,
+  mu_fixed l ok scope name f is_body (told_by_tests tests) (told_by l ok tests),
+  λ U closed. mu_least l ok scope name f is_body (told_by_tests tests) (λ t. IsTrue (U t)) closed,
 )
 
 pub nu_is_greatest : NuIsGreatest
 nu_is_greatest l scope name f tests ok is_body = (
-  nu_fixed l ok scope name f is_body (told tests) (told_by l ok tests),
-  λ U kept. nu_greatest l ok scope name f is_body (told tests) (λ t. IsTrue (U t)) kept,
+  nu_fixed l ok scope name f is_body (told_by_tests tests) (told_by l ok tests),
+  λ U kept. nu_greatest l ok scope name f is_body (told_by_tests tests) (λ t. IsTrue (U t)) kept,
 )

@@ -10,7 +10,7 @@ use Rattle.std.proofs.lemmas.List.Folds.{list_all-map}
 use Rattle.std.proofs.lemmas.Slice.Eq.{bytes_eq-Decides, slice_eq-Decides}
 use lib.Pointwise.{pointwise}
 use Rattle.systems.specs.Label.{texts}
-use Rattle.calculus.specs.Holds.{is_same_multiset, times}
+use Rattle.calculus.specs.Holds.{is_same_multiset, times_named}
 
 abbrev bytes_of : Vec ℕ → List ℕ
 bytes_of name = name.items
@@ -21,7 +21,7 @@ all_true p h (x ∷ xs) = rw (h x) (all_true p h xs)
 
 itself : (names : List (List ℕ)) → is_same_multiset names names ≡ true
 itself names = rw (eq-eqb (length names) (length names) refl)
-    (all_true (λ name. times name names == times name names) (λ name. eq-eqb (times name names) (times name names) refl) names)
+    (all_true (λ name. times_named name names == times_named name names) (λ name. eq-eqb (times_named name names) (times_named name names) refl) names)
 
 -- equal, name by name
 pub same_names : (read names : List (Vec ℕ)) (r : Bool) → r ≡ pointwise (λ x y. bytes_eq x.items y.items) read names → r ≡ true
@@ -33,8 +33,8 @@ same_names read names r is equal =
 
 -- as many, and each as often
 pub as_often : (read names : List (Vec ℕ)) (r : Bool) → length read ≡ length names
-    → r ≡ list_all (λ (name : Vec ℕ). times name.items (texts read) == times name.items (texts names)) names → r ≡ is_same_multiset (texts read) (texts names)
+    → r ≡ list_all (λ (name : Vec ℕ). times_named name.items (texts read) == times_named name.items (texts names)) names → r ≡ is_same_multiset (texts read) (texts names)
 as_often read names r long often =
     let long' = eq-eqb (length (texts read)) (length (texts names)) (length-map read bytes_of ∙ long ∙ sym (length-map names bytes_of)) in
-    let often' = often ∙ sym (list_all-map (λ name. times name (texts read) == times name (texts names)) bytes_of names) in
-    often' ∙ ap (λ b. b && list_all (λ name. times name (texts read) == times name (texts names)) (texts names)) (sym long')
+    let often' = often ∙ sym (list_all-map (λ name. times_named name (texts read) == times_named name (texts names)) bytes_of names) in
+    often' ∙ ap (λ b. b && list_all (λ name. times_named name (texts read) == times_named name (texts names)) (texts names)) (sym long')

@@ -21,10 +21,10 @@ use Rattle.invocation.specs.declared.request.Command.TheVariants.{Check, Explain
 use Rattle.invocation.specs.declared.request.Outputs.{Outputs}
 use Rattle.invocation.specs.Command.{IsComplete, IsForSome, IsPlainAlone, is_named}
 use Rattle.command_line.specs.CommandLine.{AreOutputs, IsCheck, IsCommand, IsFile, IsFileIfAny, IsNormal, IsNumberIfAny, IsNumberOf, IsNumberOr}
-use Rattle.command_table.specs.Table.{IsTable}
-use Rattle.command_line.specs.CommandLine.{IsReplay, IsSolve, IsVerify, IsWhy, answer_word, form_by, stands}
+use Rattle.command_table.specs.Table.{IsCommandTable}
+use Rattle.command_line.specs.CommandLine.{AsksReplay, IsSolve, IsVerify, IsWhy, answer_word, form_by, stands}
 use Rattle.invocation.specs.Refused.{IfArguments}
-use Rattle.command_line.specs.Refusals.{AsksForNone, HasNoForm, IsNoAnswer, IsUntaken}
+use Rattle.command_line.specs.Refusals.{AsksForNone, AsksNoForm, IsNoAnswer, IsUntaken}
 
 -- ------------------------------------------------------------------ refusals
 
@@ -49,7 +49,7 @@ holds_if P p (error.Arguments x) = p
 holds_if P p e = tt
 
 -- the table doesn't take the words, where memory isn't wanting
-pub is_untaken : (words : List Text) (app : App) → IsTable app → (e : MuError) → (takes app words ≡ true → e ≡ error.Memory)
+pub is_untaken : (words : List Text) (app : App) → IsCommandTable app → (e : MuError) → (takes app words ≡ true → e ≡ error.Memory)
     → IfArguments e (IsUntaken words)
 is_untaken words app table (error.Arguments x) wants = record { app = app; table = table; untaken = λ taken. let bad = wants taken in absurd (cc) }
 is_untaken words app table e wants = tt
@@ -112,7 +112,7 @@ only_verify rows none (Verify verify) is complete plain = none verify is.1 compl
 only_verify rows none command is complete plain =
     let other : key (codes "verify") ≡ key_of command = key_is (codes "verify") rows command is in absurd (omega arith)
 
-pub only_replay : (rows : List Row) → ((replay : ReplayRequest) → IsReplay rows replay → IsComplete (Replay replay) → ⊥) → AsksForNone (codes "replay") rows
+pub only_replay : (rows : List Row) → ((replay : ReplayRequest) → AsksReplay rows replay → IsComplete (Replay replay) → ⊥) → AsksForNone (codes "replay") rows
 only_replay rows none (Replay replay) is complete plain = none replay is.1 complete
 only_replay rows none command is complete plain =
     let other : key (codes "replay") ≡ key_of command = key_is (codes "replay") rows command is in absurd (omega arith)
@@ -218,7 +218,7 @@ limit_is_some true true (Some mark) (Some n) form by some = absurd (cc)
 -- where the options that stand are those of no form, no form is asked for
 pub no_form : (rows : List Row) (q s : Bool) (answer : Option Bool) (most : Option ℕ) → q ≡ stands rows (codes "quiet") → s ≡ stands rows (codes "summary")
     → first_of (codes "states") rows ≡ option_map answer_word answer → IsNumberIfAny rows (codes "limit") most → form_by q s answer most ≡ None
-    → HasNoForm rows
+    → AsksNoForm rows
 no_form rows q s answer most quiet summary states limit none form is some =
     let same_states : is.answer ≡ answer = same_answer is.answer answer (sym is.states ∙ states) in
     let same_limit : is.most ≡ most = same_found _ is.most most is.limit limit in

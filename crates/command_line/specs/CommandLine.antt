@@ -6,7 +6,7 @@ use Rattle.std.specs.Str.{bytes_eq}
 use Rattle.std.specs.Str.Parse.{IsNumeral, digits_value, without_leading_plus}
 use Rattle.clap.specs.Words.{App, Row, Text, all_of, first_of, one_of, subcommand_of, subcommand_rows_of}
 use Rattle.clap.specs.declared.parser.matches.ArgMatches.{ArgMatches}
-use Rattle.command_table.specs.Table.{IsTable}
+use Rattle.command_table.specs.Table.{IsCommandTable}
 use Rattle.normal.specs.declared.priorities.Priorities.{Priorities}
 use Rattle.normal.specs.declared.priorities.Priorities.TheVariants.{Dependent, Nested}
 use Rattle.workers.specs.declared.team.BoardKind.{BoardKind}
@@ -95,7 +95,7 @@ form_by true false None None = Some Nothing
 form_by _ _ _ _ = None
 
 -- the form of the report that is asked for
-pub record IsForm (rows : List Row) (form : ReportForm) : Type 0 where
+pub record IsReportForm (rows : List Row) (form : ReportForm) : Type 0 where
   pub answer : Option Bool
   pub most : Option ℕ
   pub states : first_of (codes "states") rows ≡ option_map answer_word answer
@@ -133,7 +133,7 @@ pub record AreOutputs (rows : List Row) (outputs : Outputs) : Type 0 where
   pub game : IsFileIfAny rows (codes "game") outputs.game
   pub evidence : IsFileIfAny rows (codes "evidence") outputs.evidence
   pub witness : IsFileIfAny rows (codes "witness") outputs.witness
-  pub report : IsForm rows outputs.report
+  pub report : IsReportForm rows outputs.report
   pub stats : outputs.stats ≡ stands rows (codes "stats")
 
 pub record IsNormal (rows : List Row) (form : Normalize) : Type 0 where
@@ -151,7 +151,7 @@ pub record IsVerify (rows : List Row) (verify : VerifyRequest) : Type 0 where
   pub evidence : IsFile rows (codes "EVIDENCE") verify.evidence
   pub other : IsFileIfAny rows (codes "OTHER") verify.other
 
-pub record IsReplay (rows : List Row) (replay : ReplayRequest) : Type 0 where
+pub record AsksReplay (rows : List Row) (replay : ReplayRequest) : Type 0 where
   pub system : IsFile rows (codes "SYSTEM") replay.system
   pub formula : IsFile rows (codes "FORMULA") replay.formula
   pub schedule : IsFile rows (codes "SCHEDULE") replay.schedule
@@ -165,7 +165,7 @@ IsCommand name rows (Table table) = (name ≡ codes "table") × IsTableRequest r
 IsCommand name rows (Normal form) = (name ≡ codes "normal") × IsNormal rows form
 IsCommand name rows (Solve solve) = (name ≡ codes "solve") × IsSolve rows solve
 IsCommand name rows (Verify verify) = (name ≡ codes "verify") × IsVerify rows verify
-IsCommand name rows (Replay replay) = (name ≡ codes "replay") × IsReplay rows replay
+IsCommand name rows (Replay replay) = (name ≡ codes "replay") × AsksReplay rows replay
 IsCommand name rows (Explain code) = (name ≡ codes "explain") × IsFile rows (codes "CODE") code
 IsCommand name rows (Help topic) = (name ≡ codes "help") × IsFileIfAny rows (codes "COMMAND") topic
 IsCommand name rows Version = name ≡ codes "version"
@@ -178,11 +178,11 @@ IsRead (Some named) command = IsCommand named.0 named.1 command
 -- these matches are what the program's table finds in the words
 pub record AreMatchesOf (words : List Text) (matches : ArgMatches) : Type 0 where
   pub app : App
-  pub table : IsTable app
+  pub table : IsCommandTable app
   pub rows : subcommand_rows_of matches ≡ subcommand_of app words
 
 -- The command is what the words ask for, read by the program's table: the first word is the program's own name.
 pub record IsAskedFor (words : List Text) (command : Command) : Type 0 where
   pub app : App
-  pub table : IsTable app
+  pub table : IsCommandTable app
   pub read : IsRead (subcommand_of app words) command

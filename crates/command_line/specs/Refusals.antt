@@ -7,8 +7,8 @@ use Rattle.requests.specs.declared.request.ReportForm.{ReportForm}
 use Rattle.invocation.specs.declared.request.Command.{Command}
 use Rattle.invocation.specs.declared.request.Outputs.{Outputs}
 use Rattle.invocation.specs.Command.{AreAllNamed, AreNamed, AreWithin, IsComplete, IsForSome, IsPlainAlone}
-use Rattle.command_line.specs.CommandLine.{AreFiles, AreOptions, AreOutputs, IsAskedFor, IsCommand, IsFile, IsFileIfAny, IsForm, IsNumberIfAny, IsNumberIn}
-use Rattle.command_table.specs.Table.{IsTable}
+use Rattle.command_line.specs.CommandLine.{AreFiles, AreOptions, AreOutputs, IsAskedFor, IsCommand, IsFile, IsFileIfAny, IsReportForm, IsNumberIfAny, IsNumberIn}
+use Rattle.command_table.specs.Table.{IsCommandTable}
 use Rattle.command_line.specs.CommandLine.{IsRead, answer_word}
 use Rattle.invocation.specs.Inputs.{ReadsItOnce}
 use Rattle.invocation.specs.Names.{KeepsFiles}
@@ -18,7 +18,7 @@ use Rattle.invocation.specs.Names.{KeepsFiles}
 -- The program's table doesn't take the words: they name no command, or don't fit its arguments, or they ask for help or for the version.
 pub record IsUntaken (words : List Text) : Type 0 where
   pub app : App
-  pub table : IsTable app
+  pub table : IsCommandTable app
   pub untaken : takes app words ≢ true
 
 -- what was read is no whole command: a file has no name, a number is outside of its limits, forms of the report stand together, or `--plain` beside
@@ -29,7 +29,7 @@ ReadsNone named = (command : Command) → IsRead named command → IsComplete co
 -- The words, as the program's table reads them, have no whole command.
 pub record HaveNoCommand (words : List Text) : Type 0 where
   pub app : App
-  pub table : IsTable app
+  pub table : IsCommandTable app
   pub none : ReadsNone (subcommand_of app words)
 
 -- The command that the words ask for would write to a file twice, or to one that it reads.
@@ -84,8 +84,8 @@ HasNoOptions rows = (options : Options) → AreOptions rows options → AreWithi
 abbrev pub IsNoAnswer : Option Text → Type 0
 IsNoAnswer word = (found : Option Bool) → word ≡ option_map answer_word found → ⊥
 
-abbrev pub HasNoForm : List Row → Type 0
-HasNoForm rows = (form : ReportForm) → IsForm rows form → IsForSome form → ⊥
+abbrev pub AsksNoForm : List Row → Type 0
+AsksNoForm rows = (form : ReportForm) → IsReportForm rows form → IsForSome form → ⊥
 
 abbrev pub HasNoOutputs : List Row → Type 0
 HasNoOutputs rows = (outputs : Outputs) → AreOutputs rows outputs → AreNamed outputs → IsForSome outputs.report → ⊥

@@ -15,7 +15,7 @@ ghost use Rattle.command_line.specs.CommandLine.{
   IsCommand,
   IsFile,
   IsFileIfAny,
-  IsForm,
+  IsReportForm,
   IsNumberIfAny,
   IsNumberIn,
   IsRead,
@@ -31,7 +31,7 @@ ghost use Rattle.invocation.specs.Refused.{IfArguments, IsLineError};
 ghost use Rattle.command_line.specs.Refusals.{
   AreUnnamed,
   AsksForNone,
-  HasNoForm,
+  AsksNoForm,
   HasNoNumber,
   HasNoNumberIfAny,
   HasNoOptions,
@@ -213,9 +213,9 @@ fn outputs<'a>(matches: &ArgMatches<'a>) -> Result<Outputs<'a>, ArgumentError>
 
 /// The form of the report that is asked for.
 fn report_form(matches: &ArgMatches<'_>) -> Result<ReportForm, ArgumentError>
-    ensures asked { IfOk result (IsForm (rows_of (found_of matches.now))) }
+    ensures asked { IfOk result (IsReportForm (rows_of (found_of matches.now))) }
     ensures some { IfOk result IsForSome }
-    ensures only { IfErr result (λ _. HasNoForm (rows_of (found_of matches.now))) }
+    ensures only { IfErr result (λ _. AsksNoForm (rows_of (found_of matches.now))) }
 {
     let quiet = has_value(matches, QUIET, "true");
     let summary = has_value(matches, SUMMARY, "true");

@@ -9,7 +9,7 @@ use Rattle.clap.specs.declared.builder.arg.Arg.{Arg}
 use Rattle.clap.specs.declared.builder.command.Command.{Command as Parser}
 use Rattle.clap.specs.declared.builder.range.ValueRange.{ValueRange}
 use Rattle.clap.specs.declared.builder.value_parser.ValueParser.{ValueParser}
-use Rattle.command_table.specs.Table.{IsTable}
+use Rattle.command_table.specs.Table.{IsCommandTable}
 use Rattle.command_table.specs.Parsers.{AddsRules, HasRule, ReadsBy, with_rules}
 
 -- ------------------------------------------------------------------ arguments
@@ -96,5 +96,5 @@ adds_command_if_ok (Ok o) (Err e) (Ok n) table command plain added below reads =
 adds_command_if_ok (Ok o) (Ok s) (Ok n) table command plain added below reads = adds_command o s n table command plain added below reads
 
 -- of the program's table the matches are told
-pub table_is_simple : (app : App) → IsTable app → is_simple app ≡ true
+pub table_is_simple : (app : App) → IsCommandTable app → is_simple app ≡ true
 table_is_simple app is = ap is_simple is.table

@@ -143,7 +143,7 @@ abbrev pub AreAnswers : Choice → Type 0
 AreAnswers choice = texts choice.now ≡ codes "yes" ∷ codes "no" ∷ []
 
 -- the program's table, wherever the names that are chosen from lie in memory
-pub record IsTable (app : App) : Type 0 where
+pub record IsCommandTable (app : App) : Type 0 where
   pub rules : Choice
   pub boards : Choice
   pub answers : Choice

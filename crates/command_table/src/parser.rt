@@ -3,7 +3,7 @@
 ghost use Rattle.std.specs.Prelude.{IfOk, IsOkAnd, codes};
 ghost use Rattle.clap.specs.Words.{AddsArg, AddsSubcommand, app_of, new_app};
 ghost use Rattle.command_table.specs.Table.{
-  IsTable,
+  IsCommandTable,
   board_rule,
   check_rules,
   evidence_rule,
@@ -237,7 +237,7 @@ const BOARD_HELP: &str =
 /// # Errors
 /// Memory was refused.
 pub fn parser<'a>(alloc: Global, version: &'a str) -> Result<Parser<'a>, AllocError>
-    ensures { IfOk result (λ parser. IsTable (app_of parser)) }
+    ensures { IfOk result (λ parser. IsCommandTable (app_of parser)) }
 {
     let rules = RULES.as_slice();
     let boards = BOARDS.as_slice();

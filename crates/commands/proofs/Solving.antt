@@ -13,7 +13,7 @@ use Rattle.evidence.specs.Best.{IsEvenOf, IsOddOf}
 use Rattle.evidence.specs.Canon.{evidence_text}
 use Rattle.evidence.specs.Evidence.{IsGood, has}
 use Rattle.evidence.specs.Laws.{WrittenIsAccepted}
-use Rattle.evidence.specs.View.{Piece}
+use Rattle.evidence.specs.View.{NamedEvidence}
 use Rattle.normal.specs.declared.limits.TheConstants.{GREATEST_PRIORITY}
 use Rattle.game.specs.Game.{Game, IsGame, greatest}
 use Rattle.game.specs.Wins.{OddWins, Wins}
@@ -23,9 +23,9 @@ use Rattle.requests.proofs.Orders.{one_text, stopped_at, unasked}
 use Rattle.requests.specs.declared.error.MuError.{MuError}
 use Rattle.requests.specs.declared.error.MuError.TheVariants as error
 use Rattle.requests.specs.declared.request.ReportForm.TheVariants.{Whole}
-use Rattle.requests.specs.Solver.{IsFitting, IsUnsolved}
+use Rattle.requests.specs.Solver.{FitsBoard, IsUnsolved}
 use Rattle.requests.specs.Writers.{EvenText, ReportText, Lent, IsLentFor, AreKept, AreWritten, lent_for, report_writer}
-use Rattle.commands.specs.Solves.{Answers, HasRefused, IsTextOf, IsUnproved, solve_writers}
+use Rattle.commands.specs.Solves.{AnswersSolve, RefusesSolve, IsSolveText, IsUnproved, solve_writers}
 use Rattle.commands.specs.Spelled.{IsGameOf}
 use Rattle.commands.specs.Winners.{AreWinners, winners_text}
 
@@ -35,7 +35,7 @@ kept_all evidence even odd out = (Stays-refl even, (Stays-refl odd, (Stays-refl 
 
 -- A game that isn't solved leaves the writers as they were.
 pub left_of : (board : BoardKind) (text : List ℕ) (g : Game) (writers : List Lent) (e : MuError) → IsGameOf text g → AreKept writers
-    → IsUnsolved (Some board) g e → HasRefused board text writers e
+    → IsUnsolved (Some board) g e → RefusesSolve board text writers e
 left_of board text g writers error.Memory is kept h = ((g, is), kept)
 left_of board text g writers (error.Table e) is kept h = (record { g = g; game = is; unsolved = h }, kept)
 left_of board text g writers (error.Solve e) is kept h = (record { g = g; game = is; unsolved = h }, kept)
@@ -54,21 +54,21 @@ left_of board text g writers (error.Write e) is kept h = absurd h
 
 -- The same where there is no evidence, which is asked for.
 pub unproved_of : (board : BoardKind) (text : List ℕ) (g : Game) (writers : List Lent) (e : MuError) → IsGameOf text g → AreKept writers
-    → IsLentFor EvenText writers → IsUnproved board g e → HasRefused board text writers e
+    → IsLentFor EvenText writers → IsUnproved board g e → RefusesSolve board text writers e
 unproved_of board text g writers e is kept asked (inl h) = left_of board text g writers e is kept h
 unproved_of board text g writers e is kept asked (inr (fits, memory)) =
-    subst (HasRefused board text writers) (sym memory) (record { g = g; game = is; fits = fits; asked = asked; memory = refl }, kept)
+    subst (RefusesSolve board text writers) (sym memory) (record { g = g; game = is; fits = fits; asked = asked; memory = refl }, kept)
 
 -- Beside the report's writer there are two from which nothing is asked.
 pub beside_report : (board : BoardKind) (text : List ℕ) (even odd old new : Taken) (r : Result Bool MuError)
-    → Answers board text (report_writer Whole old new) r → Answers board text (solve_writers false even even odd odd old new) r
+    → AnswersSolve board text (report_writer Whole old new) r → AnswersSolve board text (solve_writers false even even odd odd old new) r
 beside_report board text even odd old new (Ok a) h = record {
   g = h.g;
   marks = h.marks;
   game = h.game;
   fits = h.fits;
   exact = h.exact;
-  written = (unasked (IsTextOf h.g h.marks) even refl, (unasked (IsTextOf h.g h.marks) odd refl, h.written));
+  written = (unasked (IsSolveText h.g h.marks) even refl, (unasked (IsSolveText h.g h.marks) odd refl, h.written));
   answered = h.answered;
 }
 beside_report board text even odd old new (Err e) h = by e h
@@ -76,7 +76,7 @@ beside_report board text even odd old new (Err e) h = by e h
     kept : AreKept (report_writer Whole old new) → AreKept (solve_writers false even even odd odd old new)
     kept k = (Stays-refl even, (Stays-refl odd, k))
 
-    by : (e : MuError) → HasRefused board text (report_writer Whole old new) e → HasRefused board text (solve_writers false even even odd odd old new) e
+    by : (e : MuError) → RefusesSolve board text (report_writer Whole old new) e → RefusesSolve board text (solve_writers false even even odd odd old new) e
     by (error.Game e) k = (k.0, kept k.1)
     by (error.Table e) k = (k.0, kept k.1)
     by (error.Solve e) k = (k.0, kept k.1)
@@ -89,7 +89,7 @@ beside_report board text even odd old new (Err e) h = by e h
       game = k.game;
       fits = k.fits;
       exact = k.exact;
-      begun = inr (unasked (IsTextOf k.g k.marks) even refl, inr (unasked (IsTextOf k.g k.marks) odd refl, k.begun));
+      begun = inr (unasked (IsSolveText k.g k.marks) even refl, inr (unasked (IsSolveText k.g k.marks) odd refl, k.begun));
     }
     by (error.Arguments e) k = absurd k
     by error.File k = absurd k
@@ -103,24 +103,24 @@ beside_report board text even odd old new (Err e) h = by e h
 
 -- All was written, or a beginning.
 pub solved_of : (board : BoardKind) (text : List ℕ) (g : Game) (marks : List Bool) (writers : List Lent) (wrote : Result Unit WriteFault)
-    (r : Result Bool MuError) → IsGameOf text g → IsFitting (Some board) g → AreWinners g marks → AreWritten (IsTextOf g marks) writers wrote
-    → MatchResult wrote (λ _. r ≡ Ok true) (λ fault. r ≡ Err (error.Write fault)) → Answers board text writers r
+    (r : Result Bool MuError) → IsGameOf text g → FitsBoard (Some board) g → AreWinners g marks → AreWritten (IsSolveText g marks) writers wrote
+    → MatchResult wrote (λ _. r ≡ Ok true) (λ fault. r ≡ Err (error.Write fault)) → AnswersSolve board text writers r
 solved_of board text g marks writers (Ok u) r is fits exact written e =
-    subst (Answers board text writers) (sym e)
+    subst (AnswersSolve board text writers) (sym e)
     (record { g = g; marks = marks; game = is; fits = fits; exact = exact; written = written; answered = refl })
 solved_of board text g marks writers (Err fault) r is fits exact written e =
-    subst (Answers board text writers) (sym e)
+    subst (AnswersSolve board text writers) (sym e)
     (record { g = g; marks = marks; game = is; fits = fits; exact = exact; begun = written })
 
 -- who wins is written alone
 pub winners_put : (g : Game) (marks : List Bool) (old new : Taken) (r : Result Unit WriteFault) → Wrote old new r (winners_text marks)
-    → AreWritten (IsTextOf g marks) (report_writer Whole old new) r
-winners_put g marks old new r wrote = one_text (IsTextOf g marks) (lent_for (ReportText Whole) old new) r (winners_text marks) refl wrote
+    → AreWritten (IsSolveText g marks) (report_writer Whole old new) r
+winners_put g marks old new r wrote = one_text (IsSolveText g marks) (lent_for (ReportText Whole) old new) r (winners_text marks) refl wrote
 
 -- ------------------------------------------------------------------ with evidence
 
 -- The evidence of the least tables is good, of all that each player wins, and its texts are read again.
-pub least_full : (g : Game) (even odd : Piece) → WrittenIsAccepted → IsGame g → greatest g ≤ GREATEST_PRIORITY → even.game ≡ g
+pub least_full : (g : Game) (even odd : NamedEvidence) → WrittenIsAccepted → IsGame g → greatest g ≤ GREATEST_PRIORITY → even.game ≡ g
     → IsEvenOf g even.evidence → IsGood g even.evidence → ((v : ℕ) → IsTrue (has even.evidence v) ↔ Wins g v) → odd.game ≡ g
     → IsOddOf g odd.evidence → IsGood g odd.evidence → ((v : ℕ) → IsTrue (has odd.evidence v) ↔ OddWins g v)
     → AreFull g (record { even = even; odd = odd })
@@ -142,17 +142,17 @@ odd_text g pair h = record { e = pair.odd.evidence; full = h.odd; canonical = re
 -- Even's was begun
 pub even_stopped : {T E : Type 0} → (g : Game) (marks : List Bool) (pair : EvidencePair) (old new odd out : Taken) (r : Result T E)
     → AreFull g pair → IsErr r → WroteFront old new (evidence_text pair.even.evidence)
-    → AreWritten (IsTextOf g marks) (solve_writers true old new odd odd out out) r
+    → AreWritten (IsSolveText g marks) (solve_writers true old new odd odd out out) r
 even_stopped g marks pair old new odd out r full h front =
-    stopped_at (IsTextOf g marks) (solve_writers true old new odd odd out out) r h
+    stopped_at (IsSolveText g marks) (solve_writers true old new odd odd out out) r h
     (inl ((evidence_text pair.even.evidence, even_text g pair full, front), (Stays-refl odd, (Stays-refl out, tt))))
 
 -- Even's was written, and Odd's begun
 pub odd_stopped : {T E : Type 0} → (g : Game) (marks : List Bool) (pair : EvidencePair) (old new odd_old odd_new out : Taken) (r : Result T E)
     → AreFull g pair → IsErr r → Adds old new (evidence_text pair.even.evidence) → WroteFront odd_old odd_new (evidence_text pair.odd.evidence)
-    → AreWritten (IsTextOf g marks) (solve_writers true old new odd_old odd_new out out) r
+    → AreWritten (IsSolveText g marks) (solve_writers true old new odd_old odd_new out out) r
 odd_stopped g marks pair old new odd_old odd_new out r full h whole front =
-    stopped_at (IsTextOf g marks) (solve_writers true old new odd_old odd_new out out) r h
+    stopped_at (IsSolveText g marks) (solve_writers true old new odd_old odd_new out out) r h
     (inr (
       (evidence_text pair.even.evidence, even_text g pair full, whole),
       inl ((evidence_text pair.odd.evidence, odd_text g pair full, front), (Stays-refl out, tt)),

@@ -7,7 +7,7 @@ use Rattle.formula.specs.Checked.{IsTold}
 use Rattle.normal.specs.declared.limits.TheConstants.{MOST_NODES, GREATEST_PRIORITY}
 use Rattle.normal.specs.declared.priorities.Priorities.{Priorities}
 use Rattle.normal.specs.declared.error.NormalError.{NormalError}
-use Rattle.normal.specs.Tree.{count, depth, normal_form}
+use Rattle.normal.specs.Tree.{node_count, depth, normal_form}
 use Rattle.normal.specs.Nodes.{greatest_priority}
 use Rattle.normal.specs.Rules.{nodes_with}
 use Rattle.normal.specs.NormalText.{normal_text}
@@ -17,9 +17,9 @@ use Rattle.requests.specs.declared.error.MuError.{MuError}
 use Rattle.requests.specs.declared.error.MuError.TheVariants as error
 
 -- The text spells the formula, whose normal form by the rule is within the limits.
-pub record HasForm (priorities : Priorities) (text : List ℕ) (f : Formula) : Type 0 where
+pub record HasPrintedForm (priorities : Priorities) (text : List ℕ) (f : Formula) : Type 0 where
   pub formula : IsFormulaOf text f
-  pub nodes : count f ≤ MOST_NODES
+  pub nodes : node_count f ≤ MOST_NODES
   pub low : greatest_priority (nodes_with priorities f) ≤ GREATEST_PRIORITY
 
 -- the text of that normal form
@@ -29,14 +29,14 @@ form_text priorities f = normal_text (nodes_with priorities f) (depth (normal_fo
 -- The text of the normal form was written.
 pub record HasPrinted (priorities : Priorities) (text : List ℕ) (old new : Taken) (answer : Bool) : Type 0 where
   pub f : Formula
-  pub form : HasForm priorities text f
+  pub form : HasPrintedForm priorities text f
   pub written : Adds old new (form_text priorities f)
   pub answered : answer ≡ true
 
 -- A beginning of it was written.
-pub record HasBegun (priorities : Priorities) (text : List ℕ) (old new : Taken) : Type 0 where
+pub record HasBegunPrint (priorities : Priorities) (text : List ℕ) (old new : Taken) : Type 0 where
   pub f : Formula
-  pub form : HasForm priorities text f
+  pub form : HasPrintedForm priorities text f
   pub begun : WroteFront old new (form_text priorities f)
 
 -- The text spells a formula that has no normal form by the rule, for this reason.
@@ -46,17 +46,17 @@ pub record HasNoForm (priorities : Priorities) (text : List ℕ) (e : NormalErro
   pub refused : HasRefusalWith priorities f e
 
 -- What a refusal says of the text, and what it leaves: nothing was written, but after a write fault a beginning.
-abbrev pub HasRefused : Priorities → (text : List ℕ) → (old new : Taken) → MuError → Type 0
-HasRefused priorities text old new (error.Formula e) = IsTold text e × Stays old new
-HasRefused priorities text old new (error.Normal e) = HasNoForm priorities text e × Stays old new
-HasRefused priorities text old new error.Read = Stays old new
-HasRefused priorities text old new error.Memory = Stays old new
-HasRefused priorities text old new (error.Write e) = HasBegun priorities text old new
-HasRefused priorities text old new _ = ⊥
+abbrev pub RefusesPrint : Priorities → (text : List ℕ) → (old new : Taken) → MuError → Type 0
+RefusesPrint priorities text old new (error.Formula e) = IsTold text e × Stays old new
+RefusesPrint priorities text old new (error.Normal e) = HasNoForm priorities text e × Stays old new
+RefusesPrint priorities text old new error.Read = Stays old new
+RefusesPrint priorities text old new error.Memory = Stays old new
+RefusesPrint priorities text old new (error.Write e) = HasBegunPrint priorities text old new
+RefusesPrint priorities text old new _ = ⊥
 
-abbrev pub Answers : Priorities → (text : List ℕ) → (old new : Taken) → Result Bool MuError → Type 0
-Answers priorities text old new result = MatchResult result (HasPrinted priorities text old new) (HasRefused priorities text old new)
+abbrev pub AnswersPrint : Priorities → (text : List ℕ) → (old new : Taken) → Result Bool MuError → Type 0
+AnswersPrint priorities text old new result = MatchResult result (HasPrinted priorities text old new) (RefusesPrint priorities text old new)
 
 -- The theorem of the command: of what the reader had left, where it tells it, and of what the writer held before and after.
 abbrev pub Prints : Priorities → (formula : Option (List ℕ)) → (old new : Taken) → Result Bool MuError → Type 0
-Prints priorities formula old new result = (text : List ℕ) → formula ≡ Some text → Answers priorities text old new result
+Prints priorities formula old new result = (text : List ℕ) → formula ≡ Some text → AnswersPrint priorities text old new result

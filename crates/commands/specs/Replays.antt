@@ -13,7 +13,7 @@ use Rattle.liftcore.specs.Runs.{Comes}
 use Rattle.liftcore.specs.declared.event.Event.{Event}
 use Rattle.liftcore.specs.declared.error.ScheduleError.{ScheduleError}
 use Rattle.requests.specs.Check as check
-use Rattle.requests.specs.Check.{AreSpelled, ByGame, HasGame, Way, game_of}
+use Rattle.requests.specs.Check.{AreSpelled, ByGame, HasGame, Way, game_by_rule}
 use Rattle.requests.specs.Texts.{IsReadFault}
 use Rattle.requests.specs.declared.error.MuError.{MuError}
 use Rattle.requests.specs.declared.error.MuError.TheVariants as error
@@ -21,7 +21,7 @@ use Rattle.commands.specs.Spelled.{IsScheduleOf, IsScheduleTold}
 
 -- the game of the system and the formula, by the nested rule
 abbrev pub nested_game : System → Formula → Game
-nested_game l f = game_of Nested l f
+nested_game l f = game_by_rule Nested l f
 
 -- a game by the nested rule, without a board
 abbrev pub way : Way
@@ -54,7 +54,7 @@ pub record HasReplayed (workers : ℕ) (first second third : List ℕ) (old new 
   pub answered : answer ≡ true
 
 -- A beginning of it was written.
-pub record HasBegun (workers : ℕ) (first second third : List ℕ) (old new : Taken) : Type 0 where
+pub record HasBegunReplay (workers : ℕ) (first second third : List ℕ) (old new : Taken) : Type 0 where
   pub done : ℕ
   pub skipped : ℕ
   pub core : Core
@@ -72,21 +72,21 @@ pub record HasNoSchedule (workers : ℕ) (first second third : List ℕ) (e : Sc
 
 -- What a refusal says of the texts, and what it leaves: nothing was written, but after a write fault a beginning. Of the system, the formula and their
 -- game it says what a check's refusal does that lends no writer. The third text is looked at where there is a game.
-abbrev pub HasRefused : (workers : ℕ) → (first second third : List ℕ) → (old new : Taken) → MuError → Type 0
-HasRefused workers first second third old new (error.Schedule e) = HasNoSchedule workers first second third e × Stays old new
-HasRefused workers first second third old new (error.Write e) = HasBegun workers first second third old new
-HasRefused workers first second third old new e = check.HasRefused way first second [] e × Stays old new
+abbrev pub RefusesReplay : (workers : ℕ) → (first second third : List ℕ) → (old new : Taken) → MuError → Type 0
+RefusesReplay workers first second third old new (error.Schedule e) = HasNoSchedule workers first second third e × Stays old new
+RefusesReplay workers first second third old new (error.Write e) = HasBegunReplay workers first second third old new
+RefusesReplay workers first second third old new e = check.RefusesCheck way first second [] e × Stays old new
 
-abbrev pub Answers : (workers : ℕ) → (first second third : List ℕ) → (old new : Taken) → Result Bool MuError → Type 0
-Answers workers first second third old new result = MatchResult result (HasReplayed workers first second third old new)
-    (HasRefused workers first second third old new)
+abbrev pub AnswersReplay : (workers : ℕ) → (first second third : List ℕ) → (old new : Taken) → Result Bool MuError → Type 0
+AnswersReplay workers first second third old new result = MatchResult result (HasReplayed workers first second third old new)
+    (RefusesReplay workers first second third old new)
 
 -- The theorem of the command: of what the readers had left, where they tell it, and of what the writer held before and after.
 abbrev pub Replays : (workers : ℕ) → (aut formula schedule : Option (List ℕ)) → (old new : Taken) → Result Bool MuError → Type 0
 Replays workers aut formula schedule old new result =
-    (first second third : List ℕ) → aut ≡ Some first → formula ≡ Some second → schedule ≡ Some third → Answers workers first second third old new result
+    (first second third : List ℕ) → aut ≡ Some first → formula ≡ Some second → schedule ≡ Some third → AnswersReplay workers first second third old new result
 
 -- why a text gives no schedule for so many workers and vertices: a read failed, memory was wanting, or it spells none
-abbrev pub IsUnread : (workers vertices : ℕ) → List ℕ → MuError → Type 0
-IsUnread workers vertices text (error.Schedule e) = IsScheduleTold workers vertices text e
-IsUnread workers vertices text e = IsReadFault e
+abbrev pub GivesNoSchedule : (workers vertices : ℕ) → List ℕ → MuError → Type 0
+GivesNoSchedule workers vertices text (error.Schedule e) = IsScheduleTold workers vertices text e
+GivesNoSchedule workers vertices text e = IsReadFault e

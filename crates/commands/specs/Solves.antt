@@ -10,21 +10,21 @@ use Rattle.workers.specs.declared.team.BoardKind.{BoardKind}
 use Rattle.requests.specs.declared.error.MuError.{MuError}
 use Rattle.requests.specs.declared.error.MuError.TheVariants as error
 use Rattle.requests.specs.declared.request.ReportForm.TheVariants.{Whole}
-use Rattle.requests.specs.Solver.{IsFitting, IsUnsolved}
+use Rattle.requests.specs.Solver.{FitsBoard, IsUnsolved}
 use Rattle.requests.specs.Writers.{Kind, GameText, EvenText, OddText, WitnessText, DrawingText, ReportText, Unasked, Lent, IsLentFor, AreKept, AreWhole}
 use Rattle.requests.specs.Writers.{AreWrittenUpTo, kind_where, lent_for, report_writer}
 use Rattle.commands.specs.Spelled.{IsGameOf, IsGameTold}
 use Rattle.commands.specs.Winners.{AreWinners, winners_text}
 
 -- The texts that are written of a game: evidence of all that Even wins, and of all that Odd wins, and who wins each vertex where these are the marks.
-abbrev pub IsTextOf : Game → (marks : List Bool) → Kind → List ℕ → Type 0
-IsTextOf g marks EvenText text = IsFullText Even g text
-IsTextOf g marks OddText text = IsFullText Odd g text
-IsTextOf g marks (ReportText form) text = text ≡ winners_text marks
-IsTextOf g marks Unasked text = text ≡ []
-IsTextOf g marks GameText text = ⊥
-IsTextOf g marks WitnessText text = ⊥
-IsTextOf g marks DrawingText text = ⊥
+abbrev pub IsSolveText : Game → (marks : List Bool) → Kind → List ℕ → Type 0
+IsSolveText g marks EvenText text = IsFullText Even g text
+IsSolveText g marks OddText text = IsFullText Odd g text
+IsSolveText g marks (ReportText form) text = text ≡ winners_text marks
+IsSolveText g marks Unasked text = text ≡ []
+IsSolveText g marks GameText text = ⊥
+IsSolveText g marks WitnessText text = ⊥
+IsSolveText g marks DrawingText text = ⊥
 
 -- the writers in their order: both texts of evidence have one each, from which nothing is asked where no evidence is
 abbrev pub solve_writers : (evidence : Bool) → (old_even new_even old_odd new_odd old_report new_report : Taken) → List Lent
@@ -37,19 +37,19 @@ pub record HasSolved (board : BoardKind) (text : List ℕ) (writers : List Lent)
   pub g : Game
   pub marks : List Bool
   pub game : IsGameOf text g
-  pub fits : IsFitting (Some board) g
+  pub fits : FitsBoard (Some board) g
   pub exact : AreWinners g marks
-  pub written : AreWhole (IsTextOf g marks) writers
+  pub written : AreWhole (IsSolveText g marks) writers
   pub answered : answer ≡ true
 
 -- The texts before one were written whole, of that one a beginning, and of those after it nothing.
-pub record HasBegun (board : BoardKind) (text : List ℕ) (writers : List Lent) : Type 0 where
+pub record HasBegunSolve (board : BoardKind) (text : List ℕ) (writers : List Lent) : Type 0 where
   pub g : Game
   pub marks : List Bool
   pub game : IsGameOf text g
-  pub fits : IsFitting (Some board) g
+  pub fits : FitsBoard (Some board) g
   pub exact : AreWinners g marks
-  pub begun : AreWrittenUpTo (IsTextOf g marks) writers
+  pub begun : AreWrittenUpTo (IsSolveText g marks) writers
 
 abbrev pub SpellsGame : List ℕ → Type 0
 SpellsGame text = (g : Game) × IsGameOf text g
@@ -61,30 +61,30 @@ pub record IsLeft (board : BoardKind) (text : List ℕ) (e : MuError) : Type 0 w
   pub unsolved : IsUnsolved (Some board) g e
 
 -- Memory is wanting for evidence, which is asked for.
-pub record HasNoEvidence (board : BoardKind) (text : List ℕ) (writers : List Lent) (e : EvidenceError) : Type 0 where
+pub record LacksSolveEvidence (board : BoardKind) (text : List ℕ) (writers : List Lent) (e : EvidenceError) : Type 0 where
   pub g : Game
   pub game : IsGameOf text g
-  pub fits : IsFitting (Some board) g
+  pub fits : FitsBoard (Some board) g
   pub asked : IsLentFor EvenText writers
   pub memory : e ≡ evidence.Memory
 
 -- What a refusal says of the text, and what it leaves: nothing was written, but after a write fault the texts up to one.
-abbrev pub HasRefused : BoardKind → (text : List ℕ) → List Lent → MuError → Type 0
-HasRefused board text writers (error.Game e) = IsGameTold text e × AreKept writers
-HasRefused board text writers (error.Table e) = IsLeft board text (error.Table e) × AreKept writers
-HasRefused board text writers (error.Solve e) = IsLeft board text (error.Solve e) × AreKept writers
-HasRefused board text writers (error.Evidence e) = HasNoEvidence board text writers e × AreKept writers
-HasRefused board text writers error.Memory = SpellsGame text × AreKept writers
-HasRefused board text writers (error.Write e) = HasBegun board text writers
-HasRefused board text writers _ = ⊥
+abbrev pub RefusesSolve : BoardKind → (text : List ℕ) → List Lent → MuError → Type 0
+RefusesSolve board text writers (error.Game e) = IsGameTold text e × AreKept writers
+RefusesSolve board text writers (error.Table e) = IsLeft board text (error.Table e) × AreKept writers
+RefusesSolve board text writers (error.Solve e) = IsLeft board text (error.Solve e) × AreKept writers
+RefusesSolve board text writers (error.Evidence e) = LacksSolveEvidence board text writers e × AreKept writers
+RefusesSolve board text writers error.Memory = SpellsGame text × AreKept writers
+RefusesSolve board text writers (error.Write e) = HasBegunSolve board text writers
+RefusesSolve board text writers _ = ⊥
 
-abbrev pub Answers : BoardKind → (text : List ℕ) → List Lent → Result Bool MuError → Type 0
-Answers board text writers result = MatchResult result (HasSolved board text writers) (HasRefused board text writers)
+abbrev pub AnswersSolve : BoardKind → (text : List ℕ) → List Lent → Result Bool MuError → Type 0
+AnswersSolve board text writers result = MatchResult result (HasSolved board text writers) (RefusesSolve board text writers)
 
 -- The theorem of the command: of what the reader had left, where it tells it, and of what the writers held before and after.
 abbrev pub Solves : BoardKind → (game : Option (List ℕ)) → List Lent → Result Bool MuError → Type 0
-Solves board game writers result = (text : List ℕ) → game ≡ Some text → Answers board text writers result
+Solves board game writers result = (text : List ℕ) → game ≡ Some text → AnswersSolve board text writers result
 
 -- Why there is no evidence: the game isn't solved over this board, or else memory is wanting for evidence.
 abbrev pub IsUnproved : BoardKind → Game → MuError → Type 0
-IsUnproved board g e = IsUnsolved (Some board) g e ⊎ (IsFitting (Some board) g × (e ≡ error.Evidence evidence.Memory))
+IsUnproved board g e = IsUnsolved (Some board) g e ⊎ (FitsBoard (Some board) g × (e ≡ error.Evidence evidence.Memory))

@@ -39,7 +39,7 @@ pub record HasVerified (first second : List ℕ) (old new : Taken) (answer : Boo
   pub wins : IsTrue answer → (v : ℕ) → IsTrue (has e v) → WinsBy e.player g v
 
 -- A beginning of the verdict was written.
-pub record HasBegun (first second : List ℕ) (old new : Taken) : Type 0 where
+pub record HasBegunVerify (first second : List ℕ) (old new : Taken) : Type 0 where
   pub g : Game
   pub e : Evidence
   pub told : Verdict
@@ -47,24 +47,24 @@ pub record HasBegun (first second : List ℕ) (old new : Taken) : Type 0 where
   pub begun : WroteFront old new (verdict_text g e told)
 
 -- The first text spells a game, and the second one spells no evidence for it, for this reason.
-pub record HasNoEvidence (first second : List ℕ) (e : EvidenceError) : Type 0 where
+pub record SpellsNoEvidence (first second : List ℕ) (e : EvidenceError) : Type 0 where
   pub g : Game
   pub game : IsGameOf first g
   pub told : IsEvidenceTold g second e
 
 -- What a refusal says of the texts, and what it leaves: nothing was written, but after a write fault a beginning.
-abbrev pub HasRefused : (first second : List ℕ) → (old new : Taken) → MuError → Type 0
-HasRefused first second old new (error.Game e) = IsGameTold first e × Stays old new
-HasRefused first second old new (error.Evidence e) = HasNoEvidence first second e × Stays old new
-HasRefused first second old new (error.Write e) = HasBegun first second old new
-HasRefused first second old new _ = ⊥
+abbrev pub RefusesVerify : (first second : List ℕ) → (old new : Taken) → MuError → Type 0
+RefusesVerify first second old new (error.Game e) = IsGameTold first e × Stays old new
+RefusesVerify first second old new (error.Evidence e) = SpellsNoEvidence first second e × Stays old new
+RefusesVerify first second old new (error.Write e) = HasBegunVerify first second old new
+RefusesVerify first second old new _ = ⊥
 
-abbrev pub Answers : (first second : List ℕ) → (old new : Taken) → Result Bool MuError → Type 0
-Answers first second old new result = MatchResult result (HasVerified first second old new) (HasRefused first second old new)
+abbrev pub AnswersVerify : (first second : List ℕ) → (old new : Taken) → Result Bool MuError → Type 0
+AnswersVerify first second old new result = MatchResult result (HasVerified first second old new) (RefusesVerify first second old new)
 
 -- The theorem of the command: of what the readers had left, where they tell it, and of what the writer held before and after.
 abbrev pub Verifies : (game evidence : Option (List ℕ)) → (old new : Taken) → Result Bool MuError → Type 0
-Verifies game evidence old new result = (first second : List ℕ) → game ≡ Some first → evidence ≡ Some second → Answers first second old new result
+Verifies game evidence old new result = (first second : List ℕ) → game ≡ Some first → evidence ≡ Some second → AnswersVerify first second old new result
 
 -- ------------------------------------------------------------------ of two
 
@@ -111,7 +111,7 @@ pub record HasNoOther (first second third : List ℕ) (e : EvidenceError) : Type
 -- What a refusal says of the texts, and what it leaves. The third text is looked at where the second one spells evidence.
 abbrev pub HasRefusedBoth : (first second third : List ℕ) → (old new : Taken) → MuError → Type 0
 HasRefusedBoth first second third old new (error.Game e) = IsGameTold first e × Stays old new
-HasRefusedBoth first second third old new (error.Evidence e) = (HasNoEvidence first second e ⊎ HasNoOther first second third e) × Stays old new
+HasRefusedBoth first second third old new (error.Evidence e) = (SpellsNoEvidence first second e ⊎ HasNoOther first second third e) × Stays old new
 HasRefusedBoth first second third old new (error.Write e) = HasBegunBoth first second third old new
 HasRefusedBoth first second third old new _ = ⊥
 

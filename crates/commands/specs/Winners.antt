@@ -1,6 +1,6 @@
 -- Who wins each vertex of a game, and what is written of it.
 use Rattle.std.specs.Prelude.{◌≡◌, ◌↔◌, ℕ, ◌+◌, ◌<◌, Bool, List, [], ◌∷◌, ◌++◌, Option, Some, None, length, count_by, codes, decimal, if◌then◌else◌, slice_get}
-use Rattle.lts.specs.Canon.{line_end}
+use Rattle.text.specs.Pieces.{line_end}
 use Rattle.calculus.specs.Meaning.{marked}
 use Rattle.game.specs.Game.{Game}
 use Rattle.game.specs.Wins.{OddWins, Wins}
@@ -24,8 +24,8 @@ abbrev pub winner_line : ℕ → Option Bool → List ℕ
 winner_line v (Some mark) = decimal v ++ even_or_odd mark
 winner_line v None = []
 
-abbrev pub line_at : List Bool → ℕ → List ℕ
-line_at marks v = winner_line v (slice_get marks v)
+abbrev pub winner_line_at : List Bool → ℕ → List ℕ
+winner_line_at marks v = winner_line v (slice_get marks v)
 
 -- a line for each vertex from v on
 abbrev pub winner_lines : ℕ → List Bool → List ℕ

@@ -5,7 +5,7 @@ ghost use Rattle.text.specs.Cause.{HasCause};
 ghost use Rattle.requests.specs.declared.error.MuError.TheVariants as error;
 ghost use Rattle.calculus.specs.Closed.{closed_formula};
 ghost use Rattle.requests.specs.Texts.{IsFormulaOf};
-ghost use Rattle.commands.specs.Prints.{Answers, Prints};
+ghost use Rattle.commands.specs.Prints.{AnswersPrint, Prints};
 
 use calculus::closed::Closed;
 use normal::make::normal_with;
@@ -61,7 +61,7 @@ fn write_form<W: Sink>(
     priorities: Priorities,
     out: &mut W,
 ) -> Result<bool, MuError>
-    ensures answers { (text : List ℕ) → IsFormulaOf text (closed_formula formula.now) → Answers priorities text (W.taken out.old) (W.taken out.new) result }
+    ensures answers { (text : List ℕ) → IsFormulaOf text (closed_formula formula.now) → AnswersPrint priorities text (W.taken out.old) (W.taken out.new) result }
     ensures cause { IfErr result (HasCause false error.Read) }
 {
     match normal_with(alloc, formula, priorities) {

@@ -9,7 +9,7 @@ ghost use Rattle.liftcore.specs.Core.{start};
 ghost use Rattle.requests.specs.Causes.{HaveCauses};
 ghost use Rattle.requests.specs.Check.{AreSpelled, HasGame};
 ghost use Rattle.requests.specs.Check.{IsArenaOf};
-ghost use Rattle.commands.specs.Replays.{Answers, IsUnread, Replays, nested_game};
+ghost use Rattle.commands.specs.Replays.{AnswersReplay, GivesNoSchedule, Replays, nested_game};
 ghost use Rattle.commands.specs.Spelled.{IsScheduleOf};
 
 use game::graph::Game;
@@ -98,7 +98,7 @@ fn replay_of<T: Source + Drop, W: Sink, H: Threads + Sync>(
 ) -> Result<bool, MuError>
     ensures answers { (first second third : List ℕ) → AreSpelled first second texts.now.system.system (closed_formula texts.now.formula)
         → T.remaining schedule ≡ Some third
-        → Answers workers first second third (W.taken out.old) (W.taken out.new) result }
+        → AnswersReplay workers first second third (W.taken out.old) (W.taken out.new) result }
     ensures cause { IfErr result (HaveCauses false T.can_fail) }
 {
     match arena_of(
@@ -124,7 +124,7 @@ fn replay_in<T: Source + Drop, W: Sink>(
 ) -> Result<bool, MuError>
     ensures answers { (first second third : List ℕ) (l : System) (f : Formula) → AreSpelled first second l f → IsArenaOf Nested l f game.now
         → T.remaining schedule ≡ Some third
-        → Answers workers first second third (W.taken out.old) (W.taken out.new) result }
+        → AnswersReplay workers first second third (W.taken out.old) (W.taken out.new) result }
     ensures cause { IfErr result (HaveCauses false T.can_fail) }
 {
     match read_events(alloc, schedule, workers, game.vertices()) {
@@ -141,7 +141,7 @@ fn read_events<T: Source + Drop>(
     vertices: u32,
 ) -> Result<Vec<Event>, MuError>
     ensures answers { (text : List ℕ) → T.remaining schedule ≡ Some text
-        → MatchResult result (λ events. IsScheduleOf workers vertices text events.items) (IsUnread workers vertices text) }
+        → MatchResult result (λ events. IsScheduleOf workers vertices text events.items) (GivesNoSchedule workers vertices text) }
     ensures cause { IfErr result (HaveCauses false T.can_fail) }
 {
     match read_schedule_from(alloc, schedule, workers, vertices) {
@@ -162,7 +162,7 @@ fn replay_events<W: Sink>(
 ) -> Result<bool, MuError>
     ensures answers { (first second third : List ℕ) (l : System) (f : Formula) → AreSpelled first second l f → IsArenaOf Nested l f game.now
         → IsScheduleOf workers (length game.now.vertices) third events.now
-        → Answers workers first second third (W.taken out.old) (W.taken out.new) result }
+        → AnswersReplay workers first second third (W.taken out.old) (W.taken out.new) result }
     ensures cause { IfErr result (HaveCauses false false) }
 {
     match Core::new(alloc, game, workers as usize) {
@@ -180,7 +180,7 @@ fn follow_and_write<W: Sink>(
     ensures answers { (first second third : List ℕ) (l : System) (f : Formula) (workers : ℕ) → AreSpelled first second l f → HasGame Nested l f
         → core.old ≡ start (nested_game l f) workers
         → IsScheduleOf workers (length (nested_game l f).vertices) third events.now
-        → Answers workers first second third (W.taken out.old) (W.taken out.new) result }
+        → AnswersReplay workers first second third (W.taken out.old) (W.taken out.new) result }
     ensures cause { IfErr result (HaveCauses false false) }
 {
     let tally = core.follow(events);

@@ -3,7 +3,7 @@
 ghost use Rattle.std.specs.Prelude.{◌≡◌, ◌≤◌, IfErr, IfOk, Some};
 ghost use Rattle.std.specs.Arc.{arc_value};
 ghost use Rattle.certify.specs.Pair.{AreFull};
-ghost use Rattle.requests.specs.Solver.{IsFitting, IsUnsolved};
+ghost use Rattle.requests.specs.Solver.{FitsBoard, IsUnsolved};
 ghost use Rattle.commands.specs.Solves.{IsUnproved};
 ghost use Rattle.commands.specs.Winners.{AreWinners};
 
@@ -39,7 +39,7 @@ pub(crate) fn winners_by<O: Observer + Sync, H: Threads + Wait + Clone + Copy + 
     observer: &O,
 ) -> Result<Vec<bool>, MuError>
     ensures exact { IfOk result (λ marks. AreWinners (arc_value game.now) marks.items) }
-    ensures board { IfOk result (λ _. IsFitting (Some options.now.board) (arc_value game.now)) }
+    ensures board { IfOk result (λ _. FitsBoard (Some options.now.board) (arc_value game.now)) }
     ensures refusal { IfErr result (IsUnsolved (Some options.now.board) (arc_value game.now)) }
 {
     observer.sees(Stage::Searching {
@@ -70,7 +70,7 @@ pub(crate) fn evidence_by<
     observer: &O,
 ) -> Result<EvidencePair, MuError>
     ensures full { IfOk result (AreFull (arc_value game.now)) }
-    ensures board { IfOk result (λ _. IsFitting (Some options.now.board) (arc_value game.now)) }
+    ensures board { IfOk result (λ _. FitsBoard (Some options.now.board) (arc_value game.now)) }
     ensures refusal { IfErr result (IsUnproved options.now.board (arc_value game.now)) }
 {
     observer.sees(Stage::Searching {
@@ -94,7 +94,7 @@ fn evidence_by_lifting<O: Observer + Sync, H: Threads + Wait + Clone + Copy + Dr
     observer: &O,
 ) -> Result<EvidencePair, MuError>
     ensures full { IfOk result (AreFull (arc_value game.now)) }
-    ensures board { IfOk result (λ _. IsFitting (Some options.now.board) (arc_value game.now)) }
+    ensures board { IfOk result (λ _. FitsBoard (Some options.now.board) (arc_value game.now)) }
     ensures refusal { IfErr result (IsUnproved options.now.board (arc_value game.now)) }
 {
     match solve_seen(rt, alloc, game, options, &NoGate, observer, &NoGuess) {

@@ -5,13 +5,13 @@ ghost use Rattle.std.specs.Arc.{arc_value};
 ghost use Rattle.std.specs.Option.{is_some};
 ghost use Rattle.certify.specs.Pair.{AreFull};
 ghost use Rattle.workers.specs.declared.team.BoardKind.{BoardKind};
-ghost use Rattle.requests.specs.Solver.{IsFitting};
+ghost use Rattle.requests.specs.Solver.{FitsBoard};
 ghost use Rattle.requests.specs.Writers.{AreWritten, report_writer};
 ghost use Rattle.requests.specs.declared.request.ReportForm.TheVariants.{Whole};
 ghost use Rattle.text.specs.Cause.{HasCause};
 ghost use Rattle.commands.specs.Causes.{game_unread};
 ghost use Rattle.commands.specs.Spelled.{IsGameOf};
-ghost use Rattle.commands.specs.Solves.{Answers, IsTextOf, Solves, solve_writers};
+ghost use Rattle.commands.specs.Solves.{AnswersSolve, IsSolveText, Solves, solve_writers};
 ghost use Rattle.commands.specs.Winners.{AreWinners};
 ghost use Rattle.game.specs.Game.{Game};
 
@@ -62,7 +62,7 @@ fn solve_alone<W: Sink, H: Threads + Wait + Clone + Copy + Drop + Send + Sync>(
     out: &mut W,
 ) -> Result<bool, MuError>
     ensures answers { (text : List ℕ) → IsGameOf text game
-        → Answers options.now.board text (report_writer Whole (W.taken out.old) (W.taken out.new)) result }
+        → AnswersSolve options.now.board text (report_writer Whole (W.taken out.old) (W.taken out.new)) result }
     ensures cause { IfErr result (HasCause false game_unread) }
 {
     match Arc::new(alloc, game) {
@@ -120,7 +120,7 @@ fn solve_read<
     out: &mut W,
     observer: &U,
 ) -> Result<bool, MuError>
-    ensures answers { (text : List ℕ) → IsGameOf text game → Answers request.now.options.board text (solve_writers (is_some request.now.evidence)
+    ensures answers { (text : List ℕ) → IsGameOf text game → AnswersSolve request.now.options.board text (solve_writers (is_some request.now.evidence)
         (E.taken even.old) (E.taken even.new) (O.taken odd.old) (O.taken odd.new) (W.taken out.old) (W.taken out.new)) result }
     ensures cause { IfErr result (HasCause false game_unread) }
 {
@@ -149,7 +149,7 @@ fn solve_and_write<
     observer: &U,
 ) -> Result<bool, MuError>
     ensures answers { (text : List ℕ) → IsGameOf text (arc_value game.now)
-        → Answers options.now.board text (report_writer Whole (W.taken out.old) (W.taken out.new)) result }
+        → AnswersSolve options.now.board text (report_writer Whole (W.taken out.old) (W.taken out.new)) result }
     ensures cause { IfErr result (HasCause false game_unread) }
 {
     match winners_by(rt, alloc, game, options, observer) {
@@ -164,8 +164,8 @@ fn solve_and_write<
 /// Writes who wins each vertex.
 fn put_winners<W: Sink>(game: &Game, marks: &[bool], out: &mut W) -> Result<bool, MuError>
     requires { AreWinners game.now marks.now }
-    ensures answers { (board : BoardKind) (text : List ℕ) → IsGameOf text game.now → IsFitting (Some board) game.now
-        → Answers board text (report_writer Whole (W.taken out.old) (W.taken out.new)) result }
+    ensures answers { (board : BoardKind) (text : List ℕ) → IsGameOf text game.now → FitsBoard (Some board) game.now
+        → AnswersSolve board text (report_writer Whole (W.taken out.old) (W.taken out.new)) result }
     ensures cause { IfErr result (HasCause false game_unread) }
 {
     answer(write_winners(marks, out))
@@ -188,7 +188,7 @@ fn prove_and_write<
     out: &mut W,
     observer: &U,
 ) -> Result<bool, MuError>
-    ensures answers { (text : List ℕ) → IsGameOf text (arc_value game.now) → Answers options.now.board text (solve_writers true (E.taken even.old)
+    ensures answers { (text : List ℕ) → IsGameOf text (arc_value game.now) → AnswersSolve options.now.board text (solve_writers true (E.taken even.old)
         (E.taken even.new) (O.taken odd.old) (O.taken odd.new) (W.taken out.old) (W.taken out.new)) result }
     ensures cause { IfErr result (HasCause false game_unread) }
 {
@@ -211,7 +211,7 @@ fn write_all<E: Sink, O: Sink, W: Sink>(
     out: &mut W,
 ) -> Result<bool, MuError>
     requires { AreFull game.now pair.now }
-    ensures answers { (board : BoardKind) (text : List ℕ) → IsGameOf text game.now → IsFitting (Some board) game.now → Answers board text (solve_writers true
+    ensures answers { (board : BoardKind) (text : List ℕ) → IsGameOf text game.now → FitsBoard (Some board) game.now → AnswersSolve board text (solve_writers true
         (E.taken even.old) (E.taken even.new) (O.taken odd.old) (O.taken odd.new) (W.taken out.old) (W.taken out.new)) result }
     ensures cause { IfErr result (HasCause false game_unread) }
 {
@@ -227,7 +227,7 @@ fn put_all<E: Sink, O: Sink, W: Sink>(
     odd: &mut O,
     out: &mut W,
 ) -> Result<(), WriteFault>
-    ensures { (g : Game) → AreFull g pair.now → AreWritten (IsTextOf g marks.now) (solve_writers true
+    ensures { (g : Game) → AreFull g pair.now → AreWritten (IsSolveText g marks.now) (solve_writers true
         (E.taken even.old) (E.taken even.new) (O.taken odd.old) (O.taken odd.new) (W.taken out.old) (W.taken out.new)) result }
 {
     write_evidence(&pair.even, even)?;

@@ -3,7 +3,7 @@
 ghost use Rattle.std.specs.Prelude.{◌≡◌, ◌||◌, ℕ, IfErr, List, Some, false};
 ghost use Rattle.commands.specs.Causes.{AreCaused};
 ghost use Rattle.commands.specs.Spelled.{IsEvidenceOf, IsGameOf};
-ghost use Rattle.commands.specs.Verifies.{Answers, AnswersBoth, Verifies, VerifiesBoth};
+ghost use Rattle.commands.specs.Verifies.{AnswersVerify, AnswersBoth, Verifies, VerifiesBoth};
 
 use evidence::evidence::Evidence;
 use evidence::reader::read_evidence;
@@ -45,7 +45,7 @@ fn verify_for<S: Source + Drop, W: Sink>(
     out: &mut W,
 ) -> Result<bool, MuError>
     ensures answers { (first second : List ℕ) → IsGameOf first game.now → S.remaining evidence ≡ Some second
-        → Answers first second (W.taken out.old) (W.taken out.new) result }
+        → AnswersVerify first second (W.taken out.old) (W.taken out.new) result }
     ensures cause { IfErr result (AreCaused false S.can_fail) }
 {
     match read_evidence(alloc, evidence, game) {
@@ -58,7 +58,7 @@ fn verify_for<S: Source + Drop, W: Sink>(
 fn judge<W: Sink>(game: &Game, evidence: &Evidence, out: &mut W) -> Result<bool, MuError>
     requires { evidence.now.game ≡ game.now }
     ensures answers { (first second : List ℕ) → IsGameOf first game.now → IsEvidenceOf game.now second evidence.now.evidence
-        → Answers first second (W.taken out.old) (W.taken out.new) result }
+        → AnswersVerify first second (W.taken out.old) (W.taken out.new) result }
     ensures cause { IfErr result (AreCaused false false) }
 {
     let verdict = verify(game, evidence);

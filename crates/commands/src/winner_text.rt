@@ -124,11 +124,11 @@ struct WinnerLines<'a> {
 
 impl Lines for WinnerLines<'_> {
     ghost use Rattle.std.specs.Prelude.{length};
-    ghost use Rattle.commands.specs.Winners.{line_at};
+    ghost use Rattle.commands.specs.Winners.{winner_line_at};
 
     ghost count = { λ lines. length lines.marks.now };
 
-    ghost line = { λ lines v. line_at lines.marks.now v };
+    ghost line = { λ lines v. winner_line_at lines.marks.now v };
 
     fn count(&self) -> usize {
         self.marks.len()

@@ -66,15 +66,15 @@ impl Read for Input {
 
 /// A file of which a line tells how much is read.
 #[derive(Drop)]
-pub struct Counted<'a, T> {
+pub struct CountedInput<'a, T> {
     input: Input,
     line: &'a ProgressLine<'a, T>,
     count: u64,
 }
 
-impl<'a, T> Counted<'a, T> {
-    pub fn new(input: Input, line: &'a ProgressLine<'a, T>) -> Counted<'a, T> {
-        Counted {
+impl<'a, T> CountedInput<'a, T> {
+    pub fn new(input: Input, line: &'a ProgressLine<'a, T>) -> CountedInput<'a, T> {
+        CountedInput {
             input,
             line,
             count: 0,
@@ -82,7 +82,7 @@ impl<'a, T> Counted<'a, T> {
     }
 }
 
-impl<T> Read for Counted<'_, T> {
+impl<T> Read for CountedInput<'_, T> {
     fn read(&mut self, bytes: &mut [u8]) -> io::Result<usize> {
         let read = self.input.read(bytes)?;
         self.count = self.count.saturating_add(read as u64);

@@ -9,8 +9,8 @@ use Rattle.systems.specs.System.{System}
 use Rattle.calculus.specs.Tree.{Formula}
 use Rattle.requests.specs.declared.error.MuError.{MuError}
 use Rattle.requests.specs.declared.error.MuError.TheVariants as error
-use Rattle.requests.specs.Check.{Way, BySets, ByGame, Answers, AreSpelled, AreMarks, IsTextOf}
-use Rattle.requests.specs.Check.{HasRefused}
+use Rattle.requests.specs.Check.{Way, BySets, ByGame, AnswersCheck, AreSpelled, AreMarks, IsTextOf}
+use Rattle.requests.specs.Check.{RefusesCheck}
 use Rattle.requests.specs.declared.request.WitnessForm.{WitnessForm}
 use Rattle.requests.specs.declared.request.WitnessForm.TheVariants.{System as AsSystem, Drawing}
 use Rattle.requests.specs.Writers.{EvenText, WitnessText, DrawingText, Lent, IsLentFor, NeedsEvidence, Unasked, AreKept, AreWritten, IsWhole, all_writers, kind_where}
@@ -20,7 +20,7 @@ use Rattle.requests.specs.declared.request.Wanted.{Wanted}
 use Rattle.requests.specs.Command as request
 use Rattle.requests.specs.Strict.{AnswersBy, KnowsWords}
 use Rattle.engines.specs.Prepared.{IsUnprepared, IsUnshown}
-use Rattle.verdicts.specs.Findings.{AreFindings, formula_of, system_of, way_in}
+use Rattle.verdicts.specs.Findings.{AreFindings, formula_found, system_of, way_in}
 use Rattle.verdicts.specs.declared.findings.Findings.{Findings}
 
 -- None of the writers of all texts was written to.
@@ -30,22 +30,22 @@ kept_writers wanted game even odd witness out = (Stays-refl game, (Stays-refl ev
 
 -- No writer was written to before all that is wanted was made, which there was no memory for.
 pub unprepared_of : (x : Findings) (wanted : Wanted) (first second : List ℕ) (writers : List Lent) (e : MuError)
-    → AreSpelled first second (system_of x) (formula_of x)
+    → AreSpelled first second (system_of x) (formula_found x)
     → AreFindings x → AreKept writers → (IsTrue wanted.evidence → IsLentFor EvenText writers)
     → (IsTrue (is_some wanted.witness) → IsLentFor WitnessText writers ⊎ IsLentFor DrawingText writers) → IsUnprepared x wanted e
-    → HasRefused (way_in x) first second writers e
+    → RefusesCheck (way_in x) first second writers e
 unprepared_of x wanted first second writers e spelled found kept even witness (inl (asked, is)) =
-    subst (HasRefused (way_in x) first second writers) (sym is)
-    (record { l = system_of x; f = formula_of x; spelled = spelled; within = found.marks.within; needed = inl (even asked); memory = refl }, kept)
+    subst (RefusesCheck (way_in x) first second writers) (sym is)
+    (record { l = system_of x; f = formula_found x; spelled = spelled; within = found.marks.within; needed = inl (even asked); memory = refl }, kept)
 unprepared_of x wanted first second writers e spelled found kept even witness (inr (inr is)) =
-    subst (HasRefused (way_in x) first second writers) (sym is) ((system_of x, spelled.system.spelled), kept)
+    subst (RefusesCheck (way_in x) first second writers) (sym is) ((system_of x, spelled.system.spelled), kept)
 unprepared_of x wanted first second writers e spelled found kept even witness (inr (inl (asked, is))) = unshown e is
   where
-    unshown : (e : MuError) → IsUnshown x e → HasRefused (way_in x) first second writers e
+    unshown : (e : MuError) → IsUnshown x e → RefusesCheck (way_in x) first second writers e
     unshown error.Memory h = ((system_of x, spelled.system.spelled), kept)
-    unshown (error.Normal e) h = (record { l = system_of x; f = formula_of x; spelled = spelled; beyond = h }, kept)
+    unshown (error.Normal e) h = (record { l = system_of x; f = formula_found x; spelled = spelled; beyond = h }, kept)
     unshown (error.Evidence e) h =
-        (record { l = system_of x; f = formula_of x; spelled = spelled; within = found.marks.within; needed = inr (witness asked); memory = h }, kept)
+        (record { l = system_of x; f = formula_found x; spelled = spelled; within = found.marks.within; needed = inr (witness asked); memory = h }, kept)
     unshown (error.Build e) h = absurd h
     unshown (error.Table e) h = absurd h
     unshown (error.Solve e) h = absurd h
@@ -60,17 +60,17 @@ unprepared_of x wanted first second writers e spelled found kept even witness (i
     unshown (error.Write e) h = absurd h
 
 -- What was found one way is found an equal way.
-pub by_way : (p q : Way) (first second : List ℕ) (writers : List Lent) (r : Result Bool MuError) → p ≡ q → Answers p first second writers r
-    → Answers q first second writers r
-by_way p q first second writers r e h = subst (λ x. Answers x first second writers r) e h
+pub by_way : (p q : Way) (first second : List ℕ) (writers : List Lent) (r : Result Bool MuError) → p ≡ q → AnswersCheck p first second writers r
+    → AnswersCheck q first second writers r
+by_way p q first second writers r e h = subst (λ x. AnswersCheck x first second writers r) e h
 
 -- An answer that was written, or begun.
 pub answer_of : (way : Way) (first second : List ℕ) (writers : List Lent) (l : System) (f : Formula) (marks : List Bool) (wrote : Result Unit WriteFault)
     (r : Result Bool MuError)
     → AreSpelled first second l f → AreMarks way l f marks → AreWritten (IsTextOf way l f marks) writers wrote
-    → MatchResult wrote (λ x. r ≡ Ok (slice_index_or marks l.initial false)) (λ fault. r ≡ Err (error.Write fault)) → Answers way first second writers r
+    → MatchResult wrote (λ x. r ≡ Ok (slice_index_or marks l.initial false)) (λ fault. r ≡ Err (error.Write fault)) → AnswersCheck way first second writers r
 answer_of way first second writers l f marks (Ok x) r spelled found written e =
-    subst (Answers way first second writers) (sym e) (record {
+    subst (AnswersCheck way first second writers) (sym e) (record {
       l = l;
       f = f;
       marks = marks;
@@ -80,7 +80,7 @@ answer_of way first second writers l f marks (Ok x) r spelled found written e =
       answered = refl;
     })
 answer_of way first second writers l f marks (Err fault) r spelled found begun e =
-    subst (Answers way first second writers) (sym e) (record { l = l; f = f; marks = marks; spelled = spelled; found = found; begun = begun })
+    subst (AnswersCheck way first second writers) (sym e) (record { l = l; f = f; marks = marks; spelled = spelled; found = found; begun = begun })
 
 -- The writer of a witness that is wanted is lent for it.
 witness_lent : (form : Option WitnessForm) → IsTrue (is_some form) → (witness_kind form ≡ WitnessText) ⊎ (witness_kind form ≡ DrawingText)
@@ -90,8 +90,8 @@ witness_lent (Some Drawing) h = inr refl
 
 -- Nothing was written where what is wanted could not be made.
 pub unprepared_all : (x : Findings) (wanted : Wanted) (first second : List ℕ) (game even odd witness out : Taken) (e : MuError)
-    → AreSpelled first second (system_of x) (formula_of x)
-    → AreFindings x → IsUnprepared x wanted e → HasRefused (way_in x) first second (all_writers wanted game game even even odd odd witness witness out out) e
+    → AreSpelled first second (system_of x) (formula_found x)
+    → AreFindings x → IsUnprepared x wanted e → RefusesCheck (way_in x) first second (all_writers wanted game game even even odd odd witness witness out out) e
 unprepared_all x wanted first second game even odd witness out e spelled found is =
     unprepared_of x wanted first second (all_writers wanted game game even even odd odd witness witness out out) e spelled found
     (kept_writers wanted game even odd witness out)
@@ -122,7 +122,7 @@ no_evidence_needed form old new needed = grind arith
 
 -- Where nothing is wanted before the report, it alone is written.
 pub alone_of : (way : Way) (first second : List ℕ) (form : ReportForm) (game even odd witness old new : Taken) (r : Result Bool MuError)
-    → Answers way first second (report_writer form old new) r → Answers way first second (report_alone form game even odd witness old new) r
+    → AnswersCheck way first second (report_writer form old new) r → AnswersCheck way first second (report_alone form game even odd witness old new) r
 alone_of way first second form game even odd witness old new (Ok a) h = record {
   l = h.l;
   f = h.f;
@@ -163,6 +163,6 @@ alone_of way first second form game even odd witness old new (Err (error.NoLabel
 
 -- What was answered where each word of the formula is on a transition is answered strictly.
 pub strictly_answered : (strict : Bool) (way : Way) (first second : List ℕ) (writers : List Lent) (r : Result Bool MuError)
-    → Answers way first second writers r → (IsTrue strict → KnowsWords first second) → AnswersBy strict way first second writers r
+    → AnswersCheck way first second writers r → (IsTrue strict → KnowsWords first second) → AnswersBy strict way first second writers r
 strictly_answered strict way first second writers (Ok a) h known = (h, known)
 strictly_answered strict way first second writers (Err e) h known = inl (h, λ asked. inr (known asked))

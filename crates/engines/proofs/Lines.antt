@@ -4,13 +4,14 @@ use Rattle.std.proofs.Common.{sym, ap, ◌∙◌, append_assoc, add-one}
 use Rattle.std.proofs.Math.Seq.{drop-cons}
 use Rattle.std.proofs.Math.ListN.{drop_of_length-le}
 use Rattle.std.proofs.lemmas.List.{take_all}
-use Rattle.requests.specs.Report.{is_mark, line_end, number_lines, numbers_with, state_lines, yes_or_no}
+use Rattle.text.specs.Pieces.{line_end}
+use Rattle.requests.specs.Report.{is_mark, number_lines, numbers_with, state_lines, mark_end}
 
 -- the lines from a state on begin with that state's
 pub next_line : (marks : List Bool) (s : ℕ) → s < length marks
-    → state_lines s (drop s marks) ≡ (decimal s ++ yes_or_no (get_or marks s false)) ++ state_lines (s + 1) (drop (s + 1) marks)
+    → state_lines s (drop s marks) ≡ (decimal s ++ mark_end (get_or marks s false)) ++ state_lines (s + 1) (drop (s + 1) marks)
 next_line marks s h =
-    let mark = yes_or_no (get_or marks s false) in
+    let mark = mark_end (get_or marks s false) in
     let rest = state_lines (s + 1) (drop (s + 1) marks) in
     let first : state_lines s (drop s marks) ≡ decimal s ++ (mark ++ rest) = rw (drop-cons marks s false, add-one s) refl in
     first ∙ sym (append_assoc (decimal s) mark rest)

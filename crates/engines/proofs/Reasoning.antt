@@ -22,14 +22,14 @@ use Rattle.requests.specs.declared.error.MuError.TheVariants as error
 use Rattle.requests.specs.declared.request.ReportForm.TheVariants.{Nothing}
 use Rattle.requests.specs.declared.request.Wanted.{Wanted}
 use Rattle.requests.specs.declared.request.WitnessForm.TheVariants.{System as AsSystem}
-use Rattle.requests.specs.Check.{AreSpelled, ByGame, HasRefused, Way}
+use Rattle.requests.specs.Check.{AreSpelled, ByGame, RefusesCheck, Way}
 use Rattle.requests.specs.Strict.{HasRefusedBy, KnowsWords}
 use Rattle.requests.specs.Writers.{AreKept, Lent, WitnessText, lent_for}
 use Rattle.verdicts.specs.declared.findings.Findings.{Findings}
 use Rattle.engines.specs.declared.reasons.Told.{Told}
 use Rattle.engines.specs.declared.reasons.TheConstants.{MOST_TOLD}
 use Rattle.engines.specs.Prepared.{AreShown, IsUnshown}
-use Rattle.verdicts.specs.Findings.{AreFindings, formula_of, system_of, way_in}
+use Rattle.verdicts.specs.Findings.{AreFindings, formula_found, system_of, way_in}
 use Rattle.engines.specs.Reasons.{AreReasons, AreTold, HasNoReasons, TellsReasons, reasons, remarks_of}
 use Rattle.engines.specs.StrictReasons.{HasNoReasonsBy, TellsReasonsBy}
 use Rattle.engines.proofs.Checks.{unprepared_of}
@@ -39,7 +39,7 @@ no_write fault place h = cc
 
 -- A refusal that leaves all writers as they were leaves this one so, and is no write fault.
 pub refused_kept : (rule : Priorities) (board : Option BoardKind) (first second : List ℕ) (old : Taken) (e : MuError)
-    → ((writers : List Lent) → AreKept writers → HasRefused (ByGame rule board) first second writers e)
+    → ((writers : List Lent) → AreKept writers → RefusesCheck (ByGame rule board) first second writers e)
     → HasNoReasons rule board first second old old e
 refused_kept rule board first second old (error.Write fault) h = absurd (h [] tt).begun
 refused_kept rule board first second old (error.Arguments e) h = h [] tt
@@ -87,7 +87,7 @@ strictly_refused strict rule board first second old (error.Schedule e) h = h (le
 strictly_refused strict rule board first second old (error.NoLabel offset) h = h (lent_for WitnessText old old ∷ []) (Stays-refl old, tt)
 
 -- Nothing was written where there was no memory for a witness.
-pub unshown_kept : (x : Findings) (first second : List ℕ) (old : Taken) (e : MuError) → AreSpelled first second (system_of x) (formula_of x)
+pub unshown_kept : (x : Findings) (first second : List ℕ) (old : Taken) (e : MuError) → AreSpelled first second (system_of x) (formula_found x)
     → AreFindings x → IsUnshown x e → HasNoReasons x.solution.priorities x.solution.board first second old old e
 unshown_kept x first second old e spelled found is = by e is (unprepared_of x wanted first second (lent_for WitnessText old old ∷ []) e spelled found
     (Stays-refl old, tt) (λ no. absurd cc) (λ _. inl (inl refl)) (inr (inl (refl, is))))
@@ -95,7 +95,7 @@ unshown_kept x first second old e spelled found is = by e is (unprepared_of x wa
     wanted : Wanted
     wanted = record { game = false; evidence = false; witness = Some AsSystem; report = Nothing }
 
-    by : (e : MuError) → IsUnshown x e → HasRefused (way_in x) first second (lent_for WitnessText old old ∷ []) e
+    by : (e : MuError) → IsUnshown x e → RefusesCheck (way_in x) first second (lent_for WitnessText old old ∷ []) e
         → HasNoReasons x.solution.priorities x.solution.board first second old old e
     by error.Memory h r = r
     by (error.Normal e) h r = r
@@ -119,9 +119,9 @@ shown_witness x part found shown =
     let within = found.solution.game.within in
     record {
       inside = shown.inside;
-      formula = formula_of x;
-      nodes = nodes_with x.solution.priorities (formula_of x);
-      form = is_form x.solution.priorities (formula_of x) within.form.nodes within.form.priorities;
+      formula = formula_found x;
+      nodes = nodes_with x.solution.priorities (formula_found x);
+      form = is_form x.solution.priorities (formula_found x) within.form.nodes within.form.priorities;
       shown = shown.shown;
     }
 
@@ -135,8 +135,8 @@ telling_same n m ns ks marks others p q lines more en ens em ep el =
 
 -- What is told is the answer and a witness.
 why_told : (x : Findings) (told : Told) → AreTold x told
-    → AreReasons x.solution.priorities (system_of x) (formula_of x) (slice_index_or x.marks.items (system_of x).initial false)
-    (reasons (formula_of x) (slice_index_or x.marks.items (system_of x).initial false) (remarks_of x told)
+    → AreReasons x.solution.priorities (system_of x) (formula_found x) (slice_index_or x.marks.items (system_of x).initial false)
+    (reasons (formula_found x) (slice_index_or x.marks.items (system_of x).initial false) (remarks_of x told)
     (system_with x.texts.value.system told.play.transitions.items) told.lines.items)
 why_told x told is = record {
   part = system_with x.texts.value.system told.play.transitions.items;
@@ -144,21 +144,21 @@ why_told x told is = record {
   lines = told.lines.items;
   shown = is.shown.shown;
   telling = is.telling;
-  told = ap (λ (ns : List Node). reasons (formula_of x) (slice_index_or x.marks.items (system_of x).initial false)
+  told = ap (λ (ns : List Node). reasons (formula_found x) (slice_index_or x.marks.items (system_of x).initial false)
       (remarks (system_of x) ns (is_marked told.play.marks.items)) (system_with x.texts.value.system told.play.transitions.items) told.lines.items) is.nodes;
 }
 
 -- All was written, or a beginning.
 pub reasoned : (x : Findings) (told : Told) (first second : List ℕ) (old new : Taken) (wrote : Result Unit WriteFault) (r : Result Bool MuError)
-    → AreFindings x → (system_of x).initial < (system_of x).states → AreSpelled first second (system_of x) (formula_of x) → AreTold x told
-    → Wrote old new wrote (reasons (formula_of x) (slice_index_or x.marks.items (system_of x).initial false) (remarks_of x told)
+    → AreFindings x → (system_of x).initial < (system_of x).states → AreSpelled first second (system_of x) (formula_found x) → AreTold x told
+    → Wrote old new wrote (reasons (formula_found x) (slice_index_or x.marks.items (system_of x).initial false) (remarks_of x told)
     (system_with x.texts.value.system told.play.transitions.items) told.lines.items)
     → MatchResult wrote (λ _. r ≡ Ok (slice_index_or x.marks.items (system_of x).initial false)) (λ fault. r ≡ Err (error.Write fault))
     → TellsReasons x.solution.priorities x.solution.board first second old new r
 reasoned x told first second old new (Ok v) r found inside spelled is wrote e =
     subst (TellsReasons x.solution.priorities x.solution.board first second old new) (sym e) (record {
       l = system_of x;
-      f = formula_of x;
+      f = formula_found x;
       spelled = spelled;
       within = found.marks.within;
       answered = found.marks.exact.exact (system_of x).initial inside;
@@ -171,7 +171,7 @@ reasoned x told first second old new (Err fault) r found inside spelled is wrote
       slice_index_or x.marks.items (system_of x).initial false,
       record {
         l = system_of x;
-        f = formula_of x;
+        f = formula_found x;
         spelled = spelled;
         within = found.marks.within;
         answered = found.marks.exact.exact (system_of x).initial inside;

@@ -18,7 +18,7 @@ use Rattle.laws.specs.Admissible.{IsNodes}
 use Rattle.laws.specs.Laws.{ChosenIsAdmissible}
 use Rattle.evidence.specs.Best.{IsEvenOf, IsOddOf}
 use Rattle.evidence.specs.Evidence.{IsEvidence, IsGood, has}
-use Rattle.evidence.specs.View.{Piece}
+use Rattle.evidence.specs.View.{NamedEvidence}
 use Rattle.evidence.specs.declared.error.EvidenceError.{EvidenceError}
 use Rattle.witness.specs.Walk.{is_marked}
 use Rattle.witness.specs.Witness.{GoesOneWay, IsPlay, IsWitness, root_of}
@@ -27,7 +27,7 @@ use Rattle.witness.proofs.Means.{shown_of}
 use Rattle.requests.specs.Roots.{WinsRoot}
 use Rattle.requests.specs.declared.texts.Texts.{Texts}
 use Rattle.engines.specs.Prepared.{AreShown, IsPlayShown, IsWinning}
-use Rattle.verdicts.specs.Findings.{AreFindings, formula_of, system_of}
+use Rattle.verdicts.specs.Findings.{AreFindings, formula_found, system_of}
 use Rattle.verdicts.specs.declared.findings.Findings.{Findings}
 use Rattle.verdicts.proofs.Limits.{nodes_some}
 use Rattle.verdicts.proofs.Roots.{arena_roots, root_below}
@@ -56,7 +56,7 @@ odd_there : (x : Findings) → AreFindings x → (system_of x).initial < (system
 odd_there x found inside one game mark v at =
     let l = system_of x in
     let rule = x.solution.priorities in
-    let roots = arena_roots l (nodes_with rule (formula_of x)) (game_in x) l.states found.solution.game.same refl (nodes_some rule (formula_of x)) in
+    let roots = arena_roots l (nodes_with rule (formula_found x)) (game_in x) l.states found.solution.game.same refl (nodes_some rule (formula_found x)) in
     elim (one (game_in x) game v (root_below l.states l.initial v (game_in x) game roots inside at)) [
       | inl w ↦ absurd (true≢false (sym (((won_in x found).exact l.initial inside).1 (v, at, w)) ∙ mark))
       | inr o ↦ o
@@ -64,13 +64,13 @@ odd_there x found inside one game mark v at =
 
 -- the initial state's vertex with the root node
 abbrev root_in : Findings → ℕ
-root_in x = root_of (system_of x) (nodes_with x.solution.priorities (formula_of x))
+root_in x = root_of (system_of x) (nodes_with x.solution.priorities (formula_found x))
 
 root_at : (x : Findings) → AreFindings x → place_in (game_in x) (system_of x).initial 0 ≡ Some (root_in x)
 root_at x found = ap (λ (g : Game). place_in g (system_of x).initial 0) found.solution.game.same
 
 -- Even's, where the initial state satisfies the formula
-pub even_winning : (x : Findings) (e : Piece) → AreFindings x → (system_of x).initial < (system_of x).states → mark_in x ≡ true → e.game ≡ game_in x
+pub even_winning : (x : Findings) (e : NamedEvidence) → AreFindings x → (system_of x).initial < (system_of x).states → mark_in x ≡ true → e.game ≡ game_in x
     → IsEvenOf (game_in x) e.evidence → IsGood (game_in x) e.evidence
     → ((v : ℕ) → IsTrue (has e.evidence v) ↔ Wins (game_in x) v) → IsWinning x e
 even_winning x e found inside mark same even good exact = record {
@@ -81,7 +81,7 @@ even_winning x e found inside mark same even good exact = record {
 }
 
 -- Odd's, where it doesn't
-pub odd_winning : (x : Findings) (e : Piece) → AreFindings x → (system_of x).initial < (system_of x).states → OneWins → IsGame (game_in x)
+pub odd_winning : (x : Findings) (e : NamedEvidence) → AreFindings x → (system_of x).initial < (system_of x).states → OneWins → IsGame (game_in x)
     → mark_in x ≡ false → e.game ≡ game_in x
     → IsOddOf (game_in x) e.evidence → IsGood (game_in x) e.evidence → ((v : ℕ) → IsTrue (has e.evidence v) ↔ OddWins (game_in x) v)
     → IsWinning x e
@@ -93,7 +93,7 @@ odd_winning x e found inside one game mark same odd good exact = record {
 }
 
 -- the same of Odd's where it is made
-pub odd_found : (x : Findings) (g : Game) (r : Result Piece EvidenceError) → AreFindings x → (system_of x).initial < (system_of x).states → OneWins
+pub odd_found : (x : Findings) (g : Game) (r : Result NamedEvidence EvidenceError) → AreFindings x → (system_of x).initial < (system_of x).states → OneWins
     → IsGame (game_in x) → mark_in x ≡ false
     → g ≡ game_in x → IfOk r (λ e. e.game ≡ g) → IfOk r (λ e. IsOddOf g e.evidence) → IfOk r (λ e. IsGood g e.evidence)
     → IfOk r (λ e. (v : ℕ) → IsTrue (has e.evidence v) ↔ OddWins g v)
@@ -105,7 +105,7 @@ odd_found x g (Ok e) found inside one game mark same of odd good exact =
 odd_found x g (Err e) found inside one game mark same of odd good exact = tt
 
 -- that of a play that goes one way, where it is found, of the texts as they are read off what was found
-pub one_way_found : (x : Findings) (g : Game) (t u : Texts) (nodes : List Node) (o : Option Piece) → g ≡ game_in x → t ≡ x.texts.value → u ≡ x.texts.value
+pub one_way_found : (x : Findings) (g : Game) (t u : Texts) (nodes : List Node) (o : Option NamedEvidence) → g ≡ game_in x → t ≡ x.texts.value → u ≡ x.texts.value
     → nodes ≡ nodes_with x.solution.priorities (closed_formula t.formula)
     → IfSome o (λ e. e.game ≡ g) → IfSome o (λ e. IsGood g e.evidence) → IfSome o (λ e. IsTrue (has e.evidence (root_of u.system.system nodes)))
     → IfSome o (λ e. GoesOneWay g e.evidence)
@@ -122,15 +122,15 @@ one_way_found x g t u nodes (Some e) same at_t at_u is game good root one =
     }
 
 -- The play by such evidence is shown.
-pub shown_by : (x : Findings) (e : Piece) (nodes : List Node) (play : Play) → ChosenIsAdmissible → AreFindings x → IsWinning x e
-    → IsEvidence e.game e.evidence → nodes ≡ nodes_with x.solution.priorities (formula_of x) → IsInside x.texts.value.system play.transitions.items
+pub shown_by : (x : Findings) (e : NamedEvidence) (nodes : List Node) (play : Play) → ChosenIsAdmissible → AreFindings x → IsWinning x e
+    → IsEvidence e.game e.evidence → nodes ≡ nodes_with x.solution.priorities (formula_found x) → IsInside x.texts.value.system play.transitions.items
     → IsPlay (system_of x) nodes e.evidence (system_with x.texts.value.system play.transitions.items) (is_marked play.marks.items)
     → ((f : Formula) → IsAdmitted f → IsNodes (normal_form f) nodes → IsWitness (system_of x) f (system_with x.texts.value.system play.transitions.items))
     → IsPlayShown x play
 shown_by x e nodes play chosen found win is same inside takes witness =
     let rule = x.solution.priorities in
     let l = system_of x in
-    let f = formula_of x in
+    let f = formula_found x in
     let whole = system_with x.texts.value.system play.transitions.items in
     let game = win.game ∙ found.solution.game.same in
     let admitted = x.texts.value.formula.admitted in
@@ -150,7 +150,7 @@ shown_by x e nodes play chosen found win is same inside takes witness =
     }
 
 -- the same of the texts as they are read off what was found
-pub shown_at : (x : Findings) (e : Piece) (t u : Texts) (nodes : List Node) (play : Play) → t ≡ x.texts.value → u ≡ x.texts.value
+pub shown_at : (x : Findings) (e : NamedEvidence) (t u : Texts) (nodes : List Node) (play : Play) → t ≡ x.texts.value → u ≡ x.texts.value
     → ChosenIsAdmissible → AreFindings x → IsWinning x e → IsEvidence e.game e.evidence
     → nodes ≡ nodes_with x.solution.priorities (closed_formula t.formula) → IsInside u.system play.transitions.items
     → IsPlay u.system.system nodes e.evidence (system_with u.system play.transitions.items) (is_marked play.marks.items)
@@ -169,6 +169,6 @@ shown_at x e t u nodes play at_t at_u chosen found win is same inside takes witn
 pub shown_of_play : (x : Findings) (play : Play) → IsPlayShown x play → AreShown x play.transitions.items
 shown_of_play x play h = record {
   inside = h.inside;
-  shown = shown_of (system_of x) (formula_of x) (nodes_with x.solution.priorities (formula_of x)) (system_with x.texts.value.system play.transitions.items)
+  shown = shown_of (system_of x) (formula_found x) (nodes_with x.solution.priorities (formula_found x)) (system_with x.texts.value.system play.transitions.items)
       (is_marked play.marks.items) h.shown;
 }

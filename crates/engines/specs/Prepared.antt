@@ -8,7 +8,7 @@ use Rattle.normal.specs.Refused.{HasRefusalWith}
 use Rattle.normal.specs.Rules.{nodes_with}
 use Rattle.evidence.specs.Best.{IsEvenOf, IsOddOf}
 use Rattle.evidence.specs.Evidence.{IsGood, has}
-use Rattle.evidence.specs.View.{Piece}
+use Rattle.evidence.specs.View.{NamedEvidence}
 use Rattle.evidence.specs.declared.error.EvidenceError.TheVariants as evidence
 use Rattle.witness.specs.Walk.{is_marked}
 use Rattle.witness.specs.Witness.{GoesOneWay, IsShown, IsShownBy, root_of}
@@ -22,34 +22,34 @@ use Rattle.verdicts.specs.declared.findings.Findings.{Findings}
 use Rattle.requests.specs.Check.{IsTextOf}
 use Rattle.requests.specs.Report.{report_in}
 use Rattle.requests.specs.Writers.{Kind}
-use Rattle.verdicts.specs.Findings.{IsPairOf, formula_of, system_of, way_in}
+use Rattle.verdicts.specs.Findings.{IsPairOf, formula_found, system_of, way_in}
 
 -- the texts that are written of it
 abbrev pub IsTextFound : Findings → Kind → List ℕ → Type 0
-IsTextFound x = IsTextOf (way_in x) (system_of x) (formula_of x) x.marks.items
+IsTextFound x = IsTextOf (way_in x) (system_of x) (formula_found x) x.marks.items
 
 -- good evidence that has the initial state's vertex with the root node: of a play that goes one way from each vertex, or of the least progress tables
-pub record IsWinning (x : Findings) (e : Piece) : Type 0 where
+pub record IsWinning (x : Findings) (e : NamedEvidence) : Type 0 where
   pub game : e.game ≡ arc_value x.solution.game
   pub good : IsGood e.game e.evidence
-  pub root : IsTrue (has e.evidence (root_of (system_of x) (nodes_with x.solution.priorities (formula_of x))))
+  pub root : IsTrue (has e.evidence (root_of (system_of x) (nodes_with x.solution.priorities (formula_found x))))
   pub kind : GoesOneWay e.game e.evidence ⊎ (IsEvenOf e.game e.evidence ⊎ IsOddOf e.game e.evidence)
 
 -- the transitions of a witness
 pub record AreShown (x : Findings) (part : List Transition) : Type 0 where
   pub inside : IsInside x.texts.value.system part
-  pub shown : IsShown (system_of x) (formula_of x) (nodes_with x.solution.priorities (formula_of x)) (system_with x.texts.value.system part)
+  pub shown : IsShown (system_of x) (formula_found x) (nodes_with x.solution.priorities (formula_found x)) (system_with x.texts.value.system part)
 
 -- The play takes the transitions of a witness, and its marks tell which vertices it reaches.
 pub record IsPlayShown (x : Findings) (play : Play) : Type 0 where
   pub inside : IsInside x.texts.value.system play.transitions.items
-  pub shown : IsShownBy (system_of x) (formula_of x) (nodes_with x.solution.priorities (formula_of x))
+  pub shown : IsShownBy (system_of x) (formula_found x) (nodes_with x.solution.priorities (formula_found x))
       (system_with x.texts.value.system play.transitions.items) (is_marked play.marks.items)
 
 -- Memory was wanting for a witness: that of the evidence, of the normal form or of the walk.
 abbrev pub IsUnshown : Findings → MuError → Type 0
 IsUnshown x error.Memory = Unit {0}
-IsUnshown x (error.Normal e) = HasRefusalWith x.solution.priorities (formula_of x) e
+IsUnshown x (error.Normal e) = HasRefusalWith x.solution.priorities (formula_found x) e
 IsUnshown x (error.Evidence e) = e ≡ evidence.Memory
 IsUnshown x e = ⊥
 
@@ -59,7 +59,7 @@ pub record ArePrepared (x : Findings) (p : Prepared) : Type 0 where
   pub evidence : is_some p.pair ≡ p.wanted.evidence
   pub shown : IfSome p.shown (λ shown. AreShown x shown.part.items)
   pub form : option_map (λ (shown : Shown). shown.form) p.shown ≡ p.wanted.witness
-  pub report : p.report.items ≡ report_in p.wanted.report (system_of x) (formula_of x) x.marks.items
+  pub report : p.report.items ≡ report_in p.wanted.report (system_of x) (formula_found x) x.marks.items
 
 -- Memory was wanting for what is wanted.
 abbrev pub IsUnprepared : Findings → Wanted → MuError → Type 0

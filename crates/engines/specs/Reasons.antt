@@ -18,14 +18,14 @@ use Rattle.why.specs.declared.line.Line.{Line}
 use Rattle.workers.specs.declared.team.BoardKind.{BoardKind}
 use Rattle.requests.specs.declared.error.MuError.{MuError}
 use Rattle.requests.specs.declared.error.MuError.TheVariants as error
-use Rattle.requests.specs.Check.{AreSpelled, ByGame, HasRefused, IsWithin}
+use Rattle.requests.specs.Check.{AreSpelled, ByGame, RefusesCheck, CanBeFound}
 use Rattle.requests.specs.Report.{formula_line, initial_line}
 use Rattle.requests.specs.Writers.{WitnessText, lent_for}
 use Rattle.verdicts.specs.declared.findings.Findings.{Findings}
 use Rattle.engines.specs.declared.reasons.Told.{Told}
 use Rattle.engines.specs.declared.reasons.TheConstants.{MOST_TOLD}
 use Rattle.engines.specs.Prepared.{IsPlayShown}
-use Rattle.verdicts.specs.Findings.{formula_of, system_of}
+use Rattle.verdicts.specs.Findings.{formula_found, system_of}
 
 -- the formula, whether the initial state satisfies it, and what is told of a witness, with what is remarked of its states and steps
 abbrev pub reasons : Formula → Bool → Remarks → System → List Line → List ℕ
@@ -42,11 +42,11 @@ pub record AreReasons (rule : Priorities) (l : System) (f : Formula) (answer : B
   pub told : text ≡ reasons f answer (remarks l (nodes_with rule f) set) part lines
 
 -- Both texts are spelled, the answer is that of the initial state in the formula's meaning, and what was written is this of a text that tells why.
-pub record HasReasons (rule : Priorities) (board : Option BoardKind) (first second : List ℕ) (answer : Bool) (Writes : List ℕ → Type 0) : Type 0 where
+pub record HasGivenReasons (rule : Priorities) (board : Option BoardKind) (first second : List ℕ) (answer : Bool) (Writes : List ℕ → Type 0) : Type 0 where
   pub l : System
   pub f : Formula
   pub spelled : AreSpelled first second l f
-  pub within : IsWithin (ByGame rule board) l f
+  pub within : CanBeFound (ByGame rule board) l f
   pub answered : IsTrue answer ↔ Satisfies l f l.initial
   pub text : List ℕ
   pub why : AreReasons rule l f answer text
@@ -54,16 +54,16 @@ pub record HasReasons (rule : Priorities) (board : Option BoardKind) (first seco
 
 -- A refusal is that of a check that writes a witness: nothing was written. After a write fault a beginning of the text was, and some of it was not.
 abbrev pub HasNoReasons : Priorities → Option BoardKind → (first second : List ℕ) → (old new : Taken) → MuError → Type 0
-HasNoReasons rule board first second old new (error.Write fault) = (answer : Bool) × HasReasons rule board first second answer (WroteFront old new)
-HasNoReasons rule board first second old new e = HasRefused (ByGame rule board) first second (lent_for WitnessText old new ∷ []) e
+HasNoReasons rule board first second old new (error.Write fault) = (answer : Bool) × HasGivenReasons rule board first second answer (WroteFront old new)
+HasNoReasons rule board first second old new e = RefusesCheck (ByGame rule board) first second (lent_for WitnessText old new ∷ []) e
 
 abbrev pub TellsReasons : Priorities → Option BoardKind → (first second : List ℕ) → (old new : Taken) → Result Bool MuError → Type 0
 TellsReasons rule board first second old new result =
-    MatchResult result (λ answer. HasReasons rule board first second answer (Adds old new)) (HasNoReasons rule board first second old new)
+    MatchResult result (λ answer. HasGivenReasons rule board first second answer (Adds old new)) (HasNoReasons rule board first second old new)
 
 -- The play is that of a witness, and the lines tell its transitions.
 pub record AreTold (x : Findings) (told : Told) : Type 0 where
-  pub nodes : normal_nodes told.normal ≡ nodes_with x.solution.priorities (formula_of x)
+  pub nodes : normal_nodes told.normal ≡ nodes_with x.solution.priorities (formula_found x)
   pub shown : IsPlayShown x told.play
   pub telling : IsTelling (system_with x.texts.value.system told.play.transitions.items) MOST_TOLD told.lines.items
 

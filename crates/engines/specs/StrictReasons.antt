@@ -4,21 +4,21 @@ use Rattle.text.specs.Taken.{Taken, Adds}
 use Rattle.normal.specs.declared.priorities.Priorities.{Priorities}
 use Rattle.workers.specs.declared.team.BoardKind.{BoardKind}
 use Rattle.requests.specs.declared.error.MuError.{MuError}
-use Rattle.requests.specs.Strict.{IsUnread, IsWordRefusal, KnowsWords}
+use Rattle.requests.specs.Strict.{MayComeFirst, IsWordRefusal, KnowsWords}
 use Rattle.requests.specs.Writers.{WitnessText, lent_for}
-use Rattle.engines.specs.Reasons.{HasNoReasons, HasReasons}
+use Rattle.engines.specs.Reasons.{HasNoReasons, HasGivenReasons}
 
 -- A strict one is refused for a word, or otherwise while the texts are read, or where it has none that could be refused.
 abbrev pub HasNoReasonsBy : (strict : Bool) → Priorities → Option BoardKind → (first second : List ℕ) → (old new : Taken) → MuError → Type 0
 HasNoReasonsBy strict rule board first second old new e =
-    (HasNoReasons rule board first second old new e × (IsTrue strict → IsUnread e ⊎ KnowsWords first second))
+    (HasNoReasons rule board first second old new e × (IsTrue strict → MayComeFirst e ⊎ KnowsWords first second))
     ⊎ IsWordRefusal strict first second (lent_for WitnessText old new ∷ []) e
 
 -- A strict one tells where each word of the formula is on a transition.
 abbrev pub TellsReasonsBy : (strict : Bool) → Priorities → Option BoardKind → (first second : List ℕ) → (old new : Taken) → Result Bool MuError
     → Type 0
 TellsReasonsBy strict rule board first second old new result =
-    MatchResult result (λ answer. HasReasons rule board first second answer (Adds old new) × (IsTrue strict → KnowsWords first second))
+    MatchResult result (λ answer. HasGivenReasons rule board first second answer (Adds old new) × (IsTrue strict → KnowsWords first second))
     (HasNoReasonsBy strict rule board first second old new)
 
 -- The theorem: of what the readers had left, where they tell it, and of what the writer held before and after.

@@ -21,7 +21,7 @@ use Rattle.requests.specs.declared.error.MuError.TheVariants as error
 use Rattle.requests.specs.declared.request.Options.{Options}
 use Rattle.requests.specs.Check.{Way, BySets, ByGame, AreMarks, IsBeyond}
 use Rattle.requests.specs.Known.{AreKnown, IsAbsentAt}
-use Rattle.requests.specs.Report.{line_end}
+use Rattle.text.specs.Pieces.{line_end}
 use Rattle.requests.specs.Texts.{IsFormulaOf}
 use Rattle.engines.specs.Status.{error_status}
 
@@ -128,7 +128,7 @@ pub record IsAnswer (strict : Bool) (way : Way) (l : System) (name text line : L
   pub ends : status ≡ (if is_as_expected (expectation text) (slice_index_or marks l.initial false) then 0 else 1)
 
 -- The line has the refusal. That a read of the formula failed is told where one can fail.
-pub record IsRefusal (strict : Bool) (way : Way) (l : System) (can_fail : Bool) (name text line : List ℕ) (status : ℕ) : Type 0 where
+pub record IsRefusedLine (strict : Bool) (way : Way) (l : System) (can_fail : Bool) (name text line : List ℕ) (status : ℕ) : Type 0 where
   pub e : MuError
   pub refused : IsRefused strict way l text e
   pub cause : HasCause can_fail error.Read e
@@ -136,23 +136,23 @@ pub record IsRefusal (strict : Bool) (way : Way) (l : System) (can_fail : Bool) 
   pub ends : status ≡ error_status e
 
 -- the line of a formula's text, and its status
-abbrev pub IsLine : (strict : Bool) → Way → System → (can_fail : Bool) → (name text line : List ℕ) → (status : ℕ) → Type 0
-IsLine strict way l can_fail name text line status = IsAnswer strict way l name text line status ⊎ IsRefusal strict way l can_fail name text line status
+abbrev pub IsTableLine : (strict : Bool) → Way → System → (can_fail : Bool) → (name text line : List ℕ) → (status : ℕ) → Type 0
+IsTableLine strict way l can_fail name text line status = IsAnswer strict way l name text line status ⊎ IsRefusedLine strict way l can_fail name text line status
 
 -- such a line was written whole
 pub record HasTold (strict : Bool) (way : Way) (l : System) (can_fail : Bool) (name text : List ℕ) (old new : Taken) (status : ℕ) : Type 0 where
   pub line : List ℕ
-  pub is : IsLine strict way l can_fail name text line status
+  pub is : IsTableLine strict way l can_fail name text line status
   pub written : Adds old new line
 
 -- a beginning of it was written
 pub record HasBegunToTell (strict : Bool) (way : Way) (l : System) (can_fail : Bool) (name text : List ℕ) (old new : Taken) : Type 0 where
   pub line : List ℕ
   pub status : ℕ
-  pub is : IsLine strict way l can_fail name text line status
+  pub is : IsTableLine strict way l can_fail name text line status
   pub begun : WroteFront old new line
 
 -- what a call for a line says of the formula's reader and of the writer
-abbrev pub Tells : (strict : Bool) → Way → System → (can_fail : Bool) → (name : List ℕ) → (formula : Option (List ℕ)) → (old new : Taken) → Result ℕ WriteFault → Type 0
-Tells strict way l can_fail name formula old new result = (text : List ℕ) → formula ≡ Some text
+abbrev pub TellsLine : (strict : Bool) → Way → System → (can_fail : Bool) → (name : List ℕ) → (formula : Option (List ℕ)) → (old new : Taken) → Result ℕ WriteFault → Type 0
+TellsLine strict way l can_fail name formula old new result = (text : List ℕ) → formula ≡ Some text
     → MatchResult result (HasTold strict way l can_fail name text old new) (λ fault. HasBegunToTell strict way l can_fail name text old new)

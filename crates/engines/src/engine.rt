@@ -4,11 +4,11 @@ ghost use Rattle.std.specs.Prelude.{◌≡◌, ◌∷◌, ◌++◌, [], ℕ, fal
 ghost use Rattle.calculus.specs.Closed.{closed_formula};
 ghost use Rattle.requests.specs.declared.request.ReportForm.TheVariants.{Whole};
 ghost use Rattle.requests.specs.Causes.{HaveCauses};
-ghost use Rattle.requests.specs.Check.{Way, BySets, ByGame, AreMarks, AreSpelled, Answers, Checks, IsBeyond, IsErrorOf};
+ghost use Rattle.requests.specs.Check.{Way, BySets, ByGame, AreMarks, AreSpelled, AnswersCheck, Checks, IsBeyond, IsErrorOf};
 ghost use Rattle.requests.specs.Command.{wanted_in, way_of};
 ghost use Rattle.requests.specs.Strict.{ChecksBy};
 ghost use Rattle.engines.specs.Prepared.{ArePrepared, IsUnprepared};
-ghost use Rattle.verdicts.specs.Findings.{AreFindings, formula_of, system_of, way_in};
+ghost use Rattle.verdicts.specs.Findings.{AreFindings, formula_found, system_of, way_in};
 ghost use Rattle.requests.specs.Writers.{all_writers, evidence_writers, game_writer, lent_writers, no_writer, report_writer};
 
 use crate::no_writer::NoWriter;
@@ -140,7 +140,7 @@ fn report_plain<W: Sink, U: Watcher>(
     watcher: &U,
 ) -> Result<bool, MuError>
     ensures answers { (first second : List ℕ) → AreSpelled first second texts.now.system.system (closed_formula texts.now.formula)
-        → Answers BySets first second (report_writer form (W.taken out.old) (W.taken out.new)) result }
+        → AnswersCheck BySets first second (report_writer form (W.taken out.old) (W.taken out.new)) result }
     ensures plain { IfErr result (IsErrorOf BySets) }
     ensures cause { IfErr result (HaveCauses false false) }
 {
@@ -164,7 +164,7 @@ fn report<W: Sink>(
         (way : Way) × MatchResult marks (λ marks. AreMarks way l f marks.items) (IsBeyond way l f) }
     ensures answers { let l = texts.now.system.system in let f = closed_formula texts.now.formula in
         (way : Way) (first second : List ℕ) → MatchResult marks (λ marks. AreMarks way l f marks.items) (IsBeyond way l f)
-        → AreSpelled first second l f → Answers way first second (report_writer form (W.taken out.old) (W.taken out.new)) result }
+        → AreSpelled first second l f → AnswersCheck way first second (report_writer form (W.taken out.old) (W.taken out.new)) result }
     ensures errors { let l = texts.now.system.system in let f = closed_formula texts.now.formula in
         (way : Way) → MatchResult marks (λ marks. AreMarks way l f marks.items) (IsBeyond way l f) → IfErr result (IsErrorOf way) }
     ensures cause { IfErr result (HaveCauses false false) }
@@ -235,7 +235,7 @@ fn check_read<
     watcher: &U,
 ) -> Result<bool, MuError>
     ensures answers { (first second : List ℕ) → AreSpelled first second texts.system.system (closed_formula texts.formula)
-        → Answers (way_of request.now) first second
+        → AnswersCheck (way_of request.now) first second
         (lent_writers G.taken E.taken O.taken V.taken W.taken (wanted_in request.now wanted) writers.old writers.new) result }
     ensures cause { IfErr result (HaveCauses false false) }
 {
@@ -339,7 +339,7 @@ fn check_by_game<
     watcher: &U,
 ) -> Result<bool, MuError>
     ensures answers { (first second : List ℕ) → AreSpelled first second texts.system.system (closed_formula texts.formula)
-        → Answers (ByGame options.now.priorities (Some options.now.board)) first second
+        → AnswersCheck (ByGame options.now.priorities (Some options.now.board)) first second
         (lent_writers G.taken E.taken O.taken V.taken W.taken wanted writers.old writers.new) result }
     ensures cause { IfErr result (HaveCauses false false) }
 {
@@ -374,7 +374,7 @@ fn report_by_game<
     watcher: &U,
 ) -> Result<bool, MuError>
     ensures answers { (first second : List ℕ) → AreSpelled first second texts.now.system.system (closed_formula texts.now.formula)
-        → Answers (ByGame options.now.priorities (Some options.now.board)) first second
+        → AnswersCheck (ByGame options.now.priorities (Some options.now.board)) first second
         (report_writer form (W.taken out.old) (W.taken out.new)) result }
     ensures cause { IfErr result (HaveCauses false false) }
 {
@@ -430,8 +430,8 @@ fn answer_wanted<G: Sink, E: Sink, O: Sink, V: Sink, W: Sink>(
     out: &mut W,
 ) -> Result<bool, MuError>
     requires { AreFindings found.now }
-    ensures answers { (first second : List ℕ) → AreSpelled first second (system_of found.now) (formula_of found.now)
-        → Answers (way_in found.now) first second (all_writers wanted (G.taken game.old) (G.taken game.new)
+    ensures answers { (first second : List ℕ) → AreSpelled first second (system_of found.now) (formula_found found.now)
+        → AnswersCheck (way_in found.now) first second (all_writers wanted (G.taken game.old) (G.taken game.new)
         (E.taken even.old) (E.taken even.new) (O.taken odd.old) (O.taken odd.new) (V.taken witness.old) (V.taken witness.new)
         (W.taken out.old) (W.taken out.new)) result }
     ensures cause { IfErr result (HaveCauses false false) }
@@ -465,8 +465,8 @@ fn answer_prepared<G: Sink, E: Sink, O: Sink, V: Sink, W: Sink>(
     requires prepared { IfOk prepared (ArePrepared found.now) }
     requires wanted { IfOk prepared (λ prepared. prepared.wanted ≡ wanted) }
     requires refusal { IfErr prepared (IsUnprepared found.now wanted) }
-    ensures answers { (first second : List ℕ) → AreSpelled first second (system_of found.now) (formula_of found.now)
-        → Answers (way_in found.now) first second
+    ensures answers { (first second : List ℕ) → AreSpelled first second (system_of found.now) (formula_found found.now)
+        → AnswersCheck (way_in found.now) first second
         (lent_writers G.taken E.taken O.taken V.taken W.taken wanted writers.old writers.new) result }
     ensures cause { IfErr result (HaveCauses false false) }
 {

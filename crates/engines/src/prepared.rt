@@ -5,7 +5,7 @@ ghost use Rattle.std.specs.Arc.{arc_value};
 ghost use Rattle.std.specs.Option.{is_some};
 ghost use Rattle.engines.specs.declared.prepared.Shown.{Shown};
 ghost use Rattle.engines.specs.Prepared.{ArePrepared, AreShown, IsPlayShown, IsUnprepared, IsUnshown, IsWinning};
-ghost use Rattle.verdicts.specs.Findings.{AreFindings, AreOddsOf, IsPairOf, formula_of, system_of};
+ghost use Rattle.verdicts.specs.Findings.{AreFindings, AreOddsOf, IsPairOf, formula_found, system_of};
 ghost use Rattle.requests.specs.Report.{report_in};
 
 use crate::report::report_text;
@@ -88,7 +88,7 @@ fn prepare_beside(
 /// The report in the form that is wanted.
 fn report_of(alloc: Global, found: &Findings, form: ReportForm) -> Result<Vec<u8>, MuError>
     requires { AreFindings found.now }
-    ensures text { IfOk result (λ text. text.items ≡ report_in form (system_of found.now) (formula_of found.now) found.now.marks.items) }
+    ensures text { IfOk result (λ text. text.items ≡ report_in form (system_of found.now) (formula_found found.now) found.now.marks.items) }
     ensures refusal { IfErr result (λ e. e ≡ MuError.Memory) }
 {
     let texts = &found.texts;

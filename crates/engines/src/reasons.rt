@@ -9,7 +9,7 @@ ghost use Rattle.requests.specs.Check.{AreSpelled};
 ghost use Rattle.normal.specs.Normal.{normal_nodes};
 ghost use Rattle.normal.specs.Rules.{nodes_with};
 ghost use Rattle.engines.specs.Prepared.{IsPlayShown, IsUnshown};
-ghost use Rattle.verdicts.specs.Findings.{AreFindings, formula_of, system_of};
+ghost use Rattle.verdicts.specs.Findings.{AreFindings, formula_found, system_of};
 ghost use Rattle.engines.specs.Reasons.{AreTold, TellsReasons, reasons, remarks_of};
 ghost use Rattle.engines.specs.StrictReasons.{TellsWhyBy};
 
@@ -110,7 +110,7 @@ fn tell_found<W: Sink, U: Watcher>(
     watcher: &U,
 ) -> Result<bool, MuError>
     requires { AreFindings found.now }
-    ensures tells { (first second : List ℕ) → AreSpelled first second (system_of found.now) (formula_of found.now)
+    ensures tells { (first second : List ℕ) → AreSpelled first second (system_of found.now) (formula_found found.now)
         → TellsReasons found.now.solution.priorities found.now.solution.board first second (W.taken out.old) (W.taken out.new) result }
     ensures cause { IfErr result (HaveCauses false false) }
 {
@@ -153,7 +153,7 @@ fn told_by(alloc: Global, found: &Findings, play: Play) -> Result<Told, MuError>
 /// The same by this normal form.
 fn told_with(alloc: Global, found: &Findings, normal: Normal, play: Play) -> Result<Told, MuError>
     requires found { AreFindings found.now }
-    requires nodes { normal_nodes normal ≡ nodes_with found.now.solution.priorities (formula_of found.now) }
+    requires nodes { normal_nodes normal ≡ nodes_with found.now.solution.priorities (formula_found found.now) }
     requires shown { IsPlayShown found.now play }
     ensures told { IfOk result (AreTold found.now) }
     ensures refusal { IfErr result (λ e. e ≡ MuError.Memory) }
@@ -189,7 +189,7 @@ fn put_reasons<W: Sink>(found: &Findings, told: &Told, out: &mut W) -> Result<()
     requires found { AreFindings found.now }
     requires told { AreTold found.now told.now }
     ensures { let l = system_of found.now in Wrote (W.taken out.old) (W.taken out.new) result
-        (reasons (formula_of found.now) (slice_index_or found.now.marks.items l.initial false) (remarks_of found.now told.now)
+        (reasons (formula_found found.now) (slice_index_or found.now.marks.items l.initial false) (remarks_of found.now told.now)
         (system_with found.now.texts.value.system told.now.play.transitions.items) told.now.lines.items) }
 {
     let system = &found.texts.system;

@@ -1,6 +1,7 @@
 // The report of a check.
 
 ghost use Rattle.std.specs.Prelude.{◌≡◌, ◌++◌, length, count_by, decimal, slice_index_or, false, IfOk, IfErr, take};
+ghost use Rattle.text.specs.Pieces.{line_end};
 ghost use Rattle.text.specs.Wrote.{Wrote};
 ghost use Rattle.calculus.specs.Closed.{closed_formula};
 ghost use Rattle.requests.specs.Report.{
@@ -8,7 +9,7 @@ ghost use Rattle.requests.specs.Report.{
   formula_line,
   initial_line,
   is_mark,
-  line_end,
+  mark_end,
   number_lines,
   numbers_with,
   report,
@@ -17,7 +18,6 @@ ghost use Rattle.requests.specs.Report.{
   summary,
   system_line,
   yes_line,
-  yes_or_no,
 };
 
 use calculus::closed::Closed;
@@ -173,7 +173,7 @@ fn write_state_lines<W: Sink>(marks: &[bool], out: &mut W) -> Result<(), WriteFa
 }
 
 fn write_state_line<W: Sink>(state: usize, mark: bool, out: &mut W) -> Result<(), WriteFault>
-    ensures { Wrote (W.taken out.old) (W.taken out.new) result (decimal state ++ yes_or_no mark) }
+    ensures { Wrote (W.taken out.old) (W.taken out.new) result (decimal state ++ mark_end mark) }
 {
     put_pieces(
         out,
@@ -240,7 +240,7 @@ pub(crate) fn marked(marks: &[bool]) -> usize
 
 /// The end of a line that tells whether a mark stands.
 fn answer_line(mark: bool) -> &'static [u8]
-    ensures { result.now ≡ yes_or_no mark }
+    ensures { result.now ≡ mark_end mark }
 {
     if mark { b" yes\n" } else { b" no\n" }
 }

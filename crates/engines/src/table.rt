@@ -11,7 +11,7 @@ ghost use Rattle.engines.specs.Status.{error_status as status_of_error};
 ghost use Rattle.requests.specs.Check.{AreMarks, IsBeyond};
 ghost use Rattle.requests.specs.Known.{AreKnown};
 ghost use Rattle.requests.specs.Texts.{IsFormulaOf};
-ghost use Rattle.engines.specs.Table.{IsRefused, Tells, answer_line, code_of, fault_code, is_as_expected, name_end, place_of, refusal_line, remark, way_by};
+ghost use Rattle.engines.specs.Table.{IsRefused, TellsLine, answer_line, code_of, fault_code, is_as_expected, name_end, place_of, refusal_line, remark, way_by};
 
 use crate::expectation::expectation;
 use crate::report::marked;
@@ -62,7 +62,7 @@ pub fn table_line<S: Source + Drop, W: Sink, H: Threads + Wait + Clone + Copy + 
     formula: S,
     out: &mut W,
 ) -> Result<u8, WriteFault>
-    ensures { Tells request.now.strict (way_by request.now.options request.now.plain) system.now.system S.can_fail name.now
+    ensures { TellsLine request.now.strict (way_by request.now.options request.now.plain) system.now.system S.can_fail name.now
         (S.remaining formula) (W.taken out.old) (W.taken out.new) result }
 {
     table_line_seen(rt, alloc, system, request, name, formula, out, &Silent)
@@ -87,7 +87,7 @@ pub fn table_line_seen<
     out: &mut W,
     watcher: &U,
 ) -> Result<u8, WriteFault>
-    ensures { Tells request.now.strict (way_by request.now.options request.now.plain) system.now.system S.can_fail name.now
+    ensures { TellsLine request.now.strict (way_by request.now.options request.now.plain) system.now.system S.can_fail name.now
         (S.remaining formula) (W.taken out.old) (W.taken out.new) result }
 {
     match find(rt, alloc, system, request, formula, watcher) {

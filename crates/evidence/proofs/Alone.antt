@@ -13,7 +13,7 @@ use Rattle.game.specs.declared.player.Player.TheVariants.{Even, Odd}
 use Rattle.evidence.specs.Canon.{header}
 use Rattle.evidence.specs.Evidence.{Entry, Evidence, counted}
 use Rattle.evidence.specs.Fault.{HasFault, IsFaultyRest, IsMisplaced, LineFault}
-use Rattle.evidence.specs.Spelling.{AreGood, AreLines, AreOf, IsEvidenceText, IsInside, IsShaped, Row}
+use Rattle.evidence.specs.Spelling.{AreGoodRows, AreLines, AreEntriesOf, IsEvidenceText, IsRowInside, IsShaped, Row}
 use Rattle.evidence.specs.declared.error.EvidenceFault.{EvidenceFault}
 use Rattle.evidence.specs.declared.error.EvidenceFault.TheVariants.{BadHeader, BadLine, BadVertex}
 use Rattle.evidence.proofs.Scanned.{row_same}
@@ -56,7 +56,7 @@ list_same (x ∷ es) (y ∷ fs) l h = let first : x ≡ y = h 0 in let rest = li
 entries_same : (n w : ℕ) (rest : List (List ℕ)) (es fs : List (Option Entry)) → AreLines n w rest es → AreLines n w rest fs → es ≡ fs
 entries_same n w rest es fs a b =
     let rows = rows_same w rest a.rows b.rows a.good.each b.good.each in
-    let same : AreOf a.rows fs = subst (λ rows. AreOf rows fs) (sym rows) b.same in
+    let same : AreEntriesOf a.rows fs = subst (λ rows. AreEntriesOf rows fs) (sym rows) b.same in
     list_same es fs (a.long ∙ sym b.long) (λ v. option_same (slice_index_or es v None) (slice_index_or fs v None) (λ x e. (same v x).1 ((a.same v x).0 e))
     (λ x e. (a.same v x).1 ((same v x).0 e)))
 
@@ -105,7 +105,7 @@ apart front x y back once (k, h, is) e =
     once k (length front) y h (omega arith) (ap (λ (r : Row). r.vertex) at ∙ (e ∙ sym (ap (λ (r : Row). r.vertex) (seam front x back y))))
 
 no_line : (n w : ℕ) (front : List (List ℕ)) (line : List ℕ) (back : List (List ℕ)) (rows before : List Row) (fault : EvidenceFault)
-    → AreGood n w (front ++ line ∷ back) rows → AreGood n w front before → LineFault n w before line fault → ⊥
+    → AreGoodRows n w (front ++ line ∷ back) rows → AreGoodRows n w front before → LineFault n w before line fault → ⊥
 no_line n w front line back rows before BadHeader all some wrong = wrong
 no_line n w front line back rows before BadLine all some wrong = let s = split_of w front line back rows all.each in wrong s.row s.shaped
 no_line n w front line back rows before BadVertex all some (y, shaped, place) = misplaced place
@@ -116,10 +116,10 @@ no_line n w front line back rows before BadVertex all some (y, shaped, place) = 
     same : y ≡ (split_of w front line back rows all.each).row
     same = row_same w line y (split_of w front line back rows all.each).row shaped (split_of w front line back rows all.each).shaped
 
-    inside : IsInside n y
+    inside : IsRowInside n y
     inside =
         let s = split_of w front line back rows all.each in
-        subst (IsInside n) (sym same) (middle (IsInside n) s.before s.row s.after (subst (AllByRecursion (IsInside n)) s.is all.inside))
+        subst (IsRowInside n) (sym same) (middle (IsRowInside n) s.before s.row s.after (subst (AllByRecursion (IsRowInside n)) s.is all.inside))
 
     misplaced : IsMisplaced n before y → ⊥
     misplaced (inl past) = absurd (omega (arith, inside.vertex, past))
@@ -152,7 +152,7 @@ level (a ∷ fs) (x ∷ gs) bs cs l m e h =
 not_before : (n w : ℕ) (rest : List (List ℕ)) (f h : EvidenceFault) (i j : ℕ) → IsFaultyRest n w rest f i → IsFaultyRest n w rest h j → i < j → ⊥
 not_before n w rest f h i j p q less =
     let (mid, is) = longer p.front q.front p.back q.back p.line q.line (sym p.cut ∙ q.cut) (omega (arith, p.count, q.count, less)) in
-    no_line n w p.front p.line mid q.before p.before f (subst (λ l. AreGood n w l q.before) is q.fine) p.fine p.wrong
+    no_line n w p.front p.line mid q.before p.before f (subst (λ l. AreGoodRows n w l q.before) is q.fine) p.fine p.wrong
 
 one_line : (n w : ℕ) (before : List Row) (line : List ℕ) (f h : EvidenceFault) → LineFault n w before line f → LineFault n w before line h → f ≡ h
 one_line n w before line BadHeader h p q = absurd p
@@ -204,10 +204,10 @@ no_below : (g : Game) (text : List ℕ) (e : Evidence) (fault : EvidenceFault) (
 no_below g text e fault place a (p, rest, good, cut, faulty, at) =
     let same = cut_alone (pieces_of text) rest a.rest p e.player cut a.cut in
     let n = length g.vertices in
-    let lines : AreGood n (length (counted p g)) a.rest a.lines.rows = subst (λ player. AreGood n (length (counted player g)) a.rest a.lines.rows)
+    let lines : AreGoodRows n (length (counted p g)) a.rest a.lines.rows = subst (λ player. AreGoodRows n (length (counted player g)) a.rest a.lines.rows)
     (sym same.0) a.lines.good in
-    let all : AreGood n (length (counted p g)) (faulty.front ++ faulty.line ∷ faulty.back) a.lines.rows = subst
-    (λ l. AreGood n (length (counted p g)) l a.lines.rows) (sym same.1 ∙ faulty.cut) lines in
+    let all : AreGoodRows n (length (counted p g)) (faulty.front ++ faulty.line ∷ faulty.back) a.lines.rows = subst
+    (λ l. AreGoodRows n (length (counted p g)) l a.lines.rows) (sym same.1 ∙ faulty.cut) lines in
     no_line n (length (counted p g)) faulty.front faulty.line faulty.back a.lines.rows faulty.before fault all faulty.fine faulty.wrong
 
 pub no_fault : (g : Game) (text : List ℕ) (e : Evidence) (fault : EvidenceFault) (place : ℕ) → IsEvidenceText g text e → HasFault g text fault place → ⊥

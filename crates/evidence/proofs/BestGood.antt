@@ -18,7 +18,7 @@ use Rattle.progress.proofs.Lifts.{even_reaches, odd_reaches, value_measure}
 use Rattle.progress.proofs.Measures.{at_most_trans, prog, reaches_up}
 use Rattle.progress.proofs.TableWins.{other_owner}
 use Rattle.evidence.specs.Best.{IsBestMove, IsEvenOf}
-use Rattle.evidence.specs.Evidence.{Descends, Entry, Evidence, GoesTo, counted, IsEvidence, IsFree, IsGood, entry_at, has}
+use Rattle.evidence.specs.Evidence.{Descends, Entry, Evidence, GoesTo, counted, IsEvidence, LacksFault, IsGood, entry_at, has}
 use Rattle.evidence.specs.Laws.{EvenEvidenceIsGood, OddEvidenceIsGood}
 use Rattle.evidence.specs.declared.verdict.Fault.{Fault}
 use Rattle.evidence.specs.declared.verdict.Fault.TheVariants.{Leaves, Move, Rank}
@@ -105,10 +105,10 @@ module _ (g : Game) (game : IsGame g) (e : Evidence) (is : IsEvenOf g e) where
   stays p Top c r = absurd r
   stays p (Counts d) c r = (d, refl)
 
-  free : (u : ℕ) (fault : Fault) (x : Entry) (v : Vertex) → entry_at e u ≡ Some x → vertex g u ≡ Some v → IsFree g e v x fault
+  free : (u : ℕ) (fault : Fault) (x : Entry) (v : Vertex) → entry_at e u ≡ Some x → vertex g u ≡ Some v → LacksFault g e v x fault
   free u Move x v here at = by x.move refl ((told u x here).1 v at)
     where
-      by : (o : Option ℕ) → x.move ≡ o → IsBestMove g is.table v o → IsFree g e v x Move
+      by : (o : Option ℕ) → x.move ≡ o → IsBestMove g is.table v o → LacksFault g e v x Move
       by None m best = ((λ own. even_odd v.owner (own ∙ is.player) best), (λ n. m))
       by (Some t) m best = ((λ own. (t, m, best.1.successor)), (λ n. absurd (n (best.0 ∙ sym is.player))))
   free u Leaves x v here at = λ t to. (

@@ -19,7 +19,7 @@ use Rattle.evidence.specs.Canon.{entry_line, entry_lines, evidence_text, header,
 use Rattle.evidence.specs.Evidence.{Entry, Evidence, IsEvidence, counted}
 use Rattle.evidence.specs.Best.{IsEvenOf}
 use Rattle.evidence.specs.Laws.{IsSmall, WrittenIsAccepted}
-use Rattle.evidence.specs.Spelling.{AreOf, IsEvidenceText, IsInside, IsMoveText, IsShaped, Row}
+use Rattle.evidence.specs.Spelling.{AreEntriesOf, IsEvidenceText, IsRowInside, IsMoveText, IsShaped, Row}
 use Rattle.evidence.specs.declared.limits.TheConstants.{GREATEST_COUNT}
 use Rattle.game.specs.declared.limits.TheConstants.{MOST_VERTICES}
 use Rattle.game.specs.declared.player.Player.{Player}
@@ -114,7 +114,7 @@ AllFit n width es = (k : ℕ) (x : Entry) → slice_index_or es k None ≡ Some 
 module _ (n width : ℕ) (limit : n ≤ MOST_VERTICES) where
   lines_are : (v : ℕ) (es : List (Option Entry)) → v + length es ≤ n → AllFit n width es
       → (pieces_of (entry_lines v es) ≡ map body_of (rows_from v es)) × AllZip (IsShaped width) (map body_of (rows_from v es)) (rows_from v es)
-      × AllByRecursion (IsInside n) (rows_from v es)
+      × AllByRecursion (IsRowInside n) (rows_from v es)
   lines_are v [] long fit = (refl, tt, tt)
   lines_are v (None ∷ es) long fit = lines_are (v + 1) es (omega (arith, long)) (λ k. fit (suc k))
   lines_are v (Some x ∷ es) long fit =
@@ -172,7 +172,7 @@ has_entry v (suc i) row (Some x ∷ es) inside e =
     let there = has_entry (v + 1) i row es (omega (arith, inside)) e in
     (suc there.0, omega (arith, there.1), there.2)
 
-rows_are : (es : List (Option Entry)) → AreOf (rows_from 0 es) es
+rows_are : (es : List (Option Entry)) → AreEntriesOf (rows_from 0 es) es
 rows_are es v x =
     let same : 0 + v ≡ v = omega arith in (
       (λ e. subst (λ w. Contains (rows_from 0 es) (record { vertex = w; entry = x })) same (has_row 0 v x es e)),

@@ -16,7 +16,7 @@ use Rattle.progress.proofs.Bests.{vertex_tells}
 use Rattle.progress.proofs.Lists.{all_got, contains_first, contains_none, contains_cases}
 use Rattle.progress.proofs.Measures.{below_at_most}
 use Rattle.evidence.specs.Checking.{IsAlong, IsFaultAt, IsLeastFault}
-use Rattle.evidence.specs.Evidence.{Descends, Entry, Evidence, GoesTo, IsFree, IsFreeAt, IsGood, counted, cut, entry_at, even_down}
+use Rattle.evidence.specs.Evidence.{Descends, Entry, Evidence, GoesTo, LacksFault, IsFreeAt, IsGood, counted, cut, entry_at, even_down}
 use Rattle.evidence.specs.declared.verdict.Fault.{Fault}
 use Rattle.evidence.specs.declared.verdict.Fault.TheVariants.{Leaves, Move, Rank}
 use Rattle.evidence.proofs.Shifted.{count_suc, odd_down_is}
@@ -67,15 +67,15 @@ module _ (player : Player) (g : Game) (p k : ℕ) (rank next : List ℕ) (keeps 
 
 module _ (g : Game) (e : Evidence) (x : Vertex) (y : Entry) where
   -- these are all to which the play may go
-  along_least : (ts : List ℕ) (r : Option Fault) → IsFree g e x y Move → ((t : ℕ) → GoesTo e.player x y t → Contains ts t)
+  along_least : (ts : List ℕ) (r : Option Fault) → LacksFault g e x y Move → ((t : ℕ) → GoesTo e.player x y t → Contains ts t)
       → ((t : ℕ) → Contains ts t → GoesTo e.player x y t)
       → IsAlong g e x.priority y.rank ts r → IsLeastFault g e x y r
-  along_least ts None f to from a = each (λ k. IsFree g e x y k) f (λ t goes. a.0 t (to t goes)) (λ t z goes at. a.1 t (to t goes) z at)
+  along_least ts None f to from a = each (λ k. LacksFault g e x y k) f (λ t goes. a.0 t (to t goes)) (λ t z goes at. a.1 t (to t goes) z at)
   along_least ts (Some Move) f to from a = absurd a
-  along_least ts (Some Leaves) f to from a = ((λ free. a (λ t c. free t (from t c))), below_leaves (λ k. IsFree g e x y k) f)
+  along_least ts (Some Leaves) f to from a = ((λ free. a (λ t c. free t (from t c))), below_leaves (λ k. LacksFault g e x y k) f)
   along_least ts (Some Rank) f to from a = (
     (λ free. a.1 (λ t c z at. free t z (from t c) at)),
-    below_rank (λ k. IsFree g e x y k) f (λ t goes. a.0 t (to t goes)),
+    below_rank (λ k. LacksFault g e x y k) f (λ t goes. a.0 t (to t goes)),
   )
 
   pub own_least : (t : ℕ) (r : Option Fault) → x.owner ≡ e.player → y.move ≡ Some t → Contains x.successors t → IsAlong g e x.priority y.rank (t ∷ []) r

@@ -9,7 +9,7 @@ use Rattle.game.specs.Game.{Game, Vertex, greatest, opponent, vertex}
 use Rattle.game.specs.Wins.{IsOf}
 use Rattle.progress.specs.Measure.{Counts, IsAtMost, IsBelow, odd_down}
 use Rattle.progress.proofs.NotBoth.{path_on}
-use Rattle.evidence.specs.Evidence.{Descends, Entry, Evidence, GoesTo, IsEvidence, IsFree, IsGood, counted, entry_at, even_down, has}
+use Rattle.evidence.specs.Evidence.{Descends, Entry, Evidence, GoesTo, IsEvidence, LacksFault, IsGood, counted, entry_at, even_down, has}
 use Rattle.evidence.specs.Witness.{Goes, IsClosedFor, cut_from, cut_to}
 use Rattle.evidence.specs.Laws.{ReachedIsClosed}
 use Rattle.evidence.specs.declared.verdict.Fault.{Fault}
@@ -101,7 +101,7 @@ module _ (g other : Game) (e : Evidence) (set : ℕ → Bool) (is : IsEvidence g
   goes u x y w t (inl h) = inl (sym w.owner ∙ h.0, h.1)
   goes u x y w t (inr h) = let n : w.first.owner ≢ e.player = λ q. h.0 (w.owner ∙ q) in inr (n, w.others n t h.1)
 
-  free : (u : ℕ) (fault : Fault) (x : Entry) (y : Vertex) → IsTrue (set u) → entry_at e u ≡ Some x → Follows g e u y → IsFree other f y x fault
+  free : (u : ℕ) (fault : Fault) (x : Entry) (y : Vertex) → IsTrue (set u) → entry_at e u ≡ Some x → Follows g e u y → LacksFault other f y x fault
   free u Move x y i here w = (
     λ own. (let m = (good u Move x w.first here w.at).0 (sym w.owner ∙ own)
         in (m.0, m.1, w.own m.0 (x, w.first, here, w.at, inl (sym w.owner ∙ own, m.1)) m.2)),

@@ -14,7 +14,7 @@ use Rattle.game.specs.declared.player.Player.TheVariants.{Even, Odd}
 use Rattle.evidence.specs.Canon.{header}
 use Rattle.evidence.specs.Evidence.{Entry, Evidence, counted}
 use Rattle.evidence.specs.Fault.{HasFault, IsFaultyRest, LineFault}
-use Rattle.evidence.specs.Spelling.{AreGood, AreLines, AreOf, IsEvidenceText, IsInside, IsShaped, Row}
+use Rattle.evidence.specs.Spelling.{AreGoodRows, AreLines, AreEntriesOf, IsEvidenceText, IsRowInside, IsShaped, Row}
 use Rattle.evidence.specs.declared.error.EvidenceFault.{EvidenceFault}
 use Rattle.evidence.specs.declared.error.EvidenceFault.TheVariants.{BadHeader, BadLine, BadVertex}
 use Rattle.evidence.proofs.Gathered.{all_more, each_more, same_more}
@@ -24,13 +24,13 @@ use Rattle.evidence.proofs.Scanned.{row_found, row_gives, row_of}
 module _ (n width : ℕ) where
   -- lines that say these rows, which are these entries
   record Fine (front : List (List ℕ)) (rows : List Row) (entries : List (Option Entry)) : Type 0 where
-    good : AreGood n width front rows
+    good : AreGoodRows n width front rows
     long : length entries ≡ n
-    same : AreOf rows entries
+    same : AreEntriesOf rows entries
 
   -- a line behind them
   data Judged (rows : List Row) (entries : List (Option Entry)) (line : List ℕ) : Type 0 where
-    fine : (row : Row) → IsShaped width line row → IsInside n row → slice_index_or entries row.vertex None ≡ None → Judged rows entries line
+    fine : (row : Row) → IsShaped width line row → IsRowInside n row → slice_index_or entries row.vertex None ≡ None → Judged rows entries line
     no_line : LineFault n width rows line BadLine → Judged rows entries line
     no_place : LineFault n width rows line BadVertex → Judged rows entries line
 
@@ -40,8 +40,8 @@ module _ (n width : ℕ) where
     bad_line : (good : ℕ) → IsFaultyRest n width rest BadLine good → Rest rest
     bad_vertex : (good : ℕ) → IsFaultyRest n width rest BadVertex good → Rest rest
 
-  module _ (rows : List Row) (entries : List (Option Entry)) (same : AreOf rows entries) (line : List ℕ) where
-    by_free : (row : Row) → IsShaped width line row → IsInside n row → (o : Option Entry) → slice_index_or entries row.vertex None ≡ o
+  module _ (rows : List Row) (entries : List (Option Entry)) (same : AreEntriesOf rows entries) (line : List ℕ) where
+    by_free : (row : Row) → IsShaped width line row → IsRowInside n row → (o : Option Entry) → slice_index_or entries row.vertex None ≡ o
         → Judged rows entries line
     by_free row shaped inside None free = fine row shaped inside free
     by_free row shaped inside (Some x) taken =
@@ -49,7 +49,7 @@ module _ (n width : ℕ) where
 
     by_move : (row : Row) → IsShaped width line row → row.vertex < n → (o : Option ℕ) → row.entry.move ≡ o → Judged rows entries line
     by_move row shaped vertex None none =
-        let inside : IsInside n row = record { vertex = vertex; move = λ t e. (let q : None ≡ Some t = sym none ∙ e in cc) } in
+        let inside : IsRowInside n row = record { vertex = vertex; move = λ t e. (let q : None ≡ Some t = sym none ∙ e in cc) } in
         by_free row shaped inside (slice_index_or entries row.vertex None) refl
     by_move row shaped vertex (Some t) some = elim (leb_tells n t) [
       | inl w ↦ no_place (row, shaped, inr (inl (t, some, w.1)))
@@ -70,7 +70,7 @@ module _ (n width : ℕ) where
     by_scan (Some row) found = by_vertex row (row_gives width line row found)
 
   longer : (front : List (List ℕ)) (rows : List Row) (entries : List (Option Entry)) (line : List ℕ) (row : Row) → Fine front rows entries
-      → IsShaped width line row → IsInside n row → slice_index_or entries row.vertex None ≡ None
+      → IsShaped width line row → IsRowInside n row → slice_index_or entries row.vertex None ≡ None
       → Fine (front ++ line ∷ []) (rows ++ row ∷ []) (slice_set entries row.vertex (Some row.entry))
   longer front rows entries line row is shaped inside free =
       let vertex : row.vertex < length entries = omega (arith, inside.vertex, is.long) in record {
@@ -92,7 +92,7 @@ module _ (n width : ℕ) where
   -- a line behind lines that are fine
   at_line : (rest front : List (List ℕ)) (line : List ℕ) (back : List (List ℕ)) (rows : List Row) (entries : List (Option Entry))
       → rest ≡ front ++ line ∷ back → Fine front rows entries
-      → ((row : Row) → IsShaped width line row → IsInside n row → slice_index_or entries row.vertex None ≡ None → Rest rest)
+      → ((row : Row) → IsShaped width line row → IsRowInside n row → slice_index_or entries row.vertex None ≡ None → Rest rest)
       → Judged rows entries line → Rest rest
   at_line rest front line back rows entries cut is go (fine row shaped inside free) = go row shaped inside free
   at_line rest front line back rows entries cut is go (no_line wrong) = bad_line (length front)
@@ -103,7 +103,7 @@ module _ (n width : ℕ) where
   behind : (rest front back : List (List ℕ)) (rows : List Row) (entries : List (Option Entry)) → rest ≡ front ++ back → Fine front rows entries → Rest rest
   behind rest front [] rows entries cut is =
       let whole : rest ≡ front = cut ∙ append-nil front in
-      all entries (record { rows = rows; good = subst (λ ls. AreGood n width ls rows) (sym whole) is.good; long = is.long; same = is.same })
+      all entries (record { rows = rows; good = subst (λ ls. AreGoodRows n width ls rows) (sym whole) is.good; long = is.long; same = is.same })
   behind rest front (line ∷ back) rows entries cut is =
       at_line rest front line back rows entries cut is
       (λ row shaped inside free. behind rest (front ++ line ∷ []) back (rows ++ row ∷ []) (slice_set entries row.vertex (Some row.entry))

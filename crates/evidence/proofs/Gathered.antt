@@ -13,8 +13,8 @@ use Rattle.text.specs.Lines.{IfKnown, TakesPiece}
 use Rattle.text.specs.Text.{pieces_of}
 use Rattle.evidence.specs.Evidence.{Entry}
 use Rattle.evidence.specs.Fault.{IsMisplaced, LineFault}
-use Rattle.evidence.specs.Reading.{AreRead, HasRestFault, IsAdded, IsCut, IsNoPlace, IsWrongLine, SoFar}
-use Rattle.evidence.specs.Spelling.{AreOf, IsInside, IsShaped, Row}
+use Rattle.evidence.specs.Reading.{AreEntriesRead, HasRestFault, IsAdded, IsCutOff, IsNoPlace, IsWrongLine, SoFar}
+use Rattle.evidence.specs.Spelling.{AreEntriesOf, IsRowInside, IsShaped, Row}
 use Rattle.evidence.specs.View.{Entries}
 use Rattle.evidence.specs.declared.error.EvidenceFault.{EvidenceFault}
 use Rattle.evidence.specs.declared.error.EvidenceFault.TheVariants.{BadHeader, BadLine, BadVertex}
@@ -42,12 +42,12 @@ nothing_yet vertices old entries all none = record {
   cut = start old;
 }
   where
-    start : (old : Option (List ℕ)) → IfKnown old old (IsCut [])
+    start : (old : Option (List ℕ)) → IfKnown old old (IsCutOff [])
     start None = tt
     start (Some text) = refl
 
-cut_more : (old mid new : Option (List ℕ)) (done : List (List ℕ)) (line : List ℕ) → IfKnown old mid (IsCut done) → TakesPiece mid new true line
-    → IfKnown old new (IsCut (done ++ line ∷ []))
+cut_more : (old mid new : Option (List ℕ)) (done : List (List ℕ)) (line : List ℕ) → IfKnown old mid (IsCutOff done) → TakesPiece mid new true line
+    → IfKnown old new (IsCutOff (done ++ line ∷ []))
 cut_more None mid new done line cut taken = tt
 cut_more (Some text) None new done line cut taken = absurd cut
 cut_more (Some text) (Some left) None done line cut taken = absurd taken
@@ -60,7 +60,7 @@ each_more w [] (b ∷ rows) line x each one = absurd each
 each_more w (l ∷ done) [] line x each one = absurd each
 each_more w (l ∷ done) (b ∷ rows) line x each one = (each.0, each_more w done rows line x each.1 one)
 
-pub all_more : (n : ℕ) (rows : List Row) (x : Row) → AllByRecursion (IsInside n) rows → IsInside n x → AllByRecursion (IsInside n) (rows ++ x ∷ [])
+pub all_more : (n : ℕ) (rows : List Row) (x : Row) → AllByRecursion (IsRowInside n) rows → IsRowInside n x → AllByRecursion (IsRowInside n) (rows ++ x ∷ [])
 all_more n [] x all one = (one, tt)
 all_more n (y ∷ rows) x all one = (all.0, all_more n rows x all.1 one)
 
@@ -95,8 +95,8 @@ filled_few (Some y ∷ entries) = omega (arith, filled_few entries, count_yes is
 pub few_good : (vertices width good : ℕ) (old now : Option (List ℕ)) (entries : Entries) → SoFar vertices width good old now entries → good ≤ vertices
 few_good vertices width good old now entries so = omega (arith, filled_few entries.entries, so.filled, so.long)
 
-pub same_more : (rows : List Row) (entries : List (Option Entry)) (x : Row) → AreOf rows entries → x.vertex < length entries
-    → slice_index_or entries x.vertex None ≡ None → AreOf (rows ++ x ∷ []) (slice_set entries x.vertex (Some x.entry))
+pub same_more : (rows : List Row) (entries : List (Option Entry)) (x : Row) → AreEntriesOf rows entries → x.vertex < length entries
+    → slice_index_or entries x.vertex None ≡ None → AreEntriesOf (rows ++ x ∷ []) (slice_set entries x.vertex (Some x.entry))
 same_more rows entries x same inside free v y = (to, from)
   where
     to : slice_index_or (slice_set entries x.vertex (Some x.entry)) v None ≡ Some y → Contains (rows ++ x ∷ []) (record { vertex = v; entry = y })
@@ -134,11 +134,11 @@ line_more vertices width good old mid new line entries after so taken one =
       rows = so.rows ++ x ∷ [];
       fine = record {
         each = each_more width so.done so.rows line x so.fine.each (subst (λ w. IsShaped w line x) so.wide one.shaped);
-        inside = all_more vertices so.rows x so.fine.inside (subst (λ n. IsInside n x) so.long one.inside);
+        inside = all_more vertices so.rows x so.fine.inside (subst (λ n. IsRowInside n x) so.long one.inside);
         once = all_pairs_push (λ (a b : Row). a.vertex ≢ b.vertex) so.rows x so.fine.once apart;
       };
       count = omega (arith, length-append so.done (line ∷ []), so.count);
-      same = subst (λ (r : Entries). AreOf (so.rows ++ x ∷ []) r.entries) (sym one.added)
+      same = subst (λ (r : Entries). AreEntriesOf (so.rows ++ x ∷ []) r.entries) (sym one.added)
           (same_more so.rows entries.entries x so.same one.inside.vertex one.free);
       filled = ap (λ (r : Entries). count_by is_some r.entries) one.added
           ∙ (filled_more entries.entries x.vertex x.entry one.inside.vertex one.free ∙ ap (λ n. n + 1) so.filled);
@@ -158,14 +158,14 @@ line_more vertices width good old mid new line entries after so taken one =
 
 -- no line was left
 pub all_read : (vertices width good : ℕ) (old mid new : Option (List ℕ)) (line : List ℕ) (entries : Entries) → SoFar vertices width good old mid entries
-    → TakesPiece mid new false line → AreRead vertices width old entries.entries
+    → TakesPiece mid new false line → AreEntriesRead vertices width old entries.entries
 all_read vertices width good old mid new line entries so taken = record {
   rest = so.done;
   lines = record { rows = so.rows; good = so.fine; long = so.long; same = so.same };
   cut = whole old mid new so.cut taken;
 }
   where
-    whole : (old mid new : Option (List ℕ)) → IfKnown old mid (IsCut so.done) → TakesPiece mid new false line → IfSome old (λ text. pieces_of text ≡ so.done)
+    whole : (old mid new : Option (List ℕ)) → IfKnown old mid (IsCutOff so.done) → TakesPiece mid new false line → IfSome old (λ text. pieces_of text ≡ so.done)
     whole None mid new cut taken = tt
     whole (Some text) None new cut taken = absurd cut
     whole (Some text) (Some left) None cut taken = absurd taken

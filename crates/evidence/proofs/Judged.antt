@@ -4,7 +4,7 @@ use Rattle.std.proofs.lemmas.Bool.Decides.{leb_tells}
 use Rattle.text.specs.Tokens.{capped, ◌>>=◌}
 use Rattle.game.specs.declared.limits.TheConstants.{MOST_VERTICES}
 use Rattle.evidence.specs.Evidence.{Entry}
-use Rattle.evidence.specs.Reading.{IsAdded, IsNoPlace, IsPlace}
+use Rattle.evidence.specs.Reading.{IsAdded, IsNoPlace, HasPlaceFor}
 use Rattle.evidence.specs.Scan.{fields_of, rank_of, read_move}
 use Rattle.evidence.specs.Spelling.{IsShaped, Row}
 use Rattle.evidence.specs.View.{Entries}
@@ -55,7 +55,7 @@ module _ (entries : List (Option Entry)) (few : length entries ≤ MOST_VERTICES
     | inr w ↦ (let below = w.1 in let same : v ≡ n = omega arith in inr (inr (x, subst (λ k. slice_index_or entries k None ≡ Some x) same e)))
   ]
 
-  module _ (place : IsPlace entries v next) where
+  module _ (place : HasPlaceFor entries v next) where
     same_vertex : v ≡ n
     same_vertex = let below = place.vertex in omega arith
 

@@ -23,7 +23,7 @@ use Rattle.laws.proofs.Edges.{in_or_else, of_or_else}
 use Rattle.laws.proofs.Lists.{any_gives, filter_gives, gives_any, gives_filter, in_map, of_map, only_in}
 use Rattle.laws.proofs.Vertices.{node_in, vertex_is}
 use Rattle.evidence.specs.Evidence.{Evidence, entry_at}
-use Rattle.evidence.specs.Witness.{IsClosedFor, IsPart, Keeps, KeepsStep, cut_to}
+use Rattle.evidence.specs.Witness.{IsClosedFor, IsPartOf, Keeps, KeepsStep, cut_to}
 use Rattle.evidence.specs.Laws.{WitnessMeans, WitnessWins}
 use Rattle.evidence.proofs.Cutting.{Follows, cut_evidence, cut_good, cut_in}
 use Rattle.evidence.proofs.GoodWins.{entry_of, good_wins}
@@ -50,7 +50,7 @@ arena_long l nodes = let c = rows_count l nodes l.states in omega (arith, c)
 
 -- ------------------------------------------------------------------ successors
 
-module _ (l part : System) (is : IsPart l part) where
+module _ (l part : System) (is : IsPartOf l part) where
   step_of : (a : Action) (s t : ℕ) → is_step part a s t ≡ true → is_step l a s t ≡ true
   step_of a s t h =
       let w = any_gives (λ (arrow : Arrow). arrow.source == s && arrow.target == t && holds a arrow.label) part.arrows h in
@@ -175,7 +175,7 @@ follows_itself : (g : Game) (e : Evidence) (u : ℕ) (v y : Vertex) → vertex g
 follows_itself g e u v y at there =
     subst (λ z. Follows g e u z) (some_same v y there) (record { first = v; at = at; owner = refl; priority = refl; own = λ t go c. c; others = λ not t c. c })
 
-module _ (l part : System) (nodes : List Node) (e : Evidence) (set : ℕ → Bool) (is : IsPart l part) (keeps : Keeps l part nodes e set)
+module _ (l part : System) (nodes : List Node) (e : Evidence) (set : ℕ → Bool) (is : IsPartOf l part) (keeps : Keeps l part nodes e set)
     (closed : IsClosedFor (arena l nodes) e set) where
   abbrev n : ℕ
   n = length nodes

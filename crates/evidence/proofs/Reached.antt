@@ -12,7 +12,7 @@ use Rattle.progress.proofs.Rests.{rests}
 use Rattle.laws.proofs.Flags.{and_true, both, either, or_left, or_right, same_true}
 use Rattle.laws.proofs.Lists.{any_gives, gives_any, gives_range}
 use Rattle.evidence.specs.Evidence.{Entry, Evidence, IsEvidence, IsGood, entry_at, has}
-use Rattle.evidence.specs.Witness.{Goes, IsReached}
+use Rattle.evidence.specs.Witness.{Goes, AreReached}
 use Rattle.evidence.specs.Laws.{ReachedExists}
 use Rattle.evidence.specs.declared.verdict.Fault.TheVariants.{Leaves}
 use Rattle.evidence.proofs.GoodWins.{has_within}
@@ -103,7 +103,7 @@ module _ (g : Game) (e : Evidence) where
     unfolding count
     still k t h q = kept_on (turn k t) (turn (suc k) t) h q
 
-    reached : IsEvidence g e → IsGood g e → IsTrue (has e u) → (set : ℕ → Bool) × IsReached g e u set
+    reached : IsEvidence g e → IsGood g e → IsTrue (has e u) → (set : ℕ → Bool) × AreReached g e u set
     reached is good h = (turn rested.0, λ t. ((λ q. turn_path rested.0 t q), (λ p. along u p.0 t h (turn_first rested.0) p.1)))
       where
         along : (s : ℕ) (others : List ℕ) (t : ℕ) → IsTrue (has e s) → turn rested.0 s ≡ true → IsPath (Goes g e) s others t → turn rested.0 t ≡ true

@@ -12,7 +12,7 @@ use Rattle.text.proofs.Scanning.{bind_some, cut_finds, cut_gives, if_some, whole
 use Rattle.text.proofs.Spaced.{numeral_digits}
 use Rattle.progress.specs.MeasureText.{AreCounts}
 use Rattle.evidence.specs.declared.limits.TheConstants.{GREATEST_COUNT}
-use Rattle.evidence.specs.Scan.{count_before, counts_of, end_of, fields_of, move_of, number_of, rank_of}
+use Rattle.evidence.specs.Scan.{count_before, counts_in, end_of, fields_of, move_of, number_of, rank_of}
 use Rattle.evidence.specs.Spelling.{IsMoveText, IsShaped, Row}
 
 some_is : {A : Type 0} (x y : A) → Some x ≡ Some y → x ≡ y
@@ -171,12 +171,12 @@ with_end x (suc n) [] [] rest each long e = absurd (omega (arith, long))
 with_end x (suc n) [] (k ∷ ks) rest each long e = absurd each
 with_end x (suc n) (y ∷ ys) ks rest each long e = ap (λ l. x ++ 44 ∷ l) e
 
-counts_give : (n : ℕ) (bytes ks : List ℕ) → counts_of n bytes ≡ Some ks → AreEnded n bytes ks
+counts_give : (n : ℕ) (bytes ks : List ℕ) → counts_in n bytes ≡ Some ks → AreEnded n bytes ks
 counts_give zero [] ks e = subst (AreEnded zero []) (some_is [] ks e) (record { numerals = []; each = tt; is = refl; long = refl; small = tt })
 counts_give zero (b ∷ bytes) ks e = absurd cc
 counts_give (suc n) bytes ks e =
-    let (found, before, e1) = bind_some (count_before (end_of n) bytes) (λ found. counts_of n found.1 >>= λ counts. Some (found.0 ∷ counts)) ks e in
-    let (more, rest, e2) = bind_some (counts_of n found.1) (λ counts. Some (found.0 ∷ counts)) ks e1 in
+    let (found, before, e1) = bind_some (count_before (end_of n) bytes) (λ found. counts_in n found.1 >>= λ counts. Some (found.0 ∷ counts)) ks e in
+    let (more, rest, e2) = bind_some (counts_in n found.1) (λ counts. Some (found.0 ∷ counts)) ks e1 in
     let (x, numeral, small, cut) = before_gives (end_of n) bytes found.0 found.1 before in
     let others = counts_give n found.1 more rest in
     subst (AreEnded (suc n) bytes) (some_is (found.0 ∷ more) ks e2)
@@ -190,7 +190,7 @@ counts_give (suc n) bytes ks e =
     })
 
 counts_found : (numerals : List (List ℕ)) (ks : List ℕ) → AllZip IsNumeral numerals ks → AllByRecursion (λ k. k ≤ GREATEST_COUNT) ks
-    → counts_of (length ks) (ended numerals) ≡ Some ks
+    → counts_in (length ks) (ended numerals) ≡ Some ks
 counts_found [] [] each small = refl
 counts_found [] (k ∷ ks) each small = absurd each
 counts_found (x ∷ xs) [] each small = absurd each
@@ -225,7 +225,7 @@ rank_gives zero bytes ks e =
     let h = if_some (bytes_eq bytes (codes "()")) [] ks e in
     subst (IsRank zero bytes) h.1 (record { counts = ([], tt, (bytes_eq-Decides bytes (codes "()")).0 h.0); long = refl; small = tt })
 rank_gives (suc n) bytes ks e =
-    let h = if_then (bytes_eq (take 1 bytes) (codes "(")) (counts_of (suc n) (drop 1 bytes)) ks e in
+    let h = if_then (bytes_eq (take 1 bytes) (codes "(")) (counts_in (suc n) (drop 1 bytes)) ks e in
     let rest = counts_give (suc n) (drop 1 bytes) ks h.1 in
     record { counts = in_brackets n bytes ks ((bytes_eq-Decides (take 1 bytes) (codes "(")).0 h.0) rest; long = rest.long; small = rest.small }
 
@@ -234,7 +234,7 @@ rank_found bytes [] ([], each, is) small = rw is refl
 rank_found bytes [] (x ∷ xs, each, is) small = absurd each
 rank_found bytes (k ∷ ks) ([], each, is) small = absurd each
 rank_found bytes (k ∷ ks) (x ∷ xs, each, is) small =
-    ap (rank_of (suc (length ks))) is ∙ (ap (counts_of (suc (length ks))) (sym (ended_joined x xs)) ∙ counts_found (x ∷ xs) (k ∷ ks) each small)
+    ap (rank_of (suc (length ks))) is ∙ (ap (counts_in (suc (length ks))) (sym (ended_joined x xs)) ∙ counts_found (x ∷ xs) (k ∷ ks) each small)
 
 -- ---- the line
 

@@ -9,7 +9,7 @@ use Rattle.std.proofs.lemmas.Bool.Decides.{leb_tells}
 use Rattle.std.proofs.Math.Seq.{take-suc-set}
 use Rattle.text.specs.Tokens.{cut_at, whole_number, ◌>>=◌}
 use Rattle.evidence.specs.declared.limits.TheConstants.{GREATEST_COUNT}
-use Rattle.evidence.specs.Scan.{count_before, counts_of, end_of, fields_of, move_of, number_of, read_move}
+use Rattle.evidence.specs.Scan.{count_before, counts_in, end_of, fields_of, move_of, number_of, read_move}
 use Rattle.evidence.proofs.Scanned.{whole_none, whole_some}
 
 -- ---- moves
@@ -89,7 +89,7 @@ front_none (Some more) = refl
 
 -- after k counts the others are still to be read
 abbrev pub IsReadTo : List ℕ → List ℕ → ℕ → List ℕ → Type 0
-IsReadTo bytes counts k rest = counts_of (length counts) bytes ≡ with_front (take k counts) (counts_of (length counts - k) rest)
+IsReadTo bytes counts k rest = counts_in (length counts) bytes ≡ with_front (take k counts) (counts_in (length counts - k) rest)
 
 pub comma_end : (k n : ℕ) → k + 1 < n → 44 ≡ end_of (n - (k + 1))
 comma_end k n h = let e : n - (k + 1) ≡ suc (n - (k + 2)) = omega arith in ap end_of (sym e)
@@ -102,25 +102,25 @@ module _ (bytes counts : List ℕ) (k : ℕ) (rest : List ℕ) (so : IsReadTo by
   next_of : length counts - k ≡ suc (length counts - (k + 1))
   next_of = omega arith
 
-  pub read_stops : count_before end rest ≡ None → counts_of (length counts) bytes ≡ None
+  pub read_stops : count_before end rest ≡ None → counts_in (length counts) bytes ≡ None
   read_stops none =
       so
-      ∙ (ap (λ n. with_front (take k counts) (counts_of n rest)) next_of
-      ∙ ap (λ o. with_front (take k counts) (o >>= λ found. counts_of (length counts - (k + 1)) found.1 >>= λ more. Some (found.0 ∷ more)))
+      ∙ (ap (λ n. with_front (take k counts) (counts_in n rest)) next_of
+      ∙ ap (λ o. with_front (take k counts) (o >>= λ found. counts_in (length counts - (k + 1)) found.1 >>= λ more. Some (found.0 ∷ more)))
       (ap (λ b. count_before b rest) (sym is) ∙ none))
 
   pub read_more : (count : ℕ) (more new : List ℕ) → count_before end rest ≡ Some (count, more) → new ≡ set counts k count → length new ≡ length counts
       → IsReadTo bytes new (k + 1) more
   read_more count more new found e long =
       let left = length counts - (k + 1) in
-      let step : counts_of (length counts) bytes ≡ with_front (take k counts) (counts_of left more >>= λ others. Some (count ∷ others)) =
+      let step : counts_in (length counts) bytes ≡ with_front (take k counts) (counts_in left more >>= λ others. Some (count ∷ others)) =
       so
-      ∙ (ap (λ n. with_front (take k counts) (counts_of n rest)) next_of
-      ∙ ap (λ o. with_front (take k counts) (o >>= λ found. counts_of left found.1 >>= λ others. Some (found.0 ∷ others)))
+      ∙ (ap (λ n. with_front (take k counts) (counts_in n rest)) next_of
+      ∙ ap (λ o. with_front (take k counts) (o >>= λ found. counts_in left found.1 >>= λ others. Some (found.0 ∷ others)))
       (ap (λ b. count_before b rest) (sym is) ∙ found)) in
       let front : take (k + 1) new ≡ take k counts ++ count ∷ [] = ap₂ take (add-one k) e ∙ take-suc-set counts k count inside in
-      ap (λ n. counts_of n bytes) long ∙ (step ∙ (shift (take k counts) count (counts_of left more)
-      ∙ (ap (λ l. with_front l (counts_of left more)) (sym front) ∙ ap (λ n. with_front (take (k + 1) new) (counts_of (n - (k + 1)) more)) (sym long))))
+      ap (λ n. counts_in n bytes) long ∙ (step ∙ (shift (take k counts) count (counts_in left more)
+      ∙ (ap (λ l. with_front l (counts_in left more)) (sym front) ∙ ap (λ n. with_front (take (k + 1) new) (counts_in (n - (k + 1)) more)) (sym long))))
     where
       shift : (front : List ℕ) (c : ℕ) (o : Option (List ℕ)) → with_front front (o >>= λ others. Some (c ∷ others)) ≡ with_front (front ++ c ∷ []) o
       shift front c None = refl
@@ -128,13 +128,13 @@ module _ (bytes counts : List ℕ) (k : ℕ) (rest : List ℕ) (so : IsReadTo by
 
 pub read_all : (bytes counts : List ℕ) (k : ℕ) (rest : List ℕ) (b : Bool) → IsReadTo bytes counts k rest → length counts ≤ k → (b ≡ true → length rest ≡ 0)
     → (length rest ≡ 0 → b ≡ true)
-    → MatchBool b (counts_of (length counts) bytes ≡ Some counts) (counts_of (length counts) bytes ≡ None)
+    → MatchBool b (counts_in (length counts) bytes ≡ Some counts) (counts_in (length counts) bytes ≡ None)
 read_all bytes counts k [] true so past to from =
     let none : length counts - k ≡ 0 = omega arith in
-    so ∙ (ap (λ n. with_front (take k counts) (counts_of n [])) none ∙ ap (λ l. Some l) (append-nil (take k counts) ∙ take_all k counts past))
+    so ∙ (ap (λ n. with_front (take k counts) (counts_in n [])) none ∙ ap (λ l. Some l) (append-nil (take k counts) ∙ take_all k counts past))
 read_all bytes counts k (c ∷ rest) true so past to from = absurd (omega (arith, to refl))
 read_all bytes counts k [] false so past to from = absurd (false≢true (from refl))
 read_all bytes counts k (c ∷ rest) false so past to from =
-    let none : length counts - k ≡ 0 = omega arith in so ∙ ap (λ n. with_front (take k counts) (counts_of n (c ∷ rest))) none
+    let none : length counts - k ≡ 0 = omega arith in so ∙ ap (λ n. with_front (take k counts) (counts_in n (c ∷ rest))) none
 
 -- ---- the rank

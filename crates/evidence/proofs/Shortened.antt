@@ -12,7 +12,7 @@ use Rattle.text.proofs.Scanning.{cut_finds, no_numeral, none_other, run_is}
 use Rattle.text.proofs.Streaming.{all_front, digit_more, first_digit, grows, high, numeral_front, times_ten}
 use Rattle.text.proofs.Spaced.{numeral_digits}
 use Rattle.evidence.specs.declared.limits.TheConstants.{GREATEST_COUNT, MOST_DIGITS}
-use Rattle.evidence.specs.Scan.{count_before, counts_of, end_of, fields_of, move_of, number_of, rank_of, read_move}
+use Rattle.evidence.specs.Scan.{count_before, counts_in, end_of, fields_of, move_of, number_of, rank_of, read_move}
 use Rattle.evidence.specs.Short.{digits_then, kept_of, short_from, short}
 
 -- ---- one byte
@@ -280,17 +280,17 @@ begins_kept : (b : ℕ) (bytes : List ℕ) → short (b ∷ bytes) ≡ b ∷ sho
 begins_kept b bytes = step_kept 0 b bytes (elim (is_digit b) as (λ t. cond t (b ∷ []) (b ∷ []) ≡ b ∷ []) [ true ↦ refl | false ↦ refl ])
 
 -- the counts behind the first one are found alike
-counts_behind : (n : ℕ) → ((bytes : List ℕ) → counts_of n (short bytes) ≡ counts_of n bytes) → (o : Option Counted)
-    → (short_count o >>= λ found. counts_of n found.1 >>= λ counts. Some (found.0 ∷ counts))
-    ≡ (o >>= λ found. counts_of n found.1 >>= λ counts. Some (found.0 ∷ counts))
+counts_behind : (n : ℕ) → ((bytes : List ℕ) → counts_in n (short bytes) ≡ counts_in n bytes) → (o : Option Counted)
+    → (short_count o >>= λ found. counts_in n found.1 >>= λ counts. Some (found.0 ∷ counts))
+    ≡ (o >>= λ found. counts_in n found.1 >>= λ counts. Some (found.0 ∷ counts))
 counts_behind n less None = refl
 counts_behind n less (Some p) = ap (λ o. o >>= λ counts. Some (p.0 ∷ counts)) (less p.1)
 
-counts_short : (n : ℕ) (bytes : List ℕ) → counts_of n (short bytes) ≡ counts_of n bytes
+counts_short : (n : ℕ) (bytes : List ℕ) → counts_in n (short bytes) ≡ counts_in n bytes
 counts_short zero [] = refl
-counts_short zero (b ∷ bytes) = ap (counts_of zero) (begins_kept b bytes)
+counts_short zero (b ∷ bytes) = ap (counts_in zero) (begins_kept b bytes)
 counts_short (suc n) bytes =
-    ap (λ o. o >>= λ found. counts_of n found.1 >>= λ counts. Some (found.0 ∷ counts)) (count_short (end_of n) bytes (end_sign n))
+    ap (λ o. o >>= λ found. counts_in n found.1 >>= λ counts. Some (found.0 ∷ counts)) (count_short (end_of n) bytes (end_sign n))
     ∙ counts_behind n (counts_short n) (count_before (end_of n) bytes)
 
 -- what has no digit is not shortened

@@ -15,7 +15,7 @@ use Rattle.text.specs.Stream.{first_piece, below}
 use Rattle.text.proofs.Scanning.{run_passes}
 use Rattle.text.proofs.Streaming.{known_then}
 use Rattle.evidence.specs.declared.limits.TheConstants.{LONGEST_LINE}
-use Rattle.evidence.specs.Short.{digits_then, kept_of, digits_after, short_from, short, Puts, Keeps, TakesOn, TakesShort}
+use Rattle.evidence.specs.Short.{digits_then, kept_of, digits_after, short_from, short, Puts, KeepsShort, TakesOn, TakesShort}
 
 -- ---- one byte
 
@@ -61,7 +61,7 @@ short_both d (b ∷ xs) ys = ap (λ l. kept_of d b ++ l) (short_both (digits_the
 -- what was kept so far
 pub record KeptSo (d : ℕ) (run old now : List ℕ) (after : ℕ) : Type 0 where
   pub digits : after ≡ digits_after d run
-  pub kept : Keeps d run old now
+  pub kept : KeepsShort d run old now
 
 pub kept_none : (d : ℕ) (old : List ℕ) → KeptSo d [] old old d
 kept_none d old = record { digits = refl; kept = puts_nothing old }
@@ -113,7 +113,7 @@ pub ran : (d count taken : ℕ) (after : ℕ) (before now block : List ℕ) (end
     → IfSome old (λ xs. StartsWith xs block) → IfSome old (λ xs. length block ≡ 0 → xs ≡ []) → KeepsLeft old mid
     → IfSome old (λ _. IfSome limit (λ n. length block ≤ n)) → DropsConsumable mid new limit taken → count ≡ prefix_len (is_other 10) block
     → count ≤ length block → taken ≡ min (count + 1) (length block) → ended ≡ (nat_lt count (length block) || nat_eq (length block) 0)
-    → after ≡ digits_after d (take count block) → Keeps d (take count block) before now
+    → after ≡ digits_after d (take count block) → KeepsShort d (take count block) before now
     → IfKnown old new (TakesOn d before now (cond ended None (Some after)))
 ran d count taken after before now block ended None mid new limit front end same fits drops is within long test digits kept = tt
 ran d count taken after before now block ended (Some text) None new limit front end same fits drops is within long test digits kept = absurd same

@@ -17,7 +17,7 @@ use Rattle.laws.proofs.Flags.{and_true, cases, or_left, or_right, same_true}
 use Rattle.laws.proofs.Lists.{gives_any, gives_range}
 use Rattle.laws.proofs.Vertices.{vertex_is}
 use Rattle.evidence.specs.Evidence.{Entry, Evidence, GoesTo, entry_at}
-use Rattle.evidence.specs.Witness.{Goes, HasArrows, HasAllArrows, is_move, is_same, is_taken, is_taken_at, moves_to, witness}
+use Rattle.evidence.specs.Witness.{Goes, HasArrows, HasAllArrows, is_move, is_one_player, is_taken, is_taken_at, moves_to, witness}
 use Rattle.evidence.specs.Laws.{WitnessShows}
 use Rattle.evidence.proofs.Cutting.{reached_closed}
 use Rattle.evidence.proofs.Kept.{arrows_keep_steps, parts_are_systems}
@@ -30,7 +30,7 @@ has_filter p (y ∷ xs) x h t = elim (contains_cases y x xs h) [
   | inr c ↦ (let w = has_filter p xs x c t in elim (cases (p y)) [ inl q ↦ rw q (contains_later y x (filter p xs) w) | inr q ↦ rw q w ])
 ]
 
-other_player : (p q : Player) → p ≢ q → is_same p q ≡ false
+other_player : (p q : Player) → p ≢ q → is_one_player p q ≡ false
 other_player Even Even n = absurd (n refl)
 other_player Even Odd n = refl
 other_player Odd Even n = refl
@@ -68,20 +68,20 @@ module _ (l : System) (nodes : List Node) (e : Evidence) (set : ℕ → Bool) wh
       owner = ap (λ (v : Vertex). v.owner) (some_vertex go.1 (vertex_of l n s node) (sym go.3 ∙ vertex_is l nodes s k node h at)) ∙ ap owner_of is
 
       goes : (arrow : Arrow) → arrow.source ≡ s → u ≡ place n arrow.target child → GoesTo e.player go.1 go.0 u
-          → (not (is_same (owner_of (ModalityNode flag a child)) e.player) || moves_to (entry_at e (place n arrow.source k)) (place n arrow.target child))
+          → (not (is_one_player (owner_of (ModalityNode flag a child)) e.player) || moves_to (entry_at e (place n arrow.source k)) (place n arrow.target child))
           ≡ true
       goes arrow source leads (inl w) =
-          or_right (not (is_same (owner_of (ModalityNode flag a child)) e.player)) (moves_to (entry_at e (place n arrow.source k)) (place n arrow.target child))
+          or_right (not (is_one_player (owner_of (ModalityNode flag a child)) e.player)) (moves_to (entry_at e (place n arrow.source k)) (place n arrow.target child))
           (moved_to (entry_at e (place n arrow.source k)) go.0 (place n arrow.target child) (ap (λ z. entry_at e (place n z k)) source ∙ go.2)
           (w.1 ∙ ap Some leads))
       goes arrow source leads (inr w) =
-          or_left (not (is_same (owner_of (ModalityNode flag a child)) e.player)) (moves_to (entry_at e (place n arrow.source k)) (place n arrow.target child))
+          or_left (not (is_one_player (owner_of (ModalityNode flag a child)) e.player)) (moves_to (entry_at e (place n arrow.source k)) (place n arrow.target child))
           (ap not (other_player (owner_of (ModalityNode flag a child)) e.player (λ q. w.0 (owner ∙ q))))
 
       passes : (arrow : Arrow) → arrow.source ≡ s → u ≡ place n arrow.target child → IsTrue (holds a arrow.label)
           → is_taken n e set arrow k (ModalityNode flag a child) ≡ true
       passes arrow source leads label =
-          let mine = not (is_same (owner_of (ModalityNode flag a child)) e.player)
+          let mine = not (is_one_player (owner_of (ModalityNode flag a child)) e.player)
           || moves_to (entry_at e (place n arrow.source k)) (place n arrow.target child) in
           let here : set (place n arrow.source k) ≡ true = ap (λ z. set (place n z k)) source ∙ i in
           and_true (set (place n arrow.source k) && holds a arrow.label) mine (and_true (set (place n arrow.source k)) (holds a arrow.label) here label)

@@ -15,7 +15,7 @@ use Rattle.game.specs.Wins.{IsOf}
 use Rattle.progress.proofs.Lists.{contains_first, contains_none}
 use Rattle.laws.proofs.Flags.{and_true, both, either, or_left, or_right, same_true}
 use Rattle.laws.proofs.Lists.{all_gives, any_gives, gives_all, gives_any, only_in}
-use Rattle.evidence.specs.Evidence.{Descends, Entry, Evidence, GoesTo, IsFree, cut, entry_at, has}
+use Rattle.evidence.specs.Evidence.{Descends, Entry, Evidence, GoesTo, LacksFault, cut, entry_at, has}
 use Rattle.evidence.specs.Verdict.{IsVerdict, number_of}
 use Rattle.evidence.specs.declared.verdict.Fault.{Fault}
 use Rattle.evidence.specs.declared.verdict.Fault.TheVariants.{Leaves, Move, Rank}
@@ -165,7 +165,7 @@ is_to player g p rank None h = refl
 is_to player g p rank (Some z) h = is_descends player g p rank z.rank (h z refl)
 
 module _ (g : Game) (e : Evidence) where
-  pub passes_free : (v : Vertex) (x : Entry) (fault : Fault) → passes g e v x fault ≡ true → IsFree g e v x fault
+  pub passes_free : (v : Vertex) (x : Entry) (fault : Fault) → passes g e v x fault ≡ true → LacksFault g e v x fault
   passes_free v x Move h = elim (own_tells v.owner e.player) [
     | inl w ↦ (
       (λ own. one_of_is v.successors x.move (subst (λ b. (if b then is_one_of v.successors x.move else not (is_some x.move)) ≡ true) w.0 h)),
@@ -180,7 +180,7 @@ module _ (g : Game) (e : Evidence) where
   passes_free v x Rank h = λ t y to at. to_is e.player g v.priority x.rank (entry_at e t) y
       (all_gives (λ u. descends_to e.player g v.priority x.rank (entry_at e u)) (goals e.player v x) t h (goal_in e.player v x t to)) at
 
-  pub free_passes : (v : Vertex) (x : Entry) (fault : Fault) → IsFree g e v x fault → passes g e v x fault ≡ true
+  pub free_passes : (v : Vertex) (x : Entry) (fault : Fault) → LacksFault g e v x fault → passes g e v x fault ≡ true
   free_passes v x Move f = elim (own_tells v.owner e.player) [
     | inl w ↦ (let m = f.0 w.1 in subst (λ b. (if b then is_one_of v.successors x.move else not (is_some x.move)) ≡ true) (sym w.0)
         (is_one v.successors x.move m.0 m.1 m.2))
@@ -190,7 +190,7 @@ module _ (g : Game) (e : Evidence) where
   free_passes v x Rank f = gives_all (λ u. descends_to e.player g v.priority x.rank (entry_at e u)) (goals e.player v x)
       (λ t c. is_to e.player g v.priority x.rank (entry_at e t) (λ y at. f t y (of_goal e.player v x t c) at))
 
-  fails : (v : Vertex) (x : Entry) (fault : Fault) → passes g e v x fault ≡ false → IsFree g e v x fault → ⊥
+  fails : (v : Vertex) (x : Entry) (fault : Fault) → passes g e v x fault ≡ false → LacksFault g e v x fault → ⊥
   fails v x fault h f = true≢false (sym (free_passes v x fault f) ∙ h)
 
   -- what the first fault tells
@@ -198,8 +198,8 @@ module _ (g : Game) (e : Evidence) where
     entry : Entry
     at : Vertex
     here : (entry_at e u ≡ Some entry) × (vertex g u ≡ Some at)
-    stands : IsFree g e at entry fault → ⊥
-    least : (other : Fault) → number_of other < number_of fault → IsFree g e at entry other
+    stands : LacksFault g e at entry fault → ⊥
+    least : (other : Fault) → number_of other < number_of fault → LacksFault g e at entry other
 
   abbrev Tells : ℕ → Option Fault → Type 0
   Tells u None = AllFree g e u
@@ -208,19 +208,19 @@ module _ (g : Game) (e : Evidence) where
   tells_first : (u : ℕ) (v : Vertex) (x : Entry) → vertex g u ≡ Some v → entry_at e u ≡ Some x → (a b c : Bool) → passes g e v x Move ≡ a
       → passes g e v x Leaves ≡ b → passes g e v x Rank ≡ c
       → Tells u (first_of a b c)
-  tells_first u v x p q false b c i j k = record { entry = x; at = v; here = (q, p); stands = fails v x Move i; least = below_move (λ f. IsFree g e v x f) }
+  tells_first u v x p q false b c i j k = record { entry = x; at = v; here = (q, p); stands = fails v x Move i; least = below_move (λ f. LacksFault g e v x f) }
   tells_first u v x p q true false c i j k =
-      record { entry = x; at = v; here = (q, p); stands = fails v x Leaves j; least = below_leaves (λ f. IsFree g e v x f) (passes_free v x Move i) }
+      record { entry = x; at = v; here = (q, p); stands = fails v x Leaves j; least = below_leaves (λ f. LacksFault g e v x f) (passes_free v x Move i) }
   tells_first u v x p q true true false i j k =
       record {
         entry = x;
         at = v;
         here = (q, p);
         stands = fails v x Rank k;
-        least = below_rank (λ f. IsFree g e v x f) (passes_free v x Move i) (passes_free v x Leaves j);
+        least = below_rank (λ f. LacksFault g e v x f) (passes_free v x Move i) (passes_free v x Leaves j);
       }
   tells_first u v x p q true true true i j k = λ fault. free_at g e u x v fault q p
-      (each (λ f. IsFree g e v x f) (passes_free v x Move i) (passes_free v x Leaves j) (passes_free v x Rank k) fault)
+      (each (λ f. LacksFault g e v x f) (passes_free v x Move i) (passes_free v x Leaves j) (passes_free v x Rank k) fault)
 
   tells : (u : ℕ) → Tells u (fault_of g e (vertex g u) (entry_at e u))
   tells u = by (vertex g u) (entry_at e u) refl refl

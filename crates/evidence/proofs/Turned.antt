@@ -5,7 +5,7 @@ use Rattle.game.specs.declared.player.Player.{Player}
 use Rattle.game.specs.declared.player.Player.TheVariants.{Even, Odd}
 use Rattle.game.specs.Game.{Game, Vertex, dual, opponent, vertex}
 use Rattle.game.proofs.Duals.{turned}
-use Rattle.evidence.specs.Evidence.{Entry, Evidence, GoesTo, IsFree, IsGood}
+use Rattle.evidence.specs.Evidence.{Entry, Evidence, GoesTo, LacksFault, IsGood}
 use Rattle.evidence.specs.declared.verdict.Fault.{Fault}
 use Rattle.evidence.specs.declared.verdict.Fault.TheVariants.{Leaves, Move, Rank}
 use Rattle.evidence.proofs.Descent.{even_descends, even_reaches, odd_descends, odd_reaches}
@@ -48,15 +48,15 @@ module _ (g : Game) (e : Evidence) where
   goes_back v x t (inl w) = inl (even_is_odd v.owner w.0, w.1)
   goes_back v x t (inr w) = inr ((λ q. w.0 (odd_is_even v.owner q)), w.1)
 
-  free_on : (v : Vertex) (x : Entry) (fault : Fault) → 0 < length g.vertices → IsFree g (for_player Odd e) v x fault
-      → IsFree (dual g) (for_player Even e) (turned v) x fault
+  free_on : (v : Vertex) (x : Entry) (fault : Fault) → 0 < length g.vertices → LacksFault g (for_player Odd e) v x fault
+      → LacksFault (dual g) (for_player Even e) (turned v) x fault
   free_on v x Move h f = ((λ q. f.0 (even_is_odd v.owner q)), (λ n. f.1 (λ q. n (odd_is_even v.owner q))))
   free_on v x Leaves h f = λ t to. f t (goes_back v x t to)
   free_on v x Rank h f = λ t y to at. even_descends (dual g) (v.priority + 1) x.rank y.rank
       (odd_reaches g v.priority x.rank y.rank h (f t y (goes_back v x t to) at))
 
-  free_back : (v : Vertex) (x : Entry) (fault : Fault) → 0 < length g.vertices → IsFree (dual g) (for_player Even e) (turned v) x fault
-      → IsFree g (for_player Odd e) v x fault
+  free_back : (v : Vertex) (x : Entry) (fault : Fault) → 0 < length g.vertices → LacksFault (dual g) (for_player Even e) (turned v) x fault
+      → LacksFault g (for_player Odd e) v x fault
   free_back v x Move h f = ((λ q. f.0 (odd_is_even v.owner q)), (λ n. f.1 (λ q. n (even_is_odd v.owner q))))
   free_back v x Leaves h f = λ t to. f t (goes_on v x t to)
   free_back v x Rank h f = λ t y to at. odd_descends g v.priority x.rank y.rank h
@@ -65,7 +65,7 @@ module _ (g : Game) (e : Evidence) where
   pub good_on : IsGood g (for_player Odd e) → IsGood (dual g) (for_player Even e)
   good_on good = λ u fault x y here at. (
       let s = source g u y at in
-      subst (λ z. IsFree (dual g) (for_player Even e) z x fault) s.2 (free_on s.0 x fault (some_vertex g u s.0 s.1) (good u fault x s.0 here s.1)))
+      subst (λ z. LacksFault (dual g) (for_player Even e) z x fault) s.2 (free_on s.0 x fault (some_vertex g u s.0 s.1) (good u fault x s.0 here s.1)))
 
   pub good_back : IsGood (dual g) (for_player Even e) → IsGood g (for_player Odd e)
   good_back good = λ u fault x v here at. free_back v x fault (some_vertex g u v at) (good u fault x (turned v) here (vertex_turned g u v at))

@@ -9,7 +9,7 @@ use Rattle.game.specs.Game.{Game, Vertex, opponent, vertex}
 use Rattle.game.specs.Wins.{IsOf}
 use Rattle.progress.proofs.Order.{Over, not_over_itself, over_either, over_trans}
 use Rattle.progress.proofs.Searches.{either_way, find_in}
-use Rattle.evidence.specs.Evidence.{Descends, Entry, Evidence, GoesTo, IsFree, IsFreeAt, IsGood, entry_at, has}
+use Rattle.evidence.specs.Evidence.{Descends, Entry, Evidence, GoesTo, LacksFault, IsFreeAt, IsGood, entry_at, has}
 use Rattle.evidence.specs.Verdict.{IsBoth, IsFirstFault, IsLeftOut, IsVerdict, number_of}
 use Rattle.evidence.specs.Laws.{OneAnswer, OneVerdict}
 use Rattle.evidence.specs.declared.verdict.Fault.{Fault}
@@ -118,10 +118,10 @@ module _ (g : Game) (e : Evidence) where
         | inr n ↦ inr (λ all. n (all z q))
       ]
 
-  free_or : (v : Vertex) (x : Entry) (fault : Fault) → Stands (IsFree g e v x fault)
+  free_or : (v : Vertex) (x : Entry) (fault : Fault) → Stands (LacksFault g e v x fault)
   free_or v x Move = by (same_player v.owner e.player) x.move refl
     where
-      by : Stands (v.owner ≡ e.player) → (m : Option ℕ) → x.move ≡ m → Stands (IsFree g e v x Move)
+      by : Stands (v.owner ≡ e.player) → (m : Option ℕ) → x.move ≡ m → Stands (LacksFault g e v x Move)
       by (inl own) None q = inr (λ f. (let m = f.0 own in let w : None ≡ Some m.0 = sym q ∙ m.1 in cc))
       by (inl own) (Some t) q = elim (contains_or v.successors t) [
         | inl c ↦ inl ((λ o. (t, q, c)), (λ n. absurd (n own)))
@@ -147,8 +147,8 @@ module _ (g : Game) (e : Evidence) where
     entry : Entry
     at : Vertex
     here : (entry_at e u ≡ Some entry) × (vertex g u ≡ Some at)
-    stands : IsFree g e at entry fault → ⊥
-    least : (other : Fault) → number_of other < number_of fault → IsFree g e at entry other
+    stands : LacksFault g e at entry fault → ⊥
+    least : (other : Fault) → number_of other < number_of fault → LacksFault g e at entry other
 
   abbrev pub AllFree : ℕ → Type 0
   AllFree u = (fault : Fault) → IsFreeAt g e u fault
@@ -159,9 +159,9 @@ module _ (g : Game) (e : Evidence) where
   vertex_same : (a b : Vertex) → Some a ≡ Some b → a ≡ b
   vertex_same a b q = cc
 
-  pub free_at : (u : ℕ) (x : Entry) (v : Vertex) (fault : Fault) → entry_at e u ≡ Some x → vertex g u ≡ Some v → IsFree g e v x fault → IsFreeAt g e u fault
+  pub free_at : (u : ℕ) (x : Entry) (v : Vertex) (fault : Fault) → entry_at e u ≡ Some x → vertex g u ≡ Some v → LacksFault g e v x fault → IsFreeAt g e u fault
   free_at u x v fault here at f y w there then =
-      subst (λ z. IsFree g e z y fault) (vertex_same v w (sym at ∙ then)) (subst (λ z. IsFree g e v z fault) (entry_same x y (sym here ∙ there)) f)
+      subst (λ z. LacksFault g e z y fault) (vertex_same v w (sym at ∙ then)) (subst (λ z. LacksFault g e v z fault) (entry_same x y (sym here ∙ there)) f)
 
   faulty_or : (u : ℕ) → ((fault : Fault) × IsFaulty u fault) ⊎ AllFree u
   faulty_or u = by (entry_at e u) (vertex g u) refl refl
@@ -170,12 +170,12 @@ module _ (g : Game) (e : Evidence) where
       by None w p q = inr (λ fault x v here at. (let z : None ≡ Some x = sym p ∙ here in absurd cc))
       by (Some x) None p q = inr (λ fault y v here at. (let z : None ≡ Some v = sym q ∙ at in absurd cc))
       by (Some x) (Some v) p q = elim (free_or v x Move) [
-        | inr n ↦ inl (Move, record { entry = x; at = v; here = (p, q); stands = n; least = below_move (λ k. IsFree g e v x k) })
+        | inr n ↦ inl (Move, record { entry = x; at = v; here = (p, q); stands = n; least = below_move (λ k. LacksFault g e v x k) })
         | inl f ↦ elim (free_or v x Leaves) [
-          | inr n ↦ inl (Leaves, record { entry = x; at = v; here = (p, q); stands = n; least = below_leaves (λ k. IsFree g e v x k) f })
+          | inr n ↦ inl (Leaves, record { entry = x; at = v; here = (p, q); stands = n; least = below_leaves (λ k. LacksFault g e v x k) f })
           | inl f2 ↦ elim (free_or v x Rank) [
-            | inr n ↦ inl (Rank, record { entry = x; at = v; here = (p, q); stands = n; least = below_rank (λ k. IsFree g e v x k) f f2 })
-            | inl f3 ↦ inr (λ fault. free_at u x v fault p q (each (λ k. IsFree g e v x k) f f2 f3 fault))
+            | inr n ↦ inl (Rank, record { entry = x; at = v; here = (p, q); stands = n; least = below_rank (λ k. LacksFault g e v x k) f f2 })
+            | inl f3 ↦ inr (λ fault. free_at u x v fault p q (each (λ k. LacksFault g e v x k) f f2 f3 fault))
           ]
         ]
       ]

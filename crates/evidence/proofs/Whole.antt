@@ -11,9 +11,9 @@ use Rattle.game.specs.declared.player.Player.{Player}
 use Rattle.evidence.specs.Canon.{header}
 use Rattle.evidence.specs.Evidence.{Entry, IsEvidence, counted}
 use Rattle.evidence.specs.Fault.{HasFault, HasFaultAt, Refuses, named}
-use Rattle.evidence.specs.Reading.{AreRead, BeginsWith, HasNoHeader, HasRestFault}
-use Rattle.evidence.specs.Spelling.{IsEvidenceText, IsInside, IsShaped, Row}
-use Rattle.evidence.specs.View.{Piece}
+use Rattle.evidence.specs.Reading.{AreEntriesRead, BeginsWith, HasNoHeader, HasRestFault}
+use Rattle.evidence.specs.Spelling.{IsEvidenceText, IsRowInside, IsShaped, Row}
+use Rattle.evidence.specs.View.{NamedEvidence}
 use Rattle.evidence.specs.declared.error.EvidenceError.{EvidenceError}
 use Rattle.evidence.specs.declared.error.EvidenceError.TheVariants as errors
 use Rattle.evidence.specs.declared.error.EvidenceFault.{EvidenceFault}
@@ -33,13 +33,13 @@ counts_long w (l ∷ lines) (x ∷ rows) h = (h.0.count, counts_long w lines row
 
 -- what was read is evidence
 pub is_evidence : (g : Game) (player : Player) (old : Option (List ℕ)) (entries : List (Option Entry))
-    → AreRead (length g.vertices) (length (counted player g)) old entries → IsEvidence g (record { player = player; entries = entries })
+    → AreEntriesRead (length g.vertices) (length (counted player g)) old entries → IsEvidence g (record { player = player; entries = entries })
 is_evidence g player old entries read = record {
   long = read.lines.long;
   entries = λ v x e.
       let here = (read.lines.same v x).0 e in
-      let inside : IsInside (length g.vertices) (record { vertex = v; entry = x }) = each_of
-      (IsInside (length g.vertices)) read.lines.rows _ read.lines.good.inside here in
+      let inside : IsRowInside (length g.vertices) (record { vertex = v; entry = x }) = each_of
+      (IsRowInside (length g.vertices)) read.lines.rows _ read.lines.good.inside here in
       record {
         move = inside.move;
         rank = each_of (λ r. length r.entry.rank ≡ length (counted player g)) read.lines.rows _
@@ -49,7 +49,7 @@ is_evidence g player old entries read = record {
 
 -- what was read is spelled
 pub spelled : (g : Game) (player : Player) (entries : List (Option Entry)) (old mid : Option (List ℕ)) → IfKnown old mid (BeginsWith player)
-    → AreRead (length g.vertices) (length (counted player g)) mid entries
+    → AreEntriesRead (length g.vertices) (length (counted player g)) mid entries
     → IfSome old (λ text. IsEvidenceText g text (record { player = player; entries = entries }))
 spelled g player entries None mid begins read = tt
 spelled g player entries (Some text) None begins read = absurd begins
@@ -80,8 +80,8 @@ laws g = record {
 }
 
 -- all that the reader promises
-pub promised : (g : Game) (old : Option (List ℕ)) (r : Result Piece EvidenceError) → IfOk r (λ e. IfSome old (λ text. IsEvidenceText g text e.evidence))
+pub promised : (g : Game) (old : Option (List ℕ)) (r : Result NamedEvidence EvidenceError) → IfOk r (λ e. IfSome old (λ text. IsEvidenceText g text e.evidence))
     → IfErr r (Refuses old (HasFault g))
-    → Reads (IsEvidenceText g) (IsEvidenceText g) (IsEvidenceText g) (HasFaultAt g) (λ (e : Piece). e.evidence) named old r
-promised g old r spells fault = keeps (IsEvidenceText g) (IsEvidenceText g) (IsEvidenceText g) (HasFaultAt g) (λ (e : Piece). e.evidence) named
+    → Reads (IsEvidenceText g) (IsEvidenceText g) (IsEvidenceText g) (HasFaultAt g) (λ (e : NamedEvidence). e.evidence) named old r
+promised g old r spells fault = keeps (IsEvidenceText g) (IsEvidenceText g) (IsEvidenceText g) (HasFaultAt g) (λ (e : NamedEvidence). e.evidence) named
     (laws g) old r spells fault

@@ -1,6 +1,6 @@
 -- The canonical text of evidence.
 use Rattle.std.specs.Prelude.{ℕ, ◌+◌, List, [], ◌∷◌, ◌++◌, Option, Some, None, codes, decimal, slice_index_or}
-use Rattle.lts.specs.Canon.{line_end}
+use Rattle.text.specs.Pieces.{line_end}
 use Rattle.game.specs.declared.player.Player.{Player}
 use Rattle.game.specs.declared.player.Player.TheVariants.{Even, Odd}
 use Rattle.progress.specs.MeasureText.{counts_text}
@@ -23,12 +23,12 @@ abbrev pub entry_line : ℕ → Entry → List ℕ
 entry_line v x = decimal v ++ (codes " " ++ (move_text x.move ++ (codes " " ++ (counts_text x.rank ++ line_end))))
 
 -- the line of a vertex, if it has an entry
-abbrev pub line_of : ℕ → Option Entry → List ℕ
-line_of v None = []
-line_of v (Some x) = entry_line v x
+abbrev pub entry_line_of : ℕ → Option Entry → List ℕ
+entry_line_of v None = []
+entry_line_of v (Some x) = entry_line v x
 
-abbrev pub line_at : List (Option Entry) → ℕ → List ℕ
-line_at entries v = line_of v (slice_index_or entries v None)
+abbrev pub entry_line_at : List (Option Entry) → ℕ → List ℕ
+entry_line_at entries v = entry_line_of v (slice_index_or entries v None)
 
 -- a line for each entry, where the first one is of the vertex v
 abbrev pub entry_lines : ℕ → List (Option Entry) → List ℕ

@@ -4,7 +4,7 @@ use Rattle.game.specs.Game.{Game, Vertex, vertex}
 use Rattle.game.specs.Wins.{WinsBy}
 use Rattle.progress.specs.Measure.{Measure}
 use Rattle.evidence.specs.Best.{IsBestMove}
-use Rattle.evidence.specs.Evidence.{Descends, Entry, Evidence, IsFree, IsFreeAt, entry_at, has}
+use Rattle.evidence.specs.Evidence.{Descends, Entry, Evidence, LacksFault, IsFreeAt, entry_at, has}
 use Rattle.evidence.specs.Verdict.{IsLeftOut, number_of}
 use Rattle.evidence.specs.declared.verdict.Fault.{Fault}
 use Rattle.evidence.specs.declared.verdict.Fault.TheVariants.{Leaves, Move, Rank}
@@ -26,8 +26,8 @@ IsAlong g e p rank targets (Some Rank) = AreInside e targets × (AreBelow g e p 
 
 -- the least fault of an entry, if it has one
 abbrev pub IsLeastFault : Game → Evidence → Vertex → Entry → Option Fault → Type 0
-IsLeastFault g e v x None = (fault : Fault) → IsFree g e v x fault
-IsLeastFault g e v x (Some fault) = (IsFree g e v x fault → ⊥) × ((other : Fault) → number_of other < number_of fault → IsFree g e v x other)
+IsLeastFault g e v x None = (fault : Fault) → LacksFault g e v x fault
+IsLeastFault g e v x (Some fault) = (LacksFault g e v x fault → ⊥) × ((other : Fault) → number_of other < number_of fault → LacksFault g e v x other)
 
 -- the least fault at a vertex, if one stands there
 abbrev pub IsFaultAt : Game → Evidence → ℕ → Option Fault → Type 0

@@ -61,14 +61,14 @@ abbrev pub GoesTo : Player → Vertex → Entry → ℕ → Type 0
 GoesTo player v x t = ((v.owner ≡ player) × (x.move ≡ Some t)) ⊎ ((v.owner ≢ player) × Contains v.successors t)
 
 -- No fault of this kind stands at the entry of a vertex.
-abbrev pub IsFree : Game → Evidence → Vertex → Entry → Fault → Type 0
-IsFree g e v x Move = (v.owner ≡ e.player → (t : ℕ) × (x.move ≡ Some t) × Contains v.successors t) × (v.owner ≢ e.player → x.move ≡ None)
-IsFree g e v x Leaves = (t : ℕ) → GoesTo e.player v x t → IsTrue (has e t)
-IsFree g e v x Rank = (t : ℕ) (y : Entry) → GoesTo e.player v x t → entry_at e t ≡ Some y → Descends e.player g v.priority x.rank y.rank
+abbrev pub LacksFault : Game → Evidence → Vertex → Entry → Fault → Type 0
+LacksFault g e v x Move = (v.owner ≡ e.player → (t : ℕ) × (x.move ≡ Some t) × Contains v.successors t) × (v.owner ≢ e.player → x.move ≡ None)
+LacksFault g e v x Leaves = (t : ℕ) → GoesTo e.player v x t → IsTrue (has e t)
+LacksFault g e v x Rank = (t : ℕ) (y : Entry) → GoesTo e.player v x t → entry_at e t ≡ Some y → Descends e.player g v.priority x.rank y.rank
 
 -- No fault of this kind stands at this vertex.
 abbrev pub IsFreeAt : Game → Evidence → ℕ → Fault → Type 0
-IsFreeAt g e u fault = (x : Entry) (v : Vertex) → entry_at e u ≡ Some x → vertex g u ≡ Some v → IsFree g e v x fault
+IsFreeAt g e u fault = (x : Entry) (v : Vertex) → entry_at e u ≡ Some x → vertex g u ≡ Some v → LacksFault g e v x fault
 
 -- No fault stands anywhere.
 abbrev pub IsGood : Game → Evidence → Type 0

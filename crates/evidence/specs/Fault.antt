@@ -5,7 +5,7 @@ use Rattle.game.specs.declared.player.Player.{Player}
 use Rattle.game.specs.Game.{Game}
 use Rattle.evidence.specs.Canon.{header}
 use Rattle.evidence.specs.Evidence.{counted}
-use Rattle.evidence.specs.Spelling.{AreGood, IsShaped, Row}
+use Rattle.evidence.specs.Spelling.{AreGoodRows, IsShaped, Row}
 use Rattle.evidence.specs.declared.error.EvidenceFault.{EvidenceFault}
 use Rattle.evidence.specs.declared.error.EvidenceFault.TheVariants.{BadHeader, BadLine, BadVertex}
 use Rattle.evidence.specs.declared.error.EvidenceError.{EvidenceError}
@@ -33,7 +33,7 @@ pub record IsFaultyRest (vertices width : ℕ) (rest : List (List ℕ)) (fault :
   pub back : List (List ℕ)
   pub before : List Row
   pub cut : rest ≡ front ++ line ∷ back
-  pub fine : AreGood vertices width front before
+  pub fine : AreGoodRows vertices width front before
   pub count : length front ≡ good
   pub wrong : LineFault vertices width before line fault
 

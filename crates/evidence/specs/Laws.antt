@@ -25,7 +25,7 @@ use Rattle.evidence.specs.Fault.{HasFault}
 use Rattle.evidence.specs.Spelling.{IsEvidenceText}
 use Rattle.evidence.specs.declared.error.EvidenceFault.{EvidenceFault}
 use Rattle.evidence.specs.declared.limits.TheConstants.{GREATEST_COUNT}
-use Rattle.evidence.specs.Witness.{HasAllArrows, IsClosedFor, IsPart, IsReached, Keeps, cut_to, part_of, witness}
+use Rattle.evidence.specs.Witness.{HasAllArrows, IsClosedFor, IsPartOf, AreReached, Keeps, cut_to, part_of, witness}
 use Rattle.evidence.specs.declared.verdict.Both.TheVariants.{Yes}
 
 -- Where no fault stands anywhere, the player wins each vertex of the set.
@@ -87,12 +87,12 @@ BestIsYes = (g : Game) → IsGame g → greatest g ≤ GREATEST_PRIORITY → (e 
 
 -- What is reached from a vertex of good evidence is closed.
 abbrev pub ReachedIsClosed : Type 0
-ReachedIsClosed = (g : Game) (e : Evidence) (u : ℕ) (set : ℕ → Bool) → IsGood g e → IsTrue (has e u) → IsReached g e u set → IsTrue (set u)
+ReachedIsClosed = (g : Game) (e : Evidence) (u : ℕ) (set : ℕ → Bool) → IsGood g e → IsTrue (has e u) → AreReached g e u set → IsTrue (set u)
     × IsClosedFor g e set
 
 -- There is a test of what is reached from a vertex of good evidence.
 abbrev pub ReachedExists : Type 0
-ReachedExists = (g : Game) (e : Evidence) (u : ℕ) → IsEvidence g e → IsGood g e → IsTrue (has e u) → (set : ℕ → Bool) × IsReached g e u set
+ReachedExists = (g : Game) (e : Evidence) (u : ℕ) → IsEvidence g e → IsGood g e → IsTrue (has e u) → (set : ℕ → Bool) × AreReached g e u set
 
 -- Such arrows give such steps.
 abbrev pub ArrowsKeepSteps : Type 0
@@ -100,12 +100,12 @@ ArrowsKeepSteps = (l part : System) (nodes : List Node) (e : Evidence) (set : �
 
 -- What passes a test is a system, and a part.
 abbrev pub PartsAreSystems : Type 0
-PartsAreSystems = (l : System) (p : Arrow → Bool) → IsSystem l → IsSystem (part_of p l) × IsPart l (part_of p l)
+PartsAreSystems = (l : System) (p : Arrow → Bool) → IsSystem l → IsSystem (part_of p l) × IsPartOf l (part_of p l)
 
 -- Good evidence, cut to a closed set, is good in the arena of a part that keeps the steps in the set; so the player wins there.
 abbrev pub WitnessWins : Type 0
 WitnessWins =
-    (l part : System) (nodes : List Node) (e : Evidence) (set : ℕ → Bool) → IsPart l part → IsEvidence (arena l nodes) e → IsGood (arena l nodes) e
+    (l part : System) (nodes : List Node) (e : Evidence) (set : ℕ → Bool) → IsPartOf l part → IsEvidence (arena l nodes) e → IsGood (arena l nodes) e
     → IsClosedFor (arena l nodes) e set → Keeps l part nodes e set
     → IsEvidence (arena part nodes) (cut_to set e) × IsGood (arena part nodes) (cut_to set e)
     × ((v : ℕ) → IsTrue (set v) → WinsBy e.player (arena part nodes) v)
@@ -113,7 +113,7 @@ WitnessWins =
 -- Where the set has the initial state with the root, Even's evidence says that the part's initial state satisfies the formula, and Odd's that it doesn't.
 abbrev pub WitnessMeans : Type 0
 WitnessMeans =
-    (l part : System) (f : Formula) (nodes : List Node) (e : Evidence) (set : ℕ → Bool) → IsPart l part → IsEvidence (arena l nodes) e
+    (l part : System) (f : Formula) (nodes : List Node) (e : Evidence) (set : ℕ → Bool) → IsPartOf l part → IsEvidence (arena l nodes) e
     → IsGood (arena l nodes) e
     → IsClosedFor (arena l nodes) e set → Keeps l part nodes e set → IsTrue (set (place (length nodes) l.initial 0))
     → IsSystem part → IsAdmitted f → IsNodes (normal_form f) nodes
@@ -125,7 +125,7 @@ abbrev pub WitnessShows : Type 0
 WitnessShows =
     (l : System) (f : Formula) (nodes : List Node) (e : Evidence) (set : ℕ → Bool) → IsSystem l → IsAdmitted f → IsNodes (normal_form f) nodes
     → IsEvidence (arena l nodes) e → IsGood (arena l nodes) e → IsTrue (has e (place (length nodes) l.initial 0))
-    → IsReached (arena l nodes) e (place (length nodes) l.initial 0) set
+    → AreReached (arena l nodes) e (place (length nodes) l.initial 0) set
     → IsSystem (witness l nodes e set) × (e.player ≡ Even → Satisfies (witness l nodes e set) f l.initial)
     × (e.player ≡ Odd → Satisfies (witness l nodes e set) f l.initial → ⊥)
 

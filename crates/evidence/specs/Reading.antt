@@ -8,7 +8,7 @@ use Rattle.game.specs.declared.player.Player.{Player}
 use Rattle.evidence.specs.Canon.{header}
 use Rattle.evidence.specs.Evidence.{Entry}
 use Rattle.evidence.specs.Fault.{IsFaultyRest, IsHeadless}
-use Rattle.evidence.specs.Spelling.{AreGood, AreLines, AreOf, IsInside, IsShaped, Row}
+use Rattle.evidence.specs.Spelling.{AreGoodRows, AreLines, AreEntriesOf, IsRowInside, IsShaped, Row}
 use Rattle.evidence.specs.View.{Entries}
 use Rattle.evidence.specs.declared.error.EvidenceFault.{EvidenceFault}
 use Rattle.evidence.specs.declared.error.EvidenceFault.TheVariants.{BadHeader, BadLine, BadVertex}
@@ -22,7 +22,7 @@ abbrev pub HasNoHeader : List ℕ → EvidenceFault → ℕ → Type 0
 HasNoHeader text fault place = (fault ≡ BadHeader) × IsHeadless (pieces_of text) × (place ≡ 1)
 
 -- The vertex has no entry yet, and the move is inside; or not so.
-pub record IsPlace (entries : List (Option Entry)) (v : ℕ) (next : Option ℕ) : Type 0 where
+pub record HasPlaceFor (entries : List (Option Entry)) (v : ℕ) (next : Option ℕ) : Type 0 where
   pub vertex : v < length entries
   pub move : (t : ℕ) → next ≡ Some t → t < length entries
   pub free : slice_index_or entries v None ≡ None
@@ -34,7 +34,7 @@ IsNoPlace entries v next = (length entries ≤ v) ⊎ ((t : ℕ) × (next ≡ So
 pub record IsAdded (line : List ℕ) (old new : Entries) : Type 0 where
   pub row : Row
   pub shaped : IsShaped old.width line row
-  pub inside : IsInside (length old.entries) row
+  pub inside : IsRowInside (length old.entries) row
   pub free : slice_index_or old.entries row.vertex None ≡ None
   pub added : new ≡ record old { entries = slice_set old.entries row.vertex (Some row.entry) }
 
@@ -68,27 +68,27 @@ ReadsAtHand old new before after found =
     MatchOption found (IfKnown old new (λ text left. left ≡ text) × (after ≡ before)) (ReadsNext old new before after)
 
 -- the first lines are these, and the others are left
-abbrev pub IsCut : List (List ℕ) → List ℕ → List ℕ → Type 0
-IsCut done text left = pieces_of text ≡ done ++ pieces_of left
+abbrev pub IsCutOff : List (List ℕ) → List ℕ → List ℕ → Type 0
+IsCutOff done text left = pieces_of text ≡ done ++ pieces_of left
 
 -- the lines that were read so far, so many and all of them good, and the entries that they gave
 pub record SoFar (vertices width good : ℕ) (old now : Option (List ℕ)) (entries : Entries) : Type 0 where
   pub done : List (List ℕ)
   pub rows : List Row
-  pub fine : AreGood vertices width done rows
+  pub fine : AreGoodRows vertices width done rows
   pub count : length done ≡ good
-  pub same : AreOf rows entries.entries
+  pub same : AreEntriesOf rows entries.entries
   pub filled : count_by is_some entries.entries ≡ good
   pub long : length entries.entries ≡ vertices
   pub wide : entries.width ≡ width
-  pub cut : IfKnown old now (IsCut done)
+  pub cut : IfKnown old now (IsCutOff done)
 
 -- the fault of the lines below a header, and its line in the whole text
 abbrev pub HasRestFault : (vertices width : ℕ) → List ℕ → EvidenceFault → ℕ → Type 0
 HasRestFault vertices width text fault place = (good : ℕ) × IsFaultyRest vertices width (pieces_of text) fault good × (place ≡ good + 2)
 
 -- These lines say the entries, and they are the ones that were left, where that is known.
-pub record AreRead (vertices width : ℕ) (old : Option (List ℕ)) (entries : List (Option Entry)) : Type 0 where
+pub record AreEntriesRead (vertices width : ℕ) (old : Option (List ℕ)) (entries : List (Option Entry)) : Type 0 where
   pub rest : List (List ℕ)
   pub lines : AreLines vertices width rest entries
   pub cut : IfSome old (λ text. pieces_of text ≡ rest)

@@ -47,15 +47,15 @@ end_of zero = 41
 end_of (suc more) = 44
 
 -- so many counts, each with its end, and nothing else
-abbrev pub counts_of : ℕ → List ℕ → Option (List ℕ)
-counts_of zero [] = Some []
-counts_of zero (b ∷ bytes) = None
-counts_of (suc more) bytes = count_before (end_of more) bytes >>= λ found. counts_of more found.1 >>= λ counts. Some (found.0 ∷ counts)
+abbrev pub counts_in : ℕ → List ℕ → Option (List ℕ)
+counts_in zero [] = Some []
+counts_in zero (b ∷ bytes) = None
+counts_in (suc more) bytes = count_before (end_of more) bytes >>= λ found. counts_in more found.1 >>= λ counts. Some (found.0 ∷ counts)
 
 -- so many counts in brackets
 abbrev pub rank_of : ℕ → List ℕ → Option (List ℕ)
 rank_of zero bytes = if bytes_eq bytes (codes "()") then Some [] else None
-rank_of (suc more) bytes = if bytes_eq (take 1 bytes) (codes "(") then counts_of (suc more) (drop 1 bytes) else None
+rank_of (suc more) bytes = if bytes_eq (take 1 bytes) (codes "(") then counts_in (suc more) (drop 1 bytes) else None
 
 -- The line's fields were found, and they are these.
 pub record AreFields (line : List ℕ) (f : Spelled) : Type 0 where

@@ -30,14 +30,14 @@ abbrev pub Puts : List ℕ → List ℕ → List ℕ → Type 0
 Puts bytes old new = (front : List ℕ) → old ≡ take LONGEST_LINE front → new ≡ take LONGEST_LINE (front ++ bytes)
 
 -- the same of these bytes, shortened
-abbrev pub Keeps : ℕ → List ℕ → List ℕ → List ℕ → Type 0
-Keeps d bytes old new = Puts (short_from d bytes) old new
+abbrev pub KeepsShort : ℕ → List ℕ → List ℕ → List ℕ → Type 0
+KeepsShort d bytes old new = Puts (short_from d bytes) old new
 
 -- The line is taken and kept as far as it was at hand: it goes on behind so many digits, or it has ended, and its end is taken.
 abbrev pub TakesOn : ℕ → List ℕ → List ℕ → Option ℕ → List ℕ → List ℕ → Type 0
 TakesOn d old new (Some after) text left =
-    (run : List ℕ) × (text ≡ run ++ left) × IsTrue (list_all (is_other 10) run) × (after ≡ digits_after d run) × Keeps d run old new
-TakesOn d old new None text left = Keeps d (first_piece text) old new × (left ≡ below text)
+    (run : List ℕ) × (text ≡ run ++ left) × IsTrue (list_all (is_other 10) run) × (after ≡ digits_after d run) × KeepsShort d run old new
+TakesOn d old new None text left = KeepsShort d (first_piece text) old new × (left ≡ below text)
 
 -- the line is taken with its end, and kept shortened
 abbrev pub TakesShort : List ℕ → List ℕ → List ℕ → Type 0

@@ -34,26 +34,26 @@ pub record IsShaped (width : ℕ) (line : List ℕ) (row : Row) : Type 0 where
   pub small : AllByRecursion (λ k. k ≤ GREATEST_COUNT) row.entry.rank
 
 -- Its vertex is one of so many, and its move too.
-pub record IsInside (vertices : ℕ) (row : Row) : Type 0 where
+pub record IsRowInside (vertices : ℕ) (row : Row) : Type 0 where
   pub vertex : row.vertex < vertices
   pub move : (t : ℕ) → row.entry.move ≡ Some t → t < vertices
 
 -- The lines say these, which are of a game with so many vertices, and no vertex stands twice.
-pub record AreGood (vertices width : ℕ) (rest : List (List ℕ)) (rows : List Row) : Type 0 where
+pub record AreGoodRows (vertices width : ℕ) (rest : List (List ℕ)) (rows : List Row) : Type 0 where
   pub each : AllZip (IsShaped width) rest rows
-  pub inside : AllByRecursion (IsInside vertices) rows
+  pub inside : AllByRecursion (IsRowInside vertices) rows
   pub once : AllPairs (λ x y. x.vertex ≢ y.vertex) rows
 
 -- These are the entries of the rows.
-abbrev pub AreOf : List Row → List (Option Entry) → Type 0
-AreOf rows entries = (v : ℕ) (x : Entry) → slice_index_or entries v None ≡ Some x ↔ Contains rows (record { vertex = v; entry = x })
+abbrev pub AreEntriesOf : List Row → List (Option Entry) → Type 0
+AreEntriesOf rows entries = (v : ℕ) (x : Entry) → slice_index_or entries v None ≡ Some x ↔ Contains rows (record { vertex = v; entry = x })
 
 -- The lines, in any order, say these entries of a game with so many vertices.
 pub record AreLines (vertices width : ℕ) (rest : List (List ℕ)) (entries : List (Option Entry)) : Type 0 where
   pub rows : List Row
-  pub good : AreGood vertices width rest rows
+  pub good : AreGoodRows vertices width rest rows
   pub long : length entries ≡ vertices
-  pub same : AreOf rows entries
+  pub same : AreEntriesOf rows entries
 
 -- The text spells the evidence: a header, and a line for each vertex of the set. Lines end by LF, the last end may be missing, and a CR is a byte like
 -- any other.

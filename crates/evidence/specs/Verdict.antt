@@ -1,12 +1,12 @@
 -- What a checker of evidence answers.
 use Rattle.std.specs.Prelude.{◌≡◌, ◌≢◌, ℕ, ◌<◌, ◌⊎◌, List, [], ◌++◌, length, count_by, IsTrue, Some, codes, decimal}
 use Rattle.std.specs.Option.{is_some}
-use Rattle.lts.specs.Canon.{line_end}
+use Rattle.text.specs.Pieces.{line_end}
 use Rattle.game.specs.declared.player.Player.{Player}
 use Rattle.game.specs.declared.player.Player.TheVariants.{Even, Odd}
 use Rattle.game.specs.Game.{Game, Vertex, vertex}
 use Rattle.evidence.specs.Canon.{player_text}
-use Rattle.evidence.specs.Evidence.{Entry, Evidence, IsFree, IsFreeAt, IsGood, entry_at, has}
+use Rattle.evidence.specs.Evidence.{Entry, Evidence, LacksFault, IsFreeAt, IsGood, entry_at, has}
 use Rattle.evidence.specs.declared.verdict.Fault.{Fault}
 use Rattle.evidence.specs.declared.verdict.Fault.TheVariants.{Leaves, Move, Rank}
 use Rattle.evidence.specs.declared.verdict.Verdict.{Verdict}
@@ -25,8 +25,8 @@ pub record IsFirstFault (g : Game) (e : Evidence) (u : ℕ) (fault : Fault) : Ty
   pub entry : Entry
   pub at : Vertex
   pub here : (entry_at e u ≡ Some entry) × (vertex g u ≡ Some at)
-  pub stands : IsFree g e at entry fault → ⊥
-  pub least : (other : Fault) → number_of other < number_of fault → IsFree g e at entry other
+  pub stands : LacksFault g e at entry fault → ⊥
+  pub least : (other : Fault) → number_of other < number_of fault → LacksFault g e at entry other
   pub before : (t : ℕ) (other : Fault) → t < u → IsFreeAt g e t other
 
 abbrev pub IsVerdict : Game → Evidence → Verdict → Type 0
@@ -56,8 +56,8 @@ fault_text Leaves = codes "C2"
 fault_text Rank = codes "C3"
 
 -- how many vertices the set has
-abbrev pub size : Evidence → ℕ
-size e = count_by is_some e.entries
+abbrev pub set_size : Evidence → ℕ
+set_size e = count_by is_some e.entries
 
 -- `refused CODE at V`, with what may stand before the code
 abbrev pub refusal : List ℕ → Fault → ℕ → List ℕ
@@ -66,7 +66,7 @@ refusal before fault v = codes "refused " ++ (before ++ (fault_text fault ++ (co
 -- `verified even C of N`, where the game has N vertices, or why not
 abbrev pub verdict_text : Game → Evidence → Verdict → List ℕ
 verdict_text g e Good = codes "verified " ++ (player_text e.player
-    ++ (codes " " ++ (decimal (size e) ++ (codes " of " ++ (decimal (length g.vertices) ++ line_end)))))
+    ++ (codes " " ++ (decimal (set_size e) ++ (codes " of " ++ (decimal (length g.vertices) ++ line_end)))))
 verdict_text g e (Faulty v fault) = refusal [] fault v
 
 abbrev chosen : Player → Evidence → Evidence → Evidence
@@ -91,4 +91,4 @@ both_text g e f (First v fault) = refusal (codes "first ") fault v
 both_text g e f (Second v fault) = refusal (codes "second ") fault v
 both_text g e f OnePlayer = codes "refused C4" ++ line_end
 both_text g e f (LeftOut v) = codes "refused C5 at " ++ (decimal v ++ line_end)
-both_text g e f Yes = sizes_line (size (even_of e f)) (size (odd_of e f)) (length g.vertices)
+both_text g e f Yes = sizes_line (set_size (even_of e f)) (set_size (odd_of e f)) (length g.vertices)

@@ -21,6 +21,6 @@ pub record Entries : Type 0 where
   pub entries : List (Option Entry)
 
 -- evidence that names its game
-pub record Piece : Type 0 where
+pub record NamedEvidence : Type 0 where
   pub game : Game
   pub evidence : Evidence

@@ -14,7 +14,7 @@ use Rattle.game.specs.Game.{Game, Vertex, vertex}
 use Rattle.evidence.specs.Evidence.{Entry, Evidence, GoesTo, entry_at, has}
 
 -- some of the arrows of l, and all else as it is
-pub record IsPart (l part : System) : Type 0 where
+pub record IsPartOf (l part : System) : Type 0 where
   pub states : part.states ≡ l.states
   pub initial : part.initial ≡ l.initial
   pub arrows : (a : Arrow) → Contains part.arrows a → Contains l.arrows a
@@ -24,8 +24,8 @@ abbrev pub Goes : Game → Evidence → ℕ → ℕ → Type 0
 Goes g e u t = (x : Entry) × (v : Vertex) × (entry_at e u ≡ Some x) × (vertex g u ≡ Some v) × GoesTo e.player v x t
 
 -- the vertices that are reached from u
-abbrev pub IsReached : Game → Evidence → ℕ → (ℕ → Bool) → Type 0
-IsReached g e u set = (t : ℕ) → IsTrue (set t) ↔ ((others : List ℕ) × IsPath (Goes g e) u others t)
+abbrev pub AreReached : Game → Evidence → ℕ → (ℕ → Bool) → Type 0
+AreReached g e u set = (t : ℕ) → IsTrue (set t) ↔ ((others : List ℕ) × IsPath (Goes g e) u others t)
 
 -- vertices of the evidence that the play doesn't leave
 pub record IsClosedFor (g : Game) (e : Evidence) (set : ℕ → Bool) : Type 0 where
@@ -72,11 +72,11 @@ HasAllArrows l part nodes e set =
 
 -- ------------------------------------------------------------------ one such part
 
-abbrev pub is_same : Player → Player → Bool
-is_same Even Even = true
-is_same Even Odd = false
-is_same Odd Even = false
-is_same Odd Odd = true
+abbrev pub is_one_player : Player → Player → Bool
+is_one_player Even Even = true
+is_one_player Even Odd = false
+is_one_player Odd Even = false
+is_one_player Odd Odd = true
 
 abbrev pub is_move : Option ℕ → ℕ → Bool
 is_move None t = false
@@ -91,7 +91,7 @@ moves_to (Some x) t = is_move x.move t
 abbrev pub is_taken : ℕ → Evidence → (ℕ → Bool) → Arrow → ℕ → Shape → Bool
 is_taken nodes e set arrow k (ModalityNode flag a child) =
     set (place nodes arrow.source k) && holds a arrow.label
-    && (not (is_same (owner_of (ModalityNode flag a child)) e.player) || moves_to (entry_at e (place nodes arrow.source k)) (place nodes arrow.target child))
+    && (not (is_one_player (owner_of (ModalityNode flag a child)) e.player) || moves_to (entry_at e (place nodes arrow.source k)) (place nodes arrow.target child))
 is_taken nodes e set arrow k _ = false
 
 abbrev pub is_taken_at : ℕ → Evidence → (ℕ → Bool) → Arrow → ℕ → Option Node → Bool

@@ -1,7 +1,7 @@
 // Evidence that is made vertex by vertex.
 
 ghost use Rattle.std.specs.Prelude.{◌≡◌, ◌<◌, IfOk, IfSome, length};
-ghost use Rattle.evidence.specs.Draft.{empty, put};
+ghost use Rattle.evidence.specs.Draft.{empty, with_entry};
 ghost use Rattle.evidence.specs.Evidence.{counted};
 
 use crate::entries::Entries;
@@ -26,9 +26,9 @@ pub struct Draft {
 impl Model for Draft {
     ghost use Rattle.std.specs.Prelude.{◌≡◌};
     ghost use Rattle.evidence.specs.Draft.{IsDraft};
-    ghost use Rattle.evidence.specs.View.{Piece};
+    ghost use Rattle.evidence.specs.View.{NamedEvidence};
 
-    ghost Value = { Piece };
+    ghost Value = { NamedEvidence };
 
     ghost view = { λ e. record { game = e.of.value; evidence = record { player = e.player; entries = e.entries.entries } } };
 
@@ -66,7 +66,7 @@ impl Draft {
         requires vertex { v < length self.old.game.vertices }
         requires next { IfSome next (λ t. t < length self.old.game.vertices) }
         requires rank { length rank.now ≡ length (counted self.old.evidence.player self.old.game) }
-        ensures { self.new ≡ put self.old v (record { move = next; rank = rank.now }) }
+        ensures { self.new ≡ with_entry self.old v (record { move = next; rank = rank.now }) }
     {
         self.entries.set(v as usize, next, rank);
     }

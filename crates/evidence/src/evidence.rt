@@ -21,9 +21,9 @@ pub struct Evidence {
 
 impl Model for Evidence {
     ghost use Rattle.evidence.specs.Evidence.{IsEvidence};
-    ghost use Rattle.evidence.specs.View.{Piece};
+    ghost use Rattle.evidence.specs.View.{NamedEvidence};
 
-    ghost Value = { Piece };
+    ghost Value = { NamedEvidence };
 
     ghost view = { λ e. record { game = e.of.value; evidence = record { player = e.player; entries = e.entries.entries } } };
 

@@ -7,7 +7,7 @@ ghost use Rattle.text.specs.Reads.{Reads};
 ghost use Rattle.text.specs.declared.error.ReadFault.TheVariants as reads;
 ghost use Rattle.evidence.specs.Evidence.{counted};
 ghost use Rattle.evidence.specs.Fault.{HasFault, HasFaultAt, Refuses, named};
-ghost use Rattle.evidence.specs.Reading.{AreRead, BeginsWith, HasNoHeader, HasRestFault, IsAdded, IsNoPlace, IsPlace, IsWrongLine, ReadsAtHand, ReadsNext};
+ghost use Rattle.evidence.specs.Reading.{AreEntriesRead, BeginsWith, HasNoHeader, HasRestFault, IsAdded, IsNoPlace, HasPlaceFor, IsWrongLine, ReadsAtHand, ReadsNext};
 ghost use Rattle.evidence.specs.Short.{short};
 ghost use Rattle.evidence.specs.Spelling.{IsEvidenceText};
 ghost use Rattle.evidence.specs.declared.error.EvidenceError.TheVariants as errors;
@@ -48,7 +48,7 @@ fn read_header<B: Blocks>(reader: &mut B, kept: &mut Vec<u8>) -> Result<Player, 
 
 // Whether the vertex may have an entry with this move, and has none yet.
 fn has_place(entries: &Entries, v: u32, next: Option<u32>) -> bool
-    ensures { MatchBool result (IsPlace entries.now.entries v next) (IsNoPlace entries.now.entries v next) }
+    ensures { MatchBool result (HasPlaceFor entries.now.entries v next) (IsNoPlace entries.now.entries v next) }
 {
     if v as usize >= entries.len() {
         return false;
@@ -152,7 +152,7 @@ fn read_lines<B: Blocks>(
     requires width { length counts.old ≡ entries.old.width }
     requires few { length entries.old.entries ≤ MOST_VERTICES }
     requires narrow { entries.old.width ≤ MOST_COUNTS }
-    ensures lines { OnOk result (AreRead (length entries.old.entries) entries.old.width (B.remaining reader.old) entries.new.entries) }
+    ensures lines { OnOk result (AreEntriesRead (length entries.old.entries) entries.old.width (B.remaining reader.old) entries.new.entries) }
     ensures fault { IfErr result (Refuses (B.remaining reader.old) (HasRestFault (length entries.old.entries) entries.old.width)) }
     ensures cause { IfErr result (HasCause B.can_fail errors.Read) }
 {
@@ -190,7 +190,7 @@ fn read_entries<B: Blocks>(
     player: Player,
     game: &Game,
 ) -> Result<Entries, EvidenceError>
-    ensures lines { IfOk result (λ e. AreRead (length game.now.vertices) (length (counted player game.now)) (B.remaining reader.old) e.entries) }
+    ensures lines { IfOk result (λ e. AreEntriesRead (length game.now.vertices) (length (counted player game.now)) (B.remaining reader.old) e.entries) }
     ensures fault { IfErr result (Refuses (B.remaining reader.old) (HasRestFault (length game.now.vertices) (length (counted player game.now)))) }
     ensures cause { IfErr result (HasCause B.can_fail errors.Read) }
 {

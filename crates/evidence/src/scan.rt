@@ -67,7 +67,7 @@ fn count_before(bytes: &[u8], end: u8) -> Option<(u32, &[u8])>
 
 // Reads counts that each have their end behind them.
 fn read_ended(bytes: &[u8], counts: &mut [u32]) -> bool
-    ensures { MatchBool result (at.counts_of (length counts.old) bytes.now ≡ Some counts.new) (at.counts_of (length counts.old) bytes.now ≡ None) }
+    ensures { MatchBool result (at.counts_in (length counts.old) bytes.now ≡ Some counts.new) (at.counts_in (length counts.old) bytes.now ≡ None) }
 {
     let mut rest = bytes;
     for k in 0..counts.len() {

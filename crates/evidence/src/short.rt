@@ -6,7 +6,7 @@ ghost use Rattle.text.specs.Cause.{HasCause};
 ghost use Rattle.text.specs.Lines.{IfKnown};
 ghost use Rattle.text.specs.Tokens.{is_other};
 ghost use Rattle.text.specs.declared.error.ReadFault.TheVariants as reads;
-ghost use Rattle.evidence.specs.Short.{Keeps, Puts, TakesOn, TakesShort, digits_after, digits_then, kept_of};
+ghost use Rattle.evidence.specs.Short.{KeepsShort, Puts, TakesOn, TakesShort, digits_after, digits_then, kept_of};
 
 use crate::limits::{LONGEST_LINE, MOST_DIGITS};
 use std::alloc::AllocError;
@@ -43,7 +43,7 @@ fn keep(kept: &mut Vec<u8>, digits: usize, byte: u8) -> Result<usize, AllocError
 // Keeps these bytes behind so many digits, and answers how many digits stand on end then.
 fn keep_all(kept: &mut Vec<u8>, digits: usize, run: &[u8]) -> Result<usize, AllocError>
     ensures digits { IfOk result (λ after. after ≡ digits_after digits run.now) }
-    ensures kept { OnOk result (Keeps digits run.now kept.old.items kept.new.items) }
+    ensures kept { OnOk result (KeepsShort digits run.now kept.old.items kept.new.items) }
 {
     let mut after = digits;
     for byte in run {

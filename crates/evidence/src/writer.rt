@@ -1,8 +1,7 @@
 // The writers of evidence and of what a checker answers.
 
 ghost use Rattle.std.specs.Prelude.{◌≡◌, ◌++◌};
-ghost use Rattle.lts.specs.Canon.{line_end};
-ghost use Rattle.text.specs.Pieces.{piece_text};
+ghost use Rattle.text.specs.Pieces.{line_end, piece_text};
 ghost use Rattle.text.specs.Wrote.{Wrote};
 ghost use Rattle.evidence.specs.Canon.{entry_line, entry_lines, evidence_text, header, move_text, player_text};
 ghost use Rattle.evidence.specs.Verdict.{both_text, even_of, fault_text, odd_of, refusal, sizes_line, verdict_text};
@@ -71,11 +70,11 @@ struct EntryLines<'a> {
 
 impl Lines for EntryLines<'_> {
     ghost use Rattle.std.specs.Prelude.{length};
-    ghost use Rattle.evidence.specs.Canon.{line_at};
+    ghost use Rattle.evidence.specs.Canon.{entry_line_at};
 
     ghost count = { λ lines. length lines.entries.now.entries };
 
-    ghost line = { λ lines v. line_at lines.entries.now.entries v };
+    ghost line = { λ lines v. entry_line_at lines.entries.now.entries v };
 
     fn count(&self) -> usize {
         self.entries.len()

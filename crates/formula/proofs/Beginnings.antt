@@ -6,7 +6,7 @@ use Rattle.grammar.specs.declared.limits.TheConstants.{DEEPEST, MOST_PARENS}
 use Rattle.grammar.specs.Token.{Token, Name, NotSign, Open, Close, Dot}
 use Rattle.grammar.specs.Syntax.{RegSyntax, reg_tokens, reg_fits, reg_nesting, reg_parens, Syntax, True', False', Var', Group', Neg', Both', OneOf', If'}
 use Rattle.grammar.specs.Syntax.{Dia', Box', Mu', Nu', form, ends_in_binder, fits, tokens, nesting, parens, is_within_limits}
-use Rattle.grammar.specs.Written.{joined, connective_token, connective_row, modal, opening, closing, bound}
+use Rattle.grammar.specs.Written.{joined, connective_token, connective_row, written_modal, opening_bracket, closing, bound}
 use Rattle.grammar.specs.Read.{state_row}
 use Rattle.grammar.specs.declared.written.Connective.{Connective}
 use Rattle.grammar.specs.declared.written.Connective.TheVariants as connective
@@ -64,11 +64,11 @@ after_not f low least g n m st far e =
     record { nests = omega (arith, h.nests, ap nesting w.1, u.nests); opens = omega (arith, h.opens, ap parens w.1, u.opens) }
 
 -- in the brackets of a modality the regular formula is the same
-after_brackets : (mark : Brackets) (r : RegSyntax) (f : Syntax) → IsTrue (reg_fits r) → form f ≤ 0 → Least f → Least (modal mark r f)
+after_brackets : (mark : Brackets) (r : RegSyntax) (f : Syntax) → IsTrue (reg_fits r) → form f ≤ 0 → Least f → Least (written_modal mark r f)
 after_brackets mark r f fit low least g n m st far e =
     let u = first-unary g n st in
-    let split : tokens (modal mark r f) ++ m ≡ opening mark ∷ (reg_tokens r ++ closing mark ∷ (tokens f ++ m))
-    = ap (λ ts. ts ++ m) (modal-tokens mark r f) ∙ ap (λ ts. opening mark ∷ ts) (append_assoc (reg_tokens r) (closing mark ∷ tokens f) m) in
+    let split : tokens (written_modal mark r f) ++ m ≡ opening_bracket mark ∷ (reg_tokens r ++ closing mark ∷ (tokens f ++ m))
+    = ap (λ ts. ts ++ m) (modal-tokens mark r f) ∙ ap (λ ts. opening_bracket mark ∷ ts) (append_assoc (reg_tokens r) (closing mark ∷ tokens f) m) in
     let w = modal-as mark u.operand u.rest (reg_tokens r ++ closing mark ∷ (tokens f ++ m)) u.row (u.spelled ∙ e ∙ split) in
     let o = modal-inside mark w.0 w.1 (subst (λ s. IsTrue (fits s)) w.2 u.standing.grammatical) in
     let p = one_at 7 w.0 r (closing mark ∷ (tokens w.1 ++ u.rest)) (closing mark ∷ (tokens f ++ m)) o.1 fit (any_form w.0) (any_form r)

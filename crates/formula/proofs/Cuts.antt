@@ -10,14 +10,14 @@ use Rattle.std.proofs.lemmas.List.Sums.{take_while-cons}
 use Rattle.text.specs.Text.{is_name_byte, is_letter}
 use Rattle.systems.specs.declared.limits.TheConstants.{LONGEST_LABEL}
 use Rattle.systems.specs.Label.{is_label_byte}
-use Rattle.grammar.specs.Token.{Token, Atom, spelling, reserved_words, IsToken, Piece, Blank, Comment, Word, piece_text, piece_ends, begins, token_ends}
+use Rattle.grammar.specs.Token.{Token, Atom, spelling, reserved_words, IsToken, Piece, Blank, Comment, Word, written_piece, piece_ends, begins, token_ends}
 use Rattle.grammar.specs.Token.{text_of, Cuts, tokens_of, offsets_from}
-use Rattle.formula.specs.Cutting.{IsFront, IsFirst, IsNamed, IsGap}
+use Rattle.formula.specs.Cutting.{IsFront, IsFirst, IsNameToken, IsGap}
 use Rattle.grammar.proofs.Regulars.{all_true, le_true}
 
 pub text_of-append : (ps qs : List Piece) → text_of (ps ++ qs) ≡ text_of ps ++ text_of qs
 text_of-append [] qs = refl
-text_of-append (p ∷ ps) qs = ap (λ t. piece_text p ++ t) (text_of-append ps qs) ∙ sym (append_assoc (piece_text p) (text_of ps) (text_of qs))
+text_of-append (p ∷ ps) qs = ap (λ t. written_piece p ++ t) (text_of-append ps qs) ∙ sym (append_assoc (written_piece p) (text_of ps) (text_of qs))
 
 pub tokens_of-append : (ps qs : List Piece) → tokens_of (ps ++ qs) ≡ tokens_of ps ++ tokens_of qs
 tokens_of-append [] qs = refl
@@ -92,7 +92,7 @@ letter_named : (b : ℕ) → IsTrue (is_letter b) → is_name_byte b ≡ true
 letter_named b h = grind (arith)
 
 pub named-front : (text : List ℕ) (n : ℕ) (t : Token) → 0 < length text → IsTrue (is_letter (get_or text 0 0)) → Run is_name_byte text n
-    → IsNamed (take n text) t
+    → IsNameToken (take n text) t
     → list_any (bytes_eq (take n text)) reserved_words ≡ false → IsFirst t n text
 named-front [] n t some letter run named free = absurd (omega arith)
 named-front (x ∷ xs) zero t some letter run named free = absurd (true≢false (sym (letter_named x letter) ∙ run.ends))

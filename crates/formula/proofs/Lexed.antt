@@ -8,7 +8,7 @@ use Rattle.std.proofs.lemmas.Bool.Decides.{nat_tests}
 use Rattle.text.specs.Text.{is_letter}
 use Rattle.grammar.specs.Token.{Token, Name, Reserved, ChoiceSign, PlusSign, spelling, IsToken, is_free_name, Piece, Word, text_of, Cuts, tokens_of}
 use Rattle.grammar.specs.Token.{offsets_from, is_decided, is_after_postfix, sign_is_decided, is_reserved, begins, token_ends}
-use Rattle.grammar.specs.Written.{token_of, words}
+use Rattle.grammar.specs.Written.{token_of, bare_tokens}
 use Rattle.formula.specs.Cutting.{IsFront, IsGap, IsFirst, IsDecidedBy, is_postfix_before, begins_gap, Heads, IsCut, IsLexed}
 use Rattle.grammar.specs.declared.token.Token.{Token as Lexeme}
 use Rattle.grammar.specs.declared.token.Token.TheVariants as lexeme
@@ -102,7 +102,7 @@ cut-none text n placed none g over = record {
   pieces = g.pieces;
   front = g.front;
   over = over;
-  spelled = g.wordless ∙ ap words (sym none);
+  spelled = g.wordless ∙ ap bare_tokens (sym none);
   places = offsets-none 0 g.pieces g.wordless ∙ ap (λ ps. map (λ p. p.offset) ps) (sym none);
   decided = λ ts decided heads. subst (λ (us : List Token). IsTrue (is_decided (us ++ ts))) (sym g.wordless) decided;
 }
@@ -122,8 +122,8 @@ cut-more text at placed placed' t p n gap c f g over d place e =
     (a.ends (drop n (drop at text)) ∙ f.front.cut.1) in
     let pieces = c.pieces ++ Word u ∷ [] in
     let front = front-append c.pieces (Word u ∷ []) at n text c.front word in
-    let words_so : tokens_of pieces ≡ words placed ++ u ∷ [] = tokens_of-append c.pieces (Word u ∷ []) ∙ ap (λ ts. ts ++ u ∷ []) c.spelled in
-    let all_words : tokens_of (pieces ++ g.pieces) ≡ words placed ++ u ∷ [] = tokens_of-append pieces g.pieces ∙ ap (λ ts. tokens_of pieces ++ ts) g.wordless
+    let words_so : tokens_of pieces ≡ bare_tokens placed ++ u ∷ [] = tokens_of-append c.pieces (Word u ∷ []) ∙ ap (λ ts. ts ++ u ∷ []) c.spelled in
+    let all_words : tokens_of (pieces ++ g.pieces) ≡ bare_tokens placed ++ u ∷ [] = tokens_of-append pieces g.pieces ∙ ap (λ ts. tokens_of pieces ++ ts) g.wordless
     ∙ append-nil (tokens_of pieces) ∙ words_so in
     let f_offset : Placed → ℕ = λ q. q.offset in
     let f_token : Placed → Token = λ q. token_of q.token in
@@ -134,7 +134,7 @@ cut-more text at placed placed' t p n gap c f g over d place e =
       pieces = pieces ++ g.pieces;
       front = front-append pieces g.pieces (at + n) gap text front g.front;
       over = subst (λ (ts : List ℕ). IsFalse (begins begins_gap ts)) (drop-drop gap (at + n) text) over;
-      spelled = all_words ∙ sym (ap words e ∙ map-append f_token placed (p ∷ []));
+      spelled = all_words ∙ sym (ap bare_tokens e ∙ map-append f_token placed (p ∷ []));
       places = offsets-append 0 pieces g.pieces ∙ ap (λ os. offsets_from 0 pieces ++ os) (offsets-none (0 + length (text_of pieces)) g.pieces g.wordless)
           ∙ append-nil (offsets_from 0 pieces) ∙ offsets_so
           ∙ sym (ap (λ ps. map f_offset ps) e ∙ map-append f_offset placed (p ∷ []));
@@ -144,7 +144,7 @@ cut-more text at placed placed' t p n gap c f g over d place e =
           let mine : IsTrue (is_decided (u ∷ ts)) = all_true _ _ (decided-is t u (slice_get text next) ts d after) decided in
           let theirs : IsTrue (is_decided (tokens_of c.pieces ++ (u ∷ ts))) = c.decided (u ∷ ts) mine (heads_first t u ts n (drop at text) f a free) in
           let same : tokens_of c.pieces ++ (u ∷ ts) ≡ tokens_of (pieces ++ g.pieces) ++ ts
-          = ap (λ us. us ++ (u ∷ ts)) c.spelled ∙ sym (append_assoc (words placed) (u ∷ []) ts) ∙ ap (λ us. us ++ ts) (sym all_words) in
+          = ap (λ us. us ++ (u ∷ ts)) c.spelled ∙ sym (append_assoc (bare_tokens placed) (u ∷ []) ts) ∙ ap (λ us. us ++ ts) (sym all_words) in
           subst (λ (us : List Token). IsTrue (is_decided us)) same theirs;
     }
 

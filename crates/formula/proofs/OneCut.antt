@@ -3,7 +3,7 @@ use Rattle.std.specs.Prelude.{◌≡◌, ◌≢◌, ◌⊎◌, ℕ, ◌+◌, Boo
 use Rattle.std.specs.List.{list_any}
 use Rattle.std.proofs.Common.{sym, ◌∙◌, ap, subst, append_assoc, append-nil, true≢false, inl, inr}
 use Rattle.std.proofs.lemmas.List.{length-append}
-use Rattle.grammar.specs.Token.{Reserved, PlusSign, spelling, Piece, Blank, Comment, Word, piece_text, IsPiece, piece_ends, text_of, Cuts, tokens_of}
+use Rattle.grammar.specs.Token.{Reserved, PlusSign, spelling, Piece, Blank, Comment, Word, written_piece, IsPiece, piece_ends, text_of, Cuts, tokens_of}
 use Rattle.grammar.specs.Token.{offsets_from, is_reserved}
 use Rattle.formula.specs.Fault.{NothingBegins, TokenFault, IsTokens}
 use Rattle.formula.specs.declared.error.FormulaFault.{FormulaFault}
@@ -16,7 +16,7 @@ Reserves p = list_any is_reserved (tokens_of (p ∷ [])) ≡ true
 
 -- no piece stands at the front, apart from a reserved word
 abbrev Blocks : List ℕ → Type 0
-Blocks text = (p : Piece) (rest : List ℕ) → IsPiece p → IsTrue (piece_ends p rest) → text ≡ piece_text p ++ rest → Reserves p
+Blocks text = (p : Piece) (rest : List ℕ) → IsPiece p → IsTrue (piece_ends p rest) → text ≡ written_piece p ++ rest → Reserves p
 
 or_none : (b : Bool) → (b || false) ≡ b
 or_none true = refl
@@ -38,7 +38,7 @@ not_others (Blank byte) ps free = free
 not_others (Comment bytes) ps free = free
 not_others (Word t) ps free = right_false (is_reserved t) _ free
 
-plain_text : (p : Piece) → piece_text (plain p) ≡ piece_text p
+plain_text : (p : Piece) → written_piece (plain p) ≡ written_piece p
 plain_text (Word PlusSign) = refl
 plain_text (Word t) = refl
 plain_text _ = refl
@@ -53,15 +53,15 @@ same_front : (ps qs : List Piece) (m n : List ℕ) → Cuts ps m → Cuts qs n �
     → IsFalse (list_any is_reserved (tokens_of qs)) → Blocks m → Blocks n
     → text_of ps ++ m ≡ text_of qs ++ n → (length (text_of ps) ≡ length (text_of qs)) × (m ≡ n)
 same_front [] [] m n cp cq fp fq bm bn e = (refl, e)
-same_front [] (q ∷ qs) m n cp cq fp fq bm bn e = absurd (not_first q qs fq (bm q (text_of qs ++ n) cq.0 cq.1 (e ∙ append_assoc (piece_text q) (text_of qs) n)))
+same_front [] (q ∷ qs) m n cp cq fp fq bm bn e = absurd (not_first q qs fq (bm q (text_of qs ++ n) cq.0 cq.1 (e ∙ append_assoc (written_piece q) (text_of qs) n)))
 same_front (p ∷ ps) [] m n cp cq fp fq bm bn e = absurd (not_first p ps fp
-    (bn p (text_of ps ++ m) cp.0 cp.1 (sym e ∙ append_assoc (piece_text p) (text_of ps) m)))
+    (bn p (text_of ps ++ m) cp.0 cp.1 (sym e ∙ append_assoc (written_piece p) (text_of ps) m)))
 same_front (p ∷ ps) (q ∷ qs) m n cp cq fp fq bm bn e =
-    let apart = sym (append_assoc (piece_text p) (text_of ps) m) ∙ e ∙ append_assoc (piece_text q) (text_of qs) n in
+    let apart = sym (append_assoc (written_piece p) (text_of ps) m) ∙ e ∙ append_assoc (written_piece q) (text_of qs) n in
     let first = one_piece p q (text_of ps ++ m) (text_of qs ++ n) cp.0 cq.0 cp.1 cq.1 apart in
     let others = same_front ps qs m n cp.2 cq.2 (not_others p ps fp) (not_others q qs fq) bm bn first.1 in
-    let here : piece_text p ≡ piece_text q = sym (plain_text p) ∙ ap piece_text first.0 ∙ plain_text q in
-    (length-append (piece_text p) (text_of ps) ∙ (λ i. length (here i) + others.0 i) ∙ sym (length-append (piece_text q) (text_of qs)), others.1)
+    let here : written_piece p ≡ written_piece q = sym (plain_text p) ∙ ap written_piece first.0 ∙ plain_text q in
+    (length-append (written_piece p) (text_of ps) ∙ (λ i. length (here i) + others.0 i) ∙ sym (length-append (written_piece q) (text_of qs)), others.1)
 
 nothing_blocks : (text : List ℕ) → NothingBegins text → Blocks text
 nothing_blocks text none p rest valid ends e = absurd (none p rest valid ends e)

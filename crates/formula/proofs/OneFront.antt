@@ -3,7 +3,7 @@ use Rattle.std.specs.Prelude.{◌≡◌, ◌⊎◌, ℕ, List, [], ◌∷◌, �
 use Rattle.std.proofs.Common.{sym, ◌∙◌, ap, subst, append_assoc, append-nil, inl, inr}
 use Rattle.grammar.specs.Token.{Token, Piece, tokens_of, offsets_from}
 use Rattle.grammar.specs.Syntax.{Syntax, tokens, fits, is_within_limits}
-use Rattle.formula.specs.Fault.{Begins, BeginsWithin, IsTokens, GrammarFault}
+use Rattle.formula.specs.Fault.{BeginsFormula, BeginsWithin, IsTokens, GrammarFault}
 use Rattle.formula.specs.Spells.{IsWritten}
 use Rattle.formula.specs.declared.error.FormulaFault.{FormulaFault}
 use Rattle.formula.specs.declared.error.FormulaFault.TheVariants as fault
@@ -39,7 +39,7 @@ within_closed xs ys (s, more, fit, small, e) = (s, ys ++ more, fit, small, e ∙
 
 -- whether no formula begins with these tokens, or none within the limits
 abbrev Kind : List Token → FormulaFault → Type 0
-Kind front f = ((f ≡ fault.Unexpected) × (Begins front → ⊥)) ⊎ ((f ≡ fault.TooLarge) × Begins front)
+Kind front f = ((f ≡ fault.Unexpected) × (BeginsFormula front → ⊥)) ⊎ ((f ≡ fault.TooLarge) × BeginsFormula front)
 
 -- why the grammar stops at this front of the tokens
 abbrev Reason : List ℕ → List ℕ → List Token → List Token → FormulaFault → ℕ → Type 0
@@ -58,7 +58,7 @@ record Stop (text : List ℕ) (f : FormulaFault) (place : ℕ) : Type 0 where
   begun : BeginsWithin front
   why : Reason text (offsets_from 0 pieces) front back f place
 
-begins_within : (front : List Token) → (Begins front → ⊥) → BeginsWithin front → ⊥
+begins_within : (front : List Token) → (BeginsFormula front → ⊥) → BeginsWithin front → ⊥
 begins_within front none (s, more, fit, small, e) = none (s, more, fit, e)
 
 stop : (text : List ℕ) (f : FormulaFault) (place : ℕ) → GrammarFault text f place → Stop text f place

@@ -7,7 +7,7 @@ use Rattle.std.proofs.lemmas.List.{length-append}
 use Rattle.std.proofs.lemmas.List.Folds.{list_any-append}
 use Rattle.grammar.specs.declared.limits.TheConstants.{LONGEST_TEXT}
 use Rattle.calculus.specs.Tree.{Formula}
-use Rattle.grammar.specs.Token.{Token, Reserved, TrueWord, Piece, Word, IsPiece, piece_text, piece_ends, Cuts, text_of, tokens_of, offsets_from, is_reserved}
+use Rattle.grammar.specs.Token.{Token, Reserved, TrueWord, Piece, Word, IsPiece, written_piece, piece_ends, Cuts, text_of, tokens_of, offsets_from, is_reserved}
 use Rattle.grammar.specs.Syntax.{Syntax, True', fits, tokens, meant, is_within_limits}
 use Rattle.formula.specs.Spells.{IsWritten, SpellsWithin}
 use Rattle.calculus.specs.Admitted.{IsAdmitted}
@@ -34,19 +34,19 @@ kind (Word (Reserved bytes)) = word bytes refl
 kind _ = free refl
 
 -- a piece is not empty
-fewer : (p : Piece) (more : List ℕ) → IsPiece p → length more < length (piece_text p ++ more)
-fewer p more valid = some (piece_text p) (λ e. some_bytes p [] valid (ap (λ text. text ++ []) e))
+fewer : (p : Piece) (more : List ℕ) → IsPiece p → length more < length (written_piece p ++ more)
+fewer p more valid = some (written_piece p) (λ e. some_bytes p [] valid (ap (λ text. text ++ []) e))
   where
     some : (bytes : List ℕ) → (bytes ≡ [] → ⊥) → length more < length (bytes ++ more)
     some [] none = absurd (none refl)
     some (b ∷ bytes) none = omega (arith, length-append bytes more)
 
 -- one more piece
-grown_text : (ps : List Piece) (p : Piece) → text_of (ps ++ p ∷ []) ≡ text_of ps ++ piece_text p
-grown_text ps p = text_of-append ps (p ∷ []) ∙ ap (λ text. text_of ps ++ text) (append-nil (piece_text p))
+grown_text : (ps : List Piece) (p : Piece) → text_of (ps ++ p ∷ []) ≡ text_of ps ++ written_piece p
+grown_text ps p = text_of-append ps (p ∷ []) ∙ ap (λ text. text_of ps ++ text) (append-nil (written_piece p))
 
-grown_cut : (ps : List Piece) (p : Piece) (more : List ℕ) → Cuts ps (piece_text p ++ more) → IsPiece p → IsTrue (piece_ends p more) → Cuts (ps ++ p ∷ []) more
-grown_cut ps p more cut valid ends = cuts-append ps (p ∷ []) more (subst (λ (text : List ℕ). Cuts ps (text ++ more)) (sym (append-nil (piece_text p))) cut)
+grown_cut : (ps : List Piece) (p : Piece) (more : List ℕ) → Cuts ps (written_piece p ++ more) → IsPiece p → IsTrue (piece_ends p more) → Cuts (ps ++ p ∷ []) more
+grown_cut ps p more cut valid ends = cuts-append ps (p ∷ []) more (subst (λ (text : List ℕ). Cuts ps (text ++ more)) (sym (append-nil (written_piece p))) cut)
     (valid, ends, tt)
 
 grown_free : (ps : List Piece) (p : Piece) → IsFalse (list_any is_reserved (tokens_of ps)) → IsFalse (list_any is_reserved (tokens_of (p ∷ [])))
@@ -58,10 +58,10 @@ grown_free ps p h k = ap (list_any is_reserved) (tokens_of-append ps (p ∷ []))
 module _ (text : List ℕ) (faultless : (f : FormulaFault) (place : ℕ) → TokenFault text f place → ⊥) (untold : (ps : List Piece) → IsTokens text ps → ⊥) where
   -- with this piece next, where the text after it cannot be cut on
   cut_one : (ps : List Piece) (rest : List ℕ) (p : Piece) (more : List ℕ) → text ≡ text_of ps ++ rest → Cuts ps rest
-      → IsFalse (list_any is_reserved (tokens_of ps)) → IsPiece p → IsTrue (piece_ends p more) → rest ≡ piece_text p ++ more → Kind p
+      → IsFalse (list_any is_reserved (tokens_of ps)) → IsPiece p → IsTrue (piece_ends p more) → rest ≡ written_piece p ++ more → Kind p
       → (text ≡ text_of (ps ++ p ∷ []) ++ more → Cuts (ps ++ p ∷ []) more → IsFalse (list_any is_reserved (tokens_of (ps ++ p ∷ []))) → ⊥) → ⊥
   cut_one ps rest p more e cut none valid ends is (word bytes same) on =
-      let here : rest ≡ bytes ++ more = is ∙ ap (λ q. piece_text q ++ more) same in
+      let here : rest ≡ bytes ++ more = is ∙ ap (λ q. written_piece q ++ more) same in
       let joined : text ≡ text_of ps ++ (bytes ++ more) = e ∙ ap (λ us. text_of ps ++ us) here in
       let before : Cuts ps (bytes ++ more) = subst (λ (us : List ℕ). Cuts ps us) here cut in
       faultless fault.ReservedWord (length (text_of ps)) (
@@ -76,7 +76,7 @@ module _ (text : List ℕ) (faultless : (f : FormulaFault) (place : ℕ) → Tok
         refl,
       )
   cut_one ps rest p more e cut none valid ends is (free also) on =
-      on (e ∙ (ap (λ us. text_of ps ++ us) is ∙ (sym (append_assoc (text_of ps) (piece_text p) more) ∙ ap (λ us. us ++ more) (sym (grown_text ps p)))))
+      on (e ∙ (ap (λ us. text_of ps ++ us) is ∙ (sym (append_assoc (text_of ps) (written_piece p) more) ∙ ap (λ us. us ++ more) (sym (grown_text ps p)))))
       (grown_cut ps p more (subst (λ (us : List ℕ). Cuts ps us) is cut) valid ends) (grown_free ps p none also)
 
   cut_on : (n : ℕ) (ps : List Piece) (rest : List ℕ) → length rest ≤ n → text ≡ text_of ps ++ rest → Cuts ps rest

@@ -11,7 +11,7 @@ use Rattle.systems.specs.declared.limits.TheConstants.{LONGEST_LABEL}
 use Rattle.systems.specs.Label.{is_label_byte}
 use Rattle.grammar.specs.Token.{Token, Name, Reserved, Atom, TrueWord, FalseWord, MuWord, NuWord, TauWord, ImpliesSign, OrSign, AndSign, Bar, NotSign, Less}
 use Rattle.grammar.specs.Token.{Greater, OpenBox, CloseBox, Open, Close, Dot, ChoiceSign, PlusSign, StarSign, spelling, words, reserved_words, is_free_name}
-use Rattle.grammar.specs.Token.{IsToken, Piece, Blank, Comment, Word, piece_text, IsPiece, begins, token_ends, piece_ends, text_of, Cuts, tokens_of}
+use Rattle.grammar.specs.Token.{IsToken, Piece, Blank, Comment, Word, written_piece, IsPiece, begins, token_ends, piece_ends, text_of, Cuts, tokens_of}
 use Rattle.grammar.specs.Token.{is_after_postfix, sign_is_decided, is_decided}
 
 -- the longest front whose bytes pass, and the rest
@@ -176,7 +176,7 @@ token_found Bar m h k = ap (λ b. if b then (Word OrSign, after_one m) else (Wor
 token_found _ m h k = refl
 
 -- The first piece and what follows it are found again.
-cut_found : (p : Piece) (m : List ℕ) → IsPiece p → piece_ends p m ≡ true → cut_at (piece_text p ++ m) ≡ (plain p, m)
+cut_found : (p : Piece) (m : List ℕ) → IsPiece p → piece_ends p m ≡ true → cut_at (written_piece p ++ m) ≡ (plain p, m)
 cut_found (Blank byte) m h k =
     let P : Type 0 = cut_at (byte ∷ m) ≡ (Blank byte, m) in
     let at : (b : ℕ) → cut_at (b ∷ m) ≡ (Blank b, m) → (byte == b) ≡ true
@@ -190,14 +190,14 @@ cut_found (Comment bytes) m h k =
 cut_found (Word t) m h k = token_found t m h k
 
 -- The pieces at the front of one text are one, apart from the kind of a `+`, and the same follows.
-pub one_piece : (p q : Piece) (m n : List ℕ) → IsPiece p → IsPiece q → piece_ends p m ≡ true → piece_ends q n ≡ true → piece_text p ++ m ≡ piece_text q ++ n
+pub one_piece : (p q : Piece) (m n : List ℕ) → IsPiece p → IsPiece q → piece_ends p m ≡ true → piece_ends q n ≡ true → written_piece p ++ m ≡ written_piece q ++ n
     → (plain p ≡ plain q) × (m ≡ n)
 one_piece p q m n hp hq ep eq e =
     let both = sym (cut_found p m hp ep) ∙ (ap cut_at e ∙ cut_found q n hq eq) in
     (ap (λ (c : Piece × List ℕ). c.0) both, ap (λ (c : Piece × List ℕ). c.1) both)
 
 -- a piece has some bytes
-pub some_bytes : (p : Piece) (m : List ℕ) → IsPiece p → piece_text p ++ m ≡ [] → ⊥
+pub some_bytes : (p : Piece) (m : List ℕ) → IsPiece p → written_piece p ++ m ≡ [] → ⊥
 some_bytes (Word (Name [])) m h e = cc
 some_bytes (Word (Name (b ∷ bytes))) m h e = cc
 some_bytes (Word (Reserved [])) m h e = cc

@@ -14,9 +14,9 @@ use Rattle.formula.specs.Spells.{IsWritten, Spells, SpellsWithin}
 use Rattle.calculus.specs.Admitted.{IsAdmitted}
 use Rattle.formula.specs.Fault.{BeginsWithin, IsTokens, HasFaultAt, operand_faults, variable_faults}
 use Rattle.calculus.specs.View.{formula_of}
-use Rattle.grammar.specs.Written.{words, state_syntax}
+use Rattle.grammar.specs.Written.{bare_tokens, state_syntax}
 use Rattle.formula.specs.Cutting.{IsLexed, IsTokenRefusal}
-use Rattle.grammar.specs.Read.{IsWhole, IsState, state_tokens, state_row}
+use Rattle.grammar.specs.Read.{IsWholeFormula, IsReadState, state_tokens, state_row}
 use Rattle.formula.specs.Refused.{IsGrammarRefusal, IsRefusal}
 use Rattle.grammar.specs.Misread.{BeginsState, StandsState, Within, SpellsTokens, IsStateMisread, IsWholeMisread}
 use Rattle.formula.specs.Checked.{IsTreeRefusal, IsTold, named, is_variable_fault}
@@ -102,12 +102,12 @@ not_over [] more h e = absurd (omega (arith, h))
 not_over (t ∷ back) more h e = absurd (omega (arith, ap length e))
 
 -- After a whole formula a token is left.
-pub left-over : (s : ReadState) (ts : List Token) (e : Misread) → IsState 3 DEEPEST MOST_PARENS s → 3 < state_row (words s.rest.now) → state_tokens s ≡ ts
+pub left-over : (s : ReadState) (ts : List Token) (e : Misread) → IsReadState 3 DEEPEST MOST_PARENS s → 3 < state_row (bare_tokens s.rest.now) → state_tokens s ≡ ts
     → 0 < length s.rest.now
     → e ≡ misread.Unexpected (length s.rest.now) → IsWholeMisread ts e
 left-over s ts e is stops eaten some at =
     let f : Syntax = state_syntax s.syntax.value in
-    let back : List Token = words s.rest.now in
+    let back : List Token = bare_tokens s.rest.now in
     let count : length back ≡ length s.rest.now = words-length s.rest.now in
     let height = is.height in
     let low = is.low in
@@ -236,7 +236,7 @@ lexed_tokens : (text : List ℕ) (placed : List Placed) (l : IsLexed text placed
 lexed_tokens text placed l = record { joined = l.joined; cut = l.cut; decided = l.decided; free = ap (list_any is_reserved) l.spelled ∙ free_words placed }
 
 pub grammar-told : (text : List ℕ) (placed : List Placed) (e : FormulaError) → length text ≤ LONGEST_TEXT → IsLexed text placed
-    → IsGrammarRefusal (words placed) (map (λ p. p.offset) placed) (length text) e → IsTold text e
+    → IsGrammarRefusal (bare_tokens placed) (map (λ p. p.offset) placed) (length text) e → IsTold text e
 grammar-told text placed (refused.Fault fault.Unexpected offset) short l r =
     inr (
       short,
@@ -275,16 +275,16 @@ grammar-told text placed (refused.Fault fault.Unfinished offset) short l r =
 grammar-told text placed (refused.Fault _ offset) short l r = absurd r
 grammar-told text placed refused.Memory short l r = tt
 
-pub written-as : (text : List ℕ) (placed : List Placed) (s : Syntax) (l : IsLexed text placed) → IsWhole s (words placed) → IsWritten text l.pieces s
+pub written-as : (text : List ℕ) (placed : List Placed) (s : Syntax) (l : IsLexed text placed) → IsWholeFormula s (bare_tokens placed) → IsWritten text l.pieces s
 written-as text placed s l w = record { joined = l.joined; cut = l.cut; decided = l.decided; spelled = l.spelled ∙ sym w.spelled; grammatical = w.grammatical }
 
 pub spelled-within : (text : List ℕ) (placed : List Placed) (s : Syntax) (f : Formula) → length text ≤ LONGEST_TEXT → IsLexed text placed
-    → IsWhole s (words placed) → meant s ≡ Some f → SpellsWithin text f
+    → IsWholeFormula s (bare_tokens placed) → meant s ≡ Some f → SpellsWithin text f
 spelled-within text placed s f short l w m =
     record { pieces = l.pieces; syntax = s; written = written-as text placed s l w; stands_for = m; within = w.within; short = short }
 
 pub tree-told : (text : List ℕ) (placed : List Placed) (s : Syntax) (e : FormulaError) → length text ≤ LONGEST_TEXT → IsLexed text placed
-    → IsWhole s (words placed)
+    → IsWholeFormula s (bare_tokens placed)
     → IsTreeRefusal s (map (λ p. p.offset) placed) e → IsTold text e
 tree-told text placed s (refused.Fault fault.NotAnAction offset) short l w r =
     inr (short, inr (inr (l.pieces, s, r.0, r.1, written-as text placed s l w, w.within, r.2, ap (λ places. slice_get places r.0) l.places ∙ r.3)))
@@ -301,7 +301,7 @@ meant-admitted s places (Err e) none m = inl m
 
 -- what a written formula means, or its refusal, is the text's
 pub meaning-told : (text : List ℕ) (placed : List Placed) (s : Syntax) (r : Result State FormulaError) → length text ≤ LONGEST_TEXT → IsLexed text placed
-    → IsWhole s (words placed)
+    → IsWholeFormula s (bare_tokens placed)
     → MatchResult r (λ f. (meant s ≡ Some (formula_of f)) × IsAdmitted (formula_of f))
     (λ e. (e ≡ refused.Memory) ⊎ IsTreeRefusal s (map (λ p. p.offset) placed) e)
     → MatchResult r (λ f. SpellsWithin text (formula_of f) × IsAdmitted (formula_of f)) (IsTold text)

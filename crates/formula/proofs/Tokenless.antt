@@ -13,7 +13,7 @@ use Rattle.systems.specs.declared.limits.TheConstants.{LONGEST_LABEL}
 use Rattle.systems.specs.Label.{is_label_byte}
 use Rattle.grammar.specs.Token.{Token, Name, Reserved, Atom, TrueWord, FalseWord, MuWord, NuWord, TauWord, ImpliesSign, OrSign, AndSign, spelling}
 use Rattle.grammar.specs.Token.{reserved_words, IsToken, Blank, Comment, Word, begins, text_of, Cuts, tokens_of, is_reserved}
-use Rattle.grammar.specs.Written.{words}
+use Rattle.grammar.specs.Written.{bare_tokens}
 use Rattle.formula.specs.Fault.{NothingBegins, TokenFault}
 use Rattle.formula.specs.Cutting.{IsCut, Stands, IsAtomless, IsSignless, BeginsReserved, IsTokenless, begins_gap, is_single, is_double}
 use Rattle.grammar.specs.declared.token.Placed.{Placed}
@@ -131,9 +131,9 @@ sign-tokenless (b ∷ text) f some quote letter none =
       | inr (inr (inr a)) ↦ true≢false (sym a ∙ none.2)
     ])
 
-pub free_words : (placed : List Placed) → list_any is_reserved (words placed) ≡ false
+pub free_words : (placed : List Placed) → list_any is_reserved (bare_tokens placed) ≡ false
 free_words [] = refl
-free_words (p ∷ placed) = ap (λ b. b || list_any is_reserved (words placed)) (not_reserved p.token) ∙ free_words placed
+free_words (p ∷ placed) = ap (λ b. b || list_any is_reserved (bare_tokens placed)) (not_reserved p.token) ∙ free_words placed
 
 gap_first : (b : ℕ) (rest text : List ℕ) → begins_gap b ≡ true → text ≡ b ∷ rest → begins begins_gap text ≡ false → ⊥
 gap_first b rest text h e over = true≢false (sym h ∙ sym (ap (begins begins_gap) e) ∙ over)

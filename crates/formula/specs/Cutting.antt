@@ -6,7 +6,7 @@ use Rattle.std.specs.Str.{bytes_eq}
 use Rattle.text.specs.Text.{is_name, is_name_byte}
 use Rattle.grammar.specs.Token.{Token, Reserved, Atom, ChoiceSign, PlusSign, spelling, reserved_words, IsToken, Piece, Word, begins, token_ends, text_of}
 use Rattle.grammar.specs.Token.{Cuts, tokens_of, offsets_from, is_decided, is_reserved}
-use Rattle.grammar.specs.Written.{words}
+use Rattle.grammar.specs.Written.{bare_tokens}
 use Rattle.formula.specs.Fault.{TokenFault}
 use Rattle.grammar.specs.declared.token.Placed.{Placed}
 use Rattle.formula.specs.declared.error.FormulaFault.{FormulaFault}
@@ -59,7 +59,7 @@ abbrev pub is_single : ℕ → Bool
 is_single b = b == 124 || b == 33 || b == 60 || b == 62 || b == 91 || b == 93 || b == 40 || b == 41 || b == 46 || b == 43 || b == 42
 
 -- the token that a name is, if it is not reserved
-pub record IsNamed (name : List ℕ) (token : Token) : Type 0 where
+pub record IsNameToken (name : List ℕ) (token : Token) : Type 0 where
   pub spelled : spelling token ≡ name
   pub valid : IsTrue (is_name name) → list_any (bytes_eq name) reserved_words ≡ false → IsToken token
   pub ends : (rest : List ℕ) → token_ends token rest ≡ not (begins is_name_byte rest)
@@ -105,7 +105,7 @@ pub record IsCut (text : List ℕ) (n : ℕ) (placed : List Placed) : Type 0 whe
   pub pieces : List Piece
   pub front : IsFront pieces n text
   pub over : IsFalse (begins begins_gap (drop n text))
-  pub spelled : tokens_of pieces ≡ words placed
+  pub spelled : tokens_of pieces ≡ bare_tokens placed
   pub places : offsets_from 0 pieces ≡ map (λ p. p.offset) placed
   pub decided : (tokens : List Token) → IsTrue (is_decided tokens) → Heads tokens (drop n text) → IsTrue (is_decided (tokens_of pieces ++ tokens))
 
@@ -115,7 +115,7 @@ pub record IsLexed (text : List ℕ) (placed : List Placed) : Type 0 where
   pub joined : text ≡ text_of pieces
   pub cut : Cuts pieces []
   pub decided : IsTrue (is_decided (tokens_of pieces))
-  pub spelled : tokens_of pieces ≡ words placed
+  pub spelled : tokens_of pieces ≡ bare_tokens placed
   pub places : offsets_from 0 pieces ≡ map (λ p. p.offset) placed
 
 -- a refusal names the first byte where no token begins, or the first reserved word

@@ -3,7 +3,7 @@ use Rattle.std.specs.Prelude.{◌≡◌, ◌≢◌, ◌⊎◌, ℕ, ◌+◌, ◌
 use Rattle.std.specs.List.{list_any}
 use Rattle.std.specs.Str.{bytes_eq}
 use Rattle.grammar.specs.declared.limits.TheConstants.{LONGEST_TEXT}
-use Rattle.grammar.specs.Token.{Token, Reserved, Piece, Word, IsPiece, piece_text, piece_ends, Cuts, text_of, tokens_of, offsets_from, is_decided, is_reserved}
+use Rattle.grammar.specs.Token.{Token, Reserved, Piece, Word, IsPiece, written_piece, piece_ends, Cuts, text_of, tokens_of, offsets_from, is_decided, is_reserved}
 use Rattle.calculus.specs.Admitted.{Scope, negated}
 use Rattle.grammar.specs.Syntax.{RegSyntax, Parens', Not', And', Or', Implies', Star', Plus', Then', Either', reg_tokens, counts_as_action, Syntax, Var'}
 use Rattle.grammar.specs.Syntax.{Group', Neg', Both', OneOf', If', Dia', Box', Mu', Nu', fits, tokens, is_within_limits}
@@ -13,7 +13,7 @@ use Rattle.formula.specs.declared.error.FormulaFault.TheVariants.{NoToken, Unexp
 
 -- no token, blank or comment stands at the front of the text
 abbrev pub NothingBegins : List ℕ → Type 0
-NothingBegins text = (piece : Piece) (rest : List ℕ) → IsPiece piece → IsTrue (piece_ends piece rest) → text ≡ piece_text piece ++ rest → ⊥
+NothingBegins text = (piece : Piece) (rest : List ℕ) → IsPiece piece → IsTrue (piece_ends piece rest) → text ≡ written_piece piece ++ rest → ⊥
 
 -- A byte where no token begins, before any reserved word; or the first reserved word.
 abbrev pub TokenFault : List ℕ → FormulaFault → ℕ → Type 0
@@ -27,8 +27,8 @@ TokenFault text ReservedWord place =
 TokenFault text _ place = ⊥
 
 -- a formula of the grammar begins with these tokens
-abbrev pub Begins : List Token → Type 0
-Begins front = (s : Syntax) × (more : List Token) × IsTrue (fits s) × (tokens s ≡ front ++ more)
+abbrev pub BeginsFormula : List Token → Type 0
+BeginsFormula front = (s : Syntax) × (more : List Token) × IsTrue (fits s) × (tokens s ≡ front ++ more)
 
 abbrev pub BeginsWithin : List Token → Type 0
 BeginsWithin front = (s : Syntax) × (more : List Token) × IsTrue (fits s) × IsTrue (is_within_limits s) × (tokens s ≡ front ++ more)
@@ -44,10 +44,10 @@ pub record IsTokens (text : List ℕ) (pieces : List Piece) : Type 0 where
 abbrev pub GrammarFault : List ℕ → FormulaFault → ℕ → Type 0
 GrammarFault text Unexpected place =
     (pieces : List Piece) × (front back : List Token) × (token : Token) × IsTokens text pieces × (tokens_of pieces ≡ front ++ token ∷ back)
-    × BeginsWithin front × (Begins (front ++ token ∷ []) → ⊥) × (slice_get (offsets_from 0 pieces) (length front) ≡ Some place)
+    × BeginsWithin front × (BeginsFormula (front ++ token ∷ []) → ⊥) × (slice_get (offsets_from 0 pieces) (length front) ≡ Some place)
 GrammarFault text TooLarge place =
     (pieces : List Piece) × (front back : List Token) × (token : Token) × IsTokens text pieces × (tokens_of pieces ≡ front ++ token ∷ back)
-    × BeginsWithin front × Begins (front ++ token ∷ []) × (BeginsWithin (front ++ token ∷ []) → ⊥)
+    × BeginsWithin front × BeginsFormula (front ++ token ∷ []) × (BeginsWithin (front ++ token ∷ []) → ⊥)
     × (slice_get (offsets_from 0 pieces) (length front) ≡ Some place)
 GrammarFault text Unfinished place =
     (pieces : List Piece) × IsTokens text pieces × BeginsWithin (tokens_of pieces)

@@ -8,7 +8,7 @@ ghost use Rattle.text.specs.Text.{is_letter as is_letter_of, is_name_byte as is_
 ghost use Rattle.systems.specs.Label.{is_label_byte as is_label_byte_of};
 ghost use Rattle.grammar.specs.Token.{ChoiceSign, PlusSign, reserved_words, begins};
 ghost use Rattle.grammar.specs.Written.{token_of};
-ghost use Rattle.formula.specs.Cutting.{IsGap, IsFirst, IsSingle, IsDouble, IsNamed, IsCut, IsLexed, IsDecidedBy, IsAtomless, IsSignless, BeginsReserved};
+ghost use Rattle.formula.specs.Cutting.{IsGap, IsFirst, IsSingle, IsDouble, IsNameToken, IsCut, IsLexed, IsDecidedBy, IsAtomless, IsSignless, BeginsReserved};
 ghost use Rattle.formula.specs.Cutting.{IsTokenless, IsTokenRefusal, begins_gap, is_double, is_single, is_postfix_before};
 
 use crate::error::{FormulaError, FormulaFault};
@@ -88,7 +88,7 @@ fn is_reserved(name: &[u8]) -> bool
 
 /// The word or the name that these bytes are.
 fn word(name: &[u8]) -> Token<'_>
-    ensures { IsNamed name.now (token_of result) }
+    ensures { IsNameToken name.now (token_of result) }
 {
     if is_same(name, b"true") {
         Token::TrueWord

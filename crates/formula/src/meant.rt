@@ -4,7 +4,7 @@ ghost use Rattle.std.specs.Prelude.{◌≡◌, ◌∷◌, map, Some, IsSome, Mat
 ghost use Rattle.systems.specs.Label.{multiset as multiset_of};
 ghost use Rattle.grammar.specs.Syntax.{action_meant, regular_meant, meant};
 ghost use Rattle.calculus.specs.View.{action_of, regular_of, formula_of};
-ghost use Rattle.grammar.specs.Written.{reg_syntax, state_syntax, infixed, joined, modal, bound};
+ghost use Rattle.grammar.specs.Written.{reg_syntax, state_syntax, infixed, joined, written_modal, bound};
 
 use crate::error::FormulaError;
 use crate::tree::{Act, Reg, State};
@@ -199,9 +199,9 @@ fn modal_state(
     inside: &WrittenRegular,
     inner: &WrittenState,
 ) -> Result<State, FormulaError>
-    requires { IsSome (meant (modal brackets (reg_syntax inside.now) (state_syntax inner.now))) }
+    requires { IsSome (meant (written_modal brackets (reg_syntax inside.now) (state_syntax inner.now))) }
     ensures { MatchResult result
-        (λ f. meant (modal brackets (reg_syntax inside.now) (state_syntax inner.now)) ≡ Some (formula_of f))
+        (λ f. meant (written_modal brackets (reg_syntax inside.now) (state_syntax inner.now)) ≡ Some (formula_of f))
         (λ e. e ≡ FormulaError.Memory) }
 {
     let inner = operand(alloc, inner)?;

@@ -4,9 +4,9 @@ ghost use Rattle.std.specs.Prelude.{◌≡◌, ◌⊎◌, ◌<◌, ◌≤◌, []
 ghost use Rattle.text.specs.Reads.{Reads};
 ghost use Rattle.grammar.specs.Syntax.{meant as meant_by};
 ghost use Rattle.formula.specs.Cutting.{IsLexed};
-ghost use Rattle.grammar.specs.Written.{words, state_syntax};
+ghost use Rattle.grammar.specs.Written.{bare_tokens, state_syntax};
 ghost use Rattle.formula.specs.Fault.{HasFaultAt, operand_faults, variable_faults};
-ghost use Rattle.grammar.specs.Read.{IsWhole};
+ghost use Rattle.grammar.specs.Read.{IsWholeFormula};
 ghost use Rattle.formula.specs.Refused.{IsGrammarRefusal, IsRefusal};
 ghost use Rattle.grammar.specs.Misread.{IsWholeMisread};
 ghost use Rattle.calculus.specs.Admitted.{IsAdmitted};
@@ -33,8 +33,8 @@ use std::alloc::Global;
 /// The formula that the tokens are, as it is written.
 fn written<'a>(alloc: Global, tokens: &'a [Placed<'a>]) -> Result<WrittenState<'a>, Misread>
     ensures { MatchResult result
-        (λ written. IsWhole (state_syntax written) (words tokens.now))
-        (IsWholeMisread (words tokens.now)) }
+        (λ written. IsWholeFormula (state_syntax written) (bare_tokens tokens.now))
+        (IsWholeMisread (bare_tokens tokens.now)) }
 {
     let room = Room {
         alloc,
@@ -61,8 +61,8 @@ fn refusal(tokens: &[Placed<'_>], place: usize, fault: FormulaFault) -> FormulaE
 
 /// The refusal of tokens that are no formula, in a text of this length.
 fn grammar_refusal(tokens: &[Placed<'_>], end: usize, misread: Misread) -> FormulaError
-    requires { IsWholeMisread (words tokens.now) misread }
-    ensures { IsGrammarRefusal (words tokens.now) (map (λ p. p.offset) tokens.now) end result }
+    requires { IsWholeMisread (bare_tokens tokens.now) misread }
+    ensures { IsGrammarRefusal (bare_tokens tokens.now) (map (λ p. p.offset) tokens.now) end result }
 {
     match misread {
         Misread::Unexpected { left: 0 } => FormulaError::Fault {
@@ -79,7 +79,7 @@ fn grammar_refusal(tokens: &[Placed<'_>], end: usize, misread: Misread) -> Formu
 
 /// Whether each operand inside a modality and each variable may stand where it does; else the refusal of the first.
 fn check(tokens: &[Placed<'_>], written: &WrittenState<'_>) -> Result<(), FormulaError>
-    requires { IsWhole (state_syntax written.now) (words tokens.now) }
+    requires { IsWholeFormula (state_syntax written.now) (bare_tokens tokens.now) }
     ensures { let s = state_syntax written.now in MatchResult result
         (λ _. (operand_faults 0 s ≡ []) × (variable_faults [] 0 s ≡ []))
         (λ e. IsTreeRefusal s (map (λ p. p.offset) tokens.now) e) }
@@ -99,7 +99,7 @@ fn meaning(
     tokens: &[Placed<'_>],
     written: &WrittenState<'_>,
 ) -> Result<State, FormulaError>
-    requires { IsWhole (state_syntax written.now) (words tokens.now) }
+    requires { IsWholeFormula (state_syntax written.now) (bare_tokens tokens.now) }
     ensures { let s = state_syntax written.now in MatchResult result
         (λ f. (meant_by s ≡ Some (formula_of f)) × IsAdmitted (formula_of f))
         (λ e. (e ≡ FormulaError.Memory) ⊎ IsTreeRefusal s (map (λ p. p.offset) tokens.now) e) }

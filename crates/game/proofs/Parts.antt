@@ -13,7 +13,7 @@ use Rattle.std.proofs.lemmas.Grind.{div_ceil_times}
 use Rattle.std.proofs.Math.Seq.{take-add}
 use Rattle.std.proofs.lemmas.Grind.{flat_map-append}
 use Rattle.std.proofs.lemmas.List.FromFn.{length-range_with_len}
-use Rattle.game.specs.Parts.{part_of}
+use Rattle.game.specs.Parts.{vertices_of_range}
 use Rattle.game.proofs.Arenas.{range_more, rows_append}
 
 drop_range : (k a n : ℕ) → drop k (range_with_len a n) ≡ range_with_len (a + k) (n - k)
@@ -41,11 +41,11 @@ range_cut k m n first size start count =
     ]))
 
 -- the parts of the first ranges
-parts_upto : (l : System) (nodes : List Node) (size n : ℕ) → flat_map (λ part. part) (map (part_of l nodes size) (range_with_len 0 n))
+parts_upto : (l : System) (nodes : List Node) (size n : ℕ) → flat_map (λ part. part) (map (vertices_of_range l nodes size) (range_with_len 0 n))
     ≡ rows l nodes (take (n * size) (range_with_len 0 l.states))
 parts_upto l nodes size zero = let none : 0 ≡ 0 * size = omega arith in (λ i. rows l nodes (take (none i) (range_with_len 0 l.states)))
 parts_upto l nodes size (suc n) =
-    let part = part_of l nodes size in
+    let part = vertices_of_range l nodes size in
     let xs = range_with_len 0 l.states in
     let here : 0 + n ≡ n = omega arith in
     let one : suc n ≡ n + 1 = omega arith in
@@ -62,7 +62,7 @@ parts_upto l nodes size (suc n) =
 
 -- The parts of all ranges are the vertices of all states.
 pub all_parts : (l : System) (nodes : List Node) (size ranges : ℕ) (parts : List (List Vertex)) → 0 < ranges → size ≡ div_ceil l.states ranges
-    → parts ≡ map (part_of l nodes size) (range_with_len 0 ranges)
+    → parts ≡ map (vertices_of_range l nodes size) (range_with_len 0 ranges)
     → flat_map (λ part. part) parts ≡ rows l nodes (range_with_len 0 l.states)
 all_parts l nodes size ranges parts some ceil are =
     let whole : l.states ≤ ranges * size = rw (ceil, mul_comm ranges (div_ceil l.states ranges)) (div_ceil_times l.states ranges some).0 in

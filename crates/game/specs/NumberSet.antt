@@ -7,6 +7,6 @@ with_number t [] = t ∷ []
 with_number t (u ∷ us) = if nat_lt t u then t ∷ u ∷ us else (if t == u then u ∷ us else u ∷ with_number t us)
 
 -- the set of these numbers: each once
-abbrev pub set_of : List ℕ → List ℕ
-set_of [] = []
-set_of (t ∷ ts) = with_number t (set_of ts)
+abbrev pub number_set : List ℕ → List ℕ
+number_set [] = []
+number_set (t ∷ ts) = with_number t (number_set ts)

@@ -16,5 +16,5 @@ abbrev pub range_of : {X : Type 0} → ℕ → ℕ → List X → List X
 range_of size r xs = take size (drop (r * size) xs)
 
 -- the vertices of the states of that range
-abbrev pub part_of : System → List Node → ℕ → ℕ → List Vertex
-part_of l nodes size r = rows l nodes (range_of size r (range_with_len 0 l.states))
+abbrev pub vertices_of_range : System → List Node → ℕ → ℕ → List Vertex
+vertices_of_range l nodes size r = rows l nodes (range_of size r (range_with_len 0 l.states))

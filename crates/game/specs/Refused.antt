@@ -5,6 +5,6 @@ use Rattle.game.specs.declared.error.BuildError.{BuildError}
 use Rattle.game.specs.declared.error.BuildError.TheVariants.{TooManyVertices, Memory}
 
 -- The number of vertices decides.
-abbrev pub HasRefusal : ℕ → ℕ → BuildError → Type 0
-HasRefusal states nodes TooManyVertices = MOST_VERTICES < 2 + states * nodes
-HasRefusal states nodes Memory = 2 + states * nodes ≤ MOST_VERTICES
+abbrev pub HasBuildRefusal : ℕ → ℕ → BuildError → Type 0
+HasBuildRefusal states nodes TooManyVertices = MOST_VERTICES < 2 + states * nodes
+HasBuildRefusal states nodes Memory = 2 + states * nodes ≤ MOST_VERTICES

@@ -8,9 +8,9 @@ ghost use Rattle.normal.specs.View.{node_of, shape_of};
 ghost use Rattle.normal.specs.Normal.{normal_nodes};
 ghost use Rattle.game.specs.Game.{IsGame, greatest};
 ghost use Rattle.game.specs.Arena.{arena, rows, vertex_of, or_else, place};
-ghost use Rattle.game.specs.Parts.{part_of, two_sinks};
+ghost use Rattle.game.specs.Parts.{vertices_of_range, two_sinks};
 ghost use Rattle.game.specs.Steps.{IsSetOf, IsSetFor, AreSets, IsRowOf, picks, is_in, vertex_by};
-ghost use Rattle.game.specs.Refused.{HasRefusal};
+ghost use Rattle.game.specs.Refused.{HasBuildRefusal};
 
 use crate::error::BuildError;
 use crate::graph::{Game, GameBuilder};
@@ -267,7 +267,7 @@ fn part(
     requires sets { AreSets lts.now.labels (normal_nodes form.now) (map (λ set. set.items) sets.now) }
     requires count { length sets.now ≡ length (normal_nodes form.now) }
     requires few { 2 + lts.now.system.states * length (normal_nodes form.now) ≤ MOST_VERTICES }
-    ensures { IfOk result (λ builder. builder ≡ part_of lts.now.system (normal_nodes form.now) size range) }
+    ensures { IfOk result (λ builder. builder ≡ vertices_of_range lts.now.system (normal_nodes form.now) size range) }
 {
     let states = lts.states();
     let first = (u64::from(range) * u64::from(size)).min(u64::from(states)) as u32;
@@ -292,7 +292,7 @@ fn parts(
     requires sets { AreSets lts.now.labels (normal_nodes form.now) (map (λ set. set.items) sets.now) }
     requires count { length sets.now ≡ length (normal_nodes form.now) }
     requires few { 2 + lts.now.system.states * length (normal_nodes form.now) ≤ MOST_VERTICES }
-    ensures { IfOk result (λ parts. parts.items ≡ map (part_of lts.now.system (normal_nodes form.now) size) (range_with_len 0 ranges)) }
+    ensures { IfOk result (λ parts. parts.items ≡ map (vertices_of_range lts.now.system (normal_nodes form.now) size) (range_with_len 0 ranges)) }
 {
     (0..ranges)
         .into_par_iter()
@@ -302,7 +302,7 @@ fn parts(
                 requires sets { AreSets lts.now.labels (normal_nodes form.now) (map (λ set. set.items) sets.now) }
                 requires count { length sets.now ≡ length (normal_nodes form.now) }
                 requires few { 2 + lts.now.system.states * length (normal_nodes form.now) ≤ MOST_VERTICES }
-                ensures { IfOk result (λ builder. builder ≡ part_of lts.entry.now.system (normal_nodes form.entry.now) size range) }
+                ensures { IfOk result (λ builder. builder ≡ vertices_of_range lts.entry.now.system (normal_nodes form.entry.now) size range) }
             { part(alloc, lts, form, sets, size, range, gauge) },
         )
         .collect::<Result<Vec<GameBuilder>, AllocError>>(rt, alloc)?
@@ -360,7 +360,7 @@ pub fn build(
     ensures game { IfOk result (λ g. g ≡ arena lts.now.system (normal_nodes form.now)) }
     ensures within { OnOk result (2 + lts.now.system.states * length (normal_nodes form.now) ≤ MOST_VERTICES) }
     ensures low { IfOk result (λ g. greatest g ≤ GREATEST_PRIORITY) }
-    ensures refused { IfErr result (HasRefusal lts.now.system.states (length (normal_nodes form.now))) }
+    ensures refused { IfErr result (HasBuildRefusal lts.now.system.states (length (normal_nodes form.now))) }
 {
     build_seen(rt, alloc, lts, form, None)
 }
@@ -379,7 +379,7 @@ pub fn build_seen(
     ensures game { IfOk result (λ g. g ≡ arena lts.now.system (normal_nodes form.now)) }
     ensures within { OnOk result (2 + lts.now.system.states * length (normal_nodes form.now) ≤ MOST_VERTICES) }
     ensures low { IfOk result (λ g. greatest g ≤ GREATEST_PRIORITY) }
-    ensures refused { IfErr result (HasRefusal lts.now.system.states (length (normal_nodes form.now))) }
+    ensures refused { IfErr result (HasBuildRefusal lts.now.system.states (length (normal_nodes form.now))) }
 {
     form.known();
     let vertices = u64::from(lts.states()) * u64::from(form.count());
@@ -410,7 +410,7 @@ pub fn build_split(
     ensures game { IfOk result (λ g. g ≡ arena lts.now.system (normal_nodes form.now)) }
     ensures within { OnOk result (2 + lts.now.system.states * length (normal_nodes form.now) ≤ MOST_VERTICES) }
     ensures low { IfOk result (λ g. greatest g ≤ GREATEST_PRIORITY) }
-    ensures refused { IfErr result (HasRefusal lts.now.system.states (length (normal_nodes form.now))) }
+    ensures refused { IfErr result (HasBuildRefusal lts.now.system.states (length (normal_nodes form.now))) }
 {
     form.known();
     let states = lts.states();

@@ -5,7 +5,7 @@ use Rattle.std.specs.Prelude.{IsTrue, MatchResult, Result, Ok, Err, Some, suc}
 use Rattle.std.proofs.lemmas.Bool.{cases_eq}
 use Rattle.grammar.specs.Token.{Token, Name, AndSign, OrSign, ImpliesSign, Bar, NotSign, Open, Close, Dot, ChoiceSign, PlusSign, StarSign, TrueWord}
 use Rattle.grammar.specs.Syntax.{Names', Parens', Not', reg_form, reg_fits, reg_tokens, reg_nesting, reg_parens, more_names, Anything'}
-use Rattle.grammar.specs.Written.{words, token_of, reg_syntax, infix_token, infix_row, repeated, repeat_token, infixed}
+use Rattle.grammar.specs.Written.{bare_tokens, token_of, reg_syntax, infix_token, infix_row, repeated, repeat_token, infixed}
 use Rattle.grammar.specs.Read.{reg_row, is_word, IsWordOf, IsRegular, IsRegularOf, MayGoOn, MatchBar, regular_tokens}
 use Rattle.grammar.specs.Misread.{IsRegularMisread, RegularOf, ReadsRegular, LongerRegular, IsMissing, IsNameMissing, BeginsRegular, StandsRegular}
 use Rattle.grammar.specs.declared.token.Token.{Token as Lexeme}
@@ -43,32 +43,32 @@ moved : (level d i : ℕ) (ts us : List Token) (e f : Misread) → ts ≡ us →
 moved level d i ts us e f p q h = subst (λ x. IsRegularMisread level d i x e) (sym p) (subst (λ x. IsRegularMisread level d i us x) (sym q) h)
 
 first-words : (tokens : List Placed) (first : Placed) (rest : List Placed) (t : Token) → tokens ≡ first ∷ rest → token_of first.token ≡ t
-    → words tokens ≡ t ∷ words rest
-first-words tokens first rest t e h = ap words e ∙ ap (λ u. u ∷ words rest) h
+    → bare_tokens tokens ≡ t ∷ bare_tokens rest
+first-words tokens first rest t e h = ap bare_tokens e ∙ ap (λ u. u ∷ bare_tokens rest) h
 
-left-length : (tokens : List Placed) (first : Placed) (rest : List Placed) → tokens ≡ first ∷ rest → length tokens ≡ suc (length (words rest))
+left-length : (tokens : List Placed) (first : Placed) (rest : List Placed) → tokens ≡ first ∷ rest → length tokens ≡ suc (length (bare_tokens rest))
 left-length tokens first rest e = ap length e ∙ ap suc (sym (words-length rest))
 
 pub negation-empty : (d i : ℕ) (tokens : List Placed) (e : Misread) → length tokens ≡ 0 → e ≡ misread.Unexpected (length tokens)
-    → IsRegularMisread 1 d i (words tokens) e
+    → IsRegularMisread 1 d i (bare_tokens tokens) e
 negation-empty d i [] e h q = subst (λ x. IsRegularMisread 1 d i [] x) (sym q) (no_token d i)
 negation-empty d i (p ∷ ps) e h q = absurd (omega arith)
 
 pub negation-deep : (d i : ℕ) (tokens : List Placed) (first : Placed) (rest : List Placed) (e : Misread) → tokens ≡ first ∷ rest
     → token_of first.token ≡ NotSign → d ≤ 0 → e ≡ misread.TooLarge (length tokens)
-    → IsRegularMisread 1 d i (words tokens) e
+    → IsRegularMisread 1 d i (bare_tokens tokens) e
 negation-deep d i tokens first rest e split token full q =
-    moved 1 d i (words tokens) (NotSign ∷ words rest) e (misread.TooLarge (suc (length (words rest)))) (first-words tokens first rest NotSign split token)
+    moved 1 d i (bare_tokens tokens) (NotSign ∷ bare_tokens rest) e (misread.TooLarge (suc (length (bare_tokens rest)))) (first-words tokens first rest NotSign split token)
     (q ∙ ap misread.TooLarge (left-length tokens first rest split))
-    (not_too_deep d i (words rest) full)
+    (not_too_deep d i (bare_tokens rest) full)
 
 pub negation-many : (d i : ℕ) (tokens : List Placed) (first : Placed) (rest : List Placed) (e : Misread) → tokens ≡ first ∷ rest
     → token_of first.token ≡ Open → i ≡ 0 → e ≡ misread.TooLarge (length tokens)
-    → IsRegularMisread 1 d i (words tokens) e
+    → IsRegularMisread 1 d i (bare_tokens tokens) e
 negation-many d i tokens first rest e split token full q =
-    moved 1 d i (words tokens) (Open ∷ words rest) e (misread.TooLarge (suc (length (words rest)))) (first-words tokens first rest Open split token)
+    moved 1 d i (bare_tokens tokens) (Open ∷ bare_tokens rest) e (misread.TooLarge (suc (length (bare_tokens rest)))) (first-words tokens first rest Open split token)
     (q ∙ ap misread.TooLarge (left-length tokens first rest split))
-    (open_too_many d i (words rest) full)
+    (open_too_many d i (bare_tokens rest) full)
 
 -- a token that is no atom, no name, no `!` and no parenthesis
 not_opening : (t : Lexeme) → is_word (token_of t) ≡ false → ((name : _) → t ≡ lexeme.Name name → ⊥) → (t ≡ lexeme.NotSign → ⊥) → (t ≡ lexeme.Open → ⊥)
@@ -80,66 +80,66 @@ not_opening t w a b c = w
 
 pub negation-none : (d i : ℕ) (tokens : List Placed) (first : Placed) (rest : List Placed) (e : Misread) → tokens ≡ first ∷ rest
     → is_word (token_of first.token) ≡ false → ((name : _) → first.token ≡ lexeme.Name name → ⊥)
-    → (first.token ≡ lexeme.NotSign → ⊥) → (first.token ≡ lexeme.Open → ⊥) → e ≡ misread.Unexpected (length tokens) → IsRegularMisread 1 d i (words tokens) e
+    → (first.token ≡ lexeme.NotSign → ⊥) → (first.token ≡ lexeme.Open → ⊥) → e ≡ misread.Unexpected (length tokens) → IsRegularMisread 1 d i (bare_tokens tokens) e
 negation-none d i tokens first rest e split word a b c q =
-    moved 1 d i (words tokens) (token_of first.token ∷ words rest) e (misread.Unexpected (suc (length (words rest)))) (ap words split)
+    moved 1 d i (bare_tokens tokens) (token_of first.token ∷ bare_tokens rest) e (misread.Unexpected (suc (length (bare_tokens rest)))) (ap bare_tokens split)
     (q ∙ ap misread.Unexpected (left-length tokens first rest split))
-    (no_start d i (token_of first.token) (words rest) (not_opening first.token word a b c))
+    (no_start d i (token_of first.token) (bare_tokens rest) (not_opening first.token word a b c))
 
 -- what `unbarred` answers for an atom
 abbrev pub Unbarred : ReadRegular → Result ReadRegular Misread → Type 0
-Unbarred atom result = MatchResult result (λ r. (r ≡ atom) × (0 < reg_row (words r.rest.now)))
-    (λ e. (e ≡ misread.Unexpected (length atom.rest.now)) × (reg_row (words atom.rest.now) ≡ 0))
+Unbarred atom result = MatchResult result (λ r. (r ≡ atom) × (0 < reg_row (bare_tokens r.rest.now)))
+    (λ e. (e ≡ misread.Unexpected (length atom.rest.now)) × (reg_row (bare_tokens atom.rest.now) ≡ 0))
 
 pub word-unbarred : (d i : ℕ) (tokens : List Placed) (first : Placed) (rest : List Placed) (w : WrittenRegular) (atom : ReadRegular)
     (result : Result ReadRegular Misread) → tokens ≡ first ∷ rest
-    → IsWordOf (token_of first.token) (Some w) → IsRegularOf w 0 rest atom → Unbarred atom result → RegularOf 1 d i (words tokens) result
+    → IsWordOf (token_of first.token) (Some w) → IsRegularOf w 0 rest atom → Unbarred atom result → RegularOf 1 d i (bare_tokens tokens) result
 word-unbarred d i tokens first rest w atom (Ok r) split word b h =
-    let above : 0 < reg_row (words rest) = omega (
+    let above : 0 < reg_row (bare_tokens rest) = omega (
       arith,
-      ap (λ ps. reg_row (words ps)) b.after,
-      ap (λ (x : ReadRegular). reg_row (words x.rest.now)) h.0,
+      ap (λ ps. reg_row (bare_tokens ps)) b.after,
+      ap (λ (x : ReadRegular). reg_row (bare_tokens x.rest.now)) h.0,
       h.1,
     ) in
-    subst (ReadsRegular 1 d i (words tokens)) (sym h.0) (low-read d i (words tokens) w (reg_syntax w) 0 rest atom b refl word.4 (omega (arith, word.1))
+    subst (ReadsRegular 1 d i (bare_tokens tokens)) (sym h.0) (low-read d i (bare_tokens tokens) w (reg_syntax w) 0 rest atom b refl word.4 (omega (arith, word.1))
     (sym word.2) (omega (arith, word.2)) (omega (arith, word.3))
-    (row_not_one (words rest) above) (ap (λ ts. ts ++ words rest) word.0 ∙ sym (ap words split)))
+    (row_not_one (bare_tokens rest) above) (ap (λ ts. ts ++ bare_tokens rest) word.0 ∙ sym (ap bare_tokens split)))
 word-unbarred d i tokens first rest w atom (Err e) split word b h =
-    moved 1 d i (words tokens) (token_of first.token ∷ words rest) e (misread.Unexpected (length (words rest))) (ap words split)
+    moved 1 d i (bare_tokens tokens) (token_of first.token ∷ bare_tokens rest) e (misread.Unexpected (length (bare_tokens rest))) (ap bare_tokens split)
     (h.0 ∙ ap misread.Unexpected (ap (λ ps. length ps) b.after ∙ sym (words-length rest)))
-    (word_barred d i (reg_syntax w) (token_of first.token) (words rest) word.0 word.1 word.2 word.3 word.4 word.5
-    (sym (ap (λ ps. reg_row (words ps)) b.after) ∙ h.1))
+    (word_barred d i (reg_syntax w) (token_of first.token) (bare_tokens rest) word.0 word.1 word.2 word.3 word.4 word.5
+    (sym (ap (λ ps. reg_row (bare_tokens ps)) b.after) ∙ h.1))
 
 -- what was read in parentheses, and the closing one after it
 pub parens-unbarred : (d i : ℕ) (us : List Token) (inner : ReadRegular) (rest : List Placed) (w : WrittenRegular) (atom : ReadRegular)
     (result : Result ReadRegular Misread) → ReadsRegular 7 d i us inner
-    → words inner.rest.now ≡ Close ∷ words rest → reg_syntax w ≡ Parens' (reg_syntax inner.syntax.value) → IsRegularOf w inner.height rest atom
+    → bare_tokens inner.rest.now ≡ Close ∷ bare_tokens rest → reg_syntax w ≡ Parens' (reg_syntax inner.syntax.value) → IsRegularOf w inner.height rest atom
     → Unbarred atom result → RegularOf 1 d (i + 1) (Open ∷ us) result
 parens-unbarred d i us inner rest w atom (Ok r) s close is b h =
     let x = reg_syntax inner.syntax.value in
-    let above : 0 < reg_row (words rest) = omega (
+    let above : 0 < reg_row (bare_tokens rest) = omega (
       arith,
-      ap (λ ps. reg_row (words ps)) b.after,
-      ap (λ (x : ReadRegular). reg_row (words x.rest.now)) h.0,
+      ap (λ ps. reg_row (bare_tokens ps)) b.after,
+      ap (λ (x : ReadRegular). reg_row (bare_tokens x.rest.now)) h.0,
       h.1,
     ) in
     subst (ReadsRegular 1 d (i + 1) (Open ∷ us)) (sym h.0) (low-read d (i + 1) (Open ∷ us) w (Parens' x) inner.height rest atom b is s.sound.grammatical
     (omega arith) s.sound.height (omega (arith, s.sound.height, s.sound.low))
-    (omega (arith, s.sound.narrow)) (row_not_one (words rest) above)
-    (ap (λ ts. Open ∷ ts) (append_assoc (reg_tokens x) (Close ∷ []) (words rest) ∙ (ap (λ ts. reg_tokens x ++ ts) (sym close) ∙ s.eaten))))
+    (omega (arith, s.sound.narrow)) (row_not_one (bare_tokens rest) above)
+    (ap (λ ts. Open ∷ ts) (append_assoc (reg_tokens x) (Close ∷ []) (bare_tokens rest) ∙ (ap (λ ts. reg_tokens x ++ ts) (sym close) ∙ s.eaten))))
 parens-unbarred d i us inner rest w atom (Err e) s close is b h =
     let x = reg_syntax inner.syntax.value in
-    moved 1 d (i + 1) (Open ∷ us) (Open ∷ (reg_tokens x ++ Close ∷ words rest)) e (misread.Unexpected (length (words rest)))
+    moved 1 d (i + 1) (Open ∷ us) (Open ∷ (reg_tokens x ++ Close ∷ bare_tokens rest)) e (misread.Unexpected (length (bare_tokens rest)))
     (ap (λ ts. Open ∷ ts) (sym s.eaten ∙ ap (λ ts. reg_tokens x ++ ts) close))
     (h.0 ∙ ap misread.Unexpected (ap (λ ps. length ps) b.after ∙ sym (words-length rest)))
-    (close_barred d i x (words rest) s.sound.grammatical (omega (arith, s.sound.height, s.sound.low)) s.sound.narrow
-    (sym (ap (λ ps. reg_row (words ps)) b.after) ∙ h.1))
+    (close_barred d i x (bare_tokens rest) s.sound.grammatical (omega (arith, s.sound.height, s.sound.low)) s.sound.narrow
+    (sym (ap (λ ps. reg_row (bare_tokens ps)) b.after) ∙ h.1))
 
 pub parens-unclosed : (d i : ℕ) (us : List Token) (inner : ReadRegular) (e : Misread) → ReadsRegular 7 d i us inner
-    → IsMissing Close (words inner.rest.now) e → IsRegularMisread 1 d (i + 1) (Open ∷ us) e
+    → IsMissing Close (bare_tokens inner.rest.now) e → IsRegularMisread 1 d (i + 1) (Open ∷ us) e
 parens-unclosed d i us inner e s missing =
     let r = reg_syntax inner.syntax.value in
-    let ts = words inner.rest.now in
+    let ts = bare_tokens inner.rest.now in
     unexpected-here (BeginsRegular 1) (StandsRegular 1) d (i + 1) (Open ∷ reg_tokens r) ts (Open ∷ us) e (ap (λ us. Open ∷ us) s.eaten) missing.0
     (begun 1 d (i + 1) (Parens' r) (Open ∷ reg_tokens r) (Close ∷ []) s.sound.grammatical (omega arith) (omega (arith, s.sound.height, s.sound.low))
     (omega (arith, s.sound.narrow)) refl)
@@ -160,13 +160,13 @@ not-read d i us inner w r b is s =
     (omega (arith, s.sound.height, s.sound.low)) s.sound.narrow s.stops (ap (λ ts. NotSign ∷ ts) s.eaten)
 
 pub names-unnamed : (d i : ℕ) (first : List ℕ) (tokens : List Placed) (n : ℕ) (names : List (List ℕ)) (e : Misread)
-    → words tokens ≡ more_names names ++ words (drop n tokens) → MatchBar (words (drop n tokens)) true
-    → IsNameMissing (words (drop (n + 1) tokens)) e → IsRegularMisread 1 d i (Name first ∷ words tokens) e
+    → bare_tokens tokens ≡ more_names names ++ bare_tokens (drop n tokens) → MatchBar (bare_tokens (drop n tokens)) true
+    → IsNameMissing (bare_tokens (drop (n + 1) tokens)) e → IsRegularMisread 1 d i (Name first ∷ bare_tokens tokens) e
 names-unnamed d i first tokens n names e whole bar missing =
-    let b = bar_first (words (drop n tokens)) bar in
-    let p = words-next tokens n Bar (drop 1 (words (drop n tokens))) b in
-    let ts = words (drop (n + 1) tokens) in
-    moved 1 d i (Name first ∷ words tokens) (Name first ∷ (more_names names ++ Bar ∷ ts)) e (misread.Unexpected (length ts))
+    let b = bar_first (bare_tokens (drop n tokens)) bar in
+    let p = words-next tokens n Bar (drop 1 (bare_tokens (drop n tokens))) b in
+    let ts = bare_tokens (drop (n + 1) tokens) in
+    moved 1 d i (Name first ∷ bare_tokens tokens) (Name first ∷ (more_names names ++ Bar ∷ ts)) e (misread.Unexpected (length ts))
     (ap (λ us. Name first ∷ us) (whole ∙ ap (λ us. more_names names ++ us) (b ∙ ap (λ us. Bar ∷ us) (sym p.1)))) missing.0
     (no_name d i first names ts missing.1)
 
@@ -178,10 +178,10 @@ no_bar (t ∷ ts) h = h.1
 
 pub names-read : (d i : ℕ) (first : List ℕ) (tokens rest : List Placed) (names : List (List ℕ)) (w : WrittenRegular) (r : ReadRegular)
     → IsRegularOf w 0 rest r → reg_syntax w ≡ Names' first names
-    → words tokens ≡ more_names names ++ words rest → MatchBar (words rest) false → ReadsRegular 1 d i (Name first ∷ words tokens) r
+    → bare_tokens tokens ≡ more_names names ++ bare_tokens rest → MatchBar (bare_tokens rest) false → ReadsRegular 1 d i (Name first ∷ bare_tokens tokens) r
 names-read d i first tokens rest names w r b is whole bar =
-    low-read d i (Name first ∷ words tokens) w (Names' first names) 0 rest r b is refl (omega arith) refl (omega arith) (omega arith)
-    (row_not_one (words rest) (no_bar (words rest) bar)) (ap (λ ts. Name first ∷ ts) (sym whole))
+    low-read d i (Name first ∷ bare_tokens tokens) w (Names' first names) 0 rest r b is refl (omega arith) refl (omega arith) (omega arith)
+    (row_not_one (bare_tokens rest) (no_bar (bare_tokens rest) bar)) (ap (λ ts. Name first ∷ ts) (sym whole))
 
 -- what was read is of each weaker row, and may go on
 pub at-row : (level d i : ℕ) (ts : List Token) (r : ReadRegular) → 1 ≤ level → ReadsRegular 1 d i ts r → IsRegular level d i r × MayGoOn r
@@ -191,17 +191,17 @@ at-row level d i ts r above s = (
 )
 
 -- where a formula may go on, some token comes next that goes on or none
-pub some_row : (left : ReadRegular) → MayGoOn left → 0 < reg_row (words left.rest.now)
+pub some_row : (left : ReadRegular) → MayGoOn left → 0 < reg_row (bare_tokens left.rest.now)
 some_row left on = elim on [
   | inl below ↦ omega (arith, below)
   | inr five ↦ omega (arith, five.1)
 ]
 
 -- a formula that may go on with the sign after it is an operand of that sign
-pub may_join : (left : ReadRegular) (us : List Token) (mark : Infix) → MayGoOn left → words left.rest.now ≡ infix_token mark ∷ us
+pub may_join : (left : ReadRegular) (us : List Token) (mark : Infix) → MayGoOn left → bare_tokens left.rest.now ≡ infix_token mark ∷ us
     → reg_form (reg_syntax left.syntax.value) < infix_row mark
 may_join left us mark on front =
-    let row : reg_row (words left.rest.now) ≡ infix_row mark = ap reg_row front ∙ sign_row mark us in
+    let row : reg_row (bare_tokens left.rest.now) ≡ infix_row mark = ap reg_row front ∙ sign_row mark us in
     elim on [
       | inl below ↦ omega (arith, below, row)
       | inr five ↦ elim (not_postfix mark) [
@@ -210,21 +210,21 @@ may_join left us mark on front =
       ]
     ]
 
-may_repeat : (left : ReadRegular) (us : List Token) (mark : Repeat) → MayGoOn left → words left.rest.now ≡ repeat_token mark ∷ us
+may_repeat : (left : ReadRegular) (us : List Token) (mark : Repeat) → MayGoOn left → bare_tokens left.rest.now ≡ repeat_token mark ∷ us
     → reg_form (reg_syntax left.syntax.value) ≤ 5
 may_repeat left us mark on front =
-    let row : reg_row (words left.rest.now) ≡ 5 = ap reg_row front ∙ repeat_row mark us in
+    let row : reg_row (bare_tokens left.rest.now) ≡ 5 = ap reg_row front ∙ repeat_row mark us in
     elim on [
       | inl below ↦ omega (arith, below, row)
       | inr five ↦ five.0
     ]
 
 -- the number of tokens left at a sign
-at-sign : (placed : List Placed) (t : Token) (us : List Token) → words placed ≡ t ∷ us → length placed ≡ suc (length us)
+at-sign : (placed : List Placed) (t : Token) (us : List Token) → bare_tokens placed ≡ t ∷ us → length placed ≡ suc (length us)
 at-sign placed t us front = sym (words-length placed) ∙ ap (λ ts. length ts) front
 
 pub join-deep : (mark : Infix) (level d i : ℕ) (left : ReadRegular) (us : List Token) (e : Misread) → IsRegular level d i left → MayGoOn left
-    → infix_row mark ≤ level → words left.rest.now ≡ infix_token mark ∷ us
+    → infix_row mark ≤ level → bare_tokens left.rest.now ≡ infix_token mark ∷ us
     → d ≤ left.height → e ≡ misread.TooLarge (length left.rest.now) → IsRegularMisread level d i (regular_tokens left) e
 join-deep mark level d i left us e l on above front full q =
     let r = reg_syntax left.syntax.value in
@@ -240,7 +240,7 @@ join-deep mark level d i left us e l on above front full q =
     omega (arith, p.left_below, w.it.nests, w.low, full, l.height))
 
 pub join-right : (mark : Infix) (level d i : ℕ) (left : ReadRegular) (us : List Token) (e : Misread) → IsRegular level d i left → MayGoOn left
-    → infix_row mark ≤ level → words left.rest.now ≡ infix_token mark ∷ us
+    → infix_row mark ≤ level → bare_tokens left.rest.now ≡ infix_token mark ∷ us
     → left.height < d → IsRegularMisread (infix_row mark) (d - 1) i us e → IsRegularMisread level d i (regular_tokens left) e
 join-right mark level d i left us e l on above front low h =
     let r = reg_syntax left.syntax.value in
@@ -248,7 +248,7 @@ join-right mark level d i left us e l on above front low h =
     (in_joined mark level d i r us e l.grammatical (may_join left us mark on front) above (omega (arith, l.height, low)) l.narrow h)
 
 pub repeat-deep : (mark : Repeat) (level d i : ℕ) (left : ReadRegular) (us : List Token) (e : Misread) → IsRegular level d i left → MayGoOn left → 5 ≤ level
-    → words left.rest.now ≡ repeat_token mark ∷ us
+    → bare_tokens left.rest.now ≡ repeat_token mark ∷ us
     → d ≤ left.height → e ≡ misread.TooLarge (length left.rest.now) → IsRegularMisread level d i (regular_tokens left) e
 repeat-deep mark level d i left us e l on above front full q =
     let r = reg_syntax left.syntax.value in
@@ -264,11 +264,11 @@ repeat-deep mark level d i left us e l on above front full q =
     omega (arith, p.left_below, w.it.nests, w.low, full, l.height))
 
 pub repeat-followed : (mark : Repeat) (level d i : ℕ) (left : ReadRegular) (rest : List Placed) (e : Misread) → IsRegular level d i left → MayGoOn left
-    → 5 ≤ level → words left.rest.now ≡ repeat_token mark ∷ words rest
-    → left.height < d → e ≡ misread.Unexpected (length rest) → reg_row (words rest) < 5 → IsRegularMisread level d i (regular_tokens left) e
+    → 5 ≤ level → bare_tokens left.rest.now ≡ repeat_token mark ∷ bare_tokens rest
+    → left.height < d → e ≡ misread.Unexpected (length rest) → reg_row (bare_tokens rest) < 5 → IsRegularMisread level d i (regular_tokens left) e
 repeat-followed mark level d i left rest e l on above front low q next =
     let r = reg_syntax left.syntax.value in
-    let ts = words rest in
+    let ts = bare_tokens rest in
     let front' : List Token = reg_tokens r ++ repeat_token mark ∷ [] in
     let below = may_repeat left ts mark on front in
     let is = repeated-is mark r in
@@ -286,28 +286,28 @@ repeat-followed mark level d i left rest e l on above front low q next =
 -- a formula under a postfix sign, which may go on where no sign of action formulas comes next
 pub repeated-read : (mark : Repeat) (level depth inside : ℕ) (rest : List Placed) (left : ReadRegular) (w : WrittenRegular) (r : ReadRegular)
     → IsRegular level depth inside left → MayGoOn left
-    → words left.rest.now ≡ repeat_token mark ∷ words rest → 5 ≤ level → left.height < depth → 5 ≤ reg_row (words rest)
+    → bare_tokens left.rest.now ≡ repeat_token mark ∷ bare_tokens rest → 5 ≤ level → left.height < depth → 5 ≤ reg_row (bare_tokens rest)
     → IsRegularOf w (left.height + 1) rest r → reg_syntax w ≡ repeated mark (reg_syntax left.syntax.value) → LongerRegular level depth inside left r
 repeated-read mark level depth inside rest left w r l on front above low stops b is =
     let f = reg_syntax left.syntax.value in
     let e : reg_syntax r.syntax.value ≡ repeated mark f = ap reg_syntax b.is ∙ is in
     let own : reg_form (reg_syntax r.syntax.value) ≡ 5 = ap reg_form e ∙ (repeated-is mark f).form in
-    let row : reg_row (words r.rest.now) ≡ reg_row (words rest) = ap (λ ps. reg_row (words ps)) b.after in
+    let row : reg_row (bare_tokens r.rest.now) ≡ reg_row (bare_tokens rest) = ap (λ ps. reg_row (bare_tokens ps)) b.after in
     let deep : reg_nesting (reg_syntax r.syntax.value) ≡ 1 + reg_nesting f = ap reg_nesting e ∙ (repeated-is mark f).nesting in
     record {
       eaten =
-          ap (λ ts. ts ++ words r.rest.now) (ap reg_tokens e ∙ repeated-tokens mark f) ∙ append_assoc (reg_tokens f) (repeat_token mark ∷ []) (words r.rest.now)
-          ∙ ap (λ ps. reg_tokens f ++ (repeat_token mark ∷ words ps)) b.after ∙ ap (λ ts. reg_tokens f ++ ts) (sym front);
+          ap (λ ts. ts ++ bare_tokens r.rest.now) (ap reg_tokens e ∙ repeated-tokens mark f) ∙ append_assoc (reg_tokens f) (repeat_token mark ∷ []) (bare_tokens r.rest.now)
+          ∙ ap (λ ps. reg_tokens f ++ (repeat_token mark ∷ bare_tokens ps)) b.after ∙ ap (λ ts. reg_tokens f ++ ts) (sym front);
       sound = record {
-        grammatical = subst (λ x. IsTrue (reg_fits x)) (sym e) (repeated-fits mark f l.grammatical (may_repeat left (words rest) mark on front));
+        grammatical = subst (λ x. IsTrue (reg_fits x)) (sym e) (repeated-fits mark f l.grammatical (may_repeat left (bare_tokens rest) mark on front));
         row = omega arith;
         height = omega (arith, b.high, l.height);
         low = omega (arith, b.high);
         narrow = omega (arith, ap reg_parens e ∙ (repeated-is mark f).parens, l.narrow);
       };
-      onward = elim (cases_eq (reg_row (words rest)) 5) [
+      onward = elim (cases_eq (reg_row (bare_tokens rest)) 5) [
         | inl five ↦ inr (omega (arith, own), row ∙ five)
         | inr other ↦ inl (omega (arith, own, row, stops, other))
       ];
-      shorter = omega (arith, ap (λ ps. length ps) b.after, words-length rest, at-sign left.rest.now _ (words rest) front);
+      shorter = omega (arith, ap (λ ps. length ps) b.after, words-length rest, at-sign left.rest.now _ (bare_tokens rest) front);
     }

@@ -4,7 +4,7 @@ use Rattle.std.proofs.Common.{arith, sym, ◌∙◌, ap, subst, append_assoc, tr
 use Rattle.std.proofs.lemmas.List.{drop-drop, drop-map, length-append, length-drop, length-map}
 use Rattle.grammar.specs.Token.{Token, Name, Bar}
 use Rattle.grammar.specs.Syntax.{RegSyntax, reg_tokens, reg_fits, reg_form, reg_nesting, reg_parens, more_names}
-use Rattle.grammar.specs.Written.{words, token_of, reg_syntax, infixed, infix_token, infix_row, repeated, repeat_token}
+use Rattle.grammar.specs.Written.{bare_tokens, token_of, reg_syntax, infixed, infix_token, infix_row, repeated, repeat_token}
 use Rattle.grammar.specs.declared.written.WrittenRegular.{WrittenRegular}
 use Rattle.grammar.specs.Read.{reg_row, IsRegular, IsRegularOf, MatchBar}
 use Rattle.grammar.specs.Misread.{ReadsRegular, LongerRegular}
@@ -57,25 +57,25 @@ repeated-tokens repeat.Star r = refl
 repeated-tokens repeat.Plus r = refl
 
 -- there are as many words as tokens
-pub words-length : (tokens : List Placed) → length (words tokens) ≡ length tokens
+pub words-length : (tokens : List Placed) → length (bare_tokens tokens) ≡ length tokens
 words-length tokens = length-map tokens (λ p. token_of p.token)
 
 -- what is left is no longer than what it was read from
-pub no-longer : (front : List Token) (rest : List Placed) (us : List Token) → front ++ words rest ≡ us → length rest ≤ length us
-no-longer front rest us e = omega (arith, ap (λ ts. length ts) e, length-append front (words rest), words-length rest)
+pub no-longer : (front : List Token) (rest : List Placed) (us : List Token) → front ++ bare_tokens rest ≡ us → length rest ≤ length us
+no-longer front rest us e = omega (arith, ap (λ ts. length ts) e, length-append front (bare_tokens rest), words-length rest)
 
-pub kept-length : (front : List Token) (rest tokens : List Placed) → front ++ words rest ≡ words tokens → length rest ≤ length tokens
-kept-length front rest tokens e = omega (arith, no-longer front rest (words tokens) e, words-length tokens)
+pub kept-length : (front : List Token) (rest tokens : List Placed) → front ++ bare_tokens rest ≡ bare_tokens tokens → length rest ≤ length tokens
+kept-length front rest tokens e = omega (arith, no-longer front rest (bare_tokens tokens) e, words-length tokens)
 
 -- an atom or a negation that was read
 pub low-read : (depth inside : ℕ) (ts : List Token) (w : WrittenRegular) (x : RegSyntax) (height : ℕ) (rest : List Placed) (r : ReadRegular)
     → IsRegularOf w height rest r → reg_syntax w ≡ x → IsTrue (reg_fits x) → reg_form x ≤ 1
-    → height ≡ reg_nesting x → reg_nesting x ≤ depth → reg_parens x ≤ inside → 1 < reg_row (words rest) → reg_tokens x ++ words rest ≡ ts
+    → height ≡ reg_nesting x → reg_nesting x ≤ depth → reg_parens x ≤ inside → 1 < reg_row (bare_tokens rest) → reg_tokens x ++ bare_tokens rest ≡ ts
     → ReadsRegular 1 depth inside ts r
 low-read depth inside ts w x height rest r b is fit low high deep wide stops eaten =
     let e : reg_syntax r.syntax.value ≡ x = ap reg_syntax b.is ∙ is in
     record {
-      eaten = ap (λ y. reg_tokens y ++ words r.rest.now) e ∙ (ap (λ ps. reg_tokens x ++ words ps) b.after ∙ eaten);
+      eaten = ap (λ y. reg_tokens y ++ bare_tokens r.rest.now) e ∙ (ap (λ ps. reg_tokens x ++ bare_tokens ps) b.after ∙ eaten);
       sound = record {
         grammatical = subst (λ y. IsTrue (reg_fits y)) (sym e) fit;
         row = omega (arith, ap reg_form e);
@@ -83,13 +83,13 @@ low-read depth inside ts w x height rest r b is fit low high deep wide stops eat
         low = omega (arith, b.high);
         narrow = omega (arith, ap reg_parens e);
       };
-      stops = subst (λ ps. 1 < reg_row (words ps)) (sym b.after) stops;
+      stops = subst (λ ps. 1 < reg_row (bare_tokens ps)) (sym b.after) stops;
     }
 
 -- two formulas and the sign between them
 pub joined-read : (mark : Infix) (level depth inside : ℕ) (us : List Token) (left right : ReadRegular) (w : WrittenRegular) (r : ReadRegular)
     → IsRegular level depth inside left → reg_form (reg_syntax left.syntax.value) < infix_row mark
-    → words left.rest.now ≡ infix_token mark ∷ us → infix_row mark ≤ level → left.height < depth → ReadsRegular (infix_row mark) (depth - 1) inside us right
+    → bare_tokens left.rest.now ≡ infix_token mark ∷ us → infix_row mark ≤ level → left.height < depth → ReadsRegular (infix_row mark) (depth - 1) inside us right
     → IsRegularOf w (max left.height right.height + 1) right.rest.now r
     → reg_syntax w ≡ infixed mark (reg_syntax left.syntax.value) (reg_syntax right.syntax.value) → LongerRegular level depth inside left r
 joined-read mark level depth inside us left right w r l below front above low h b is =
@@ -101,9 +101,9 @@ joined-read mark level depth inside us left right w r l below front above low h 
     let wide : reg_parens (reg_syntax r.syntax.value) ≡ max (reg_parens f) (reg_parens g) = ap reg_parens e ∙ (infixed-is mark f g).parens in
     record {
       eaten =
-          ap (λ ts. ts ++ words r.rest.now) (ap reg_tokens e ∙ infixed-tokens mark f g)
-          ∙ append_assoc (reg_tokens f) (infix_token mark ∷ reg_tokens g) (words r.rest.now)
-          ∙ ap (λ ts. reg_tokens f ++ (infix_token mark ∷ ts)) (ap (λ ps. reg_tokens g ++ words ps) b.after ∙ h.eaten)
+          ap (λ ts. ts ++ bare_tokens r.rest.now) (ap reg_tokens e ∙ infixed-tokens mark f g)
+          ∙ append_assoc (reg_tokens f) (infix_token mark ∷ reg_tokens g) (bare_tokens r.rest.now)
+          ∙ ap (λ ts. reg_tokens f ++ (infix_token mark ∷ ts)) (ap (λ ps. reg_tokens g ++ bare_tokens ps) b.after ∙ h.eaten)
           ∙ ap (λ ts. reg_tokens f ++ ts) (sym front);
       sound = record {
         grammatical = subst (λ x. IsTrue (reg_fits x)) (sym e) (infixed-fits mark f g l.grammatical h.sound.grammatical below h.sound.row);
@@ -112,7 +112,7 @@ joined-read mark level depth inside us left right w r l below front above low h 
         low = omega (arith, b.high, h.sound.low);
         narrow = omega (arith, l.narrow, h.sound.narrow);
       };
-      onward = inl (omega (arith, ap (λ ps. reg_row (words ps)) b.after, h.stops));
+      onward = inl (omega (arith, ap (λ ps. reg_row (bare_tokens ps)) b.after, h.stops));
       shorter = omega (
         arith,
         ap (λ ps. length ps) b.after,
@@ -129,12 +129,12 @@ more_names-push [] name more = refl
 more_names-push (other ∷ names) name more = ap (λ ts. Bar ∷ Name other ∷ ts) (more_names-push names name more)
 
 -- the tokens after one that stands at a place
-pub words-next : (ts : List Placed) (n : ℕ) (t : Token) (more : List Token) → words (drop n ts) ≡ t ∷ more → (n < length ts) × (words (drop (n + 1) ts) ≡ more)
+pub words-next : (ts : List Placed) (n : ℕ) (t : Token) (more : List Token) → bare_tokens (drop n ts) ≡ t ∷ more → (n < length ts) × (bare_tokens (drop (n + 1) ts) ≡ more)
 words-next ts n t more e =
     let f : Placed → Token = λ p. token_of p.token in
     let l : length ts - n ≡ suc (length more) = sym (length-drop n ts) ∙ sym (length-map (drop n ts) f) ∙ ap length e in (
       omega arith,
-      ap words (sym (drop-drop 1 n ts)) ∙ sym (drop-map f 1 (drop n ts)) ∙ ap (drop 1) e,
+      ap bare_tokens (sym (drop-drop 1 n ts)) ∙ sym (drop-map f 1 (drop n ts)) ∙ ap (drop 1) e,
     )
 
 pub bar_first : (ts : List Token) → MatchBar ts true → ts ≡ Bar ∷ drop 1 ts
@@ -143,14 +143,14 @@ bar_first (token ∷ more) e = absurd (true≢false e.0)
 bar_first [] e = absurd (true≢false e.0)
 
 -- a bar and a name at a place, after these names
-pub names-more : (ts : List Placed) (n : ℕ) (names : List (List ℕ)) (name : List ℕ) (after : List Placed) → words ts ≡ more_names names ++ words (drop n ts)
-    → MatchBar (words (drop n ts)) true
-    → words (drop (n + 1) ts) ≡ Name name ∷ words after → (n + 2 ≤ length ts) × (words ts ≡ more_names (names ++ name ∷ []) ++ words (drop (n + 2) ts))
+pub names-more : (ts : List Placed) (n : ℕ) (names : List (List ℕ)) (name : List ℕ) (after : List Placed) → bare_tokens ts ≡ more_names names ++ bare_tokens (drop n ts)
+    → MatchBar (bare_tokens (drop n ts)) true
+    → bare_tokens (drop (n + 1) ts) ≡ Name name ∷ bare_tokens after → (n + 2 ≤ length ts) × (bare_tokens ts ≡ more_names (names ++ name ∷ []) ++ bare_tokens (drop (n + 2) ts))
 names-more ts n names name after whole bar named =
     let b = bar_first _ bar in
     let p = words-next ts n _ _ b in
     let q = words-next ts (n + 1) _ _ named in
     let two : n + 1 + 1 ≡ n + 2 = omega arith in
-    let here : words (drop n ts) ≡ Bar ∷ Name name ∷ words (drop (n + 2) ts) = b
-    ∙ ap (λ w. Bar ∷ w) (sym p.1 ∙ named ∙ ap (λ w. Name name ∷ w) (sym q.1 ∙ ap (λ k. words (drop k ts)) two)) in
-    (omega arith, whole ∙ ap (λ w. more_names names ++ w) here ∙ more_names-push names name (words (drop (n + 2) ts)))
+    let here : bare_tokens (drop n ts) ≡ Bar ∷ Name name ∷ bare_tokens (drop (n + 2) ts) = b
+    ∙ ap (λ w. Bar ∷ w) (sym p.1 ∙ named ∙ ap (λ w. Name name ∷ w) (sym q.1 ∙ ap (λ k. bare_tokens (drop k ts)) two)) in
+    (omega arith, whole ∙ ap (λ w. more_names names ++ w) here ∙ more_names-push names name (bare_tokens (drop (n + 2) ts)))

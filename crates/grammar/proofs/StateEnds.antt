@@ -4,7 +4,7 @@ use Rattle.std.specs.Prelude.{IsTrue, max, drop}
 use Rattle.grammar.specs.Token.{Token, Name, TrueWord, NotSign, Open, Close, Dot}
 use Rattle.grammar.specs.Syntax.{RegSyntax, Anything', reg_tokens, reg_fits, reg_nesting, reg_parens, Syntax, True', Neg', Group', Both', OneOf', If', form}
 use Rattle.grammar.specs.Syntax.{fits, tokens, nesting, parens}
-use Rattle.grammar.specs.Written.{joined, connective_token, connective_row, modal, opening, closing, bound, binder_token}
+use Rattle.grammar.specs.Written.{joined, connective_token, connective_row, written_modal, opening_bracket, closing, bound, binder_token}
 use Rattle.grammar.specs.Read.{reg_row, state_row}
 use Rattle.grammar.specs.Misread.{BeginsState, StandsState, Within, IsStateMisread, IsMissing, IsNameMissing}
 use Rattle.grammar.specs.declared.misread.Misread.{Misread}
@@ -100,7 +100,7 @@ group-unclosed depth inside f back ts e st far low narrow split missing =
 
 modal_none : (mark : Brackets) (r : RegSyntax) (back : List Token) → IsTrue (reg_fits r) → 7 < reg_row back
     → ((after : List Token) → back ≡ closing mark ∷ after → ⊥)
-    → NoneStands (StandsState 0) (opening mark ∷ reg_tokens r) back
+    → NoneStands (StandsState 0) (opening_bracket mark ∷ reg_tokens r) back
 modal_none mark r back fit far missing nested opened more stop x =
     let u = modal-as mark x.syntax x.rest (reg_tokens r ++ (take 1 back ++ more)) x.row x.spelled in
     let beyond : 7 < reg_row (take 1 back ++ more) = above_taken 7 back more stop far in
@@ -112,15 +112,15 @@ modal_none mark r back fit far missing nested opened more stop x =
 -- a modality whose bracket isn't closed
 pub modal-unclosed : (mark : Brackets) (depth inside : ℕ) (r : RegSyntax) (back ts : List Token) (e : Misread) → IsTrue (reg_fits r) → 7 < reg_row back
     → reg_nesting r ≤ depth → reg_parens r ≤ inside
-    → reg_tokens r ++ back ≡ ts → IsMissing (closing mark) back e → IsStateMisread 0 (depth + 1) inside (opening mark ∷ ts) e
+    → reg_tokens r ++ back ≡ ts → IsMissing (closing mark) back e → IsStateMisread 0 (depth + 1) inside (opening_bracket mark ∷ ts) e
 modal-unclosed mark depth inside r back ts e fit far low narrow split missing =
-    let s : Syntax = modal mark r True' in
+    let s : Syntax = written_modal mark r True' in
     let own : form s ≡ 0 = (modal-is mark r True').form in
     let deep : nesting s ≡ 1 + max (reg_nesting r) 0 = (modal-is mark r True').nesting in
     let wide : parens s ≡ max (reg_parens r) 0 = (modal-is mark r True').parens in
-    unexpected-here (BeginsState 0) (StandsState 0) (depth + 1) inside (opening mark ∷ reg_tokens r) back (opening mark ∷ ts) e
-    (ap (λ us. opening mark ∷ us) split) missing.0
-    (begun-by 0 (depth + 1) inside s (opening mark ∷ reg_tokens r) (closing mark ∷ TrueWord ∷ []) (modal-fits mark r True' fit (omega arith) refl)
+    unexpected-here (BeginsState 0) (StandsState 0) (depth + 1) inside (opening_bracket mark ∷ reg_tokens r) back (opening_bracket mark ∷ ts) e
+    (ap (λ us. opening_bracket mark ∷ us) split) missing.0
+    (begun-by 0 (depth + 1) inside s (opening_bracket mark ∷ reg_tokens r) (closing mark ∷ TrueWord ∷ []) (modal-fits mark r True' fit (omega arith) refl)
     (omega arith) (omega arith) (omega arith) (modal-tokens mark r True'))
     (modal_none mark r back fit far missing.1)
 
@@ -176,10 +176,10 @@ not-too-deep depth inside back e none is =
     (λ x rest more row spelled low narrow. absurd (omega (arith, none, low, ap nesting (unary-as x rest more NotSign row spelled).1)))
 
 pub modal-too-deep : (mark : Brackets) (depth inside : ℕ) (back : List Token) (e : Misread) → depth ≤ 0 → e ≡ misread.TooLarge (suc (length back))
-    → IsStateMisread 0 depth inside (opening mark ∷ back) e
+    → IsStateMisread 0 depth inside (opening_bracket mark ∷ back) e
 modal-too-deep mark depth inside back e none is =
-    let own : form (modal mark Anything' True') ≡ 0 = (modal-is mark Anything' True').form in
-    too-large-first depth inside (opening mark) back e (modal mark Anything' True') (TrueWord ∷ closing mark ∷ TrueWord ∷ []) is
+    let own : form (written_modal mark Anything' True') ≡ 0 = (modal-is mark Anything' True').form in
+    too-large-first depth inside (opening_bracket mark) back e (written_modal mark Anything' True') (TrueWord ∷ closing mark ∷ TrueWord ∷ []) is
     (modal-fits mark Anything' True' refl (omega arith) refl) (omega arith) (modal-tokens mark Anything' True')
     (λ x rest more row spelled low narrow.
     let u = modal-as mark x rest more row spelled in

@@ -5,7 +5,7 @@ use Rattle.std.proofs.lemmas.Bool.{leb-true, and_parts}
 use Rattle.grammar.specs.Token.{Token, Name, TrueWord, FalseWord, MuWord, NuWord, NotSign, Less, Greater, OpenBox, CloseBox, Open, Close, Dot}
 use Rattle.grammar.specs.Syntax.{RegSyntax, reg_tokens, reg_fits, reg_nesting, reg_parens, Syntax, True', False', Var', Group', Neg', Both', OneOf', If'}
 use Rattle.grammar.specs.Syntax.{Dia', Box', Mu', Nu', form, ends_in_binder, fits, tokens, nesting, parens}
-use Rattle.grammar.specs.Written.{joined, connective_token, connective_row, modal, opening, closing, bound, binder_token}
+use Rattle.grammar.specs.Written.{joined, connective_token, connective_row, written_modal, opening_bracket, closing, bound, binder_token}
 use Rattle.grammar.specs.Read.{reg_row, state_row}
 use Rattle.grammar.specs.Misread.{BeginsRegular, StandsRegular, BeginsState, StandsState}
 use Rattle.grammar.specs.declared.written.Connective.{Connective}
@@ -58,8 +58,8 @@ unary-as (OneOf' f g) rest more t low e = absurd (omega (arith, low))
 unary-as (If' f g) rest more t low e = absurd (omega (arith, low))
 
 -- a modality, by its bracket
-pub modal-as : (b : Brackets) (s : Syntax) (rest more : List Token) → form s ≤ 0 → tokens s ++ rest ≡ opening b ∷ more
-    → (r : RegSyntax) × (f : Syntax) × (s ≡ modal b r f) × (reg_tokens r ++ closing b ∷ (tokens f ++ rest) ≡ more)
+pub modal-as : (b : Brackets) (s : Syntax) (rest more : List Token) → form s ≤ 0 → tokens s ++ rest ≡ opening_bracket b ∷ more
+    → (r : RegSyntax) × (f : Syntax) × (s ≡ written_modal b r f) × (reg_tokens r ++ closing b ∷ (tokens f ++ rest) ≡ more)
 modal-as brackets.Diamond s rest more low e = unary-as s rest more Less low e
 modal-as brackets.Box s rest more low e = unary-as s rest more OpenBox low e
 
@@ -70,7 +70,7 @@ bound-as binder.Mu s rest more low e = unary-as s rest more MuWord low e
 bound-as binder.Nu s rest more low e = unary-as s rest more NuWord low e
 
 -- what a modality is made of, each part in its row
-pub modal-inside : (b : Brackets) (r : RegSyntax) (f : Syntax) → IsTrue (fits (modal b r f)) → (form f ≤ 0) × IsTrue (reg_fits r) × IsTrue (fits f)
+pub modal-inside : (b : Brackets) (r : RegSyntax) (f : Syntax) → IsTrue (fits (written_modal b r f)) → (form f ≤ 0) × IsTrue (reg_fits r) × IsTrue (fits f)
 modal-inside brackets.Diamond r f h = modal_parts r f h
 modal-inside brackets.Box r f h = modal_parts r f h
 
@@ -174,14 +174,14 @@ closing-row brackets.Box more = refl
 
 -- in the brackets of a modality
 pub in-brackets : (mark : Brackets) (depth inside : ℕ) → IsPlace (BeginsState 0) (StandsState 0) (BeginsRegular 7) (StandsRegular 7)
-    (depth + 1) inside depth inside (opening mark ∷ [])
+    (depth + 1) inside depth inside (opening_bracket mark ∷ [])
 in-brackets mark depth inside = record {
   outward = λ ts nested opened b.
       let r = b.syntax in
-      begins-part nested opened depth inside (depth + 1) inside 0 (modal mark r True') (opening mark ∷ ts) (b.more ++ closing mark ∷ TrueWord ∷ [])
+      begins-part nested opened depth inside (depth + 1) inside 0 (written_modal mark r True') (opening_bracket mark ∷ ts) (b.more ++ closing mark ∷ TrueWord ∷ [])
       (modal-fits mark r True' b.grammatical (omega arith) refl)
       (omega (arith, (modal-is mark r True').form))
-      (modal-tokens mark r True' ∙ ap (λ us. opening mark ∷ us)
+      (modal-tokens mark r True' ∙ ap (λ us. opening_bracket mark ∷ us)
       (ap (λ us. us ++ closing mark ∷ TrueWord ∷ []) b.spelled ∙ append_assoc ts b.more (closing mark ∷ TrueWord ∷ [])))
       (λ h. omega (arith, (modal-is mark r True').nesting, b.nests, h)) (λ h. omega (arith, (modal-is mark r True').parens, b.opens, h));
   inward = λ ts nested opened x.
@@ -196,14 +196,14 @@ in-brackets mark depth inside = record {
 -- after the brackets of a modality
 pub after-brackets : (mark : Brackets) (r : RegSyntax) (depth inside : ℕ) → IsTrue (reg_fits r) → reg_nesting r ≤ depth → reg_parens r ≤ inside
     → IsPlace (BeginsState 0) (StandsState 0) (BeginsState 0) (StandsState 0) (depth + 1) inside depth inside
-    (opening mark ∷ (reg_tokens r ++ closing mark ∷ []))
+    (opening_bracket mark ∷ (reg_tokens r ++ closing mark ∷ []))
 after-brackets mark r depth inside fit low narrow = record {
   outward = λ ts nested opened b.
       let f = b.syntax in
-      begins-part nested opened depth inside (depth + 1) inside 0 (modal mark r f) (opening mark ∷ ((reg_tokens r ++ closing mark ∷ []) ++ ts)) b.more
+      begins-part nested opened depth inside (depth + 1) inside 0 (written_modal mark r f) (opening_bracket mark ∷ ((reg_tokens r ++ closing mark ∷ []) ++ ts)) b.more
       (modal-fits mark r f fit b.row b.grammatical)
       (omega (arith, (modal-is mark r f).form))
-      (modal-tokens mark r f ∙ ap (λ us. opening mark ∷ us) (ap (λ us. reg_tokens r ++ closing mark ∷ us) b.spelled
+      (modal-tokens mark r f ∙ ap (λ us. opening_bracket mark ∷ us) (ap (λ us. reg_tokens r ++ closing mark ∷ us) b.spelled
       ∙ sym (append_assoc (reg_tokens r) (closing mark ∷ ts) b.more) ∙ ap (λ us. us ++ b.more) (sym (append_assoc (reg_tokens r) (closing mark ∷ []) ts))))
       (λ h. omega (arith, (modal-is mark r f).nesting, b.nests, low, h)) (λ h. omega (arith, (modal-is mark r f).parens, b.opens, narrow, h));
   inward = λ ts nested opened x.

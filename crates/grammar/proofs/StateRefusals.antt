@@ -3,8 +3,8 @@ use Rattle.std.specs.Prelude.{◌≡◌, ℕ, suc, ◌+◌, ◌-◌, ◌<◌, �
 use Rattle.std.proofs.Common.{arith, refl, sym, ◌∙◌, ap, subst, append_assoc, true≢false}
 use Rattle.grammar.specs.Token.{Token, Name, Open, Close, Dot}
 use Rattle.grammar.specs.Syntax.{reg_tokens, Syntax, tokens, form}
-use Rattle.grammar.specs.Written.{token_of, words, state_syntax, reg_syntax, connective_token, connective_row, opening, closing, binder_token}
-use Rattle.grammar.specs.Read.{IsState, state_tokens, state_row, is_state_word, is_prefix, prefix_token}
+use Rattle.grammar.specs.Written.{token_of, bare_tokens, state_syntax, reg_syntax, connective_token, connective_row, opening_bracket, closing, binder_token}
+use Rattle.grammar.specs.Read.{IsReadState, state_tokens, state_row, is_state_word, is_prefix, prefix_token}
 use Rattle.grammar.specs.Misread.{BeginsState, StandsState, IsStateMisread, ReadsRegular, ReadsState, StateOf, IsMissing}
 use Rattle.grammar.specs.declared.misread.Misread.{Misread}
 use Rattle.grammar.specs.declared.misread.Misread.TheVariants as misread
@@ -26,22 +26,22 @@ use Rattle.grammar.proofs.StatePlaces.{UnaryAs, after-sign, after-brackets, afte
 use Rattle.grammar.proofs.StateEnds.{nothing-left, no-word, group-unclosed, modal-unclosed, sign-too-large, not-too-deep, modal-too-deep, binder-too-deep}
 
 pub within-modality : (mark : Brackets) (depth inside : ℕ) (r : ReadRegular) (us after : List Token) (e : Misread) → ReadsRegular 7 depth inside us r
-    → words r.rest.now ≡ closing mark ∷ after
-    → IsStateMisread 0 depth inside after e → IsStateMisread 0 (depth + 1) inside (opening mark ∷ us) e
+    → bare_tokens r.rest.now ≡ closing mark ∷ after
+    → IsStateMisread 0 depth inside after e → IsStateMisread 0 (depth + 1) inside (opening_bracket mark ∷ us) e
 within-modality mark depth inside r us after e l closed h =
     let s = reg_syntax r.syntax.value in
     let place = after-brackets mark s depth inside l.sound.grammatical (omega (arith, l.sound.height, l.sound.low)) l.sound.narrow in
-    let split : (opening mark ∷ (reg_tokens s ++ closing mark ∷ [])) ++ after ≡ opening mark ∷ us =
-    ap (λ ts. opening mark ∷ ts) (append_assoc (reg_tokens s) (closing mark ∷ []) after ∙ (ap (λ ts. reg_tokens s ++ ts) (sym closed) ∙ l.eaten)) in
+    let split : (opening_bracket mark ∷ (reg_tokens s ++ closing mark ∷ [])) ++ after ≡ opening_bracket mark ∷ us =
+    ap (λ ts. opening_bracket mark ∷ ts) (append_assoc (reg_tokens s) (closing mark ∷ []) after ∙ (ap (λ ts. reg_tokens s ++ ts) (sym closed) ∙ l.eaten)) in
     subst (λ ts. IsStateMisread 0 (depth + 1) inside ts e) split
     (misread-within (BeginsState 0) (StandsState 0) (BeginsState 0) (StandsState 0) (depth + 1) inside depth inside
-    (opening mark ∷ (reg_tokens s ++ closing mark ∷ [])) after e place h)
+    (opening_bracket mark ∷ (reg_tokens s ++ closing mark ∷ [])) after e place h)
 
 pub modality-unclosed : (mark : Brackets) (depth inside : ℕ) (r : ReadRegular) (us : List Token) (e : Misread) → ReadsRegular 7 depth inside us r
-    → IsMissing (closing mark) (words r.rest.now) e
-    → IsStateMisread 0 (depth + 1) inside (opening mark ∷ us) e
+    → IsMissing (closing mark) (bare_tokens r.rest.now) e
+    → IsStateMisread 0 (depth + 1) inside (opening_bracket mark ∷ us) e
 modality-unclosed mark depth inside r us e l missing =
-    modal-unclosed mark depth inside (reg_syntax r.syntax.value) (words r.rest.now) us e l.sound.grammatical l.stops
+    modal-unclosed mark depth inside (reg_syntax r.syntax.value) (bare_tokens r.rest.now) us e l.sound.grammatical l.stops
     (omega (arith, l.sound.height, l.sound.low)) l.sound.narrow l.eaten missing
 
 pub within-binder : (word : Binder) (x : List ℕ) (depth inside : ℕ) (start between after : List Token) (e : Misread) → start ≡ Name x ∷ between
@@ -52,35 +52,35 @@ within-binder word x depth inside start between after e named dotted h =
     (misread-within (BeginsState 0) (StandsState 0) (BeginsState 3) (StandsState 3) (depth + 1) inside depth inside
     (binder_token word ∷ Name x ∷ Dot ∷ []) after e (after-dot word x depth inside) h)
 
-pub state-standing : (level depth inside : ℕ) (s : ReadState) → IsState level depth inside s → Standing (state_syntax s.syntax.value) (words s.rest.now)
+pub state-standing : (level depth inside : ℕ) (s : ReadState) → IsReadState level depth inside s → Standing (state_syntax s.syntax.value) (bare_tokens s.rest.now)
 state-standing level depth inside s is = record { grammatical = is.grammatical; ended = is.ended; reaches = is.reaches }
 
 pub parenthesis-unclosed : (depth inside : ℕ) (s : ReadState) (us : List Token) (e : Misread) → ReadsState 3 depth inside us s
-    → IsMissing Close (words s.rest.now) e → IsStateMisread 0 depth (inside + 1) (Open ∷ us) e
+    → IsMissing Close (bare_tokens s.rest.now) e → IsStateMisread 0 depth (inside + 1) (Open ∷ us) e
 parenthesis-unclosed depth inside s us e i missing =
-    group-unclosed depth inside (state_syntax s.syntax.value) (words s.rest.now) us e (state-standing 3 depth inside s i.sound) i.stops
+    group-unclosed depth inside (state_syntax s.syntax.value) (bare_tokens s.rest.now) us e (state-standing 3 depth inside s i.sound) i.stops
     (omega (arith, i.sound.height, i.sound.low)) i.sound.narrow i.eaten missing
 
 not_true : (b : Bool) → (b ≡ true → ⊥) → b ≡ false
 not_true true h = absurd (h refl)
 not_true false h = refl
 
-left-operand : (mark : Connective) (level depth inside : ℕ) (left : ReadState) (after : List Token) → IsState level depth inside left
-    → words left.rest.now ≡ connective_token mark ∷ after
+left-operand : (mark : Connective) (level depth inside : ℕ) (left : ReadState) (after : List Token) → IsReadState level depth inside left
+    → bare_tokens left.rest.now ≡ connective_token mark ∷ after
     → LeftOperand mark (state_syntax left.syntax.value)
 left-operand mark level depth inside left after is front =
-    let row : state_row (words left.rest.now) ≡ connective_row mark = ap state_row front ∙ connective-row mark after in
+    let row : state_row (bare_tokens left.rest.now) ≡ connective_row mark = ap state_row front ∙ connective-row mark after in
     let most = row-most mark in
-    let ended : form (state_syntax left.syntax.value) < state_row (words left.rest.now) = is.ended in
+    let ended : form (state_syntax left.syntax.value) < state_row (bare_tokens left.rest.now) = is.ended in
     record {
       grammatical = is.grammatical;
       below = omega arith;
-      open_end = not_true _ (λ b. let far : 3 < state_row (words left.rest.now) = is.reaches b in absurd (omega arith));
+      open_end = not_true _ (λ b. let far : 3 < state_row (bare_tokens left.rest.now) = is.reaches b in absurd (omega arith));
     }
 
 -- the right operand's refusal is the whole's
-pub within-sign : (mark : Connective) (level depth inside : ℕ) (left : ReadState) (us : List Token) (e : Misread) → IsState level depth inside left
-    → words left.rest.now ≡ connective_token mark ∷ us
+pub within-sign : (mark : Connective) (level depth inside : ℕ) (left : ReadState) (us : List Token) (e : Misread) → IsReadState level depth inside left
+    → bare_tokens left.rest.now ≡ connective_token mark ∷ us
     → connective_row mark ≤ level → left.height < depth → IsStateMisread (connective_row mark) (depth - 1) inside us e
     → IsStateMisread level depth inside (state_tokens left) e
 within-sign mark level depth inside left us e is front lower room h =
@@ -91,8 +91,8 @@ within-sign mark level depth inside left us e is front lower room h =
     (depth - 1) inside (tokens s ++ connective_token mark ∷ []) us e place h)
 
 -- a sign whose left operand nests as deep as it may
-pub beyond-sign : (mark : Connective) (level depth inside : ℕ) (left : ReadState) (us : List Token) (e : Misread) → IsState level depth inside left
-    → words left.rest.now ≡ connective_token mark ∷ us
+pub beyond-sign : (mark : Connective) (level depth inside : ℕ) (left : ReadState) (us : List Token) (e : Misread) → IsReadState level depth inside left
+    → bare_tokens left.rest.now ≡ connective_token mark ∷ us
     → connective_row mark ≤ level → depth ≤ left.height → e ≡ misread.TooLarge (length left.rest.now) → IsStateMisread level depth inside (state_tokens left) e
 beyond-sign mark level depth inside left us e is front lower full big =
     let s : Syntax = state_syntax left.syntax.value in
@@ -104,11 +104,11 @@ beyond-sign mark level depth inside left us e is front lower full big =
 pub beyond-first : (t : Token) (depth inside : ℕ) (placed : List Placed) (first : Placed) (rest : List Placed) (e : Misread) → placed ≡ first ∷ rest
     → token_of first.token ≡ t → e ≡ misread.TooLarge (length placed)
     → ((back : List Token) → e ≡ misread.TooLarge (suc (length back)) → IsStateMisread 0 depth inside (t ∷ back) e)
-    → IsStateMisread 0 depth inside (words placed) e
+    → IsStateMisread 0 depth inside (bare_tokens placed) e
 beyond-first t depth inside placed first rest e front is big none =
-    let whole : words placed ≡ t ∷ words rest = ap words front ∙ ap (λ u. u ∷ words rest) is in
+    let whole : bare_tokens placed ≡ t ∷ bare_tokens rest = ap bare_tokens front ∙ ap (λ u. u ∷ bare_tokens rest) is in
     subst (λ ts. IsStateMisread 0 depth inside ts e) (sym whole)
-    (none (words rest) (big ∙ ap misread.TooLarge (sym (words-length placed) ∙ ap (λ ts. length ts) whole)))
+    (none (bare_tokens rest) (big ∙ ap misread.TooLarge (sym (words-length placed) ∙ ap (λ ts. length ts) whole)))
 
 pub prefix-too-deep : (prefix : Prefix) (depth inside : ℕ) (back : List Token) (e : Misread) → depth ≤ 0 → e ≡ misread.TooLarge (suc (length back))
     → IsStateMisread 0 depth inside (prefix_token prefix ∷ back) e
@@ -128,8 +128,8 @@ no_items (first ∷ rest) e = absurd (omega (arith, e))
 
 -- no token is left
 pub none-left : (depth inside : ℕ) (placed : List Placed) (e : Misread) → length placed ≡ 0 → e ≡ misread.Unexpected (length placed)
-    → IsStateMisread 0 depth inside (words placed) e
-none-left depth inside placed e none is = nothing-left depth inside (words placed) e (ap words (no_items placed none))
+    → IsStateMisread 0 depth inside (bare_tokens placed) e
+none-left depth inside placed e none is = nothing-left depth inside (bare_tokens placed) e (ap bare_tokens (no_items placed none))
     (is ∙ ap misread.Unexpected (sym (words-length placed)))
 
 no_unary : (token : Lexeme) → IsFalse (is_prefix (token_of token)) → (token ≡ lexeme.Open → ⊥) → IsFalse (is_state_word (token_of token))
@@ -148,9 +148,9 @@ no_unary _ p o w x rest more h = h
 -- a first token with which no formula begins
 pub none-begins : (depth inside : ℕ) (placed : List Placed) (first : Placed) (rest : List Placed) (e : Misread) → placed ≡ first ∷ rest
     → IsFalse (is_prefix (token_of first.token)) → (first.token ≡ lexeme.Open → ⊥)
-    → IsFalse (is_state_word (token_of first.token)) → e ≡ misread.Unexpected (length placed) → IsStateMisread 0 depth inside (words placed) e
+    → IsFalse (is_state_word (token_of first.token)) → e ≡ misread.Unexpected (length placed) → IsStateMisread 0 depth inside (bare_tokens placed) e
 none-begins depth inside placed first rest e front p o w is =
-    let whole : words placed ≡ token_of first.token ∷ words rest = ap words front in
+    let whole : bare_tokens placed ≡ token_of first.token ∷ bare_tokens rest = ap bare_tokens front in
     subst (λ ts. IsStateMisread 0 depth inside ts e) (sym whole)
-    (no-word (token_of first.token) (words rest) depth inside e (no_unary first.token p o w)
+    (no-word (token_of first.token) (bare_tokens rest) depth inside e (no_unary first.token p o w)
     (is ∙ ap misread.Unexpected (sym (words-length placed) ∙ ap (λ ts. length ts) whole)))

@@ -4,8 +4,8 @@ use Rattle.grammar.specs.declared.limits.TheConstants.{DEEPEST, MOST_PARENS}
 use Rattle.grammar.specs.Token.{Token, Name}
 use Rattle.grammar.specs.Syntax.{RegSyntax, reg_tokens, reg_fits, reg_form, reg_nesting, reg_parens, Syntax, tokens, fits, form, nesting, parens}
 use Rattle.grammar.specs.Syntax.{ends_in_binder}
-use Rattle.grammar.specs.Written.{words}
-use Rattle.grammar.specs.Read.{reg_row, state_row, regular_tokens, IsRegular, MayGoOn, state_tokens, IsState}
+use Rattle.grammar.specs.Written.{bare_tokens}
+use Rattle.grammar.specs.Read.{reg_row, state_row, regular_tokens, IsRegular, MayGoOn, state_tokens, IsReadState}
 use Rattle.grammar.specs.declared.misread.Misread.{Misread}
 use Rattle.grammar.specs.declared.regular.ReadRegular.{ReadRegular}
 use Rattle.grammar.specs.declared.state.ReadState.{ReadState}
@@ -98,7 +98,7 @@ IsStateMisread level depth inside ts e = IsMisread (BeginsState level) (StandsSt
 pub record ReadsRegular (level depth inside : ℕ) (ts : List Token) (r : ReadRegular) : Type 0 where
   pub eaten : regular_tokens r ≡ ts
   pub sound : IsRegular level depth inside r
-  pub stops : level < reg_row (words r.rest.now)
+  pub stops : level < reg_row (bare_tokens r.rest.now)
 
 -- the longest regular formula at the front of the tokens, or why there is none
 abbrev pub RegularOf : (level depth inside : ℕ) → List Token → Result ReadRegular Misread → Type 0
@@ -118,15 +118,15 @@ RegularFrom level depth inside left result = MatchResult result (LongerRegular l
 -- the same of state formulas
 pub record ReadsState (level depth inside : ℕ) (ts : List Token) (s : ReadState) : Type 0 where
   pub eaten : state_tokens s ≡ ts
-  pub sound : IsState level depth inside s
-  pub stops : level < state_row (words s.rest.now)
+  pub sound : IsReadState level depth inside s
+  pub stops : level < state_row (bare_tokens s.rest.now)
 
 abbrev pub StateOf : (level depth inside : ℕ) → List Token → Result ReadState Misread → Type 0
 StateOf level depth inside ts result = MatchResult result (ReadsState level depth inside ts) (IsStateMisread level depth inside ts)
 
 pub record LongerState (level depth inside : ℕ) (left s : ReadState) : Type 0 where
   pub eaten : state_tokens s ≡ state_tokens left
-  pub sound : IsState level depth inside s
+  pub sound : IsReadState level depth inside s
   pub shorter : length s.rest.now < length left.rest.now
 
 abbrev pub StateFrom : (level depth inside : ℕ) → ReadState → Result ReadState Misread → Type 0

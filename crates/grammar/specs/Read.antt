@@ -4,7 +4,7 @@ use Rattle.grammar.specs.Token.{Token, Name, Atom, TrueWord, FalseWord, MuWord, 
 use Rattle.grammar.specs.Token.{Dot, ChoiceSign, PlusSign, StarSign}
 use Rattle.grammar.specs.Syntax.{reg_tokens, reg_fits, reg_form, reg_nesting, reg_parens, Syntax, tokens, fits, form, nesting, parens, ends_in_binder}
 use Rattle.grammar.specs.Syntax.{is_within_limits}
-use Rattle.grammar.specs.Written.{words, reg_syntax, state_syntax, infix_token, infix_row, repeat_token, connective_token, opening, binder_token}
+use Rattle.grammar.specs.Written.{bare_tokens, reg_syntax, state_syntax, infix_token, infix_row, repeat_token, connective_token, opening_bracket, binder_token}
 use Rattle.grammar.specs.declared.token.Placed.{Placed}
 use Rattle.grammar.specs.declared.written.WrittenRegular.{WrittenRegular}
 use Rattle.grammar.specs.declared.written.Connective.{Connective}
@@ -48,7 +48,7 @@ pub record IsStateOf (syntax : WrittenState) (height : ℕ) (rest : List Placed)
 
 -- the tokens of what was read, and those after it
 abbrev pub regular_tokens : ReadRegular → List Token
-regular_tokens r = reg_tokens (reg_syntax r.syntax.value) ++ words r.rest.now
+regular_tokens r = reg_tokens (reg_syntax r.syntax.value) ++ bare_tokens r.rest.now
 
 -- a regular formula of this row, of this height, within these limits
 pub record IsRegular (level depth inside : ℕ) (r : ReadRegular) : Type 0 where
@@ -59,21 +59,21 @@ pub record IsRegular (level depth inside : ℕ) (r : ReadRegular) : Type 0 where
   pub narrow : reg_parens (reg_syntax r.syntax.value) ≤ inside
 
 abbrev pub state_tokens : ReadState → List Token
-state_tokens s = tokens (state_syntax s.syntax.value) ++ words s.rest.now
+state_tokens s = tokens (state_syntax s.syntax.value) ++ bare_tokens s.rest.now
 
 -- A state formula of this row, of this height, within these limits. A binder at its end reaches as far as possible.
-pub record IsState (level depth inside : ℕ) (s : ReadState) : Type 0 where
+pub record IsReadState (level depth inside : ℕ) (s : ReadState) : Type 0 where
   pub grammatical : IsTrue (fits (state_syntax s.syntax.value))
   pub row : form (state_syntax s.syntax.value) ≤ level
   pub height : s.height ≡ nesting (state_syntax s.syntax.value)
   pub low : s.height ≤ depth
   pub narrow : parens (state_syntax s.syntax.value) ≤ inside
-  pub reaches : ends_in_binder (state_syntax s.syntax.value) ≡ true → 3 < state_row (words s.rest.now)
-  pub ended : form (state_syntax s.syntax.value) < state_row (words s.rest.now)
+  pub reaches : ends_in_binder (state_syntax s.syntax.value) ≡ true → 3 < state_row (bare_tokens s.rest.now)
+  pub ended : form (state_syntax s.syntax.value) < state_row (bare_tokens s.rest.now)
 
 -- What was read may stand before the next token in a longer formula, if that token goes on at all.
 abbrev pub MayGoOn : ReadRegular → Type 0
-MayGoOn r = let form = reg_form (reg_syntax r.syntax.value) in let row = reg_row (words r.rest.now) in (form < row) ⊎ ((form ≤ 5) × (row ≡ 5))
+MayGoOn r = let form = reg_form (reg_syntax r.syntax.value) in let row = reg_row (bare_tokens r.rest.now) in (form < row) ⊎ ((form ≤ 5) × (row ≡ 5))
 
 -- the token of what goes on after a regular formula, and the row of the grammar's table that it makes
 abbrev pub suffix_token : Suffix → Token
@@ -116,7 +116,7 @@ IsConnective token None = (more : List Token) → state_row (token ∷ more) ≡
 -- the first token of what stands before a unary formula
 abbrev pub prefix_token : Prefix → Token
 prefix_token prefix.Not = NotSign
-prefix_token (prefix.Modal mark) = opening mark
+prefix_token (prefix.Modal mark) = opening_bracket mark
 prefix_token (prefix.Bind word) = binder_token word
 
 abbrev pub is_prefix : Token → Bool
@@ -139,13 +139,13 @@ is_state_word (Name x) = true
 is_state_word _ = false
 
 -- the formula that is this one token
-abbrev pub IsFormulaOf : Token → Option WrittenState → Type 0
-IsFormulaOf token (Some s) = (tokens (state_syntax s) ≡ token ∷ []) × (form (state_syntax s) ≡ 0) × (nesting (state_syntax s) ≡ 0)
+abbrev pub IsOneToken : Token → Option WrittenState → Type 0
+IsOneToken token (Some s) = (tokens (state_syntax s) ≡ token ∷ []) × (form (state_syntax s) ≡ 0) × (nesting (state_syntax s) ≡ 0)
     × (parens (state_syntax s) ≡ 0) × IsTrue (fits (state_syntax s)) × (ends_in_binder (state_syntax s) ≡ false)
-IsFormulaOf token None = IsFalse (is_state_word token)
+IsOneToken token None = IsFalse (is_state_word token)
 
 -- these tokens are the formula, which is of the grammar and within the limits
-pub record IsWhole (s : Syntax) (ts : List Token) : Type 0 where
+pub record IsWholeFormula (s : Syntax) (ts : List Token) : Type 0 where
   pub spelled : tokens s ≡ ts
   pub grammatical : IsTrue (fits s)
   pub within : IsTrue (is_within_limits s)

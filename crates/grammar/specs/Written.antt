@@ -46,8 +46,8 @@ token_of lexeme.ChoiceSign = ChoiceSign
 token_of lexeme.PlusSign = PlusSign
 token_of lexeme.StarSign = StarSign
 
-abbrev pub words : List Placed → List Token
-words placed = map (λ p. token_of p.token) placed
+abbrev pub bare_tokens : List Placed → List Token
+bare_tokens placed = map (λ p. token_of p.token) placed
 
 -- two regular formulas with a sign between them
 abbrev pub infixed : Infix → RegSyntax → RegSyntax → RegSyntax
@@ -115,13 +115,13 @@ connective_row connective.And = 1
 connective_row connective.Or = 2
 connective_row connective.Implies = 3
 
-abbrev pub modal : Brackets → RegSyntax → Syntax → Syntax
-modal brackets.Diamond r f = Dia' r f
-modal brackets.Box r f = Box' r f
+abbrev pub written_modal : Brackets → RegSyntax → Syntax → Syntax
+written_modal brackets.Diamond r f = Dia' r f
+written_modal brackets.Box r f = Box' r f
 
-abbrev pub opening : Brackets → Token
-opening brackets.Diamond = Less
-opening brackets.Box = OpenBox
+abbrev pub opening_bracket : Brackets → Token
+opening_bracket brackets.Diamond = Less
+opening_bracket brackets.Box = OpenBox
 
 abbrev pub closing : Brackets → Token
 closing brackets.Diamond = Greater
@@ -142,5 +142,5 @@ state_syntax (state.Var name) = Var' name.now
 state_syntax (state.Group' p f) = Group' (state_syntax f)
 state_syntax (state.Not' p f) = Neg' (state_syntax f)
 state_syntax (state.Joined' sign p f q g) = joined sign (state_syntax f) (state_syntax g)
-state_syntax (state.Modal' sign r p f) = modal sign (reg_syntax r) (state_syntax f)
+state_syntax (state.Modal' sign r p f) = written_modal sign (reg_syntax r) (state_syntax f)
 state_syntax (state.Bind' word name p f) = bound word name.now (state_syntax f)

@@ -2,7 +2,7 @@
 
 ghost use Rattle.std.specs.Prelude.{◌≡◌, ◌+◌, ◌^◌, ◌<◌, ◌≤◌, ◌∷◌, length, MatchOption, MatchResult};
 ghost use Rattle.grammar.specs.Token.{Name, Bar, Close, Open, NotSign};
-ghost use Rattle.grammar.specs.Written.{token_of, words, infix_token, infix_row, repeat_token};
+ghost use Rattle.grammar.specs.Written.{token_of, bare_tokens, infix_token, infix_row, repeat_token};
 ghost use Rattle.grammar.specs.Read.{regular_tokens, IsRegular, IsRegularOf, MayGoOn, IsSuffix, suffix_row, suffix_token, IsWordOf, MatchBar, reg_row};
 ghost use Rattle.grammar.specs.Misread.{IsMissing, IsNameMissing, RegularOf, RegularFrom};
 
@@ -90,7 +90,7 @@ fn word<'a>(token: Token<'a>) -> Option<WrittenRegular<'a>>
 
 /// The tokens after a closing parenthesis, which has to stand first.
 pub fn after_close<'a>(rest: &'a [Placed<'a>]) -> Result<&'a [Placed<'a>], Misread>
-    ensures { MatchResult result (λ after. words rest.now ≡ Close ∷ words after.now) (IsMissing Close (words rest.now)) }
+    ensures { MatchResult result (λ after. bare_tokens rest.now ≡ Close ∷ bare_tokens after.now) (IsMissing Close (bare_tokens rest.now)) }
 {
     match rest.split_first() {
         Some(
@@ -108,7 +108,7 @@ pub fn after_close<'a>(rest: &'a [Placed<'a>]) -> Result<&'a [Placed<'a>], Misre
 
 /// The name that has to stand first, and the tokens after it.
 pub fn name_first<'a>(rest: &'a [Placed<'a>]) -> Result<(&'a [u8], &'a [Placed<'a>]), Misread>
-    ensures { MatchResult result (λ (name, after). words rest.now ≡ Name name.now ∷ words after.now) (IsNameMissing (words rest.now)) }
+    ensures { MatchResult result (λ (name, after). bare_tokens rest.now ≡ Name name.now ∷ bare_tokens after.now) (IsNameMissing (bare_tokens rest.now)) }
 {
     match rest.split_first() {
         Some(
@@ -125,7 +125,7 @@ pub fn name_first<'a>(rest: &'a [Placed<'a>]) -> Result<(&'a [u8], &'a [Placed<'
 }
 
 fn is_bar_first(tokens: &[Placed<'_>]) -> bool
-    ensures { MatchBar (words tokens.now) result }
+    ensures { MatchBar (bare_tokens tokens.now) result }
 {
     match tokens.first() {
         Some(
@@ -144,7 +144,7 @@ fn names<'a>(
     first: &'a [u8],
     tokens: &'a [Placed<'a>],
 ) -> Result<ReadRegular<'a>, Misread>
-    ensures { RegularOf 1 room.depth room.parens (Name first.now ∷ words tokens.now) result }
+    ensures { RegularOf 1 room.depth room.parens (Name first.now ∷ bare_tokens tokens.now) result }
 {
     let mut others = Vec::new(room.alloc);
     let mut at = 0;
@@ -159,8 +159,8 @@ fn names<'a>(
 /// This atom, which no bar may follow.
 fn unbarred<'a>(atom: ReadRegular<'a>) -> Result<ReadRegular<'a>, Misread>
     ensures { MatchResult result
-        (λ r. (r ≡ atom.entry) × (0 < reg_row (words r.rest.now)))
-        (λ e. (e ≡ Misread.Unexpected (length atom.entry.rest.now)) × (reg_row (words atom.entry.rest.now) ≡ 0)) }
+        (λ r. (r ≡ atom.entry) × (0 < reg_row (bare_tokens r.rest.now)))
+        (λ e. (e ≡ Misread.Unexpected (length atom.entry.rest.now)) × (reg_row (bare_tokens atom.entry.rest.now) ≡ 0)) }
 {
     if is_bar_first(atom.rest) {
         return Err(Misread::unexpected(atom.rest));
@@ -171,8 +171,8 @@ fn unbarred<'a>(atom: ReadRegular<'a>) -> Result<ReadRegular<'a>, Misread>
 /// Refuses a sign of action formulas right after a postfix sign.
 fn after_repeat(rest: &[Placed<'_>]) -> Result<(), Misread>
     ensures { MatchResult result
-        (λ _. 5 ≤ reg_row (words rest.now))
-        (λ e. (e ≡ Misread.Unexpected (length rest.now)) × (reg_row (words rest.now) < 5)) }
+        (λ _. 5 ≤ reg_row (bare_tokens rest.now))
+        (λ e. (e ≡ Misread.Unexpected (length rest.now)) × (reg_row (bare_tokens rest.now) < 5)) }
 {
     match rest.first() {
         Some(
@@ -188,7 +188,7 @@ fn after_repeat(rest: &[Placed<'_>]) -> Result<(), Misread>
 /// What stands after an opening parenthesis, up to the closing one.
 #[cycle(regular)]
 fn parens<'a>(room: Room, tokens: &'a [Placed<'a>]) -> Result<ReadRegular<'a>, Misread>
-    ensures { RegularOf 1 room.depth (room.parens + 1) (Open ∷ words tokens.now) result }
+    ensures { RegularOf 1 room.depth (room.parens + 1) (Open ∷ bare_tokens tokens.now) result }
 {
     let inner = regular(room, ANY_REGULAR, tokens)?;
     let rest = after_close(inner.rest)?;
@@ -200,7 +200,7 @@ fn parens<'a>(room: Room, tokens: &'a [Placed<'a>]) -> Result<ReadRegular<'a>, M
 #[cycle(regular)]
 fn negated<'a>(room: Room, tokens: &'a [Placed<'a>]) -> Result<ReadRegular<'a>, Misread>
     requires { room.depth + 1 < 2 ^ 64 }
-    ensures { RegularOf 1 (room.depth + 1) room.parens (NotSign ∷ words tokens.now) result }
+    ensures { RegularOf 1 (room.depth + 1) room.parens (NotSign ∷ bare_tokens tokens.now) result }
 {
     let inner = negation(room, tokens)?;
     let syntax = WrittenRegular::Not(inner.syntax);
@@ -210,7 +210,7 @@ fn negated<'a>(room: Room, tokens: &'a [Placed<'a>]) -> Result<ReadRegular<'a>, 
 /// A negation or an atom.
 #[cycle(regular)]
 fn negation<'a>(room: Room, tokens: &'a [Placed<'a>]) -> Result<ReadRegular<'a>, Misread>
-    ensures { RegularOf 1 room.depth room.parens (words tokens.now) result }
+    ensures { RegularOf 1 room.depth room.parens (bare_tokens tokens.now) result }
 {
     let Some((first, rest)) = tokens.split_first() else {
         return Err(Misread::unexpected(tokens));
@@ -235,7 +235,7 @@ pub fn regular<'a>(
 ) -> Result<ReadRegular<'a>, Misread>
     requires above { 1 ≤ level }
     requires row { level ≤ 7 }
-    ensures { RegularOf level room.depth room.parens (words tokens.now) result }
+    ensures { RegularOf level room.depth room.parens (bare_tokens tokens.now) result }
 {
     extended(room, level, negation(room, tokens)?)
 }
@@ -244,8 +244,8 @@ pub fn regular<'a>(
 fn suffix_first<'a>(level: u8, tokens: &'a [Placed<'a>]) -> Option<(Suffix, &'a [Placed<'a>])>
     requires { level ≤ 7 }
     ensures { MatchOption result
-        (0 < reg_row (words tokens.now) → level < reg_row (words tokens.now))
-        (λ (suffix, rest). (suffix_row suffix ≤ level) × (words tokens.now ≡ suffix_token suffix ∷ words rest.now)) }
+        (0 < reg_row (bare_tokens tokens.now) → level < reg_row (bare_tokens tokens.now))
+        (λ (suffix, rest). (suffix_row suffix ≤ level) × (bare_tokens tokens.now ≡ suffix_token suffix ∷ bare_tokens rest.now)) }
 {
     let (first, rest) = tokens.split_first()?;
     let suffix = suffix_of(first.token)?;
@@ -286,7 +286,7 @@ fn lengthened<'a>(
     requires left { IsRegular level room.depth room.parens left }
     requires onward { MayGoOn left }
     requires sign { suffix_row suffix ≤ level }
-    requires first { words left.rest.now ≡ suffix_token suffix ∷ words rest.now }
+    requires first { bare_tokens left.rest.now ≡ suffix_token suffix ∷ bare_tokens rest.now }
     ensures { RegularFrom level room.depth room.parens left.entry result }
 {
     match suffix {
@@ -306,7 +306,7 @@ fn repeated<'a>(
     requires left { IsRegular level room.depth room.parens left }
     requires onward { MayGoOn left }
     requires sign { 5 ≤ level }
-    requires first { words left.rest.now ≡ repeat_token repeat ∷ words rest.now }
+    requires first { bare_tokens left.rest.now ≡ repeat_token repeat ∷ bare_tokens rest.now }
     ensures { RegularFrom level room.depth room.parens left.entry result }
 {
     let _ = room.below(left.rest, left.height)?;
@@ -327,7 +327,7 @@ fn joined<'a>(
     requires left { IsRegular level room.depth room.parens left }
     requires onward { MayGoOn left }
     requires sign { infix_row sign ≤ level }
-    requires first { words left.rest.now ≡ infix_token sign ∷ words rest.now }
+    requires first { bare_tokens left.rest.now ≡ infix_token sign ∷ bare_tokens rest.now }
     ensures { RegularFrom level room.depth room.parens left.entry result }
 {
     let below = room.below(left.rest, left.height)?;

@@ -2,8 +2,8 @@
 
 ghost use Rattle.std.specs.Prelude.{◌≡◌, ◌+◌, ◌^◌, ◌<◌, ◌≤◌, ◌∷◌, MatchOption, MatchResult};
 ghost use Rattle.grammar.specs.Token.{Name, Dot, Open, NotSign};
-ghost use Rattle.grammar.specs.Written.{token_of, words, opening, closing, binder_token, connective_token, connective_row};
-ghost use Rattle.grammar.specs.Read.{state_tokens, IsState, IsStateOf, IsConnective, IsFormulaOf, state_row, IsPrefix, prefix_token};
+ghost use Rattle.grammar.specs.Written.{token_of, bare_tokens, opening_bracket, closing, binder_token, connective_token, connective_row};
+ghost use Rattle.grammar.specs.Read.{state_tokens, IsReadState, IsStateOf, IsConnective, IsOneToken, state_row, IsPrefix, prefix_token};
 ghost use Rattle.grammar.specs.Misread.{IsMissing, StateOf, StateFrom};
 
 use crate::misread::Misread;
@@ -57,7 +57,7 @@ fn connective(token: Token<'_>) -> Option<Connective>
 
 /// A formula that is one token.
 fn word<'a>(token: Token<'a>) -> Option<WrittenState<'a>>
-    ensures { IsFormulaOf (token_of token.entry) result }
+    ensures { IsOneToken (token_of token.entry) result }
 {
     match token {
         Token::TrueWord => Some(WrittenState::True),
@@ -69,7 +69,7 @@ fn word<'a>(token: Token<'a>) -> Option<WrittenState<'a>>
 
 /// The tokens after a dot, which has to stand first.
 fn after_dot<'a>(rest: &'a [Placed<'a>]) -> Result<&'a [Placed<'a>], Misread>
-    ensures { MatchResult result (λ after. words rest.now ≡ Dot ∷ words after.now) (IsMissing Dot (words rest.now)) }
+    ensures { MatchResult result (λ after. bare_tokens rest.now ≡ Dot ∷ bare_tokens after.now) (IsMissing Dot (bare_tokens rest.now)) }
 {
     match rest.split_first() {
         Some(
@@ -90,7 +90,7 @@ fn after_bracket<'a>(
     brackets: Brackets,
     rest: &'a [Placed<'a>],
 ) -> Result<&'a [Placed<'a>], Misread>
-    ensures { MatchResult result (λ after. words rest.now ≡ closing brackets ∷ words after.now) (IsMissing (closing brackets) (words rest.now)) }
+    ensures { MatchResult result (λ after. bare_tokens rest.now ≡ closing brackets ∷ bare_tokens after.now) (IsMissing (closing brackets) (bare_tokens rest.now)) }
 {
     match (brackets, rest.split_first()) {
         (
@@ -140,7 +140,7 @@ fn built<'a>(
 /// What stands after an opening parenthesis, up to the closing one.
 #[cycle(state)]
 fn group<'a>(room: Room, tokens: &'a [Placed<'a>]) -> Result<ReadState<'a>, Misread>
-    ensures { StateOf 0 room.depth (room.parens + 1) (Open ∷ words tokens.now) result }
+    ensures { StateOf 0 room.depth (room.parens + 1) (Open ∷ bare_tokens tokens.now) result }
 {
     let inner = state(room, ANY_STATE, tokens)?;
     let rest = after_close(inner.rest)?;
@@ -151,7 +151,7 @@ fn group<'a>(room: Room, tokens: &'a [Placed<'a>]) -> Result<ReadState<'a>, Misr
 #[cycle(state)]
 fn negated<'a>(room: Room, tokens: &'a [Placed<'a>]) -> Result<ReadState<'a>, Misread>
     requires { room.depth + 1 < 2 ^ 64 }
-    ensures { StateOf 0 (room.depth + 1) room.parens (NotSign ∷ words tokens.now) result }
+    ensures { StateOf 0 (room.depth + 1) room.parens (NotSign ∷ bare_tokens tokens.now) result }
 {
     let inner = unary(room, tokens)?;
     built(
@@ -170,7 +170,7 @@ fn modal<'a>(
     tokens: &'a [Placed<'a>],
 ) -> Result<ReadState<'a>, Misread>
     requires { room.depth + 1 < 2 ^ 64 }
-    ensures { StateOf 0 (room.depth + 1) room.parens (opening brackets ∷ words tokens.now) result }
+    ensures { StateOf 0 (room.depth + 1) room.parens (opening_bracket brackets ∷ bare_tokens tokens.now) result }
 {
     let inside = regular(room, ANY_REGULAR, tokens)?;
     let tokens = after_bracket(brackets, inside.rest)?;
@@ -185,7 +185,7 @@ fn modal<'a>(
 #[cycle(state)]
 fn bound<'a>(room: Room, binder: Binder, tokens: &'a [Placed<'a>]) -> Result<ReadState<'a>, Misread>
     requires { room.depth + 1 < 2 ^ 64 }
-    ensures { StateOf 0 (room.depth + 1) room.parens (binder_token binder ∷ words tokens.now) result }
+    ensures { StateOf 0 (room.depth + 1) room.parens (binder_token binder ∷ bare_tokens tokens.now) result }
 {
     let (name, tokens) = name_first(tokens)?;
     let tokens = after_dot(tokens)?;
@@ -202,7 +202,7 @@ fn prefixed<'a>(
     tokens: &'a [Placed<'a>],
 ) -> Result<ReadState<'a>, Misread>
     requires { room.depth + 1 < 2 ^ 64 }
-    ensures { StateOf 0 (room.depth + 1) room.parens (prefix_token prefix ∷ words tokens.now) result }
+    ensures { StateOf 0 (room.depth + 1) room.parens (prefix_token prefix ∷ bare_tokens tokens.now) result }
 {
     match prefix {
         Prefix::Not => negated(room, tokens),
@@ -214,7 +214,7 @@ fn prefixed<'a>(
 /// A unary formula.
 #[cycle(state)]
 fn unary<'a>(room: Room, tokens: &'a [Placed<'a>]) -> Result<ReadState<'a>, Misread>
-    ensures { StateOf 0 room.depth room.parens (words tokens.now) result }
+    ensures { StateOf 0 room.depth room.parens (bare_tokens tokens.now) result }
 {
     let Some((first, rest)) = tokens.split_first() else {
         return Err(Misread::unexpected(tokens));
@@ -235,7 +235,7 @@ fn unary<'a>(room: Room, tokens: &'a [Placed<'a>]) -> Result<ReadState<'a>, Misr
 #[cycle(state)]
 pub fn state<'a>(room: Room, level: u8, tokens: &'a [Placed<'a>]) -> Result<ReadState<'a>, Misread>
     requires { level ≤ 3 }
-    ensures { StateOf level room.depth room.parens (words tokens.now) result }
+    ensures { StateOf level room.depth room.parens (bare_tokens tokens.now) result }
 {
     extended(room, level, unary(room, tokens)?)
 }
@@ -244,8 +244,8 @@ pub fn state<'a>(room: Room, level: u8, tokens: &'a [Placed<'a>]) -> Result<Read
 fn sign_first<'a>(level: u8, tokens: &'a [Placed<'a>]) -> Option<(Connective, &'a [Placed<'a>])>
     requires { level ≤ 3 }
     ensures { MatchOption result
-        (level < state_row (words tokens.now))
-        (λ (sign, rest). (connective_row sign ≤ level) × (words tokens.now ≡ connective_token sign ∷ words rest.now)) }
+        (level < state_row (bare_tokens tokens.now))
+        (λ (sign, rest). (connective_row sign ≤ level) × (bare_tokens tokens.now ≡ connective_token sign ∷ bare_tokens rest.now)) }
 {
     let (first, rest) = tokens.split_first()?;
     let sign = connective(first.token)?;
@@ -260,7 +260,7 @@ fn sign_first<'a>(level: u8, tokens: &'a [Placed<'a>]) -> Option<(Connective, &'
 #[cycle(state)]
 fn extended<'a>(room: Room, level: u8, left: ReadState<'a>) -> Result<ReadState<'a>, Misread>
     requires level { level ≤ 3 }
-    requires left { IsState level room.depth room.parens left }
+    requires left { IsReadState level room.depth room.parens left }
     ensures { StateOf level room.depth room.parens (state_tokens left.entry) result }
 {
     match sign_first(level, left.rest) {
@@ -281,9 +281,9 @@ fn joined<'a>(
     sign: Connective,
     rest: &'a [Placed<'a>],
 ) -> Result<ReadState<'a>, Misread>
-    requires left { IsState level room.depth room.parens left }
+    requires left { IsReadState level room.depth room.parens left }
     requires sign { connective_row sign ≤ level }
-    requires first { words left.rest.now ≡ connective_token sign ∷ words rest.now }
+    requires first { bare_tokens left.rest.now ≡ connective_token sign ∷ bare_tokens rest.now }
     ensures { StateFrom level room.depth room.parens left.entry result }
 {
     let below = room.below(left.rest, left.height)?;

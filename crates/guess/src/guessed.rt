@@ -6,7 +6,7 @@ use columns::column::Columns;
 /// play goes on well from a vertex to another one where both words have the same bit 0 and the other one isn't greater, if the lowest
 /// bits of both are dropped, and is less where the priority of the vertex is of the parity that the winner loses by.
 #[derive(Drop)]
-pub struct Guessed {
+pub struct GuessedRanking {
     pub columns: Columns,
     /// How many bits are dropped at a vertex of each priority where Even wins.
     pub even_shifts: Vec<u32>,

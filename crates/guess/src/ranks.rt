@@ -4,7 +4,7 @@ use crate::blocks::Blocks;
 use crate::board::{Board, Exits};
 use crate::crew::{Crew, Team};
 use crate::form::{Form, NONE, Shape, Side};
-use crate::guessed::Guessed;
+use crate::guessed::GuessedRanking;
 use crate::layout::{Fields, Layout, MARK};
 use crate::levels::Levels;
 use crate::numbers::{Numbers, Words};
@@ -274,7 +274,7 @@ impl Ranks {
     }
 
     // The ranking, with the lists of what was counted.
-    fn into_guessed(self, alloc: Global) -> Result<Option<Guessed>, AllocError> {
+    fn into_guessed(self, alloc: Global) -> Result<Option<GuessedRanking>, AllocError> {
         let mut even_shifts = Vec::new(alloc);
         let mut odd_shifts = Vec::new(alloc);
         even_shifts.extend_from_slice(&self.layout.even.kept)?;
@@ -282,7 +282,7 @@ impl Ranks {
         let nodes = self.nodes(alloc)?;
         let levels = self.levels;
         match nodes {
-            Some(nodes) => Ok(Some(Guessed {
+            Some(nodes) => Ok(Some(GuessedRanking {
                 columns: columns_of(alloc, levels.board, nodes)?,
                 even_shifts,
                 odd_shifts,
@@ -363,7 +363,7 @@ pub fn columns<R: Threads>(
     lts: &Lts,
     normal: &Normal,
     workers: u32,
-) -> Result<Option<Guessed>, Memory> {
+) -> Result<Option<GuessedRanking>, Memory> {
     match find_in(&Team { rt, workers }, alloc, lts, normal) {
         Some(ranks) => Ok(ranks.into_guessed(alloc)?),
         None => Ok(None),

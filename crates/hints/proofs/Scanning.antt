@@ -8,7 +8,7 @@ use Rattle.systems.specs.System.{Arrow}
 use Rattle.systems.specs.Numbered.{Numbered, AreUsed, IsInside, IsTransitionOf, arrow_of, label_at}
 use Rattle.systems.specs.declared.system.Transition.{Transition}
 use Rattle.formula.specs.Cutting.{IsLexed}
-use Rattle.grammar.specs.Written.{words}
+use Rattle.grammar.specs.Written.{bare_tokens}
 use Rattle.grammar.specs.declared.token.Placed.{Placed}
 use Rattle.hints.specs.Strange.{Term, has_term}
 use Rattle.hints.specs.Noted.{is_known}
@@ -17,7 +17,7 @@ use Rattle.hints.proofs.Noting.{any_map}
 
 -- of these tokens, each with its place
 abbrev pub scan : (Term → Bool) → Bool → List Placed → Option ℕ
-scan known inside placed = first_unknown known inside (words placed) (map (λ p. p.offset) placed)
+scan known inside placed = first_unknown known inside (bare_tokens placed) (map (λ p. p.offset) placed)
 
 -- One more element passes, or it is left to the others.
 more_any : {X : Type 0} (p : X → Bool) (x : X) (xs : List X) (b : Bool) → (p x ≡ true → b ≡ true) → (list_any p xs ≡ true → b ≡ true)
@@ -68,7 +68,7 @@ found_absent l ts known text placed found lexed as_labels used are inside e =
       joined = lexed.joined;
       cut = lexed.cut;
       decided = lexed.decided;
-      first = e ∙ (ap (λ k. first_unknown k false (words placed) places) same
+      first = e ∙ (ap (λ k. first_unknown k false (bare_tokens placed) places) same
           ∙ (ap (λ ts. first_unknown (is_on_transition l.system) false ts places) (sym lexed.spelled)
           ∙ ap (first_unknown (is_on_transition l.system) false _) (sym lexed.places)));
     }

@@ -2,7 +2,7 @@
 
 ghost use Rattle.std.specs.Prelude.{◌≡◌, ◌&&◌, false, map, IfOk};
 ghost use Rattle.formula.specs.Cutting.{IsLexed};
-ghost use Rattle.grammar.specs.Written.{token_of, words};
+ghost use Rattle.grammar.specs.Written.{token_of, bare_tokens};
 ghost use Rattle.hints.specs.Absent.{IsFirstAbsent, first_unknown, is_inside_after, is_unknown};
 ghost use Rattle.hints.specs.Noted.{knows};
 
@@ -34,7 +34,7 @@ pub fn first_absent(alloc: Global, system: &Lts, text: &[u8]) -> Result<Option<u
 
 /// The place of the first of these tokens that is a name or a quoted label in a modality, and isn't known.
 fn first_in(known: &Known<'_>, tokens: &[Placed<'_>]) -> Option<usize>
-    ensures { result ≡ first_unknown (knows known.now) false (words tokens.now) (map (λ p. p.offset) tokens.now) }
+    ensures { result ≡ first_unknown (knows known.now) false (bare_tokens tokens.now) (map (λ p. p.offset) tokens.now) }
 {
     let mut inside = false;
     for placed in tokens {

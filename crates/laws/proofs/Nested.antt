@@ -2,7 +2,7 @@
 use Rattle.std.proofs.Common.{◌≡◌, ℕ, ◌+◌, ◌≤◌, Bool, true, false, refl, ap, ◌∙◌, inl, inr, arith}
 use Rattle.std.specs.Prelude.{◌%◌}
 use Rattle.normal.specs.Tree.{Norm, Constant, Junction, Modality, Fixpoint, Variable, size, normal_form}
-use Rattle.normal.specs.Nodes.{Node, node_at, nodes_by, nested, greatest, parity_from}
+use Rattle.normal.specs.Nodes.{Node, node_at, nodes_by, nested, greatest_nested, parity_from}
 use Rattle.normal.proofs.Numbers.{no_less}
 use Rattle.progress.specs.Measure.{is_odd}
 use Rattle.laws.specs.Admissible.{IsFree, IsEach, IsFitting, priority_or, priority_in}
@@ -25,7 +25,7 @@ parity_is false n = other_false (parity_from false n % 2) 1 (λ e. omega arith)
 
 -- the greatest priority in the tree is at most that of each binder around it whose variable is free in it
 abbrev IsUnderOuter : (ℕ → ℕ) → ℕ → Norm → Type 0
-IsUnderOuter prio at f = (b : ℕ) → IsFree b at f → greatest f ≤ prio b
+IsUnderOuter prio at f = (b : ℕ) → IsFree b at f → greatest_nested f ≤ prio b
 
 nested_fits : (prio : ℕ → ℕ) (at : ℕ) (f : Norm) → IsEach (λ k g. prio k ≡ nested k g) at f → IsUnderOuter prio at f → IsEach (IsFitting prio) at f
 nested_fits prio at (Constant flag) h outer = h
@@ -36,9 +36,9 @@ nested_fits prio at (Junction flag f g) h outer = (
 )
 nested_fits prio at (Modality flag a f) h outer = (h.0, nested_fits prio (at + 1) f h.1 outer)
 nested_fits prio at (Fixpoint flag f) h outer =
-    let is : prio at ≡ parity_from flag (greatest f) = h.0 in
-    let above = no_less flag (greatest f) in (
-      (ap is_odd is ∙ parity_is flag (greatest f), λ b free. let i = outer b free in omega arith),
+    let is : prio at ≡ parity_from flag (greatest_nested f) = h.0 in
+    let above = no_less flag (greatest_nested f) in (
+      (ap is_odd is ∙ parity_is flag (greatest_nested f), λ b free. let i = outer b free in omega arith),
       nested_fits prio (at + 1) f h.1 (λ b free. elim (same_or_not b at) [
         | inl e ↦ (let q = ap prio e in omega arith)
         | inr e ↦ (let i = outer b (e, free) in omega arith)

@@ -11,7 +11,7 @@ use Rattle.text.specs.Text.{is_digit, is_numeral, value_of}
 use Rattle.text.specs.Tokens.{capped, cut_at, whole_number, ◌>>=◌}
 use Rattle.text.proofs.Scanning.{cut_finds, cut_gives, whole_finds, whole_gives}
 use Rattle.text.proofs.Spaced.{numeral_digits}
-use Rattle.liftcore.specs.Begun.{IsBegun, IsUnspaced, IsValue}
+use Rattle.liftcore.specs.Begun.{IsBegunLine, IsUnspaced, IsValue}
 use Rattle.liftcore.specs.Scan.{event_at, event_with, two_numbers}
 use Rattle.liftcore.specs.declared.event.Event.{Event}
 use Rattle.liftcore.specs.declared.event.Event.TheVariants as event
@@ -219,15 +219,15 @@ too_long front rest free long =
           (bind_none (two_numbers whole_number p.1) (λ both. event_with p.0 both.0 both.1) (λ both. no_long_event p.0 both.0 both.1 longer))
     ] refl
 
-pub word_full : (line word : List ℕ) (b : ℕ) → line ≡ word → IsUnspaced word → (b == 32) ≡ false → 5 ≤ length word → IsBegun (line ++ b ∷ []) word Faulty
+pub word_full : (line word : List ℕ) (b : ℕ) → line ≡ word → IsUnspaced word → (b == 32) ≡ false → 5 ≤ length word → IsBegunLine (line ++ b ∷ []) word Faulty
 word_full line word b is free other full = λ rest.
     too_long (line ++ b ∷ []) rest (subst (λ l. IsUnspaced (l ++ b ∷ [])) (sym is) (unspaced_more word b free other))
     (omega (arith, length-append line (b ∷ []), ap length is, full))
 
 -- ---- workers and vertices
 
-pub worker_more : (line word : List ℕ) (n : Option ℕ) (m b : ℕ) → IsBegun line word (Worker n)
-    → ((digits : List ℕ) → IsValue digits n → whole_number (digits ++ b ∷ []) ≡ Some m) → IsBegun (line ++ b ∷ []) word (Worker (Some m))
+pub worker_more : (line word : List ℕ) (n : Option ℕ) (m b : ℕ) → IsBegunLine line word (Worker n)
+    → ((digits : List ℕ) → IsValue digits n → whole_number (digits ++ b ∷ []) ≡ Some m) → IsBegunLine (line ++ b ∷ []) word (Worker (Some m))
 worker_more line word n m b (digits, is, free, value) more =
     (digits ++ b ∷ [], ap (λ l. l ++ b ∷ []) is ∙ append_assoc word (32 ∷ digits) (b ∷ []), free, more digits value)
 
@@ -235,15 +235,15 @@ behind_word : (line word digits rest : List ℕ) (b : ℕ) → line ≡ word ++ 
 behind_word line word digits rest b is =
     append_assoc line (b ∷ []) rest ∙ ap (λ l. l ++ b ∷ rest) is ∙ append_assoc word (32 ∷ digits) (b ∷ rest)
 
-pub worker_bad : (line word : List ℕ) (n : Option ℕ) (b : ℕ) → IsBegun line word (Worker n) → ((b == 32) ≡ true → n ≡ None)
-    → ((digits : List ℕ) → IsValue digits n → (rest : List ℕ) → whole_number (digits ++ b ∷ rest) ≡ None) → IsBegun (line ++ b ∷ []) word Faulty
+pub worker_bad : (line word : List ℕ) (n : Option ℕ) (b : ℕ) → IsBegunLine line word (Worker n) → ((b == 32) ≡ true → n ≡ None)
+    → ((digits : List ℕ) → IsValue digits n → (rest : List ℕ) → whole_number (digits ++ b ∷ rest) ≡ None) → IsBegunLine (line ++ b ∷ []) word Faulty
 worker_bad line word n b (digits, is, free, value) none stuck = λ rest.
     ap (event_at whole_number) (behind_word line word digits rest b is)
     ∙ no_event_behind word (digits ++ b ∷ rest) free (stuck digits value rest)
     (two_stuck digits rest b (value_free digits n value) (stuck digits value) (λ e. subst (IsValue digits) (none e) value))
 
-pub vertex_more : (line word : List ℕ) (w m b : ℕ) (n : Option ℕ) → IsBegun line word (Vertex w n)
-    → ((digits : List ℕ) → IsValue digits n → whole_number (digits ++ b ∷ []) ≡ Some m) → IsBegun (line ++ b ∷ []) word (Vertex w (Some m))
+pub vertex_more : (line word : List ℕ) (w m b : ℕ) (n : Option ℕ) → IsBegunLine line word (Vertex w n)
+    → ((digits : List ℕ) → IsValue digits n → whole_number (digits ++ b ∷ []) ≡ Some m) → IsBegunLine (line ++ b ∷ []) word (Vertex w (Some m))
 vertex_more line word w m b n (numeral, digits, is, free, first, value) more = (
   numeral,
   digits ++ b ∷ [],
@@ -254,8 +254,8 @@ vertex_more line word w m b n (numeral, digits, is, free, first, value) more = (
   more digits value,
 )
 
-pub vertex_bad : (line word : List ℕ) (w b : ℕ) (n : Option ℕ) → IsBegun line word (Vertex w n)
-    → ((digits : List ℕ) → IsValue digits n → (rest : List ℕ) → whole_number (digits ++ b ∷ rest) ≡ None) → IsBegun (line ++ b ∷ []) word Faulty
+pub vertex_bad : (line word : List ℕ) (w b : ℕ) (n : Option ℕ) → IsBegunLine line word (Vertex w n)
+    → ((digits : List ℕ) → IsValue digits n → (rest : List ℕ) → whole_number (digits ++ b ∷ rest) ≡ None) → IsBegunLine (line ++ b ∷ []) word Faulty
 vertex_bad line word w b n (numeral, digits, is, free, first, value) stuck = λ rest.
     let bytes = numeral ++ 32 ∷ (digits ++ b ∷ rest) in
     ap (event_at whole_number) (behind_word line word (numeral ++ 32 ∷ digits) rest b is
@@ -270,26 +270,26 @@ pub word_event : (line word : List ℕ) → line ≡ word → IsUnspaced word �
 unfolding event_at
 word_event line word is free = rw (is, uncut word free) refl
 
-pub faulty_event : (line word : List ℕ) → IsBegun line word Faulty → event_at whole_number line ≡ None
+pub faulty_event : (line word : List ℕ) → IsBegunLine line word Faulty → event_at whole_number line ≡ None
 faulty_event line word stuck = ap (event_at whole_number) (sym (append-nil line)) ∙ stuck []
 
 -- nothing was read of the number
-pub worker_absent : (line word : List ℕ) → IsBegun line word (Worker None) → event_at whole_number line ≡ None
+pub worker_absent : (line word : List ℕ) → IsBegunLine line word (Worker None) → event_at whole_number line ≡ None
 worker_absent line word (digits, is, free, value) =
     ap (event_at whole_number) (is ∙ ap (λ l. word ++ 32 ∷ l) value) ∙ no_event_behind word [] free (no_number [] refl) (two_uncut [] (uncut [] refl))
 
-pub worker_other : (line word : List ℕ) (n : Option ℕ) → IsBegun line word (Worker n) → bytes_eq word (codes "raise") ≡ false
+pub worker_other : (line word : List ℕ) (n : Option ℕ) → IsBegunLine line word (Worker n) → bytes_eq word (codes "raise") ≡ false
     → event_at whole_number line ≡ None
 unfolding event_at
 worker_other line word n (digits, is, free, value) other =
     rw (is, cut_finds 32 word digits free, other, two_uncut digits (uncut digits (value_free digits n value))) refl
 
-pub worker_event : (line word : List ℕ) (w : ℕ) → IsBegun line word (Worker (Some w)) → bytes_eq word (codes "raise") ≡ true
+pub worker_event : (line word : List ℕ) (w : ℕ) → IsBegunLine line word (Worker (Some w)) → bytes_eq word (codes "raise") ≡ true
     → event_at whole_number line ≡ Some (event.Raise w)
 unfolding event_at
 worker_event line word w (digits, is, free, value) raise = rw (is, cut_finds 32 word digits free, raise, value) refl
 
-pub vertex_absent : (line word : List ℕ) (w : ℕ) → IsBegun line word (Vertex w None) → event_at whole_number line ≡ None
+pub vertex_absent : (line word : List ℕ) (w : ℕ) → IsBegunLine line word (Vertex w None) → event_at whole_number line ≡ None
 vertex_absent line word w (numeral, digits, is, free, first, value) =
     ap (event_at whole_number) (is ∙ ap (λ l. word ++ 32 ∷ (numeral ++ 32 ∷ l)) value)
     ∙ no_event_behind word (numeral ++ 32 ∷ []) free (no_digit numeral [] 32 refl)
@@ -302,7 +302,7 @@ raise_alone word w v =
     elim (bytes_eq word (codes "raise")) as (λ t. bytes_eq word (codes "raise") ≡ t → cond t None (event_with word w v) ≡ event_with word w v)
     [ true ↦ λ e. rw ((bytes_eq-Decides word (codes "raise")).0 e) refl | false ↦ λ e. refl ] refl
 
-pub vertex_event : (line word : List ℕ) (w v : ℕ) → IsBegun line word (Vertex w (Some v)) → event_at whole_number line ≡ event_with word w v
+pub vertex_event : (line word : List ℕ) (w v : ℕ) → IsBegunLine line word (Vertex w (Some v)) → event_at whole_number line ≡ event_with word w v
 unfolding event_at
 vertex_event line word w v (numeral, digits, is, free, first, second) =
     let bytes = numeral ++ 32 ∷ digits in
@@ -318,13 +318,13 @@ vertex_event line word w v (numeral, digits, is, free, first, second) =
 behind_nothing : (word digits : List ℕ) → word ++ 32 ∷ digits ≢ []
 behind_nothing word digits e = omega (arith, ap length e, length-append word (32 ∷ digits))
 
-pub some_worker : (line word : List ℕ) (n : Option ℕ) → IsBegun line word (Worker n) → line ≢ []
+pub some_worker : (line word : List ℕ) (n : Option ℕ) → IsBegunLine line word (Worker n) → line ≢ []
 some_worker line word n (digits, is, free, value) none = behind_nothing word digits (sym is ∙ none)
 
-pub some_vertex : (line word : List ℕ) (w : ℕ) (n : Option ℕ) → IsBegun line word (Vertex w n) → line ≢ []
+pub some_vertex : (line word : List ℕ) (w : ℕ) (n : Option ℕ) → IsBegunLine line word (Vertex w n) → line ≢ []
 some_vertex line word w n (numeral, digits, is, free, first, value) none = behind_nothing word (numeral ++ 32 ∷ digits) (sym is ∙ none)
 
-pub some_faulty : (line word : List ℕ) → IsBegun line word Faulty → line ≢ []
+pub some_faulty : (line word : List ℕ) → IsBegunLine line word Faulty → line ≢ []
 unfolding event_at two_numbers event_with whole_number cut_at
 some_faulty line word stuck none =
     let event = codes "raise 0" in

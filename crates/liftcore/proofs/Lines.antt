@@ -11,7 +11,7 @@ use Rattle.text.specs.Tokens.{capped, cut_at, whole_number, ◌>>=◌}
 use Rattle.text.proofs.Scanning.{bind_some, cut_finds, cut_gives, whole_finds, whole_gives}
 use Rattle.text.proofs.Spaced.{numeral_digits}
 use Rattle.liftcore.specs.Scan.{event_at, event_with, two_numbers}
-use Rattle.liftcore.specs.Schedule.{IsEventLine, IsWithin, IsWords, worker_of_event, vertex_of_event}
+use Rattle.liftcore.specs.Schedule.{IsEventLine, IsOfSoMany, IsWords, worker_of_event, vertex_of_event}
 use Rattle.liftcore.specs.declared.event.Event.{Event}
 use Rattle.liftcore.specs.declared.event.Event.TheVariants.{Push, Raise, Read, Take}
 
@@ -191,7 +191,7 @@ worker_capped (Raise w) = refl
 worker_capped (Push w v) = refl
 
 -- what is among so few was read as it stands
-pub read_whole : (workers vertices : ℕ) (event : Event) → workers < 2 ^ 32 → vertices < 2 ^ 32 → IsWithin workers vertices (mapped capped event)
+pub read_whole : (workers vertices : ℕ) (event : Event) → workers < 2 ^ 32 → vertices < 2 ^ 32 → IsOfSoMany workers vertices (mapped capped event)
     → mapped capped event ≡ event
 read_whole workers vertices (Take w v) few small h = let one : capped w ≡ w = omega (arith, h.worker) in let two : capped v ≡ v = omega (arith, h.vertex)
     in ap₂ (λ a b. Take a b) one two
@@ -202,11 +202,11 @@ read_whole workers vertices (Push w v) few small h = let one : capped w ≡ w = 
     in ap₂ (λ a b. Push a b) one two
 
 pub good_line : (workers vertices : ℕ) (line : List ℕ) (event : Event) → workers < 2 ^ 32 → vertices < 2 ^ 32 → event_at whole_number line ≡ Some event
-    → IsWithin workers vertices event
-    → IsEventLine line event × IsWithin workers vertices event
+    → IsOfSoMany workers vertices event
+    → IsEventLine line event × IsOfSoMany workers vertices event
 good_line workers vertices line event few small found within =
     let (x, is, e) = event_given line event found in
-    let same : event ≡ x = e ∙ read_whole workers vertices x few small (subst (IsWithin workers vertices) e within) in
+    let same : event ≡ x = e ∙ read_whole workers vertices x few small (subst (IsOfSoMany workers vertices) e within) in
     (subst (IsEventLine line) (sym same) is, within)
 
 abbrev pub HasNoWorker : ℕ → List ℕ → Type 0

@@ -8,7 +8,7 @@ use Rattle.std.proofs.lemmas.Slice.Zip.{AllZip-long}
 use Rattle.text.specs.Reads.{Reads}
 use Rattle.text.specs.Text.{pieces_of}
 use Rattle.text.proofs.Promised.{AreLaws, keeps}
-use Rattle.liftcore.specs.Schedule.{HasFault, HasFaultAt, IsEventLine, IsGoodLine, IsSchedule, IsWithin, LineFault, vertex_of_event, worker_of_event}
+use Rattle.liftcore.specs.Schedule.{HasFault, HasFaultAt, IsEventLine, IsGoodLine, IsSchedule, IsOfSoMany, LineFault, vertex_of_event, worker_of_event}
 use Rattle.liftcore.specs.Taken.{SoFar}
 use Rattle.liftcore.specs.declared.event.Event.{Event}
 use Rattle.liftcore.specs.declared.error.ScheduleFault.{ScheduleFault}
@@ -41,11 +41,11 @@ module _ (workers vertices : ℕ) where
   no_fault_in line event BadLine good wrong = wrong event good.spelled
   no_fault_in line event NoSuchWorker good (x, is, far) =
       let same = one_event line event x good.spelled is in
-      let within : IsWithin workers vertices x = subst (IsWithin workers vertices) same good.within in
+      let within : IsOfSoMany workers vertices x = subst (IsOfSoMany workers vertices) same good.within in
       absurd (omega (arith, within.worker, far))
   no_fault_in line event NoSuchVertex good (x, is, some, far) =
       let same = one_event line event x good.spelled is in
-      let within : IsWithin workers vertices x = subst (IsWithin workers vertices) same good.within in
+      let within : IsOfSoMany workers vertices x = subst (IsOfSoMany workers vertices) same good.within in
       not_both (vertex_of_event x) within.vertex far
 
   -- the event of a line among good ones
@@ -129,7 +129,7 @@ module _ (workers vertices : ℕ) where
 
   pub one_more : (text left line rest : List ℕ) (events : List Event) (event : Event) → SoFar workers vertices text left events
       → pieces_of left ≡ line ∷ pieces_of rest
-      → IsEventLine line event → IsWithin workers vertices event
+      → IsEventLine line event → IsOfSoMany workers vertices event
       → SoFar workers vertices text rest (events ++ event ∷ [])
   one_more text left line rest events event so next is within = record {
     done = so.done ++ line ∷ [];

@@ -15,7 +15,7 @@ use Rattle.progress.specs.Measure.{Measure, Top}
 use Rattle.progress.proofs.Lists.{all_got, contains_cases, contains_first, contains_later, contains_none}
 use Rattle.liftcore.specs.Core.{Holding, Note, Owing, noted, owing, with_note}
 use Rattle.liftcore.specs.Marks.{IsMarked, members}
-use Rattle.liftcore.specs.Reading.{AreRead, IsReadAt, successors_of, values_of}
+use Rattle.liftcore.specs.Reading.{AreRead, IsReadAt, successors_read, values_of}
 use Rattle.liftcore.specs.Seats.{IsSeat, notes_from, notes_of, worker_of}
 use Rattle.liftcore.specs.Work.{CanRaise, CanRead, IsUnread, Owes}
 use Rattle.liftcore.specs.declared.seat.Seat.{Seat}
@@ -187,40 +187,40 @@ pub worker_free : (s : Seat) → s.holding ≡ false → worker_of s ≡ owing (
 worker_free s h = ap (λ (b : Bool). if b then Holding s.turn.vertex (notes_of s.turn) else owing (members s.owed)) h
 
 module _ (g : Game) (s : Seat) (is : IsSeat g s) where
-  ascend : IsAscending (successors_of s.turn)
+  ascend : IsAscending (successors_read s.turn)
   ascend = successors_ascend s.turn.game s.turn.vertex is.turn.game
 
-  pub here : (x : Vertex) → vertex g s.turn.vertex ≡ Some x → successors_of s.turn ≡ x.successors
+  pub here : (x : Vertex) → vertex g s.turn.vertex ≡ Some x → successors_read s.turn ≡ x.successors
   here x e = ap (λ (h : Game). successors_at (vertex h s.turn.vertex)) is.game ∙ ap successors_at e
 
-  pub coded : (u : ℕ) (ts : List ℕ) → u ≡ s.turn.vertex → option_map (λ (x : Vertex). x.successors) (vertex g u) ≡ Some ts → successors_of s.turn ≡ ts
+  pub coded : (u : ℕ) (ts : List ℕ) → u ≡ s.turn.vertex → option_map (λ (x : Vertex). x.successors) (vertex g u) ≡ Some ts → successors_read s.turn ≡ ts
   coded u ts e at = ap (λ (h : Game). successors_at (vertex h s.turn.vertex)) is.game
       ∙ (ap (λ (u : ℕ). successors_at (vertex g u)) (sym e) ∙ successors_are (vertex g u) ts at)
 
-  pub long : s.holding ≡ true → length (successors_of s.turn) ≤ length s.turn.marks
+  pub long : s.holding ≡ true → length (successors_read s.turn) ≤ length s.turn.marks
   long h = is.turn.room s.turn.vertex (subst (λ (g : Game). s.turn.vertex < length g.vertices) (sym is.game) (is.vertex h))
 
   -- it has read what it noted
-  noted_then : (place : ℕ) → s.holding ≡ true → place < length (successors_of s.turn) → IsReadAt s.turn place
-      → noted (notes_of s.turn) (slice_index (successors_of s.turn) place) ≡ Some (slice_index_or s.turn.values place Top)
+  noted_then : (place : ℕ) → s.holding ≡ true → place < length (successors_read s.turn) → IsReadAt s.turn place
+      → noted (notes_of s.turn) (slice_index (successors_read s.turn) place) ≡ Some (slice_index_or s.turn.values place Top)
   noted_then place h l read = let k = long h in let q = is.turn.even
-      in noted_read (successors_of s.turn) s.turn.marks s.turn.values place ascend l (omega arith) read
+      in noted_read (successors_read s.turn) s.turn.marks s.turn.values place ascend l (omega arith) read
 
   -- a worker that has read v can't read it
-  pub read_no_more : (v place : ℕ) → s.holding ≡ true → place < length (successors_of s.turn) → slice_index (successors_of s.turn) place ≡ v
+  pub read_no_more : (v place : ℕ) → s.holding ≡ true → place < length (successors_read s.turn) → slice_index (successors_read s.turn) place ≡ v
       → IsReadAt s.turn place → CanRead g (worker_of s) v → ⊥
   read_no_more v place h l e read c =
       let same = holds_same s.turn.vertex c.u (notes_of s.turn) c.notes (sym (worker_holding s h) ∙ c.holds) in
       none-some (slice_index_or s.turn.values place Top) (sym c.unread
       ∙ (ap (λ (ns : List Note). noted ns v) (sym same.1) ∙ (ap (noted (notes_of s.turn)) (sym e) ∙ noted_then place h l read)))
 
-  pub zip_read : s.holding ≡ true → AreRead s.turn (length (successors_of s.turn))
-      → AllZip (λ t m. noted (notes_of s.turn) t ≡ Some m) (successors_of s.turn) (values_of s.turn)
+  pub zip_read : s.holding ≡ true → AreRead s.turn (length (successors_read s.turn))
+      → AllZip (λ t m. noted (notes_of s.turn) t ≡ Some m) (successors_read s.turn) (values_of s.turn)
   zip_read h all =
       let k = long h in let q = is.turn.even in
-      zip_noted_from (notes_of s.turn) (successors_of s.turn) s.turn.values (omega arith) (λ k l. noted_then k h l (all k l))
+      zip_noted_from (notes_of s.turn) (successors_read s.turn) s.turn.values (omega arith) (λ k l. noted_then k h l (all k l))
 
-  pub whole_raises : s.holding ≡ true → AreRead s.turn (length (successors_of s.turn)) → CanRaise g (worker_of s)
+  pub whole_raises : s.holding ≡ true → AreRead s.turn (length (successors_read s.turn)) → CanRaise g (worker_of s)
   whole_raises h all =
       let x = vertex_here g s.turn.vertex (is.vertex h) in
       record {
@@ -233,15 +233,15 @@ module _ (g : Game) (s : Seat) (is : IsSeat g s) where
         read = subst (λ (ts : List ℕ). AllZip (λ t m. noted (notes_of s.turn) t ≡ Some m) ts (values_of s.turn)) (here x.0 x.1) (zip_read h all);
       }
 
-  pub unread_waits : (place : ℕ) → s.holding ≡ true → place < length (successors_of s.turn) → slice_index_or s.turn.marks place false ≡ false
+  pub unread_waits : (place : ℕ) → s.holding ≡ true → place < length (successors_read s.turn) → slice_index_or s.turn.marks place false ≡ false
       → CanRaise g (worker_of s) → ⊥
   unread_waits place h l e c =
       let same = holds_same s.turn.vertex c.u (notes_of s.turn) c.notes (sym (worker_holding s h) ∙ c.holds) in
       let at = here c.x (ap (vertex g) same.0 ∙ c.held) in
       let read = subst (λ (ts : List ℕ). AllZip (λ t m. noted c.notes t ≡ Some m) ts c.values) (sym at) c.read in
-      let read' = subst (λ (ns : List Note). AllZip (λ t m. noted ns t ≡ Some m) (successors_of s.turn) c.values) (sym same.1) read in
-      zip_noted_at (notes_of s.turn) (successors_of s.turn) c.values place read' l
-      (noted_unread (successors_of s.turn) s.turn.marks s.turn.values place ascend l e)
+      let read' = subst (λ (ns : List Note). AllZip (λ t m. noted ns t ≡ Some m) (successors_read s.turn) c.values) (sym same.1) read in
+      zip_noted_at (notes_of s.turn) (successors_read s.turn) c.values place read' l
+      (noted_unread (successors_read s.turn) s.turn.marks s.turn.values place ascend l e)
 
   -- what is unread can be read
   pub unread_reads : (v place : ℕ) → IsUnread s v place → CanRead g (worker_of s) v
@@ -254,16 +254,16 @@ module _ (g : Game) (s : Seat) (is : IsSeat g s) where
         holds = worker_holding s r.holding;
         held = x.1;
         successor = subst (λ (ts : List ℕ). Contains ts v) (here x.0 x.1)
-            (subst (Contains (successors_of s.turn)) r.here (contains_at (successors_of s.turn) place r.inside));
-        unread = ap (noted (notes_of s.turn)) (sym r.here) ∙ noted_unread (successors_of s.turn) s.turn.marks s.turn.values place ascend r.inside r.unread;
+            (subst (Contains (successors_read s.turn)) r.here (contains_at (successors_read s.turn) place r.inside));
+        unread = ap (noted (notes_of s.turn)) (sym r.here) ∙ noted_unread (successors_read s.turn) s.turn.marks s.turn.values place ascend r.inside r.unread;
       }
 
   pub note_one : (v place : ℕ) (m : Measure) → IsUnread s v place
-      → notes_from (successors_of s.turn) (slice_set s.turn.marks place true) (slice_set s.turn.values place m)
+      → notes_from (successors_read s.turn) (slice_set s.turn.marks place true) (slice_set s.turn.values place m)
       ≡ with_note (record { vertex = v; value = m }) (notes_of s.turn)
   note_one v place m r =
       let l = r.inside in let k = long r.holding in let q = is.turn.even in
-      one_more_note (successors_of s.turn) s.turn.marks s.turn.values place m ascend l (omega arith) (omega arith) r.unread
+      one_more_note (successors_read s.turn) s.turn.marks s.turn.values place m ascend l (omega arith) (omega arith) r.unread
       ∙ ap (λ (n : ℕ). with_note (record { vertex = n; value = m }) (notes_of s.turn)) r.here
 
 -- what a free worker owes is marked

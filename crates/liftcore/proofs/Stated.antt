@@ -16,10 +16,10 @@ use Rattle.progress.specs.Tables.{Table}
 use Rattle.progress.proofs.Measures.{at_most_itself, not_below}
 use Rattle.liftcore.specs.Core.{Core, Holding, Idle, Note, Owing, Worker, is_idle, noted, owing, with_note, without}
 use Rattle.liftcore.specs.Marks.{IsMarked, members}
-use Rattle.liftcore.specs.Reading.{AreRead, successors_of, values_of}
+use Rattle.liftcore.specs.Reading.{AreRead, successors_read, values_of}
 use Rattle.liftcore.specs.Seats.{AreIdle, HasSeat, IsSeat, core_of, notes_of, worker_of}
 use Rattle.liftcore.specs.declared.event.Event.TheVariants.{Push, Raise, Read, Take}
-use Rattle.liftcore.specs.Step.{Pushes, Raises, Reads, Skips, Takes, after_raise, value_in, with_value, with_worker}
+use Rattle.liftcore.specs.Step.{Pushes, Raises, ReadsVertex, Skips, TakesVertex, after_raise, value_in, with_value, with_worker}
 use Rattle.liftcore.specs.Work.{AreOwed, CanRaise, CanRead, IsUnread, Owes}
 use Rattle.liftcore.specs.declared.seat.Seat.{Seat}
 use Rattle.liftcore.specs.declared.state.State.{State}
@@ -56,7 +56,7 @@ pub marked_inside : (marks : List Bool) (v : ℕ) → IsMarked marks v → v < l
 marked_inside marks v h = elim (cases_lt v (length marks)) [ inl l ↦ l | inr l ↦ absurd (true≢false (sym h ∙ get_or_past marks v false l)) ]
 
 -- a worker that can raise has read all
-pub raises_whole : (g : Game) (s : Seat) → IsSeat g s → CanRaise g (worker_of s) → (s.holding ≡ true) × AreRead s.turn (length (successors_of s.turn))
+pub raises_whole : (g : Game) (s : Seat) → IsSeat g s → CanRaise g (worker_of s) → (s.holding ≡ true) × AreRead s.turn (length (successors_read s.turn))
 raises_whole g s is c = elim (cases_Bool s.holding) [
   | inl h ↦ (h, λ k l. elim (cases_Bool (slice_index_or s.turn.marks k false)) [ inl e ↦ e | inr e ↦ absurd (unread_waits g s is k h l e c) ])
   | inr h ↦ absurd (owing_holds (members s.owed) c.u c.notes (sym (worker_free s h) ∙ c.holds))
@@ -88,7 +88,7 @@ module _ (s : State) (w : ℕ) (x new : Seat) (items : List Seat) (there : slice
 
   pub take_step : (v : ℕ) (pending : List Bool) → worker_of x ≡ Idle → IsMarked s.pending v → pending ≡ slice_set s.pending v false
       → worker_of new ≡ Holding v []
-      → Takes (core_of s) w v (core s.table (members pending) (map worker_of items))
+      → TakesVertex (core_of s) w v (core s.table (members pending) (map worker_of items))
   take_step v pending idle marked e holds = record {
     idle = worker_there s.seats.items w x there ∙ ap (λ (y : Worker). Some y) idle;
     pending = marked_member s.pending v marked;
@@ -111,7 +111,7 @@ module _ (s : State) (w : ℕ) (x new : Seat) (items : List Seat) (there : slice
 
   pub read_step : (g : Game) (v place : ℕ) → IsSeat g x → s.table.game ≡ g → IsUnread x v place
       → worker_of new ≡ Holding x.turn.vertex (with_note (record { vertex = v; value = value_at s.table.values v }) (notes_of x.turn))
-      → Reads (core_of s) w v (core s.table (members s.pending) (map worker_of items))
+      → ReadsVertex (core_of s) w v (core s.table (members s.pending) (map worker_of items))
   read_step g v place is same r now =
       let c = unread_reads g x is v place r in
       let q = holds_same x.turn.vertex c.u (notes_of x.turn) c.notes (sym (worker_holding x r.holding) ∙ c.holds) in

@@ -13,7 +13,7 @@ use Rattle.progress.specs.Tables.{LiesBelow}
 use Rattle.progress.proofs.Demands.{EachBelow, demand_below}
 use Rattle.progress.proofs.Lists.{all_from}
 use Rattle.game.proofs.Placing.{successors_of as successors_are}
-use Rattle.liftcore.specs.Reading.{AreRead, IsReading, Reading, successors_of, values_of}
+use Rattle.liftcore.specs.Reading.{AreRead, IsReading, Reading, successors_read, values_of}
 
 -- what has a successor is a vertex
 pub vertex_within : (g : Game) (v k : ℕ) → k < length (successors_at (vertex g v)) → v < length g.vertices
@@ -23,15 +23,15 @@ vertex_within g v k h = by (vertex g v) (λ x. slice_get_within g.vertices v x) 
     by None f h = absurd (omega arith)
     by (Some x) f h = f x refl
 
-place_within : (r : Reading) (k : ℕ) → IsReading r → k < length (successors_of r) → k < length r.marks
+place_within : (r : Reading) (k : ℕ) → IsReading r → k < length (successors_read r) → k < length r.marks
 place_within r k is h = omega (arith, is.room r.vertex (vertex_within r.game r.vertex k h))
 
 -- one more value
 abbrev pub noted : Reading → ℕ → Measure → Reading
 noted r place value = record { game = r.game; vertex = r.vertex; marks = slice_set r.marks place true; values = slice_set r.values place value }
 
-pub note_keeps : (r : Reading) (place : ℕ) (value : Measure) → IsReading r → place < length (successors_of r)
-    → LiesBelow r.game (slice_index (successors_of r) place) value → IsReading (noted r place value)
+pub note_keeps : (r : Reading) (place : ℕ) (value : Measure) → IsReading r → place < length (successors_read r)
+    → LiesBelow r.game (slice_index (successors_read r) place) value → IsReading (noted r place value)
 note_keeps r place value is h below = record {
   game = is.game;
   even = length-set r.values place value ∙ is.even ∙ sym (length-set r.marks place true);
@@ -40,17 +40,17 @@ note_keeps r place value is h below = record {
     | inl q ↦ (
         let here : slice_index_or (slice_set r.values place value) place Top
         ≡ value = get_or-set_same r.values place value Top (omega (arith, place_within r place is h, is.even)) in
-        subst (λ (k : ℕ). LiesBelow r.game (slice_index (successors_of r) k) (slice_index_or (slice_set r.values place value) k Top)) (sym q)
-        (subst (LiesBelow r.game (slice_index (successors_of r) place)) (sym here) below)
+        subst (λ (k : ℕ). LiesBelow r.game (slice_index (successors_read r) k) (slice_index_or (slice_set r.values place value) k Top)) (sym q)
+        (subst (LiesBelow r.game (slice_index (successors_read r) place)) (sym here) below)
         )
     | inr q ↦ (
         let old : slice_index_or r.marks k false ≡ true = sym (get_or-set_other r.marks place k true false q) ∙ mark in
-        subst (LiesBelow r.game (slice_index (successors_of r) k)) (sym (get_or-set_other r.values place k value Top q)) (is.below k in' old)
+        subst (LiesBelow r.game (slice_index (successors_read r) k)) (sym (get_or-set_other r.values place k value Top q)) (is.below k in' old)
         )
   ];
 }
 
-pub read_more : (r : Reading) (place : ℕ) (value : Measure) → IsReading r → place < length (successors_of r) → AreRead r place
+pub read_more : (r : Reading) (place : ℕ) (value : Measure) → IsReading r → place < length (successors_read r) → AreRead r place
     → AreRead (noted r place value) (place + 1)
 read_more r place value is h all k in' = elim (cases_eq k place) [
   | inl q ↦ subst (λ (k : ℕ). slice_index_or (slice_set r.marks place true) k false ≡ true) (sym q)
@@ -58,25 +58,25 @@ read_more r place value is h all k in' = elim (cases_eq k place) [
   | inr q ↦ get_or-set_other r.marks place k true false q ∙ all k (omega arith)
 ]
 
-values_long : (r : Reading) → IsReading r → r.vertex < length r.game.vertices → length (values_of r) ≡ length (successors_of r)
-values_long r is h = length-take-le (length (successors_of r)) r.values (omega (arith, is.even, is.room r.vertex h))
+values_long : (r : Reading) → IsReading r → r.vertex < length r.game.vertices → length (values_of r) ≡ length (successors_read r)
+values_long r is h = length-take-le (length (successors_read r)) r.values (omega (arith, is.even, is.room r.vertex h))
 
-pub values_below : (r : Reading) → IsReading r → r.vertex < length r.game.vertices → AreRead r (length (successors_of r))
-    → EachBelow r.game (successors_of r) (values_of r)
+pub values_below : (r : Reading) → IsReading r → r.vertex < length r.game.vertices → AreRead r (length (successors_read r))
+    → EachBelow r.game (successors_read r) (values_of r)
 values_below r is h all k in' =
-    let inside : k < length (successors_of r) = omega (arith, values_long r is h) in
-    subst (LiesBelow r.game (slice_index (successors_of r) k)) (sym (get_or-take (length (successors_of r)) r.values k Top inside))
+    let inside : k < length (successors_read r) = omega (arith, values_long r is h) in
+    subst (LiesBelow r.game (slice_index (successors_read r) k)) (sym (get_or-take (length (successors_read r)) r.values k Top inside))
     (is.below k inside (all k inside))
 
-pub values_measures : (r : Reading) → IsReading r → r.vertex < length r.game.vertices → AreRead r (length (successors_of r))
+pub values_measures : (r : Reading) → IsReading r → r.vertex < length r.game.vertices → AreRead r (length (successors_read r))
     → AllByRecursion (IsMeasure r.game) (values_of r)
 values_measures r is h all = all_from (IsMeasure r.game) (values_of r) Top (λ k in'. (values_below r is h all k in').measure)
 
-pub lifted_below : (r : Reading) (m : Measure) → IsReading r → r.vertex < length r.game.vertices → AreRead r (length (successors_of r))
+pub lifted_below : (r : Reading) (m : Measure) → IsReading r → r.vertex < length r.game.vertices → AreRead r (length (successors_read r))
     → IsDemandOf r.game r.vertex (values_of r) m
     → LiesBelow r.game r.vertex m
 lifted_below r m is h all (x, at, (progs, z, b)) =
-    let here : successors_of r ≡ x.successors = ap successors_at at in
+    let here : successors_read r ≡ x.successors = ap successors_at at in
     demand_below r.game r.vertex (values_of r) m x is.game at (values_long r is h ∙ ap length here)
     (subst (λ (xs : List ℕ). EachBelow r.game xs (values_of r)) here (values_below r is h all)) progs z b
 
@@ -86,11 +86,11 @@ pub record HasRead (g : Game) (now r : Reading) (ts : List ℕ) (values : List M
   pub is : IsReading r
   pub same : now.game ≡ g
   pub inside : now.vertex < length g.vertices
-  pub all : AreRead now (length (successors_of now))
+  pub all : AreRead now (length (successors_read now))
   pub at : option_map (λ (x : Vertex). x.successors) (vertex g r.vertex) ≡ Some ts
   pub stored : values ≡ r.values
 
-successors_here : (g : Game) (now r : Reading) (ts : List ℕ) (values : List Measure) → HasRead g now r ts values → successors_of now ≡ ts
+successors_here : (g : Game) (now r : Reading) (ts : List ℕ) (values : List Measure) → HasRead g now r ts values → successors_read now ≡ ts
 successors_here g now r ts values h =
     ap (λ (g : Game). successors_at (vertex g now.vertex)) h.same
     ∙ ap (λ (r : Reading). successors_at (vertex g r.vertex)) (sym h.view)

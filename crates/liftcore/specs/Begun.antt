@@ -16,9 +16,9 @@ abbrev pub IsUnspaced : List ℕ → Type 0
 IsUnspaced bytes = list_any (λ b. b == 32) bytes ≡ false
 
 -- These bytes of a line were read: a word; a word and digits of a worker; a word, a worker and digits of a vertex; or what no event's line begins with.
-abbrev pub IsBegun : List ℕ → List ℕ → Part → Type 0
-IsBegun line word Word = (line ≡ word) × IsUnspaced word
-IsBegun line word (Worker worker) = (digits : List ℕ) × (line ≡ word ++ 32 ∷ digits) × IsUnspaced word × IsValue digits worker
-IsBegun line word (Vertex worker vertex) =
+abbrev pub IsBegunLine : List ℕ → List ℕ → Part → Type 0
+IsBegunLine line word Word = (line ≡ word) × IsUnspaced word
+IsBegunLine line word (Worker worker) = (digits : List ℕ) × (line ≡ word ++ 32 ∷ digits) × IsUnspaced word × IsValue digits worker
+IsBegunLine line word (Vertex worker vertex) =
     (numeral digits : List ℕ) × (line ≡ word ++ 32 ∷ (numeral ++ 32 ∷ digits)) × IsUnspaced word × (whole_number numeral ≡ Some worker) × IsValue digits vertex
-IsBegun line word Faulty = (rest : List ℕ) → event_at whole_number (line ++ rest) ≡ None
+IsBegunLine line word Faulty = (rest : List ℕ) → event_at whole_number (line ++ rest) ≡ None

@@ -1,7 +1,7 @@
 -- The text of a replay.
 use Rattle.std.specs.Prelude.{ℕ, ◌+◌, Bool, List, [], ◌∷◌, ◌++◌, map, codes, decimal, if◌then◌else◌}
 use Rattle.std.specs.List.{join_with_byte}
-use Rattle.lts.specs.Canon.{line_end}
+use Rattle.text.specs.Pieces.{line_end}
 use Rattle.progress.specs.Measure.{Measure}
 use Rattle.progress.specs.MeasureText.{measure_text}
 use Rattle.liftcore.specs.Core.{Core, is_quiet}

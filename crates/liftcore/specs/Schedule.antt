@@ -36,14 +36,14 @@ vertex_of_event (Raise w) = None
 vertex_of_event (Push w v) = Some v
 
 -- its worker is one of so many, and its vertex too
-pub record IsWithin (workers vertices : ℕ) (event : Event) : Type 0 where
+pub record IsOfSoMany (workers vertices : ℕ) (event : Event) : Type 0 where
   pub worker : worker_of_event event < workers
   pub vertex : IfSome (vertex_of_event event) (λ v. v < vertices)
 
 -- the line spells an event of so many workers and vertices
 pub record IsGoodLine (workers vertices : ℕ) (line : List ℕ) (event : Event) : Type 0 where
   pub spelled : IsEventLine line event
-  pub within : IsWithin workers vertices event
+  pub within : IsOfSoMany workers vertices event
 
 -- An event a line. Lines end by LF, the last end may be missing, and a CR is a byte like any other.
 abbrev pub IsSchedule : (workers vertices : ℕ) → (text : List ℕ) → List Event → Type 0

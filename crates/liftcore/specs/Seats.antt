@@ -4,7 +4,7 @@ use Rattle.game.specs.Game.{Game}
 use Rattle.progress.specs.Measure.{Measure}
 use Rattle.liftcore.specs.Core.{Core, Holding, Idle, Note, Worker, owing}
 use Rattle.liftcore.specs.Marks.{members}
-use Rattle.liftcore.specs.Reading.{IsReading, Reading, successors_of}
+use Rattle.liftcore.specs.Reading.{IsReading, Reading, successors_read}
 use Rattle.liftcore.specs.declared.seat.Seat.{Seat}
 use Rattle.liftcore.specs.declared.state.State.{State}
 
@@ -14,7 +14,7 @@ notes_from (t ∷ ts) (read ∷ marks) (m ∷ values) = if read then record { ve
 notes_from _ _ _ = []
 
 abbrev pub notes_of : Reading → List Note
-notes_of r = notes_from (successors_of r) r.marks r.values
+notes_of r = notes_from (successors_read r) r.marks r.values
 
 -- the worker holds the vertex of its turn, or owes what is marked
 abbrev pub worker_of : Seat → Worker

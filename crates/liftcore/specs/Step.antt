@@ -24,13 +24,13 @@ abbrev pub with_pending : Core → List ℕ → Core
 with_pending c vertices = record c { pending = vertices }
 
 -- The worker is idle and v is pending. It then holds v with nothing read, and v is pending no more.
-pub record Takes (old : Core) (w v : ℕ) (new : Core) : Type 0 where
+pub record TakesVertex (old : Core) (w v : ℕ) (new : Core) : Type 0 where
   pub idle : slice_get old.workers w ≡ Some Idle
   pub pending : Contains old.pending v
   pub effect : new ≡ with_worker (with_pending old (without v old.pending)) w (Holding v [])
 
 -- The worker holds a vertex that has v among its successors, and hasn't read v. It notes v's value.
-pub record Reads (old : Core) (w v : ℕ) (new : Core) : Type 0 where
+pub record ReadsVertex (old : Core) (w v : ℕ) (new : Core) : Type 0 where
   pub u : ℕ
   pub notes : List Note
   pub x : Vertex
@@ -67,8 +67,8 @@ pub record Pushes (old : Core) (w v : ℕ) (new : Core) : Type 0 where
 
 -- what the event does, where it can be done
 abbrev pub Does : Core → Event → Core → Type 0
-Does old (Take w v) new = Takes old w v new
-Does old (Read w v) new = Reads old w v new
+Does old (Take w v) new = TakesVertex old w v new
+Does old (Read w v) new = ReadsVertex old w v new
 Does old (Raise w) new = Raises old w new
 Does old (Push w v) new = Pushes old w v new
 

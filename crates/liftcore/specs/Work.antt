@@ -4,7 +4,7 @@ use Rattle.std.specs.List.{AllZip, list_any}
 use Rattle.game.specs.Game.{Game, Vertex, vertex}
 use Rattle.progress.specs.Measure.{Measure}
 use Rattle.liftcore.specs.Core.{Holding, Note, Owing, Worker, noted}
-use Rattle.liftcore.specs.Reading.{successors_of}
+use Rattle.liftcore.specs.Reading.{successors_read}
 use Rattle.liftcore.specs.declared.seat.Seat.{Seat}
 
 -- it holds a vertex that has v among its successors, and hasn't read v
@@ -36,8 +36,8 @@ pub record Owes (worker : Worker) (v : ℕ) : Type 0 where
 -- at this place stands v, which isn't read
 pub record IsUnread (s : Seat) (v place : ℕ) : Type 0 where
   pub holding : s.holding ≡ true
-  pub inside : place < length (successors_of s.turn)
-  pub here : slice_index (successors_of s.turn) place ≡ v
+  pub inside : place < length (successors_read s.turn)
+  pub here : slice_index (successors_read s.turn) place ≡ v
   pub unread : slice_index_or s.turn.marks place false ≡ false
 
 -- these vertices are marked, and no other

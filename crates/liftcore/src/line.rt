@@ -2,7 +2,7 @@
 
 ghost use Rattle.std.specs.Prelude.{◌≡◌, ◌≢◌, ℕ, List, [], ◌∷◌, ◌++◌, MatchBool, MatchOption, None, Some};
 ghost use Rattle.text.specs.Tokens as token;
-ghost use Rattle.liftcore.specs.Begun.{IsBegun, IsUnspaced, IsValue};
+ghost use Rattle.liftcore.specs.Begun.{IsBegunLine, IsUnspaced, IsValue};
 ghost use Rattle.liftcore.specs.Scan as at;
 ghost use Rattle.liftcore.specs.declared.line.Part.TheVariants as part;
 
@@ -50,7 +50,7 @@ fn with_digit(number: Option<u32>, byte: u8) -> Option<u32>
 
 // What is being read behind one more byte of a word.
 fn after_word(word: &mut ArrayVec<u8, 5>, byte: u8) -> Part
-    ensures { (line : List ℕ) → (line ≡ word.old.items) → IsUnspaced word.old.items → IsBegun (line ++ byte ∷ []) word.new.items result }
+    ensures { (line : List ℕ) → (line ≡ word.old.items) → IsUnspaced word.old.items → IsBegunLine (line ++ byte ∷ []) word.new.items result }
 {
     if byte == b' ' {
         return Part::Worker { worker: None };
@@ -63,7 +63,7 @@ fn after_word(word: &mut ArrayVec<u8, 5>, byte: u8) -> Part
 
 // The same of a worker.
 fn after_worker(worker: Option<u32>, byte: u8) -> Part
-    ensures { (line word : List ℕ) → IsBegun line word (part.Worker worker) → IsBegun (line ++ byte ∷ []) word result }
+    ensures { (line word : List ℕ) → IsBegunLine line word (part.Worker worker) → IsBegunLine (line ++ byte ∷ []) word result }
 {
     if byte == b' ' {
         return match worker {
@@ -84,7 +84,7 @@ fn after_worker(worker: Option<u32>, byte: u8) -> Part
 
 // The same of a vertex.
 fn after_vertex(worker: u32, vertex: Option<u32>, byte: u8) -> Part
-    ensures { (line word : List ℕ) → IsBegun line word (part.Vertex worker vertex) → IsBegun (line ++ byte ∷ []) word result }
+    ensures { (line word : List ℕ) → IsBegunLine line word (part.Vertex worker vertex) → IsBegunLine (line ++ byte ∷ []) word result }
 {
     match with_digit(vertex, byte) {
         Some(number) => Part::Vertex {
@@ -97,7 +97,7 @@ fn after_vertex(worker: u32, vertex: Option<u32>, byte: u8) -> Part
 
 // The event of a word with a worker alone.
 fn event_of_worker(word: &[u8], worker: Option<u32>) -> Option<Event>
-    ensures { (line : List ℕ) → IsBegun line word.now (part.Worker worker) → at.event_at token.whole_number line ≡ result }
+    ensures { (line : List ℕ) → IsBegunLine line word.now (part.Worker worker) → at.event_at token.whole_number line ≡ result }
 {
     if word == b"raise".as_slice() {
         let worker = worker? as usize;
@@ -124,7 +124,7 @@ fn event_with(word: &[u8], worker: usize, vertex: u32) -> Option<Event>
 
 // The same where a vertex stands behind the worker, if it does.
 fn event_of_vertex(word: &[u8], worker: u32, vertex: Option<u32>) -> Option<Event>
-    ensures { (line : List ℕ) → IsBegun line word.now (part.Vertex worker vertex) → at.event_at token.whole_number line ≡ result }
+    ensures { (line : List ℕ) → IsBegunLine line word.now (part.Vertex worker vertex) → at.event_at token.whole_number line ≡ result }
 {
     event_with(word, worker as usize, vertex?)
 }
@@ -132,7 +132,7 @@ fn event_of_vertex(word: &[u8], worker: u32, vertex: Option<u32>) -> Option<Even
 impl Line {
     /// None of its bytes.
     pub(crate) fn new() -> Self
-        ensures { IsBegun [] result.word.items result.part }
+        ensures { IsBegunLine [] result.word.items result.part }
     {
         Line {
             word: ArrayVec::new(),
@@ -142,7 +142,7 @@ impl Line {
 
     /// Whether none of its bytes was read.
     pub(crate) fn is_empty(&self) -> bool
-        ensures { (line : List ℕ) → IsBegun line self.now.word.items self.now.part → MatchBool result (line ≡ []) (line ≢ []) }
+        ensures { (line : List ℕ) → IsBegunLine line self.now.word.items self.now.part → MatchBool result (line ≡ []) (line ≢ []) }
     {
         match self.part {
             Part::Word => self.word.is_empty(),
@@ -154,7 +154,7 @@ impl Line {
 
     /// Reads one more byte of it.
     pub(crate) fn take(&mut self, byte: u8)
-        ensures { (line : List ℕ) → IsBegun line self.old.word.items self.old.part → IsBegun (line ++ byte ∷ []) self.new.word.items self.new.part }
+        ensures { (line : List ℕ) → IsBegunLine line self.old.word.items self.old.part → IsBegunLine (line ++ byte ∷ []) self.new.word.items self.new.part }
     {
         match self.part {
             Part::Word => self.part = after_word(&mut self.word, byte),
@@ -166,7 +166,7 @@ impl Line {
 
     /// The event that it spells where no more bytes follow. A number that is too great for its type is read as the greatest one.
     pub(crate) fn event(&self) -> Option<Event>
-        ensures { (line : List ℕ) → IsBegun line self.now.word.items self.now.part → at.event_at token.whole_number line ≡ result }
+        ensures { (line : List ℕ) → IsBegunLine line self.now.word.items self.now.part → at.event_at token.whole_number line ≡ result }
     {
         let word = self.word.as_slice();
         match self.part {

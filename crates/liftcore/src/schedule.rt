@@ -6,10 +6,10 @@ ghost use Rattle.text.specs.Lines.{IfKnown};
 ghost use Rattle.text.specs.Reads.{Reads};
 ghost use Rattle.text.specs.Text.{pieces_of};
 ghost use Rattle.text.specs.Tokens as token;
-ghost use Rattle.liftcore.specs.Begun.{IsBegun};
+ghost use Rattle.liftcore.specs.Begun.{IsBegunLine};
 ghost use Rattle.liftcore.specs.Scan as at;
-ghost use Rattle.liftcore.specs.Schedule.{HasFaultAt, IsEventLine, IsSchedule, IsWithin, LineFault, named, told, vertex_of_event, worker_of_event, failed};
-ghost use Rattle.liftcore.specs.Taken.{HasTaken, SoFar, Takes, TakesBlock, Tells, TellsRead};
+ghost use Rattle.liftcore.specs.Schedule.{HasFaultAt, IsEventLine, IsSchedule, IsOfSoMany, LineFault, named, told, vertex_of_event, worker_of_event, failed};
+ghost use Rattle.liftcore.specs.Taken.{HasTakenLines, SoFar, TakesBytes, TakesBlock, Tells, TellsRead};
 
 use crate::error::{ReadError, ScheduleError, ScheduleFault};
 use crate::event::Event;
@@ -45,7 +45,7 @@ fn is_far(event: Event, vertices: u32) -> bool
 // The event of a line, if it has one, where its worker and its vertex are among so many.
 fn judged(event: Option<Event>, workers: u32, vertices: u32) -> Result<Event, ScheduleFault>
     ensures { (line : List ℕ) → at.event_at token.whole_number line ≡ event
-        → MatchResult result (λ event. IsEventLine line event × IsWithin workers vertices event) (LineFault workers vertices line) }
+        → MatchResult result (λ event. IsEventLine line event × IsOfSoMany workers vertices event) (LineFault workers vertices line) }
 {
     let Some(event) = event else {
         return Err(ScheduleFault::BadLine);
@@ -71,7 +71,7 @@ pub(crate) struct Intake {
 impl Intake {
     // Nothing yet.
     fn new(alloc: Global, workers: u32, vertices: u32) -> Self
-        ensures { (text : List ℕ) → HasTaken workers vertices text text result }
+        ensures { (text : List ℕ) → HasTakenLines workers vertices text text result }
     {
         Intake {
             events: Vec::new(alloc),
@@ -84,11 +84,11 @@ impl Intake {
     // Ends the line.
     fn end_line(&mut self) -> Result<(), ScheduleError>
         ensures bounds { (self.new.workers ≡ self.old.workers) × (self.new.vertices ≡ self.old.vertices) }
-        ensures fresh { OnOk result (IsBegun [] self.new.line.word.items self.new.line.part) }
-        ensures event { OnOk result ((line text left rest : List ℕ) → IsBegun line self.old.line.word.items self.old.line.part
+        ensures fresh { OnOk result (IsBegunLine [] self.new.line.word.items self.new.line.part) }
+        ensures event { OnOk result ((line text left rest : List ℕ) → IsBegunLine line self.old.line.word.items self.old.line.part
             → SoFar self.old.workers self.old.vertices text left self.old.events.items → pieces_of left ≡ line ∷ pieces_of rest
             → SoFar self.old.workers self.old.vertices text rest self.new.events.items) }
-        ensures fault { IfErr result (λ e. (line text left rest : List ℕ) → IsBegun line self.old.line.word.items self.old.line.part
+        ensures fault { IfErr result (λ e. (line text left rest : List ℕ) → IsBegunLine line self.old.line.word.items self.old.line.part
             → SoFar self.old.workers self.old.vertices text left self.old.events.items → pieces_of left ≡ line ∷ pieces_of rest
             → IfSome (named e) (HasFaultAt self.old.workers self.old.vertices text)) }
     {
@@ -109,7 +109,7 @@ impl Intake {
 
     // Takes the byte that is next.
     fn take(&mut self, byte: u8) -> Result<(), ScheduleError>
-        ensures taken { OnOk result (Takes (byte ∷ []) self.old self.new) }
+        ensures taken { OnOk result (TakesBytes (byte ∷ []) self.old self.new) }
         ensures fault { IfErr result (Tells (byte ∷ []) self.old) }
     {
         if byte == b'\n' {
@@ -121,7 +121,7 @@ impl Intake {
 
     // Takes the bytes that are next.
     fn take_all(&mut self, bytes: &[u8]) -> Result<(), ScheduleError>
-        ensures taken { OnOk result (Takes bytes.now self.old self.new) }
+        ensures taken { OnOk result (TakesBytes bytes.now self.old self.new) }
         ensures fault { IfErr result (Tells bytes.now self.old) }
     {
         for byte in bytes {
@@ -132,9 +132,9 @@ impl Intake {
 
     // The events of all lines, where no byte is left.
     fn finish(mut self) -> Result<Vec<Event>, ScheduleError>
-        ensures events { IfOk result (λ events. (workers vertices : ℕ) (text : List ℕ) → HasTaken workers vertices text [] self
+        ensures events { IfOk result (λ events. (workers vertices : ℕ) (text : List ℕ) → HasTakenLines workers vertices text [] self
             → IsSchedule workers vertices text events.items) }
-        ensures fault { IfErr result (λ e. (workers vertices : ℕ) (text : List ℕ) → HasTaken workers vertices text [] self
+        ensures fault { IfErr result (λ e. (workers vertices : ℕ) (text : List ℕ) → HasTakenLines workers vertices text [] self
             → IfSome (named e) (HasFaultAt workers vertices text)) }
     {
         if self.line.is_empty() {
@@ -186,7 +186,7 @@ fn take_block<B: Blocks>(reader: &mut B, intake: &mut Intake) -> Result<bool, Re
 // Reads the whole text. A loop has to end, so this one has at most 2^64 turns.
 fn read_text<B: Blocks>(reader: &mut B, mut intake: Intake) -> Result<Vec<Event>, ReadError>
     ensures events { IfOk result (λ events. IfSome (B.remaining reader.old) (λ left. (workers vertices : ℕ) (text : List ℕ)
-        → HasTaken workers vertices text left intake → IsSchedule workers vertices text events.items)) }
+        → HasTakenLines workers vertices text left intake → IsSchedule workers vertices text events.items)) }
     ensures fault { IfErr result (TellsRead (B.remaining reader.old) intake) }
     ensures cause { IfErr result (HasCause B.can_fail failed) }
 {

@@ -3,7 +3,7 @@
 ghost use Rattle.std.specs.Prelude.{◌≡◌, ◌<◌, ◌≤◌, ◌+◌, ◌↔◌, ℕ, IfOk, IsTrue, length, false, slice_index, slice_index_or, slice_set, true};
 ghost use Rattle.game.specs.Game.{vertex as vertex_at};
 ghost use Rattle.game.specs.Predecessors.{successors_at};
-ghost use Rattle.liftcore.specs.Reading.{AreRead, Begins, IsReadAt, IsReading, successors_of, values_of};
+ghost use Rattle.liftcore.specs.Reading.{AreRead, BeginsTurn, IsReadAt, IsReading, successors_read, values_of};
 ghost use Rattle.progress.specs.Progs.{IsDemandOf};
 ghost use Rattle.progress.specs.Tables.{LiesBelow};
 
@@ -95,7 +95,7 @@ impl Turn {
     pub fn begin(&mut self, game: &Game, vertex: u32)
         requires same { self.old.game ≡ game.now }
         requires vertex { vertex < length game.now.vertices }
-        ensures { Begins game.now vertex self.new }
+        ensures { BeginsTurn game.now vertex self.new }
     {
         self.vertex = vertex;
         clear(self.marks.as_mut_slice(), game.successors(vertex).len());
@@ -110,8 +110,8 @@ impl Turn {
 
     /// Notes the value that was read at the successor that stands at this place. It takes no memory.
     pub fn note(&mut self, place: usize, value: Measure)
-        requires place { place < length (successors_of self.old) }
-        requires below { LiesBelow self.old.game (slice_index (successors_of self.old) place) value }
+        requires place { place < length (successors_read self.old) }
+        requires below { LiesBelow self.old.game (slice_index (successors_read self.old) place) value }
         ensures game { self.new.game ≡ self.old.game }
         ensures vertex { self.new.vertex ≡ self.old.vertex }
         ensures marks { self.new.marks ≡ slice_set self.old.marks place true }
@@ -133,7 +133,7 @@ impl Turn {
     pub fn lifted(&self, game: &Game) -> Measure
         requires same { self.now.game ≡ game.now }
         requires vertex { self.now.vertex < length game.now.vertices }
-        requires whole { AreRead self.now (length (successors_of self.now)) }
+        requires whole { AreRead self.now (length (successors_read self.now)) }
         ensures value { IsDemandOf game.now self.now.vertex (values_of self.now) result }
         ensures below { LiesBelow game.now self.now.vertex result }
     {

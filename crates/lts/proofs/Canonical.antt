@@ -13,7 +13,7 @@ use Rattle.systems.specs.Label.{is_label, is_label_byte}
 use Rattle.systems.specs.System.{Arrow, System, IsArrow, IsSystem}
 use Rattle.systems.specs.Numbered.{Numbered, arrow_of, system_with}
 use Rattle.lts.specs.Aut.{IsAut, IsHeader, IsTransition}
-use Rattle.lts.specs.Canon.{arrow_line, header_line, aut_text, line_at, line_of}
+use Rattle.lts.specs.Canon.{arrow_line, header_line, aut_text, arrow_line_at, arrow_line_of}
 use Rattle.systems.specs.declared.system.Transition.{Transition}
 use Rattle.std.proofs.lemmas.Bool.{and_parts}
 use Rattle.lts.proofs.Listed.{listed}
@@ -26,9 +26,9 @@ abbrev pub lines_of : List (List ℕ) → List Transition → List ℕ
 lines_of labels ts = flat_map arrow_line (map (arrow_of labels) ts)
 
 -- the lines by number are all of them
-pub all_lines : (labels : List (List ℕ)) (ts : List Transition) → lines_from (line_at labels ts) 0 (length ts) ≡ lines_of labels ts
-all_lines labels ts = listed arrow_line (arrow_of labels) (line_at labels ts) 0 ts
-    (λ i t h. (let same : 0 + i ≡ i = omega arith in ap (λ n. line_at labels ts n) same ∙ ap (line_of labels) h))
+pub all_lines : (labels : List (List ℕ)) (ts : List Transition) → lines_from (arrow_line_at labels ts) 0 (length ts) ≡ lines_of labels ts
+all_lines labels ts = listed arrow_line (arrow_of labels) (arrow_line_at labels ts) 0 ts
+    (λ i t h. (let same : 0 + i ≡ i = omega arith in ap (λ n. arrow_line_at labels ts n) same ∙ ap (arrow_line_of labels) h))
 
 -- ---- the header
 

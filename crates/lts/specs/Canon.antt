@@ -1,13 +1,10 @@
 -- The canonical Aldebaran text of a system.
 use Rattle.std.specs.Prelude.{ℕ, List, [], ◌∷◌, ◌++◌, length, codes, decimal, Option, Some, None, slice_get}
 use Rattle.std.specs.List.{flat_map}
+use Rattle.text.specs.Pieces.{line_end}
 use Rattle.systems.specs.System.{Arrow, System}
 use Rattle.systems.specs.Numbered.{arrow_of}
 use Rattle.systems.specs.declared.system.Transition.{Transition}
-
--- LF
-abbrev pub line_end : List ℕ
-line_end = 10 ∷ []
 
 -- `(source,"label",target)`
 abbrev pub arrow_line : Arrow → List ℕ
@@ -23,10 +20,10 @@ abbrev pub aut_text : System → List ℕ
 aut_text l = header_line l.initial (length l.arrows) l.states ++ flat_map arrow_line l.arrows
 
 -- the line of a transition, if there is one
-abbrev pub line_of : List (List ℕ) → Option Transition → List ℕ
-line_of labels None = []
-line_of labels (Some t) = arrow_line (arrow_of labels t)
+abbrev pub arrow_line_of : List (List ℕ) → Option Transition → List ℕ
+arrow_line_of labels None = []
+arrow_line_of labels (Some t) = arrow_line (arrow_of labels t)
 
 -- the line of the transition of this number
-abbrev pub line_at : List (List ℕ) → List Transition → ℕ → List ℕ
-line_at labels transitions i = line_of labels (slice_get transitions i)
+abbrev pub arrow_line_at : List (List ℕ) → List Transition → ℕ → List ℕ
+arrow_line_at labels transitions i = arrow_line_of labels (slice_get transitions i)

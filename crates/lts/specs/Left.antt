@@ -26,7 +26,7 @@ abbrev pub Refuses : Option (List ℕ) → (List ℕ → AutFault → ℕ → Ty
 Refuses old P e = IfSome old (λ text. IfSome (named e) (λ told. P text told.0 told.1))
 
 -- what a right header announces is within the limits
-pub record IsAdmitted (h : Announced) : Type 0 where
+pub record IsWithinLimits (h : Announced) : Type 0 where
   pub transitions : h.transitions ≤ MOST_TRANSITIONS
   pub states : h.states ≤ MOST_STATES
   pub initial : h.initial < h.states
@@ -47,10 +47,10 @@ abbrev pub HasRestFault : Announced → List ℕ → AutFault → ℕ → Type 0
 HasRestFault h text fault place = (good : ℕ) × BodyFault h.transitions h.states (lines text) fault good × (place ≡ good + 2)
 
 -- what is wrong with what a header announces
-abbrev pub IsFirstFault : Announced → AutFault → Type 0
-IsFirstFault h OverLimit = (MOST_TRANSITIONS < h.transitions) ⊎ (MOST_STATES < h.states)
-IsFirstFault h BadStates = (h.transitions ≤ MOST_TRANSITIONS) × (h.states ≤ MOST_STATES) × (h.states ≤ h.initial)
-IsFirstFault h _ = ⊥
+abbrev pub IsAnnouncedFault : Announced → AutFault → Type 0
+IsAnnouncedFault h OverLimit = (MOST_TRANSITIONS < h.transitions) ⊎ (MOST_STATES < h.states)
+IsAnnouncedFault h BadStates = (h.transitions ≤ MOST_TRANSITIONS) × (h.states ≤ MOST_STATES) × (h.states ≤ h.initial)
+IsAnnouncedFault h _ = ⊥
 
 -- what is wrong with a transition of a system with n states
 abbrev pub IsRowFault : ℕ → Arrow → AutFault → Type 0

@@ -12,7 +12,7 @@ ghost use Rattle.lts.specs.declared.error.AutError.TheVariants as errors;
 ghost use Rattle.lts.specs.Scan.{said};
 ghost use Rattle.systems.specs.Label.{texts};
 ghost use Rattle.lts.specs.Gathered.{Gathers};
-ghost use Rattle.lts.specs.Left.{Refuses, IsAdmitted, BeginsWith, SoFar, HasNoLine, AreTransitions, HasRestFault, IsFirstFault, IsRowFault, named};
+ghost use Rattle.lts.specs.Left.{Refuses, IsWithinLimits, BeginsWith, SoFar, HasNoLine, AreTransitions, HasRestFault, IsAnnouncedFault, IsRowFault, named};
 
 use crate::assemble::assemble;
 use crate::error::{AutError, AutFault};
@@ -27,8 +27,8 @@ use text::stream::has_line;
 
 // What is wrong with what a header announces, if anything is.
 fn first_fault(found: Announced) -> Option<AutFault>
-    ensures none { IfNone result (IsAdmitted found) }
-    ensures some { IfSome result (IsFirstFault found) }
+    ensures none { IfNone result (IsWithinLimits found) }
+    ensures some { IfSome result (IsAnnouncedFault found) }
 {
     if found.transitions > MOST_TRANSITIONS || found.states > MOST_STATES {
         Some(AutFault::OverLimit)
@@ -42,7 +42,7 @@ fn first_fault(found: Announced) -> Option<AutFault>
 // Reads the header.
 fn read_first<B: Blocks>(reader: &mut B, digits: &mut Vec<u8>) -> Result<Announced, AutError>
     ensures first { IfOk result (λ found. IfKnown (B.remaining reader.old) (B.remaining reader.new) (BeginsWith found)) }
-    ensures within { IfOk result IsAdmitted }
+    ensures within { IfOk result IsWithinLimits }
     ensures fault { IfErr result (Refuses (B.remaining reader.old) HasFault) }
     ensures cause { IfErr result (HasCause B.can_fail errors.Read) }
 {
@@ -94,7 +94,7 @@ fn read_row<B: Blocks>(
     rows: &mut Rows,
 ) -> Result<(), AutError>
     requires due { good < found.transitions }
-    requires admitted { IsAdmitted found }
+    requires admitted { IsWithinLimits found }
     requires labels { length rows.old.labels.items ≤ good }
     ensures row { OnOk result ((old : Option (List ℕ)) → SoFar found.states good old (B.remaining reader.old)
         (texts rows.old.labels.items) rows.old.transitions.items
@@ -148,7 +148,7 @@ fn read_rows<B: Blocks>(
     found: Announced,
     rows: &mut Rows,
 ) -> Result<(), AutError>
-    requires admitted { IsAdmitted found }
+    requires admitted { IsWithinLimits found }
     requires none { Gathers (texts rows.old.labels.items) rows.old.transitions.items [] }
     requires unlabelled { length rows.old.labels.items ≡ 0 }
     ensures rows { OnOk result ((arrows : List Arrow)
@@ -174,7 +174,7 @@ fn read_rest<B: Blocks>(
     found: Announced,
     rows: &mut Rows,
 ) -> Result<Lts, AutError>
-    requires admitted { IsAdmitted found }
+    requires admitted { IsWithinLimits found }
     requires none { Gathers (texts rows.old.labels.items) rows.old.transitions.items [] }
     requires unlabelled { length rows.old.labels.items ≡ 0 }
     ensures rest { IfOk result (λ l. (arrows : List Arrow)

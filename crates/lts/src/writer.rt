@@ -75,11 +75,11 @@ struct ArrowLines<'a> {
 
 impl Lines for ArrowLines<'_> {
     ghost use Rattle.std.specs.Prelude.{length};
-    ghost use Rattle.lts.specs.Canon.{line_at};
+    ghost use Rattle.lts.specs.Canon.{arrow_line_at};
 
     ghost count = { λ lines. length lines.part.now };
 
-    ghost line = { λ lines number. line_at lines.lts.now.labels lines.part.now number };
+    ghost line = { λ lines number. arrow_line_at lines.lts.now.labels lines.part.now number };
 
     fn count(&self) -> usize {
         self.part.len()

@@ -3,7 +3,7 @@ use Rattle.std.proofs.Common.{◌≡◌, ℕ, zero, suc, ◌<◌, ◌≤◌, ◌
 use Rattle.std.proofs.lemmas.List.{get_or_append_left}
 use Rattle.std.proofs.Math.Seq.{get_or-append_seam}
 use Rattle.meaning.specs.declared.arrivals.Arrival.{Arrival}
-use Rattle.meaning.specs.Arrivals.{nowhere, arrival_at, Comes, IsOneOf}
+use Rattle.meaning.specs.Arrivals.{nowhere, arrival_at, ComesFrom, IsOneOf}
 
 abbrev pub AreEarlier : List Arrival → Type 0
 AreEarlier all = (i : ℕ) → i < length all → (arrival_at all i).earlier ≤ i
@@ -28,19 +28,19 @@ module _ (all : List Arrival) (more : Arrival) (earlier : AreEarlier all) where
   pub same_below : (i : ℕ) → i < length all → arrival_at (all ++ more ∷ []) i ≡ arrival_at all i
   same_below i lt = get_or_append_left all (more ∷ []) nowhere i lt
 
-  comes_on : (hops k i : ℕ) → k ≤ length all → Comes all hops k i → Comes (all ++ more ∷ []) hops k i
+  comes_on : (hops k i : ℕ) → k ≤ length all → ComesFrom all hops k i → ComesFrom (all ++ more ∷ []) hops k i
   comes_on zero k i le e = e
   comes_on (suc hops) zero i le e = e
   comes_on (suc hops) (suc k) i le e =
-      subst (λ (a : Arrival). Comes (all ++ more ∷ []) hops a.earlier i) (sym (same_below k (omega arith)))
+      subst (λ (a : Arrival). ComesFrom (all ++ more ∷ []) hops a.earlier i) (sym (same_below k (omega arith)))
       (comes_on hops (arrival_at all k).earlier i (omega (arith, earlier k (omega arith))) e)
 
-  comes_back : (hops k i : ℕ) → k ≤ length all → Comes (all ++ more ∷ []) hops k i → Comes all hops k i × (i < length all)
+  comes_back : (hops k i : ℕ) → k ≤ length all → ComesFrom (all ++ more ∷ []) hops k i → ComesFrom all hops k i × (i < length all)
   comes_back zero k i le e = (e, omega (arith, e))
   comes_back (suc hops) zero i le e = absurd e
   comes_back (suc hops) (suc k) i le e =
       comes_back hops (arrival_at all k).earlier i (omega (arith, earlier k (omega arith)))
-      (subst (λ (a : Arrival). Comes (all ++ more ∷ []) hops a.earlier i) (same_below k (omega arith)) e)
+      (subst (λ (a : Arrival). ComesFrom (all ++ more ∷ []) hops a.earlier i) (same_below k (omega arith)) e)
 
   -- one more step is not on the chains from the numbers so far
   pub on : (k s : ℕ) → k ≤ length all → IsOneOf all k s → IsOneOf (all ++ more ∷ []) k s

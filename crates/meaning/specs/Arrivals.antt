@@ -13,14 +13,14 @@ abbrev pub arrival_at : List Arrival → ℕ → Arrival
 arrival_at all i = slice_index_or all i nowhere
 
 -- From a number, over so many earlier ones, one comes to the ith step.
-abbrev pub Comes : List Arrival → (hops from i : ℕ) → Type 0
-Comes all zero from i = from ≡ suc i
-Comes all (suc hops) zero i = ⊥
-Comes all (suc hops) (suc k) i = Comes all hops (arrival_at all k).earlier i
+abbrev pub ComesFrom : List Arrival → (hops from i : ℕ) → Type 0
+ComesFrom all zero from i = from ≡ suc i
+ComesFrom all (suc hops) zero i = ⊥
+ComesFrom all (suc hops) (suc k) i = ComesFrom all hops (arrival_at all k).earlier i
 
 -- a step that one comes to from this number begins at s
 abbrev pub IsOneOf : List Arrival → ℕ → ℕ → Type 0
-IsOneOf all from s = (hops i : ℕ) × Comes all hops from i × (i < length all) × ((arrival_at all i).source ≡ s)
+IsOneOf all from s = (hops i : ℕ) × ComesFrom all hops from i × (i < length all) × ((arrival_at all i).source ≡ s)
 
 -- a step from s leads into t
 abbrev pub IsSource : Arrivals → ℕ → ℕ → Type 0

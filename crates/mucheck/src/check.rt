@@ -1,7 +1,7 @@
 // The command `check`.
 
 use console::files::{Files, evidence_names};
-use console::input::{Counted, open};
+use console::input::{CountedInput, open};
 use console::line::{Output, ProgressLine};
 use console::refusal::Refusal;
 use console::same::keep_apart;
@@ -34,8 +34,8 @@ pub fn run_check<T: Threads + Wait + Clock + Clone + Copy + Drop + Send + Sync +
         rt,
         threads,
         request,
-        Counted::new(system, &line),
-        Counted::new(formula, &line),
+        CountedInput::new(system, &line),
+        CountedInput::new(formula, &line),
         &files,
         report,
         &line,
@@ -63,8 +63,8 @@ fn write_files<T: Threads + Wait + Clock + Clone + Copy + Drop + Send + Sync + '
     rt: &HostRuntime,
     threads: &T,
     request: &Check<'_>,
-    system: Counted<'_, T>,
-    formula: Counted<'_, T>,
+    system: CountedInput<'_, T>,
+    formula: CountedInput<'_, T>,
     files: &Files<'_>,
     report: ReportForm,
     line: &ProgressLine<'_, T>,

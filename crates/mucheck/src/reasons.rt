@@ -1,6 +1,6 @@
 // The command `why`.
 
-use console::input::{Counted, open};
+use console::input::{CountedInput, open};
 use console::line::{Output, ProgressLine};
 use console::refusal::Refusal;
 use console::stats::Stats;
@@ -24,8 +24,8 @@ pub fn run_why<T: Threads + Wait + Clock + Clone + Copy + Drop + Send + Sync + '
         threads,
         rt.alloc(),
         request,
-        Counted::new(system, &line),
-        Counted::new(formula, &line),
+        CountedInput::new(system, &line),
+        CountedInput::new(formula, &line),
         &mut Output::new(*rt, &line),
         &line,
     );

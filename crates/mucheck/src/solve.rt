@@ -2,7 +2,7 @@
 
 use commands::solve_text::solve_asked;
 use console::files::{Files, evidence_names};
-use console::input::{Counted, open};
+use console::input::{CountedInput, open};
 use console::line::{Output, ProgressLine};
 use console::refusal::Refusal;
 use console::same::keep_game_apart;
@@ -35,7 +35,7 @@ pub fn run_solve<T: Threads + Wait + Clock + Clone + Copy + Drop + Send + Sync +
         threads,
         rt.alloc(),
         request,
-        Counted::new(game, &line),
+        CountedInput::new(game, &line),
         &mut files.even(),
         &mut files.odd(),
         &mut out,

@@ -1,7 +1,7 @@
 // The command `table`.
 
 use console::fault::tell_fault;
-use console::input::{Counted, Input, open};
+use console::input::{CountedInput, Input, open};
 use console::line::{Output, ProgressLine};
 use console::refusal::{NO_SOURCES, Refusal, tell};
 use console::stats::Stats;
@@ -52,7 +52,7 @@ fn read_system<T: Threads + Wait + Clock + Clone + Copy + Drop + Send + Sync + '
     let line = ProgressLine::new(*rt, threads, Stats::Nothing, None);
     let ticker = line.start();
     line.sees(Stage::ReadingSystem);
-    let read = read_aut(rt.alloc(), Counted::new(system, &line));
+    let read = read_aut(rt.alloc(), CountedInput::new(system, &line));
     line.finish(ticker);
     Ok(read.map_err(MuError::System)?)
 }
@@ -75,7 +75,7 @@ fn write_line<T: Threads + Wait + Clock + Clone + Copy + Drop + Send + Sync + 's
         system,
         request,
         name,
-        Counted::new(formula, &line),
+        CountedInput::new(formula, &line),
         &mut Output::new(*rt, &line),
         &line,
     );

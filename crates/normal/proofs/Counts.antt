@@ -1,7 +1,7 @@
 -- How many nodes normal forms have.
 use Rattle.std.proofs.Common.{◌≡◌, ◌+◌, ◌<◌, ℕ, Bool, List, not, refl, ap, arith}
 use Rattle.calculus.specs.Tree.{Regular, Step, Then, Either, Star, Plus, Formula, True, False, Var, Not, And, Or, Implies, Dia, Box, Mu, Nu}
-use Rattle.normal.specs.Tree.{Norm, Variable, size, two, loop_of, modal, norm, with_binder, modal_count, count}
+use Rattle.normal.specs.Tree.{Norm, Variable, size, two, loop_of, modal, norm, with_binder, modal_count, node_count}
 
 -- A modality has more nodes than its operand.
 pub modal_count_grows : (r : Regular) (x : ℕ) → x < modal_count r x
@@ -33,18 +33,18 @@ modal_size flag (Plus r) f x h at =
     (λ b. omega (arith, two_size flag f (modal flag r (λ _. Variable b)) x (modal_count r 1) h (modal_size flag r (λ _. Variable b) 1 (λ _. refl)) (b + 1)))
     at
 
-pub norm_size : (flag : Bool) (binders : List ℕ → ℕ) (f : Formula) → HasSize (count f) (norm flag binders f)
+pub norm_size : (flag : Bool) (binders : List ℕ → ℕ) (f : Formula) → HasSize (node_count f) (norm flag binders f)
 norm_size flag binders True at = refl
 norm_size flag binders False at = refl
 norm_size flag binders (Var name) at = refl
 norm_size flag binders (Not f) at = norm_size (not flag) binders f at
-norm_size flag binders (And f g) at = two_size (not flag) (norm flag binders f) (norm flag binders g) (count f) (count g) (norm_size flag binders f)
+norm_size flag binders (And f g) at = two_size (not flag) (norm flag binders f) (norm flag binders g) (node_count f) (node_count g) (norm_size flag binders f)
     (norm_size flag binders g) at
-norm_size flag binders (Or f g) at = two_size flag (norm flag binders f) (norm flag binders g) (count f) (count g) (norm_size flag binders f)
+norm_size flag binders (Or f g) at = two_size flag (norm flag binders f) (norm flag binders g) (node_count f) (node_count g) (norm_size flag binders f)
     (norm_size flag binders g) at
-norm_size flag binders (Implies f g) at = two_size flag (norm (not flag) binders f) (norm flag binders g) (count f) (count g)
+norm_size flag binders (Implies f g) at = two_size flag (norm (not flag) binders f) (norm flag binders g) (node_count f) (node_count g)
     (norm_size (not flag) binders f) (norm_size flag binders g) at
-norm_size flag binders (Dia r f) at = modal_size flag r (norm flag binders f) (count f) (norm_size flag binders f) at
-norm_size flag binders (Box r f) at = modal_size (not flag) r (norm flag binders f) (count f) (norm_size flag binders f) at
+norm_size flag binders (Dia r f) at = modal_size flag r (norm flag binders f) (node_count f) (norm_size flag binders f) at
+norm_size flag binders (Box r f) at = modal_size (not flag) r (norm flag binders f) (node_count f) (norm_size flag binders f) at
 norm_size flag binders (Mu name f) at = ap (λ n. 1 + n) (norm_size flag (with_binder binders name at) f (at + 1))
 norm_size flag binders (Nu name f) at = ap (λ n. 1 + n) (norm_size flag (with_binder binders name at) f (at + 1))

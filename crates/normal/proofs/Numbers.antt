@@ -3,7 +3,7 @@ use Rattle.std.proofs.Common.{◌≡◌, ◌+◌, ◌≤◌, ◌<◌, ℕ, Bool,
 use Rattle.std.specs.List.{AllByRecursion}
 use Rattle.std.specs.Str.{bytes_eq}
 use Rattle.calculus.specs.Tree.{Regular, Step, Then, Either, Star, Plus, Formula, True, False, Var, Not, And, Or, Implies, Dia, Box, Mu, Nu}
-use Rattle.normal.specs.Tree.{Norm, Constant, Junction, Modality, Fixpoint, Variable, size, two, loop_of, modal, with_binder, norm, normal_form, count}
+use Rattle.normal.specs.Tree.{Norm, Constant, Junction, Modality, Fixpoint, Variable, size, two, loop_of, modal, with_binder, norm, normal_form, node_count}
 use Rattle.normal.specs.Nodes.{Rule, nodes_by, node_at, parity_from, greatest_priority}
 use Rattle.normal.specs.Rules.{rule_of, nodes_with}
 use Rattle.normal.specs.declared.priorities.Priorities.{Priorities}
@@ -90,7 +90,7 @@ norm_below n flag binders (Nu name f) b at fits = norm_below n flag (with_binder
     (at + 1) (omega (arith, fits))
 
 -- The nodes of a normal form within the limits are those of a `Normal`.
-pub is_form : (priorities : Priorities) (f : Formula) → count f ≤ 4096 → greatest_priority (nodes_with priorities f) ≤ 31 → IsForm (nodes_with priorities f)
+pub is_form : (priorities : Priorities) (f : Formula) → node_count f ≤ 4096 → greatest_priority (nodes_with priorities f) ≤ 31 → IsForm (nodes_with priorities f)
 is_form priorities f few low =
     let tree = normal_form f in
     let rule = rule_of priorities in

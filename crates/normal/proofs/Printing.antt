@@ -3,7 +3,8 @@ use Rattle.std.proofs.Common.{◌≡◌, ℕ, ◌+◌, ◌<◌, ◌≤◌, max, 
 use Rattle.std.proofs.Common.{append_assoc, append-nil}
 use Rattle.std.proofs.Math.ListN.{drop_of_length-le}
 use Rattle.normal.specs.Nodes.{Node, greatest_priority}
-use Rattle.normal.specs.NormalText.{fields, after_spaces, kind_text, rest_of, line_end, node_line, node_lines}
+use Rattle.text.specs.Pieces.{line_end}
+use Rattle.normal.specs.NormalText.{fields, after_spaces, kind_text, rest_of, node_line, node_lines}
 use Rattle.normal.specs.View.{node_of, nodes_of}
 use Rattle.normal.specs.declared.node as declared
 

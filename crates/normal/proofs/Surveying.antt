@@ -7,9 +7,9 @@ use Rattle.std.proofs.lemmas.List.{get_or-set_same, get_or-set_other}
 use Rattle.calculus.specs.Tree.{Action}
 use Rattle.normal.specs.Tree.{Norm, Constant, Junction, Modality, Fixpoint, Variable, ConstantNode, JunctionNode, ModalityNode, FixpointNode, VariableNode}
 use Rattle.normal.specs.Tree.{size, chain, two}
-use Rattle.normal.specs.Nodes.{Node, Rule, nodes_by, greatest, greatest_priority, parity_from}
+use Rattle.normal.specs.Nodes.{Node, Rule, nodes_by, greatest_nested, greatest_priority, parity_from}
 use Rattle.normal.specs.Rules.{names, above, rule_of}
-use Rattle.normal.specs.Surveys.{last_seen, open_at, opened, raised, chosen, past, AreBefore, Summarizes, IsFixpointOf, noted, Surveys, closed}
+use Rattle.normal.specs.Surveys.{last_seen, open_at, opened, raised, chosen, past, AreBefore, Summarizes, IsFixpointOf, noted_rule, Surveys, closed}
 use Rattle.normal.specs.declared.priorities.Priorities.{Priorities}
 use Rattle.normal.specs.declared.priorities.Priorities.TheVariants.{Nested, Dependent}
 use Rattle.normal.specs.declared.survey.Open.{Open}
@@ -76,11 +76,11 @@ parity_from_le : (flag : Bool) (n : ℕ) → parity_from flag n ≤ 1 + n
 parity_from_le true n = omega arith
 parity_from_le false n = omega arith
 
-pub greatest_le_size : (f : Norm) → greatest f ≤ size f
+pub greatest_le_size : (f : Norm) → greatest_nested f ≤ size f
 greatest_le_size (Constant flag) = omega arith
 greatest_le_size (Junction flag f g) = omega (arith, greatest_le_size f, greatest_le_size g)
 greatest_le_size (Modality flag a f) = omega (arith, greatest_le_size f)
-greatest_le_size (Fixpoint flag f) = omega (arith, parity_from_le flag (greatest f), greatest_le_size f)
+greatest_le_size (Fixpoint flag f) = omega (arith, parity_from_le flag (greatest_nested f), greatest_le_size f)
 greatest_le_size (Variable binder) = omega arith
 
 pub chain_le_size : (f : Norm) (first : Bool) → chain f first ≤ size f
@@ -111,7 +111,7 @@ above_le_size b at (Variable c) = omega arith
 
 -- two lists that agree at the tree's numbers give its nodes the same priorities
 noted_agree : (t u : List ℕ) (at : ℕ) (f : Norm) → ((k : ℕ) → at ≤ k → k < at + size f → slice_index t k ≡ slice_index u k)
-    → nodes_by (noted t) at f ≡ nodes_by (noted u) at f
+    → nodes_by (noted_rule t) at f ≡ nodes_by (noted_rule u) at f
 noted_agree t u at (Constant flag) h = let e = h at (omega arith) (omega arith) in λ i. record { shape = ConstantNode flag; priority = e i } ∷ []
 noted_agree t u at (Junction flag f g) h =
     let e = h at (omega arith) (omega arith) in
@@ -196,10 +196,10 @@ junction_surveys old mid one new place f g first second s h w v' is flag =
     kept at (omega arith) ∙ (w.kept at (omega arith) ∙ (leaf_noted old mid place h ∙ junction_zero old.rule at flag left right))
     in
     let zero = junction_zero old.rule at flag left right in
-    let by_left : nodes_by (noted new.priorities) (at + 1) left ≡ nodes_by (rule_of old.rule) (at + 1) left =
+    let by_left : nodes_by (noted_rule new.priorities) (at + 1) left ≡ nodes_by (rule_of old.rule) (at + 1) left =
     noted_agree new.priorities one.priorities (at + 1) left (λ k low high. kept k high) ∙ (w.priorities ∙ ap (λ r. nodes_by (rule_of r) (at + 1) left) h.rule)
     in
-    let by_right : nodes_by (noted new.priorities) middle right ≡ nodes_by (rule_of old.rule) middle right = v.priorities
+    let by_right : nodes_by (noted_rule new.priorities) middle right ≡ nodes_by (rule_of old.rule) middle right = v.priorities
     ∙ ap (λ r. nodes_by (rule_of r) middle right) (w.rule ∙ h.rule) in
     let first_greatest : first.greatest ≡ greatest_priority (nodes_by (rule_of old.rule) (at + 1) left) = w.summary.greatest
     ∙ ap (λ r. greatest_priority (nodes_by (rule_of r) (at + 1) left)) h.rule in
@@ -235,7 +235,7 @@ modality_surveys old mid new place f s h w flag a =
     let own : slice_index new.priorities at ≡ rule_of old.rule at (Modality flag a f) = w.kept at (omega arith)
     ∙ (leaf_noted old mid place h ∙ modality_zero old.rule at flag a f) in
     let zero = modality_zero old.rule at flag a f in
-    let rest : nodes_by (noted new.priorities) (at + 1) f ≡ nodes_by (rule_of old.rule) (at + 1) f = w.priorities
+    let rest : nodes_by (noted_rule new.priorities) (at + 1) f ≡ nodes_by (rule_of old.rule) (at + 1) f = w.priorities
     ∙ ap (λ r. nodes_by (rule_of r) (at + 1) f) h.rule in
     record {
       priorities = λ i. record { shape = ModalityNode flag a (at + 1); priority = own i } ∷ rest i;
@@ -255,7 +255,7 @@ modality_surveys old mid new place f s h w flag a =
 
 -- ---- fixpoints
 
-by_rule : (r : Priorities) (at : ℕ) (flag : Bool) (f : Norm) (inside over : ℕ) → inside ≡ greatest f → over ≡ above at (at + 1) f
+by_rule : (r : Priorities) (at : ℕ) (flag : Bool) (f : Norm) (inside over : ℕ) → inside ≡ greatest_nested f → over ≡ above at (at + 1) f
     → chosen r flag inside over ≡ rule_of r at (Fixpoint flag f)
 by_rule Nested at flag f inside over e h = ap (parity_from flag) e
 by_rule Dependent at flag f inside over e h = ap (parity_from flag) h
@@ -357,7 +357,7 @@ fixpoint_surveys old mid end new place flag f inside s h w k before =
     let is : priority ≡ rule_of old.rule at (Fixpoint flag f) = by_rule end.rule at flag f inside.nested
     (open_at end.opens place.level).above w.summary.nested over ∙ ap (λ r. rule_of r at (Fixpoint flag f)) rule in
     let own : slice_index new.priorities at ≡ rule_of old.rule at (Fixpoint flag f) = k.own ∙ is in
-    let rest : nodes_by (noted new.priorities) (at + 1) f ≡ nodes_by (rule_of old.rule) (at + 1) f =
+    let rest : nodes_by (noted_rule new.priorities) (at + 1) f ≡ nodes_by (rule_of old.rule) (at + 1) f =
     noted_agree new.priorities end.priorities (at + 1) f (λ n low high. k.others n (λ e. omega arith))
     ∙ (w.priorities ∙ ap (λ r. nodes_by (rule_of r) (at + 1) f) h.rule)
     in

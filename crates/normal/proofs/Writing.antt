@@ -6,7 +6,7 @@ use Rattle.std.proofs.lemmas.List.{map-set, get_or-map, length-map}
 use Rattle.std.proofs.Math.Seq.{set-append_seam, get_or-append_seam}
 use Rattle.normal.specs.Tree.{Norm, Constant, Junction, Modality, Fixpoint, Variable, Shape, JunctionNode, size, two, preorder}
 use Rattle.normal.specs.Nodes.{Node, nodes_by, node_at}
-use Rattle.normal.specs.Surveys.{noted}
+use Rattle.normal.specs.Surveys.{noted_rule}
 use Rattle.normal.specs.View.{shape_of, node_of, nodes_of}
 use Rattle.normal.specs.Writes.{Writes}
 use Rattle.normal.specs.declared.node as declared
@@ -28,13 +28,13 @@ preorder_length say at (Variable binder) = refl
 
 -- these nodes follow the old ones
 abbrev Follows : List ℕ → (at : ℕ) (old new : List Node) → Norm → Type 0
-Follows priorities at old new f = new ≡ old ++ nodes_by (noted priorities) at f
+Follows priorities at old new f = new ≡ old ++ nodes_by (noted_rule priorities) at f
 
 -- Writing a part makes as many nodes as its tree has.
 pub writes_length : (old new : Preorder) (f : Norm) → Writes old new f → vec_len new.nodes ≡ vec_len old.nodes + size f
 writes_length old new f w =
     let at = vec_len old.nodes in
-    let table = noted old.priorities.now in
+    let table = noted_rule old.priorities.now in
     omega (
       arith,
       old.nodes.ok.0,
@@ -70,7 +70,7 @@ junction_nodes : (priorities : List ℕ) (i at m n : ℕ) (old mid : List Node) 
     → x ≡ get_or xs i x → shape_of k ≡ JunctionNode flag (at + 1) n
     → Follows priorities at old (nodes_of (set xs i (record { kind = k; priority = x.priority }))) (two flag f g at)
 junction_nodes priorities i at m n old mid ys xs x k shape flag f g start reserved at_is next w count v read kind =
-    let table = noted priorities in
+    let table = noted_rule priorities in
     let left : Follows priorities (at + 1) mid ys (f (at + 1)) = subst (λ n. Follows priorities n mid ys (f n)) next w in
     let front = nodes_by table (at + 1) (f (at + 1)) in
     let slot : Node = record { shape = shape; priority = slice_index priorities at } in

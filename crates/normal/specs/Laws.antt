@@ -2,7 +2,7 @@
 use Rattle.std.specs.Prelude.{◌≡◌, ◌≤◌}
 use Rattle.std.specs.List.{AllZip}
 use Rattle.calculus.specs.Tree.{Formula}
-use Rattle.normal.specs.Tree.{size, count, depth, normal_form}
+use Rattle.normal.specs.Tree.{size, node_count, depth, normal_form}
 use Rattle.normal.specs.Nodes.{greatest_priority}
 use Rattle.normal.specs.Rules.{nodes_with}
 use Rattle.normal.specs.declared.priorities.Priorities.{Priorities}
@@ -13,7 +13,7 @@ abbrev pub PriorityWithinDepth : Type 0
 PriorityWithinDepth = (priorities : Priorities) (f : Formula) → greatest_priority (nodes_with priorities f) ≤ depth (normal_form f)
 
 abbrev pub CountIsSize : Type 0
-CountIsSize = (f : Formula) → count f ≡ size (normal_form f)
+CountIsSize = (f : Formula) → node_count f ≡ size (normal_form f)
 
 -- No dependent priority is above the nested one of the same node.
 abbrev pub DependentIsLower : Type 0

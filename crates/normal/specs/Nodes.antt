@@ -24,16 +24,16 @@ parity_from true n = n + (1 - n % 2)
 parity_from false n = n + n % 2
 
 -- the greatest priority in the tree by the nested rule
-abbrev pub greatest : Norm → ℕ
-greatest (Constant flag) = 0
-greatest (Junction flag f g) = max (greatest f) (greatest g)
-greatest (Modality flag a f) = greatest f
-greatest (Fixpoint flag f) = parity_from flag (greatest f)
-greatest (Variable binder) = 0
+abbrev pub greatest_nested : Norm → ℕ
+greatest_nested (Constant flag) = 0
+greatest_nested (Junction flag f g) = max (greatest_nested f) (greatest_nested g)
+greatest_nested (Modality flag a f) = greatest_nested f
+greatest_nested (Fixpoint flag f) = parity_from flag (greatest_nested f)
+greatest_nested (Variable binder) = 0
 
 -- The nested rule: a binder's priority is the least of its parity that is at least those of all binders inside it; all others have 0.
 abbrev pub nested : Rule
-nested at (Fixpoint flag f) = parity_from flag (greatest f)
+nested at (Fixpoint flag f) = parity_from flag (greatest_nested f)
 nested at f = 0
 
 -- the nodes of a formula's normal form, with the nested priorities

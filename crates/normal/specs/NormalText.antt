@@ -1,6 +1,7 @@
 -- The text of a normal form.
 use Rattle.std.specs.Prelude.{ℕ, ◌+◌, List, [], ◌∷◌, ◌++◌, length, codes, decimal, if◌then◌else◌}
 use Rattle.std.specs.List.{join_with_byte}
+use Rattle.text.specs.Pieces.{line_end}
 use Rattle.calculus.specs.Canon.{action_text}
 use Rattle.normal.specs.Tree.{Shape, ConstantNode, JunctionNode, ModalityNode, FixpointNode, VariableNode}
 use Rattle.normal.specs.Nodes.{Node, greatest_priority}
@@ -29,10 +30,6 @@ rest_of (JunctionNode flag left right) = decimal left ∷ decimal right ∷ []
 rest_of (ModalityNode flag a child) = decimal child ∷ action_text a ∷ []
 rest_of (FixpointNode flag child) = decimal child ∷ []
 rest_of (VariableNode binder) = decimal binder ∷ []
-
--- LF
-abbrev pub line_end : List ℕ
-line_end = 10 ∷ []
 
 -- `number kind priority ..`
 abbrev pub node_line : ℕ → Node → List ℕ

@@ -1,7 +1,7 @@
 -- What a survey of a part finds: the priorities of its nodes, and what the binders around it have to know of it.
 use Rattle.std.specs.Prelude.{◌≡◌, ℕ, ◌+◌, ◌<◌, max, Bool, true, false, List, slice_index, slice_index_or, nat_lt, ◌==◌, if◌then◌else◌}
 use Rattle.normal.specs.Tree.{Norm, Constant, Junction, Modality, Fixpoint, Variable, size, chain}
-use Rattle.normal.specs.Nodes.{Rule, nodes_by, greatest, greatest_priority, parity_from}
+use Rattle.normal.specs.Nodes.{Rule, nodes_by, greatest_nested, greatest_priority, parity_from}
 use Rattle.normal.specs.Rules.{above, rule_of}
 use Rattle.normal.specs.declared.priorities.Priorities.{Priorities}
 use Rattle.normal.specs.declared.priorities.Priorities.TheVariants.{Nested, Dependent}
@@ -30,8 +30,8 @@ abbrev pub opened : ℕ → Open
 opened at = record { number = at; last = at; above = 0 }
 
 -- an open binder when a variable of binder c was seen
-abbrev pub seen : ℕ → ℕ → Open → Open
-seen c at o = record { number = o.number; last = if c == o.number then at else o.last; above = o.above }
+abbrev pub seen_open : ℕ → ℕ → Open → Open
+seen_open c at o = record { number = o.number; last = if c == o.number then at else o.last; above = o.above }
 
 -- an open binder when one inside it, of this number, was given a priority
 abbrev pub raised : ℕ → ℕ → Open → Open
@@ -53,14 +53,14 @@ AreBefore opens level at = (i : ℕ) → i < level → (open_at opens i).last < 
 -- the number past the tree, its greatest priorities, and its longest chains by the kind that they begin with
 pub record Summarizes (rule : Rule) (at : ℕ) (f : Norm) (s : Summary) : Type 0 where
   pub next : s.next ≡ at + size f
-  pub nested : s.nested ≡ greatest f
+  pub nested : s.nested ≡ greatest_nested f
   pub greatest : s.greatest ≡ greatest_priority (nodes_by rule at f)
   pub from_least : s.from_least ≡ chain f true
   pub from_greatest : s.from_greatest ≡ chain f false
 
 -- the priorities of a list, by number
-abbrev pub noted : List ℕ → Rule
-noted priorities k f = slice_index priorities k
+abbrev pub noted_rule : List ℕ → Rule
+noted_rule priorities k f = slice_index priorities k
 
 -- the summary of a fixpoint of what is inside, where its binder has this priority
 pub record IsFixpointOf (flag : Bool) (inside : Summary) (priority : ℕ) (s : Summary) : Type 0 where
@@ -72,7 +72,7 @@ pub record IsFixpointOf (flag : Bool) (inside : Summary) (priority : ℕ) (s : S
 
 -- The priorities of the tree's nodes were noted, and what its open binders have to know.
 pub record Surveys (old new : Survey) (place : Place) (f : Norm) (s : Summary) : Type 0 where
-  pub priorities : nodes_by (noted new.priorities) place.at f ≡ nodes_by (rule_of old.rule) place.at f
+  pub priorities : nodes_by (noted_rule new.priorities) place.at f ≡ nodes_by (rule_of old.rule) place.at f
   pub kept : (k : ℕ) → k < place.at → slice_index new.priorities k ≡ slice_index old.priorities k
   pub opens : (i : ℕ) → i < place.level → open_at new.opens i ≡ past place.at f (open_at old.opens i)
   pub rule : new.rule ≡ old.rule

@@ -68,18 +68,18 @@ modal_count (Star r) x = 2 + x + modal_count r 1
 modal_count (Plus r) x = modal_count r (2 + x + modal_count r 1)
 
 -- how many nodes the formula's normal form has
-abbrev pub count : Formula → ℕ
-count True = 1
-count False = 1
-count (Var name) = 1
-count (Not f) = count f
-count (And f g) = 1 + count f + count g
-count (Or f g) = 1 + count f + count g
-count (Implies f g) = 1 + count f + count g
-count (Dia r f) = modal_count r (count f)
-count (Box r f) = modal_count r (count f)
-count (Mu name f) = 1 + count f
-count (Nu name f) = 1 + count f
+abbrev pub node_count : Formula → ℕ
+node_count True = 1
+node_count False = 1
+node_count (Var name) = 1
+node_count (Not f) = node_count f
+node_count (And f g) = 1 + node_count f + node_count g
+node_count (Or f g) = 1 + node_count f + node_count g
+node_count (Implies f g) = 1 + node_count f + node_count g
+node_count (Dia r f) = modal_count r (node_count f)
+node_count (Box r f) = modal_count r (node_count f)
+node_count (Mu name f) = 1 + node_count f
+node_count (Nu name f) = 1 + node_count f
 
 -- the longest chain of nested binders whose kinds alternate, of those that begin with this flag
 abbrev pub chain : Norm → Bool → ℕ

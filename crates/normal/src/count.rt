@@ -2,7 +2,7 @@
 
 ghost use Rattle.std.specs.Prelude.{◌≡◌, ◌<◌, ◌≤◌, MatchOption};
 ghost use Rattle.calculus.specs.View.{regular_of, formula_of};
-ghost use Rattle.normal.specs.Tree.{count as count_of, modal_count as modal_count_of};
+ghost use Rattle.normal.specs.Tree.{node_count as count_of, modal_count as modal_count_of};
 
 use crate::limits::MOST_NODES;
 use calculus::tree::{Reg, State};

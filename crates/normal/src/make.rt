@@ -2,7 +2,7 @@
 
 ghost use Rattle.std.specs.Prelude.{◌≡◌, ◌≤◌, max, IfOk, OnOk, IfErr};
 ghost use Rattle.calculus.specs.Closed.{closed_formula};
-ghost use Rattle.normal.specs.Tree.{count as count_of, depth, normal_form};
+ghost use Rattle.normal.specs.Tree.{node_count as count_of, depth, normal_form};
 ghost use Rattle.normal.specs.Nodes.{nodes, greatest_priority};
 ghost use Rattle.normal.specs.Rules.{nodes_with};
 ghost use Rattle.normal.specs.Normal.{normal_nodes, normal_depth};

@@ -5,7 +5,8 @@ ghost use Rattle.calculus.specs.View.{action_of};
 ghost use Rattle.calculus.specs.Canon.{action_text};
 ghost use Rattle.text.specs.Wrote.{Wrote};
 ghost use Rattle.normal.specs.Nodes.{greatest_priority as greatest_priority_of};
-ghost use Rattle.normal.specs.NormalText.{normal_text, summary_line, kind_text, rest_of, fields, after_spaces, line_end, node_line, node_lines};
+ghost use Rattle.text.specs.Pieces.{line_end};
+ghost use Rattle.normal.specs.NormalText.{normal_text, summary_line, kind_text, rest_of, fields, after_spaces, node_line, node_lines};
 ghost use Rattle.normal.specs.View.{node_of, nodes_of, shape_of};
 ghost use Rattle.normal.specs.Normal.{normal_nodes, normal_depth};
 

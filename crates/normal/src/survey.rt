@@ -6,7 +6,7 @@ ghost use Rattle.calculus.specs.Tree.{Action};
 ghost use Rattle.normal.specs.Tree.{Variable, Modality, Fixpoint, size, two, modal, loop_of, norm};
 ghost use Rattle.normal.specs.Nodes.{parity_from};
 ghost use Rattle.normal.specs.Part.{tree_of, binders_of};
-ghost use Rattle.normal.specs.Surveys.{open_at, opened, seen, raised, chosen, IsFixpointOf, AreBefore, Surveys};
+ghost use Rattle.normal.specs.Surveys.{open_at, opened, seen_open, raised, chosen, IsFixpointOf, AreBefore, Surveys};
 
 use crate::limits::MOST_NODES;
 use crate::part::{Part, Scope, binder_of};
@@ -160,7 +160,7 @@ fn of_fixpoint(flag: bool, inside: Summary, priority: u32) -> Summary
 // The variable of a binder was seen.
 fn see(opens: &mut [Open], level: u32, binder: u32, at: u32)
     requires { level ≤ length opens.old }
-    ensures { (i : ℕ) → i < level → open_at opens.new i ≡ seen binder at (open_at opens.old i) }
+    ensures { (i : ℕ) → i < level → open_at opens.new i ≡ seen_open binder at (open_at opens.old i) }
 {
     for i in 0..level as usize {
         if opens[i].number == binder {

@@ -15,7 +15,7 @@ use Rattle.pgsolver.specs.Plain.{IsLineThen, PassesAtHand}
 
 pub at_hand_is : (block targets : List ℕ) (head : Head) (n : ℕ) (old mid new : Option (List ℕ)) (limit : Option ℕ) → IfSome old (λ xs. StartsWith xs block)
     → Keeps old mid → IfSome old (λ _. IfSome limit (λ n. length block ≤ n)) → DropsConsumable mid new limit n → n ≤ length block
-    → IsLineThen (at.line_of head targets) block (drop n block) → IfKnown old new (PassesAtHand targets (Some head))
+    → IsLineThen (at.line_said head targets) block (drop n block) → IfKnown old new (PassesAtHand targets (Some head))
 at_hand_is block targets head n old mid new limit front same fits drops within l =
     known_only {P = TakesOff block n} {Q = PassesAtHand targets (Some head)} old new (taken_off block n old mid new limit front same fits drops within)
     (λ text left (more, whole, rest).

@@ -17,9 +17,9 @@ use Rattle.game.specs.declared.player.Player.{Player}
 use Rattle.game.specs.declared.player.Player.TheVariants.{Even, Odd}
 use Rattle.game.specs.declared.limits.TheConstants.{MOST_VERTICES}
 use Rattle.game.specs.Game.{Vertex, Game, IsGame, IsVertex, IsAscending, greatest, greatest_of}
-use Rattle.game.specs.NumberSet.{set_of}
-use Rattle.pgsolver.specs.Canon.{header_line, owner_digit, front_text, successors_text, vertex_name, name_text, vertex_lines, game_text}
-use Rattle.pgsolver.specs.Spelling.{Line, IsHeader, IsLine, IsWithin, IsName, is_name, name_tokens, with_commas, IsGameText, vertex_of}
+use Rattle.game.specs.NumberSet.{number_set}
+use Rattle.pgsolver.specs.Canon.{game_header_line, owner_digit, front_text, successors_text, vertex_name, name_text, vertex_lines, game_text}
+use Rattle.pgsolver.specs.Spelling.{Line, IsHeader, IsLine, IsLineWithin, IsName, is_vertex_name, name_tokens, with_commas, IsGameText, vertex_said}
 use Rattle.pgsolver.proofs.Sets.{up_set, up_ascending}
 
 abbrev Tokens : Type 0
@@ -36,7 +36,7 @@ header_is n small = (decimal n, numeral n small, ([], 32 ∷ (decimal n ++ codes
 header_plain : (n : ℕ) → n < 2 ^ 64 → list_all plain (header_body n) ≡ true
 header_plain n small = list_all-append plain (decimal n) (codes ";") ∙ rw (number_plain n small) refl
 
-header_cut : (n : ℕ) (rest : List ℕ) → header_line n ++ rest ≡ header_body n ++ 10 ∷ rest
+header_cut : (n : ℕ) (rest : List ℕ) → game_header_line n ++ rest ≡ header_body n ++ 10 ∷ rest
 header_cut n rest = ap (λ l. codes "parity " ++ l) (append_assoc (decimal n) (59 ∷ 10 ∷ []) rest ∙ sym (append_assoc (decimal n) (59 ∷ []) (10 ∷ rest)))
 
 -- ---- names
@@ -55,7 +55,7 @@ digits_label (d ∷ ds) h = let parts = and_parts (is_digit d) (list_all is_digi
 number_label : (n : ℕ) → n < 2 ^ 64 → list_all is_label_byte (decimal n) ≡ true
 number_label n small = digits_label (decimal n) (numeral_digits (decimal n) (numeral n small).0)
 
-pair_name : (a b : ℕ) → a < 2 ^ 64 → b < 2 ^ 64 → is_name (decimal a ++ (codes "," ++ decimal b)) ≡ true
+pair_name : (a b : ℕ) → a < 2 ^ 64 → b < 2 ^ 64 → is_vertex_name (decimal a ++ (codes "," ++ decimal b)) ≡ true
 pair_name a b ha hb =
     let short_a = length-decimal-le 20 a (omega arith) (omega arith) ha in
     let short_b = length-decimal-le 20 b (omega arith) (omega arith) hb in
@@ -65,7 +65,7 @@ pair_name a b ha hb =
     and_from (nat_le (length (decimal a ++ (codes "," ++ decimal b))) 4096) (list_all is_label_byte (decimal a ++ (codes "," ++ decimal b)))
     (le-leb _ _ short) bytes
 
-name_ok : (nodes v : ℕ) → v < 2 ^ 32 → is_name (vertex_name nodes v) ≡ true
+name_ok : (nodes v : ℕ) → v < 2 ^ 32 → is_vertex_name (vertex_name nodes v) ≡ true
 name_ok nodes zero h = refl
 name_ok nodes (suc zero) h = refl
 name_ok zero (suc (suc i)) h = pair_name (i / 0) (i % 0) (omega arith) (omega arith)
@@ -204,7 +204,7 @@ all_near n [] h = tt
 all_near n (t ∷ ts) h = (omega (arith, h.0), all_near n ts h.1)
 
 within_lines : (n v : ℕ) (vs : List Vertex) → v + length vs ≤ n + 1 → AllByRecursion (IsVertex (n + 1)) vs → greatest_of vs ≤ GREATEST_PRIORITY
-    → AllByRecursion (IsWithin n) (lines_for v vs)
+    → AllByRecursion (IsLineWithin n) (lines_for v vs)
 within_lines n v [] room h low = tt
 within_lines n v (x ∷ vs) room h low = (
   record {
@@ -228,15 +228,15 @@ line_id v (x ∷ vs) (suc k) d below = omega (arith, line_id (v + 1) vs k d (ome
 apart_lines : (v : ℕ) (vs : List Vertex) → AllPairs (λ x y. x.id ≢ y.id) (lines_for v vs)
 apart_lines v vs i j d less below e = omega (arith, line_id v vs i d (omega arith), line_id v vs j d below, e, less)
 
-own_set : (x : Vertex) (v : ℕ) → 1 ≤ length x.successors → IsAscending x.successors → vertex_of (line_of_vertex v x) ≡ x
+own_set : (x : Vertex) (v : ℕ) → 1 ≤ length x.successors → IsAscending x.successors → vertex_said (line_of_vertex v x) ≡ x
 own_set x v some up = λ i. record { owner = x.owner; priority = x.priority; successors = own x.successors some up i }
   where
-    own : (ts : List ℕ) → 1 ≤ length ts → IsAscending ts → set_of ts ≡ ts
+    own : (ts : List ℕ) → 1 ≤ length ts → IsAscending ts → number_set ts ≡ ts
     own [] some up = refl
     own (t ∷ ts) some up = up_set t (t ∷ ts) (up_ascending t ts up)
 
 line_vertex : (n v : ℕ) (vs : List Vertex) (k : ℕ) (d : Line) → AllByRecursion (IsVertex n) vs → k < length (lines_for v vs)
-    → slice_get vs k ≡ Some (vertex_of (get_or (lines_for v vs) k d))
+    → slice_get vs k ≡ Some (vertex_said (get_or (lines_for v vs) k d))
 line_vertex n v [] k d h below = absurd (omega arith)
 line_vertex n v (x ∷ vs) zero d h below = ap Some (sym (own_set x v h.0.some h.0.ascending))
 line_vertex n v (x ∷ vs) (suc k) d h below = line_vertex n (v + 1) vs k d h.1 (omega arith)
@@ -268,6 +268,6 @@ canon_spells g known some low =
       placed = λ x there.
           let (k, below, at) = there in
           let id : x.id ≡ k = sym (ap (λ (l : Line). l.id) at) ∙ line_id 0 g.vertices k x below ∙ omega arith in
-          ap (slice_get g.vertices) id ∙ line_vertex (n + 1) 0 g.vertices k x all below ∙ ap (λ l. Some (vertex_of l)) at;
+          ap (slice_get g.vertices) id ∙ line_vertex (n + 1) 0 g.vertices k x all below ∙ ap (λ l. Some (vertex_said l)) at;
       unnamed = refl;
     }

@@ -16,7 +16,7 @@ use Rattle.game.specs.declared.player.Player.TheVariants.{Even}
 use Rattle.text.specs.Tokens.{capped}
 use Rattle.pgsolver.specs.Fault.{BodyFault, HasBadSuccessor, HasFault, IsBadId, LineFault}
 use Rattle.pgsolver.specs.Scan.{header_at, line_at}
-use Rattle.pgsolver.specs.Spelling.{AreGood, IsGameText, IsHeader, IsLine, IsWithin, Line, vertex_of}
+use Rattle.pgsolver.specs.Spelling.{AreGoodLines, IsGameText, IsHeader, IsLine, IsLineWithin, Line, vertex_said}
 use Rattle.pgsolver.specs.declared.error.PgFault.{PgFault}
 use Rattle.pgsolver.specs.declared.error.PgFault.TheVariants.{BadHeader, BadIdentifier, BadLine, BadSuccessor, PriorityTooGreat, TooManyVertices}
 use Rattle.pgsolver.proofs.Judging.{bad_line}
@@ -51,7 +51,7 @@ far_or_near n (t ∷ ts) = elim (leb_tells t n) [
 module _ (n : ℕ) where
   -- a line behind others
   data Judged (before : List Line) (line : List ℕ) : Type 0 where
-    fine : (x : Line) → IsLine line x → IsWithin n x → ((y : Line) → Contains before y → y.id ≡ x.id → ⊥) → Judged before line
+    fine : (x : Line) → IsLine line x → IsLineWithin n x → ((y : Line) → Contains before y → y.id ≡ x.id → ⊥) → Judged before line
     no_line : LineFault n before line BadLine → Judged before line
     no_id : LineFault n before line BadIdentifier → Judged before line
     no_successor : LineFault n before line BadSuccessor → Judged before line
@@ -59,7 +59,7 @@ module _ (n : ℕ) where
 
   -- all lines say what they should, as many as there should be, or a fault decides
   data Rest (rest : List (List ℕ)) : Type 0 where
-    all : (spelled : List Line) → AreGood n rest spelled → length rest ≡ n + 1 → Rest rest
+    all : (spelled : List Line) → AreGoodLines n rest spelled → length rest ≡ n + 1 → Rest rest
     wrong : (fault : PgFault) (good : ℕ) → BodyFault n rest fault good → Rest rest
 
   module _ (before : List Line) (line : List ℕ) where
@@ -109,12 +109,12 @@ module _ (n : ℕ) where
   each_more (l ∷ done) [] line x each one = absurd each
   each_more (l ∷ done) (y ∷ spelled) line x each one = (each.0, each_more done spelled line x each.1 one)
 
-  all_more : (spelled : List Line) (x : Line) → AllByRecursion (IsWithin n) spelled → IsWithin n x → AllByRecursion (IsWithin n) (spelled ++ x ∷ [])
+  all_more : (spelled : List Line) (x : Line) → AllByRecursion (IsLineWithin n) spelled → IsLineWithin n x → AllByRecursion (IsLineWithin n) (spelled ++ x ∷ [])
   all_more [] x every one = (one, tt)
   all_more (y ∷ spelled) x every one = (every.0, all_more spelled x every.1 one)
 
-  longer : (front : List (List ℕ)) (spelled : List Line) (line : List ℕ) (x : Line) → AreGood n front spelled → IsLine line x → IsWithin n x
-      → ((y : Line) → Contains spelled y → y.id ≡ x.id → ⊥) → AreGood n (front ++ line ∷ []) (spelled ++ x ∷ [])
+  longer : (front : List (List ℕ)) (spelled : List Line) (line : List ℕ) (x : Line) → AreGoodLines n front spelled → IsLine line x → IsLineWithin n x
+      → ((y : Line) → Contains spelled y → y.id ≡ x.id → ⊥) → AreGoodLines n (front ++ line ∷ []) (spelled ++ x ∷ [])
   longer front spelled line x good is within free = record {
     each = each_more front spelled line x good.each is;
     within = all_more spelled x good.within within;
@@ -123,15 +123,15 @@ module _ (n : ℕ) where
   }
 
   -- no more lines than identifiers
-  at_most : (front : List (List ℕ)) (spelled : List Line) → AreGood n front spelled → length front ≤ n + 1
+  at_most : (front : List (List ℕ)) (spelled : List Line) → AreGoodLines n front spelled → length front ≤ n + 1
   at_most front spelled good = omega (
     arith,
     zip_length front spelled good.each,
-    few_lines n spelled good.once (λ x there. (all_has (IsWithin n) spelled x good.within there).id),
+    few_lines n spelled good.once (λ x there. (all_has (IsLineWithin n) spelled x good.within there).id),
   )
 
-  at_line : (rest front : List (List ℕ)) (line : List ℕ) (back : List (List ℕ)) (spelled : List Line) → rest ≡ front ++ line ∷ back → AreGood n front spelled
-      → ((x : Line) → IsLine line x → IsWithin n x → ((y : Line) → Contains spelled y → y.id ≡ x.id → ⊥) → Rest rest) → Judged spelled line → Rest rest
+  at_line : (rest front : List (List ℕ)) (line : List ℕ) (back : List (List ℕ)) (spelled : List Line) → rest ≡ front ++ line ∷ back → AreGoodLines n front spelled
+      → ((x : Line) → IsLine line x → IsLineWithin n x → ((y : Line) → Contains spelled y → y.id ≡ x.id → ⊥) → Rest rest) → Judged spelled line → Rest rest
   at_line rest front line back spelled cut good go (fine x is within free) = go x is within free
   at_line rest front line back spelled cut good go (no_line bad) = wrong BadLine (length front)
       (record { front = front; line = line; back = back; before = spelled; cut = cut; good_lines = good; count = refl; wrong = bad })
@@ -142,16 +142,16 @@ module _ (n : ℕ) where
   at_line rest front line back spelled cut good go (no_priority bad) = wrong PriorityTooGreat (length front)
       (record { front = front; line = line; back = back; before = spelled; cut = cut; good_lines = good; count = refl; wrong = bad })
 
-  at_end : (rest : List (List ℕ)) (spelled : List Line) → AreGood n rest spelled → Rest rest
+  at_end : (rest : List (List ℕ)) (spelled : List Line) → AreGoodLines n rest spelled → Rest rest
   at_end rest spelled good = elim (leb_tells (n + 1) (length rest)) [
     | inl w ↦ all spelled good (omega (arith, w.1, at_most rest spelled good))
     | inr w ↦ wrong BadIdentifier (length rest) (inr (record { spelled = spelled; good_lines = good; few = w.1; count = refl }))
   ]
 
-  behind : (rest front back : List (List ℕ)) (spelled : List Line) → rest ≡ front ++ back → AreGood n front spelled → Rest rest
+  behind : (rest front back : List (List ℕ)) (spelled : List Line) → rest ≡ front ++ back → AreGoodLines n front spelled → Rest rest
   behind rest front [] spelled cut good =
       let whole : rest ≡ front = cut ∙ append-nil front in
-      at_end rest spelled (subst (λ ls. AreGood n ls spelled) (sym whole) good)
+      at_end rest spelled (subst (λ ls. AreGoodLines n ls spelled) (sym whole) good)
   behind rest front (line ∷ back) spelled cut good =
       at_line rest front line back spelled cut good
       (λ x is within free. behind rest (front ++ line ∷ []) back (spelled ++ x ∷ []) (cut ∙ sym (append_assoc front (line ∷ []) back))
@@ -166,14 +166,14 @@ module _ (n : ℕ) where
 -- the vertex of the line that has this identifier
 pick : List Line → ℕ → Vertex
 pick [] v = record { owner = Even; priority = 0; successors = [] }
-pick (x ∷ spelled) v = cond (x.id == v) (vertex_of x) (pick spelled v)
+pick (x ∷ spelled) v = cond (x.id == v) (vertex_said x) (pick spelled v)
 
-pick_is : (spelled : List Line) (x : Line) → Differ spelled → Has spelled x → pick spelled x.id ≡ vertex_of x
+pick_is : (spelled : List Line) (x : Line) → Differ spelled → Has spelled x → pick spelled x.id ≡ vertex_said x
 unfolding pick
 pick_is [] x apart there = absurd there
 pick_is (y ∷ spelled) x apart there =
-    elim (y.id == x.id) as (λ b. (y.id == x.id) ≡ b → cond b (vertex_of y) (pick spelled x.id) ≡ vertex_of x) [
-      | true ↦ λ q. ap vertex_of (one_line (y ∷ spelled) y x apart (inl refl) there (eqb-true y.id x.id q))
+    elim (y.id == x.id) as (λ b. (y.id == x.id) ≡ b → cond b (vertex_said y) (pick spelled x.id) ≡ vertex_said x) [
+      | true ↦ λ q. ap vertex_said (one_line (y ∷ spelled) y x apart (inl refl) there (eqb-true y.id x.id q))
       | false ↦ λ q. elim there [
         | inl e ↦ absurd (eqb-false y.id x.id q (ap (λ (l : Line). l.id) e))
         | inr k ↦ pick_is spelled x (differ_rest y spelled apart) k
@@ -199,7 +199,7 @@ values_at f v (suc count) (suc k) inside =
     values_at f (v + 1) count k (omega (arith, inside)) ∙ ap (λ u. Some (f u)) same
 
 spelled_by : (text first : List ℕ) (rest : List (List ℕ)) (n : ℕ) (spelled : List Line) → lines text ≡ first ∷ rest → IsHeader first n → n < MOST_VERTICES
-    → AreGood n rest spelled → length rest ≡ n + 1
+    → AreGoodLines n rest spelled → length rest ≡ n + 1
     → IsGameText text (record { vertices = values (pick spelled) 0 (n + 1); named = None })
 spelled_by text first rest n spelled cut header limit good complete = record {
   n = n;
@@ -214,7 +214,7 @@ spelled_by text first rest n spelled cut header limit good complete = record {
   size = values_long (pick spelled) 0 (n + 1);
   placed = λ x there. (
       let has = Has-from_Contains spelled x there in
-      let low = (all_has (IsWithin n) spelled x good.within has).id in
+      let low = (all_has (IsLineWithin n) spelled x good.within has).id in
       let same : 0 + x.id ≡ x.id = omega arith in
       values_at (pick spelled) 0 (n + 1) x.id (omega (arith, low)) ∙ ap (λ v. Some (pick spelled v)) same ∙ ap Some (pick_is spelled x good.once has));
   unnamed = refl;

@@ -13,7 +13,7 @@ use Rattle.game.specs.declared.limits.TheConstants.{MOST_VERTICES}
 use Rattle.game.specs.Game.{Game}
 use Rattle.pgsolver.specs.declared.error.PgFault.{PgFault}
 use Rattle.pgsolver.specs.declared.error.PgFault.TheVariants.{BadHeader, BadLine, BadIdentifier, BadSuccessor, PriorityTooGreat, TooManyVertices}
-use Rattle.pgsolver.specs.Spelling.{Line, IsHeader, IsLine, IsWithin, AreGood, IsGameText}
+use Rattle.pgsolver.specs.Spelling.{Line, IsHeader, IsLine, IsLineWithin, AreGoodLines, IsGameText}
 use Rattle.pgsolver.specs.Fault.{IsBadId, HasBadSuccessor, LineFault, HeaderFault, FaultyLine, BodyFault, HasFault}
 use Rattle.pgsolver.specs.Left.{has_far}
 use Rattle.pgsolver.proofs.Judging.{far_one}
@@ -26,14 +26,14 @@ record IsAmong (n : ℕ) (front : List (List ℕ)) (line : List ℕ) (spelled : 
   before : List Line
   x : Line
   each : AllZip IsLine front before
-  within_before : AllByRecursion (IsWithin n) before
+  within_before : AllByRecursion (IsLineWithin n) before
   is : IsLine line x
-  within : IsWithin n x
+  within : IsLineWithin n x
   there : Has spelled x
   apart : (y : Line) → Has before y → y.id ≡ x.id → ⊥
 
 among : (n : ℕ) (front : List (List ℕ)) (line : List ℕ) (back : List (List ℕ)) (spelled : List Line) → AllZip IsLine (front ++ line ∷ back) spelled
-    → AllByRecursion (IsWithin n) spelled → Differ spelled → IsAmong n front line spelled
+    → AllByRecursion (IsLineWithin n) spelled → Differ spelled → IsAmong n front line spelled
 among n [] line back [] each within once = absurd each
 among n [] line back (x ∷ spelled) each within once =
     record { before = []; x = x; each = tt; within_before = tt; is = each.0; within = within.0; there = inl refl; apart = λ y h e. h }
@@ -53,16 +53,16 @@ among n (l ∷ front) line back (z ∷ spelled) each within once =
 
 -- ---- a good line has no fault
 
-no_far : (n : ℕ) (x : Line) → IsWithin n x → HasBadSuccessor n x → ⊥
+no_far : (n : ℕ) (x : Line) → IsLineWithin n x → HasBadSuccessor n x → ⊥
 no_far n x h (inl e) = h.some e
 no_far n x h (inr (t, there, far)) = let low = all_has (λ t. t ≤ n) x.successors t h.successors (Has-from_Contains x.successors t there)
     in omega (arith, low, far)
 
-no_bad_id : (n : ℕ) (before : List Line) (x : Line) → IsWithin n x → ((y : Line) → Has before y → y.id ≡ x.id → ⊥) → IsBadId n before x → ⊥
+no_bad_id : (n : ℕ) (before : List Line) (x : Line) → IsLineWithin n x → ((y : Line) → Has before y → y.id ≡ x.id → ⊥) → IsBadId n before x → ⊥
 no_bad_id n before x h apart (inl high) = omega (arith, h.id, high)
 no_bad_id n before x h apart (inr (y, there, e)) = apart y (Has-from_Contains before y there) e
 
-no_line : (n : ℕ) (before : List Line) (line : List ℕ) (x : Line) (fault : PgFault) → n < MOST_VERTICES → IsLine line x → IsWithin n x
+no_line : (n : ℕ) (before : List Line) (line : List ℕ) (x : Line) (fault : PgFault) → n < MOST_VERTICES → IsLine line x → IsLineWithin n x
     → ((y : Line) → Has before y → y.id ≡ x.id → ⊥) → LineFault n before line fault → ⊥
 no_line n before line x BadLine small is within apart wrong = wrong x is
 no_line n before line x BadIdentifier small is within apart (y, same, bad) = no_bad_id n before x within apart
@@ -76,7 +76,7 @@ no_line n before line x TooManyVertices small is within apart wrong = wrong
 
 -- a faulty line is not among good ones
 no_among : (n : ℕ) (front : List (List ℕ)) (line : List ℕ) (back : List (List ℕ)) (spelled before : List Line) (fault : PgFault) → n < MOST_VERTICES
-    → AreGood n (front ++ line ∷ back) spelled → AreGood n front before → LineFault n before line fault → ⊥
+    → AreGoodLines n (front ++ line ∷ back) spelled → AreGoodLines n front before → LineFault n before line fault → ⊥
 no_among n front line back spelled before fault small good goods wrong =
     let h = among n front line back spelled good.each good.within good.once in
     let same : before ≡ h.before = lines_are n front h.before before small h.within_before h.each goods.each in
@@ -90,7 +90,7 @@ record IsStop (n : ℕ) (rest : List (List ℕ)) (fault : PgFault) (good : ℕ) 
   back : List (List ℕ)
   before : List Line
   split : rest ≡ front ++ back
-  goods : AreGood n front before
+  goods : AreGoodLines n front before
   long : length front ≡ good
   why : ((fault ≡ BadIdentifier) × (back ≡ []) × (good < n + 1))
       ⊎ ((line : List ℕ) × (after : List (List ℕ)) × (back ≡ line ∷ after) × LineFault n before line fault)
@@ -120,14 +120,14 @@ stop_of n rest BadIdentifier good (inr h) =
     }
 stop_of n rest _ good h = stop_line n rest _ good h
 
-no_body : (n : ℕ) (rest : List (List ℕ)) (spelled : List Line) (fault : PgFault) (good : ℕ) → n < MOST_VERTICES → AreGood n rest spelled
+no_body : (n : ℕ) (rest : List (List ℕ)) (spelled : List Line) (fault : PgFault) (good : ℕ) → n < MOST_VERTICES → AreGoodLines n rest spelled
     → length rest ≡ n + 1 → IsStop n rest fault good → ⊥
 no_body n rest spelled fault good small all count stop =
     let sum : length rest ≡ length stop.front + length stop.back = ap length stop.split ∙ length-append stop.front stop.back in
     elim stop.why [
       | inl w ↦ absurd (omega (arith, sum, stop.long, count, ap length w.1, w.2))
       | inr w ↦ no_among n stop.front w.0 w.1 spelled stop.before fault small
-          (subst (λ l. AreGood n l spelled) (stop.split ∙ ap (λ l. stop.front ++ l) w.2) all) stop.goods w.3
+          (subst (λ l. AreGoodLines n l spelled) (stop.split ∙ ap (λ l. stop.front ++ l) w.2) all) stop.goods w.3
     ]
 
 no_first : (text : List ℕ) (g : Game) (fault : PgFault) → IsGameText text g → HeaderFault (lines text) fault → ⊥
@@ -174,15 +174,15 @@ far_alike n line x y small h k (inr (t, there, far)) =
     ∙ far_from n x.successors t small (Has-from_Contains x.successors t there) far) in
     inr (u, Contains-from_Has y.successors u there', far')
 
-bad_alike : (n : ℕ) (before : List Line) (line : List ℕ) (x y : Line) → n < MOST_VERTICES → AllByRecursion (IsWithin n) before → IsLine line x
+bad_alike : (n : ℕ) (before : List Line) (line : List ℕ) (x y : Line) → n < MOST_VERTICES → AllByRecursion (IsLineWithin n) before → IsLine line x
     → IsLine line y → IsBadId n before x → IsBadId n before y
 bad_alike n before line x y small within h k (inl high) = let e = ap (λ (l : Line). l.id) (read_alike line x y h k) in inl (omega (arith, e, high))
 bad_alike n before line x y small within h k (inr (z, there, same)) =
     let e = ap (λ (l : Line). l.id) (read_alike line x y h k) in
-    let low = (all_has (IsWithin n) before z within (Has-from_Contains before z there)).id in
+    let low = (all_has (IsLineWithin n) before z within (Has-from_Contains before z there)).id in
     inr (z, there, omega (arith, e, low, same))
 
-module _ (n : ℕ) (before : List Line) (line : List ℕ) (small : n < MOST_VERTICES) (within : AllByRecursion (IsWithin n) before) where
+module _ (n : ℕ) (before : List Line) (line : List ℕ) (small : n < MOST_VERTICES) (within : AllByRecursion (IsLineWithin n) before) where
   one_line : (f g : PgFault) → LineFault n before line f → LineFault n before line g → f ≡ g
   one_line BadLine BadLine p q = refl
   one_line BadLine BadIdentifier p (y, is, more) = absurd (p y is)
@@ -224,7 +224,7 @@ not_before n rest f g i j small p q less =
       | inr w ↦
           let (more, is) = longer_front p.front w.0 w.1 q.front q.back (ap (λ l. p.front ++ l) (sym w.2) ∙ sym p.split ∙ q.split)
           (omega (arith, p.long, q.long, less)) in
-          no_among n p.front w.0 more q.before p.before f small (subst (λ l. AreGood n l q.before) is q.goods) p.goods w.3
+          no_among n p.front w.0 more q.before p.before f small (subst (λ l. AreGoodLines n l q.before) is q.goods) p.goods w.3
     ]
 
 same_split : (xs ys vs ws : List (List ℕ)) → length xs ≡ length ys → xs ++ vs ≡ ys ++ ws → (xs ≡ ys) × (vs ≡ ws)

@@ -13,16 +13,16 @@ use Rattle.text.proofs.Streaming.{lines_cons}
 use Rattle.lts.proofs.Unique.{lines_same}
 use Rattle.systems.proofs.Ordered.{Has, Has-from_Contains, Contains-from_Has, all_has}
 use Rattle.game.specs.declared.limits.TheConstants.{MOST_VERTICES}
-use Rattle.game.specs.NumberSet.{set_of}
+use Rattle.game.specs.NumberSet.{number_set}
 use Rattle.pgsolver.specs.declared.error.PgFault.{PgFault}
 use Rattle.pgsolver.specs.declared.error.PgFault.TheVariants.{BadHeader, BadLine, BadIdentifier, BadSuccessor, PriorityTooGreat, TooManyVertices}
 use Rattle.pgsolver.specs.declared.scan.Head.{Head}
-use Rattle.pgsolver.specs.Spelling.{Line, IsHeader, IsLine, IsWithin}
+use Rattle.pgsolver.specs.Spelling.{Line, IsHeader, IsLine, IsLineWithin}
 use Rattle.pgsolver.specs.Passes.{PassesVertex}
 use Rattle.pgsolver.proofs.Same.{set_none, far_set}
 use Rattle.pgsolver.specs.Fault.{IsBadId, HasBadSuccessor, LineFault, HasFault}
-use Rattle.pgsolver.specs.Scan.{capped_line, line_of, header_at, line_at}
-use Rattle.pgsolver.specs.Left.{BeginsWith, IsPlace, ArePlaces, Says, IsSound, IsFirstFault, has_far}
+use Rattle.pgsolver.specs.Scan.{capped_line, line_said, header_at, line_at}
+use Rattle.pgsolver.specs.Left.{BeginsWith, IsPlace, ArePlaces, Says, IsSound, IsFaultOfLine, has_far}
 use Rattle.pgsolver.proofs.Scanning.{header_gives, header_finds, line_gives, line_finds}
 use Rattle.pgsolver.proofs.Placing.{has_at}
 
@@ -147,7 +147,7 @@ module _ (n : ℕ) (small : n < MOST_VERTICES) (before : List Line) (places : Li
       (Has-from_Contains x.successors t there) in
       omega (arith, low, far)
 
-  fault_of : (fault : PgFault) → IsFirstFault n places a fault → LineFault n before line fault
+  fault_of : (fault : PgFault) → IsFaultOfLine n places a fault → LineFault n before line fault
   fault_of BadIdentifier (inl high) = (x, is, inl (omega (arith, id_is)))
   fault_of BadIdentifier (inr (low, some)) = (x, is, old_id low some)
   fault_of BadSuccessor (low, none, inl empty) = (x, is, new_id low none, inl (none_mapped x.successors (sym successors_are ∙ empty)))
@@ -165,26 +165,26 @@ module _ (n : ℕ) (small : n < MOST_VERTICES) (before : List Line) (places : Li
   fault_of TooManyVertices h = absurd h
 
 -- what is wrong with what a line says of a set is wrong of the successors as they stand
-fault_set : (n : ℕ) (places : List (Option ℕ)) (head : Head) (numbers set : List ℕ) → set ≡ set_of numbers → (fault : PgFault)
-    → IsFirstFault n places (line_of head set) fault → IsFirstFault n places (line_of head numbers) fault
+fault_set : (n : ℕ) (places : List (Option ℕ)) (head : Head) (numbers set : List ℕ) → set ≡ number_set numbers → (fault : PgFault)
+    → IsFaultOfLine n places (line_said head set) fault → IsFaultOfLine n places (line_said head numbers) fault
 fault_set n places head numbers set made BadIdentifier h = h
 fault_set n places head numbers set made BadSuccessor (low, none, inl empty) = (low, none, inl (set_none numbers (sym made ∙ empty)))
 fault_set n places head numbers set made BadSuccessor (low, none, inr far) = (low, none, inr (sym (far_set n numbers) ∙ ap (has_far n) (sym made) ∙ far))
 fault_set n places head numbers set made PriorityTooGreat (low, none, some, near, high) =
-    (low, none, λ e. some (made ∙ ap set_of e), sym (far_set n numbers) ∙ ap (has_far n) (sym made) ∙ near, high)
+    (low, none, λ e. some (made ∙ ap number_set e), sym (far_set n numbers) ∙ ap (has_far n) (sym made) ∙ near, high)
 fault_set n places head numbers set made BadHeader h = absurd h
 fault_set n places head numbers set made BadLine h = absurd h
 fault_set n places head numbers set made TooManyVertices h = absurd h
 
 -- what the line says is wrong
 pub faulty : (n : ℕ) (before : List Line) (places : List (Option ℕ)) (head : Head) (targets set : List ℕ) (fault : PgFault) (old new : Option (List ℕ))
-    → n < MOST_VERTICES → ArePlaces n before places → IfKnown old new (PassesVertex targets (Some head)) → set ≡ set_of targets
-    → IsFirstFault n places (line_of head set) fault → IfSome old (λ text. LineFault n before (stream.line_of text) fault)
+    → n < MOST_VERTICES → ArePlaces n before places → IfKnown old new (PassesVertex targets (Some head)) → set ≡ number_set targets
+    → IsFaultOfLine n places (line_said head set) fault → IfSome old (λ text. LineFault n before (stream.line_of text) fault)
 faulty n before places head targets set fault None new small are found made wrong = tt
 faulty n before places head targets set fault (Some text) None small are found made wrong = absurd found
 faulty n before places head targets set fault (Some text) (Some left) small are (numbers, found, same, after) made wrong =
-    let (x, is, e) = line_gives (stream.line_of text) (line_of head numbers) found in
-    fault_of n small before places are (stream.line_of text) x is (line_of head numbers) e fault
+    let (x, is, e) = line_gives (stream.line_of text) (line_said head numbers) found in
+    fault_of n small before places are (stream.line_of text) x is (line_said head numbers) e fault
     (fault_set n places head numbers set (made ∙ same) fault wrong)
 
 near_all : (n : ℕ) (ts : List ℕ) → has_far n ts ≡ false → AllByRecursion (λ t. t ≤ n) ts
@@ -192,20 +192,20 @@ near_all n [] h = tt
 near_all n (t ∷ ts) h = let both = or_false (nat_lt n t) (has_far n ts) h in (ltb-false n t both.0, near_all n ts both.1)
 
 -- what is sound with a set is within the limits as it stands
-within_set : (n : ℕ) (places : List (Option ℕ)) (head : Head) (numbers set : List ℕ) → set ≡ set_of numbers → IsSound n places (line_of head set)
-    → IsWithin n (line_of head numbers)
+within_set : (n : ℕ) (places : List (Option ℕ)) (head : Head) (numbers set : List ℕ) → set ≡ number_set numbers → IsSound n places (line_said head set)
+    → IsLineWithin n (line_said head numbers)
 within_set n places head numbers set made h = record {
   id = h.id;
-  some = λ e. h.some (made ∙ ap set_of e);
+  some = λ e. h.some (made ∙ ap number_set e);
   successors = near_all n numbers (sym (far_set n numbers) ∙ ap (has_far n) (sym made) ∙ h.near);
   priority = h.priority;
 }
 
 -- what is found within the limits stands on the line as it was found
-uncapped : (n : ℕ) (line : List ℕ) (head : Head) (numbers : List ℕ) → n < MOST_VERTICES → line_at line ≡ Some (line_of head numbers)
-    → IsWithin n (line_of head numbers) → has_far n numbers ≡ false → IsLine line (line_of head numbers)
+uncapped : (n : ℕ) (line : List ℕ) (head : Head) (numbers : List ℕ) → n < MOST_VERTICES → line_at line ≡ Some (line_said head numbers)
+    → IsLineWithin n (line_said head numbers) → has_far n numbers ≡ false → IsLine line (line_said head numbers)
 uncapped n line head numbers small found within near =
-    let (x, is, e) = line_gives line (line_of head numbers) found in
+    let (x, is, e) = line_gives line (line_said head numbers) found in
     let id : head.id ≡ capped x.id = ap (λ (l : Line). l.id) e in
     let priority : head.priority ≡ capped x.priority = ap (λ (l : Line). l.priority) e in
     let successors : numbers ≡ map capped x.successors = ap (λ (l : Line). l.successors) e in
@@ -214,12 +214,12 @@ uncapped n line head numbers small found within near =
     let priority_same : x.priority ≡ head.priority = omega (arith, within.priority) in
     let owner_same : x.owner ≡ head.owner = ap (λ (l : Line). l.owner) (sym e) in
     let successors_same : x.successors ≡ numbers = sym all.0 ∙ sym successors in
-    let same : x ≡ line_of head numbers = λ i. record { id = id_same i; priority = priority_same i; owner = owner_same i; successors = successors_same i } in
+    let same : x ≡ line_said head numbers = λ i. record { id = id_same i; priority = priority_same i; owner = owner_same i; successors = successors_same i } in
     subst (IsLine line) same is
 
 -- what the line says is sound
 pub sound : (n : ℕ) (places : List (Option ℕ)) (head : Head) (targets set : List ℕ) (old new : Option (List ℕ)) → n < MOST_VERTICES
-    → IfKnown old new (PassesVertex targets (Some head)) → set ≡ set_of targets → IsSound n places (line_of head set) → Says n places old new head set
+    → IfKnown old new (PassesVertex targets (Some head)) → set ≡ number_set targets → IsSound n places (line_said head set) → Says n places old new head set
 sound n places head targets set None new small found made h = record {
   successors = targets;
   within = within_set n places head targets set made h;

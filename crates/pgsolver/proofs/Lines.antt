@@ -4,13 +4,13 @@ use Rattle.std.proofs.Common.{subst, ◌∙◌, append-nil, add-one, arith}
 use Rattle.std.specs.Prelude.{option_map, slice_get}
 use Rattle.game.specs.declared.player.Player.{Player}
 use Rattle.game.specs.Game.{Vertex}
-use Rattle.lts.specs.Canon.{line_end}
+use Rattle.text.specs.Pieces.{line_end}
 use Rattle.std.proofs.Math.Seq.{drop-cons}
 use Rattle.std.proofs.Math.ListN.{drop_of_length-le}
 use Rattle.game.specs.declared.player.Player.TheVariants.{Even}
 use Rattle.game.specs.Game.{Game}
 use Rattle.text.specs.Wrote.{lines_from}
-use Rattle.pgsolver.specs.Canon.{front_text, successors_text, name_text, vertex_line, vertex_lines, line_at, line_of}
+use Rattle.pgsolver.specs.Canon.{front_text, successors_text, name_text, vertex_line, vertex_lines, vertex_line_at, vertex_line_of}
 
 -- the numbers, with a comma before each but the first, before which this stands
 abbrev pub numbers_from : List ℕ → List ℕ → List ℕ
@@ -57,19 +57,19 @@ other = record { owner = Even; priority = 0; successors = [] }
 -- ---- lines by number
 
 more_lines : (line : ℕ → List ℕ) (named : Option (ℕ × ℕ)) (v : ℕ) (xs : List Vertex)
-    → ((i : ℕ) → i < length xs → line (v + i) ≡ line_of named (v + i) (slice_get xs i)) → lines_from line v (length xs) ≡ vertex_lines named v xs
+    → ((i : ℕ) → i < length xs → line (v + i) ≡ vertex_line_of named (v + i) (slice_get xs i)) → lines_from line v (length xs) ≡ vertex_lines named v xs
 more_lines line named v [] each = refl
 more_lines line named v (x ∷ xs) each =
     let none_more : v + 0 ≡ v = omega arith in
     let one_more : (i : ℕ) → v + suc i ≡ (v + 1) + i = λ i. omega arith in
-    let first : line v ≡ vertex_line named v x = subst (λ n. line n ≡ line_of named n (Some x)) none_more (each 0 (omega arith)) in
-    let rest = more_lines line named (v + 1) xs (λ i h. subst (λ n. line n ≡ line_of named n (slice_get xs i)) (one_more i)
+    let first : line v ≡ vertex_line named v x = subst (λ n. line n ≡ vertex_line_of named n (Some x)) none_more (each 0 (omega arith)) in
+    let rest = more_lines line named (v + 1) xs (λ i h. subst (λ n. line n ≡ vertex_line_of named n (slice_get xs i)) (one_more i)
     (each (suc i) (omega (arith, h)))) in
     ap₂ (λ a b. a ++ b) first rest
 
 -- the lines of all vertices are the text's
-pub all_lines : (g : Game) → lines_from (line_at g) 0 (length g.vertices) ≡ vertex_lines g.named 0 g.vertices
-all_lines g = more_lines (line_at g) g.named 0 g.vertices here
+pub all_lines : (g : Game) → lines_from (vertex_line_at g) 0 (length g.vertices) ≡ vertex_lines g.named 0 g.vertices
+all_lines g = more_lines (vertex_line_at g) g.named 0 g.vertices here
   where
-    here : (i : ℕ) → i < length g.vertices → line_at g (0 + i) ≡ line_of g.named (0 + i) (slice_get g.vertices i)
+    here : (i : ℕ) → i < length g.vertices → vertex_line_at g (0 + i) ≡ vertex_line_of g.named (0 + i) (slice_get g.vertices i)
     here i h = let same : 0 + i ≡ i = omega arith in rw same refl

@@ -16,16 +16,16 @@ use Rattle.text.proofs.Spaced.{begins}
 use Rattle.text.proofs.Scanning.{past_gap, run_none, if_some, sign_here}
 use Rattle.text.proofs.Streaming.{known_then, known_only, known_both, Then, One, sign_stops, sign_goes_on, token_stops, token_goes_on}
 use Rattle.systems.specs.Label.{is_label_byte}
-use Rattle.game.specs.NumberSet.{set_of}
+use Rattle.game.specs.NumberSet.{number_set}
 use Rattle.game.specs.declared.player.Player.{Player}
 use Rattle.game.specs.declared.player.Player.TheVariants.{Even, Odd}
 use Rattle.pgsolver.specs.declared.limits.TheConstants.{LONGEST_NAME}
 use Rattle.pgsolver.specs.declared.scan.Head.{Head}
-use Rattle.pgsolver.specs.Spelling.{is_name}
+use Rattle.pgsolver.specs.Spelling.{is_vertex_name}
 use Rattle.pgsolver.specs.Scan as at
-use Rattle.pgsolver.specs.Scan.{header_at, gap_at, number_gap, owner_of, owner_at, head_at, first_at, more_at, targets_at, targets_behind, name_at, name_behind}
+use Rattle.pgsolver.specs.Scan.{header_at, gap_at, number_gap, owner_of_digit, owner_at, head_at, first_at, more_at, targets_at, targets_behind, name_at, name_behind}
 use Rattle.pgsolver.specs.Scan.{tail_at, line_at, FindsMore}
-use Rattle.pgsolver.specs.Passes.{Skips, SkipsTo, IsPast, PassesGap, PassesComma, PassesDigit, HasRead, PassesMore, rest_at, PassesTargets, PassesName, PassesTail, PassesVertex}
+use Rattle.pgsolver.specs.Passes.{SkipsBlanks, SkipsTo, IsPast, PassesGap, PassesComma, PassesDigit, HasRead, PassesMore, rest_at, PassesTargets, PassesName, PassesTail, PassesVertex}
 use Rattle.text.proofs.Streaming.{all_of, inside_of, line_cons, line_run, line_stops}
 use Rattle.pgsolver.proofs.Adding.{HasAdded, added_none, added_more, added_wrong, added_all, none_found, first_found}
 use Rattle.pgsolver.proofs.Same.{set_push}
@@ -40,7 +40,7 @@ record Behind (text left : List ℕ) : Type 0 where
   past : past_blanks (line_of text) ≡ line_of left
   is : IsPast text left
 
-behind : (text left : List ℕ) → Skips text left → Behind text left
+behind : (text left : List ℕ) → SkipsBlanks text left → Behind text left
 behind text left runs =
     let (line, under) = line_run runs.run left (all_of is_blank is_inside blank_inside runs.run runs.all) in
     let stop = line_stops is_blank left runs.stop in
@@ -190,7 +190,7 @@ comma_missing next (Some text) (Some left) runs other =
     (sign_missing 44 next text left runs other, (behind text left runs.0).is)
 
 -- a digit follows, or none does
-no_number : (text left : List ℕ) → Skips text left → IfSome (next_of left) (λ b. is_digit b ≡ false) → number_at (line_of text) ≡ None
+no_number : (text left : List ℕ) → SkipsBlanks text left → IfSome (next_of left) (λ b. is_digit b ≡ false) → number_at (line_of text) ≡ None
 unfolding number_at
 no_number text left runs stop =
     let past = (behind text left runs).past in
@@ -290,24 +290,24 @@ owner_split true b rest = refl
 owner_split false true rest = refl
 owner_split false false rest = refl
 
-owner_is : (line : List ℕ) → owner_at line ≡ (number_at line >>= λ n. owner_with (owner_of n.0) n.1)
+owner_is : (line : List ℕ) → owner_at line ≡ (number_at line >>= λ n. owner_with (owner_of_digit n.0) n.1)
 unfolding owner_at
 owner_is line = same (number_at line)
   where
     same : (o : Option (ℕ × List ℕ)) → (o >>= λ n. cond (n.0 == 0) (Some (Even, n.1)) (cond (n.0 == 1) (Some (Odd, n.1)) None))
-        ≡ (o >>= λ n. owner_with (owner_of n.0) n.1)
+        ≡ (o >>= λ n. owner_with (owner_of_digit n.0) n.1)
     same None = refl
     same (Some n) = owner_split (n.0 == 0) (n.0 == 1) n.1
 
 pub owner_none : (old new : Bytes) → IfKnown old new (Passes number_at None) → IfKnown old new (Passes owner_at None)
 owner_none old new none = known_only {P = Passes number_at None} {Q = Passes owner_at None} old new none (λ text left e. owner_is (line_of text) ∙ rw e refl)
 
-pub owner_passes : (n : ℕ) (o : Option Player) (old new : Bytes) → IfKnown old new (Passes number_at (Some n)) → o ≡ owner_of n
+pub owner_passes : (n : ℕ) (o : Option Player) (old new : Bytes) → IfKnown old new (Passes number_at (Some n)) → o ≡ owner_of_digit n
     → IfKnown old new (Passes owner_at o)
 owner_passes n None old new some is = known_only {P = Passes number_at (Some n)} {Q = Passes owner_at None} old new some
-    (λ text left e. owner_is (line_of text) ∙ ap (λ o. o >>= λ n. owner_with (owner_of n.0) n.1) e.0 ∙ ap (λ o. owner_with o (line_of left)) (sym is))
+    (λ text left e. owner_is (line_of text) ∙ ap (λ o. o >>= λ n. owner_with (owner_of_digit n.0) n.1) e.0 ∙ ap (λ o. owner_with o (line_of left)) (sym is))
 owner_passes n (Some p) old new some is = known_only {P = Passes number_at (Some n)} {Q = Passes owner_at (Some p)} old new some
-    (λ text left e. (owner_is (line_of text) ∙ ap (λ o. o >>= λ n. owner_with (owner_of n.0) n.1) e.0 ∙ ap (λ o. owner_with o (line_of left)) (sym is), e.1))
+    (λ text left e. (owner_is (line_of text) ∙ ap (λ o. o >>= λ n. owner_with (owner_of_digit n.0) n.1) e.0 ∙ ap (λ o. owner_with o (line_of left)) (sym is), e.1))
 
 abbrev head_with : ℕ → ℕ → Player → Head
 head_with i p o = record { id = i; priority = p; owner = o }
@@ -349,7 +349,7 @@ head_passes i p o old a b new id priority owner = then_goes_on number_gap head_1
 pub record AddsSo (before now text left : List ℕ) : Type 0 where
   all : List ℕ
   added : HasAdded (line_of text) before all (line_of left)
-  same : set_of now ≡ set_of all
+  same : number_set now ≡ number_set all
   under : below text ≡ below left
 
 pub adds_none : (old : Bytes) (list : List ℕ) → IfKnown old old (AddsSo list list)
@@ -357,14 +357,14 @@ adds_none None list = tt
 adds_none (Some text) list = record { all = list; added = added_none (line_of text) list; same = refl; under = refl }
 
 pub adds_more : (before now pushed new : List ℕ) (v : ℕ) (old a b c : Bytes) → IfKnown old a (AddsSo before now) → IfKnown a b (PassesComma true)
-    → IfKnown b c (Passes number_at (Some v)) → pushed ≡ now ++ v ∷ [] → set_of new ≡ set_of pushed → IfKnown old c (AddsSo before new)
+    → IfKnown b c (Passes number_at (Some v)) → pushed ≡ now ++ v ∷ [] → number_set new ≡ number_set pushed → IfKnown old c (AddsSo before new)
 adds_more before now pushed new v old a b c so comma number push same =
     known_then {P = AddsSo before now} {Q = Then (PassesComma true) (Passes number_at (Some v))} {R = AddsSo before new} old a c so
     (known_both (PassesComma true) (Passes number_at (Some v)) a b c comma number)
     (λ text left rest s more. let (mid, comma, number) = more in record {
       all = s.all ++ v ∷ [];
       added = added_more (line_of text) before s.all (s.all ++ v ∷ []) (line_of left) (line_of mid) (line_of rest) v s.added comma.0 number.0 refl;
-      same = same ∙ ap set_of push ∙ set_push now s.all v s.same;
+      same = same ∙ ap number_set push ∙ set_push now s.all v s.same;
       under = s.under ∙ comma.1 ∙ number.1;
     })
 
@@ -512,24 +512,24 @@ open_name next most kept (Some text) (Some left) (Some rest) runs is shut =
     tail_open (line_of text) (quoted_same (line_of text) (line_of left) same ∙ shut)
     (sign_missing 59 next text left runs (λ e. true≢false (ap is_quote (sym is ∙ e))))
 
-name_short : (name : List ℕ) → is_name name ≡ true → length name ≤ LONGEST_NAME
+name_short : (name : List ℕ) → is_vertex_name name ≡ true → length name ≤ LONGEST_NAME
 name_short name right = leb-true (length name) LONGEST_NAME (and_parts (nat_le (length name) LONGEST_NAME) (list_all is_label_byte name) right).0
 
 -- what is kept of a name tells whether it is one
-name_kept : (name : List ℕ) → is_name (take (LONGEST_NAME + 1) name) ≡ is_name name
+name_kept : (name : List ℕ) → is_vertex_name (take (LONGEST_NAME + 1) name) ≡ is_vertex_name name
 name_kept name =
     elim (cases_lt (length name) (LONGEST_NAME + 1)) [
-      | inl few ↦ ap is_name (take_all (LONGEST_NAME + 1) name (omega (arith, few)))
-      | inr many ↦ none (is_name (take (LONGEST_NAME + 1) name)) (is_name name) refl refl many
+      | inl few ↦ ap is_vertex_name (take_all (LONGEST_NAME + 1) name (omega (arith, few)))
+      | inr many ↦ none (is_vertex_name (take (LONGEST_NAME + 1) name)) (is_vertex_name name) refl refl many
     ]
   where
-    none : (a b : Bool) → is_name (take (LONGEST_NAME + 1) name) ≡ a → is_name name ≡ b → LONGEST_NAME + 1 ≤ length name
-        → is_name (take (LONGEST_NAME + 1) name) ≡ is_name name
+    none : (a b : Bool) → is_vertex_name (take (LONGEST_NAME + 1) name) ≡ a → is_vertex_name name ≡ b → LONGEST_NAME + 1 ≤ length name
+        → is_vertex_name (take (LONGEST_NAME + 1) name) ≡ is_vertex_name name
     none false false e f many = e ∙ sym f
     none true b e f many = absurd (omega (arith, name_short (take (LONGEST_NAME + 1) name) e, length-take-le (LONGEST_NAME + 1) name many))
     none a true e f many = absurd (omega (arith, name_short name f, many))
 
-name_found : (line name rest : List ℕ) → quoted_at line ≡ Some (name, rest) → name_at line ≡ cond (is_name name) (Some rest) None
+name_found : (line name rest : List ℕ) → quoted_at line ≡ Some (name, rest) → name_at line ≡ cond (is_vertex_name name) (Some rest) None
 unfolding name_at
 name_found line name rest found = ap (name_behind line) found
 
@@ -539,13 +539,13 @@ tail_stops line none = rw none refl
 
 -- what quotes stand around is a name, or is none
 pub quoted_name : (next : Option ℕ) (kept : List ℕ) (found : Bool) (old mid new : Bytes) → IfKnown old mid (SkipsTo next)
-    → IfKnown mid new (PassesKept quoted_at (LONGEST_NAME + 1) kept true) → found ≡ is_name kept → IfKnown old new (PassesName found)
+    → IfKnown mid new (PassesKept quoted_at (LONGEST_NAME + 1) kept true) → found ≡ is_vertex_name kept → IfKnown old new (PassesName found)
 quoted_name next kept found old mid new runs quoted is =
     known_then {P = SkipsTo next} {Q = PassesKept quoted_at (LONGEST_NAME + 1) kept true} {R = PassesName found} old mid new runs quoted
-    (λ text left rest r q. named text left rest r q found (is ∙ ap is_name q.3 ∙ name_kept q.0))
+    (λ text left rest r q. named text left rest r q found (is ∙ ap is_vertex_name q.3 ∙ name_kept q.0))
   where
     named : (text left rest : List ℕ) → SkipsTo next text left → (q : PassesKept quoted_at (LONGEST_NAME + 1) kept true left rest) → (found : Bool)
-        → found ≡ is_name q.0 → PassesName found text rest
+        → found ≡ is_vertex_name q.0 → PassesName found text rest
     named text left rest r q true e =
         let is = (behind text left r.0).is in
         let found = name_found (line_of text) q.0 (line_of rest) (quoted_same (line_of text) (line_of left) is.same ∙ q.1) in
@@ -589,27 +589,27 @@ tail_passes found old a b new name sign ends =
 
 -- ---- the line
 
-line_is : (line : List ℕ) → line_at line ≡ (head_at line >>= λ head. rest_at head.1 >>= λ targets. Some (at.line_of head.0 targets))
+line_is : (line : List ℕ) → line_at line ≡ (head_at line >>= λ head. rest_at head.1 >>= λ targets. Some (at.line_said head.0 targets))
 unfolding line_at rest_at
 line_is line = same (head_at line)
   where
-    ends : (head : Head) (targets : List ℕ) (o : Option (Unit {0})) → (o >>= λ end. Some (at.line_of head targets))
-        ≡ ((o >>= λ end. Some targets) >>= λ ts. Some (at.line_of head ts))
+    ends : (head : Head) (targets : List ℕ) (o : Option (Unit {0})) → (o >>= λ end. Some (at.line_said head targets))
+        ≡ ((o >>= λ end. Some targets) >>= λ ts. Some (at.line_said head ts))
     ends head targets None = refl
     ends head targets (Some u) = refl
 
-    more : (head : Head) (o : Option (List ℕ × List ℕ)) → (o >>= λ targets. tail_at targets.1 >>= λ end. Some (at.line_of head targets.0))
-        ≡ ((o >>= λ targets. tail_at targets.1 >>= λ end. Some targets.0) >>= λ ts. Some (at.line_of head ts))
+    more : (head : Head) (o : Option (List ℕ × List ℕ)) → (o >>= λ targets. tail_at targets.1 >>= λ end. Some (at.line_said head targets.0))
+        ≡ ((o >>= λ targets. tail_at targets.1 >>= λ end. Some targets.0) >>= λ ts. Some (at.line_said head ts))
     more head None = refl
     more head (Some targets) = ends head targets.0 (tail_at targets.1)
 
-    same : (o : Option (Head × List ℕ)) → (o >>= λ head. targets_at head.1 >>= λ targets. tail_at targets.1 >>= λ end. Some (at.line_of head.0 targets.0))
-        ≡ (o >>= λ head. rest_at head.1 >>= λ targets. Some (at.line_of head.0 targets))
+    same : (o : Option (Head × List ℕ)) → (o >>= λ head. targets_at head.1 >>= λ targets. tail_at targets.1 >>= λ end. Some (at.line_said head.0 targets.0))
+        ≡ (o >>= λ head. rest_at head.1 >>= λ targets. Some (at.line_said head.0 targets))
     same None = refl
     same (Some head) = more head.0 (targets_at head.1)
 
 line_with : (line : List ℕ) (head : Head) (rest : List ℕ) → head_at line ≡ Some (head, rest)
-    → line_at line ≡ (rest_at rest >>= λ targets. Some (at.line_of head targets))
+    → line_at line ≡ (rest_at rest >>= λ targets. Some (at.line_said head targets))
 line_with line head rest found = line_is line ∙ rw found refl
 
 pub no_head : (targets : List ℕ) (old new : Bytes) → IfKnown old new (Passes head_at None) → IfKnown old new (PassesVertex targets None)

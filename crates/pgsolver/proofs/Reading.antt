@@ -16,15 +16,15 @@ use Rattle.lts.proofs.Gathering.{all_append}
 use Rattle.systems.proofs.Ordered.{Has, Has-from_Contains, Contains-from_Has, all_has}
 use Rattle.game.specs.declared.limits.TheConstants.{MOST_VERTICES}
 use Rattle.game.specs.Game.{Vertex, IsVertex, IsGame}
-use Rattle.game.specs.NumberSet.{set_of}
+use Rattle.game.specs.NumberSet.{number_set}
 use Rattle.pgsolver.specs.declared.error.PgFault.{PgFault}
 use Rattle.pgsolver.specs.declared.error.PgFault.TheVariants.{BadLine, BadIdentifier}
 use Rattle.pgsolver.specs.declared.error.PgError.{PgError}
 use Rattle.pgsolver.specs.declared.error.PgError.TheVariants.{Fault, Read, Memory}
 use Rattle.pgsolver.specs.declared.scan.Head.{Head}
-use Rattle.pgsolver.specs.Spelling.{Line, IsLine, IsWithin, AreGood, vertex_of}
+use Rattle.pgsolver.specs.Spelling.{Line, IsLine, IsLineWithin, AreGoodLines, vertex_said}
 use Rattle.pgsolver.specs.Fault.{LineFault}
-use Rattle.pgsolver.specs.Scan.{line_of}
+use Rattle.pgsolver.specs.Scan.{line_said}
 use Rattle.pgsolver.specs.Passes.{PassesVertex}
 use Rattle.pgsolver.specs.Left.{HasRestFault, BeginsWithLines, TakesRow, IsPlace, ArePlaces, SoFar, AreAll, AreFilled, Says, TellsFault, Refuses}
 use Rattle.pgsolver.proofs.Scanning.{line_gives}
@@ -120,17 +120,17 @@ pub row_more : (n good : ℕ) (old a mid new : Option (List ℕ)) (vertices vert
     → Says n places mid new head targets → vertices' ≡ vertices ++ record { owner = head.owner; priority = head.priority; successors = targets } ∷ []
     → places' ≡ slice_set places head.id (Some good) → SoFar n (good + 1) old new vertices' places'
 row_more n good old a mid new vertices vertices' places places' head targets so has says added put =
-    let x = line_of head says.successors in
+    let x = line_said head says.successors in
     let made : record { owner = head.owner; priority = head.priority; successors = targets }
-    ≡ vertex_of x = λ i. record { owner = head.owner; priority = head.priority; successors = says.set i } in
+    ≡ vertex_said x = λ i. record { owner = head.owner; priority = head.priority; successors = says.set i } in
     record {
       spelled = so.spelled ++ x ∷ [];
-      within = all_append (IsWithin n) so.spelled (x ∷ []) so.within (says.within, tt);
+      within = all_append (IsLineWithin n) so.spelled (x ∷ []) so.within (says.within, tt);
       once = all_pairs_push (λ x y. x.id ≢ y.id) so.spelled x so.once
           (no_line_before so.spelled x (slice_index_or places x.id None) says.new_id (so.placed.each x.id says.within.id));
       count = omega (arith, length-append so.spelled (x ∷ []), so.count);
       cut = cut_more old a mid new so.spelled x so.cut has says.is;
-      kept = added ∙ (λ i. so.kept i ++ made i ∷ []) ∙ sym (map-append vertex_of so.spelled (x ∷ []));
+      kept = added ∙ (λ i. so.kept i ++ made i ∷ []) ∙ sym (map-append vertex_said so.spelled (x ∷ []));
       placed = places_more n good so.spelled places places' x head.id so.placed so.count refl says.within.id put;
     }
 
@@ -141,7 +141,7 @@ few_targets n places old new head targets small says =
     omega (
       arith,
       ap length says.set,
-      up_few n 0 (set_of says.successors) (omega arith) (set_up says.successors)
+      up_few n 0 (number_set says.successors) (omega arith) (set_up says.successors)
           (set_all (λ t. t ≤ n) says.successors says.within.successors),
     )
 
@@ -151,7 +151,7 @@ few_targets n places old new head targets small says =
 record Front (n good : ℕ) (text left : List ℕ) (spelled : List Line) : Type 0 where
   done : List (List ℕ)
   cut : lines text ≡ done ++ lines left
-  goods : AreGood n done spelled
+  goods : AreGoodLines n done spelled
   count : length done ≡ good
 
 front_of : (n good : ℕ) (text left : List ℕ) (vertices : List Vertex) (places : List (Option ℕ)) (so : SoFar n good (Some text) (Some left) vertices places)
@@ -173,7 +173,7 @@ too_few n good p at (Some text) (Some left) (Some rest) vertices places so none 
       inr (
           record {
             spelled = so.spelled;
-            good_lines = subst (λ l. AreGood n l so.spelled) (sym whole) front.goods;
+            good_lines = subst (λ l. AreGoodLines n l so.spelled) (sym whole) front.goods;
             few = omega (arith, ap length whole, front.count);
             count = ap length whole ∙ front.count;
           }
@@ -226,8 +226,8 @@ bad_row n good p at (Some text) (Some left) (Some same) vertices places (Fault f
     bad_text n good l (here ∙ at) text left (stream.line_of left) (lines (below left)) so.spelled fault (front_of n good text left vertices places so) more
     (subst (λ t. LineFault n so.spelled (stream.line_of t) fault) kept wrong)
 
-within_id : (n : ℕ) (spelled : List Line) → AllByRecursion (IsWithin n) spelled → (x : Line) → Has spelled x → x.id ≤ n
-within_id n spelled within x there = (all_has (IsWithin n) spelled x within there).id
+within_id : (n : ℕ) (spelled : List Line) → AllByRecursion (IsLineWithin n) spelled → (x : Line) → Has spelled x → x.id ≤ n
+within_id n spelled within x there = (all_has (IsLineWithin n) spelled x within there).id
 
 -- a line after as many as were announced
 past_shape : (n : ℕ) (old now : Option (List ℕ)) (vertices : List Vertex) (places : List (Option ℕ)) (line : List ℕ) (x : Line)
@@ -264,7 +264,7 @@ one_more : (n : ℕ) (old a : Option (List ℕ)) (vertices : List Vertex) (place
 one_more n old a vertices places head targets None new found so = tt
 one_more n old a vertices places head targets (Some text) None found so = absurd found
 one_more n old a vertices places head targets (Some text) (Some left) (numbers, found, same, after) so =
-    let (x, is, e) = line_gives (stream.line_of text) (line_of head numbers) found in
+    let (x, is, e) = line_gives (stream.line_of text) (line_said head numbers) found in
     past_shape n old a vertices places (stream.line_of text) x so is
 
 pub past_all : (n p : ℕ) → p ≡ n + 3 → (old a mid new : Option (List ℕ)) (vertices : List Vertex) (places : List (Option ℕ)) (head : Head)
@@ -285,7 +285,7 @@ all_rows n good all (Some text) (Some left) (Some rest) vertices places so none 
     let whole : lines text ≡ front.done = front.cut ∙ ap (λ l. front.done ++ l) none ∙ append-nil front.done in
     record {
       spelled = so.spelled;
-      good_lines = subst (λ l. AreGood n l so.spelled) (sym whole) front.goods;
+      good_lines = subst (λ l. AreGoodLines n l so.spelled) (sym whole) front.goods;
       count = ap length whole ∙ front.count ∙ all;
       kept = so.kept;
       placed = so.placed;
@@ -293,17 +293,17 @@ all_rows n good all (Some text) (Some left) (Some rest) vertices places so none 
 
 pub row_count : (n good : ℕ) (old now : Option (List ℕ)) (vertices : List Vertex) (places : List (Option ℕ)) → SoFar n good old now vertices places
     → length vertices ≡ good
-row_count n good old now vertices places so = ap length so.kept ∙ length-map so.spelled vertex_of ∙ so.count
+row_count n good old now vertices places so = ap length so.kept ∙ length-map so.spelled vertex_said ∙ so.count
 
-fit : (n m : ℕ) (x : Line) → m ≡ n + 1 → IsWithin n x → IsVertex m (vertex_of x)
+fit : (n m : ℕ) (x : Line) → m ≡ n + 1 → IsLineWithin n x → IsVertex m (vertex_said x)
 fit n m x is h = record {
   priority = omega (arith, h.priority);
   some = some x.successors h.some;
-  ascending = ascending_up 0 (set_of x.successors) (set_up x.successors);
-  within = all_less (set_of x.successors) (set_all (λ t. t ≤ n) x.successors h.successors);
+  ascending = ascending_up 0 (number_set x.successors) (set_up x.successors);
+  within = all_less (number_set x.successors) (set_all (λ t. t ≤ n) x.successors h.successors);
 }
   where
-    some : (ts : List ℕ) → (ts ≡ [] → ⊥) → 1 ≤ length (set_of ts)
+    some : (ts : List ℕ) → (ts ≡ [] → ⊥) → 1 ≤ length (number_set ts)
     some [] h = absurd (h refl)
     some (t ∷ ts) h = set_some t ts
 
@@ -311,7 +311,7 @@ fit n m x is h = record {
     all_less [] h = tt
     all_less (t ∷ ts) h = (omega (arith, h.0, is), all_less ts h.1)
 
-fits : (n m : ℕ) (spelled : List Line) → m ≡ n + 1 → AllByRecursion (IsWithin n) spelled → AllByRecursion (IsVertex m) (map vertex_of spelled)
+fits : (n m : ℕ) (spelled : List Line) → m ≡ n + 1 → AllByRecursion (IsLineWithin n) spelled → AllByRecursion (IsVertex m) (map vertex_said spelled)
 fits n m [] is h = tt
 fits n m (x ∷ spelled) is h = (fit n m x is h.0, fits n m spelled is h.1)
 
@@ -333,7 +333,7 @@ pub all_filled : (n good : ℕ) → good ≡ n + 1 → (old now : Option (List �
 all_filled n good all old now vertices places so v below =
     let count : length so.spelled ≡ n + 1 = so.count ∙ all in
     let low : v ≤ n = omega (arith, so.placed.count) in
-    let many : length vertices ≡ length so.spelled = ap length so.kept ∙ length-map so.spelled vertex_of in
+    let many : length vertices ≡ length so.spelled = ap length so.kept ∙ length-map so.spelled vertex_said in
     let (x, there, same) = each_there n v so.spelled so.once (within_id n so.spelled so.within) count low in
     elim (slice_index_or places v None) as (λ o. IsPlace so.spelled v o → (k : ℕ) × (o ≡ Some k) × (k < length vertices)) [
       | None ↦ λ none. absurd (none x (Contains-from_Has so.spelled x there) same)

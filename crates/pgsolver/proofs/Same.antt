@@ -4,24 +4,24 @@ use Rattle.std.proofs.Common.{subst, arith}
 use Rattle.std.specs.Prelude.{nat_lt}
 use Rattle.std.proofs.lemmas.Bool.{eqb-true}
 use Rattle.systems.proofs.Ordered.{Has}
-use Rattle.game.specs.NumberSet.{with_number, set_of}
+use Rattle.game.specs.NumberSet.{with_number, number_set}
 use Rattle.pgsolver.specs.Left.{has_far}
 use Rattle.pgsolver.proofs.Placing.{has_at, has_left, has_end, at_end}
 use Rattle.pgsolver.proofs.Sets.{up_unique, up_set, set_up, has_set, set_has, set_some}
 
 -- what stands in both alike makes one set
-set_same : (xs ys : List ℕ) → ((z : ℕ) → Has xs z → Has ys z) → ((z : ℕ) → Has ys z → Has xs z) → set_of xs ≡ set_of ys
-set_same xs ys to from = up_unique 0 (set_of xs) (set_of ys) (set_up xs) (set_up ys) (λ z h. set_has z ys (to z (has_set z xs h)))
+set_same : (xs ys : List ℕ) → ((z : ℕ) → Has xs z → Has ys z) → ((z : ℕ) → Has ys z → Has xs z) → number_set xs ≡ number_set ys
+set_same xs ys to from = up_unique 0 (number_set xs) (number_set ys) (set_up xs) (set_up ys) (λ z h. set_has z ys (to z (has_set z xs h)))
     (λ z h. set_has z xs (from z (has_set z ys h)))
 
-has_same : (xs ys : List ℕ) → set_of xs ≡ set_of ys → (z : ℕ) → Has xs z → Has ys z
+has_same : (xs ys : List ℕ) → number_set xs ≡ number_set ys → (z : ℕ) → Has xs z → Has ys z
 has_same xs ys e z h = has_set z ys (subst (λ s. Has s z) e (set_has z xs h))
 
 -- one more number in both
-pub set_push : (xs ys : List ℕ) (v : ℕ) → set_of xs ≡ set_of ys → set_of (xs ++ v ∷ []) ≡ set_of (ys ++ v ∷ [])
+pub set_push : (xs ys : List ℕ) (v : ℕ) → number_set xs ≡ number_set ys → number_set (xs ++ v ∷ []) ≡ number_set (ys ++ v ∷ [])
 set_push xs ys v e = set_same (xs ++ v ∷ []) (ys ++ v ∷ []) (pushed xs ys e) (pushed ys xs (sym e))
   where
-    pushed : (us ws : List ℕ) → set_of us ≡ set_of ws → (z : ℕ) → Has (us ++ v ∷ []) z → Has (ws ++ v ∷ []) z
+    pushed : (us ws : List ℕ) → number_set us ≡ number_set ws → (z : ℕ) → Has (us ++ v ∷ []) z → Has (ws ++ v ∷ []) z
     pushed us ws e z h =
         elim (has_end us v z h) [
           | inl k ↦ has_left ws (v ∷ []) z (has_same us ws e z k)
@@ -29,11 +29,11 @@ set_push xs ys v e = set_same (xs ++ v ∷ []) (ys ++ v ∷ []) (pushed xs ys e)
         ]
 
 -- a set is its own set
-pub set_twice : (xs : List ℕ) → set_of (set_of xs) ≡ set_of xs
-set_twice xs = up_set 0 (set_of xs) (set_up xs)
+pub set_twice : (xs : List ℕ) → number_set (number_set xs) ≡ number_set xs
+set_twice xs = up_set 0 (number_set xs) (set_up xs)
 
 -- a set is empty only of nothing
-pub set_none : (xs : List ℕ) → set_of xs ≡ [] → xs ≡ []
+pub set_none : (xs : List ℕ) → number_set xs ≡ [] → xs ≡ []
 set_none [] e = refl
 set_none (t ∷ ts) e = absurd (omega (arith, set_some t ts, ap length e))
 
@@ -58,6 +58,6 @@ far_with n t (u ∷ us) =
     ]
 
 -- a number is too great in a set as in the list
-pub far_set : (n : ℕ) (xs : List ℕ) → has_far n (set_of xs) ≡ has_far n xs
+pub far_set : (n : ℕ) (xs : List ℕ) → has_far n (number_set xs) ≡ has_far n xs
 far_set n [] = refl
-far_set n (t ∷ ts) = far_with n t (set_of ts) ∙ ap (λ b. nat_lt n t || b) (far_set n ts)
+far_set n (t ∷ ts) = far_with n t (number_set ts) ∙ ap (λ b. nat_lt n t || b) (far_set n ts)

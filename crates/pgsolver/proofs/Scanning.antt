@@ -17,8 +17,8 @@ use Rattle.game.specs.declared.player.Player.{Player}
 use Rattle.game.specs.declared.player.Player.TheVariants.{Even, Odd}
 use Rattle.pgsolver.specs.declared.scan.Head.{Head}
 use Rattle.pgsolver.specs.Canon.{owner_digit}
-use Rattle.pgsolver.specs.Spelling.{Line, IsHeader, IsGap, IsLine, IsName, is_name, name_tokens, successor_tokens, with_commas}
-use Rattle.pgsolver.specs.Scan.{capped_line, line_of, header_at, gap_at, number_gap, owner_at, head_at, first_at, more_at, more_behind, targets_at}
+use Rattle.pgsolver.specs.Spelling.{Line, IsHeader, IsOneBlank, IsLine, IsName, is_vertex_name, name_tokens, successor_tokens, with_commas}
+use Rattle.pgsolver.specs.Scan.{capped_line, line_said, header_at, gap_at, number_gap, owner_at, head_at, first_at, more_at, more_behind, targets_at}
 use Rattle.pgsolver.specs.Scan.{targets_behind, name_at, name_behind, tail_at, line_at}
 
 abbrev Tokens : Type 0
@@ -50,7 +50,7 @@ header_finds line n (x, hx, spaced) =
 
 -- ---- gaps
 
-gap_gives : (line rest : List ℕ) → gap_at line ≡ Some rest → (gap : List ℕ) × IsGap gap × ((ts : Tokens) → IsSpaced ts rest → IsSpaced (gap ∷ ts) line)
+gap_gives : (line rest : List ℕ) → gap_at line ≡ Some rest → (gap : List ℕ) × IsOneBlank gap × ((ts : Tokens) → IsSpaced ts rest → IsSpaced (gap ∷ ts) line)
 unfolding gap_at
 gap_gives [] rest e = absurd cc
 gap_gives (b ∷ bs) rest e = let h = if_some (is_blank b) bs rest e in (b ∷ [], (b, h.0, refl), λ ts more. ([], rest, refl, ap (λ l. b ∷ l) h.1, more))
@@ -103,7 +103,7 @@ first_none c cs ts line h k (g ∷ gs, rest, blank, e, more) =
 -- ---- numbers before gaps, and the owner
 
 number_gap_gives : (line : List ℕ) (v : ℕ) (rest : List ℕ) → number_gap line ≡ Some (v, rest)
-    → (x gap : List ℕ) × (is_numeral x ≡ true) × IsGap gap × (v ≡ capped (value_of x)) × ((ts : Tokens) → IsSpaced ts rest → IsSpaced (x ∷ gap ∷ ts) line)
+    → (x gap : List ℕ) × (is_numeral x ≡ true) × IsOneBlank gap × (v ≡ capped (value_of x)) × ((ts : Tokens) → IsSpaced ts rest → IsSpaced (x ∷ gap ∷ ts) line)
 unfolding number_gap
 number_gap_gives line v rest e =
     let (n, found, e2) = bind_some (number_at line) (λ n. gap_at n.1 >>= λ rest. Some (n.0, rest)) (v, rest) e in
@@ -113,7 +113,7 @@ number_gap_gives line v rest e =
     let (v-is, rest-is) = some_same n.0 v after rest e3 in
     (x, gap, numeral, is, sym v-is ∙ value, λ ts m. spaced (gap ∷ ts) (more ts (subst (IsSpaced ts) (sym rest-is) m)))
 
-number_gap_finds : (x gap : List ℕ) (ts : Tokens) (line : List ℕ) → is_numeral x ≡ true → IsGap gap → IsSpaced (x ∷ gap ∷ ts) line → (rest : List ℕ)
+number_gap_finds : (x gap : List ℕ) (ts : Tokens) (line : List ℕ) → is_numeral x ≡ true → IsOneBlank gap → IsSpaced (x ∷ gap ∷ ts) line → (rest : List ℕ)
     × (number_gap line ≡ Some (capped (value_of x), rest)) × IsSpaced ts rest
 unfolding number_gap
 number_gap_finds x gap ts line hx (b, blank, is) spaced =
@@ -179,8 +179,8 @@ record HasFront (line : List ℕ) (head : Head) (rest : List ℕ) : Type 0 where
   second_gap : List ℕ
   id : is_numeral i ≡ true
   priority : is_numeral p ≡ true
-  first : IsGap first_gap
-  second : IsGap second_gap
+  first : IsOneBlank first_gap
+  second : IsOneBlank second_gap
   id_is : head.id ≡ capped (value_of i)
   priority_is : head.priority ≡ capped (value_of p)
   spaced : (ts : Tokens) → IsSpaced ts rest → IsSpaced (i ∷ first_gap ∷ p ∷ second_gap ∷ owner_digit head.owner ∷ ts) line
@@ -212,8 +212,8 @@ front_gives line head rest e =
           (gx (y ∷ f ∷ owner_digit o.0 ∷ ts) (gy (owner_digit o.0 ∷ ts) (owner_gives p.1 o.0 o.1 s3 ts (subst (IsSpaced ts) (sym rest-is) more))));
     }
 
-front_finds : (i g p f : List ℕ) (o : Player) (c : ℕ) (cs : List ℕ) (ts : Tokens) (line : List ℕ) → is_numeral i ≡ true → is_numeral p ≡ true → IsGap g
-    → IsGap f → is_digit c ≡ false
+front_finds : (i g p f : List ℕ) (o : Player) (c : ℕ) (cs : List ℕ) (ts : Tokens) (line : List ℕ) → is_numeral i ≡ true → is_numeral p ≡ true → IsOneBlank g
+    → IsOneBlank f → is_digit c ≡ false
     → IsSpaced (i ∷ g ∷ p ∷ f ∷ owner_digit o ∷ (c ∷ cs) ∷ ts) line → (rest : List ℕ)
     × (head_at line ≡ Some (head_with (capped (value_of i)) (capped (value_of p)) o, rest)) × IsSpaced ((c ∷ cs) ∷ ts) rest
 unfolding head_at
@@ -226,7 +226,7 @@ front_finds i g p f o c cs ts line hi hp hg hf h spaced =
 -- ---- successors
 
 first_gives : (line : List ℕ) (v : ℕ) (rest : List ℕ) → first_at line ≡ Some (v, rest)
-    → (gap x : List ℕ) × IsGap gap × (is_numeral x ≡ true) × (v ≡ capped (value_of x)) × ((ts : Tokens) → IsSpaced ts rest → IsSpaced (gap ∷ x ∷ ts) line)
+    → (gap x : List ℕ) × IsOneBlank gap × (is_numeral x ≡ true) × (v ≡ capped (value_of x)) × ((ts : Tokens) → IsSpaced ts rest → IsSpaced (gap ∷ x ∷ ts) line)
 unfolding first_at
 first_gives line v rest e =
     let (after, gapped, found) = bind_some (gap_at line) (λ rest. number_at rest) (v, rest) e in
@@ -234,7 +234,7 @@ first_gives line v rest e =
     let (x, numeral, value, spaced) = number_gives after v rest found in
     (gap, x, is, numeral, value, λ ts m. more (x ∷ ts) (spaced ts m))
 
-first_finds : (gap x : List ℕ) (c : ℕ) (cs : List ℕ) (ts : Tokens) (line : List ℕ) → IsGap gap → is_numeral x ≡ true → is_digit c ≡ false
+first_finds : (gap x : List ℕ) (c : ℕ) (cs : List ℕ) (ts : Tokens) (line : List ℕ) → IsOneBlank gap → is_numeral x ≡ true → is_digit c ≡ false
     → IsSpaced (gap ∷ x ∷ (c ∷ cs) ∷ ts) line
     → (rest : List ℕ) × (first_at line ≡ Some (capped (value_of x), rest)) × IsSpaced ((c ∷ cs) ∷ ts) rest
 unfolding first_at
@@ -328,7 +328,7 @@ record HasTargets (line numbers rest : List ℕ) : Type 0 where
   gap : List ℕ
   xs : Tokens
   vs : List ℕ
-  parts : IsGap gap
+  parts : IsOneBlank gap
   each : AllZip IsNumeral xs vs
   numbers_are : numbers ≡ map capped vs
   spaced : (ts : Tokens) → IsSpaced ts rest → IsSpaced (successor_tokens gap xs ++ ts) line
@@ -365,7 +365,7 @@ targets_gives : (line numbers rest : List ℕ) → targets_at line ≡ Some (num
 unfolding targets_at
 targets_gives line numbers rest e = targets_behind_gives line numbers rest (first_at line) refl e
 
-targets_finds : (gap : List ℕ) (xs : Tokens) (vs : List ℕ) (tail : Tokens) (line : List ℕ) → IsGap gap → AllZip IsNumeral xs vs → BeginsOther tail
+targets_finds : (gap : List ℕ) (xs : Tokens) (vs : List ℕ) (tail : Tokens) (line : List ℕ) → IsOneBlank gap → AllZip IsNumeral xs vs → BeginsOther tail
     → IsSpaced (successor_tokens gap xs ++ tail) line
     → (rest : List ℕ) × (targets_at line ≡ Some (map capped vs, rest)) × IsSpaced tail rest
 unfolding targets_at
@@ -394,7 +394,7 @@ name_behind_gives : (line rest : List ℕ) (o : Option (List ℕ × List ℕ)) �
     × IsName name × ((ts : Tokens) → IsSpaced ts rest → IsSpaced (name_tokens name ++ ts) line)
 name_behind_gives line rest None q e = let same : line ≡ rest = cc in (None, tt, λ ts more. subst (IsSpaced ts) (sym same) more)
 name_behind_gives line rest (Some (name, after)) q e =
-    let h = if_some (is_name name) after rest e in
+    let h = if_some (is_vertex_name name) after rest e in
     (Some name, h.0, λ ts more. (quoted_gives line name after ts q (subst (IsSpaced ts) (sym h.1) more)).1)
 
 tail_gives : (line : List ℕ) → tail_at line ≡ Some tt → (name : Option (List ℕ)) × IsName name × IsSpaced (tail_tokens name) line
@@ -432,10 +432,10 @@ tail_finds name line is spaced =
 pub line_gives : (line : List ℕ) (a : Line) → line_at line ≡ Some a → (x : Line) × IsLine line x × (a ≡ capped_line x)
 unfolding line_at
 line_gives line a e =
-    let (head, s1, e1) = bind_some (head_at line) (λ head. targets_at head.1 >>= λ targets. tail_at targets.1 >>= λ end. Some (line_of head.0 targets.0)) a e in
-    let (targets, s2, e2) = bind_some (targets_at head.1) (λ targets. tail_at targets.1 >>= λ end. Some (line_of head.0 targets.0)) a e1 in
-    let (end, s3, e3) = bind_some (tail_at targets.1) (λ end. Some (line_of head.0 targets.0)) a e2 in
-    let same : line_of head.0 targets.0 ≡ a = cc in
+    let (head, s1, e1) = bind_some (head_at line) (λ head. targets_at head.1 >>= λ targets. tail_at targets.1 >>= λ end. Some (line_said head.0 targets.0)) a e in
+    let (targets, s2, e2) = bind_some (targets_at head.1) (λ targets. tail_at targets.1 >>= λ end. Some (line_said head.0 targets.0)) a e1 in
+    let (end, s3, e3) = bind_some (tail_at targets.1) (λ end. Some (line_said head.0 targets.0)) a e2 in
+    let same : line_said head.0 targets.0 ≡ a = cc in
     let f = front_gives line head.0 head.1 s1 in
     let t = targets_gives head.1 targets.0 targets.1 s2 in
     let (name, is, spaced) = tail_gives targets.1 s3 in (
@@ -459,7 +459,7 @@ line_gives line a e =
     )
 
 -- what follows the owner
-after_owner : (gap : List ℕ) (xs : Tokens) (tail : Tokens) → IsGap gap → BeginsOther tail → (c : ℕ) × (cs : List ℕ) × (ts : Tokens) × (is_digit c ≡ false)
+after_owner : (gap : List ℕ) (xs : Tokens) (tail : Tokens) → IsOneBlank gap → BeginsOther tail → (c : ℕ) × (cs : List ℕ) × (ts : Tokens) × (is_digit c ≡ false)
     × (successor_tokens gap xs ++ tail ≡ (c ∷ cs) ∷ ts)
 after_owner gap [] tail parts h = (h.c, h.cs, h.ts, h.no_digit, h.is)
 after_owner gap (x ∷ xs) tail (b, blank, is) h = (b, [], x ∷ with_commas xs ++ tail, blank_no_digit b blank, ap (λ g. g ∷ x ∷ with_commas xs ++ tail) is)

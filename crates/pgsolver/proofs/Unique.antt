@@ -11,7 +11,7 @@ use Rattle.systems.proofs.Ordered.{Has, Contains-from_Has, all_has}
 use Rattle.game.specs.declared.player.Player.TheVariants.{Even}
 use Rattle.game.specs.declared.limits.TheConstants.{MOST_VERTICES}
 use Rattle.game.specs.Game.{Vertex, Game}
-use Rattle.pgsolver.specs.Spelling.{Line, IsHeader, IsLine, IsWithin, IsGameText, vertex_of}
+use Rattle.pgsolver.specs.Spelling.{Line, IsHeader, IsLine, IsLineWithin, IsGameText, vertex_said}
 use Rattle.pgsolver.specs.Scan.{capped_line}
 use Rattle.pgsolver.proofs.Scanning.{header_finds, line_finds}
 use Rattle.pgsolver.proofs.Placing.{each_there}
@@ -40,7 +40,7 @@ small_numbers n (x ∷ xs) (y ∷ ys) small all e =
     λ i. same i ∷ more i
 
 -- a line within the limits is read in one way
-pub line_same : (n : ℕ) (line : List ℕ) (x y : Line) → n < MOST_VERTICES → IsWithin n x → IsLine line x → IsLine line y → y ≡ x
+pub line_same : (n : ℕ) (line : List ℕ) (x y : Line) → n < MOST_VERTICES → IsLineWithin n x → IsLine line x → IsLine line y → y ≡ x
 line_same n line x y small within h k =
     let e = read_alike line x y h k in
     let id : capped x.id ≡ capped y.id = ap (λ (l : Line). l.id) e in
@@ -51,7 +51,7 @@ line_same n line x y small within h k =
     let same_successors : y.successors ≡ x.successors = small_numbers n x.successors y.successors small within.successors (ap (λ (l : Line). l.successors) e) in
     λ i. record { id = same_id i; priority = same_priority i; owner = sym owner i; successors = same_successors i }
 
-pub lines_are : (n : ℕ) (rest : List (List ℕ)) (xs ys : List Line) → n < MOST_VERTICES → AllByRecursion (IsWithin n) xs → AllZip IsLine rest xs
+pub lines_are : (n : ℕ) (rest : List (List ℕ)) (xs ys : List Line) → n < MOST_VERTICES → AllByRecursion (IsLineWithin n) xs → AllZip IsLine rest xs
     → AllZip IsLine rest ys → ys ≡ xs
 lines_are n [] [] [] small within h k = refl
 lines_are n [] [] (y ∷ ys) small within h k = absurd k
@@ -83,10 +83,10 @@ one_game text g h a b =
     let size : length g.vertices ≡ length h.vertices = omega (arith, a.size, b.size, same_n) in
     let vertices : g.vertices ≡ h.vertices =
     ext_get_or other_vertex g.vertices h.vertices size (λ v below.
-    let (x, there, is) = each_there a.n v a.spelled a.good.once (λ y k. (all_has (IsWithin a.n) a.spelled y a.good.within k).id) count
+    let (x, there, is) = each_there a.n v a.spelled a.good.once (λ y k. (all_has (IsLineWithin a.n) a.spelled y a.good.within k).id) count
     (omega (arith, a.size)) in
-    let at_g : slice_get g.vertices v ≡ Some (vertex_of x) = ap (slice_get g.vertices) (sym is) ∙ a.placed x (Contains-from_Has a.spelled x there) in
-    let at_h : slice_get h.vertices v ≡ Some (vertex_of x) = ap (slice_get h.vertices) (sym is)
+    let at_g : slice_get g.vertices v ≡ Some (vertex_said x) = ap (slice_get g.vertices) (sym is) ∙ a.placed x (Contains-from_Has a.spelled x there) in
+    let at_h : slice_get h.vertices v ≡ Some (vertex_said x) = ap (slice_get h.vertices) (sym is)
     ∙ b.placed x (Contains-from_Has b.spelled x (subst (λ l. Has l x) (sym spelled) there)) in
-    get_or_from_slice_get g.vertices v (vertex_of x) other_vertex at_g ∙ sym (get_or_from_slice_get h.vertices v (vertex_of x) other_vertex at_h)) in
+    get_or_from_slice_get g.vertices v (vertex_said x) other_vertex at_g ∙ sym (get_or_from_slice_get h.vertices v (vertex_said x) other_vertex at_h)) in
     λ i. record { vertices = vertices i; named = (a.unnamed ∙ sym b.unnamed) i }

@@ -20,8 +20,8 @@ use Rattle.pgsolver.specs.declared.limits.TheConstants.{LONGEST_NAME}
 use Rattle.pgsolver.specs.declared.scan.Head.{Head}
 use Rattle.pgsolver.specs.Canon.{owner_digit}
 use Rattle.pgsolver.specs.Spelling.{Line, IsName, name_tokens, with_commas}
-use Rattle.pgsolver.specs.Scan.{line_of}
-use Rattle.pgsolver.specs.Plain.{IsNumeralOf, IsHeadThen, AddsCommas, IsTailThen, IsLineThen, commas, named}
+use Rattle.pgsolver.specs.Scan.{line_said}
+use Rattle.pgsolver.specs.Plain.{IsNumeralOf, IsHeadThen, AddsCommas, IsTailThen, IsLineThen, commas, name_then}
 use Rattle.pgsolver.proofs.Scanning.{line_finds}
 
 abbrev Tokens : Type 0
@@ -100,7 +100,7 @@ here_commas (d ∷ ds) ts (n ∷ ns) text left are here =
 here_end : (left : List ℕ) → Here (codes ";" ∷ []) (59 ∷ 10 ∷ left) left
 here_end left = here_token (59 ∷ []) [] (10 ∷ left) left refl ([], refl, refl, refl)
 
-here_tail : (name : Option (List ℕ)) (left : List ℕ) → IsName name → Here (name_tokens name ++ codes ";" ∷ []) (named name (59 ∷ 10 ∷ left)) left
+here_tail : (name : Option (List ℕ)) (left : List ℕ) → IsName name → Here (name_tokens name ++ codes ";" ∷ []) (name_then name (59 ∷ 10 ∷ left)) left
 here_tail None left is = here_end left
 here_tail (Some bytes) left is =
     let quoted : List ℕ = 34 ∷ bytes ++ 34 ∷ [] in
@@ -138,12 +138,12 @@ numerals_are (d ∷ ds) (n ∷ ns) (one, are) =
     let rest = numerals_are ds ns are in (((one.0, refl), rest.0), λ i. sym one.1 i ∷ rest.1 i)
 
 line_is : (head : Head) (t : ℕ) (all block r1 r2 r3 left : List ℕ) → IsHeadThen head block r1 → HasNumber t r1 r2 → AddsCommas (t ∷ []) all r2 r3
-    → IsTailThen r3 left → IsLineThen (line_of head all) block left
+    → IsTailThen r3 left → IsLineThen (line_said head all) block left
 line_is head t all block r1 r2 r3 left h first more end =
     let blank : List ℕ = 32 ∷ [] in
     let after = with_commas more.digits ++ (name_tokens end.name ++ codes ";" ∷ []) in
     let last : Here after r2 left = subst (λ l. Here after l left) (sym (more.cut ∙ ap (commas more.digits) end.cut))
-    (here_commas more.digits (name_tokens end.name ++ codes ";" ∷ []) more.numbers (named end.name (59 ∷ 10 ∷ left)) left more.are (here_tail end.name left end.is)) in
+    (here_commas more.digits (name_tokens end.name ++ codes ";" ∷ []) more.numbers (name_then end.name (59 ∷ 10 ∷ left)) left more.are (here_tail end.name left end.is)) in
     let second : Here (first.digits ∷ after) r1 left = subst (λ l. Here (first.digits ∷ after) l left) (sym first.cut)
     (here_token first.digits after r2 left (digits_inside first.digits first.numeral) last) in
     let third = here_token blank (first.digits ∷ after) r1 left refl second in
@@ -182,7 +182,7 @@ line_is head t all block r1 r2 r3 left h first more end =
 
 -- what is behind the line is what is left of the block
 pub plain_is : (head : Head) (t n : ℕ) (all block r1 r2 r3 left : List ℕ) → IsHeadThen head block r1 → HasNumber t r1 r2 → AddsCommas (t ∷ []) all r2 r3
-    → IsTailThen r3 left → n ≡ length block - length left → IsLineThen (line_of head all) block (drop n block)
+    → IsTailThen r3 left → n ≡ length block - length left → IsLineThen (line_said head all) block (drop n block)
 plain_is head t n all block r1 r2 r3 left h first more end len =
     let l = line_is head t all block r1 r2 r3 left h first more end in
     let split : block ≡ (l.line ++ 10 ∷ []) ++ left = l.cut ∙ sym (append_assoc l.line (10 ∷ []) left) in

@@ -11,33 +11,33 @@ use Rattle.game.specs.declared.limits.TheConstants.{MOST_VERTICES}
 use Rattle.game.specs.Game.{Vertex, Game}
 use Rattle.pgsolver.specs.declared.error.PgError.{PgError}
 use Rattle.pgsolver.specs.declared.error.PgError.TheVariants as errors
-use Rattle.pgsolver.specs.Spelling.{Line, IsWithin, IsGameText, vertex_of}
+use Rattle.pgsolver.specs.Spelling.{Line, IsLineWithin, IsGameText, vertex_said}
 use Rattle.pgsolver.specs.Fault.{HasFault, HasFaultAt}
-use Rattle.pgsolver.specs.Left.{BeginsWith, IsPlace, AreAll, ArePut, HasRestFault, Refuses, named}
+use Rattle.pgsolver.specs.Left.{BeginsWith, IsPlace, AreAll, ArePutByIds, HasRestFault, Refuses, named}
 use Rattle.pgsolver.proofs.Placing.{has_at, one_line}
 use Rattle.pgsolver.proofs.Unique as unique
 use Rattle.pgsolver.proofs.Faults.{no_fault, one_fault}
 
 -- the line's vertex was put at its identifier
 placed : (n : ℕ) (vertices put : List Vertex) (places : List (Option ℕ)) (text left : List ℕ) → (all : AreAll n vertices places text left)
-    → ArePut places vertices put → (x : Line) → Contains all.spelled x → slice_get put x.id ≡ Some (vertex_of x)
+    → ArePutByIds places vertices put → (x : Line) → Contains all.spelled x → slice_get put x.id ≡ Some (vertex_said x)
 placed n vertices put places text left all are x there =
     let here = Has-from_Contains all.spelled x there in
-    let low = (all_has (IsWithin n) all.spelled x all.good_lines.within here).id in
+    let low = (all_has (IsLineWithin n) all.spelled x all.good_lines.within here).id in
     elim (slice_index_or places x.id None) as (λ o. slice_index_or places x.id None ≡ o → IsPlace all.spelled x.id o
-    → slice_get put x.id ≡ Some (vertex_of x)) [
+    → slice_get put x.id ≡ Some (vertex_said x)) [
       | None ↦ λ _ none. absurd (none x there refl)
       | (Some k) ↦ λ is at.
           let (y, e, same) = at in
           let one : y ≡ x = one_line all.spelled y x all.good_lines.once (has_at all.spelled k y e) here same in
-          are x.id k (omega (arith, all.placed.count, low)) is ∙ ap (λ vs. slice_get vs k) all.kept ∙ slice_get-map vertex_of all.spelled k
-          ∙ ap (option_map vertex_of) e ∙ ap (λ z. Some (vertex_of z)) one
+          are x.id k (omega (arith, all.placed.count, low)) is ∙ ap (λ vs. slice_get vs k) all.kept ∙ slice_get-map vertex_said all.spelled k
+          ∙ ap (option_map vertex_said) e ∙ ap (λ z. Some (vertex_said z)) one
     ] refl (all.placed.each x.id low)
 
 -- what was read is spelled
 pub read_whole : (old mid new : Option (List ℕ)) (n : ℕ) (vertices : List Vertex) (places : List (Option ℕ)) (g : Game) → n < MOST_VERTICES
     → IfKnown old mid (BeginsWith n) → IfKnown mid new (AreAll n vertices places) → length vertices ≡ length places
-    → length g.vertices ≡ length vertices → ArePut places vertices g.vertices → g.named ≡ None → IfSome old (λ text. IsGameText text g)
+    → length g.vertices ≡ length vertices → ArePutByIds places vertices g.vertices → g.named ≡ None → IfSome old (λ text. IsGameText text g)
 read_whole None mid new n vertices places g small begins all many size put unnamed = tt
 read_whole (Some text) None new n vertices places g small begins all many size put unnamed = absurd begins
 read_whole (Some text) (Some left) None n vertices places g small begins all many size put unnamed = absurd all

@@ -1,14 +1,14 @@
 -- The canonical text of a game.
 use Rattle.std.specs.Prelude.{ℕ, zero, suc, ◌+◌, ◌-◌, ◌/◌, ◌%◌, List, [], ◌∷◌, ◌++◌, length, map, Option, Some, None, codes, decimal}
 use Rattle.std.specs.List.{join_with_byte}
-use Rattle.lts.specs.Canon.{line_end}
+use Rattle.text.specs.Pieces.{line_end}
 use Rattle.game.specs.declared.player.Player.{Player}
 use Rattle.game.specs.declared.player.Player.TheVariants.{Even, Odd}
 use Rattle.game.specs.Game.{Vertex, Game, vertex}
 
 -- `parity N;`
-abbrev pub header_line : ℕ → List ℕ
-header_line n = codes "parity " ++ (decimal n ++ (codes ";" ++ line_end))
+abbrev pub game_header_line : ℕ → List ℕ
+game_header_line n = codes "parity " ++ (decimal n ++ (codes ";" ++ line_end))
 
 -- the owner's digit
 abbrev pub owner_digit : Player → List ℕ
@@ -39,12 +39,12 @@ abbrev pub vertex_line : Option (ℕ × ℕ) → ℕ → Vertex → List ℕ
 vertex_line named v x = front_text v x ++ (successors_text x.successors ++ (name_text named v ++ (codes ";" ++ line_end)))
 
 -- the line of a vertex, and none past the last
-abbrev pub line_of : Option (ℕ × ℕ) → ℕ → Option Vertex → List ℕ
-line_of named v None = []
-line_of named v (Some x) = vertex_line named v x
+abbrev pub vertex_line_of : Option (ℕ × ℕ) → ℕ → Option Vertex → List ℕ
+vertex_line_of named v None = []
+vertex_line_of named v (Some x) = vertex_line named v x
 
-abbrev pub line_at : Game → ℕ → List ℕ
-line_at g v = line_of g.named v (vertex g v)
+abbrev pub vertex_line_at : Game → ℕ → List ℕ
+vertex_line_at g v = vertex_line_of g.named v (vertex g v)
 
 -- a line for each vertex from v on
 abbrev pub vertex_lines : Option (ℕ × ℕ) → ℕ → List Vertex → List ℕ
@@ -53,4 +53,4 @@ vertex_lines named v (x ∷ xs) = vertex_line named v x ++ vertex_lines named (v
 
 -- `parity N;` with N the greatest identifier, and then a line for each vertex
 abbrev pub game_text : Game → List ℕ
-game_text g = header_line (length g.vertices - 1) ++ vertex_lines g.named 0 g.vertices
+game_text g = game_header_line (length g.vertices - 1) ++ vertex_lines g.named 0 g.vertices

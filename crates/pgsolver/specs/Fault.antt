@@ -3,7 +3,7 @@ use Rattle.std.specs.Prelude.{◌≡◌, ℕ, ◌+◌, ◌<◌, ◌≤◌, ◌�
 use Rattle.text.specs.Text.{lines}
 use Rattle.normal.specs.declared.limits.TheConstants.{GREATEST_PRIORITY}
 use Rattle.game.specs.declared.limits.TheConstants.{MOST_VERTICES}
-use Rattle.pgsolver.specs.Spelling.{Line, IsHeader, IsLine, AreGood}
+use Rattle.pgsolver.specs.Spelling.{Line, IsHeader, IsLine, AreGoodLines}
 use Rattle.pgsolver.specs.declared.error.PgFault.{PgFault}
 use Rattle.pgsolver.specs.declared.error.PgFault.TheVariants.{BadHeader, BadLine, BadIdentifier, BadSuccessor, PriorityTooGreat, TooManyVertices}
 
@@ -36,14 +36,14 @@ pub record FaultyLine (n : ℕ) (rest : List (List ℕ)) (fault : PgFault) (good
   pub back : List (List ℕ)
   pub before : List Line
   pub cut : rest ≡ front ++ line ∷ back
-  pub good_lines : AreGood n front before
+  pub good_lines : AreGoodLines n front before
   pub count : length front ≡ good
   pub wrong : LineFault n before line fault
 
 -- All lines are good, but the text ends before each identifier stood.
 pub record EndsTooSoon (n : ℕ) (rest : List (List ℕ)) (good : ℕ) : Type 0 where
   pub spelled : List Line
-  pub good_lines : AreGood n rest spelled
+  pub good_lines : AreGoodLines n rest spelled
   pub few : length rest < n + 1
   pub count : length rest ≡ good
 

@@ -14,10 +14,10 @@ use Rattle.pgsolver.specs.declared.error.PgError.{PgError}
 use Rattle.pgsolver.specs.declared.error.PgError.TheVariants.{Fault, Read, Memory}
 use Rattle.text.specs.Stream as stream
 use Rattle.text.specs.Stream.{below}
-use Rattle.pgsolver.specs.Scan.{line_of}
-use Rattle.pgsolver.specs.Spelling.{Line, IsHeader, IsLine, IsWithin, AreGood, vertex_of}
+use Rattle.pgsolver.specs.Scan.{line_said}
+use Rattle.pgsolver.specs.Spelling.{Line, IsHeader, IsLine, IsLineWithin, AreGoodLines, vertex_said}
 use Rattle.pgsolver.specs.declared.scan.Head.{Head}
-use Rattle.game.specs.NumberSet.{set_of}
+use Rattle.game.specs.NumberSet.{number_set}
 use Rattle.pgsolver.specs.Fault.{BodyFault, LineFault}
 
 -- what is told of a line that could not be read
@@ -62,11 +62,11 @@ BeginsWithLines spelled text left = (done : List (List ℕ)) × (lines text ≡ 
 -- what the vertex lines that were read so far say: so many and all of them good
 pub record SoFar (n good : ℕ) (old now : Option (List ℕ)) (vertices : List Vertex) (places : List (Option ℕ)) : Type 0 where
   pub spelled : List Line
-  pub within : AllByRecursion (IsWithin n) spelled
+  pub within : AllByRecursion (IsLineWithin n) spelled
   pub once : AllPairs (λ x y. x.id ≢ y.id) spelled
   pub count : length spelled ≡ good
   pub cut : IfKnown old now (BeginsWithLines spelled)
-  pub kept : vertices ≡ map vertex_of spelled
+  pub kept : vertices ≡ map vertex_said spelled
   pub placed : ArePlaces n spelled places
 
 -- some successor is above the greatest identifier
@@ -82,12 +82,12 @@ pub record IsSound (n : ℕ) (places : List (Option ℕ)) (x : Line) : Type 0 wh
   pub priority : x.priority ≤ GREATEST_PRIORITY
 
 -- what is wrong with what a line says
-abbrev pub IsFirstFault : ℕ → List (Option ℕ) → Line → PgFault → Type 0
-IsFirstFault n places x BadIdentifier = (n < x.id) ⊎ ((x.id ≤ n) × (is_some (slice_index_or places x.id None) ≡ true))
-IsFirstFault n places x BadSuccessor = (x.id ≤ n) × (slice_index_or places x.id None ≡ None) × ((x.successors ≡ []) ⊎ (has_far n x.successors ≡ true))
-IsFirstFault n places x PriorityTooGreat = (x.id ≤ n) × (slice_index_or places x.id None ≡ None) × (x.successors ≢ []) × (has_far n x.successors ≡ false)
+abbrev pub IsFaultOfLine : ℕ → List (Option ℕ) → Line → PgFault → Type 0
+IsFaultOfLine n places x BadIdentifier = (n < x.id) ⊎ ((x.id ≤ n) × (is_some (slice_index_or places x.id None) ≡ true))
+IsFaultOfLine n places x BadSuccessor = (x.id ≤ n) × (slice_index_or places x.id None ≡ None) × ((x.successors ≡ []) ⊎ (has_far n x.successors ≡ true))
+IsFaultOfLine n places x PriorityTooGreat = (x.id ≤ n) × (slice_index_or places x.id None ≡ None) × (x.successors ≢ []) × (has_far n x.successors ≡ false)
     × (GREATEST_PRIORITY < x.priority)
-IsFirstFault n places x _ = ⊥
+IsFaultOfLine n places x _ = ⊥
 
 -- the fault of the line that was next, which stands after these, and its place
 abbrev pub TellsFault : ℕ → List Line → Option (List ℕ) → ℕ → PgError → Type 0
@@ -100,17 +100,17 @@ TakesRow x text left = IsLine (stream.line_of text) x × (left ≡ below text)
 -- The line that was next says this within a game with the greatest identifier n, with an identifier that has no line yet.
 pub record Says (n : ℕ) (places : List (Option ℕ)) (old new : Option (List ℕ)) (head : Head) (targets : List ℕ) : Type 0 where
   pub successors : List ℕ
-  pub within : IsWithin n (line_of head successors)
+  pub within : IsLineWithin n (line_said head successors)
   pub new_id : slice_index_or places head.id None ≡ None
-  pub set : targets ≡ set_of successors
-  pub is : IfKnown old new (TakesRow (line_of head successors))
+  pub set : targets ≡ number_set successors
+  pub is : IfKnown old new (TakesRow (line_said head successors))
 
 -- The lines are all that were announced.
 pub record AreAll (n : ℕ) (vertices : List Vertex) (places : List (Option ℕ)) (text left : List ℕ) : Type 0 where
   pub spelled : List Line
-  pub good_lines : AreGood n (lines text) spelled
+  pub good_lines : AreGoodLines n (lines text) spelled
   pub count : length (lines text) ≡ n + 1
-  pub kept : vertices ≡ map vertex_of spelled
+  pub kept : vertices ≡ map vertex_said spelled
   pub placed : ArePlaces n spelled places
 
 -- each identifier has one of so many lines
@@ -118,5 +118,5 @@ abbrev pub AreFilled : ℕ → List (Option ℕ) → Type 0
 AreFilled count places = (v : ℕ) → v < length places → (k : ℕ) × (slice_index_or places v None ≡ Some k) × (k < count)
 
 -- the vertices stand at their identifiers
-abbrev pub ArePut : List (Option ℕ) → List Vertex → List Vertex → Type 0
-ArePut places read put = (v k : ℕ) → v < length places → slice_index_or places v None ≡ Some k → slice_get put v ≡ slice_get read k
+abbrev pub ArePutByIds : List (Option ℕ) → List Vertex → List Vertex → Type 0
+ArePutByIds places read put = (v k : ℕ) → v < length places → slice_index_or places v None ≡ Some k → slice_get put v ≡ slice_get read k

@@ -5,16 +5,16 @@ use Rattle.text.specs.Text.{is_blank}
 use Rattle.text.specs.Tokens.{past_blanks, sign_at, number_at, ◌>>=◌}
 use Rattle.text.specs.Stream as stream
 use Rattle.text.specs.Stream.{below, next_of}
-use Rattle.game.specs.NumberSet.{set_of}
+use Rattle.game.specs.NumberSet.{number_set}
 use Rattle.pgsolver.specs.declared.scan.Head.{Head}
-use Rattle.pgsolver.specs.Scan.{line_of, gap_at, more_at, targets_at, name_at, tail_at, line_at, FindsMore}
+use Rattle.pgsolver.specs.Scan.{line_said, gap_at, more_at, targets_at, name_at, tail_at, line_at, FindsMore}
 
 -- the first line
 abbrev pub first : List ℕ → List ℕ
 first = stream.line_of
 
 -- the blanks in front are taken, as many as there are
-pub record Skips (text left : List ℕ) : Type 0 where
+pub record SkipsBlanks (text left : List ℕ) : Type 0 where
   pub run : List ℕ
   pub cut : text ≡ run ++ left
   pub all : IsTrue (list_all is_blank run)
@@ -22,7 +22,7 @@ pub record Skips (text left : List ℕ) : Type 0 where
 
 -- the same, and this byte is next then
 abbrev pub SkipsTo : Option ℕ → List ℕ → List ℕ → Type 0
-SkipsTo next text left = Skips text left × (next_of left ≡ next)
+SkipsTo next text left = SkipsBlanks text left × (next_of left ≡ next)
 
 -- the blanks in front were taken
 pub record IsPast (text left : List ℕ) : Type 0 where
@@ -48,7 +48,7 @@ pub record HasRead (old new : List ℕ) (found : Option (List ℕ × List ℕ)) 
   pub all : List ℕ
   pub rest : List ℕ
   pub numbers : FindsMore old all (Some rest) found
-  pub same : set_of new ≡ set_of all
+  pub same : number_set new ≡ number_set all
   pub after : tail_at rest ≡ tail_at (first left)
   pub under : below text ≡ below left
 
@@ -80,5 +80,5 @@ PassesTail found text left = MatchBool found ((tail_at (first text) ≡ Some tt)
 -- the line is a vertex line, whose successors are those of the list, and is taken with its end; or it is none
 abbrev pub PassesVertex : List ℕ → Option Head → List ℕ → List ℕ → Type 0
 PassesVertex targets (Some head) text left =
-    (numbers : List ℕ) × (line_at (first text) ≡ Some (line_of head numbers)) × (set_of targets ≡ set_of numbers) × (left ≡ below text)
+    (numbers : List ℕ) × (line_at (first text) ≡ Some (line_said head numbers)) × (number_set targets ≡ number_set numbers) × (left ≡ below text)
 PassesVertex targets None text left = line_at (first text) ≡ None

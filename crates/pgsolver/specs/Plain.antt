@@ -36,15 +36,15 @@ pub record AddsCommas (old new text left : List ℕ) : Type 0 where
   pub cut : text ≡ commas digits left
 
 -- ` "name"` if there is one, and what follows
-abbrev pub named : Option (List ℕ) → List ℕ → List ℕ
-named None rest = rest
-named (Some name) rest = 32 ∷ 34 ∷ name ++ (34 ∷ rest)
+abbrev pub name_then : Option (List ℕ) → List ℕ → List ℕ
+name_then None rest = rest
+name_then (Some name) rest = 32 ∷ 34 ∷ name ++ (34 ∷ rest)
 
 -- a name, if there is one, `;` and an LF, and what follows
 pub record IsTailThen (text left : List ℕ) : Type 0 where
   pub name : Option (List ℕ)
   pub is : IsName name
-  pub cut : text ≡ named name (59 ∷ 10 ∷ left)
+  pub cut : text ≡ name_then name (59 ∷ 10 ∷ left)
 
 -- the line in front says this, and what follows its LF
 pub record IsLineThen (says : Line) (text left : List ℕ) : Type 0 where

@@ -5,15 +5,15 @@ use Rattle.text.specs.Tokens.{capped, sign_at, number_at, number_before, quoted_
 use Rattle.game.specs.declared.player.Player.{Player}
 use Rattle.game.specs.declared.player.Player.TheVariants.{Even, Odd}
 use Rattle.pgsolver.specs.declared.scan.Head.{Head}
-use Rattle.pgsolver.specs.Spelling.{Line, is_name}
+use Rattle.pgsolver.specs.Spelling.{Line, is_vertex_name}
 
 -- what a line says, with numbers that are too great for their type read as the greatest one
 abbrev pub capped_line : Line → Line
 capped_line x = record { id = capped x.id; priority = capped x.priority; owner = x.owner; successors = map capped x.successors }
 
 -- what a line with this head and these successors says
-abbrev pub line_of : Head → List ℕ → Line
-line_of head successors = record { id = head.id; priority = head.priority; owner = head.owner; successors = successors }
+abbrev pub line_said : Head → List ℕ → Line
+line_said head successors = record { id = head.id; priority = head.priority; owner = head.owner; successors = successors }
 
 unfoldable pub header_at : List ℕ → Option ℕ
 header_at line = do
@@ -34,8 +34,8 @@ number_gap line = do
   Some (n.0, rest)
 
 -- the owner of a digit
-abbrev pub owner_of : ℕ → Option Player
-owner_of n = if n == 0 then Some Even else (if n == 1 then Some Odd else None)
+abbrev pub owner_of_digit : ℕ → Option Player
+owner_of_digit n = if n == 0 then Some Even else (if n == 1 then Some Odd else None)
 
 unfoldable pub owner_at : List ℕ → Option (Player × List ℕ)
 owner_at line = do
@@ -77,7 +77,7 @@ targets_at line = targets_behind line (first_at line)
 -- what follows the name, if it is there
 abbrev pub name_behind : List ℕ → Option (List ℕ × List ℕ) → Option (List ℕ)
 name_behind line None = Some line
-name_behind line (Some name) = if is_name name.0 then Some name.1 else None
+name_behind line (Some name) = if is_vertex_name name.0 then Some name.1 else None
 
 -- what follows the name, if there is one
 unfoldable pub name_at : List ℕ → Option (List ℕ)
@@ -94,7 +94,7 @@ unfoldable pub line_at : List ℕ → Option Line
 line_at line = do
   head ← head_at line
   targets ← targets_at head.1
-  tail_at targets.1 >>= λ end. Some (line_of head.0 targets.0)
+  tail_at targets.1 >>= λ end. Some (line_said head.0 targets.0)
 
 -- The numbers that were added to the list are those that a test found, with this left to read.
 abbrev pub FindsMore : List ℕ → List ℕ → Option (List ℕ) → Option (List ℕ × List ℕ) → Type 0

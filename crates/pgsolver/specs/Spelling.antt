@@ -8,7 +8,7 @@ use Rattle.normal.specs.declared.limits.TheConstants.{GREATEST_PRIORITY}
 use Rattle.game.specs.declared.limits.TheConstants.{MOST_VERTICES}
 use Rattle.game.specs.declared.player.Player.{Player}
 use Rattle.game.specs.Game.{Vertex, Game, vertex}
-use Rattle.game.specs.NumberSet.{set_of}
+use Rattle.game.specs.NumberSet.{number_set}
 use Rattle.pgsolver.specs.declared.limits.TheConstants.{LONGEST_NAME}
 use Rattle.pgsolver.specs.Canon.{owner_digit}
 
@@ -29,8 +29,8 @@ with_commas [] = []
 with_commas (t ∷ ts) = codes "," ∷ t ∷ with_commas ts
 
 -- One blank, as a token: at least so much parts two numbers without a comma between them. More may stand there, as round each token.
-abbrev pub IsGap : List ℕ → Type 0
-IsGap gap = (b : ℕ) × IsTrue (is_blank b) × (gap ≡ b ∷ [])
+abbrev pub IsOneBlank : List ℕ → Type 0
+IsOneBlank gap = (b : ℕ) × IsTrue (is_blank b) × (gap ≡ b ∷ [])
 
 -- what follows the owner: successors with a comma between two, if there are some
 abbrev pub successor_tokens : List ℕ → List (List ℕ) → List (List ℕ)
@@ -38,11 +38,11 @@ successor_tokens gap [] = []
 successor_tokens gap (t ∷ ts) = gap ∷ t ∷ with_commas ts
 
 -- 0 to 4,096 bytes from 0x20 to 0x7E, none of them `"`
-abbrev pub is_name : List ℕ → Bool
-is_name bytes = nat_le (length bytes) LONGEST_NAME && list_all is_label_byte bytes
+abbrev pub is_vertex_name : List ℕ → Bool
+is_vertex_name bytes = nat_le (length bytes) LONGEST_NAME && list_all is_label_byte bytes
 
 abbrev pub IsName : Option (List ℕ) → Type 0
-IsName name = MatchOption name (Unit {0}) (λ bytes. IsTrue (is_name bytes))
+IsName name = MatchOption name (Unit {0}) (λ bytes. IsTrue (is_vertex_name bytes))
 
 -- the name in quotes, if there is one
 abbrev pub name_tokens : Option (List ℕ) → List (List ℕ)
@@ -61,25 +61,25 @@ pub record IsLine (line : List ℕ) (x : Line) : Type 0 where
   pub id : IsNumeral i x.id
   pub priority : IsNumeral p x.priority
   pub successors : AllZip IsNumeral targets x.successors
-  pub gaps : IsGap first_gap × IsGap second_gap × IsGap third_gap
+  pub gaps : IsOneBlank first_gap × IsOneBlank second_gap × IsOneBlank third_gap
   pub named : IsName name
   pub spaced : IsSpaced (i ∷ first_gap ∷ p ∷ second_gap ∷ owner_digit x.owner ∷ successor_tokens third_gap targets ++ (name_tokens name ++ codes ";" ∷ [])) line
 
 -- in a game with the greatest identifier n
-pub record IsWithin (n : ℕ) (x : Line) : Type 0 where
+pub record IsLineWithin (n : ℕ) (x : Line) : Type 0 where
   pub id : x.id ≤ n
   pub some : x.successors ≢ []
   pub successors : AllByRecursion (λ t. t ≤ n) x.successors
   pub priority : x.priority ≤ GREATEST_PRIORITY
 
 -- The lines say these, each within the limits, and no identifier twice.
-pub record AreGood (n : ℕ) (rest : List (List ℕ)) (spelled : List Line) : Type 0 where
+pub record AreGoodLines (n : ℕ) (rest : List (List ℕ)) (spelled : List Line) : Type 0 where
   pub each : AllZip IsLine rest spelled
-  pub within : AllByRecursion (IsWithin n) spelled
+  pub within : AllByRecursion (IsLineWithin n) spelled
   pub once : AllPairs (λ x y. x.id ≢ y.id) spelled
 
-abbrev pub vertex_of : Line → Vertex
-vertex_of x = record { owner = x.owner; priority = x.priority; successors = set_of x.successors }
+abbrev pub vertex_said : Line → Vertex
+vertex_said x = record { owner = x.owner; priority = x.priority; successors = number_set x.successors }
 
 -- The text spells the game: a header, and then a line for each vertex, in any order. A successor may stand twice. The names are not kept.
 pub record IsGameText (text : List ℕ) (g : Game) : Type 0 where
@@ -90,8 +90,8 @@ pub record IsGameText (text : List ℕ) (g : Game) : Type 0 where
   pub cut : lines text ≡ first ∷ rest
   pub header : IsHeader first n
   pub limit : n < MOST_VERTICES
-  pub good : AreGood n rest spelled
+  pub good : AreGoodLines n rest spelled
   pub complete : length rest ≡ n + 1
   pub size : length g.vertices ≡ n + 1
-  pub placed : (x : Line) → Contains spelled x → vertex g x.id ≡ Some (vertex_of x)
+  pub placed : (x : Line) → Contains spelled x → vertex g x.id ≡ Some (vertex_said x)
   pub unnamed : g.named ≡ None

@@ -4,8 +4,8 @@ ghost use Rattle.std.specs.Prelude.{◌≡◌, ℕ, List, Some, ◌≤◌, ◌�
 ghost use Rattle.std.specs.List.{prefix_len, list_all};
 ghost use Rattle.systems.specs.Label.{is_label_byte};
 ghost use Rattle.pgsolver.specs.Canon.{owner_digit};
-ghost use Rattle.pgsolver.specs.Scan.{line_of};
-ghost use Rattle.pgsolver.specs.Plain.{IsHeadThen, AddsCommas, IsTailThen, IsLineThen, named};
+ghost use Rattle.pgsolver.specs.Scan.{line_said};
+ghost use Rattle.pgsolver.specs.Plain.{IsHeadThen, AddsCommas, IsTailThen, IsLineThen, name_then};
 ghost use Rattle.pgsolver.specs.Spelling.{IsName};
 
 use crate::limits::LONGEST_NAME;
@@ -143,7 +143,7 @@ pub(crate) fn plain_line(
     block: &[u8],
     targets: &mut Vec<u32>,
 ) -> Result<Option<PlainLine>, AllocError>
-    ensures line { IfOk result (λ found. IfSome found (λ line. IsLineThen (line_of line.head targets.new.items) block.now (drop line.len block.now))) }
+    ensures line { IfOk result (λ found. IfSome found (λ line. IsLineThen (line_said line.head targets.new.items) block.now (drop line.len block.now))) }
     ensures within { IfOk result (λ found. IfSome found (λ line. line.len ≤ length block.now)) }
 {
     let Some((head, rest)) = front(block) else {

@@ -6,13 +6,13 @@ ghost use Rattle.text.specs.Cause.{HasCause};
 ghost use Rattle.text.specs.Lines.{IfKnown};
 ghost use Rattle.pgsolver.specs.declared.error.PgError.TheVariants as errors;
 ghost use Rattle.text.specs.Reads.{Reads};
-ghost use Rattle.pgsolver.specs.Scan.{line_of};
+ghost use Rattle.pgsolver.specs.Scan.{line_said};
 ghost use Rattle.pgsolver.specs.Spelling.{Line, IsGameText};
 ghost use Rattle.pgsolver.specs.Fault.{HasFault, HasFaultAt};
 ghost use Rattle.pgsolver.specs.Left as left;
 ghost use Rattle.game.specs.Game.{Vertex};
 ghost use Rattle.lts.specs.Left.{HasNoLine};
-ghost use Rattle.pgsolver.specs.Left.{AreFilled, Refuses, BeginsWith, ArePlaces, SoFar, AreAll, Says, IsSound, IsFirstFault, TellsFault, HasRestFault, named};
+ghost use Rattle.pgsolver.specs.Left.{AreFilled, Refuses, BeginsWith, ArePlaces, SoFar, AreAll, Says, IsSound, IsFaultOfLine, TellsFault, HasRestFault, named};
 
 use crate::error::{PgError, PgFault};
 use crate::intake::vertex;
@@ -54,8 +54,8 @@ fn has_far(last: u32, targets: &[u32]) -> bool
 // What is wrong with what a line says, if anything is.
 fn first_fault(head: Head, targets: &[u32], last: u32, places: &[Option<u32>]) -> Option<PgFault>
     requires { length places.now ≡ last + 1 }
-    ensures none { IfNone result (IsSound last places.now (line_of head targets.now)) }
-    ensures some { IfSome result (IsFirstFault last places.now (line_of head targets.now)) }
+    ensures none { IfNone result (IsSound last places.now (line_said head targets.now)) }
+    ensures some { IfSome result (IsFaultOfLine last places.now (line_said head targets.now)) }
 {
     if head.id > last || places[head.id as usize].is_some() {
         Some(PgFault::BadIdentifier)

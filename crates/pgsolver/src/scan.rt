@@ -26,7 +26,7 @@ fn are_name_bytes(bytes: &[u8]) -> bool
 
 /// Whether a name may be so.
 pub(crate) fn is_name(bytes: &[u8]) -> bool
-    ensures { result ≡ spec.is_name bytes.now }
+    ensures { result ≡ spec.is_vertex_name bytes.now }
 {
     bytes.len() <= LONGEST_NAME && are_name_bytes(bytes)
 }

@@ -5,7 +5,7 @@ ghost use Rattle.text.specs.Cause.{HasCause};
 ghost use Rattle.text.specs.declared.error.ReadFault.TheVariants as reads;
 ghost use Rattle.text.specs.Lines.{IfKnown};
 ghost use Rattle.text.specs.Stream.{Passes, PassesLine};
-ghost use Rattle.game.specs.NumberSet.{set_of};
+ghost use Rattle.game.specs.NumberSet.{number_set};
 ghost use Rattle.pgsolver.specs.Scan as at;
 ghost use Rattle.pgsolver.specs.Passes.{PassesMore, PassesTargets, PassesName, PassesTail, PassesVertex};
 
@@ -57,7 +57,7 @@ fn number_gap<B: Blocks>(reader: &mut B, kept: &mut Vec<u8>) -> Result<Option<u3
 }
 
 fn owner_of(digit: u32) -> Option<Player>
-    ensures { result ≡ at.owner_of digit }
+    ensures { result ≡ at.owner_of_digit digit }
 {
     match digit {
         0 => Some(Player::Even),
@@ -107,7 +107,7 @@ fn put(numbers: &mut Vec<u32>, number: u32) -> Result<(), AllocError>
 
 // Puts each number there once where there are as many as there is room for, and answers what room there is then: for as many again.
 fn each_once(numbers: &mut Vec<u32>, room: usize) -> usize
-    ensures { set_of numbers.new.items ≡ set_of numbers.old.items }
+    ensures { number_set numbers.new.items ≡ number_set numbers.old.items }
 {
     if numbers.len() < room {
         return room;

@@ -2,8 +2,8 @@
 
 ghost use Rattle.std.specs.Prelude.{◌≡◌, ◌+◌, ◌*◌, ◌<◌, ◌++◌, [], ℕ, length, Some, codes};
 ghost use Rattle.game.specs.Game.{Vertex, vertex};
-ghost use Rattle.lts.specs.Canon.{line_end};
-ghost use Rattle.pgsolver.specs.Canon.{game_text, header_line, front_text, successors_text, name_text, vertex_line, vertex_lines};
+ghost use Rattle.text.specs.Pieces.{line_end};
+ghost use Rattle.pgsolver.specs.Canon.{game_text, game_header_line, front_text, successors_text, name_text, vertex_line, vertex_lines};
 ghost use Rattle.text.specs.Wrote.{Wrote};
 
 use game::graph::Game;
@@ -24,7 +24,7 @@ pub fn write_game<W: Sink>(game: &Game, out: &mut W) -> Result<(), WriteFault>
 }
 
 fn put_header<W: Sink>(greatest: u32, out: &mut W) -> Result<(), WriteFault>
-    ensures { Wrote (W.taken out.old) (W.taken out.new) result (header_line greatest) }
+    ensures { Wrote (W.taken out.old) (W.taken out.new) result (game_header_line greatest) }
 {
     put_pieces(
         out,
@@ -44,11 +44,11 @@ struct VertexLines<'a> {
 
 impl Lines for VertexLines<'_> {
     ghost use Rattle.std.specs.Prelude.{length};
-    ghost use Rattle.pgsolver.specs.Canon.{line_at};
+    ghost use Rattle.pgsolver.specs.Canon.{vertex_line_at};
 
     ghost count = { λ lines. length lines.game.now.vertices };
 
-    ghost line = { λ lines v. line_at lines.game.now v };
+    ghost line = { λ lines v. vertex_line_at lines.game.now v };
 
     fn count(&self) -> usize {
         self.game.vertices() as usize

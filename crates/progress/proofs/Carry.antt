@@ -1,13 +1,13 @@
 -- The least counts over others: the last component with room takes one more, and those below it nothing.
 use Rattle.progress.proofs.Common.{◌≡◌, ℕ, zero, suc, ◌+◌, ◌-◌, ◌/◌, ◌%◌, ◌≢◌, ◌<◌, ◌≤◌, true, false, List, [], ◌∷◌, ◌++◌, length, map, take, drop, replicate}
 use Rattle.progress.proofs.Common.{refl, sym, ap, subst, ◌∙◌, inl, inr, arith, true≢false, slice_index, append_assoc, length-append, length-take-le}
-use Rattle.progress.proofs.Common.{length-map, AllZip-long, Game, count, Top, Counts, components, kept, is_odd, IsMeasure, IsProg, AreFull, bounds}
+use Rattle.progress.proofs.Common.{length-map, AllZip-long, Game, count, Top, Counts, components, kept, is_odd, IsMeasure, IsProg, AreAtBounds, bounds}
 use Rattle.progress.proofs.Cycles.{odd_or_even}
 use Rattle.progress.proofs.Components.{kept_is}
 use Rattle.progress.proofs.Measures.{Bounded, IsLeastOver, NoneOver, none, none_bounded, none_least, raised, deeper, full, no_counts, least_prog, none_prog}
 
 -- where no component has room, nothing is over the counts
-pub full_none : (f : ℕ → ℕ) (ps c : List ℕ) (k : ℕ) → Bounded f ps c → AreFull (map f ps) c 0 k → NoneOver f ps true k c
+pub full_none : (f : ℕ → ℕ) (ps c : List ℕ) (k : ℕ) → Bounded f ps c → AreAtBounds (map f ps) c 0 k → NoneOver f ps true k c
 full_none f ps c zero b h = λ x bound o. true≢false o
 full_none f [] [] (suc k) b h = no_counts f k
 full_none f [] (y ∷ ys) (suc k) b h = absurd b
@@ -16,7 +16,7 @@ full_none f (p ∷ ps) (y ∷ ys) (suc k) b h = full f p ps true k y ys (h 0 (om
     (full_none f ps ys k b.1 (λ i l m. h (suc i) (omega arith) (omega arith)))
 
 -- the last component with room takes one more
-pub room_least : (f : ℕ → ℕ) (ps c : List ℕ) (k j : ℕ) → Bounded f ps c → j < k → slice_index c j < slice_index (map f ps) j → AreFull (map f ps) c (suc j) k
+pub room_least : (f : ℕ → ℕ) (ps c : List ℕ) (k j : ℕ) → Bounded f ps c → j < k → slice_index c j < slice_index (map f ps) j → AreAtBounds (map f ps) c (suc j) k
     → IsLeastOver f ps true k c (take j c ++ suc (slice_index c j) ∷ none (drop (suc j) ps))
 room_least f ps c zero j b l r h = absurd (omega arith)
 room_least f [] c (suc k) j b l r h = absurd (omega arith)
@@ -72,7 +72,7 @@ module _ (g : Game) (p : ℕ) (c limits : List ℕ) (k : ℕ) (is : bounds g ≡
       (subst (λ xs. IsLeastOver (count g) (components g) false k c (take k c ++ xs)) (zeros_are k) least)))))
 
   -- at an odd one the last of them that has room takes one more
-  pub odd_prog : (p % 2 ≢ 0) → (j : ℕ) → j < k → slice_index c j < slice_index limits j → AreFull limits c (j + 1) k → (d : List ℕ)
+  pub odd_prog : (p % 2 ≢ 0) → (j : ℕ) → j < k → slice_index c j < slice_index limits j → AreAtBounds limits c (j + 1) k → (d : List ℕ)
       → d ≡ take j c ++ (slice_index c j + 1) ∷ []
       → IsProg g p (Counts c) (Counts (d ++ replicate (length limits - length d) 0))
   odd_prog odd j low room filled d e =
@@ -93,9 +93,9 @@ module _ (g : Game) (p : ℕ) (c limits : List ℕ) (k : ℕ) (is : bounds g ≡
       (subst (λ xs. IsLeastOver (count g) (components g) true k c (take j c ++ y ∷ xs)) (zeros_are (suc j)) least))))
 
   -- and where none has room it is top
-  pub full_prog : (p % 2 ≢ 0) → AreFull limits c 0 k → IsProg g p (Counts c) Top
+  pub full_prog : (p % 2 ≢ 0) → AreAtBounds limits c 0 k → IsProg g p (Counts c) Top
   full_prog odd filled =
       none_prog g p c
       (subst (λ b. NoneOver (count g) (components g) b (kept g p) c) (sym (odd_is p odd))
       (subst (λ n. NoneOver (count g) (components g) true n c) keeps
-      (full_none (count g) (components g) c k measure (subst (λ xs. AreFull xs c 0 k) (sym is) filled))))
+      (full_none (count g) (components g) c k measure (subst (λ xs. AreAtBounds xs c 0 k) (sym is) filled))))

@@ -1,8 +1,8 @@
 -- Good claims lie below.
 use Rattle.progress.proofs.Common.{◌≡◌, ℕ, ◌+◌, ◌%◌, ◌<◌, true, List, length, refl, sym, ap, subst, ◌∙◌, inl, inr, arith, true≢false, Contains, Option, Some}
 use Rattle.progress.proofs.Common.{None, slice_get_within, Player, Even, Odd, Vertex, Game, vertex, IsVertex, dual, priority_at, greatest_met, Measure, Top}
-use Rattle.progress.proofs.Common.{Counts, IsAtMost, IsBelow, IsMeasure, Reaches, is_odd, IsProgress, value_at, IsPlain, LiesBelow, Table, Entry, GoesOn}
-use Rattle.progress.proofs.Common.{IsGoodClaim, IsGoodEntry, claimed_at, entry_at, value_or}
+use Rattle.progress.proofs.Common.{Counts, IsAtMost, IsBelow, IsMeasure, Reaches, is_odd, IsProgress, value_at, IsPlain, LiesBelow, Table, Claimed, GoesOn}
+use Rattle.progress.proofs.Common.{IsGoodClaim, IsGoodEntry, claimed_at, claimed_entry, value_or}
 use Rattle.progress.proofs.Lists.{all_contained, all_got}
 use Rattle.progress.proofs.Measures.{at_most_or_below, at_most_trans, not_below, prog, prog_more}
 use Rattle.progress.proofs.Lifts.{even_reaches, odd_reaches, value_measure}
@@ -21,22 +21,22 @@ below_counts Top (Counts d) h = absurd (true≢false (sym h))
 below_counts (Counts c) r h = record { counts = c; is = refl }
 
 -- the rank of an entry, as a measure
-abbrev rank_of : Option Entry → Measure
+abbrev rank_of : Option Claimed → Measure
 rank_of None = Top
 rank_of (Some x) = Counts x.rank
 
-module _ (t : Table) (claim : List (Option Entry)) (plain : IsPlain t) (good : IsGoodClaim t.game t.values claim) (other : List Measure)
+module _ (t : Table) (claim : List (Option Claimed)) (plain : IsPlain t) (good : IsGoodClaim t.game t.values claim) (other : List Measure)
     (is : IsProgress t.game other) where
   abbrev g : Game
   g = t.game
 
   abbrev rank_at : ℕ → Measure
-  rank_at v = rank_of (entry_at claim v)
+  rank_at v = rank_of (claimed_entry claim v)
 
   -- the claim is above the progress table's value
   record IsBad (v : ℕ) : Type 0 where
-    entry : Entry
-    here : entry_at claim v ≡ Some entry
+    entry : Claimed
+    here : claimed_entry claim v ≡ Some entry
     high : IsBelow (value_at other v) entry.value
 
   record Step (u v : ℕ) : Type 0 where
@@ -49,7 +49,7 @@ module _ (t : Table) (claim : List (Option Entry)) (plain : IsPlain t) (good : I
   inside v b = let w = good v b.entry b.here in slice_get_within g.vertices v w.0 w.1
 
   -- where the value at hand is at most the progress table's, the claim before it isn't too high
-  enough : (u v : ℕ) (x : Vertex) (e : Entry) → IsGoodEntry g t.values claim x e → GoesOn x e v → Reaches g x.priority (value_at other v) (value_at other u)
+  enough : (u v : ℕ) (x : Vertex) (e : Claimed) → IsGoodEntry g t.values claim x e → GoesOn x e v → Reaches g x.priority (value_at other v) (value_at other u)
       → IsMeasure g (claimed_at t.values claim v) → IsAtMost (claimed_at t.values claim v) (value_at other v) → IsAtMost e.value (value_at other u)
   enough u v x e ok goes reaches measure low =
       let r = prog g x.priority (claimed_at t.values claim v) measure in
@@ -61,9 +61,9 @@ module _ (t : Table) (claim : List (Option Entry)) (plain : IsPlain t) (good : I
   -- so where it is, the next one is too
   next : (u v : ℕ) (x : Vertex) (b : IsBad u) → vertex g u ≡ Some x → IsGoodEntry g t.values claim x b.entry → GoesOn x b.entry v → v < length g.vertices
       → Reaches g x.priority (value_at other v) (value_at other u) → Step u v × IsBad v
-  next u v x b at ok goes within reaches = by (entry_at claim v) refl
+  next u v x b at ok goes within reaches = by (claimed_entry claim v) refl
     where
-      bad : (y : Entry) → entry_at claim v ≡ Some y → IsBelow (value_at other v) y.value → Step u v × IsBad v
+      bad : (y : Claimed) → claimed_entry claim v ≡ Some y → IsBelow (value_at other v) y.value → Step u v × IsBad v
       bad y e h = (
         record {
           from = inside u b;
@@ -79,7 +79,7 @@ module _ (t : Table) (claim : List (Option Entry)) (plain : IsPlain t) (good : I
       never : IsMeasure g (claimed_at t.values claim v) → IsAtMost (claimed_at t.values claim v) (value_at other v) → ⊥
       never measure low = not_below (value_at other u) b.entry.value b.high (enough u v x b.entry ok goes reaches measure low)
 
-      by : (o : Option Entry) → entry_at claim v ≡ o → Step u v × IsBad v
+      by : (o : Option Claimed) → claimed_entry claim v ≡ o → Step u v × IsBad v
       by None e =
           let below = plain.below v within in
           absurd (never (subst (λ o. IsMeasure g (value_or (value_at t.values v) o)) (sym e) below.measure)
@@ -126,14 +126,14 @@ module _ (t : Table) (claim : List (Option Entry)) (plain : IsPlain t) (good : I
       odd_after : (p : ℕ) → p % 2 ≡ 0 → is_odd (p + 1) ≡ true
       odd_after p even = elim (odd_or_even (p + 1)) [ inl w ↦ w.0 | inr w ↦ (let n = w.1 in absurd (omega arith)) ]
 
-  pub claim_under : (v : ℕ) (x : Entry) → entry_at claim v ≡ Some x → IsAtMost x.value (value_at other v)
+  pub claim_under : (v : ℕ) (x : Claimed) → claimed_entry claim v ≡ Some x → IsAtMost x.value (value_at other v)
   claim_under v x e = elim (at_most_or_below (value_at other v) x.value) [
     | inl h ↦ absurd (none_bad v (record { entry = x; here = e; high = h }))
     | inr low ↦ low
   ]
 
-pub claims_lie_below : (t : Table) (claim : List (Option Entry)) → IsPlain t → IsGoodClaim t.game t.values claim → (v : ℕ) (x : Entry)
-    → entry_at claim v ≡ Some x → LiesBelow t.game v x.value
+pub claims_lie_below : (t : Table) (claim : List (Option Claimed)) → IsPlain t → IsGoodClaim t.game t.values claim → (v : ℕ) (x : Claimed)
+    → claimed_entry claim v ≡ Some x → LiesBelow t.game v x.value
 claims_lie_below t claim plain good v x e = record {
   measure = (good v x e).2.measure;
   under = λ other is. claim_under t claim plain good other is v x e;

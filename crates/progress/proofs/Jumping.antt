@@ -1,8 +1,8 @@
 -- Testing claims, and raising a table by them.
 use Rattle.progress.proofs.Common.{◌≡◌, ◌≢◌, ◌↔◌, ℕ, ◌+◌, ◌<◌, ◌≤◌, ◌⊎◌, Bool, false, List, length, refl, sym, ap, subst, ◌∙◌, inl, inr, arith, true≢false}
 use Rattle.progress.proofs.Common.{IsTrue, Option, Some, None, slice_index, slice_set, eqb_tells, Game, dual, Counts, IsAtMost, IsProg, Measure, Reaches}
-use Rattle.progress.proofs.Common.{greater_of, value_at, AreEntered, AreRaised, Claim, Descends, Entry, IsGoodAt, IsGoodClaim, IsGoodFrom, claimed_at}
-use Rattle.progress.proofs.Common.{entry_at, raised_by}
+use Rattle.progress.proofs.Common.{greater_of, value_at, AreEntered, AreRaised, Claim, DescendsAlong, Claimed, IsGoodAt, IsGoodClaim, IsGoodFrom, claimed_at}
+use Rattle.progress.proofs.Common.{claimed_entry, raised_by}
 use Rattle.progress.proofs.Measures.{at_most_itself, at_most_or_below, at_most_trans, greater_taken, own_greater, prog_more}
 use Rattle.progress.proofs.Plain.{value_set_other, value_set_same}
 use Rattle.progress.proofs.Putting.{contained_from}
@@ -15,24 +15,24 @@ told_false P b e never = ((λ h. absurd (true≢false (sym h ∙ e))), (λ p. ab
 -- ------------------------------------------------------------------ one edge
 
 module _ (g : Game) (values : List Measure) (c : Claim) (same : g ≡ c.game) (p v t : ℕ) (r : Measure) (is : IsProg g p (claimed_at values c.entries t) r) where
-  pub edge_good : ((x : Entry) → entry_at c.entries v ≡ Some x → IsAtMost x.value r) → Descends c p v t → IsGoodFrom g values c.entries p v t
+  pub edge_good : ((x : Claimed) → claimed_entry c.entries v ≡ Some x → IsAtMost x.value r) → DescendsAlong c p v t → IsGoodFrom g values c.entries p v t
   edge_good low falls x e = record {
     value = λ s also. (let m = claimed_at values c.entries t in at_most_trans x.value r s (low x e) (prog_more g p m m r s (at_most_itself m) is also));
     rank = λ y f. subst (λ (h : Game). Reaches (dual h) (p + 1) (Counts y.rank) (Counts x.rank)) (sym same) (falls x y e f);
   }
 
-  pub edge_low : IsGoodFrom g values c.entries p v t → (x : Entry) → entry_at c.entries v ≡ Some x → IsAtMost x.value r
+  pub edge_low : IsGoodFrom g values c.entries p v t → (x : Claimed) → claimed_entry c.entries v ≡ Some x → IsAtMost x.value r
   edge_low good x e = (good x e).value r is
 
-  pub edge_falls : IsGoodFrom g values c.entries p v t → Descends c p v t
+  pub edge_falls : IsGoodFrom g values c.entries p v t → DescendsAlong c p v t
   edge_falls good x y e f = subst (λ (h : Game). Reaches (dual h) (p + 1) (Counts y.rank) (Counts x.rank)) same ((good x e).rank y f)
 
 -- ------------------------------------------------------------------ the whole claim
 
-pub all_good : (g : Game) (values : List Measure) (entries : List (Option Entry)) (vs : List ℕ) (n : ℕ) → AreEntered entries vs → length vs ≤ n
+pub all_good : (g : Game) (values : List Measure) (entries : List (Option Claimed)) (vs : List ℕ) (n : ℕ) → AreEntered entries vs → length vs ≤ n
     → ((i : ℕ) → i < n → IsGoodAt g values entries (slice_index vs i)) → IsGoodClaim g values entries
 all_good g values entries vs n entered l f v x e = contained_from (IsGoodAt g values entries) vs n l f v
-    ((entered v).0 (some_there (entry_at entries v) x e)) x e
+    ((entered v).0 (some_there (claimed_entry entries v) x e)) x e
 
 -- ------------------------------------------------------------------ raising
 
@@ -47,16 +47,16 @@ greater_again : (a c : Measure) → greater_of (greater_of a c) c ≡ greater_of
 greater_again a c = own_greater (greater_of a c) c (at_most_greater a c)
 
 -- Each value is as it was or raised, and those of the first vertices are raised.
-pub record IsRaising (old : List Measure) (entries : List (Option Entry)) (vs : List ℕ) (n : ℕ) (now : List Measure) : Type 0 where
-  pub either : (u : ℕ) → (value_at now u ≡ value_at old u) ⊎ (value_at now u ≡ raised_by (value_at old u) (entry_at entries u))
-  pub done : (i : ℕ) → i < n → value_at now (slice_index vs i) ≡ raised_by (value_at old (slice_index vs i)) (entry_at entries (slice_index vs i))
+pub record IsRaising (old : List Measure) (entries : List (Option Claimed)) (vs : List ℕ) (n : ℕ) (now : List Measure) : Type 0 where
+  pub either : (u : ℕ) → (value_at now u ≡ value_at old u) ⊎ (value_at now u ≡ raised_by (value_at old u) (claimed_entry entries u))
+  pub done : (i : ℕ) → i < n → value_at now (slice_index vs i) ≡ raised_by (value_at old (slice_index vs i)) (claimed_entry entries (slice_index vs i))
 
-module _ (old : List Measure) (entries : List (Option Entry)) (vs : List ℕ) where
+module _ (old : List Measure) (entries : List (Option Claimed)) (vs : List ℕ) where
   abbrev Raised : ℕ → Measure
-  Raised u = raised_by (value_at old u) (entry_at entries u)
+  Raised u = raised_by (value_at old u) (claimed_entry entries u)
 
-  pub raising_more : (n v : ℕ) (now new : List Measure) (m : Measure) (x : Entry) → IsRaising old entries vs n now → slice_index vs n ≡ v → v < length now
-      → entry_at entries v ≡ Some x → m ≡ x.value
+  pub raising_more : (n v : ℕ) (now new : List Measure) (m : Measure) (x : Claimed) → IsRaising old entries vs n now → slice_index vs n ≡ v → v < length now
+      → claimed_entry entries v ≡ Some x → m ≡ x.value
       → new ≡ slice_set now v (greater_of (value_at now v) m) → IsRaising old entries vs (n + 1) new
   raising_more n v now new m x is place inside at e set = record {
     either = either;
@@ -91,8 +91,8 @@ module _ (old : List Measure) (entries : List (Option Entry)) (vs : List ℕ) wh
       ]
 
   pub raised_all : (n : ℕ) (now : List Measure) → IsRaising old entries vs n now → AreEntered entries vs → length vs ≤ n → AreRaised old entries now
-  raised_all n now is entered l u = by (entry_at entries u) refl
+  raised_all n now is entered l u = by (claimed_entry entries u) refl
     where
-      by : (o : Option Entry) → entry_at entries u ≡ o → value_at now u ≡ raised_by (value_at old u) (entry_at entries u)
+      by : (o : Option Claimed) → claimed_entry entries u ≡ o → value_at now u ≡ raised_by (value_at old u) (claimed_entry entries u)
       by None e = elim (is.either u) [ inl q ↦ q ∙ sym (ap (raised_by (value_at old u)) e) | inr q ↦ q ]
-      by (Some x) e = contained_from (λ k. value_at now k ≡ Raised k) vs n l is.done u ((entered u).0 (some_there (entry_at entries u) x e))
+      by (Some x) e = contained_from (λ k. value_at now k ≡ Raised k) vs n l is.done u ((entered u).0 (some_there (claimed_entry entries u) x e))

@@ -2,7 +2,7 @@
 use Rattle.progress.proofs.Common.{◌≡◌, ℕ, Bool, true, false, zero, suc, ◌+◌, ◌*◌, ◌/◌, ◌%◌, ◌<◌, ◌≤◌, ◌↔◌, ◌++◌, List, [], ◌∷◌, length, map, drop, refl, sym}
 use Rattle.progress.proofs.Common.{ap, ap₂, subst, ◌∙◌, inl, inr, arith, slice_index, nat_lt, if◌then◌else◌, lt-ltb, ltb-true, mul-le-mul_right, append_assoc}
 use Rattle.progress.proofs.Common.{leb_tells, max, zeros, Game, count, Measure, Top, Counts, components, IsMeasure, IsAtMost, IsBelow, IsRank, AllZip, bounds}
-use Rattle.progress.proofs.Common.{counts_of, code, decode, height, rank, size}
+use Rattle.progress.proofs.Common.{counts_of, code, decode, height, rank, lists_up_to}
 use Rattle.progress.specs.Lifting.{of_rank}
 use Rattle.std.proofs.Math.Nat.{mul-div_cancel_left}
 use Rattle.progress.proofs.Measures.{Bounded, at_most_or_below, at_most_top, none, none_bounded}
@@ -14,7 +14,7 @@ own b = b
 
 -- ------------------------------------------------------------------ by the bounds
 
-pub size_bounds : (f : ℕ → ℕ) (ps : List ℕ) → size (λ b. b) (map f ps) ≡ size f ps
+pub size_bounds : (f : ℕ → ℕ) (ps : List ℕ) → lists_up_to (λ b. b) (map f ps) ≡ lists_up_to f ps
 size_bounds f [] = refl
 size_bounds f (p ∷ ps) = ap (λ n. suc (f p) * n) (size_bounds f ps)
 
@@ -26,41 +26,41 @@ code_bounds f (p ∷ ps) (y ∷ ys) = ap₂ (λ m n. y * m + n) (size_bounds f p
 pub decode_bounds : (f : ℕ → ℕ) (ps : List ℕ) (n : ℕ) → decode (λ b. b) (map f ps) n ≡ decode f ps n
 decode_bounds f [] n = refl
 decode_bounds f (p ∷ ps) n = ap (λ s. n / s ∷ decode (λ b. b) (map f ps) (n % s)) (size_bounds f ps)
-    ∙ ap (λ ds. n / size f ps ∷ ds) (decode_bounds f ps (n % size f ps))
+    ∙ ap (λ ds. n / lists_up_to f ps ∷ ds) (decode_bounds f ps (n % lists_up_to f ps))
 
 -- ------------------------------------------------------------------ place after place
 
-pub size_at : (bs : List ℕ) (i : ℕ) → i < length bs → size (λ b. b) (drop i bs) ≡ (slice_index bs i + 1) * size (λ b. b) (drop (suc i) bs)
+pub size_at : (bs : List ℕ) (i : ℕ) → i < length bs → lists_up_to (λ b. b) (drop i bs) ≡ (slice_index bs i + 1) * lists_up_to (λ b. b) (drop (suc i) bs)
 size_at [] i h = absurd (omega arith)
 size_at (b ∷ bs) zero h = omega arith
 size_at (b ∷ bs) (suc i) h = size_at bs i (omega arith)
 
-pub size_over : (bs : List ℕ) (i number : ℕ) → i < length bs → number * size (λ b. b) (drop i bs) ≡ size (λ b. b) bs
-    → (slice_index bs i + 1) * number ≤ size (λ b. b) bs
+pub size_over : (bs : List ℕ) (i number : ℕ) → i < length bs → number * lists_up_to (λ b. b) (drop i bs) ≡ lists_up_to (λ b. b) bs
+    → (slice_index bs i + 1) * number ≤ lists_up_to (λ b. b) bs
 size_over bs i number h e =
     let s = size_some (λ b. b) (drop (suc i) bs) in
     let at = size_at bs i h in
-    let m : 1 * ((slice_index bs i + 1) * number) ≤ size (λ b. b) (drop (suc i) bs) * ((slice_index bs i + 1) * number) = mul-le-mul_right
+    let m : 1 * ((slice_index bs i + 1) * number) ≤ lists_up_to (λ b. b) (drop (suc i) bs) * ((slice_index bs i + 1) * number) = mul-le-mul_right
     ((slice_index bs i + 1) * number) s in
-    let q : number * size (λ b. b) (drop i bs) ≡ number * ((slice_index bs i + 1) * size (λ b. b) (drop (suc i) bs)) = ap (λ n. number * n) at in
+    let q : number * lists_up_to (λ b. b) (drop i bs) ≡ number * ((slice_index bs i + 1) * lists_up_to (λ b. b) (drop (suc i) bs)) = ap (λ n. number * n) at in
     omega (arith, m, q, e)
 
 -- what has grown too great already is only a part
-pub size_great : (bs : List ℕ) (i number b limit : ℕ) → i < length bs → number * size (λ b. b) (drop i bs) ≡ size (λ b. b) bs → b ≡ slice_index bs i
-    → limit ≤ number * (b + 1) → size (λ b. b) bs < limit → ⊥
+pub size_great : (bs : List ℕ) (i number b limit : ℕ) → i < length bs → number * lists_up_to (λ b. b) (drop i bs) ≡ lists_up_to (λ b. b) bs → b ≡ slice_index bs i
+    → limit ≤ number * (b + 1) → lists_up_to (λ b. b) bs < limit → ⊥
 size_great bs i number b limit h e q great few =
     let s = size_over bs i number h e in
     let m : number * (b + 1) ≡ number * (slice_index bs i + 1) = ap (λ k. number * (k + 1)) q in
     omega (arith, s, m, great, few)
 
-pub size_next : (bs : List ℕ) (i number : ℕ) → i < length bs → number * size (λ b. b) (drop i bs) ≡ size (λ b. b) bs
-    → (number * (slice_index bs i + 1)) * size (λ b. b) (drop (suc i) bs) ≡ size (λ b. b) bs
+pub size_next : (bs : List ℕ) (i number : ℕ) → i < length bs → number * lists_up_to (λ b. b) (drop i bs) ≡ lists_up_to (λ b. b) bs
+    → (number * (slice_index bs i + 1)) * lists_up_to (λ b. b) (drop (suc i) bs) ≡ lists_up_to (λ b. b) bs
 size_next bs i number h e =
-    let q : number * size (λ b. b) (drop i bs) ≡ number * ((slice_index bs i + 1) * size (λ b. b) (drop (suc i) bs)) = ap (λ n. number * n) (size_at bs i h) in
+    let q : number * lists_up_to (λ b. b) (drop i bs) ≡ number * ((slice_index bs i + 1) * lists_up_to (λ b. b) (drop (suc i) bs)) = ap (λ n. number * n) (size_at bs i h) in
     omega (arith, q, e)
 
 pub code_at : (bs cs : List ℕ) (i : ℕ) → i < length bs → i < length cs
-    → code (λ b. b) (drop i bs) (drop i cs) ≡ slice_index cs i * size (λ b. b) (drop (suc i) bs) + code (λ b. b) (drop (suc i) bs) (drop (suc i) cs)
+    → code (λ b. b) (drop i bs) (drop i cs) ≡ slice_index cs i * lists_up_to (λ b. b) (drop (suc i) bs) + code (λ b. b) (drop (suc i) bs) (drop (suc i) cs)
 code_at [] cs i h k = absurd (omega arith)
 code_at (b ∷ bs) [] i h k = absurd (omega arith)
 code_at (b ∷ bs) (c ∷ cs) zero h k = refl
@@ -68,21 +68,21 @@ code_at (b ∷ bs) (c ∷ cs) (suc i) h k = code_at bs cs i (omega arith) (omega
 
 -- the number so far, with the places that are left, is the whole
 abbrev pub IsReadTo : List ℕ → List ℕ → ℕ → ℕ → Type 0
-IsReadTo bs cs i number = number * size (λ b. b) (drop i bs) + code (λ b. b) (drop i bs) (drop i cs) ≡ code (λ b. b) bs cs
+IsReadTo bs cs i number = number * lists_up_to (λ b. b) (drop i bs) + code (λ b. b) (drop i bs) (drop i cs) ≡ code (λ b. b) bs cs
 
 pub read_next : (bs cs : List ℕ) (i number : ℕ) → i < length bs → i < length cs → IsReadTo bs cs i number
     → IsReadTo bs cs (suc i) (number * (slice_index bs i + 1) + slice_index cs i)
 read_next bs cs i number h k e =
-    let q : number * size (λ b. b) (drop i bs) ≡ number * ((slice_index bs i + 1) * size (λ b. b) (drop (suc i) bs)) = ap (λ n. number * n) (size_at bs i h) in
+    let q : number * lists_up_to (λ b. b) (drop i bs) ≡ number * ((slice_index bs i + 1) * lists_up_to (λ b. b) (drop (suc i) bs)) = ap (λ n. number * n) (size_at bs i h) in
     omega (arith, q, e, code_at bs cs i h k)
 
 read_small : (bs cs : List ℕ) (i number : ℕ) → IsReadTo bs cs i number → number ≤ code (λ b. b) bs cs
 read_small bs cs i number e =
-    let m : 1 * number ≤ size (λ b. b) (drop i bs) * number = mul-le-mul_right number (size_some (λ b. b) (drop i bs)) in
+    let m : 1 * number ≤ lists_up_to (λ b. b) (drop i bs) * number = mul-le-mul_right number (size_some (λ b. b) (drop i bs)) in
     omega (arith, m, e)
 
 -- the number with one place more is within the limit
-pub read_within : (bs cs : List ℕ) (i number b k limit : ℕ) → i < length bs → i < length cs → Bounded (λ b. b) bs cs → size (λ b. b) bs < limit
+pub read_within : (bs cs : List ℕ) (i number b k limit : ℕ) → i < length bs → i < length cs → Bounded (λ b. b) bs cs → lists_up_to (λ b. b) bs < limit
     → b ≡ slice_index bs i → k ≡ slice_index cs i
     → IsReadTo bs cs i number → number * (b + 1) + k < limit
 read_within bs cs i number b k limit h l within few q r e =
@@ -93,31 +93,31 @@ read_within bs cs i number b k limit h l within few q r e =
 
 -- ------------------------------------------------------------------ and back
 
-pub weight_next : (bs : List ℕ) (i : ℕ) → i < length bs → size (λ b. b) (drop i bs) / (slice_index bs i + 1) ≡ size (λ b. b) (drop (suc i) bs)
+pub weight_next : (bs : List ℕ) (i : ℕ) → i < length bs → lists_up_to (λ b. b) (drop i bs) / (slice_index bs i + 1) ≡ lists_up_to (λ b. b) (drop (suc i) bs)
 weight_next bs i h =
     let some : 0 < slice_index bs i + 1 = omega arith in
-    ap (λ n. n / (slice_index bs i + 1)) (size_at bs i h) ∙ mul-div_cancel_left (size (λ b. b) (drop (suc i) bs)) some
+    ap (λ n. n / (slice_index bs i + 1)) (size_at bs i h) ∙ mul-div_cancel_left (lists_up_to (λ b. b) (drop (suc i) bs)) some
 
-pub place_small : (bs : List ℕ) (i rest : ℕ) → i < length bs → rest < size (λ b. b) (drop i bs) → rest / size (λ b. b) (drop (suc i) bs) ≤ slice_index bs i
-place_small bs i rest h l = front_low rest (slice_index bs i) (size (λ b. b) (drop (suc i) bs)) (size_some (λ b. b) (drop (suc i) bs))
+pub place_small : (bs : List ℕ) (i rest : ℕ) → i < length bs → rest < lists_up_to (λ b. b) (drop i bs) → rest / lists_up_to (λ b. b) (drop (suc i) bs) ≤ slice_index bs i
+place_small bs i rest h l = front_low rest (slice_index bs i) (lists_up_to (λ b. b) (drop (suc i) bs)) (size_some (λ b. b) (drop (suc i) bs))
     (omega (arith, l, size_at bs i h))
 
 pub decode_at : (bs : List ℕ) (i rest : ℕ) → i < length bs
-    → decode (λ b. b) (drop i bs) rest ≡ rest / size (λ b. b) (drop (suc i) bs) ∷ decode (λ b. b) (drop (suc i) bs) (rest % size (λ b. b) (drop (suc i) bs))
+    → decode (λ b. b) (drop i bs) rest ≡ rest / lists_up_to (λ b. b) (drop (suc i) bs) ∷ decode (λ b. b) (drop (suc i) bs) (rest % lists_up_to (λ b. b) (drop (suc i) bs))
 decode_at [] i rest h = absurd (omega arith)
 decode_at (b ∷ bs) zero rest h = refl
 decode_at (b ∷ bs) (suc i) rest h = decode_at bs i rest (omega arith)
 
 pub decode_next : (bs done : List ℕ) (i rest number : ℕ) → i < length bs → done ++ decode (λ b. b) (drop i bs) rest ≡ decode (λ b. b) bs number
-    → (done ++ (rest / size (λ b. b) (drop (suc i) bs)) ∷ []) ++ decode (λ b. b) (drop (suc i) bs) (rest % size (λ b. b) (drop (suc i) bs))
+    → (done ++ (rest / lists_up_to (λ b. b) (drop (suc i) bs)) ∷ []) ++ decode (λ b. b) (drop (suc i) bs) (rest % lists_up_to (λ b. b) (drop (suc i) bs))
     ≡ decode (λ b. b) bs number
 decode_next bs done i rest number h e =
-    let w = size (λ b. b) (drop (suc i) bs) in
+    let w = lists_up_to (λ b. b) (drop (suc i) bs) in
     append_assoc done ((rest / w) ∷ []) (decode (λ b. b) (drop (suc i) bs) (rest % w)) ∙ (ap (λ ds. done ++ ds) (sym (decode_at bs i rest h)) ∙ e)
 
 pub decode_long : (f : ℕ → ℕ) (ps : List ℕ) (n : ℕ) → length (decode f ps n) ≡ length ps
 decode_long f [] n = refl
-decode_long f (p ∷ ps) n = ap suc (decode_long f ps (n % size f ps))
+decode_long f (p ∷ ps) n = ap suc (decode_long f ps (n % lists_up_to f ps))
 
 -- ------------------------------------------------------------------ measures
 
@@ -160,8 +160,8 @@ rank_tells g m n h e = subst (IsRank g m) (sym e) (rank_is g m h)
 
 -- counts that are numbered by the bounds
 module _ (g : Game) (limits : List ℕ) (same : limits ≡ bounds g) where
-  pub size_is : size (λ b. b) limits ≡ height g
-  size_is = ap (size (λ b. b)) same ∙ size_bounds (count g) (components g)
+  pub size_is : lists_up_to (λ b. b) limits ≡ height g
+  size_is = ap (lists_up_to (λ b. b)) same ∙ size_bounds (count g) (components g)
 
   pub measure_of_number : (n : ℕ) (c : List ℕ) (m : Measure) → n < height g → c ≡ decode (λ b. b) limits n → m ≡ Counts c → m ≡ of_rank g n
   measure_of_number n c m h e is =

@@ -3,7 +3,7 @@ use Rattle.progress.proofs.Common.{AllByRecursion, Some, option_map, ◌≡◌, 
 use Rattle.progress.proofs.Common.{refl, sym, ap, subst, ◌∙◌, inl, inr, arith, if◌then◌else◌, slice_set, eqb_tells, ext_get_or, get_or-set_other}
 use Rattle.progress.proofs.Common.{get_or-set_same, get_or-replicate, length-map, length-replicate, length-set, AllZip-long, Game, IsGame, count, greatest}
 use Rattle.progress.proofs.Common.{vertex, Measure, Top, Counts, components, IsMeasure, IsProgress, opening, opening_value, value_at, zeros, bounds}
-use Rattle.progress.proofs.Common.{IsOpening, IsPlain, IsSettled, IsStored, LiesBelow, Table, HasWidth, Rows}
+use Rattle.progress.proofs.Common.{IsOpening, IsPlain, IsSettled, IsTableStored, LiesBelow, Table, HasWidth, Rows}
 use Rattle.progress.proofs.Bests.{its_successors}
 use Rattle.progress.proofs.Carry.{none_is}
 use Rattle.progress.proofs.Components.{odd_down_long}
@@ -129,12 +129,12 @@ opened_whole g v r is h = same_values (length g.vertices) r.values (opening g) i
 
 -- ------------------------------------------------------------------ as they are stored
 
-pub stored_width : (g edges : Game) (limits : List ℕ) (w : ℕ) (values : List Measure) → IsStored (record { game = g; values = values }) limits w edges
+pub stored_width : (g edges : Game) (limits : List ℕ) (w : ℕ) (values : List Measure) → IsTableStored (record { game = g; values = values }) limits w edges
     → w ≡ length (bounds g)
 stored_width g edges limits w values is = is.wide ∙ ap length is.bounded
 
 -- a stored table under the name that a call gives its game
-pub stored_as : (of g edges : Game) (limits : List ℕ) (w : ℕ) (values : List Measure) → of ≡ g → IsStored (record { game = of; values = values }) limits w edges
+pub stored_as : (of g edges : Game) (limits : List ℕ) (w : ℕ) (values : List Measure) → of ≡ g → IsTableStored (record { game = of; values = values }) limits w edges
     → IsPlain (record { game = g; values = values }) × (length (components g) ≡ w)
 stored_as of g edges limits w values same is = (
   subst (λ (h : Game). IsPlain (record { game = h; values = values })) same is.plain,
@@ -153,10 +153,10 @@ module _ (of g : Game) (values : List Measure) (plain : IsPlain (record { game =
       subst (λ n. AllByRecursion (λ t. t < n) ts × (0 < length ts)) long (its_successors g (subst IsGame same plain.game) v h ts e)
 
 pub set_stored : (g edges noted : Game) (limits : List ℕ) (r new : Rows) (v : ℕ) (m : Measure)
-    → IsStored (record { game = g; values = r.values }) limits r.width edges → v < length g.vertices → LiesBelow g v m
+    → IsTableStored (record { game = g; values = r.values }) limits r.width edges → v < length g.vertices → LiesBelow g v m
     → new ≡ record { width = r.width; values = slice_set r.values v m } → noted ≡ edges
-    → IsStored (record { game = g; values = new.values }) limits new.width noted
-set_stored g edges noted limits r new v m is h below e same = subst (λ (s : Rows). IsStored (record { game = g; values = s.values }) limits s.width noted)
+    → IsTableStored (record { game = g; values = new.values }) limits new.width noted
+set_stored g edges noted limits r new v m is h below e same = subst (λ (s : Rows). IsTableStored (record { game = g; values = s.values }) limits s.width noted)
     (sym e) (record {
       plain = set_plain (record { game = g; values = r.values }) v m is.plain h below;
       bounded = is.bounded;

@@ -3,7 +3,7 @@ use Rattle.progress.proofs.Common.{◌≡◌, ◌≢◌, ◌⊎◌, ℕ, zero, s
 use Rattle.progress.proofs.Common.{arith, if◌then◌else◌, Contains, Option, Some, None, nat_lt, lt-ltb, ltb-true, slice_index, range_with_len, eqb_tells}
 use Rattle.progress.proofs.Common.{leb_tells, get_or_past, get_or-map-range_with_len, length-map-range_with_len, Player, Even, Odd, Vertex, Game, IsGame}
 use Rattle.progress.proofs.Common.{IsVertex, vertex, dual, count, components, Measure, Top, Counts, IsAtMost, IsMeasure, IsProg, IsTable, Reaches, value_at}
-use Rattle.progress.proofs.Common.{zeros, counts_of, IsPlain, IsSettled, LiesBelow, Entry, IsGoodClaim, IsGoodEntry, claimed_at, entry_at, value_or}
+use Rattle.progress.proofs.Common.{zeros, counts_of, IsPlain, IsSettled, LiesBelow, Claimed, IsGoodClaim, IsGoodEntry, claimed_at, claimed_entry, value_or}
 use Rattle.progress.specs.Claim.{IsGoodEdge}
 use Rattle.progress.specs.Proposal.{AreEnough, Falls, HasReasonsAt, IsGoodProposal, IsGoodVertex, IsReason, Proposal}
 use Rattle.progress.proofs.Claims.{claims_lie_below}
@@ -19,7 +19,7 @@ zeros_below g v = record {
   under = λ other is. zeros_least g (value_at other v) (value_measure g other is.0.1 v);
 }
 
-some_entry : (x y : Entry) → Some x ≡ Some y → x ≡ y
+some_entry : (x y : Claimed) → Some x ≡ Some y → x ≡ y
 some_entry x y e = cc
 
 counts_back : (m : Measure) → m ≢ Top → Counts (counts_of m) ≡ m
@@ -121,33 +121,33 @@ module _ (c : Proposal) (game : IsGame c.game) (good : IsGoodProposal c) where
     reasons : (v : ℕ) → IsClaimed v → HasReasonsAt c v
     reasons v is = good.reasons v is.inside is.above
 
-    abbrev made : (v : ℕ) → IsClaimed v → Entry
+    abbrev made : (v : ℕ) → IsClaimed v → Claimed
     made v is = let r = reasons v is in record {
       value = value v;
       move = move_from r.0.owner (IsReason c r.0.priority v) r.0.successors r.2.enough;
       rank = counts_of (value_at c.ranks v);
     }
 
-    abbrev entry_by : (v : ℕ) → IsClaimed v ⊎ IsLeft v → Option Entry
+    abbrev entry_by : (v : ℕ) → IsClaimed v ⊎ IsLeft v → Option Claimed
     entry_by v (inl is) = Some (made v is)
     entry_by v (inr left) = None
 
-    abbrev entry : ℕ → Option Entry
+    abbrev entry : ℕ → Option Claimed
     entry v = entry_by v (decide v)
 
-    abbrev claim : List (Option Entry)
+    abbrev claim : List (Option Claimed)
     claim = map entry (range_with_len 0 n)
 
-    claim_at : (v : ℕ) → v < n → entry_at claim v ≡ entry v
+    claim_at : (v : ℕ) → v < n → claimed_entry claim v ≡ entry v
     claim_at v h = get_or-map-range_with_len entry 0 n v v None h (omega arith)
 
-    made_by : (v : ℕ) (x : Entry) (d : IsClaimed v ⊎ IsLeft v) → entry_by v d ≡ Some x → (is : IsClaimed v) × (made v is ≡ x)
+    made_by : (v : ℕ) (x : Claimed) (d : IsClaimed v ⊎ IsLeft v) → entry_by v d ≡ Some x → (is : IsClaimed v) × (made v is ≡ x)
     made_by v x (inl is) e = (is, some_entry (made v is) x e)
     made_by v x (inr left) e = absurd cc
 
-    claimed : (v : ℕ) (x : Entry) → entry_at claim v ≡ Some x → (is : IsClaimed v) × (made v is ≡ x)
+    claimed : (v : ℕ) (x : Claimed) → claimed_entry claim v ≡ Some x → (is : IsClaimed v) × (made v is ≡ x)
     claimed v x e = elim (leb_tells n v) [
-      | inl w ↦ (let past : entry_at claim v ≡ None = get_or_past claim v None (let h = w.1 in let l = length-map-range_with_len entry 0 n in omega arith)
+      | inl w ↦ (let past : claimed_entry claim v ≡ None = get_or_past claim v None (let h = w.1 in let l = length-map-range_with_len entry 0 n in omega arith)
           in absurd cc)
       | inr w ↦ made_by v x (decide v) (sym (claim_at v w.1) ∙ e)
     ]
@@ -161,7 +161,7 @@ module _ (c : Proposal) (game : IsGame c.game) (good : IsGoodProposal c) where
     ]
 
     claimed_is : (v : ℕ) → v < n → group v ≤ k → claimed_at (lows k) claim v ≡ value v
-    claimed_is v h l = ap (λ m. value_or m (entry_at claim v)) (lows_at k v h) ∙ (ap (value_or (low k v)) (claim_at v h) ∙ value_by v h l (decide v))
+    claimed_is v h l = ap (λ m. value_or m (claimed_entry claim v)) (lows_at k v h) ∙ (ap (value_or (low k v)) (claim_at v h) ∙ value_by v h l (decide v))
 
     group_of : (p v t : ℕ) → Falls c p v t → group v ≡ k → group t ≤ k
     group_of p v t (inl l) e = omega arith
@@ -171,15 +171,15 @@ module _ (c : Proposal) (game : IsGame c.game) (good : IsGoodProposal c) where
     rank_of p v t (inl l) e f = absurd (omega arith)
     rank_of p v t (inr s) e f = s.1
 
-    edge : (p v t : ℕ) (x : Entry) (is : IsClaimed v) → made v is ≡ x → value_at c.ranks v ≢ Top → IsReason c p v t → t < n → IsGoodEdge g (lows k) claim p x t
+    edge : (p v t : ℕ) (x : Claimed) (is : IsClaimed v) → made v is ≡ x → value_at c.ranks v ≢ Top → IsReason c p v t → t < n → IsGoodEdge g (lows k) claim p x t
     edge p v t x is made_is ranked reason h = record {
-      value = λ r prog. subst (λ (y : Entry). IsAtMost y.value r) made_is
+      value = λ r prog. subst (λ (y : Claimed). IsAtMost y.value r) made_is
           (reason.value r (subst (λ m. IsProg g p m r) (claimed_is t h (group_of p v t reason.falls is.here)) prog));
       rank = λ y e. (
           let w = claimed t y e in
           let there = reasons t w.0 in
-          subst (λ (z : Entry). Reaches (dual g) (p + 1) (Counts y.rank) (Counts z.rank)) made_is
-          (subst (λ (z : Entry). Reaches (dual g) (p + 1) (Counts z.rank) (Counts (counts_of (value_at c.ranks v)))) w.1
+          subst (λ (z : Claimed). Reaches (dual g) (p + 1) (Counts y.rank) (Counts z.rank)) made_is
+          (subst (λ (z : Claimed). Reaches (dual g) (p + 1) (Counts z.rank) (Counts (counts_of (value_at c.ranks v)))) w.1
           (subst (λ m. Reaches (dual g) (p + 1) m (Counts (counts_of (value_at c.ranks v)))) (sym (counts_back (value_at c.ranks t) there.2.ranked))
           (subst (λ m. Reaches (dual g) (p + 1) (value_at c.ranks t) m) (sym (counts_back (value_at c.ranks v) ranked))
           (rank_of p v t reason.falls is.here w.0.here)))));
@@ -189,7 +189,7 @@ module _ (c : Proposal) (game : IsGame c.game) (good : IsGoodProposal c) where
     good_claim v x e =
         let w = claimed v x e in
         let r = reasons v w.0 in
-        subst (λ (y : Entry). (at : Vertex) × (vertex g v ≡ Some at) × IsGoodEntry g (lows k) claim at y) w.1 (
+        subst (λ (y : Claimed). (at : Vertex) × (vertex g v ≡ Some at) × IsGoodEntry g (lows k) claim at y) w.1 (
           r.0,
           r.1,
           record {

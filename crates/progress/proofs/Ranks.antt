@@ -2,27 +2,27 @@
 use Rattle.progress.proofs.Common.{◌≡◌, ℕ, suc, ◌+◌, ◌*◌, ◌/◌, ◌%◌, ◌<◌, ◌≤◌, map, subst, ◌∙◌, AllPairs, Contains, slice_index_or, true, List, [], ◌∷◌}
 use Rattle.progress.proofs.Common.{length, sym, ap, inl, inr, arith, true≢false, mul-le-mul_right, range_with_len, leb_tells, length-map-range_with_len}
 use Rattle.progress.proofs.Common.{get_or-map-range_with_len, AllZip-long, Game, count, Measure, Top, Counts, components, IsMeasure, IsAtMost, IsBelow}
-use Rattle.progress.proofs.Common.{IsRank, code, decode, height, rank, size}
+use Rattle.progress.proofs.Common.{IsRank, code, decode, height, rank, lists_up_to}
 use Rattle.progress.proofs.Order.{Over, whole_from}
 use Rattle.progress.proofs.Measures.{Bounded, at_most_both, at_most_or_below}
 
 digit : (y z s r q : ℕ) → y < z → r < s → y * s + r < z * s + q
 digit y z s r q h i = let m : suc y * s ≤ z * s = mul-le-mul_right s h in omega (arith, m)
 
-pub code_bounded : (f : ℕ → ℕ) (ps c : List ℕ) → Bounded f ps c → code f ps c < size f ps
+pub code_bounded : (f : ℕ → ℕ) (ps c : List ℕ) → Bounded f ps c → code f ps c < lists_up_to f ps
 code_bounded f [] c h = omega arith
 code_bounded f (p ∷ ps) [] h = absurd h
-code_bounded f (p ∷ ps) (y ∷ ys) h = let d = digit y (suc (f p)) (size f ps) (code f ps ys) 0 (omega (arith, h.0)) (code_bounded f ps ys h.1)
+code_bounded f (p ∷ ps) (y ∷ ys) h = let d = digit y (suc (f p)) (lists_up_to f ps) (code f ps ys) 0 (omega (arith, h.0)) (code_bounded f ps ys h.1)
     in omega (arith, d)
 
 pub code_rises : (f : ℕ → ℕ) (ps c d : List ℕ) → Bounded f ps c → Bounded f ps d → Over true (length ps) c d → code f ps c < code f ps d
 code_rises f [] c d h i o = absurd (true≢false o)
 code_rises f (p ∷ ps) [] d h i o = absurd h
 code_rises f (p ∷ ps) (x ∷ xs) [] h i o = absurd o
-code_rises f (p ∷ ps) (x ∷ xs) (y ∷ ys) h i (inl o) = digit x y (size f ps) (code f ps xs) (code f ps ys) o (code_bounded f ps xs h.1)
+code_rises f (p ∷ ps) (x ∷ xs) (y ∷ ys) h i (inl o) = digit x y (lists_up_to f ps) (code f ps xs) (code f ps ys) o (code_bounded f ps xs h.1)
 code_rises f (p ∷ ps) (x ∷ xs) (y ∷ ys) h i (inr o) =
     let r = code_rises f ps xs ys h.1 i.1 o.1 in
-    let e : x * size f ps ≡ y * size f ps = ap (λ n. n * size f ps) o.0 in
+    let e : x * lists_up_to f ps ≡ y * lists_up_to f ps = ap (λ n. n * lists_up_to f ps) o.0 in
     omega (arith, r, e)
 
 pub rank_bounded : (g : Game) (m : Measure) → IsMeasure g m → rank g m ≤ height g
@@ -51,7 +51,7 @@ rank_same g m r h i l e = elim (at_most_or_below m r) [
   | inr q ↦ at_most_both m r l q
 ]
 
-pub size_some : (f : ℕ → ℕ) (ps : List ℕ) → 1 ≤ size f ps
+pub size_some : (f : ℕ → ℕ) (ps : List ℕ) → 1 ≤ lists_up_to f ps
 size_some f [] = omega arith
 size_some f (p ∷ ps) = let s = size_some f ps in omega (arith, s)
 
@@ -64,18 +64,18 @@ front_low n k s h l = elim (leb_tells (n / s) k) [
   | inr w ↦ (let m : suc k * s ≤ (n / s) * s = mul-le-mul_right s w.1 in absurd (omega (arith, m, l, h)))
 ]
 
-pub decode_bounded : (f : ℕ → ℕ) (ps : List ℕ) (n : ℕ) → n < size f ps → Bounded f ps (decode f ps n)
+pub decode_bounded : (f : ℕ → ℕ) (ps : List ℕ) (n : ℕ) → n < lists_up_to f ps → Bounded f ps (decode f ps n)
 decode_bounded f [] n h = tt
 decode_bounded f (p ∷ ps) n h = (
-  front_low n (f p) (size f ps) (size_some f ps) h,
-  decode_bounded f ps (n % size f ps) (rest_low n (size f ps) (size_some f ps)),
+  front_low n (f p) (lists_up_to f ps) (size_some f ps) h,
+  decode_bounded f ps (n % lists_up_to f ps) (rest_low n (lists_up_to f ps) (size_some f ps)),
 )
 
-pub code_decode : (f : ℕ → ℕ) (ps : List ℕ) (n : ℕ) → n < size f ps → code f ps (decode f ps n) ≡ n
+pub code_decode : (f : ℕ → ℕ) (ps : List ℕ) (n : ℕ) → n < lists_up_to f ps → code f ps (decode f ps n) ≡ n
 code_decode f [] n h = omega arith
 code_decode f (p ∷ ps) n h =
     let s = size_some f ps in
-    let r = code_decode f ps (n % size f ps) (rest_low n (size f ps) s) in
+    let r = code_decode f ps (n % lists_up_to f ps) (rest_low n (lists_up_to f ps) s) in
     omega (arith, r, s)
 
 -- measures of one rank are one
@@ -95,7 +95,7 @@ abbrev numbered : Game → ℕ → Measure
 numbered g n = Counts (decode (count g) (components g) n)
 
 module _ (g : Game) (m : Measure) (h : IsMeasure g m) where
-  low : (n : ℕ) → n < rank g m → n < size (count g) (components g)
+  low : (n : ℕ) → n < rank g m → n < lists_up_to (count g) (components g)
   low n l = let b = rank_bounded g m h in omega (arith, b, l)
 
   measured : (n : ℕ) → n < rank g m → IsMeasure g (numbered g n)

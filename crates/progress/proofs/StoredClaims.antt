@@ -5,8 +5,8 @@ use Rattle.progress.proofs.Common.{get_or, if◌then◌else◌, AllByRecursion, 
 use Rattle.progress.proofs.Common.{get_or-set_same, get_or_past, length-replicate, length-set, get_or-replicate, count_by-le-length, slice_get-get_or}
 use Rattle.progress.proofs.Common.{length-range_with_len, Game, IsGame, Vertex, dual, greatest, greatest_of, Counts, IsAtMost, IsMeasure, IsProg, Measure}
 use Rattle.progress.proofs.Common.{Reaches, Top, components, measure_cmp, value_at, IsProgUnder, bounds, ArePut, ReachesAt, Rows, is_top_of, measure_of}
-use Rattle.progress.proofs.Common.{AreEntered, Claim, Descends, Entry, entry_at}
-use Rattle.progress.specs.StoredClaim.{Apart, IsStoredClaim, entries_of, entry_of}
+use Rattle.progress.proofs.Common.{AreEntered, Claim, DescendsAlong, Claimed, claimed_entry}
+use Rattle.progress.specs.StoredClaim.{Apart, IsStoredClaim, all_claimed, claimed_of}
 use Rattle.progress.proofs.Lists.{all_weaker, contains_cases, contains_first, contains_later, contains_none}
 use Rattle.progress.proofs.Distinct.{PassesAt, apart_count}
 use Rattle.progress.proofs.Components.{odd_down_long}
@@ -41,7 +41,7 @@ dual_few g game = elim (leb_tells 1 (length g.vertices)) [
 -- ------------------------------------------------------------------ entries
 
 pub entries_at : (ms : List Measure) (ts : List ℕ) (rs : List Measure) (v : ℕ) → length ms ≡ length rs → length ts ≡ length rs
-    → entry_at (entries_of ms ts rs) v ≡ entry_of (value_at ms v) (slice_index ts v) (value_at rs v)
+    → claimed_entry (all_claimed ms ts rs) v ≡ claimed_of (value_at ms v) (slice_index ts v) (value_at rs v)
 entries_at [] [] [] v h i = refl
 entries_at [] [] (r ∷ rs) v h i = absurd (omega arith)
 entries_at [] (t ∷ ts) [] v h i = absurd (omega arith)
@@ -52,34 +52,34 @@ entries_at (m ∷ ms) (t ∷ ts) [] v h i = absurd (omega arith)
 entries_at (m ∷ ms) (t ∷ ts) (r ∷ rs) zero h i = refl
 entries_at (m ∷ ms) (t ∷ ts) (r ∷ rs) (suc v) h i = entries_at ms ts rs v (omega arith) (omega arith)
 
-record AreParts (m : Measure) (t : ℕ) (r : Measure) (x : Entry) : Type 0 where
+record AreParts (m : Measure) (t : ℕ) (r : Measure) (x : Claimed) : Type 0 where
   value : m ≡ x.value
   move : t ≡ x.move
   rank : r ≡ Counts x.rank
 
-some_entry : (x y : Entry) → Some x ≡ Some y → x ≡ y
+some_entry : (x y : Claimed) → Some x ≡ Some y → x ≡ y
 some_entry x y e = cc
 
-entry_parts : (m : Measure) (t : ℕ) (r : Measure) (x : Entry) → entry_of m t r ≡ Some x → AreParts m t r x
+entry_parts : (m : Measure) (t : ℕ) (r : Measure) (x : Claimed) → claimed_of m t r ≡ Some x → AreParts m t r x
 entry_parts m t Top x e = absurd cc
 entry_parts m t (Counts c) x e = let q = some_entry (record { value = m; move = t; rank = c }) x e in record {
-  value = ap (λ (y : Entry). y.value) q;
-  move = ap (λ (y : Entry). y.move) q;
-  rank = ap (λ (y : Entry). Counts y.rank) q;
+  value = ap (λ (y : Claimed). y.value) q;
+  move = ap (λ (y : Claimed). y.move) q;
+  rank = ap (λ (y : Claimed). Counts y.rank) q;
 }
 
-entry_some : (m : Measure) (t : ℕ) (r : Measure) (top : Bool) → top ≡ is_top_of r → IsTrue (not top) ↔ IsSome (entry_of m t r)
+entry_some : (m : Measure) (t : ℕ) (r : Measure) (top : Bool) → top ≡ is_top_of r → IsTrue (not top) ↔ IsSome (claimed_of m t r)
 entry_some m t Top top e = ((λ h. absurd (true≢false (sym h ∙ ap not e))), (λ h. absurd (true≢false (sym h))))
 entry_some m t (Counts c) top e = ((λ h. refl), (λ h. ap not e))
 
-is_there : (o : Option Entry) → IsSome o → (x : Entry) × (o ≡ Some x)
+is_there : (o : Option Claimed) → IsSome o → (x : Claimed) × (o ≡ Some x)
 is_there None h = absurd (true≢false (sym h))
 is_there (Some x) h = (x, refl)
 
-pub entry_there : (entries : List (Option Entry)) (v : ℕ) → IsSome (entry_at entries v) → (x : Entry) × (entry_at entries v ≡ Some x)
-entry_there entries v h = is_there (entry_at entries v) h
+pub entry_there : (entries : List (Option Claimed)) (v : ℕ) → IsSome (claimed_entry entries v) → (x : Claimed) × (claimed_entry entries v ≡ Some x)
+entry_there entries v h = is_there (claimed_entry entries v) h
 
-pub some_there : (o : Option Entry) (x : Entry) → o ≡ Some x → IsSome o
+pub some_there : (o : Option Claimed) (x : Claimed) → o ≡ Some x → IsSome o
 some_there o x e = subst (λ p. IsSome p) (sym e) refl
 
 -- ------------------------------------------------------------------ the list of vertices
@@ -101,27 +101,27 @@ apart_few n seen a h =
 
 module _ (of : Game) (values : Rows) (moves : List ℕ) (ranks : Rows) (vertices : List ℕ) (first : ℕ)
     (stored : IsStoredClaim of values moves ranks vertices first) where
-  abbrev Entries : List (Option Entry)
-  Entries = entries_of values.values moves ranks.values
+  abbrev Entries : List (Option Claimed)
+  Entries = all_claimed values.values moves ranks.values
 
-  abbrev At : ℕ → Option Entry
-  At v = entry_of (value_at values.values v) (slice_index moves v) (value_at ranks.values v)
+  abbrev At : ℕ → Option Claimed
+  At v = claimed_of (value_at values.values v) (slice_index moves v) (value_at ranks.values v)
 
-  at_stored : (v : ℕ) → entry_at Entries v ≡ At v
+  at_stored : (v : ℕ) → claimed_entry Entries v ≡ At v
   at_stored v = let a = stored.values_long in let b = stored.moves_long in let c = stored.ranks_long
       in entries_at values.values moves ranks.values v (omega arith) (omega arith)
 
-  entered_within : (v : ℕ) → IsSome (entry_at Entries v) → v < length of.vertices
+  entered_within : (v : ℕ) → IsSome (claimed_entry Entries v) → v < length of.vertices
   entered_within v h = elim (leb_tells (length ranks.values) v) [
     | inl w ↦ (
         let past : value_at ranks.values v ≡ Top = get_or_past ranks.values v Top w.1 in
-        let none : entry_at Entries v ≡ None = at_stored v ∙ ap (λ r. entry_of (value_at values.values v) (slice_index moves v) r) past in
+        let none : claimed_entry Entries v ≡ None = at_stored v ∙ ap (λ r. claimed_of (value_at values.values v) (slice_index moves v) r) past in
         absurd (true≢false (sym (subst (λ o. IsSome o) none h))))
     | inr w ↦ (let l = w.1 in let n = stored.ranks_long in omega arith)
   ]
 
   -- where a vertex has no entry, there is room in the list
-  pub room : (v : ℕ) → v < length of.vertices → (IsSome (entry_at Entries v) → ⊥) → 1 ≤ first
+  pub room : (v : ℕ) → v < length of.vertices → (IsSome (claimed_entry Entries v) → ⊥) → 1 ≤ first
   room v h free = elim (leb_tells 1 first) [
     | inl w ↦ w.1
     | inr w ↦ (
@@ -139,8 +139,8 @@ module _ (of : Game) (values : Rows) (moves : List ℕ) (ranks : Rows) (vertices
     pub game_is : of ≡ now.game
     game_is = ap (λ (c : Claim). c.game) is
 
-    pub at_is : (v : ℕ) → entry_at now.entries v ≡ At v
-    at_is v = sym (ap (λ (c : Claim). entry_at c.entries v) is) ∙ at_stored v
+    pub at_is : (v : ℕ) → claimed_entry now.entries v ≡ At v
+    at_is v = sym (ap (λ (c : Claim). claimed_entry c.entries v) is) ∙ at_stored v
 
     inside : (v n : ℕ) → v < length now.game.vertices → n ≡ length of.vertices → v < n
     inside v n h e = let q : length of.vertices ≡ length now.game.vertices = ap (λ (g : Game). length g.vertices) game_is in omega arith
@@ -151,47 +151,47 @@ module _ (of : Game) (values : Rows) (moves : List ℕ) (ranks : Rows) (vertices
     pub ranks_inside : (v : ℕ) → v < length now.game.vertices → v < length ranks.values
     ranks_inside v h = inside v (length ranks.values) h stored.ranks_long
 
-    parts : (v : ℕ) (x : Entry) → entry_at now.entries v ≡ Some x → AreParts (value_at values.values v) (slice_index moves v) (value_at ranks.values v) x
+    parts : (v : ℕ) (x : Claimed) → claimed_entry now.entries v ≡ Some x → AreParts (value_at values.values v) (slice_index moves v) (value_at ranks.values v) x
     parts v x e = entry_parts (value_at values.values v) (slice_index moves v) (value_at ranks.values v) x (sym (at_is v) ∙ e)
 
-    pub has_entry : (v : ℕ) (top : Bool) → top ≡ is_top_of (value_at ranks.values v) → IsTrue (not top) ↔ IsSome (entry_at now.entries v)
+    pub has_entry : (v : ℕ) (top : Bool) → top ≡ is_top_of (value_at ranks.values v) → IsTrue (not top) ↔ IsSome (claimed_entry now.entries v)
     has_entry v top e = subst (λ o. IsTrue (not top) ↔ IsSome o) (sym (at_is v))
         (entry_some (value_at values.values v) (slice_index moves v) (value_at ranks.values v) top e)
 
-    pub has_stored : (v : ℕ) (b : Bool) → (IsTrue b ↔ IsSome (entry_at now.entries v)) → IsTrue b ↔ IsSome (entry_at Entries v)
-    has_stored v b h = subst (λ (c : Claim). IsTrue b ↔ IsSome (entry_at c.entries v)) (sym is) h
+    pub has_stored : (v : ℕ) (b : Bool) → (IsTrue b ↔ IsSome (claimed_entry now.entries v)) → IsTrue b ↔ IsSome (claimed_entry Entries v)
+    has_stored v b h = subst (λ (c : Claim). IsTrue b ↔ IsSome (claimed_entry c.entries v)) (sym is) h
 
     pub vertex_stored : (v : ℕ) → v < length now.game.vertices → v < length of.vertices
     vertex_stored v h = inside v (length of.vertices) h refl
 
-    pub its_value : (v : ℕ) (m : Measure) → m ≡ value_at values.values v → (x : Entry) → entry_at now.entries v ≡ Some x → m ≡ x.value
+    pub its_value : (v : ℕ) (m : Measure) → m ≡ value_at values.values v → (x : Claimed) → claimed_entry now.entries v ≡ Some x → m ≡ x.value
     its_value v m e x at = e ∙ (parts v x at).value
 
-    pub its_move : (v t : ℕ) → t ≡ slice_index moves v → (x : Entry) → entry_at now.entries v ≡ Some x → t ≡ x.move
+    pub its_move : (v t : ℕ) → t ≡ slice_index moves v → (x : Claimed) → claimed_entry now.entries v ≡ Some x → t ≡ x.move
     its_move v t e x at = e ∙ (parts v x at).move
 
-    pub its_measure : (v : ℕ) (x : Entry) → entry_at now.entries v ≡ Some x → IsMeasure now.game x.value
-    its_measure v x e = subst (λ (g : Game). IsMeasure g x.value) game_is (stored.measures v x (ap (λ (c : Claim). entry_at c.entries v) is ∙ e))
+    pub its_measure : (v : ℕ) (x : Claimed) → claimed_entry now.entries v ≡ Some x → IsMeasure now.game x.value
+    its_measure v x e = subst (λ (g : Game). IsMeasure g x.value) game_is (stored.measures v x (ap (λ (c : Claim). claimed_entry c.entries v) is ∙ e))
 
     pub width_is : (w : ℕ) → w ≡ ranks.width → w ≡ length (components (dual now.game))
     width_is w e = e ∙ (stored.ranked ∙ ap (λ (g : Game). length (components (dual g))) game_is)
 
     pub entered_is : (vs : List ℕ) → vs ≡ drop first vertices → AreEntered now.entries vs
     entered_is vs e = subst (λ (us : List ℕ). AreEntered now.entries us) (sym e)
-        (λ v. subst (λ (c : Claim). IsSome (entry_at c.entries v) ↔ Contains (drop first vertices) v) is (stored.entered v))
+        (λ v. subst (λ (c : Claim). IsSome (claimed_entry c.entries v) ↔ Contains (drop first vertices) v) is (stored.entered v))
 
     pub entered_inside : (vs : List ℕ) → vs ≡ drop first vertices → (v : ℕ) → Contains vs v → v < length now.game.vertices
     entered_inside vs e v h = subst (λ (g : Game). v < length g.vertices) game_is
         (entered_within v ((stored.entered v).1 (subst (λ (us : List ℕ). Contains us v) e h)))
 
-    pub at_most_is : (v : ℕ) (m : Measure) (b : Bool) → IsSome (entry_at now.entries v) → b ≡ is_le (measure_cmp (value_at values.values v) m)
-        → IsTrue b ↔ ((x : Entry) → entry_at now.entries v ≡ Some x → IsAtMost x.value m)
+    pub at_most_is : (v : ℕ) (m : Measure) (b : Bool) → IsSome (claimed_entry now.entries v) → b ≡ is_le (measure_cmp (value_at values.values v) m)
+        → IsTrue b ↔ ((x : Claimed) → claimed_entry now.entries v ≡ Some x → IsAtMost x.value m)
     at_most_is v m b some e = (
       (λ h x at. subst (λ (k : Measure). IsAtMost k m) (parts v x at).value (sym e ∙ h)),
-      (λ f. let w = is_there (entry_at now.entries v) some in e ∙ subst (λ (k : Measure). IsAtMost k m) (sym (parts v w.0 w.1).value) (f w.0 w.1)),
+      (λ f. let w = is_there (claimed_entry now.entries v) some in e ∙ subst (λ (k : Measure). IsAtMost k m) (sym (parts v w.0 w.1).value) (f w.0 w.1)),
     )
 
-    pub top_asks : (v p : ℕ) (r : Measure) → true ≡ is_top_of (value_at values.values v) → r ≡ Top → (y : Entry) → entry_at now.entries v ≡ Some y
+    pub top_asks : (v p : ℕ) (r : Measure) → true ≡ is_top_of (value_at values.values v) → r ≡ Top → (y : Claimed) → claimed_entry now.entries v ≡ Some y
         → IsProg now.game p y.value r
     top_asks v p r top e y at =
         subst (λ (k : Measure). IsProg now.game p y.value k) (sym e)
@@ -202,19 +202,19 @@ module _ (of : Game) (values : Rows) (moves : List ℕ) (ranks : Rows) (vertices
         is_top (Counts c) h = absurd (true≢false h)
 
     pub counts_ask : (v p : ℕ) (limits c : List ℕ) (r : Measure) → false ≡ is_top_of (value_at values.values v) → limits ≡ bounds now.game
-        → measure_of (is_top_of (value_at values.values v)) c ≡ value_at values.values v → IsProgUnder limits p (Counts c) r → (y : Entry)
-        → entry_at now.entries v ≡ Some y → IsProg now.game p y.value r
+        → measure_of (is_top_of (value_at values.values v)) c ≡ value_at values.values v → IsProgUnder limits p (Counts c) r → (y : Claimed)
+        → claimed_entry now.entries v ≡ Some y → IsProg now.game p y.value r
     counts_ask v p limits c r low e is_value under y at =
         let same : Counts c ≡ y.value = ap (λ b. measure_of b c) low ∙ (is_value ∙ (parts v y at).value) in
         subst (λ (k : Measure). IsProg now.game p k r) same (under now.game (sym e) (subst (IsMeasure now.game) (sym same) (its_measure v y at)))
 
-    pub descends_is : (p v t : ℕ) (b : Bool) → IsSome (entry_at now.entries v) → IsSome (entry_at now.entries t) → ReachesAt ranks (p + 1) t v b → IsTrue b
-        ↔ Descends now p v t
+    pub descends_is : (p v t : ℕ) (b : Bool) → IsSome (claimed_entry now.entries v) → IsSome (claimed_entry now.entries t) → ReachesAt ranks (p + 1) t v b → IsTrue b
+        ↔ DescendsAlong now p v t
     descends_is p v t b some there reaches =
         let r = reaches (dual now.game) (sym (width_is ranks.width refl)) in (
           (λ h x y at next. subst (λ (k : Measure). Reaches (dual now.game) (p + 1) k (Counts x.rank)) (parts t y next).rank
               (subst (λ (k : Measure). Reaches (dual now.game) (p + 1) (value_at ranks.values t) k) (parts v x at).rank (r.0 h))),
-          (λ f. let x = is_there (entry_at now.entries v) some in let y = is_there (entry_at now.entries t) there in
+          (λ f. let x = is_there (claimed_entry now.entries v) some in let y = is_there (claimed_entry now.entries t) there in
               r.1 (subst (λ (k : Measure). Reaches (dual now.game) (p + 1) k (value_at ranks.values v)) (sym (parts t y.0 y.1).rank)
               (subst (λ (k : Measure). Reaches (dual now.game) (p + 1) (Counts y.0.rank) k) (sym (parts v x.0 x.1).rank) (f x.0 y.0 x.1 y.1)))),
         )
@@ -232,11 +232,11 @@ module _ (g : Game) (game : IsGame g) (n wide high : ℕ) (many : n ≡ length g
   ranks_are : length ranks.values ≡ length g.vertices
   ranks_are = ap length tops ∙ (length-replicate n Top ∙ many)
 
-  pub new_none : (v : ℕ) → entry_at (entries_of values.values moves ranks.values) v ≡ None
+  pub new_none : (v : ℕ) → claimed_entry (all_claimed values.values moves ranks.values) v ≡ None
   new_none v =
       let a = values_are in let b = ranks_are in
       entries_at values.values moves ranks.values v (omega arith) (omega arith)
-      ∙ ap (λ r. entry_of (value_at values.values v) (slice_index moves v) r) (ap (λ ms. value_at ms v) tops ∙ top_at)
+      ∙ ap (λ r. claimed_of (value_at values.values v) (slice_index moves v) r) (ap (λ ms. value_at ms v) tops ∙ top_at)
     where
       top_at : value_at (replicate n Top) v ≡ Top
       top_at = elim (leb_tells n v) [
@@ -269,23 +269,23 @@ module _ (g : Game) (game : IsGame g) (n wide high : ℕ) (many : n ≡ length g
 
 module _ (of : Game) (values : Rows) (moves : List ℕ) (ranks : Rows) (vertices vertices' : List ℕ) (first first' v : ℕ)
     (stored : IsStoredClaim of values moves ranks vertices first) (has : Bool)
-    (there : IsTrue has ↔ IsSome (entry_at (entries_of values.values moves ranks.values) v)) (old new : List ℕ) (was : old ≡ vertices)
+    (there : IsTrue has ↔ IsSome (claimed_entry (all_claimed values.values moves ranks.values) v)) (old new : List ℕ) (was : old ≡ vertices)
     (whole : vertices' ≡ new) (kept : length new ≡ length old) (within : first' ≤ first)
     (listed : drop first' new ≡ (if has then drop first old else v ∷ drop first old)) (m : Measure) (t : ℕ) (c : List ℕ) (h : v < length of.vertices)
     (written ranked : Rows)
     (is_written : written ≡ record { width = values.width; values = slice_set values.values v m })
     (is_ranked : ranked ≡ record { width = ranks.width; values = slice_set ranks.values v (Counts c) }) where
-  abbrev Old : List (Option Entry)
-  Old = entries_of values.values moves ranks.values
+  abbrev Old : List (Option Claimed)
+  Old = all_claimed values.values moves ranks.values
 
-  abbrev New : List (Option Entry)
-  New = entries_of written.values (slice_set moves v t) ranked.values
+  abbrev New : List (Option Claimed)
+  New = all_claimed written.values (slice_set moves v t) ranked.values
 
-  abbrev Made : Entry
+  abbrev Made : Claimed
   Made = record { value = m; move = t; rank = c }
 
   abbrev Is : ℕ → Type 0
-  Is u = IsSome (entry_at New u) ↔ Contains (drop first' vertices') u
+  Is u = IsSome (claimed_entry New u) ↔ Contains (drop first' vertices') u
 
   abbrev Listed : Bool → Type 0
   Listed b = drop first' vertices' ≡ (if b then drop first vertices else v ∷ drop first vertices)
@@ -308,33 +308,33 @@ module _ (of : Game) (values : Rows) (moves : List ℕ) (ranks : Rows) (vertices
   moved_long : length (slice_set moves v t) ≡ length of.vertices
   moved_long = length-set moves v t ∙ stored.moves_long
 
-  new_at : (u : ℕ) → entry_at New u ≡ entry_of (value_at (slice_set values.values v m) u) (slice_index (slice_set moves v t) u)
+  new_at : (u : ℕ) → claimed_entry New u ≡ claimed_of (value_at (slice_set values.values v m) u) (slice_index (slice_set moves v t) u)
       (value_at (slice_set ranks.values v (Counts c)) u)
   new_at u =
       let a = written_long in let b = ranked_long in let d = moved_long in
       entries_at written.values (slice_set moves v t) ranked.values u (omega arith) (omega arith)
-      ∙ (λ i. entry_of (value_at (written_is i) u) (slice_index (slice_set moves v t) u) (value_at (ranked_is i) u))
+      ∙ (λ i. claimed_of (value_at (written_is i) u) (slice_index (slice_set moves v t) u) (value_at (ranked_is i) u))
 
-  pub put_here : entry_at New v ≡ Some Made
+  pub put_here : claimed_entry New v ≡ Some Made
   put_here =
       let a = stored.values_long in let b = stored.ranks_long in let d = stored.moves_long in
       new_at v
-      ∙ (ap (λ k. entry_of k (slice_index (slice_set moves v t) v) (value_at (slice_set ranks.values v (Counts c)) v))
+      ∙ (ap (λ k. claimed_of k (slice_index (slice_set moves v t) v) (value_at (slice_set ranks.values v (Counts c)) v))
       (value_set_same values.values v m (omega arith))
-      ∙ (ap (λ k. entry_of m k (value_at (slice_set ranks.values v (Counts c)) v)) (get_or-set_same moves v t 0 (omega arith))
-      ∙ ap (λ k. entry_of m t k) (value_set_same ranks.values v (Counts c) (omega arith))))
+      ∙ (ap (λ k. claimed_of m k (value_at (slice_set ranks.values v (Counts c)) v)) (get_or-set_same moves v t 0 (omega arith))
+      ∙ ap (λ k. claimed_of m t k) (value_set_same ranks.values v (Counts c) (omega arith))))
 
-  put_old : (u : ℕ) → u ≢ v → entry_at New u ≡ entry_at Old u
+  put_old : (u : ℕ) → u ≢ v → claimed_entry New u ≡ claimed_entry Old u
   put_old u n =
       let a = stored.values_long in let b = stored.ranks_long in let d = stored.moves_long in
       new_at u
-      ∙ (ap (λ k. entry_of k (slice_index (slice_set moves v t) u) (value_at (slice_set ranks.values v (Counts c)) u)) (value_set_other values.values v u m n)
-      ∙ (ap (λ k. entry_of (value_at values.values u) k (value_at (slice_set ranks.values v (Counts c)) u)) (get_or-set_other moves v u t 0 n)
-      ∙ (ap (λ k. entry_of (value_at values.values u) (slice_index moves u) k) (value_set_other ranks.values v u (Counts c) n)
+      ∙ (ap (λ k. claimed_of k (slice_index (slice_set moves v t) u) (value_at (slice_set ranks.values v (Counts c)) u)) (value_set_other values.values v u m n)
+      ∙ (ap (λ k. claimed_of (value_at values.values u) k (value_at (slice_set ranks.values v (Counts c)) u)) (get_or-set_other moves v u t 0 n)
+      ∙ (ap (λ k. claimed_of (value_at values.values u) (slice_index moves u) k) (value_set_other ranks.values v u (Counts c) n)
       ∙ sym (entries_at values.values moves ranks.values u (omega arith) (omega arith)))))
 
-  pub put_other : (now : Claim) → record { game = of; entries = Old } ≡ now → (u : ℕ) → u ≢ v → entry_at New u ≡ entry_at now.entries u
-  put_other now is u n = put_old u n ∙ ap (λ (d : Claim). entry_at d.entries u) is
+  pub put_other : (now : Claim) → record { game = of; entries = Old } ≡ now → (u : ℕ) → u ≢ v → claimed_entry New u ≡ claimed_entry now.entries u
+  put_other now is u n = put_old u n ∙ ap (λ (d : Claim). claimed_entry d.entries u) is
 
   pub put_stored : IsMeasure of m → IsStoredClaim of written (slice_set moves v t) ranked vertices' first'
   put_stored measure = record {
@@ -351,35 +351,35 @@ module _ (of : Game) (values : Rows) (moves : List ℕ) (ranks : Rows) (vertices
     apart = apart has there listed_is;
   }
     where
-      measures : (u : ℕ) (x : Entry) → entry_at New u ≡ Some x → IsMeasure of x.value
+      measures : (u : ℕ) (x : Claimed) → claimed_entry New u ≡ Some x → IsMeasure of x.value
       measures u x e = elim (eqb_tells u v) [
-        | inl w ↦ (let q : Made ≡ x = some_entry Made x (sym put_here ∙ (ap (λ k. entry_at New k) (sym w.1) ∙ e))
-            in subst (λ (y : Entry). IsMeasure of y.value) q measure)
+        | inl w ↦ (let q : Made ≡ x = some_entry Made x (sym put_here ∙ (ap (λ k. claimed_entry New k) (sym w.1) ∙ e))
+            in subst (λ (y : Claimed). IsMeasure of y.value) q measure)
         | inr w ↦ stored.measures u x (sym (put_old u w.1) ∙ e)
       ]
 
       at_v : Contains (drop first' vertices') v → Is v
-      at_v has = ((λ s. has), (λ s. some_there (entry_at New v) Made put_here))
+      at_v has = ((λ s. has), (λ s. some_there (claimed_entry New v) Made put_here))
 
-      free : (IsTrue false ↔ IsSome (entry_at Old v)) → IsSome (entry_at Old v) → ⊥
+      free : (IsTrue false ↔ IsSome (claimed_entry Old v)) → IsSome (claimed_entry Old v) → ⊥
       free is s = true≢false (sym (is.1 s))
 
-      entered : (b : Bool) → (IsTrue b ↔ IsSome (entry_at Old v)) → Listed b → (u : ℕ) → Is u
+      entered : (b : Bool) → (IsTrue b ↔ IsSome (claimed_entry Old v)) → Listed b → (u : ℕ) → Is u
       entered true is same u = elim (eqb_tells u v) [
         | inl w ↦ subst Is (sym w.1) (at_v (subst (λ xs. Contains xs v) (sym same) ((stored.entered v).0 (is.0 refl))))
         | inr w ↦ subst (λ o. IsSome o ↔ Contains (drop first' vertices') u) (sym (put_old u w.1))
-            (subst (λ xs. IsSome (entry_at Old u) ↔ Contains xs u) (sym same) (stored.entered u))
+            (subst (λ xs. IsSome (claimed_entry Old u) ↔ Contains xs u) (sym same) (stored.entered u))
       ]
       entered false is more u = elim (eqb_tells u v) [
         | inl w ↦ subst Is (sym w.1) (at_v (subst (λ xs. Contains xs v) (sym more) (contains_first v (drop first vertices))))
         | inr w ↦ subst (λ o. IsSome o ↔ Contains (drop first' vertices') u) (sym (put_old u w.1))
-            (subst (λ xs. IsSome (entry_at Old u) ↔ Contains xs u) (sym more) (
+            (subst (λ xs. IsSome (claimed_entry Old u) ↔ Contains xs u) (sym more) (
               (λ s. contains_later v u (drop first vertices) ((stored.entered u).0 s)),
               (λ d. elim (contains_cases v u (drop first vertices) d) [ inl q ↦ absurd (w.1 (sym q)) | inr old ↦ (stored.entered u).1 old ]),
             ))
       ]
 
-      apart : (b : Bool) → (IsTrue b ↔ IsSome (entry_at Old v)) → Listed b → Apart (drop first' vertices')
+      apart : (b : Bool) → (IsTrue b ↔ IsSome (claimed_entry Old v)) → Listed b → Apart (drop first' vertices')
       apart true is same = subst Apart (sym same) stored.apart
       apart false is more = subst Apart (sym more) (
         all_of (λ u. v ≢ u) (drop first vertices)
@@ -407,13 +407,13 @@ module _ (of : Game) (values : Rows) (moves : List ℕ) (ranks new : Rows) (vert
       by (Counts c) e q =
           let a = stored.values_long in let b = stored.moves_long in let d = stored.ranks_long in
           let at = entries_at values.values moves ranks.values v (omega arith) (omega arith)
-          ∙ ap (entry_of (value_at values.values v) (slice_index moves v)) e in
+          ∙ ap (claimed_of (value_at values.values v) (slice_index moves v)) e in
           put.put v (subst (λ xs. Contains xs v) (sym are) ((stored.entered v).0 (subst (λ o. IsSome o) (sym at) refl)))
 
-  pub cleared_none : (v : ℕ) → entry_at (entries_of values.values moves new.values) v ≡ None
+  pub cleared_none : (v : ℕ) → claimed_entry (all_claimed values.values moves new.values) v ≡ None
   cleared_none v =
       let a = stored.values_long in let b = stored.moves_long in let d = stored.ranks_long in let l = put.long in
-      entries_at values.values moves new.values v (omega arith) (omega arith) ∙ ap (entry_of (value_at values.values v) (slice_index moves v)) (cleared_at v)
+      entries_at values.values moves new.values v (omega arith) (omega arith) ∙ ap (claimed_of (value_at values.values v) (slice_index moves v)) (cleared_at v)
 
   pub cleared_stored : (n : ℕ) → n ≡ length vertices → IsStoredClaim of values moves new vertices n
   cleared_stored n e = record {

@@ -4,7 +4,7 @@ use Rattle.progress.proofs.Common.{arith, IsTrue, Some, true≢false, option_map
 use Rattle.progress.proofs.Common.{AllByRecursion, AllZip, Player, Vertex, Game, IsGame, vertex, count, dual, components, Measure, Top}
 use Rattle.progress.proofs.Common.{Counts, IsMeasure, IsTable, Reaches, value_at, zeros, bounds, ReachesAt, Rows, is_top_of}
 use Rattle.progress.proofs.Common.{IsStill}
-use Rattle.progress.specs.Proposal.{AreEnough, Falls, HasReasonsAt, IsAskedFor, IsReason, Proposal, blank}
+use Rattle.progress.specs.Proposal.{AreEnough, Falls, HasReasonsAt, IsAskedBy, IsReason, Proposal, blank}
 use Rattle.progress.specs.Progs.{IsAtMostProg}
 use Rattle.progress.specs.StoredProposal.{IsStoredProposal}
 use Rattle.progress.proofs.Bests.{vertex_here, vertex_tells}
@@ -72,13 +72,13 @@ module _ (c : Proposal) (limits : List ℕ) (width high : ℕ) (stored : IsStore
       either (inr s) e = s.1
 
   pub asked_is : (p v t : ℕ) (ls : List ℕ) (b : Bool) → ls ≡ limits → IsAtMostProg ls p (value_at c.values t) (value_at c.values v) b
-      → IsTrue b ↔ IsAskedFor now p v t
+      → IsTrue b ↔ IsAskedBy now p v t
   asked_is p v t ls b e low =
       let m = value_at c.values t in
       let measure = value_measure c.game c.values stored.table.1 t in
       let of = low c.game (sym (e ∙ stored.bounded)) measure in
       let r = prog c.game p m measure in
-      subst (λ (d : Proposal). IsTrue b ↔ IsAskedFor d p v t) is ((λ h s also. (of s also).0 h), (λ h. (of r.0 r.1).1 (h r.0 r.1)))
+      subst (λ (d : Proposal). IsTrue b ↔ IsAskedBy d p v t) is ((λ h s also. (of s also).0 h), (λ h. (of r.0 r.1).1 (h r.0 r.1)))
 
   -- what is told of the rows
   module _ (g : Game) (same : now.game ≡ g) (v : ℕ) (values : Rows) (are : values.values ≡ c.values) (wide : values.width ≡ width) where

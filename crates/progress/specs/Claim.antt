@@ -6,7 +6,7 @@ use Rattle.progress.specs.Measure.{Counts, IsAtMost, IsMeasure, IsProg, Measure,
 use Rattle.progress.specs.Progress.{greater_of, value_at}
 
 -- what is claimed of a vertex: a value, where Odd goes on from it, and a rank, with a count for each component of the dual game
-pub record Entry : Type 0 where
+pub record Claimed : Type 0 where
   pub value : Measure
   pub move : ℕ
   pub rank : List ℕ
@@ -14,63 +14,63 @@ pub record Entry : Type 0 where
 -- a claim names its game, and has for each vertex an entry or none
 pub record Claim : Type 0 where
   pub game : Game
-  pub entries : List (Option Entry)
+  pub entries : List (Option Claimed)
 
-abbrev pub entry_at : List (Option Entry) → ℕ → Option Entry
-entry_at entries v = slice_index_or entries v None
+abbrev pub claimed_entry : List (Option Claimed) → ℕ → Option Claimed
+claimed_entry entries v = slice_index_or entries v None
 
-abbrev pub value_or : Measure → Option Entry → Measure
+abbrev pub value_or : Measure → Option Claimed → Measure
 value_or m None = m
 value_or m (Some x) = x.value
 
 -- the claimed value, and the table's at a vertex without an entry
-abbrev pub claimed_at : List Measure → List (Option Entry) → ℕ → Measure
-claimed_at values entries v = value_or (value_at values v) (entry_at entries v)
+abbrev pub claimed_at : List Measure → List (Option Claimed) → ℕ → Measure
+claimed_at values entries v = value_or (value_at values v) (claimed_entry entries v)
 
 -- Odd goes on by its move, and Even to any successor.
-abbrev pub GoesOn : Vertex → Entry → ℕ → Type 0
+abbrev pub GoesOn : Vertex → Claimed → ℕ → Type 0
 GoesOn v x t = Contains v.successors t × (v.owner ≡ Odd → t ≡ x.move)
 
 -- From an entry at a vertex of this priority on to t the claimed value is at most the prog of the value there. In the dual game the rank reaches the rank
 -- there:
 -- it doesn't rise in its counts at or above the priority, and falls in them where the priority is even.
-pub record IsGoodEdge (g : Game) (values : List Measure) (entries : List (Option Entry)) (p : ℕ) (x : Entry) (t : ℕ) : Type 0 where
+pub record IsGoodEdge (g : Game) (values : List Measure) (entries : List (Option Claimed)) (p : ℕ) (x : Claimed) (t : ℕ) : Type 0 where
   pub value : (r : Measure) → IsProg g p (claimed_at values entries t) r → IsAtMost x.value r
-  pub rank : (y : Entry) → entry_at entries t ≡ Some y → Reaches (dual g) (p + 1) (Counts y.rank) (Counts x.rank)
+  pub rank : (y : Claimed) → claimed_entry entries t ≡ Some y → Reaches (dual g) (p + 1) (Counts y.rank) (Counts x.rank)
 
-pub record IsGoodEntry (g : Game) (values : List Measure) (entries : List (Option Entry)) (v : Vertex) (x : Entry) : Type 0 where
+pub record IsGoodEntry (g : Game) (values : List Measure) (entries : List (Option Claimed)) (v : Vertex) (x : Claimed) : Type 0 where
   pub measure : IsMeasure g x.value
   pub move : v.owner ≡ Odd → Contains v.successors x.move
   pub edges : (t : ℕ) → GoesOn v x t → IsGoodEdge g values entries v.priority x t
 
 -- the entry of v, if it has one, stands at a vertex and is good
-abbrev pub IsGoodAt : Game → List Measure → List (Option Entry) → ℕ → Type 0
-IsGoodAt g values entries v = (x : Entry) → entry_at entries v ≡ Some x → (at : Vertex) × (vertex g v ≡ Some at) × IsGoodEntry g values entries at x
+abbrev pub IsGoodAt : Game → List Measure → List (Option Claimed) → ℕ → Type 0
+IsGoodAt g values entries v = (x : Claimed) → claimed_entry entries v ≡ Some x → (at : Vertex) × (vertex g v ≡ Some at) × IsGoodEntry g values entries at x
 
-abbrev pub IsGoodClaim : Game → List Measure → List (Option Entry) → Type 0
+abbrev pub IsGoodClaim : Game → List Measure → List (Option Claimed) → Type 0
 IsGoodClaim g values entries = (v : ℕ) → IsGoodAt g values entries v
 
 -- the greater of the two, where something is claimed
-abbrev pub raised_by : Measure → Option Entry → Measure
+abbrev pub raised_by : Measure → Option Claimed → Measure
 raised_by m None = m
 raised_by m (Some x) = greater_of m x.value
 
 -- Each value is raised to what is claimed of its vertex.
-abbrev pub AreRaised : List Measure → List (Option Entry) → List Measure → Type 0
-AreRaised old entries new = (v : ℕ) → value_at new v ≡ raised_by (value_at old v) (entry_at entries v)
+abbrev pub AreRaised : List Measure → List (Option Claimed) → List Measure → Type 0
+AreRaised old entries new = (v : ℕ) → value_at new v ≡ raised_by (value_at old v) (claimed_entry entries v)
 
 -- All values are raised, or the table is as it was.
-abbrev pub Jumps : List Measure → List (Option Entry) → List Measure → Bool → Type 0
+abbrev pub Jumps : List Measure → List (Option Claimed) → List Measure → Bool → Type 0
 Jumps old entries new result = MatchBool result (AreRaised old entries new) (new ≡ old)
 
 -- these are the vertices that have entries
-abbrev pub AreEntered : List (Option Entry) → List ℕ → Type 0
-AreEntered entries vertices = (v : ℕ) → IsSome (entry_at entries v) ↔ Contains vertices v
+abbrev pub AreEntered : List (Option Claimed) → List ℕ → Type 0
+AreEntered entries vertices = (v : ℕ) → IsSome (claimed_entry entries v) ↔ Contains vertices v
 
 -- An edge of the entry at v is good, if there is one.
-abbrev pub IsGoodFrom : Game → List Measure → List (Option Entry) → ℕ → ℕ → ℕ → Type 0
-IsGoodFrom g values entries p v t = (x : Entry) → entry_at entries v ≡ Some x → IsGoodEdge g values entries p x t
+abbrev pub IsGoodFrom : Game → List Measure → List (Option Claimed) → ℕ → ℕ → ℕ → Type 0
+IsGoodFrom g values entries p v t = (x : Claimed) → claimed_entry entries v ≡ Some x → IsGoodEdge g values entries p x t
 
 -- Along an edge from v to t the rank does as it should at a vertex of this priority, where both have entries.
-abbrev pub Descends : Claim → ℕ → ℕ → ℕ → Type 0
-Descends c p v t = (x y : Entry) → entry_at c.entries v ≡ Some x → entry_at c.entries t ≡ Some y → Reaches (dual c.game) (p + 1) (Counts y.rank) (Counts x.rank)
+abbrev pub DescendsAlong : Claim → ℕ → ℕ → ℕ → Type 0
+DescendsAlong c p v t = (x y : Claimed) → claimed_entry c.entries v ≡ Some x → claimed_entry c.entries t ≡ Some y → Reaches (dual c.game) (p + 1) (Counts y.rank) (Counts x.rank)

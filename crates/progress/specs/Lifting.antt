@@ -24,18 +24,18 @@ AreRises g table [] end = table ≡ end
 AreRises g table (new ∷ tables) end = IsLifted g table new × (table ≢ new) × AreRises g new tables end
 
 -- how many lists have a count for each of these priorities, none above f of it
-abbrev pub size : (ℕ → ℕ) → List ℕ → ℕ
-size f [] = 1
-size f (p ∷ ps) = suc (f p) * size f ps
+abbrev pub lists_up_to : (ℕ → ℕ) → List ℕ → ℕ
+lists_up_to f [] = 1
+lists_up_to f (p ∷ ps) = suc (f p) * lists_up_to f ps
 
 abbrev pub height : Game → ℕ
-height g = size (count g) (components g)
+height g = lists_up_to (count g) (components g)
 
 -- how many of these lists are less, read from the front
 abbrev pub code : (ℕ → ℕ) → List ℕ → List ℕ → ℕ
 code f [] c = 0
 code f (p ∷ ps) [] = 0
-code f (p ∷ ps) (y ∷ ys) = y * size f ps + code f ps ys
+code f (p ∷ ps) (y ∷ ys) = y * lists_up_to f ps + code f ps ys
 
 -- the number of the measures below
 abbrev pub rank : Game → Measure → ℕ
@@ -45,7 +45,7 @@ rank g (Counts c) = code (count g) (components g) c
 -- the list of counts of which so many are less
 abbrev pub decode : (ℕ → ℕ) → List ℕ → ℕ → List ℕ
 decode f [] n = []
-decode f (p ∷ ps) n = n / size f ps ∷ decode f ps (n % size f ps)
+decode f (p ∷ ps) n = n / lists_up_to f ps ∷ decode f ps (n % lists_up_to f ps)
 
 -- the measure below which there are so many
 unfoldable pub of_rank : Game → ℕ → Measure

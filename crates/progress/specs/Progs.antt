@@ -14,8 +14,8 @@ abbrev pub bounds : Game → List ℕ
 bounds g = map (count g) (components g)
 
 -- from one component on, and before another, no count can be greater
-abbrev pub AreFull : List ℕ → List ℕ → ℕ → ℕ → Type 0
-AreFull limits counts from to = (i : ℕ) → from ≤ i → i < to → slice_index limits i ≤ slice_index counts i
+abbrev pub AreAtBounds : List ℕ → List ℕ → ℕ → ℕ → Type 0
+AreAtBounds limits counts from to = (i : ℕ) → from ≤ i → i < to → slice_index limits i ≤ slice_index counts i
 
 -- in each game with these bounds r is the prog of the measure at this priority
 abbrev pub IsProgUnder : List ℕ → ℕ → Measure → Measure → Type 0

@@ -42,12 +42,12 @@ Falls c p v t =
     ⊎ ((slice_index c.groups t ≡ slice_index c.groups v) × Reaches (dual c.game) (p + 1) (value_at c.ranks t) (value_at c.ranks v))
 
 -- the value of v, a vertex of this priority, is at most what v asks for where its play goes on at t
-abbrev pub IsAskedFor : Proposal → ℕ → ℕ → ℕ → Type 0
-IsAskedFor c p v t = (r : Measure) → IsProg c.game p (value_at c.values t) r → IsAtMost (value_at c.values v) r
+abbrev pub IsAskedBy : Proposal → ℕ → ℕ → ℕ → Type 0
+IsAskedBy c p v t = (r : Measure) → IsProg c.game p (value_at c.values t) r → IsAtMost (value_at c.values v) r
 
 -- The edge from v to t is a reason for the value of v.
 pub record IsReason (c : Proposal) (p v t : ℕ) : Type 0 where
-  pub value : IsAskedFor c p v t
+  pub value : IsAskedBy c p v t
   pub falls : Falls c p v t
 
 -- all of these for Even, and one of them for Odd

@@ -2,7 +2,7 @@
 use Rattle.std.specs.Prelude.{◌≡◌, ◌≢◌, ◌≤◌, ℕ, List, [], ◌∷◌, drop, Option, Some, None, length}
 use Rattle.std.specs.List.{AllByRecursion}
 use Rattle.game.specs.Game.{Game, IsGame, dual}
-use Rattle.progress.specs.Claim.{AreEntered, Entry, entry_at}
+use Rattle.progress.specs.Claim.{AreEntered, Claimed, claimed_entry}
 use Rattle.progress.specs.Measure.{Counts, IsMeasure, Measure, Top, components}
 use Rattle.progress.specs.View.{Rows}
 
@@ -12,14 +12,14 @@ Apart [] = Unit {0}
 Apart (x ∷ xs) = AllByRecursion (λ y. x ≢ y) xs × Apart xs
 
 -- a rank that is top says that there is no entry
-abbrev pub entry_of : Measure → ℕ → Measure → Option Entry
-entry_of value move Top = None
-entry_of value move (Counts rank) = Some (record { value = value; move = move; rank = rank })
+abbrev pub claimed_of : Measure → ℕ → Measure → Option Claimed
+claimed_of value move Top = None
+claimed_of value move (Counts rank) = Some (record { value = value; move = move; rank = rank })
 
 -- a value, a move and a rank for each vertex
-abbrev pub entries_of : List Measure → List ℕ → List Measure → List (Option Entry)
-entries_of (m ∷ values) (t ∷ moves) (r ∷ ranks) = entry_of m t r ∷ entries_of values moves ranks
-entries_of values moves ranks = []
+abbrev pub all_claimed : List Measure → List ℕ → List Measure → List (Option Claimed)
+all_claimed (m ∷ values) (t ∷ moves) (r ∷ ranks) = claimed_of m t r ∷ all_claimed values moves ranks
+all_claimed values moves ranks = []
 
 -- a claim that is stored with the list of its vertices, which stand at the end of this one
 pub record IsStoredClaim (g : Game) (values : Rows) (moves : List ℕ) (ranks : Rows) (vertices : List ℕ) (first : ℕ) : Type 0 where
@@ -31,6 +31,6 @@ pub record IsStoredClaim (g : Game) (values : Rows) (moves : List ℕ) (ranks : 
   pub ranks_long : length ranks.values ≡ length g.vertices
   pub room_long : length vertices ≡ length g.vertices
   pub within : first ≤ length g.vertices
-  pub measures : (v : ℕ) (x : Entry) → entry_at (entries_of values.values moves ranks.values) v ≡ Some x → IsMeasure g x.value
-  pub entered : AreEntered (entries_of values.values moves ranks.values) (drop first vertices)
+  pub measures : (v : ℕ) (x : Claimed) → claimed_entry (all_claimed values.values moves ranks.values) v ≡ Some x → IsMeasure g x.value
+  pub entered : AreEntered (all_claimed values.values moves ranks.values) (drop first vertices)
   pub apart : Apart (drop first vertices)

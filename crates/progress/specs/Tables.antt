@@ -22,7 +22,7 @@ pub record IsPlain (t : Table) : Type 0 where
   pub below : (v : ℕ) → v < length t.game.vertices → LiesBelow t.game v (value_at t.values v)
 
 -- a table that is stored with the bounds of its game's counts, in rows of so many counts, and with its game's predecessors
-pub record IsStored (t : Table) (limits : List ℕ) (width : ℕ) (edges : Game) : Type 0 where
+pub record IsTableStored (t : Table) (limits : List ℕ) (width : ℕ) (edges : Game) : Type 0 where
   pub plain : IsPlain t
   pub bounded : limits ≡ bounds t.game
   pub wide : width ≡ length limits

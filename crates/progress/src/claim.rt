@@ -2,7 +2,7 @@
 
 ghost use Rattle.std.specs.Prelude.{◌≡◌, ◌≢◌, ◌<◌, ◌≤◌, ◌↔◌, ◌∷◌, ℕ, None, Contains, Some, false, drop, if◌then◌else◌, length, IfOk, IsSome, IsTrue};
 ghost use Rattle.game.specs.Game.{dual};
-ghost use Rattle.progress.specs.Claim.{AreEntered, Descends, Entry, entry_at};
+ghost use Rattle.progress.specs.Claim.{AreEntered, DescendsAlong, Claimed, claimed_entry};
 ghost use Rattle.progress.specs.Measure.{IsAtMost, IsMeasure, IsProg, components};
 ghost use Rattle.progress.specs.Progs.{bounds as bounds_of};
 
@@ -30,11 +30,11 @@ pub struct Claim {
 
 impl Model for Claim {
     ghost use Rattle.progress.specs.Claim.{Claim};
-    ghost use Rattle.progress.specs.StoredClaim.{IsStoredClaim, entries_of};
+    ghost use Rattle.progress.specs.StoredClaim.{IsStoredClaim, all_claimed};
 
     ghost Value = { Claim };
 
-    ghost view = { λ c. record { game = c.of.value; entries = entries_of c.values.values c.moves.items c.ranks.values } };
+    ghost view = { λ c. record { game = c.of.value; entries = all_claimed c.values.values c.moves.items c.ranks.values } };
 
     ghost invariant = { λ c. IsStoredClaim c.of.value c.values c.moves.items c.ranks c.vertices.items c.first };
 }
@@ -46,7 +46,7 @@ impl Claim {
     /// Want of memory, and nothing else.
     pub fn new(alloc: Global, game: &Game) -> Result<Self, Memory>
         ensures game { IfOk result (λ c. c.game ≡ game.now) }
-        ensures none { IfOk result (λ c. (v : ℕ) → entry_at c.entries v ≡ None) }
+        ensures none { IfOk result (λ c. (v : ℕ) → claimed_entry c.entries v ≡ None) }
     {
         game.known();
         let vertices = game.vertices() as usize;
@@ -63,7 +63,7 @@ impl Claim {
 
     /// What holds of every claim.
     pub fn known(&self)
-        ensures { (v : ℕ) (x : Entry) → entry_at self.now.entries v ≡ Some x → IsMeasure self.now.game x.value }
+        ensures { (v : ℕ) (x : Claimed) → claimed_entry self.now.entries v ≡ Some x → IsMeasure self.now.game x.value }
     {
         let _ = &self.values;
     }
@@ -81,7 +81,7 @@ impl Claim {
     #[tactic(auto, using(crate::proofs::StoredClaims::has_entry))]
     pub fn has(&self, v: u32) -> bool
         requires { v < length self.now.game.vertices }
-        ensures { IsTrue result ↔ IsSome (entry_at self.now.entries v) }
+        ensures { IsTrue result ↔ IsSome (claimed_entry self.now.entries v) }
     {
         !self.ranks.is_top(v as usize)
     }
@@ -89,7 +89,7 @@ impl Claim {
     /// The value that is claimed of a vertex.
     pub fn value(&self, v: u32) -> Measure
         requires vertex { v < length self.now.game.vertices }
-        ensures { (x : Entry) → entry_at self.now.entries v ≡ Some x → result ≡ x.value }
+        ensures { (x : Claimed) → claimed_entry self.now.entries v ≡ Some x → result ≡ x.value }
     {
         self.values.value(v as usize)
     }
@@ -97,7 +97,7 @@ impl Claim {
     /// Where Odd goes on from a vertex.
     pub fn next(&self, v: u32) -> u32
         requires vertex { v < length self.now.game.vertices }
-        ensures { (x : Entry) → entry_at self.now.entries v ≡ Some x → result ≡ x.move }
+        ensures { (x : Claimed) → claimed_entry self.now.entries v ≡ Some x → result ≡ x.move }
     {
         self.moves[v as usize]
     }
@@ -115,8 +115,8 @@ impl Claim {
         requires value { IsMeasure self.old.game value.now }
         requires rank { length rank.now ≡ length (components (dual self.old.game)) }
         ensures game { self.new.game ≡ self.old.game }
-        ensures entry { entry_at self.new.entries v ≡ Some record { value = value.now; move = next; rank = rank.now } }
-        ensures others { (u : ℕ) → u ≢ v → entry_at self.new.entries u ≡ entry_at self.old.entries u }
+        ensures entry { claimed_entry self.new.entries v ≡ Some record { value = value.now; move = next; rank = rank.now } }
+        ensures others { (u : ℕ) → u ≢ v → claimed_entry self.new.entries u ≡ claimed_entry self.old.entries u }
     {
         let has = self.has(v);
         self.first = put_before(self.vertices.as_mut_slice(), self.first, v, has);
@@ -128,7 +128,7 @@ impl Claim {
     /// Takes all entries away.
     pub fn clear(&mut self)
         ensures game { self.new.game ≡ self.old.game }
-        ensures none { (v : ℕ) → entry_at self.new.entries v ≡ None }
+        ensures none { (v : ℕ) → claimed_entry self.new.entries v ≡ None }
     {
         self.ranks.put_top(&self.vertices[self.first..]);
         self.first = self.vertices.len();
@@ -139,7 +139,7 @@ impl Claim {
     pub(crate) fn prog_of(&self, bounds: &[u32], priority: u8, next: u32) -> Measure
         requires vertex { next < length self.now.game.vertices }
         requires bounds { bounds.now ≡ bounds_of self.now.game }
-        ensures { (y : Entry) → entry_at self.now.entries next ≡ Some y → IsProg self.now.game priority y.value result }
+        ensures { (y : Claimed) → claimed_entry self.now.entries next ≡ Some y → IsProg self.now.game priority y.value result }
     {
         if self.values.is_top(next as usize) {
             Measure::top()
@@ -152,8 +152,8 @@ impl Claim {
     #[tactic(auto, using(crate::proofs::StoredClaims::at_most_is))]
     pub(crate) fn is_at_most(&self, v: u32, m: &Measure) -> bool
         requires vertex { v < length self.now.game.vertices }
-        requires entry { IsSome (entry_at self.now.entries v) }
-        ensures { IsTrue result ↔ ((x : Entry) → entry_at self.now.entries v ≡ Some x → IsAtMost x.value m.now) }
+        requires entry { IsSome (claimed_entry self.now.entries v) }
+        ensures { IsTrue result ↔ ((x : Claimed) → claimed_entry self.now.entries v ≡ Some x → IsAtMost x.value m.now) }
     {
         self.values.compare_with(v as usize, m).is_le()
     }
@@ -162,9 +162,9 @@ impl Claim {
     pub(crate) fn descends(&self, priority: u8, v: u32, next: u32) -> bool
         requires vertex { v < length self.now.game.vertices }
         requires next { next < length self.now.game.vertices }
-        requires entry { IsSome (entry_at self.now.entries v) }
+        requires entry { IsSome (claimed_entry self.now.entries v) }
         requires priority { priority < 255 }
-        ensures { IsTrue result ↔ Descends self.now priority v next }
+        ensures { IsTrue result ↔ DescendsAlong self.now priority v next }
     {
         !self.has(next) || self.ranks.reaches(v as usize, next as usize, priority + 1)
     }

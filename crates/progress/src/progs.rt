@@ -4,7 +4,7 @@ ghost use Rattle.std.specs.Prelude.{◌≡◌, ◌<◌, ◌≤◌, ◌↔◌, �
 ghost use Rattle.std.specs.List.{AllByRecursion, AllZip};
 ghost use Rattle.progress.specs.Measure.{Counts, IsMeasure, Top};
 ghost use Rattle.progress.specs.Progress.{IsBestFor};
-ghost use Rattle.progress.specs.Progs.{AreFull, IsBetter, IsDemandOf, IsLiftOf, IsProgAt, IsProgUnder};
+ghost use Rattle.progress.specs.Progs.{AreAtBounds, IsBetter, IsDemandOf, IsLiftOf, IsProgAt, IsProgUnder};
 
 use crate::bounds::bounds;
 use crate::measure::{COMPONENTS, Measure, copy_of};
@@ -17,10 +17,10 @@ use std::cmp::Ordering;
 fn last_with_room(bounds: &[u32], counts: &[u32], kept: usize) -> Option<usize>
     requires bounds { kept ≤ length bounds.now }
     requires counts { kept ≤ length counts.now }
-    ensures none { IfNone result (AreFull bounds.now counts.now 0 kept) }
+    ensures none { IfNone result (AreAtBounds bounds.now counts.now 0 kept) }
     ensures inside { IfSome result (λ k. k < kept) }
     ensures room { IfSome result (λ k. slice_index counts.now k < slice_index bounds.now k) }
-    ensures full { IfSome result (λ k. AreFull bounds.now counts.now (k + 1) kept) }
+    ensures full { IfSome result (λ k. AreAtBounds bounds.now counts.now (k + 1) kept) }
 {
     for k in (0..kept).rev() {
         if counts[k] < bounds[k] {

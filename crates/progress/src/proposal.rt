@@ -5,7 +5,7 @@ ghost use Rattle.std.specs.List.{AllByRecursion};
 ghost use Rattle.game.specs.Game.{IsGame, dual};
 ghost use Rattle.progress.specs.Measure.{Counts, IsMeasure, Top, components};
 ghost use Rattle.progress.specs.Progress.{IsLeastTable, IsTable};
-ghost use Rattle.progress.specs.Proposal.{Falls, HasReasonsAt, IsAskedFor, IsGoodProposal, IsGoodVertex, IsReason, blank, put};
+ghost use Rattle.progress.specs.Proposal.{Falls, HasReasonsAt, IsAskedBy, IsGoodProposal, IsGoodVertex, IsReason, blank, put};
 
 use crate::bounds::{bounds, dual_width};
 use crate::measure::Measure;
@@ -131,7 +131,7 @@ impl Proposal {
     fn is_asked_for(&self, priority: u8, v: u32, next: u32) -> bool
         requires vertex { v < length self.now.game.vertices }
         requires next { next < length self.now.game.vertices }
-        ensures { IsTrue result ↔ IsAskedFor self.now priority v next }
+        ensures { IsTrue result ↔ IsAskedBy self.now priority v next }
     {
         let bounds = self.bounds.as_slice();
         self.values

@@ -2,7 +2,7 @@
 
 ghost use Rattle.std.specs.Prelude.{◌≡◌, ◌<◌, ◌≤◌, ◌↔◌, length, IfSome, IsSome};
 ghost use Rattle.std.specs.List.{AllZip};
-ghost use Rattle.progress.specs.Lifting.{code, decode, height, of_rank as measure_of_rank, rank as rank_of, size};
+ghost use Rattle.progress.specs.Lifting.{code, decode, height, of_rank as measure_of_rank, rank as rank_of, lists_up_to};
 ghost use Rattle.progress.specs.Measure.{IsBelow, IsMeasure, IsRank, Measure};
 
 use crate::bounds::bounds;
@@ -15,8 +15,8 @@ pub const RANK_LIMIT: u64 = 1 << 62;
 
 // How many lists of counts are within these bounds, where they are fewer than the limit.
 fn number_within(bounds: &[u32]) -> Option<u64>
-    ensures few { IsSome result ↔ (size (λ b. b) bounds.now < RANK_LIMIT) }
-    ensures value { IfSome result (λ n. n ≡ size (λ b. b) bounds.now) }
+    ensures few { IsSome result ↔ (lists_up_to (λ b. b) bounds.now < RANK_LIMIT) }
+    ensures value { IfSome result (λ n. n ≡ lists_up_to (λ b. b) bounds.now) }
 {
     let mut number: u64 = 1;
     for bound in bounds {
@@ -31,7 +31,7 @@ fn number_within(bounds: &[u32]) -> Option<u64>
 // How many of these lists are less than this one.
 fn number_of(bounds: &[u32], counts: &[u32]) -> u64
     requires within { AllZip (λ count bound. count ≤ bound) counts.now bounds.now }
-    requires few { size (λ b. b) bounds.now < RANK_LIMIT }
+    requires few { lists_up_to (λ b. b) bounds.now < RANK_LIMIT }
     ensures { result ≡ code (λ b. b) bounds.now counts.now }
 {
     let mut number: u64 = 0;
@@ -44,7 +44,7 @@ fn number_of(bounds: &[u32], counts: &[u32]) -> u64
 // The list of which so many are less. `within` is how many there are.
 fn counts_of_number(bounds: &[u32], within: u64, number: u64) -> ArrayVec<u32, 16>
     requires few { length bounds.now ≤ COMPONENTS }
-    requires within { within ≡ size (λ b. b) bounds.now }
+    requires within { within ≡ lists_up_to (λ b. b) bounds.now }
     requires number { number < within }
     ensures { result.items ≡ decode (λ b. b) bounds.now number }
 {

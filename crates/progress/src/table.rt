@@ -3,7 +3,7 @@
 ghost use Rattle.std.specs.Prelude.{◌≡◌, ◌≢◌, ◌<◌, ◌↔◌, ℕ, Contains, IsSome, IsTrue, Some, length, option_map, slice_set, IfOk};
 ghost use Rattle.std.specs.List.{AllByRecursion};
 ghost use Rattle.game.specs.Game.{IsGame, vertex};
-ghost use Rattle.progress.specs.Claim.{AreRaised, Entry, IsGoodAt, IsGoodClaim, IsGoodFrom, Jumps, claimed_at, entry_at};
+ghost use Rattle.progress.specs.Claim.{AreRaised, Claimed, IsGoodAt, IsGoodClaim, IsGoodFrom, Jumps, claimed_at, claimed_entry};
 ghost use Rattle.progress.specs.Laws.{IsBestSuccessor};
 ghost use Rattle.progress.specs.Measure.{Counts, IsProg, Top};
 ghost use Rattle.progress.specs.Progress.{IsProgress, LiesUnder, greater_of, opening as opening_of, value_at};
@@ -35,13 +35,13 @@ pub struct PlainTable {
 }
 
 impl Model for PlainTable {
-    ghost use Rattle.progress.specs.Tables.{IsStored, Table};
+    ghost use Rattle.progress.specs.Tables.{IsTableStored, Table};
 
     ghost Value = { Table };
 
     ghost view = { λ t. record { game = t.of.value; values = t.rows.values } };
 
-    ghost invariant = { λ t. IsStored record { game = t.of.value; values = t.rows.values } t.bounds.items t.rows.width t.pending };
+    ghost invariant = { λ t. IsTableStored record { game = t.of.value; values = t.rows.values } t.bounds.items t.rows.width t.pending };
 }
 
 /// Whether a vertex is Odd's for ever: its priority is odd, and its only successor is itself. Its opening value is then top,
@@ -200,7 +200,7 @@ impl PlainTable {
     fn is_good_edge(&self, claim: &Claim, priority: u8, v: u32, next: u32) -> bool
         requires same { self.now.game ≡ claim.now.game }
         requires vertex { v < length self.now.game.vertices }
-        requires entry { IsSome (entry_at claim.now.entries v) }
+        requires entry { IsSome (claimed_entry claim.now.entries v) }
         requires next { next < length self.now.game.vertices }
         requires priority { priority < 255 }
         ensures { IsTrue result ↔ IsGoodFrom self.now.game self.now.values claim.now.entries priority v next }
@@ -213,7 +213,7 @@ impl PlainTable {
     fn are_good_edges(&self, claim: &Claim, priority: u8, v: u32, successors: &[u32]) -> bool
         requires same { self.now.game ≡ claim.now.game }
         requires vertex { v < length self.now.game.vertices }
-        requires entry { IsSome (entry_at claim.now.entries v) }
+        requires entry { IsSome (claimed_entry claim.now.entries v) }
         requires inside { AllByRecursion (λ t. t < length self.now.game.vertices) successors.now }
         requires priority { priority < 255 }
         ensures { IsTrue result ↔ ((t : ℕ) → Contains successors.now t → IsGoodFrom self.now.game self.now.values claim.now.entries priority v t) }
@@ -231,7 +231,7 @@ impl PlainTable {
         requires same { self.now.game ≡ game.now }
         requires claim { claim.now.game ≡ game.now }
         requires vertex { v < length game.now.vertices }
-        requires entry { IsSome (entry_at claim.now.entries v) }
+        requires entry { IsSome (claimed_entry claim.now.entries v) }
         ensures { IsTrue result ↔ IsGoodAt game.now self.now.values claim.now.entries v }
     {
         game.known();
@@ -264,7 +264,7 @@ impl PlainTable {
     // Raises each value to what is claimed of its vertex.
     fn raise_by(&mut self, claim: &Claim)
         requires same { self.old.game ≡ claim.now.game }
-        requires below { (v : ℕ) (x : Entry) → entry_at claim.now.entries v ≡ Some x → LiesBelow self.old.game v x.value }
+        requires below { (v : ℕ) (x : Claimed) → claimed_entry claim.now.entries v ≡ Some x → LiesBelow self.old.game v x.value }
         ensures game { self.new.game ≡ self.old.game }
         ensures raised { AreRaised self.old.values claim.now.entries self.new.values }
     {

@@ -4,7 +4,7 @@ use Rattle.std.specs.Prelude.{◌==◌, ◌&&◌, if◌then◌else◌}
 use Rattle.std.proofs.Math.Nat.{add-zero, mod-mod}
 use Rattle.std.proofs.lemmas.Bool.Decides.{eqb_tells}
 use Rattle.laws.proofs.Flags.{both}
-use Rattle.rankings.specs.Columns.{counted_at, is_marked, won_at}
+use Rattle.rankings.specs.Columns.{counted_at, is_state_marked, won_at}
 use Rattle.rankings.specs.declared.column.Shown.{Shown}
 
 -- whether a test holds of all numbers below
@@ -25,7 +25,7 @@ abbrev bit_of_all : ℕ → Bool
 bit_of_all k = (18446744073709551615 / 2 ^ k) % 2 == 1
 
 -- a word of all marks has each
-marked : (marks : List ℕ) (first s : ℕ) → slice_index_or marks (first + s / 64) 0 ≡ 18446744073709551615 → is_marked marks first s ≡ true
+marked : (marks : List ℕ) (first s : ℕ) → slice_index_or marks (first + s / 64) 0 ≡ 18446744073709551615 → is_state_marked marks first s ≡ true
 unfolding all_below
 marked marks first s e = ap (λ word. (word / 2 ^ (s % 64)) % 2 == 1) e ∙ below bit_of_all 64 (s % 64) refl (omega arith)
 
@@ -34,6 +34,6 @@ pub full_at : (x : Shown) (s : ℕ) → x.words.now ≡ [] → slice_index_or x.
 full_at x s none ones =
     let even : ℕ = counted_at x.even.base x.even.unit x.even.counts.now s in
     let odd : ℕ = counted_at x.odd.base x.odd.unit x.odd.counts.now s in
-    ap (λ ws. ((if is_marked x.marks.now x.first s then odd else even) + slice_index_or ws s 0) % 2 ^ 64) none
+    ap (λ ws. ((if is_state_marked x.marks.now x.first s then odd else even) + slice_index_or ws s 0) % 2 ^ 64) none
     ∙ (ap (λ b. ((if b then odd else even) + 0) % 2 ^ 64) (marked x.marks.now x.first s ones)
     ∙ (ap (λ n. n % 2 ^ 64) (add-zero odd) ∙ mod-mod (x.odd.base + (x.odd.unit * slice_index_or x.odd.counts.now s 0) % 2 ^ 64) (2 ^ 64)))

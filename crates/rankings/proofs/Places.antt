@@ -13,7 +13,7 @@ use Rattle.game.specs.Arena.{arena, place, vertex_of}
 use Rattle.game.proofs.Arenas.{arena_is_game, rows_count}
 use Rattle.laws.proofs.Vertices.{node_in, vertex_is}
 use Rattle.rankings.specs.Cells.{Cells, cell, number_in}
-use Rattle.rankings.specs.Laws.{IsClosed}
+use Rattle.rankings.specs.Laws.{LeadsInside}
 
 -- past both sinks
 past_two : (c : Cells) (v m : ℕ) → v ≡ 2 + m → number_in c v ≡ cell c (m % length c.nodes) (m / length c.nodes)
@@ -29,7 +29,7 @@ number_at c n s k e h =
     past_two c (place n s k) (s * n + k) refl ∙ (λ i. cell c (col i) (row i))
 
 -- successors are vertices
-pub arena_closed : (l : System) (nodes : List Node) → IsForm nodes → 2 + l.states * length nodes ≤ 16777216 → IsClosed (arena l nodes)
+pub arena_closed : (l : System) (nodes : List Node) → IsForm nodes → 2 + l.states * length nodes ≤ 16777216 → LeadsInside (arena l nodes)
 arena_closed l nodes form few v t x at there =
     let g : Game = arena l nodes in
     let is : IsVertex (length g.vertices) x = subst (IsVertex (length g.vertices)) (get_or_from_slice_get g.vertices v x x at)

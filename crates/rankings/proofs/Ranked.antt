@@ -16,23 +16,23 @@ use Rattle.progress.proofs.Lists.{contains_first, contains_later, contains_none}
 use Rattle.laws.proofs.Flags.{cases}
 use Rattle.laws.proofs.Lists.{in_map, of_map, of_two, only_in}
 use Rattle.rankings.specs.Cells.{Cells, cell, number_in, ranking_of}
-use Rattle.rankings.specs.Ranking.{GoesOn, IsRanked, Ranking, winner_of}
+use Rattle.rankings.specs.Ranking.{GoesOnWell, IsRanked, Ranking, winner_of}
 use Rattle.rankings.specs.Slopes.{AreSlopes, CanFollow, IsNoStep, StepsFollow, StepsFollowAt, TwoFollow}
 use Rattle.rankings.specs.declared.slope.Slopes.{Slopes}
 use Rattle.rankings.proofs.Places.{number_at}
 use Rattle.rankings.proofs.Steps.{step_of, target_of}
 
 -- one successor
-pub ranked_one : (r : Ranking) (n t : ℕ) (x : Vertex) → x.successors ≡ t ∷ [] → GoesOn r (winner_of n) x.priority n (r.number t) → IsRanked r n x
+pub ranked_one : (r : Ranking) (n t : ℕ) (x : Vertex) → x.successors ≡ t ∷ [] → GoesOnWell r (winner_of n) x.priority n (r.number t) → IsRanked r n x
 ranked_one r n t x e g = record {
   own = λ o. (t, subst (λ ts. Contains ts t) (sym e) (contains_first t []), g);
-  other = λ o u h. subst (λ z. GoesOn r (winner_of n) x.priority n (r.number z)) (sym (only_in t u (subst (λ ts. Contains ts u) e h))) g;
+  other = λ o u h. subst (λ z. GoesOnWell r (winner_of n) x.priority n (r.number z)) (sym (only_in t u (subst (λ ts. Contains ts u) e h))) g;
 }
 
 -- two of them
 ranked_two : (r : Ranking) (n t u : ℕ) (x : Vertex) → x.successors ≡ t ∷ u ∷ []
-    → (x.owner ≡ winner_of n → GoesOn r (winner_of n) x.priority n (r.number t) ⊎ GoesOn r (winner_of n) x.priority n (r.number u))
-    → (x.owner ≢ winner_of n → GoesOn r (winner_of n) x.priority n (r.number t) × GoesOn r (winner_of n) x.priority n (r.number u))
+    → (x.owner ≡ winner_of n → GoesOnWell r (winner_of n) x.priority n (r.number t) ⊎ GoesOnWell r (winner_of n) x.priority n (r.number u))
+    → (x.owner ≢ winner_of n → GoesOnWell r (winner_of n) x.priority n (r.number t) × GoesOnWell r (winner_of n) x.priority n (r.number u))
     → IsRanked r n x
 ranked_two r n t u x e own other = record {
   own = λ o. elim (own o) [
@@ -40,8 +40,8 @@ ranked_two r n t u x e own other = record {
     | inr g ↦ (u, subst (λ ts. Contains ts u) (sym e) (contains_later t u (u ∷ []) (contains_first u [])), g)
   ];
   other = λ o z h. elim (of_two t u z (subst (λ ts. Contains ts z) e h)) [
-    | inl q ↦ subst (λ w. GoesOn r (winner_of n) x.priority n (r.number w)) (sym q) (other o).0
-    | inr q ↦ subst (λ w. GoesOn r (winner_of n) x.priority n (r.number w)) (sym q) (other o).1
+    | inl q ↦ subst (λ w. GoesOnWell r (winner_of n) x.priority n (r.number w)) (sym q) (other o).0
+    | inr q ↦ subst (λ w. GoesOnWell r (winner_of n) x.priority n (r.number w)) (sym q) (other o).1
   ];
 }
 
@@ -70,8 +70,8 @@ module _ (c : Cells) (l : Numbered) (x : Slopes) (s k : ℕ) (node : Node) (is :
   v = vertex_of l.system n s node
 
   -- the play goes on well at the vertex of a node that may follow
-  goes : (t m : ℕ) → m < n → CanFollow x (cell c k s) (cell c m t) → GoesOn r (winner_of (cell c k s)) node.priority (cell c k s) (number_in c (place n t m))
-  goes t m h f = subst (GoesOn r (winner_of (cell c k s)) node.priority (cell c k s)) (sym (number_at c n t m refl h)) (f r node.priority slopes)
+  goes : (t m : ℕ) → m < n → CanFollow x (cell c k s) (cell c m t) → GoesOnWell r (winner_of (cell c k s)) node.priority (cell c k s) (number_in c (place n t m))
+  goes t m h f = subst (GoesOnWell r (winner_of (cell c k s)) node.priority (cell c k s)) (sym (number_at c n t m refl h)) (f r node.priority slopes)
 
   pub constant_ranked : (flag : Bool) → node.shape ≡ ConstantNode flag → CanFollow x (cell c k s) (number_in c (sink flag)) → IsRanked r (cell c k s) v
   constant_ranked flag e f = ranked_one r (cell c k s) (sink flag) v (ap (successors_of l.system n s) e) (f r node.priority slopes)
@@ -142,12 +142,12 @@ module _ (c : Cells) (l : Numbered) (x : Slopes) (s k : ℕ) (node : Node) (is :
           )
         ];
         other = λ o u h. elim (or_else_cases (map at to) from_sink u (subst (λ xs. Contains xs u) there h)) [
-          | inl w ↦ subst (λ z. GoesOn r (winner_of (cell c k s)) node.priority (cell c k s) (number_in c z)) (sym w.1)
+          | inl w ↦ subst (λ z. GoesOnWell r (winner_of (cell c k s)) node.priority (cell c k s) (number_in c z)) (sym w.1)
               (f.steps.none (no_step w.0) r node.priority slopes)
           | inr w ↦ (
               let t = of_map at to u w in
               let y = step t.0 t.1 in
-              subst (λ z. GoesOn r (winner_of (cell c k s)) node.priority (cell c k s) (number_in c z)) (ap at y.3 ∙ t.2)
+              subst (λ z. GoesOnWell r (winner_of (cell c k s)) node.priority (cell c k s) (number_in c z)) (ap at y.3 ∙ t.2)
               (goes y.0.target m low (f.steps.theirs o y.0 y.1 y.2)))
         ];
       }

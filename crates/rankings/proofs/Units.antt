@@ -11,8 +11,8 @@ use Rattle.game.specs.declared.player.Player.TheVariants.{Even, Odd}
 use Rattle.game.specs.Game.{opponent}
 use Rattle.game.specs.Wins.{IsOf}
 use Rattle.laws.proofs.Flags.{below_or_not, cases}
-use Rattle.rankings.specs.Columns.{counted_at, is_marked, kept_number, won_by}
-use Rattle.rankings.specs.Ranking.{GoesOn, Ranking, winner_of}
+use Rattle.rankings.specs.Columns.{counted_at, is_state_marked, kept_number, won_by}
+use Rattle.rankings.specs.Ranking.{GoesOnWell, Ranking, winner_of}
 use Rattle.rankings.specs.Slopes.{AreSlopes, CanFollow, slope_for}
 use Rattle.columns.specs.declared.column.Column.TheVariants.{Won}
 use Rattle.columns.specs.declared.column.Halves.{Halves}
@@ -71,7 +71,7 @@ module _ (x : Slopes) (b b' u : ℕ) (even : u % 2 ≡ 0) (same : b % 2 ≡ b' %
       let e : (n : ℕ) → (n + u * c) / 2 ^ r.shift o p ≡ n / 2 ^ r.shift o p + u / 2 ^ r.shift o p * c =
       λ n. whole_units n u c (r.shift o p) (subst (λ k. u % 2 ^ k ≡ 0) (shift_is x r p a o) whole) in
       let low : b' / 2 ^ r.shift o p ≤ b / 2 ^ r.shift o p = subst (λ k. b' / 2 ^ k ≤ b / 2 ^ k) (shift_is x r p a o) stays in
-      subst (λ q. GoesOn r q p (b + u * c) (b' + u * c)) (sym own) (record {
+      subst (λ q. GoesOnWell r q p (b + u * c) (b' + u * c)) (sym own) (record {
         winner = same_winner b' u c even ∙ ap (λ n. if n == 1 then Odd else Even) (sym same);
         stays = subst (λ z. z ≤ (b + u * c) / 2 ^ r.shift o p) (sym (e b')) (subst (λ z. b' / 2 ^ r.shift o p + u / 2 ^ r.shift o p * c ≤ z) (sym (e b)) (omega arith));
         falls = λ f.
@@ -99,17 +99,17 @@ half_go x b b' u u' q e same_unit even same whole down few few' counts small s =
 
 -- what is won by marks, with no words
 won_plain : (marks : List ℕ) (first : ℕ) (words : List ℕ) (even odd : ℕ → ℕ) (s : ℕ) → words ≡ [] → even s < 2 ^ 64 → odd s < 2 ^ 64
-    → won_by marks first words even odd s ≡ (if is_marked marks first s then odd s else even s)
+    → won_by marks first words even odd s ≡ (if is_state_marked marks first s then odd s else even s)
 won_plain marks first words even odd s none low low' =
-    ap (λ ws. ((if is_marked marks first s then odd s else even s) + slice_index_or ws s 0) % 2 ^ 64) none
-    ∙ (ap (λ n. n % 2 ^ 64) (add-zero (if is_marked marks first s then odd s else even s)) ∙ elim (cases (is_marked marks first s)) [
+    ap (λ ws. ((if is_state_marked marks first s then odd s else even s) + slice_index_or ws s 0) % 2 ^ 64) none
+    ∙ (ap (λ n. n % 2 ^ 64) (add-zero (if is_state_marked marks first s then odd s else even s)) ∙ elim (cases (is_state_marked marks first s)) [
       | inl e ↦ rw e (mod-eq_of_lt {n = odd s} {m = 2 ^ 64} low')
       | inr e ↦ rw e (mod-eq_of_lt {n = even s} {m = 2 ^ 64} low)
     ])
 
 pub halves_go : (x : Slopes) (marks : List ℕ) (counts words : List (List ℕ)) (own next : Halves) (s : ℕ)
     → slice_index_or words own.words [] ≡ [] → slice_index_or words next.words [] ≡ []
-    → own.even.counts ≡ next.even.counts → own.odd.counts ≡ next.odd.counts → is_marked marks own.marks s ≡ is_marked marks next.marks s
+    → own.even.counts ≡ next.even.counts → own.odd.counts ≡ next.odd.counts → is_state_marked marks own.marks s ≡ is_state_marked marks next.marks s
     → CanFollow x (counted_at own.even.base own.even.unit (slice_index_or counts own.even.counts []) s)
     (counted_at next.even.base next.even.unit (slice_index_or counts own.even.counts []) s)
     → CanFollow x (counted_at own.odd.base own.odd.unit (slice_index_or counts own.odd.counts []) s)
@@ -124,9 +124,9 @@ halves_go x marks counts words own next s none none' evens odds same even odd =
     subst (λ k. CanFollow x (e s) (counted_at next.even.base next.even.unit (slice_index_or counts k []) s)) evens even in
     let to_odd : CanFollow x (o s) (o' s) =
     subst (λ k. CanFollow x (o s) (counted_at next.odd.base next.odd.unit (slice_index_or counts k []) s)) odds odd in
-    two_columns x (if is_marked marks own.marks s then o s else e s) (if is_marked marks next.marks s then o' s else e' s)
+    two_columns x (if is_state_marked marks own.marks s then o s else e s) (if is_state_marked marks next.marks s then o' s else e' s)
     (kept_number marks counts words (Won own) s) (kept_number marks counts words (Won next) s)
     (sym (won_plain marks own.marks (slice_index_or words own.words []) e o s none (mod_below (own.even.base + (own.even.unit * slice_index_or (slice_index_or counts own.even.counts []) s 0) % 2 ^ 64) (2 ^ 64) (omega arith)) (mod_below (own.odd.base + (own.odd.unit * slice_index_or (slice_index_or counts own.odd.counts []) s 0) % 2 ^ 64) (2 ^ 64) (omega arith))))
     (sym (won_plain marks next.marks (slice_index_or words next.words []) e' o' s none' (mod_below (next.even.base + (next.even.unit * slice_index_or (slice_index_or counts next.even.counts []) s 0) % 2 ^ 64) (2 ^ 64) (omega arith)) (mod_below (next.odd.base + (next.odd.unit * slice_index_or (slice_index_or counts next.odd.counts []) s 0) % 2 ^ 64) (2 ^ 64) (omega arith))))
-    (subst (λ m. CanFollow x (if is_marked marks own.marks s then o s else e s) (if m then o' s else e' s)) same
-    (elim (cases (is_marked marks own.marks s)) [ inl m ↦ rw m to_odd | inr m ↦ rw m to_even ]))
+    (subst (λ m. CanFollow x (if is_state_marked marks own.marks s then o s else e s) (if m then o' s else e' s)) same
+    (elim (cases (is_state_marked marks own.marks s)) [ inl m ↦ rw m to_odd | inr m ↦ rw m to_even ]))

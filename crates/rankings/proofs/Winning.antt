@@ -11,8 +11,8 @@ use Rattle.progress.proofs.Cycles.{odd_or_even, priority}
 use Rattle.progress.proofs.NotBoth.{not_both_win}
 use Rattle.laws.proofs.Flags.{above_false, and_true, below_or_not, below_true, both}
 use Rattle.laws.proofs.Paths.{path_into}
-use Rattle.rankings.specs.Laws.{IsClosed, RankingDecides, RankingWins}
-use Rattle.rankings.specs.Ranking.{GoesOn, IsGoodRanking, IsRanked, Ranking, counted, winner_of}
+use Rattle.rankings.specs.Laws.{LeadsInside, RankingDecides, RankingWins}
+use Rattle.rankings.specs.Ranking.{GoesOnWell, IsGoodRanking, IsRanked, Ranking, counted_of, winner_of}
 use Rattle.rankings.proofs.Cycles.{no_cycle}
 
 -- ---- players
@@ -65,11 +65,11 @@ pick r n x k (inl own) = (k.own own).0
 pick r n x k (inr other) = 0
 
 picked : (r : Ranking) (n : ℕ) (x : Vertex) (k : IsRanked r n x) (c : (x.owner ≡ winner_of n) ⊎ (x.owner ≢ winner_of n)) → x.owner ≡ winner_of n
-    → Contains x.successors (pick r n x k c) × GoesOn r (winner_of n) x.priority n (r.number (pick r n x k c))
+    → Contains x.successors (pick r n x k c) × GoesOnWell r (winner_of n) x.priority n (r.number (pick r n x k c))
 picked r n x k (inl own) o = ((k.own own).1, (k.own own).2)
 picked r n x k (inr other) o = absurd (other o)
 
-module _ (g : Game) (r : Ranking) (closed : IsClosed g) (good : IsGoodRanking g r) (player : Player) where
+module _ (g : Game) (r : Ranking) (closed : LeadsInside g) (good : IsGoodRanking g r) (player : Player) where
   abbrev set : ℕ → Bool
   set u = nat_lt u (length g.vertices) && is_player (winner_of (r.number u)) player
 
@@ -92,31 +92,31 @@ module _ (g : Game) (r : Ranking) (closed : IsClosed g) (good : IsGoodRanking g 
   choice u = choice_at u (vertex g u) refl
 
   chosen : (u : ℕ) (o : Option Vertex) (e : vertex g u ≡ o) (x : Vertex) → o ≡ Some x → x.owner ≡ winner_of (r.number u)
-      → Contains x.successors (choice_at u o e) × GoesOn r (winner_of (r.number u)) x.priority (r.number u) (r.number (choice_at u o e))
+      → Contains x.successors (choice_at u o e) × GoesOnWell r (winner_of (r.number u)) x.priority (r.number u) (r.number (choice_at u o e))
   chosen u None e x is own = cc
   chosen u (Some y) e x is own =
       let q : y ≡ x = cc in
       subst (λ (z : Vertex). Contains z.successors (choice_at u (Some y) e)
-      × GoesOn r (winner_of (r.number u)) z.priority (r.number u) (r.number (choice_at u (Some y) e))) q
+      × GoesOnWell r (winner_of (r.number u)) z.priority (r.number u) (r.number (choice_at u (Some y) e))) q
       (picked r (r.number u) y (good.ranked u y e) (same_or_other y.owner (winner_of (r.number u)))
       (ap (λ (z : Vertex). z.owner) q ∙ own))
 
   -- an edge of the strategy leads to a successor, and the play goes on well there
   led : (u t : ℕ) (x : Vertex) → vertex g u ≡ Some x → winner_of (r.number u) ≡ player
       → ((x.owner ≡ player) × (t ≡ choice u)) ⊎ ((x.owner ≢ player) × Contains x.successors t)
-      → Contains x.successors t × GoesOn r (winner_of (r.number u)) x.priority (r.number u) (r.number t)
+      → Contains x.successors t × GoesOnWell r (winner_of (r.number u)) x.priority (r.number u) (r.number t)
   led u t x at w (inl o) =
-      subst (λ z. Contains x.successors z × GoesOn r (winner_of (r.number u)) x.priority (r.number u) (r.number z)) (sym o.1)
+      subst (λ z. Contains x.successors z × GoesOnWell r (winner_of (r.number u)) x.priority (r.number u) (r.number z)) (sym o.1)
       (chosen u (vertex g u) refl x at (o.0 ∙ sym w))
   led u t x at w (inr o) = (o.1, (good.ranked u x at).other (λ e. o.0 (e ∙ w)) t o.1)
 
-  step : (u t : ℕ) → IsTrue (set u) → Edge player g choice u t → (t < length g.vertices) × GoesOn r player (priority g u) (r.number u) (r.number t)
+  step : (u t : ℕ) → IsTrue (set u) → Edge player g choice u t → (t < length g.vertices) × GoesOnWell r player (priority g u) (r.number u) (r.number t)
   step u t i edge =
       let w = (of_set u i).1 in
       let l = led u t edge.0 edge.1 w edge.2 in (
         closed u t edge.0 edge.1 l.0,
-        subst (λ p. GoesOn r p (priority g u) (r.number u) (r.number t)) w
-            (subst (λ o. GoesOn r (winner_of (r.number u)) (priority_at o) (r.number u) (r.number t)) (sym edge.1) l.1),
+        subst (λ p. GoesOnWell r p (priority g u) (r.number u) (r.number t)) w
+            (subst (λ o. GoesOnWell r (winner_of (r.number u)) (priority_at o) (r.number u) (r.number t)) (sym edge.1) l.1),
       )
 
   stays_in : (u t : ℕ) → IsTrue (set u) → Edge player g choice u t → IsTrue (set t)
@@ -129,7 +129,7 @@ module _ (g : Game) (r : Ranking) (closed : IsClosed g) (good : IsGoodRanking g 
   cycle_is_own u others i n path = elim (of_either player (greatest_met g others)) [
     | inl own ↦ own
     | inr other ↦ absurd (
-        no_cycle g Step (λ p v. counted r player p (r.number v)) (IsOf (opponent player))
+        no_cycle g Step (λ p v. counted_of r player p (r.number v)) (IsOf (opponent player))
         (λ v t p s le. coarser (r.number t) (r.number v) (r.shift player (priority g v)) (r.shift player p) (good.rising player (priority g v) p le)
         (step v t s.0 s.1).1.stays)
         (λ v t s f. (step v t s.0 s.1).1.falls f)

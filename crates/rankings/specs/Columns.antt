@@ -8,8 +8,8 @@ use Rattle.rankings.specs.declared.column.Numbers.TheVariants as lent
 use Rattle.rankings.specs.declared.column.Shown.{Shown}
 
 -- whether the mark of a state is set, where the marks begin with this word
-abbrev pub is_marked : List ℕ → ℕ → ℕ → Bool
-is_marked marks first s = (slice_index_or marks (first + s / 64) 0 / 2 ^ (s % 64)) % 2 == 1
+abbrev pub is_state_marked : List ℕ → ℕ → ℕ → Bool
+is_state_marked marks first s = (slice_index_or marks (first + s / 64) 0 / 2 ^ (s % 64)) % 2 == 1
 
 -- so many units more than this number as the list counts at a state
 abbrev pub counted_at : ℕ → ℕ → List ℕ → ℕ → ℕ
@@ -17,7 +17,7 @@ counted_at base unit counts s = (base + (unit * slice_index_or counts s 0) % 2 ^
 
 -- of two numbers at a state that of whoever is marked to win there, and what a list of words has there
 abbrev pub won_by : List ℕ → ℕ → List ℕ → (ℕ → ℕ) → (ℕ → ℕ) → ℕ → ℕ
-won_by marks first words even odd s = ((if is_marked marks first s then odd s else even s) + slice_index_or words s 0) % 2 ^ 64
+won_by marks first words even odd s = ((if is_state_marked marks first s then odd s else even s) + slice_index_or words s 0) % 2 ^ 64
 
 -- by state, of a column with the lists of marks, of counts and of words
 abbrev pub kept_number : List ℕ → List (List ℕ) → List (List ℕ) → Column → ℕ → ℕ

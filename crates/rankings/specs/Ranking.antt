@@ -16,20 +16,20 @@ abbrev pub winner_of : ℕ → Player
 winner_of n = if is_odd n then Odd else Even
 
 -- what counts of a number at this priority
-abbrev pub counted : Ranking → Player → ℕ → ℕ → ℕ
-counted r player p n = n / 2 ^ r.shift player p
+abbrev pub counted_of : Ranking → Player → ℕ → ℕ → ℕ
+counted_of r player p n = n / 2 ^ r.shift player p
 
 -- From a vertex of priority p and number n, which this player is said to win, the play goes on well at one with number m: the same player is said to win
 -- that, and what counts doesn't rise, and falls where the priority is the opponent's.
-pub record GoesOn (r : Ranking) (player : Player) (p n m : ℕ) : Type 0 where
+pub record GoesOnWell (r : Ranking) (player : Player) (p n m : ℕ) : Type 0 where
   pub winner : winner_of m ≡ player
-  pub stays : counted r player p m ≤ counted r player p n
-  pub falls : IsOf (opponent player) p → counted r player p m < counted r player p n
+  pub stays : counted_of r player p m ≤ counted_of r player p n
+  pub falls : IsOf (opponent player) p → counted_of r player p m < counted_of r player p n
 
 -- Where the vertex is the winner's, the play goes on well at some successor, and else at each of them.
 pub record IsRanked (r : Ranking) (n : ℕ) (x : Vertex) : Type 0 where
-  pub own : x.owner ≡ winner_of n → (t : ℕ) × Contains x.successors t × GoesOn r (winner_of n) x.priority n (r.number t)
-  pub other : x.owner ≢ winner_of n → (t : ℕ) → Contains x.successors t → GoesOn r (winner_of n) x.priority n (r.number t)
+  pub own : x.owner ≡ winner_of n → (t : ℕ) × Contains x.successors t × GoesOnWell r (winner_of n) x.priority n (r.number t)
+  pub other : x.owner ≢ winner_of n → (t : ℕ) → Contains x.successors t → GoesOnWell r (winner_of n) x.priority n (r.number t)
 
 -- At a greater priority no more bits count.
 abbrev pub IsRising : Ranking → Type 0

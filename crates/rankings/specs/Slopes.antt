@@ -9,7 +9,7 @@ use Rattle.game.specs.Steps.{is_in}
 use Rattle.game.specs.Wins.{IsOf}
 use Rattle.rankings.specs.declared.slope.Slope.{Slope}
 use Rattle.rankings.specs.declared.slope.Slopes.{Slopes}
-use Rattle.rankings.specs.Ranking.{GoesOn, Ranking, winner_of}
+use Rattle.rankings.specs.Ranking.{GoesOnWell, Ranking, winner_of}
 
 -- They are those of the ranking at this priority.
 pub record AreSlopes (r : Ranking) (p : ℕ) (x : Slopes) : Type 0 where
@@ -25,7 +25,7 @@ slope_for x Odd = x.odd
 
 -- From a vertex with the first number, at any priority that has these slopes, the play goes on well at one with the second.
 abbrev pub CanFollow : Slopes → ℕ → ℕ → Type 0
-CanFollow x own next = (r : Ranking) (p : ℕ) → AreSlopes r p x → GoesOn r (winner_of own) p own next
+CanFollow x own next = (r : Ranking) (p : ℕ) → AreSlopes r p x → GoesOnWell r (winner_of own) p own next
 
 -- A vertex of this owner with this number is ranked, where its successors have these two.
 pub record TwoFollow (x : Slopes) (owner : Player) (own first second : ℕ) : Type 0 where

@@ -13,6 +13,6 @@ cells_of c = record {
   odds = c.odds.items;
 }
 
-pub record IsStored (c : Inside) : Type 0 where
+pub record AreColumnsStored (c : Inside) : Type 0 where
   pub evens : AreShifts c.evens.items
   pub odds : AreShifts c.odds.items

@@ -3,7 +3,7 @@
 ghost use Rattle.std.specs.Prelude.{◌≡◌, ◌+◌, ◌*◌, ◌%◌, ◌<◌, ◌≤◌, ◌^◌, ℕ, IsTrue, map, slice_index_or};
 ghost use Rattle.std.specs.List.{AllByRecursion};
 ghost use Rattle.columns.specs.declared.column.Halves.{Halves};
-ghost use Rattle.rankings.specs.Columns.{counted_at, is_marked, kept_number};
+ghost use Rattle.rankings.specs.Columns.{counted_at, is_state_marked, kept_number};
 ghost use Rattle.rankings.specs.Ranking.{winner_of};
 ghost use Rattle.rankings.specs.Slopes.{CanFollow, slope_for};
 
@@ -82,7 +82,7 @@ fn half_follows(slopes: Slopes, own: Counted, next: Counted, counts: &[u32]) -> 
 
 // Whether two sets of marks, which begin with these words of all marks, are the same at the states of a span.
 fn are_same_marks(marks: &[u64], own: u32, next: u32, first: u32, end: u32) -> bool
-    ensures { IsTrue result → (s : ℕ) → first ≤ s → s < end → is_marked marks.now own s ≡ is_marked marks.now next s }
+    ensures { IsTrue result → (s : ℕ) → first ≤ s → s < end → is_state_marked marks.now own s ≡ is_state_marked marks.now next s }
 {
     if own == next || first >= end {
         return true;

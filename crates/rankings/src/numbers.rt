@@ -1,7 +1,7 @@
 // The numbers of a column, by state.
 
 ghost use Rattle.std.specs.Prelude.{◌≡◌, ◌+◌, ◌/◌, ◌<◌, ◌≤◌, ℕ, IsTrue, [], map, slice_index_or};
-ghost use Rattle.rankings.specs.Columns.{counted_at, is_marked, number_at, kept_number, won_at};
+ghost use Rattle.rankings.specs.Columns.{counted_at, is_state_marked, number_at, kept_number, won_at};
 
 use crate::column::{Half, Numbers, Shown};
 use columns::column::{Column, Columns, Counted, Halves};
@@ -19,7 +19,7 @@ pub(crate) fn list<T>(lists: &[Vec<T>], place: u32) -> &[T]
 // Whether the mark of a state is set, where the marks begin with this word.
 #[inline(always)]
 fn has_mark(marks: &[u64], first: u32, state: u32) -> bool
-    ensures { result ≡ is_marked marks.now first state }
+    ensures { result ≡ is_state_marked marks.now first state }
 {
     let word = marks.get(first as usize + (state / 64) as usize);
     (word.copied().unwrap_or(0) >> (state % 64)) % 2 == 1

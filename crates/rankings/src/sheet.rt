@@ -28,13 +28,13 @@ pub struct Sheet {
 
 impl Model for Sheet {
     ghost use Rattle.rankings.specs.Cells.{Cells};
-    ghost use Rattle.rankings.specs.Stored.{IsStored, cells_of};
+    ghost use Rattle.rankings.specs.Stored.{AreColumnsStored, cells_of};
 
     ghost Value = { Cells };
 
     ghost view = { cells_of };
 
-    ghost invariant = { IsStored };
+    ghost invariant = { AreColumnsStored };
 }
 
 // Whether shifts don't fall, and are below the width of a word.
@@ -70,7 +70,7 @@ fn shift_of(shifts: &[u32], priority: u32) -> u32
 
 impl Sheet {
     ghost use Rattle.rankings.specs.Slopes.{AreSlopes, CanFollow};
-    ghost use Rattle.rankings.specs.Stored.{IsStored, cells_of};
+    ghost use Rattle.rankings.specs.Stored.{AreColumnsStored, cells_of};
 
     /// The sheet of these columns and shifts, of which each list is by priority. There is none where the shifts fall, or one is above 63.
     pub fn of(columns: Columns, evens: Vec<u32>, odds: Vec<u32>) -> Option<Sheet>

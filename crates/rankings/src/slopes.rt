@@ -3,7 +3,7 @@
 ghost use Rattle.std.specs.Prelude.{◌≡◌, ◌↔◌, ◌/◌, ◌^◌, ◌<◌, ◌≤◌, ℕ, IsTrue};
 ghost use Rattle.game.specs.Game.{opponent};
 ghost use Rattle.game.specs.Wins.{IsOf};
-ghost use Rattle.rankings.specs.Ranking.{GoesOn, Ranking, winner_of};
+ghost use Rattle.rankings.specs.Ranking.{GoesOnWell, Ranking, winner_of};
 ghost use Rattle.rankings.specs.Slopes.{AreSlopes};
 
 use crate::slope::{Slope, Slopes};
@@ -45,7 +45,7 @@ impl Slopes {
     /// Whether the play goes on well from a vertex with one number at one with the next.
     #[inline(always)]
     pub(crate) fn let_follow(self, own: u64, next: u64) -> bool
-        ensures { (r : Ranking) (p : ℕ) → AreSlopes r p self → (IsTrue result ↔ GoesOn r (winner_of own) p own next) }
+        ensures { (r : Ranking) (p : ℕ) → AreSlopes r p self → (IsTrue result ↔ GoesOnWell r (winner_of own) p own next) }
     {
         let slope = match winner(own) {
             Player::Even => self.even,

@@ -7,7 +7,7 @@ use Rattle.lts.specs.Aut.{IsAut}
 use Rattle.calculus.specs.Tree.{Formula}
 use Rattle.requests.specs.declared.error.MuError.{MuError}
 use Rattle.requests.specs.declared.error.MuError.TheVariants as error
-use Rattle.requests.specs.Check.{Way, AreSpelled, SpellsSystem, HasRefused}
+use Rattle.requests.specs.Check.{Way, AreSpelled, SpellsSystem, RefusesCheck}
 use Rattle.requests.specs.Writers.{Lent, AreKept}
 use Rattle.requests.specs.Texts.{IsFormulaOf, IsReadRefusal}
 
@@ -31,7 +31,7 @@ spelled_of first second known_first known_second l f e d system only_system form
 
 -- The refusal of a formula's text comes where the first text spells a system.
 pub unread_of : (way : Way) (first second : List ℕ) (writers : List Lent) (e : MuError) → SpellsSystem first → IsReadRefusal second e → AreKept writers
-    → HasRefused way first second writers e
+    → RefusesCheck way first second writers e
 unread_of way first second writers (error.Formula e) spelled h kept = (spelled, h, kept)
 unread_of way first second writers error.Read spelled h kept = (spelled, kept)
 unread_of way first second writers error.Memory spelled h kept = (spelled, kept)

@@ -4,7 +4,8 @@ use Rattle.std.specs.Fmt.{digits}
 use Rattle.systems.specs.System.{System}
 use Rattle.calculus.specs.Tree.{Names, Dia, Step, True}
 use Rattle.requests.specs.declared.request.ReportForm.TheVariants.{Summary, States}
-use Rattle.requests.specs.Report.{line_end, report, report_in}
+use Rattle.text.specs.Pieces.{line_end}
+use Rattle.requests.specs.Report.{report, report_in}
 
 -- 0 -a-> 1 -b-> 0
 abbrev two_states : System

@@ -1,15 +1,12 @@
 -- The report of a check.
 use Rattle.std.specs.Prelude.{ℕ, ◌+◌, Bool, false, not, List, [], ◌∷◌, ◌++◌, Option, Some, None, length, take, count_by, codes, decimal, if◌then◌else◌}
 use Rattle.std.specs.List.{slice_index_or}
+use Rattle.text.specs.Pieces.{line_end}
 use Rattle.systems.specs.System.{System}
 use Rattle.calculus.specs.Tree.{Formula}
 use Rattle.calculus.specs.Canon.{canon}
 use Rattle.requests.specs.declared.request.ReportForm.{ReportForm}
 use Rattle.requests.specs.declared.request.ReportForm.TheVariants.{Whole, Summary, States, Nothing}
-
--- LF
-abbrev pub line_end : List ℕ
-line_end = 10 ∷ []
 
 -- with the numbers of states and of transitions, and the initial state
 abbrev pub system_line : ℕ → ℕ → ℕ → List ℕ
@@ -24,16 +21,16 @@ abbrev pub yes_line : ℕ → ℕ → List ℕ
 yes_line marked states = codes "yes " ++ (decimal marked ++ (codes " of " ++ (decimal states ++ line_end)))
 
 -- the end of a line that tells a mark
-abbrev pub yes_or_no : Bool → List ℕ
-yes_or_no mark = (if mark then codes " yes" else codes " no") ++ line_end
+abbrev pub mark_end : Bool → List ℕ
+mark_end mark = (if mark then codes " yes" else codes " no") ++ line_end
 
 abbrev pub initial_line : Bool → List ℕ
-initial_line mark = codes "initial" ++ yes_or_no mark
+initial_line mark = codes "initial" ++ mark_end mark
 
 -- a line for each state from s on
 abbrev pub state_lines : ℕ → List Bool → List ℕ
 state_lines s [] = []
-state_lines s (mark ∷ marks) = decimal s ++ (yes_or_no mark ++ state_lines (s + 1) marks)
+state_lines s (mark ∷ marks) = decimal s ++ (mark_end mark ++ state_lines (s + 1) marks)
 
 -- the lines before those of the states, where these states are marked yes
 abbrev pub summary : System → Formula → List Bool → List ℕ

@@ -5,8 +5,8 @@ use Rattle.lts.specs.Aut.{IsAut}
 use Rattle.hints.specs.Absent.{IsFirstAbsent}
 use Rattle.requests.specs.declared.error.MuError.{MuError}
 use Rattle.requests.specs.declared.error.MuError.TheVariants as error
-use Rattle.requests.specs.Check.{Way, HasReported, HasRefused}
-use Rattle.requests.specs.Texts.{IsReading}
+use Rattle.requests.specs.Check.{Way, HasReported, RefusesCheck}
+use Rattle.requests.specs.Texts.{IsReadingRefusal}
 use Rattle.requests.specs.Writers.{Lent, AreKept}
 
 -- Of the formula's words the first that is on no transition of the system stands at this place, if there is one.
@@ -20,9 +20,9 @@ abbrev pub KnowsWords : (first second : List ℕ) → Type 0
 KnowsWords first second = AreWords first second None
 
 -- a refusal that may come before both texts are read, or for want of memory
-abbrev pub IsUnread : MuError → Type 0
-IsUnread (error.System e) = Unit {0}
-IsUnread e = IsReading e
+abbrev pub MayComeFirst : MuError → Type 0
+MayComeFirst (error.System e) = Unit {0}
+MayComeFirst e = IsReadingRefusal e
 
 -- A word is refused, where that is asked for: the first that is on no transition. Nothing was written.
 pub record IsWordRefusal (strict : Bool) (first second : List ℕ) (writers : List Lent) (e : MuError) : Type 0 where
@@ -35,7 +35,7 @@ pub record IsWordRefusal (strict : Bool) (first second : List ℕ) (writers : Li
 -- A strict check is refused for a word, or otherwise while the texts are read, or where it has none that could be refused.
 abbrev pub HasRefusedBy : (strict : Bool) → Way → (first second : List ℕ) → List Lent → MuError → Type 0
 HasRefusedBy strict way first second writers e =
-    (HasRefused way first second writers e × (IsTrue strict → IsUnread e ⊎ KnowsWords first second)) ⊎ IsWordRefusal strict first second writers e
+    (RefusesCheck way first second writers e × (IsTrue strict → MayComeFirst e ⊎ KnowsWords first second)) ⊎ IsWordRefusal strict first second writers e
 
 -- A strict check answers where each word of the formula is on a transition.
 abbrev pub AnswersBy : (strict : Bool) → Way → (first second : List ℕ) → List Lent → Result Bool MuError → Type 0

@@ -32,6 +32,6 @@ IsReadRefusal text (error.Formula e) = IsTold text e
 IsReadRefusal text e = IsReadFault e
 
 -- the refusals of a read of a formula
-abbrev pub IsReading : MuError → Type 0
-IsReading (error.Formula e) = Unit {0}
-IsReading e = IsReadFault e
+abbrev pub IsReadingRefusal : MuError → Type 0
+IsReadingRefusal (error.Formula e) = Unit {0}
+IsReadingRefusal e = IsReadFault e

@@ -3,8 +3,8 @@
 ghost use Rattle.std.specs.Prelude.{◌≡◌, IfErr, IfOk, Some};
 ghost use Rattle.std.specs.Arc.{arc_value};
 ghost use Rattle.game.specs.Game.{Game};
-ghost use Rattle.workers.specs.Team.{IsRefusal};
-ghost use Rattle.requests.specs.Solver.{IsFitting, IsUnsolved};
+ghost use Rattle.workers.specs.Team.{IsTeamRefusal};
+ghost use Rattle.requests.specs.Solver.{FitsBoard, IsUnsolved};
 
 use crate::error::MuError;
 use crate::request::Options;
@@ -21,7 +21,7 @@ use workers::team::{BoardKind, Team, fits_words, solve_by};
 
 // The refusal of a team.
 fn refusal(error: TeamError) -> MuError
-    ensures { (board : BoardKind) (g : Game) → IsRefusal board g error → IsUnsolved (Some board) g result }
+    ensures { (board : BoardKind) (g : Game) → IsTeamRefusal board g error → IsUnsolved (Some board) g result }
 {
     match error {
         TeamError::Board(error) => MuError::Table(error),
@@ -34,7 +34,7 @@ fn refusal(error: TeamError) -> MuError
 /// # Errors
 /// T1 where it can't.
 pub fn require_board(game: &Game, board: BoardKind) -> Result<(), MuError>
-    ensures board { IfOk result (λ _. IsFitting (Some board) game.now) }
+    ensures board { IfOk result (λ _. FitsBoard (Some board) game.now) }
     ensures refusal { IfErr result (IsUnsolved (Some board) game.now) }
 {
     match fits_words(game, board) {
@@ -55,7 +55,7 @@ pub fn solve_with<G: Gate + Sync, R: Threads + Wait + Clone + Copy + Drop + Send
     gate: &G,
 ) -> Result<Settled, MuError>
     ensures game { IfOk result (λ s. s.game ≡ arc_value game.now) }
-    ensures board { IfOk result (λ _. IsFitting (Some options.now.board) (arc_value game.now)) }
+    ensures board { IfOk result (λ _. FitsBoard (Some options.now.board) (arc_value game.now)) }
     ensures refusal { IfErr result (IsUnsolved (Some options.now.board) (arc_value game.now)) }
 {
     solve_seen(rt, alloc, game, options, gate, &Silent, &NoGuess)
@@ -80,7 +80,7 @@ pub fn solve_seen<
     guess: &U,
 ) -> Result<Settled, MuError>
     ensures game { IfOk result (λ s. s.game ≡ arc_value game.now) }
-    ensures board { IfOk result (λ _. IsFitting (Some options.now.board) (arc_value game.now)) }
+    ensures board { IfOk result (λ _. FitsBoard (Some options.now.board) (arc_value game.now)) }
     ensures refusal { IfErr result (IsUnsolved (Some options.now.board) (arc_value game.now)) }
 {
     let team = Team {

@@ -5,10 +5,10 @@ ghost use Rattle.calculus.specs.Closed.{closed_formula};
 ghost use Rattle.requests.specs.Causes.{HaveCauses};
 ghost use Rattle.requests.specs.declared.error.MuError.TheVariants as error;
 ghost use Rattle.text.specs.Cause.{HasCause};
-ghost use Rattle.requests.specs.Texts.{IsFormulaOf, IsReadRefusal, IsReadFault, IsReading};
-ghost use Rattle.requests.specs.Check.{Way, BySets, AreSpelled, HasRefused, IsErrorOf};
+ghost use Rattle.requests.specs.Texts.{IsFormulaOf, IsReadRefusal, IsReadFault, IsReadingRefusal};
+ghost use Rattle.requests.specs.Check.{Way, BySets, AreSpelled, RefusesCheck, IsErrorOf};
 ghost use Rattle.requests.specs.Known.{AreKnown};
-ghost use Rattle.requests.specs.Strict.{HasRefusedBy, IsLookRefusal, IsUnread, KnowsWords};
+ghost use Rattle.requests.specs.Strict.{HasRefusedBy, IsLookRefusal, MayComeFirst, KnowsWords};
 ghost use Rattle.hints.specs.Absent.{IsFirstAbsent};
 ghost use Rattle.requests.specs.Writers.{AreKept, Lent};
 
@@ -62,7 +62,7 @@ pub fn read_both<R: Source + Drop, S: Source + Drop>(
     ensures spelled { (first second : List ℕ) → R.remaining aut ≡ Some first → S.remaining formula ≡ Some second
         → IfOk result (λ texts. AreSpelled first second texts.system.system (closed_formula texts.formula)) }
     ensures refusal { (first second : List ℕ) → R.remaining aut ≡ Some first → S.remaining formula ≡ Some second
-        → (way : Way) (writers : List Lent) → AreKept writers → IfErr result (HasRefused way first second writers) }
+        → (way : Way) (writers : List Lent) → AreKept writers → IfErr result (RefusesCheck way first second writers) }
     ensures plain { IfErr result (IsErrorOf BySets) }
     ensures cause { IfErr result (HaveCauses R.can_fail S.can_fail) }
 {
@@ -82,7 +82,7 @@ pub fn read_both_seen<R: Source + Drop, S: Source + Drop, O: Watcher>(
     ensures spelled { (first second : List ℕ) → R.remaining aut ≡ Some first → S.remaining formula ≡ Some second
         → IfOk result (λ texts. AreSpelled first second texts.system.system (closed_formula texts.formula)) }
     ensures refusal { (first second : List ℕ) → R.remaining aut ≡ Some first → S.remaining formula ≡ Some second
-        → (way : Way) (writers : List Lent) → AreKept writers → IfErr result (HasRefused way first second writers) }
+        → (way : Way) (writers : List Lent) → AreKept writers → IfErr result (RefusesCheck way first second writers) }
     ensures plain { IfErr result (IsErrorOf BySets) }
     ensures cause { IfErr result (HaveCauses R.can_fail S.can_fail) }
 {
@@ -179,9 +179,9 @@ fn read_all<R: Source + Drop, S: Source + Drop, O: Watcher>(
         → IfOk result (λ r. AreSpelled first second r.texts.system.system (closed_formula r.texts.formula)) }
     ensures text { (second : List ℕ) → S.remaining formula ≡ Some second → IfOk result (λ r. r.text.items ≡ second) }
     ensures refusal { (first second : List ℕ) → R.remaining aut ≡ Some first → S.remaining formula ≡ Some second
-        → (way : Way) (writers : List Lent) → AreKept writers → IfErr result (HasRefused way first second writers) }
+        → (way : Way) (writers : List Lent) → AreKept writers → IfErr result (RefusesCheck way first second writers) }
     ensures plain { IfErr result (IsErrorOf BySets) }
-    ensures unread { IfErr result IsUnread }
+    ensures unread { IfErr result MayComeFirst }
     ensures cause { IfErr result (HaveCauses R.can_fail S.can_fail) }
 {
     observer.sees(Stage::ReadingSystem);
@@ -201,7 +201,7 @@ fn read_all<R: Source + Drop, S: Source + Drop, O: Watcher>(
 pub fn read_formula<S: Source + Drop>(alloc: Global, formula: S) -> Result<Closed, MuError>
     ensures spelled { IfOk result (λ f. IfSome (S.remaining formula) (λ text. IsFormulaOf text (closed_formula f))) }
     ensures refusal { (text : List ℕ) → S.remaining formula ≡ Some text → IfErr result (IsReadRefusal text) }
-    ensures fault { IfErr result IsReading }
+    ensures fault { IfErr result IsReadingRefusal }
     ensures cause { IfErr result (HasCause S.can_fail error.Read) }
 {
     match read_spelled(alloc, formula) {
@@ -222,7 +222,7 @@ fn read_spelled<S: Source + Drop>(alloc: Global, formula: S) -> Result<Spelled, 
     ensures spelled { IfOk result (λ s. IfSome (S.remaining formula) (λ text. IsFormulaOf text (closed_formula s.formula))) }
     ensures text { IfOk result (λ s. IfSome (S.remaining formula) (λ text. s.text.items ≡ text)) }
     ensures refusal { (text : List ℕ) → S.remaining formula ≡ Some text → IfErr result (IsReadRefusal text) }
-    ensures fault { IfErr result IsReading }
+    ensures fault { IfErr result IsReadingRefusal }
     ensures cause { IfErr result (HasCause S.can_fail error.Read) }
 {
     let front = read_front(alloc, formula)?;
@@ -242,7 +242,7 @@ fn read_spelled<S: Source + Drop>(alloc: Global, formula: S) -> Result<Spelled, 
 pub fn parse_front(alloc: Global, front: &[u8]) -> Result<Closed, MuError>
     ensures spelled { (text : List ℕ) → front.now ≡ take FORMULA_BYTES text → IfOk result (λ f. IsFormulaOf text (closed_formula f)) }
     ensures refusal { (text : List ℕ) → front.now ≡ take FORMULA_BYTES text → IfErr result (IsReadRefusal text) }
-    ensures fault { IfErr result IsReading }
+    ensures fault { IfErr result IsReadingRefusal }
     ensures unread { IfErr result (λ e. e ≢ error.Read) }
 {
     parse(alloc, front).map_err(MuError::Formula)

@@ -3,7 +3,7 @@
 
 use crate::guesses::{Question, roll_question};
 use calculus::closed::Closed;
-use guess::guessed::Guessed;
+use guess::guessed::GuessedRanking;
 use guess::ranks::columns;
 use lts::Lts;
 use meaning::plain::plain_states;
@@ -21,7 +21,7 @@ const QUESTIONS: u32 = 40;
 
 const LEAST_RANKED: u32 = 38;
 
-fn sheet_of(guessed: Guessed) -> Option<Sheet> {
+fn sheet_of(guessed: GuessedRanking) -> Option<Sheet> {
     Sheet::of(guessed.columns, guessed.even_shifts, guessed.odd_shifts)
 }
 

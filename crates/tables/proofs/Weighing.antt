@@ -2,7 +2,7 @@
 use Rattle.progress.proofs.Common.{◌≡◌, ℕ, zero, suc, ◌+◌, ◌-◌, ◌*◌, ◌/◌, ◌%◌, ◌<◌, ◌≤◌, true, false, List, [], ◌∷◌, length, take, drop, refl, sym, ap, subst}
 use Rattle.progress.proofs.Common.{◌∙◌, inl, inr, arith, true≢false, mul-le-mul_right, leb_tells, eqb_tells, if◌then◌else◌, Game, count, greatest, Measure}
 use Rattle.progress.proofs.Common.{Top, Counts, components, IsMeasure, IsAtMost, IsProg, Reaches, kept, is_odd, odd_down, Some, option_map, slice_index}
-use Rattle.progress.proofs.Common.{vertex, priority_at, IsProgAt, code, decode, height, size}
+use Rattle.progress.proofs.Common.{vertex, priority_at, IsProgAt, code, decode, height, lists_up_to}
 use Rattle.std.specs.Prelude.{min}
 use Rattle.std.proofs.lemmas.Nat.{div-add-mod', div-mul-add}
 use Rattle.progress.specs.Lifting.{of_rank}
@@ -37,21 +37,21 @@ drop_bounded f (suc k) [] (y ∷ ys) h = absurd h
 drop_bounded f (suc k) (p ∷ ps) [] h = absurd h
 drop_bounded f (suc k) (p ∷ ps) (y ∷ ys) h = drop_bounded f k ps ys h.1
 
-size_split : (f : ℕ → ℕ) (k : ℕ) (ps : List ℕ) → size f ps ≡ size f (take k ps) * size f (drop k ps)
+size_split : (f : ℕ → ℕ) (k : ℕ) (ps : List ℕ) → lists_up_to f ps ≡ lists_up_to f (take k ps) * lists_up_to f (drop k ps)
 size_split f zero ps = omega arith
 size_split f (suc k) [] = refl
 size_split f (suc k) (p ∷ ps) =
-    let q : suc (f p) * size f ps ≡ suc (f p) * (size f (take k ps) * size f (drop k ps)) = ap (λ n. suc (f p) * n) (size_split f k ps) in
+    let q : suc (f p) * lists_up_to f ps ≡ suc (f p) * (lists_up_to f (take k ps) * lists_up_to f (drop k ps)) = ap (λ n. suc (f p) * n) (size_split f k ps) in
     omega (arith, q)
 
-code_split : (f : ℕ → ℕ) (k : ℕ) (ps c : List ℕ) → Bounded f ps c → code f ps c ≡ front f k ps c * size f (drop k ps) + back f k ps c
+code_split : (f : ℕ → ℕ) (k : ℕ) (ps c : List ℕ) → Bounded f ps c → code f ps c ≡ front f k ps c * lists_up_to f (drop k ps) + back f k ps c
 code_split f zero ps c h = omega arith
 code_split f (suc k) [] [] h = refl
 code_split f (suc k) [] (y ∷ ys) h = absurd h
 code_split f (suc k) (p ∷ ps) [] h = absurd h
 code_split f (suc k) (p ∷ ps) (y ∷ ys) h =
     let e = code_split f k ps ys h.1 in
-    let q : y * size f ps ≡ y * (size f (take k ps) * size f (drop k ps)) = ap (λ n. y * n) (size_split f k ps) in
+    let q : y * lists_up_to f ps ≡ y * (lists_up_to f (take k ps) * lists_up_to f (drop k ps)) = ap (λ n. y * n) (size_split f k ps) in
     omega (arith, e, q)
 
 front_rises : (f : ℕ → ℕ) (k : ℕ) (ps c d : List ℕ) → Bounded f ps c → Bounded f ps d → Over true k c d → front f k ps c < front f k ps d
@@ -63,11 +63,11 @@ front_rises f (suc k) (p ∷ ps) [] d h i o = absurd h
 front_rises f (suc k) (p ∷ ps) (x ∷ xs) [] h i o = absurd o
 front_rises f (suc k) (p ∷ ps) (x ∷ xs) (y ∷ ys) h i (inl o) =
     let low = code_bounded f (take k ps) (take k xs) (take_bounded f k ps xs h.1) in
-    let m : suc x * size f (take k ps) ≤ y * size f (take k ps) = mul-le-mul_right (size f (take k ps)) o in
+    let m : suc x * lists_up_to f (take k ps) ≤ y * lists_up_to f (take k ps) = mul-le-mul_right (lists_up_to f (take k ps)) o in
     omega (arith, low, m)
 front_rises f (suc k) (p ∷ ps) (x ∷ xs) (y ∷ ys) h i (inr o) =
     let r = front_rises f k ps xs ys h.1 i.1 o.1 in
-    let e : x * size f (take k ps) ≡ y * size f (take k ps) = ap (λ n. n * size f (take k ps)) o.0 in
+    let e : x * lists_up_to f (take k ps) ≡ y * lists_up_to f (take k ps) = ap (λ n. n * lists_up_to f (take k ps)) o.0 in
     omega (arith, r, e)
 
 front_more : (f : ℕ → ℕ) (k : ℕ) (ps c d : List ℕ) → Bounded f ps c → Bounded f ps d → Over false k c d → front f k ps c ≤ front f k ps d
@@ -79,11 +79,11 @@ front_more f (suc k) (p ∷ ps) [] d h i o = absurd h
 front_more f (suc k) (p ∷ ps) (x ∷ xs) [] h i o = absurd o
 front_more f (suc k) (p ∷ ps) (x ∷ xs) (y ∷ ys) h i (inl o) =
     let low = code_bounded f (take k ps) (take k xs) (take_bounded f k ps xs h.1) in
-    let m : suc x * size f (take k ps) ≤ y * size f (take k ps) = mul-le-mul_right (size f (take k ps)) o in
+    let m : suc x * lists_up_to f (take k ps) ≤ y * lists_up_to f (take k ps) = mul-le-mul_right (lists_up_to f (take k ps)) o in
     omega (arith, low, m)
 front_more f (suc k) (p ∷ ps) (x ∷ xs) (y ∷ ys) h i (inr o) =
     let r = front_more f k ps xs ys h.1 i.1 o.1 in
-    let e : x * size f (take k ps) ≡ y * size f (take k ps) = ap (λ n. n * size f (take k ps)) o.0 in
+    let e : x * lists_up_to f (take k ps) ≡ y * lists_up_to f (take k ps) = ap (λ n. n * lists_up_to f (take k ps)) o.0 in
     omega (arith, r, e)
 
 over_more : (f : ℕ → ℕ) (k : ℕ) (ps c d : List ℕ) → Bounded f ps c → Bounded f ps d → front f k ps c ≤ front f k ps d → Over false k c d
@@ -101,25 +101,25 @@ over_rises f k ps c d h i l = elim (over_either k c d) [
 -- ------------------------------------------------------------------ of a rank
 
 -- the first counts are the quotient
-code_front : (f : ℕ → ℕ) (k : ℕ) (ps c : List ℕ) (n w : ℕ) → Bounded f ps c → code f ps c ≡ n → w ≡ size f (drop k ps) → front f k ps c ≡ n / w
+code_front : (f : ℕ → ℕ) (k : ℕ) (ps c : List ℕ) (n w : ℕ) → Bounded f ps c → code f ps c ≡ n → w ≡ lists_up_to f (drop k ps) → front f k ps c ≡ n / w
 code_front f k ps c n w h e is =
     let low = code_bounded f (drop k ps) (drop k c) (drop_bounded f k ps c h) in
-    sym (div-mul-add (front f k ps c) (size f (drop k ps)) (back f k ps c) low)
-    ∙ (ap (λ m. m / size f (drop k ps)) (sym (code_split f k ps c h) ∙ e) ∙ ap (λ v. n / v) (sym is))
+    sym (div-mul-add (front f k ps c) (lists_up_to f (drop k ps)) (back f k ps c) low)
+    ∙ (ap (λ m. m / lists_up_to f (drop k ps)) (sym (code_split f k ps c h) ∙ e) ∙ ap (λ v. n / v) (sym is))
 
-front_decode : (f : ℕ → ℕ) (k : ℕ) (ps : List ℕ) (n w : ℕ) → n < size f ps → w ≡ size f (drop k ps) → front f k ps (decode f ps n) ≡ n / w
+front_decode : (f : ℕ → ℕ) (k : ℕ) (ps : List ℕ) (n w : ℕ) → n < lists_up_to f ps → w ≡ lists_up_to f (drop k ps) → front f k ps (decode f ps n) ≡ n / w
 front_decode f k ps n w h is = code_front f k ps (decode f ps n) n w (decode_bounded f ps n h) (code_decode f ps n h) is
 
 -- a greater quotient comes with a greater rank
-code_least : (f : ℕ → ℕ) (k : ℕ) (ps c : List ℕ) (q w : ℕ) → Bounded f ps c → w ≡ size f (drop k ps) → q ≤ front f k ps c → q * w ≤ code f ps c
+code_least : (f : ℕ → ℕ) (k : ℕ) (ps c : List ℕ) (q w : ℕ) → Bounded f ps c → w ≡ lists_up_to f (drop k ps) → q ≤ front f k ps c → q * w ≤ code f ps c
 code_least f k ps c q w h is l =
-    let m : q * size f (drop k ps) ≤ front f k ps c * size f (drop k ps) = mul-le-mul_right (size f (drop k ps)) l in
-    let e : q * w ≡ q * size f (drop k ps) = ap (λ v. q * v) is in
+    let m : q * lists_up_to f (drop k ps) ≤ front f k ps c * lists_up_to f (drop k ps) = mul-le-mul_right (lists_up_to f (drop k ps)) l in
+    let e : q * w ≡ q * lists_up_to f (drop k ps) = ap (λ v. q * v) is in
     omega (arith, m, e, code_split f k ps c h)
 
 -- ------------------------------------------------------------------ what is asked for
 
-module _ (g : Game) (p n w : ℕ) (is : w ≡ size (count g) (drop (kept g p) (components g))) where
+module _ (g : Game) (p n w : ℕ) (is : w ≡ lists_up_to (count g) (drop (kept g p) (components g))) where
   abbrev f : ℕ → ℕ
   f = count g
 
@@ -172,8 +172,8 @@ module _ (g : Game) (p n w : ℕ) (is : w ≡ size (count g) (drop (kept g p) (c
       (subst (λ (m : Measure). IsProg g p Top m) (sym (of_rank_top g r i)) (top_prog g p))
 
   -- top's rank has no rest
-  whole : height g ≡ size f (take k ps) * w
-  whole = size_split f k ps ∙ ap (λ v. size f (take k ps) * v) (sym is)
+  whole : height g ≡ lists_up_to f (take k ps) * w
+  whole = size_split f k ps ∙ ap (λ v. lists_up_to f (take k ps) * v) (sym is)
 
   floor_is : n - n % w ≡ n / w * w
   floor_is = let e = div-add-mod' n w in omega (arith, e)
@@ -182,9 +182,9 @@ module _ (g : Game) (p n w : ℕ) (is : w ≡ size (count g) (drop (kept g p) (c
   even_prog even h = elim (leb_tells (height g) n) [
     | inl top ↦ (
         let l = top.1 in
-        let e : n ≡ size f (take k ps) * w = omega (arith, l, h, whole) in
-        let q : n / w ≡ size f (take k ps) = ap (λ m. m / w) e ∙ quotient (size f (take k ps)) in
-        let all : n / w * w ≡ size f (take k ps) * w = ap (λ m. m * w) q in
+        let e : n ≡ lists_up_to f (take k ps) * w = omega (arith, l, h, whole) in
+        let q : n / w ≡ lists_up_to f (take k ps) = ap (λ m. m / w) e ∙ quotient (lists_up_to f (take k ps)) in
+        let all : n / w * w ≡ lists_up_to f (take k ps) * w = ap (λ m. m * w) q in
         of_top (n - n % w) l (omega (arith, all, floor_is, whole)))
     | inr low ↦ (
         let l = low.1 in
@@ -255,17 +255,17 @@ drop_down (suc n) half h = elim (eqb_tells (2 * half) (suc n)) [
       ])
 ]
 
-pub weight_kept : (g : Game) (p : ℕ) → p ≤ greatest g → weight g (p / 2) ≡ size (count g) (drop (kept g p) (components g))
+pub weight_kept : (g : Game) (p : ℕ) → p ≤ greatest g → weight g (p / 2) ≡ lists_up_to (count g) (drop (kept g p) (components g))
 weight_kept g p h =
     let long : kept g p ≡ (greatest g + 1) / 2 - p / 2 = kept_is g p ∙ ap (λ l. l - p / 2) (odd_down_long (greatest g)) in
-    ap (size (count g)) (sym (drop_down (greatest g) (p / 2) (omega (arith, h))) ∙ ap (λ i. drop i (components g)) (sym long))
+    ap (lists_up_to (count g)) (sym (drop_down (greatest g) (p / 2) (omega (arith, h))) ∙ ap (λ i. drop i (components g)) (sym long))
 
 -- one more
 pub weight_next : (g : Game) (half : ℕ) → weight g (half + 1) ≡ weight g half * (count g (2 * half + 1) + 1)
 weight_next g half =
     let twice : 2 * (half + 1) ≡ suc (suc (2 * half)) = omega arith in
     let down : odd_down (2 * (half + 1)) ≡ (2 * half + 1) ∷ odd_down (2 * half) = ap odd_down twice ∙ two in
-    ap (size (count g)) down ∙ omega arith
+    ap (lists_up_to (count g)) down ∙ omega arith
   where
     two : odd_down (suc (suc (2 * half))) ≡ (2 * half + 1) ∷ odd_down (2 * half)
     two = elim (odd_or_even (suc (suc (2 * half)))) [
@@ -284,11 +284,11 @@ pub weight_low : (g : Game) (half : ℕ) → 2 * half ≤ greatest g → weight 
 weight_low g half h =
     let w = weight_kept g (2 * half) h in
     let same : (2 * half) / 2 ≡ half = omega arith in
-    let e : weight g half ≡ size (count g) (drop (kept g (2 * half)) (components g)) = ap (weight g) (sym same) ∙ w in
+    let e : weight g half ≡ lists_up_to (count g) (drop (kept g (2 * half)) (components g)) = ap (weight g) (sym same) ∙ w in
     let all = size_split (count g) (kept g (2 * half)) (components g) in
-    let m : 1 * size (count g) (drop (kept g (2 * half)) (components g)) ≤ size (count g) (take (kept g (2 * half)) (components g)) * size (count g)
+    let m : 1 * lists_up_to (count g) (drop (kept g (2 * half)) (components g)) ≤ lists_up_to (count g) (take (kept g (2 * half)) (components g)) * lists_up_to (count g)
     (drop (kept g (2 * half)) (components g))
-    = mul-le-mul_right (size (count g) (drop (kept g (2 * half)) (components g))) (size_some (count g) (take (kept g (2 * half)) (components g))) in
+    = mul-le-mul_right (lists_up_to (count g) (drop (kept g (2 * half)) (components g))) (size_some (count g) (take (kept g (2 * half)) (components g))) in
     omega (arith, e, all, m)
 
 -- ------------------------------------------------------------------ at a vertex
@@ -301,7 +301,7 @@ is_not_even p odd = elim (odd_or_even p) [ inl o ↦ o.0 | inr o ↦ absurd (odd
 
 pub weight_here : (g : Game) (ws : List ℕ) (v p half : ℕ) → AreWeights g ws → v < length g.vertices → option_map (λ x. x.priority) (vertex g v) ≡ Some p
     → half ≡ p / 2
-    → (half < length ws) × (slice_index ws half ≡ size (count g) (drop (kept g p) (components g)))
+    → (half < length ws) × (slice_index ws half ≡ lists_up_to (count g) (drop (kept g p) (components g)))
 weight_here g ws v p half are h told at = (found.0, found.1 ∙ (ap (weight g) at ∙ weight_kept g p low))
   where
     low : p ≤ greatest g

@@ -17,15 +17,15 @@ abbrev pub Has : Part → ℕ → Type 0
 Has p v = v % p.shards ≡ p.index
 
 -- its measure
-abbrev pub value_in : Part → ℕ → Measure
-value_in p v = value_at p.values (v / p.shards)
+abbrev pub value_of_part : Part → ℕ → Measure
+value_of_part p v = value_at p.values (v / p.shards)
 
 -- a value for each of its vertices, and all of them below
 pub record IsPart (g : Game) (p : Part) : Type 0 where
   pub game : IsGame g
   pub some : 0 < p.shards
   pub long : (v : ℕ) → v < length g.vertices → v / p.shards < length p.values
-  pub below : (v : ℕ) → v < length g.vertices → Has p v → LiesBelow g v (value_in p v)
+  pub below : (v : ℕ) → v < length g.vertices → Has p v → LiesBelow g v (value_of_part p v)
 
 -- a part that is stored in rows of so many counts
 pub record IsStoredPart (g : Game) (p : Part) (width : ℕ) : Type 0 where

@@ -5,7 +5,7 @@ ghost use Rattle.progress.specs.Measure.{IsBelow};
 ghost use Rattle.progress.specs.Progress.{greater_of, opening as opening_of, value_at};
 ghost use Rattle.progress.specs.Tables.{LiesBelow};
 ghost use Rattle.tables.specs.declared.error.TableError.TheVariants as errors;
-ghost use Rattle.tables.specs.Part.{Has, value_in};
+ghost use Rattle.tables.specs.Part.{Has, value_of_part};
 
 use crate::error::TableError;
 use game::graph::Game;
@@ -48,7 +48,7 @@ impl<K: GameName> Shard<K> {
         ensures index { IfOk result (λ s. s.index ≡ index) }
         ensures shards { IfOk result (λ s. s.shards ≡ shards) }
         ensures refused { IfErr result (λ e. e ≡ errors.Memory) }
-        ensures values { IfOk result (λ s. (v : ℕ) → v < length K.game.vertices → Has s v → value_in s v ≡ value_at (opening_of K.game) v) }
+        ensures values { IfOk result (λ s. (v : ℕ) → v < length K.game.vertices → Has s v → value_of_part s v ≡ value_at (opening_of K.game) v) }
     {
         game.known();
         let vertices = game.vertices();
@@ -93,7 +93,7 @@ impl<K: GameName> Shard<K> {
         requires vertex { v < length K.game.vertices }
         requires here { Has self.now v }
         requires place { v / self.now.shards ≡ place }
-        ensures value { result ≡ value_in self.now v }
+        ensures value { result ≡ value_of_part self.now v }
         ensures below { LiesBelow K.game v result }
     {
         let _ = v;
@@ -104,7 +104,7 @@ impl<K: GameName> Shard<K> {
     pub fn read(&self, v: u32) -> Measure
         requires vertex { v < length K.game.vertices }
         requires here { Has self.now v }
-        ensures value { result ≡ value_in self.now v }
+        ensures value { result ≡ value_of_part self.now v }
         ensures below { LiesBelow K.game v result }
     {
         self.read_at(v, v / self.shards)
@@ -118,8 +118,8 @@ impl<K: GameName> Shard<K> {
         requires below { LiesBelow K.game v m.now }
         ensures index { self.new.index ≡ self.old.index }
         ensures shards { self.new.shards ≡ self.old.shards }
-        ensures values { self.new.values ≡ slice_set self.old.values (v / self.old.shards) (greater_of (value_in self.old v) m.now) }
-        ensures rose { IsTrue result ↔ IsBelow (value_in self.old v) m.now }
+        ensures values { self.new.values ≡ slice_set self.old.values (v / self.old.shards) (greater_of (value_of_part self.old v) m.now) }
+        ensures rose { IsTrue result ↔ IsBelow (value_of_part self.old v) m.now }
     {
         let _ = v;
         let place = place as usize;
@@ -137,8 +137,8 @@ impl<K: GameName> Shard<K> {
         requires below { LiesBelow K.game v m.now }
         ensures index { self.new.index ≡ self.old.index }
         ensures shards { self.new.shards ≡ self.old.shards }
-        ensures values { self.new.values ≡ slice_set self.old.values (v / self.old.shards) (greater_of (value_in self.old v) m.now) }
-        ensures rose { IsTrue result ↔ IsBelow (value_in self.old v) m.now }
+        ensures values { self.new.values ≡ slice_set self.old.values (v / self.old.shards) (greater_of (value_of_part self.old v) m.now) }
+        ensures rose { IsTrue result ↔ IsBelow (value_of_part self.old v) m.now }
     {
         self.raise_at(v, v / self.shards, m)
     }

@@ -3,6 +3,10 @@ use Rattle.std.specs.Prelude.{ℕ, List, [], ◌∷◌, ◌++◌, decimal}
 use Rattle.text.specs.declared.write_loop.Piece.{Piece}
 use Rattle.text.specs.declared.write_loop.Piece.TheVariants.{Bytes, Number}
 
+-- the end of a line: LF
+abbrev pub line_end : List ℕ
+line_end = 10 ∷ []
+
 -- the bytes of a piece
 abbrev pub piece_text : Piece → List ℕ
 piece_text (Bytes bytes) = bytes.now

@@ -17,7 +17,7 @@ use Rattle.progress.proofs.Measures.{at_most_itself, at_most_top, top_prog}
 use Rattle.progress.proofs.Monotone.{lift_one}
 use Rattle.liftcore.specs.Core.{Core, Note, Worker, Idle, Holding, Owing, is_quiet, start}
 use Rattle.game.specs.Predecessors.{predecessors}
-use Rattle.liftcore.specs.Step.{Takes, Reads, Raises, Pushes, Skips, Step, Steps}
+use Rattle.liftcore.specs.Step.{TakesVertex, ReadsVertex, Raises, Pushes, Skips, Step, Steps}
 use Rattle.liftcore.specs.declared.event.Event.{Event}
 use Rattle.liftcore.specs.declared.event.Event.TheVariants.{Take, Read, Raise, Push}
 use Rattle.vectors.specs.Systems.{two_states}
@@ -30,8 +30,8 @@ number k = Counts (k ∷ [])
 abbrev pub note : ℕ → Measure → Note
 note v m = record { vertex = v; value = m }
 
-abbrev pub core_of : Game → List Measure → List ℕ → List Worker → Core
-core_of g values pending workers = record { table = record { game = g; values = values }; pending = pending; workers = workers }
+abbrev pub core_with : Game → List Measure → List ℕ → List Worker → Core
+core_with g values pending workers = record { table = record { game = g; values = values }; pending = pending; workers = workers }
 
 abbrev pub two_of_two : ℕ × ℕ
 two_of_two = (2, 2)
@@ -51,18 +51,18 @@ abbrev two_of_three : ℕ × ℕ
 two_of_three = (2, 3)
 
 -- <a><a>true on it
-abbrev pub two : Game
-two = record {
+abbrev pub two_steps : Game
+two_steps = record {
   vertices = vertex_at 0 Even (0 ∷ []) ∷ vertex_at 1 Even (1 ∷ []) ∷ vertex_at 0 Even (6 ∷ []) ∷ vertex_at 0 Even (7 ∷ []) ∷ vertex_at 0 Even
       (0 ∷ []) ∷ vertex_at 0 Even (1 ∷ [])
       ∷ vertex_at 0 Even (1 ∷ []) ∷ vertex_at 0 Even (0 ∷ []) ∷ [];
   named = Some two_of_three;
 }
 
-arena_two : arena two_states (nodes (Dia (tree.Step name_a) (Dia (tree.Step name_a) True))) ≡ two
+arena_two : arena two_states (nodes (Dia (tree.Step name_a) (Dia (tree.Step name_a) True))) ≡ two_steps
 arena_two = refl
 
-predecessors_two : (predecessors two 6 ≡ 2 ∷ []) × (predecessors two 1 ≡ 1 ∷ 5 ∷ 6 ∷ []) × (predecessors two 2 ≡ [])
+predecessors_two : (predecessors two_steps 6 ≡ 2 ∷ []) × (predecessors two_steps 1 ≡ 1 ∷ 5 ∷ 6 ∷ []) × (predecessors two_steps 2 ≡ [])
 unfolding predecessors
 predecessors_two = (refl, refl, refl)
 
@@ -75,10 +75,10 @@ zero_one = record { measure = (omega arith, tt); reaches = at_most_itself (numbe
     least (Counts (j ∷ [])) i r = r
     least (Counts (j ∷ l ∷ c)) i r = absurd i.1
 
-zero_two : IsProg two 0 (number 0) (number 0)
+zero_two : IsProg two_steps 0 (number 0) (number 0)
 zero_two = record { measure = (omega arith, tt); reaches = at_most_itself (number 0); least = least }
   where
-    least : (x : Measure) → IsMeasure two x → Reaches two 0 (number 0) x → IsAtMost (number 0) x
+    least : (x : Measure) → IsMeasure two_steps x → Reaches two_steps 0 (number 0) x → IsAtMost (number 0) x
     least Top i r = at_most_top (number 0)
     least (Counts []) i r = absurd i
     least (Counts (j ∷ [])) i r = r
@@ -89,15 +89,15 @@ abbrev first_0 : Core
 first_0 = start one 2
 
 abbrev first_1 : Core
-first_1 = core_of one (number 0 ∷ Top ∷ number 0 ∷ number 0 ∷ number 0 ∷ number 0 ∷ []) (0 ∷ 1 ∷ 2 ∷ 3 ∷ 5 ∷ []) (Holding 4 ([]) ∷ Idle ∷ [])
+first_1 = core_with one (number 0 ∷ Top ∷ number 0 ∷ number 0 ∷ number 0 ∷ number 0 ∷ []) (0 ∷ 1 ∷ 2 ∷ 3 ∷ 5 ∷ []) (Holding 4 ([]) ∷ Idle ∷ [])
 
-first_step_1 : Takes first_0 0 4 first_1
+first_step_1 : TakesVertex first_0 0 4 first_1
 first_step_1 = record { idle = refl; pending = (4, omega arith, refl); effect = refl }
 
 abbrev first_2 : Core
-first_2 = core_of one (number 0 ∷ Top ∷ number 0 ∷ number 0 ∷ number 0 ∷ number 0 ∷ []) (0 ∷ 1 ∷ 2 ∷ 3 ∷ 5 ∷ []) (Holding 4 (note 1 (Top) ∷ []) ∷ Idle ∷ [])
+first_2 = core_with one (number 0 ∷ Top ∷ number 0 ∷ number 0 ∷ number 0 ∷ number 0 ∷ []) (0 ∷ 1 ∷ 2 ∷ 3 ∷ 5 ∷ []) (Holding 4 (note 1 (Top) ∷ []) ∷ Idle ∷ [])
 
-first_step_2 : Reads first_1 0 1 first_2
+first_step_2 : ReadsVertex first_1 0 1 first_2
 first_step_2 = record {
   u = 4;
   notes = [];
@@ -110,7 +110,7 @@ first_step_2 = record {
 }
 
 abbrev first_3 : Core
-first_3 = core_of one (number 0 ∷ Top ∷ number 0 ∷ number 0 ∷ Top ∷ number 0 ∷ []) (0 ∷ 1 ∷ 2 ∷ 3 ∷ 5 ∷ []) (Idle ∷ Idle ∷ [])
+first_3 = core_with one (number 0 ∷ Top ∷ number 0 ∷ number 0 ∷ Top ∷ number 0 ∷ []) (0 ∷ 1 ∷ 2 ∷ 3 ∷ 5 ∷ []) (Idle ∷ Idle ∷ [])
 
 first_step_3 : Raises first_2 0 first_3
 unfolding predecessors
@@ -138,20 +138,20 @@ first_steps = (first_1, first_step_1, (first_2, first_step_2, (first_3, first_st
 
 -- thirteen events of two workers, of which the sixth raises by a late value
 abbrev late_0 : Core
-late_0 = start two 2
+late_0 = start two_steps 2
 
 abbrev late_1 : Core
-late_1 = core_of two (number 0 ∷ Top ∷ number 0 ∷ number 0 ∷ number 0 ∷ number 0 ∷ number 0 ∷ number 0 ∷ []) (0 ∷ 1 ∷ 3 ∷ 4 ∷ 5 ∷ 6 ∷ 7 ∷ [])
+late_1 = core_with two_steps (number 0 ∷ Top ∷ number 0 ∷ number 0 ∷ number 0 ∷ number 0 ∷ number 0 ∷ number 0 ∷ []) (0 ∷ 1 ∷ 3 ∷ 4 ∷ 5 ∷ 6 ∷ 7 ∷ [])
     (Holding 2 ([]) ∷ Idle ∷ [])
 
-late_step_1 : Takes late_0 0 2 late_1
+late_step_1 : TakesVertex late_0 0 2 late_1
 late_step_1 = record { idle = refl; pending = (2, omega arith, refl); effect = refl }
 
 abbrev late_2 : Core
-late_2 = core_of two (number 0 ∷ Top ∷ number 0 ∷ number 0 ∷ number 0 ∷ number 0 ∷ number 0 ∷ number 0 ∷ []) (0 ∷ 1 ∷ 3 ∷ 4 ∷ 5 ∷ 6 ∷ 7 ∷ [])
+late_2 = core_with two_steps (number 0 ∷ Top ∷ number 0 ∷ number 0 ∷ number 0 ∷ number 0 ∷ number 0 ∷ number 0 ∷ []) (0 ∷ 1 ∷ 3 ∷ 4 ∷ 5 ∷ 6 ∷ 7 ∷ [])
     (Holding 2 (note 6 (number 0) ∷ []) ∷ Idle ∷ [])
 
-late_step_2 : Reads late_1 0 6 late_2
+late_step_2 : ReadsVertex late_1 0 6 late_2
 late_step_2 = record {
   u = 2;
   notes = [];
@@ -164,17 +164,17 @@ late_step_2 = record {
 }
 
 abbrev late_3 : Core
-late_3 = core_of two (number 0 ∷ Top ∷ number 0 ∷ number 0 ∷ number 0 ∷ number 0 ∷ number 0 ∷ number 0 ∷ []) (0 ∷ 1 ∷ 3 ∷ 4 ∷ 5 ∷ 7 ∷ [])
+late_3 = core_with two_steps (number 0 ∷ Top ∷ number 0 ∷ number 0 ∷ number 0 ∷ number 0 ∷ number 0 ∷ number 0 ∷ []) (0 ∷ 1 ∷ 3 ∷ 4 ∷ 5 ∷ 7 ∷ [])
     (Holding 2 (note 6 (number 0) ∷ []) ∷ Holding 6 ([]) ∷ [])
 
-late_step_3 : Takes late_2 1 6 late_3
+late_step_3 : TakesVertex late_2 1 6 late_3
 late_step_3 = record { idle = refl; pending = (5, omega arith, refl); effect = refl }
 
 abbrev late_4 : Core
-late_4 = core_of two (number 0 ∷ Top ∷ number 0 ∷ number 0 ∷ number 0 ∷ number 0 ∷ number 0 ∷ number 0 ∷ []) (0 ∷ 1 ∷ 3 ∷ 4 ∷ 5 ∷ 7 ∷ [])
+late_4 = core_with two_steps (number 0 ∷ Top ∷ number 0 ∷ number 0 ∷ number 0 ∷ number 0 ∷ number 0 ∷ number 0 ∷ []) (0 ∷ 1 ∷ 3 ∷ 4 ∷ 5 ∷ 7 ∷ [])
     (Holding 2 (note 6 (number 0) ∷ []) ∷ Holding 6 (note 1 (Top) ∷ []) ∷ [])
 
-late_step_4 : Reads late_3 1 1 late_4
+late_step_4 : ReadsVertex late_3 1 1 late_4
 late_step_4 = record {
   u = 6;
   notes = [];
@@ -187,7 +187,7 @@ late_step_4 = record {
 }
 
 abbrev late_5 : Core
-late_5 = core_of two (number 0 ∷ Top ∷ number 0 ∷ number 0 ∷ number 0 ∷ number 0 ∷ Top ∷ number 0 ∷ []) (0 ∷ 1 ∷ 3 ∷ 4 ∷ 5 ∷ 7 ∷ [])
+late_5 = core_with two_steps (number 0 ∷ Top ∷ number 0 ∷ number 0 ∷ number 0 ∷ number 0 ∷ Top ∷ number 0 ∷ []) (0 ∷ 1 ∷ 3 ∷ 4 ∷ 5 ∷ 7 ∷ [])
     (Holding 2 (note 6 (number 0) ∷ []) ∷ Owing (2 ∷ []) ∷ [])
 
 late_step_5 : Raises late_4 1 late_5
@@ -201,12 +201,12 @@ late_step_5 = record {
   holds = refl;
   held = refl;
   read = (refl, tt);
-  lift = ((Top) ∷ [], Top, (top_prog two 0, tt), best_single Even (Top), refl);
+  lift = ((Top) ∷ [], Top, (top_prog two_steps 0, tt), best_single Even (Top), refl);
   effect = refl;
 }
 
 abbrev late_6 : Core
-late_6 = core_of two (number 0 ∷ Top ∷ number 0 ∷ number 0 ∷ number 0 ∷ number 0 ∷ Top ∷ number 0 ∷ []) (0 ∷ 1 ∷ 3 ∷ 4 ∷ 5 ∷ 7 ∷ [])
+late_6 = core_with two_steps (number 0 ∷ Top ∷ number 0 ∷ number 0 ∷ number 0 ∷ number 0 ∷ Top ∷ number 0 ∷ []) (0 ∷ 1 ∷ 3 ∷ 4 ∷ 5 ∷ 7 ∷ [])
     (Idle ∷ Owing (2 ∷ []) ∷ [])
 
 late_step_6 : Raises late_5 0 late_6
@@ -225,23 +225,23 @@ late_step_6 = record {
 }
 
 abbrev late_7 : Core
-late_7 = core_of two (number 0 ∷ Top ∷ number 0 ∷ number 0 ∷ number 0 ∷ number 0 ∷ Top ∷ number 0 ∷ []) (0 ∷ 1 ∷ 2 ∷ 3 ∷ 4 ∷ 5 ∷ 7 ∷ []) (Idle ∷ Idle ∷ [])
+late_7 = core_with two_steps (number 0 ∷ Top ∷ number 0 ∷ number 0 ∷ number 0 ∷ number 0 ∷ Top ∷ number 0 ∷ []) (0 ∷ 1 ∷ 2 ∷ 3 ∷ 4 ∷ 5 ∷ 7 ∷ []) (Idle ∷ Idle ∷ [])
 
 late_step_7 : Pushes late_6 1 2 late_7
 late_step_7 = record { owed = 2 ∷ []; owes = refl; among = (0, omega arith, refl); effect = refl }
 
 abbrev late_8 : Core
-late_8 = core_of two (number 0 ∷ Top ∷ number 0 ∷ number 0 ∷ number 0 ∷ number 0 ∷ Top ∷ number 0 ∷ []) (0 ∷ 1 ∷ 3 ∷ 4 ∷ 5 ∷ 7 ∷ [])
+late_8 = core_with two_steps (number 0 ∷ Top ∷ number 0 ∷ number 0 ∷ number 0 ∷ number 0 ∷ Top ∷ number 0 ∷ []) (0 ∷ 1 ∷ 3 ∷ 4 ∷ 5 ∷ 7 ∷ [])
     (Holding 2 ([]) ∷ Idle ∷ [])
 
-late_step_8 : Takes late_7 0 2 late_8
+late_step_8 : TakesVertex late_7 0 2 late_8
 late_step_8 = record { idle = refl; pending = (2, omega arith, refl); effect = refl }
 
 abbrev late_9 : Core
-late_9 = core_of two (number 0 ∷ Top ∷ number 0 ∷ number 0 ∷ number 0 ∷ number 0 ∷ Top ∷ number 0 ∷ []) (0 ∷ 1 ∷ 3 ∷ 4 ∷ 5 ∷ 7 ∷ [])
+late_9 = core_with two_steps (number 0 ∷ Top ∷ number 0 ∷ number 0 ∷ number 0 ∷ number 0 ∷ Top ∷ number 0 ∷ []) (0 ∷ 1 ∷ 3 ∷ 4 ∷ 5 ∷ 7 ∷ [])
     (Holding 2 (note 6 (Top) ∷ []) ∷ Idle ∷ [])
 
-late_step_9 : Reads late_8 0 6 late_9
+late_step_9 : ReadsVertex late_8 0 6 late_9
 late_step_9 = record {
   u = 2;
   notes = [];
@@ -254,7 +254,7 @@ late_step_9 = record {
 }
 
 abbrev late_10 : Core
-late_10 = core_of two (number 0 ∷ Top ∷ Top ∷ number 0 ∷ number 0 ∷ number 0 ∷ Top ∷ number 0 ∷ []) (0 ∷ 1 ∷ 3 ∷ 4 ∷ 5 ∷ 7 ∷ []) (Idle ∷ Idle ∷ [])
+late_10 = core_with two_steps (number 0 ∷ Top ∷ Top ∷ number 0 ∷ number 0 ∷ number 0 ∷ Top ∷ number 0 ∷ []) (0 ∷ 1 ∷ 3 ∷ 4 ∷ 5 ∷ 7 ∷ []) (Idle ∷ Idle ∷ [])
 
 late_step_10 : Raises late_9 0 late_10
 unfolding predecessors
@@ -267,21 +267,21 @@ late_step_10 = record {
   holds = refl;
   held = refl;
   read = (refl, tt);
-  lift = ((Top) ∷ [], Top, (top_prog two 0, tt), best_single Even (Top), refl);
+  lift = ((Top) ∷ [], Top, (top_prog two_steps 0, tt), best_single Even (Top), refl);
   effect = refl;
 }
 
 abbrev late_11 : Core
-late_11 = core_of two (number 0 ∷ Top ∷ Top ∷ number 0 ∷ number 0 ∷ number 0 ∷ Top ∷ number 0 ∷ []) (0 ∷ 1 ∷ 3 ∷ 4 ∷ 7 ∷ []) (Idle ∷ Holding 5 ([]) ∷ [])
+late_11 = core_with two_steps (number 0 ∷ Top ∷ Top ∷ number 0 ∷ number 0 ∷ number 0 ∷ Top ∷ number 0 ∷ []) (0 ∷ 1 ∷ 3 ∷ 4 ∷ 7 ∷ []) (Idle ∷ Holding 5 ([]) ∷ [])
 
-late_step_11 : Takes late_10 1 5 late_11
+late_step_11 : TakesVertex late_10 1 5 late_11
 late_step_11 = record { idle = refl; pending = (4, omega arith, refl); effect = refl }
 
 abbrev late_12 : Core
-late_12 = core_of two (number 0 ∷ Top ∷ Top ∷ number 0 ∷ number 0 ∷ number 0 ∷ Top ∷ number 0 ∷ []) (0 ∷ 1 ∷ 3 ∷ 4 ∷ 7 ∷ [])
+late_12 = core_with two_steps (number 0 ∷ Top ∷ Top ∷ number 0 ∷ number 0 ∷ number 0 ∷ Top ∷ number 0 ∷ []) (0 ∷ 1 ∷ 3 ∷ 4 ∷ 7 ∷ [])
     (Idle ∷ Holding 5 (note 1 (Top) ∷ []) ∷ [])
 
-late_step_12 : Reads late_11 1 1 late_12
+late_step_12 : ReadsVertex late_11 1 1 late_12
 late_step_12 = record {
   u = 5;
   notes = [];
@@ -294,7 +294,7 @@ late_step_12 = record {
 }
 
 abbrev late_13 : Core
-late_13 = core_of two (number 0 ∷ Top ∷ Top ∷ number 0 ∷ number 0 ∷ Top ∷ Top ∷ number 0 ∷ []) (0 ∷ 1 ∷ 3 ∷ 4 ∷ 7 ∷ []) (Idle ∷ Idle ∷ [])
+late_13 = core_with two_steps (number 0 ∷ Top ∷ Top ∷ number 0 ∷ number 0 ∷ Top ∷ Top ∷ number 0 ∷ []) (0 ∷ 1 ∷ 3 ∷ 4 ∷ 7 ∷ []) (Idle ∷ Idle ∷ [])
 
 late_step_13 : Raises late_12 1 late_13
 unfolding predecessors
@@ -307,7 +307,7 @@ late_step_13 = record {
   holds = refl;
   held = refl;
   read = (refl, tt);
-  lift = ((Top) ∷ [], Top, (top_prog two 0, tt), best_single Even (Top), refl);
+  lift = ((Top) ∷ [], Top, (top_prog two_steps 0, tt), best_single Even (Top), refl);
   effect = refl;
 }
 
@@ -361,15 +361,15 @@ abbrev each_0 : Core
 each_0 = start one 2
 
 abbrev each_1 : Core
-each_1 = core_of one (number 0 ∷ Top ∷ number 0 ∷ number 0 ∷ number 0 ∷ number 0 ∷ []) (1 ∷ 2 ∷ 3 ∷ 4 ∷ 5 ∷ []) (Holding 0 ([]) ∷ Idle ∷ [])
+each_1 = core_with one (number 0 ∷ Top ∷ number 0 ∷ number 0 ∷ number 0 ∷ number 0 ∷ []) (1 ∷ 2 ∷ 3 ∷ 4 ∷ 5 ∷ []) (Holding 0 ([]) ∷ Idle ∷ [])
 
-each_step_1 : Takes each_0 0 0 each_1
+each_step_1 : TakesVertex each_0 0 0 each_1
 each_step_1 = record { idle = refl; pending = (0, omega arith, refl); effect = refl }
 
 abbrev each_2 : Core
-each_2 = core_of one (number 0 ∷ Top ∷ number 0 ∷ number 0 ∷ number 0 ∷ number 0 ∷ []) (1 ∷ 2 ∷ 3 ∷ 4 ∷ 5 ∷ []) (Holding 0 (note 0 (number 0) ∷ []) ∷ Idle ∷ [])
+each_2 = core_with one (number 0 ∷ Top ∷ number 0 ∷ number 0 ∷ number 0 ∷ number 0 ∷ []) (1 ∷ 2 ∷ 3 ∷ 4 ∷ 5 ∷ []) (Holding 0 (note 0 (number 0) ∷ []) ∷ Idle ∷ [])
 
-each_step_2 : Reads each_1 0 0 each_2
+each_step_2 : ReadsVertex each_1 0 0 each_2
 each_step_2 = record {
   u = 0;
   notes = [];
@@ -382,7 +382,7 @@ each_step_2 = record {
 }
 
 abbrev each_3 : Core
-each_3 = core_of one (number 0 ∷ Top ∷ number 0 ∷ number 0 ∷ number 0 ∷ number 0 ∷ []) (1 ∷ 2 ∷ 3 ∷ 4 ∷ 5 ∷ []) (Idle ∷ Idle ∷ [])
+each_3 = core_with one (number 0 ∷ Top ∷ number 0 ∷ number 0 ∷ number 0 ∷ number 0 ∷ []) (1 ∷ 2 ∷ 3 ∷ 4 ∷ 5 ∷ []) (Idle ∷ Idle ∷ [])
 
 each_step_3 : Raises each_2 0 each_3
 unfolding predecessors
@@ -400,15 +400,15 @@ each_step_3 = record {
 }
 
 abbrev each_4 : Core
-each_4 = core_of one (number 0 ∷ Top ∷ number 0 ∷ number 0 ∷ number 0 ∷ number 0 ∷ []) (2 ∷ 3 ∷ 4 ∷ 5 ∷ []) (Holding 1 ([]) ∷ Idle ∷ [])
+each_4 = core_with one (number 0 ∷ Top ∷ number 0 ∷ number 0 ∷ number 0 ∷ number 0 ∷ []) (2 ∷ 3 ∷ 4 ∷ 5 ∷ []) (Holding 1 ([]) ∷ Idle ∷ [])
 
-each_step_4 : Takes each_3 0 1 each_4
+each_step_4 : TakesVertex each_3 0 1 each_4
 each_step_4 = record { idle = refl; pending = (0, omega arith, refl); effect = refl }
 
 abbrev each_5 : Core
-each_5 = core_of one (number 0 ∷ Top ∷ number 0 ∷ number 0 ∷ number 0 ∷ number 0 ∷ []) (2 ∷ 3 ∷ 4 ∷ 5 ∷ []) (Holding 1 (note 1 (Top) ∷ []) ∷ Idle ∷ [])
+each_5 = core_with one (number 0 ∷ Top ∷ number 0 ∷ number 0 ∷ number 0 ∷ number 0 ∷ []) (2 ∷ 3 ∷ 4 ∷ 5 ∷ []) (Holding 1 (note 1 (Top) ∷ []) ∷ Idle ∷ [])
 
-each_step_5 : Reads each_4 0 1 each_5
+each_step_5 : ReadsVertex each_4 0 1 each_5
 each_step_5 = record {
   u = 1;
   notes = [];
@@ -421,7 +421,7 @@ each_step_5 = record {
 }
 
 abbrev each_6 : Core
-each_6 = core_of one (number 0 ∷ Top ∷ number 0 ∷ number 0 ∷ number 0 ∷ number 0 ∷ []) (2 ∷ 3 ∷ 4 ∷ 5 ∷ []) (Idle ∷ Idle ∷ [])
+each_6 = core_with one (number 0 ∷ Top ∷ number 0 ∷ number 0 ∷ number 0 ∷ number 0 ∷ []) (2 ∷ 3 ∷ 4 ∷ 5 ∷ []) (Idle ∷ Idle ∷ [])
 
 each_step_6 : Raises each_5 0 each_6
 unfolding predecessors
@@ -439,15 +439,15 @@ each_step_6 = record {
 }
 
 abbrev each_7 : Core
-each_7 = core_of one (number 0 ∷ Top ∷ number 0 ∷ number 0 ∷ number 0 ∷ number 0 ∷ []) (3 ∷ 4 ∷ 5 ∷ []) (Holding 2 ([]) ∷ Idle ∷ [])
+each_7 = core_with one (number 0 ∷ Top ∷ number 0 ∷ number 0 ∷ number 0 ∷ number 0 ∷ []) (3 ∷ 4 ∷ 5 ∷ []) (Holding 2 ([]) ∷ Idle ∷ [])
 
-each_step_7 : Takes each_6 0 2 each_7
+each_step_7 : TakesVertex each_6 0 2 each_7
 each_step_7 = record { idle = refl; pending = (0, omega arith, refl); effect = refl }
 
 abbrev each_8 : Core
-each_8 = core_of one (number 0 ∷ Top ∷ number 0 ∷ number 0 ∷ number 0 ∷ number 0 ∷ []) (3 ∷ 4 ∷ 5 ∷ []) (Holding 2 (note 5 (number 0) ∷ []) ∷ Idle ∷ [])
+each_8 = core_with one (number 0 ∷ Top ∷ number 0 ∷ number 0 ∷ number 0 ∷ number 0 ∷ []) (3 ∷ 4 ∷ 5 ∷ []) (Holding 2 (note 5 (number 0) ∷ []) ∷ Idle ∷ [])
 
-each_step_8 : Reads each_7 0 5 each_8
+each_step_8 : ReadsVertex each_7 0 5 each_8
 each_step_8 = record {
   u = 2;
   notes = [];
@@ -460,7 +460,7 @@ each_step_8 = record {
 }
 
 abbrev each_9 : Core
-each_9 = core_of one (number 0 ∷ Top ∷ number 0 ∷ number 0 ∷ number 0 ∷ number 0 ∷ []) (3 ∷ 4 ∷ 5 ∷ []) (Idle ∷ Idle ∷ [])
+each_9 = core_with one (number 0 ∷ Top ∷ number 0 ∷ number 0 ∷ number 0 ∷ number 0 ∷ []) (3 ∷ 4 ∷ 5 ∷ []) (Idle ∷ Idle ∷ [])
 
 each_step_9 : Raises each_8 0 each_9
 unfolding predecessors
@@ -478,15 +478,15 @@ each_step_9 = record {
 }
 
 abbrev each_10 : Core
-each_10 = core_of one (number 0 ∷ Top ∷ number 0 ∷ number 0 ∷ number 0 ∷ number 0 ∷ []) (4 ∷ 5 ∷ []) (Holding 3 ([]) ∷ Idle ∷ [])
+each_10 = core_with one (number 0 ∷ Top ∷ number 0 ∷ number 0 ∷ number 0 ∷ number 0 ∷ []) (4 ∷ 5 ∷ []) (Holding 3 ([]) ∷ Idle ∷ [])
 
-each_step_10 : Takes each_9 0 3 each_10
+each_step_10 : TakesVertex each_9 0 3 each_10
 each_step_10 = record { idle = refl; pending = (0, omega arith, refl); effect = refl }
 
 abbrev each_11 : Core
-each_11 = core_of one (number 0 ∷ Top ∷ number 0 ∷ number 0 ∷ number 0 ∷ number 0 ∷ []) (4 ∷ 5 ∷ []) (Holding 3 (note 0 (number 0) ∷ []) ∷ Idle ∷ [])
+each_11 = core_with one (number 0 ∷ Top ∷ number 0 ∷ number 0 ∷ number 0 ∷ number 0 ∷ []) (4 ∷ 5 ∷ []) (Holding 3 (note 0 (number 0) ∷ []) ∷ Idle ∷ [])
 
-each_step_11 : Reads each_10 0 0 each_11
+each_step_11 : ReadsVertex each_10 0 0 each_11
 each_step_11 = record {
   u = 3;
   notes = [];
@@ -499,7 +499,7 @@ each_step_11 = record {
 }
 
 abbrev each_12 : Core
-each_12 = core_of one (number 0 ∷ Top ∷ number 0 ∷ number 0 ∷ number 0 ∷ number 0 ∷ []) (4 ∷ 5 ∷ []) (Idle ∷ Idle ∷ [])
+each_12 = core_with one (number 0 ∷ Top ∷ number 0 ∷ number 0 ∷ number 0 ∷ number 0 ∷ []) (4 ∷ 5 ∷ []) (Idle ∷ Idle ∷ [])
 
 each_step_12 : Raises each_11 0 each_12
 unfolding predecessors
@@ -517,15 +517,15 @@ each_step_12 = record {
 }
 
 abbrev each_13 : Core
-each_13 = core_of one (number 0 ∷ Top ∷ number 0 ∷ number 0 ∷ number 0 ∷ number 0 ∷ []) (5 ∷ []) (Holding 4 ([]) ∷ Idle ∷ [])
+each_13 = core_with one (number 0 ∷ Top ∷ number 0 ∷ number 0 ∷ number 0 ∷ number 0 ∷ []) (5 ∷ []) (Holding 4 ([]) ∷ Idle ∷ [])
 
-each_step_13 : Takes each_12 0 4 each_13
+each_step_13 : TakesVertex each_12 0 4 each_13
 each_step_13 = record { idle = refl; pending = (0, omega arith, refl); effect = refl }
 
 abbrev each_14 : Core
-each_14 = core_of one (number 0 ∷ Top ∷ number 0 ∷ number 0 ∷ number 0 ∷ number 0 ∷ []) (5 ∷ []) (Holding 4 (note 1 (Top) ∷ []) ∷ Idle ∷ [])
+each_14 = core_with one (number 0 ∷ Top ∷ number 0 ∷ number 0 ∷ number 0 ∷ number 0 ∷ []) (5 ∷ []) (Holding 4 (note 1 (Top) ∷ []) ∷ Idle ∷ [])
 
-each_step_14 : Reads each_13 0 1 each_14
+each_step_14 : ReadsVertex each_13 0 1 each_14
 each_step_14 = record {
   u = 4;
   notes = [];
@@ -538,7 +538,7 @@ each_step_14 = record {
 }
 
 abbrev each_15 : Core
-each_15 = core_of one (number 0 ∷ Top ∷ number 0 ∷ number 0 ∷ Top ∷ number 0 ∷ []) (5 ∷ []) (Idle ∷ Idle ∷ [])
+each_15 = core_with one (number 0 ∷ Top ∷ number 0 ∷ number 0 ∷ Top ∷ number 0 ∷ []) (5 ∷ []) (Idle ∷ Idle ∷ [])
 
 each_step_15 : Raises each_14 0 each_15
 unfolding predecessors
@@ -556,15 +556,15 @@ each_step_15 = record {
 }
 
 abbrev each_16 : Core
-each_16 = core_of one (number 0 ∷ Top ∷ number 0 ∷ number 0 ∷ Top ∷ number 0 ∷ []) ([]) (Holding 5 ([]) ∷ Idle ∷ [])
+each_16 = core_with one (number 0 ∷ Top ∷ number 0 ∷ number 0 ∷ Top ∷ number 0 ∷ []) ([]) (Holding 5 ([]) ∷ Idle ∷ [])
 
-each_step_16 : Takes each_15 0 5 each_16
+each_step_16 : TakesVertex each_15 0 5 each_16
 each_step_16 = record { idle = refl; pending = (0, omega arith, refl); effect = refl }
 
 abbrev each_17 : Core
-each_17 = core_of one (number 0 ∷ Top ∷ number 0 ∷ number 0 ∷ Top ∷ number 0 ∷ []) ([]) (Holding 5 (note 0 (number 0) ∷ []) ∷ Idle ∷ [])
+each_17 = core_with one (number 0 ∷ Top ∷ number 0 ∷ number 0 ∷ Top ∷ number 0 ∷ []) ([]) (Holding 5 (note 0 (number 0) ∷ []) ∷ Idle ∷ [])
 
-each_step_17 : Reads each_16 0 0 each_17
+each_step_17 : ReadsVertex each_16 0 0 each_17
 each_step_17 = record {
   u = 5;
   notes = [];
@@ -577,7 +577,7 @@ each_step_17 = record {
 }
 
 abbrev each_18 : Core
-each_18 = core_of one (number 0 ∷ Top ∷ number 0 ∷ number 0 ∷ Top ∷ number 0 ∷ []) ([]) (Idle ∷ Idle ∷ [])
+each_18 = core_with one (number 0 ∷ Top ∷ number 0 ∷ number 0 ∷ Top ∷ number 0 ∷ []) ([]) (Idle ∷ Idle ∷ [])
 
 each_step_18 : Raises each_17 0 each_18
 unfolding predecessors
@@ -707,29 +707,29 @@ first_settled = (
 abbrev pub late_table : List Measure
 late_table = number 0 ∷ Top ∷ Top ∷ number 0 ∷ number 0 ∷ Top ∷ Top ∷ number 0 ∷ []
 
-pub late_settled : IsProgress two late_table
+pub late_settled : IsProgress two_steps late_table
 late_settled = (
   (refl, ((omega arith, tt), (tt, (tt, ((omega arith, tt), ((omega arith, tt), (tt, (tt, ((omega arith, tt), tt))))))))),
-  λ v r lift. lift_one two late_table v r (value_at late_table v) lift (holds_from (λ u. IsLiftAt two late_table u (value_at late_table u)) 0 8 (
-    single two late_table 0 0 0 Even (number 0) refl (zero_two),
+  λ v r lift. lift_one two_steps late_table v r (value_at late_table v) lift (holds_from (λ u. IsLiftAt two_steps late_table u (value_at late_table u)) 0 8 (
+    single two_steps late_table 0 0 0 Even (number 0) refl (zero_two),
     (
-      single two late_table 1 1 1 Even (Top) refl (top_prog two 1),
+      single two_steps late_table 1 1 1 Even (Top) refl (top_prog two_steps 1),
       (
-        single two late_table 2 0 6 Even (Top) refl (top_prog two 0),
+        single two_steps late_table 2 0 6 Even (Top) refl (top_prog two_steps 0),
         (
-          single two late_table 3 0 7 Even (number 0) refl (zero_two),
+          single two_steps late_table 3 0 7 Even (number 0) refl (zero_two),
           (
-            single two late_table 4 0 0 Even (number 0) refl (zero_two),
+            single two_steps late_table 4 0 0 Even (number 0) refl (zero_two),
             (
-              single two late_table 5 0 1 Even (Top) refl (top_prog two 0),
-              (single two late_table 6 0 1 Even (Top) refl (top_prog two 0), (single two late_table 7 0 0 Even (number 0) refl (zero_two), tt)),
+              single two_steps late_table 5 0 1 Even (Top) refl (top_prog two_steps 0),
+              (single two_steps late_table 6 0 1 Even (Top) refl (top_prog two_steps 0), (single two_steps late_table 7 0 0 Even (number 0) refl (zero_two), tt)),
             ),
           ),
         ),
       ),
     ),
   )
-      v (omega arith) (slice_get_within two.vertices v lift.0 lift.1)),
+      v (omega arith) (slice_get_within two_steps.vertices v lift.0 lift.1)),
 )
 
 -- the last state of the eighteen events is quiet, that of the three isn't
@@ -758,7 +758,7 @@ not_skipped : Step first_0 (Take 0 4) false first_0 → ⊥
 not_skipped h = h.nothing first_1 first_step_1
 
 -- nor is it done in another way: it doesn't stay pending
-not_kept : Takes first_0 0 4 first_0 → ⊥
+not_kept : TakesVertex first_0 0 4 first_0 → ⊥
 not_kept h = seven_five (ap (λ (c : Core). length c.pending) h.effect)
   where
     seven_five : ◌≡◌ {A = ℕ} 6 5 → ⊥
@@ -768,8 +768,8 @@ not_kept h = seven_five (ap (λ (c : Core). length c.pending) h.effect)
 owes_two : slice_get late_5.workers 1 ≡ Some (Owing (2 ∷ []))
 owes_two = refl
 
-opening_not_settled : IsProgress two (opening two) → ⊥
-opening_not_settled is = let e : Top ≡ number 0 = is.1 5 Top (single two (opening two) 5 0 1 Even Top refl (top_prog two 0)) in top_is_no_number e
+opening_not_settled : IsProgress two_steps (opening two_steps) → ⊥
+opening_not_settled is = let e : Top ≡ number 0 = is.1 5 Top (single two_steps (opening two_steps) 5 0 1 Even Top refl (top_prog two_steps 0)) in top_is_no_number e
   where
     top_is_no_number : Top ≡ number 0 → ⊥
     top_is_no_number e = cc

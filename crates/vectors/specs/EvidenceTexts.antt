@@ -9,7 +9,7 @@ use Rattle.evidence.specs.Canon.{evidence_text}
 use Rattle.evidence.specs.Evidence.{Entry, Evidence}
 use Rattle.evidence.specs.Fault.{HasFault, LineFault}
 use Rattle.evidence.specs.Scan.{count_before, fields_of, move_of, number_of}
-use Rattle.evidence.specs.Spelling.{AreGood, IsEvidenceText, IsShaped, Row}
+use Rattle.evidence.specs.Spelling.{AreGoodRows, IsEvidenceText, IsShaped, Row}
 use Rattle.evidence.specs.Verdict.{both_text, verdict_text}
 use Rattle.evidence.specs.declared.error.EvidenceFault.TheVariants.{BadHeader, BadLine, BadVertex}
 use Rattle.evidence.specs.declared.verdict.Fault.TheVariants.{Leaves, Rank}
@@ -137,7 +137,7 @@ carriage_return : LineFault 16 1 [] (codes "5 13 (0)" ++ 13 ∷ []) BadLine
 unfolding fields_of number_of move_of count_before cut_at
 carriage_return = refused 1 (codes "5 13 (0)" ++ 13 ∷ []) refl
 
-nothing_before : AreGood 16 1 [] []
+nothing_before : AreGoodRows 16 1 [] []
 nothing_before = record { each = tt; inside = tt; once = λ i j d l k. absurd (omega (arith, k)) }
 
 -- 16 0 (0): there are vertices 0 to 15

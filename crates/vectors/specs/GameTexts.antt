@@ -3,7 +3,7 @@ use Rattle.std.specs.Prelude.{ℕ, [], ◌∷◌, ◌++◌, None, codes, refl}
 use Rattle.std.proofs.Common.{arith, inl, inr}
 use Rattle.game.specs.declared.player.Player.TheVariants.{Even}
 use Rattle.pgsolver.specs.Fault.{HasFault}
-use Rattle.pgsolver.specs.Spelling.{AreGood, IsHeader, IsLine, Line}
+use Rattle.pgsolver.specs.Spelling.{AreGoodLines, IsHeader, IsLine, Line}
 use Rattle.pgsolver.specs.declared.error.PgFault.TheVariants.{BadHeader, BadIdentifier}
 
 -- the empty text has no header
@@ -64,7 +64,7 @@ line_1 = record {
   );
 }
 
-nothing_before : AreGood 0 [] []
+nothing_before : AreGoodLines 0 [] []
 nothing_before = record { each = tt; within = tt; once = λ i j d l k. absurd (omega (arith, k)) }
 
 -- the greatest identifier is 0

@@ -12,7 +12,7 @@ use Rattle.normal.specs.Nodes.{nodes}
 use Rattle.game.specs.declared.player.Player.{Player}
 use Rattle.game.specs.declared.player.Player.TheVariants.{Even, Odd}
 use Rattle.game.specs.Game.{Game, IsAscending, IsGame, IsVertex, Vertex, dual, vertex}
-use Rattle.game.specs.Refused.{HasRefusal}
+use Rattle.game.specs.Refused.{HasBuildRefusal}
 use Rattle.game.specs.declared.error.BuildError.TheVariants.{TooManyVertices}
 use Rattle.game.specs.Wins.{Edge, IsOf, OddWins, Wins, priority_at, greatest_met}
 use Rattle.game.specs.Arena.{arena}
@@ -250,5 +250,5 @@ odd_wins_one_step = record {
     cycles u (m ∷ others) h n p = ap (λ k. k % 2) (met_one u m others u h p)
 
 -- a million states and seventeen nodes make too many vertices
-too_many_vertices : HasRefusal 1000000 17 TooManyVertices
+too_many_vertices : HasBuildRefusal 1000000 17 TooManyVertices
 too_many_vertices = omega arith

@@ -5,12 +5,13 @@ use Rattle.std.specs.Fmt.{digits}
 use Rattle.std.proofs.Common.{arith, lit<, lit≤}
 use Rattle.calculus.specs.Tree.{Anything, Regular, Step, Then, Either, Star, Plus, Formula, True, False, Var, Not, And, Or, Dia, Box, Mu, Nu}
 use Rattle.vectors.specs.Formulas.{often_a, plus_or_b, name_a, name_b}
-use Rattle.normal.specs.Tree.{normal_form, Shape, ConstantNode, JunctionNode, ModalityNode, FixpointNode, VariableNode, depth, size, chain, count}
+use Rattle.normal.specs.Tree.{normal_form, Shape, ConstantNode, JunctionNode, ModalityNode, FixpointNode, VariableNode, depth, size, chain, node_count}
 use Rattle.normal.specs.Tree.{modal_count, formula_from}
-use Rattle.normal.specs.Nodes.{nodes, Node, greatest, greatest_priority}
+use Rattle.normal.specs.Nodes.{nodes, Node, greatest_nested, greatest_priority}
 use Rattle.normal.specs.Rules.{nodes_with}
 use Rattle.normal.specs.declared.priorities.Priorities.TheVariants.{Dependent}
-use Rattle.normal.specs.NormalText.{normal_text, line_end}
+use Rattle.text.specs.Pieces.{line_end}
+use Rattle.normal.specs.NormalText.{normal_text}
 use Rattle.normal.specs.Refused.{HasRefusal}
 use Rattle.normal.specs.declared.error.NormalError.TheVariants.{TooManyNodes, PriorityTooGreat}
 
@@ -27,7 +28,7 @@ nodes_often_a : nodes often_a ≡ node (FixpointNode false 1) 2 ∷ node (Fixpoi
     ∷ node (ModalityNode true name_b 6) 0 ∷ node (VariableNode 1) 0 ∷ []
 nodes_often_a = refl
 
-depth_often_a : (greatest (normal_form often_a) ≡ 2) × (depth (normal_form often_a) ≡ 2)
+depth_often_a : (greatest_nested (normal_form often_a) ≡ 2) × (depth (normal_form often_a) ≡ 2)
 depth_often_a = (refl, refl)
 
 -- !(<a>true && mu X. [b]X)
@@ -77,7 +78,7 @@ spelled_negated : formula_from 0 (normal_form negated)
 spelled_negated = refl
 
 -- `<a+>true` has six: the step, the binder, its `||`, `true`, the step inside and the variable
-counts : (count plus_or_b ≡ 9) × (modal_count (Plus (Step name_a)) 1 ≡ 6)
+counts : (node_count plus_or_b ≡ 9) × (modal_count (Plus (Step name_a)) 1 ≡ 6)
 counts = (refl, refl)
 
 -- nu, then mu: one binder from the first mu, two from the first nu
@@ -92,7 +93,7 @@ tens (suc n) = Then (Either (Step name_a) (Step name_b)) (tens n)
 abbrev many_nodes : Formula
 many_nodes = Dia (Step name_a) (Dia (Step name_a) (Dia (Step name_a) (Dia (tens 9) True)))
 
-count_many_nodes : count many_nodes ≡ 4096
+count_many_nodes : node_count many_nodes ≡ 4096
 count_many_nodes = refl
 
 one_node_more : HasRefusal (Dia (Step name_a) many_nodes) TooManyNodes
@@ -103,7 +104,7 @@ abbrev alternating : ℕ → Formula
 alternating zero = True
 alternating (suc n) = if n % 2 == 0 then Mu (codes "X") (alternating n) else Nu (codes "X") (alternating n)
 
-greatest_alternating : (greatest (normal_form (alternating 31)) ≡ 31) × (depth (normal_form (alternating 31)) ≡ 31)
+greatest_alternating : (greatest_nested (normal_form (alternating 31)) ≡ 31) × (depth (normal_form (alternating 31)) ≡ 31)
 greatest_alternating = (refl, refl)
 
 one_binder_more : HasRefusal (alternating 32) PriorityTooGreat
@@ -132,7 +133,7 @@ apart_dependent : nodes_with Dependent apart
 apart_dependent = refl
 
 -- [true*]<true*>(<a>true)
-everywhere : (greatest (normal_form (Box (Star (Step Anything)) (Dia (Star (Step Anything)) (Dia (Step name_a) True)))) ≡ 2)
+everywhere : (greatest_nested (normal_form (Box (Star (Step Anything)) (Dia (Star (Step Anything)) (Dia (Step name_a) True)))) ≡ 2)
     × (size (normal_form (Box (Star (Step Anything)) (Dia (Star (Step Anything)) (Dia (Step name_a) True)))) ≡ 10)
     × (depth (normal_form (Box (Star (Step Anything)) (Dia (Star (Step Anything)) (Dia (Step name_a) True)))) ≡ 2)
 everywhere = (refl, refl, refl)

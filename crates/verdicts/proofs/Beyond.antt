@@ -7,9 +7,9 @@ use Rattle.requests.specs.declared.error.MuError.{MuError}
 use Rattle.requests.specs.declared.error.MuError.TheVariants as error
 use Rattle.normal.specs.declared.priorities.Priorities.{Priorities}
 use Rattle.requests.specs.Check.{IsArenaOf, ByGame, AreSpelled, AreMarks, IsBeyond}
-use Rattle.requests.specs.Check.{HasRefused}
+use Rattle.requests.specs.Check.{RefusesCheck}
 use Rattle.requests.specs.Writers.{Lent, AreKept}
-use Rattle.requests.specs.Solver.{IsFitting, IsUnsolved}
+use Rattle.requests.specs.Solver.{FitsBoard, IsUnsolved}
 use Rattle.game.specs.Game.{Game}
 use Rattle.workers.specs.declared.team.BoardKind.{BoardKind}
 use Rattle.requests.specs.declared.texts.Texts.{Texts}
@@ -20,7 +20,7 @@ use Rattle.requests.proofs.Caused.{no_read}
 -- That a limit is passed is told where both texts are spelled.
 pub beyond_of : (rule : Priorities) (board : Option BoardKind) (first second : List ℕ) (writers : List Lent) (l : System) (f : Formula) (e : MuError)
     → AreSpelled first second l f
-    → IsBeyond (ByGame rule board) l f e → AreKept writers → HasRefused (ByGame rule board) first second writers e
+    → IsBeyond (ByGame rule board) l f e → AreKept writers → RefusesCheck (ByGame rule board) first second writers e
 beyond_of rule board first second writers l f error.Memory spelled h kept = ((l, spelled.system.spelled), kept)
 beyond_of rule board first second writers l f (error.Normal e) spelled h kept = (record { l = l; f = f; spelled = spelled; beyond = h }, kept)
 beyond_of rule board first second writers l f (error.Build e) spelled h kept = (record { l = l; f = f; spelled = spelled; beyond = h }, kept)
@@ -85,7 +85,7 @@ spelled_by texts_of first second texts (Err e) h same = tt
 
 -- Marks that were found for each board that can be had are those of the one that is asked for; memory may be wanting anyway.
 pub marks_or_memory : {A : Type 0} (items : A → List Bool) (rule : Priorities) (board : BoardKind) (l : System) (f : Formula) (g : Game) (r : Result A MuError)
-    → IsFitting (Some board) g → IfOk r (λ marks. (b : Option BoardKind) → IsFitting b g → AreMarks (ByGame rule b) l f (items marks))
+    → FitsBoard (Some board) g → IfOk r (λ marks. (b : Option BoardKind) → FitsBoard b g → AreMarks (ByGame rule b) l f (items marks))
     → IfErr r (λ e. e ≡ error.Memory)
     → MatchResult r (λ marks. AreMarks (ByGame rule (Some board)) l f (items marks)) (IsBeyond (ByGame rule (Some board)) l f)
 marks_or_memory items rule board l f g (Ok marks) fits found memory = found (Some board) fits

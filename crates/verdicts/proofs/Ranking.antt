@@ -9,23 +9,23 @@ use Rattle.normal.specs.declared.limits.TheConstants.{GREATEST_PRIORITY, MOST_NO
 use Rattle.normal.specs.declared.priorities.Priorities.{Priorities}
 use Rattle.normal.specs.Nodes.{Node, greatest_priority}
 use Rattle.normal.specs.Rules.{nodes_with}
-use Rattle.normal.specs.Tree.{count}
+use Rattle.normal.specs.Tree.{node_count}
 use Rattle.game.specs.declared.limits.TheConstants.{MOST_VERTICES}
 use Rattle.game.specs.Arena.{arena, place}
 use Rattle.game.specs.Wins.{Wins}
 use Rattle.laws.specs.Laws.{ChosenIsAdmissible, EvenWinsFormula}
 use Rattle.workers.specs.declared.team.BoardKind.{BoardKind}
 use Rattle.workers.specs.declared.team.BoardKind.TheVariants.{Auto, Locked, Packed}
-use Rattle.requests.specs.Check.{AreMarks, ByGame, game_of}
+use Rattle.requests.specs.Check.{AreMarks, ByGame, game_by_rule}
 use Rattle.requests.specs.Roots.{WinsRoot}
-use Rattle.requests.specs.Solver.{IsFitting}
+use Rattle.requests.specs.Solver.{FitsBoard}
 use Rattle.verdicts.proofs.Roots.{roots_mean}
 
 some_same : (a b : ℕ) → Some a ≡ Some b → a ≡ b
 some_same a b e = cc
 
 -- each other board can be had
-fits : (board : BoardKind) (rule : Priorities) (l : System) (f : Formula) → board ≢ Packed → IsFitting (Some board) (game_of rule l f)
+fits : (board : BoardKind) (rule : Priorities) (l : System) (f : Formula) → board ≢ Packed → FitsBoard (Some board) (game_by_rule rule l f)
 fits Auto rule l f n = λ h. h
 fits Locked rule l f n = λ h. h
 fits Packed rule l f n = absurd (n refl)
@@ -41,7 +41,7 @@ won l ns marks m = record {
 }
 
 ranked : (rule : Priorities) (board : BoardKind) (l : System) (f : Formula) (marks : List Bool) → ChosenIsAdmissible → EvenWinsFormula
-    → IsSystem l → IsAdmitted f → board ≢ Packed → count f ≤ MOST_NODES → greatest_priority (nodes_with rule f) ≤ GREATEST_PRIORITY
+    → IsSystem l → IsAdmitted f → board ≢ Packed → node_count f ≤ MOST_NODES → greatest_priority (nodes_with rule f) ≤ GREATEST_PRIORITY
     → 2 + l.states * length (nodes_with rule f) ≤ MOST_VERTICES
     → Marks l.states marks (λ s. Wins (arena l (nodes_with rule f)) (place (length (nodes_with rule f)) s 0))
     → AreMarks (ByGame rule (Some board)) l f marks
@@ -55,7 +55,7 @@ ranked rule board l f marks chosen wins is admitted n few low vertices m =
 
 -- What is known of the winners in the arena of these nodes, which are those of the rule.
 pub ranked_by : (rule : Priorities) (board : BoardKind) (l : System) (f : Formula) (ns : List Node) (marks : Option (Vec Bool Global)) → ChosenIsAdmissible
-    → EvenWinsFormula → IsSystem l → IsAdmitted f → (board ≡ Packed → ⊥) → count f ≤ MOST_NODES → greatest_priority (nodes_with rule f) ≤ GREATEST_PRIORITY
+    → EvenWinsFormula → IsSystem l → IsAdmitted f → (board ≡ Packed → ⊥) → node_count f ≤ MOST_NODES → greatest_priority (nodes_with rule f) ≤ GREATEST_PRIORITY
     → ns ≡ nodes_with rule f → IfSome marks (λ m. 2 + l.states * length ns ≤ MOST_VERTICES)
     → IfSome marks (λ m. Marks l.states m.items (λ s. Wins (arena l ns) (place (length ns) s 0)))
     → IfSome marks (λ m. AreMarks (ByGame rule (Some board)) l f m.items)

@@ -9,7 +9,7 @@ use Rattle.game.specs.Game.{Game}
 use Rattle.game.specs.Wins.{OddWins, Wins}
 use Rattle.evidence.specs.Best.{IsEvenOf, IsOddOf}
 use Rattle.evidence.specs.Evidence.{IsGood, has}
-use Rattle.evidence.specs.View.{Piece}
+use Rattle.evidence.specs.View.{NamedEvidence}
 use Rattle.evidence.specs.declared.error.EvidenceError.{EvidenceError}
 use Rattle.evidence.specs.declared.error.EvidenceError.TheVariants as evidence
 use Rattle.verdicts.specs.declared.lifting.SolvedGame.{SolvedGame}
@@ -22,12 +22,12 @@ use Rattle.verdicts.specs.declared.findings.Findings.{Findings}
 use Rattle.verdicts.specs.declared.findings.Posed.{Posed}
 use Rattle.certify.specs.declared.pair.EvidencePair.{EvidencePair}
 use Rattle.requests.specs.Check.{Way, ByGame, AreMarks, IsArenaOf}
-use Rattle.requests.specs.Solver.{IsFitting}
+use Rattle.requests.specs.Solver.{FitsBoard}
 
 -- The game is that of the system and the formula, and is solved, over the board that was asked for, if one was
 pub record IsSolvedGame (l : System) (f : Formula) (s : SolvedGame) : Type 0 where
   pub game : IsArenaOf s.priorities l f (arc_value s.game)
-  pub board : IsFitting s.board (arc_value s.game)
+  pub board : FitsBoard s.board (arc_value s.game)
   pub settled : s.settled.game ≡ arc_value s.game
 
 -- They are the winners of the game.
@@ -47,33 +47,33 @@ ArePosed x = IsArenaOf x.priorities x.texts.value.system.system (closed_formula 
 abbrev pub system_of : Findings → System
 system_of x = x.texts.value.system.system
 
-abbrev pub formula_of : Findings → Formula
-formula_of x = closed_formula x.texts.value.formula
+abbrev pub formula_found : Findings → Formula
+formula_found x = closed_formula x.texts.value.formula
 
 abbrev pub way_in : Findings → Way
 way_in x = ByGame x.solution.priorities x.solution.board
 
 -- The game is solved, and the marks are found.
 pub record AreFindings (x : Findings) : Type 0 where
-  pub solution : IsSolvedGame (system_of x) (formula_of x) x.solution
-  pub marks : AreMarks (way_in x) (system_of x) (formula_of x) x.marks.items
+  pub solution : IsSolvedGame (system_of x) (formula_found x) x.solution
+  pub marks : AreMarks (way_in x) (system_of x) (formula_found x) x.marks.items
 
 -- evidence of all that Even wins, by the least progress table
-pub record IsEvens (g : Game) (e : Piece) : Type 0 where
+pub record IsEvens (g : Game) (e : NamedEvidence) : Type 0 where
   pub game : e.game ≡ g
   pub good : IsGood g e.evidence
   pub exact : (v : ℕ) → IsTrue (has e.evidence v) ↔ Wins g v
   pub best : IsEvenOf g e.evidence
 
 -- evidence of all that Odd wins, by the least progress table of the dual
-pub record IsOdds (g : Game) (e : Piece) : Type 0 where
+pub record IsOdds (g : Game) (e : NamedEvidence) : Type 0 where
   pub game : e.game ≡ g
   pub good : IsGood g e.evidence
   pub exact : (v : ℕ) → IsTrue (has e.evidence v) ↔ OddWins g v
   pub best : IsOddOf g e.evidence
 
 -- evidence of all that Odd wins, or memory was wanting for it
-abbrev pub AreOddsOf : Game → Result Piece EvidenceError → Type 0
+abbrev pub AreOddsOf : Game → Result NamedEvidence EvidenceError → Type 0
 AreOddsOf g made = MatchResult made (IsOdds g) (λ e. e ≡ evidence.Memory)
 
 -- The game is solved, and the evidence of all that Odd wins may be made, too.

@@ -7,7 +7,7 @@ ghost use Rattle.game.specs.Wins.{OddWins};
 ghost use Rattle.evidence.specs.Best.{IsOddOf};
 ghost use Rattle.evidence.specs.Evidence.{IsGood, has};
 ghost use Rattle.requests.specs.Check.{ByGame, IsBeyond};
-ghost use Rattle.requests.specs.Solver.{IsFitting, IsUnsolved};
+ghost use Rattle.requests.specs.Solver.{FitsBoard, IsUnsolved};
 ghost use Rattle.verdicts.specs.Findings.{AreFindings, AreFoundBeside, AreOddsOf, ArePosed, way_in};
 
 use crate::findings::{
@@ -80,7 +80,7 @@ fn solve_beside<O: Watcher + Sync, H: Threads + Wait + Clone + Copy + Drop + Sen
 ) -> (Result<Settled, MuError>, Result<Evidence, EvidenceError>)
     requires { ArePosed posed.now }
     ensures game { IfOk result.0 (λ s. s.game ≡ arc_value posed.now.game) }
-    ensures board { IfOk result.0 (λ _. IsFitting (Some options.now.board) (arc_value posed.now.game)) }
+    ensures board { IfOk result.0 (λ _. FitsBoard (Some options.now.board) (arc_value posed.now.game)) }
     ensures refusal { IfErr result.0 (IsUnsolved (Some options.now.board) (arc_value posed.now.game)) }
     ensures odd { AreOddsOf (arc_value posed.now.game) result.1 }
 {
@@ -89,7 +89,7 @@ fn solve_beside<O: Watcher + Sync, H: Threads + Wait + Clone + Copy + Drop + Sen
         rt,
         || -> Result<Settled, MuError>
             ensures game { IfOk result (λ s. s.game ≡ arc_value posed.entry.now.game) }
-            ensures board { IfOk result (λ _. IsFitting (Some options.entry.now.board) (arc_value posed.entry.now.game)) }
+            ensures board { IfOk result (λ _. FitsBoard (Some options.entry.now.board) (arc_value posed.entry.now.game)) }
             ensures refusal { IfErr result (IsUnsolved (Some options.entry.now.board) (arc_value posed.entry.now.game)) }
         { solve_by_workers(rt, alloc, posed, options, helped, &NoGate, observer) },
         || -> Result<Evidence, EvidenceError>

@@ -8,9 +8,9 @@ ghost use Rattle.evidence.specs.Best.{IsOddOf};
 ghost use Rattle.evidence.specs.Evidence.{IsGood, has};
 ghost use Rattle.workers.specs.declared.team.BoardKind.{BoardKind};
 ghost use Rattle.requests.specs.Causes.{HaveCauses};
-ghost use Rattle.requests.specs.Check.{ByGame, AreSpelled, HasRefused, IsBeyond};
-ghost use Rattle.verdicts.specs.Findings.{AreFindings, ArePosed, formula_of, system_of, way_in};
-ghost use Rattle.requests.specs.Solver.{IsFitting, IsUnsolved};
+ghost use Rattle.requests.specs.Check.{ByGame, AreSpelled, RefusesCheck, IsBeyond};
+ghost use Rattle.verdicts.specs.Findings.{AreFindings, ArePosed, formula_found, system_of, way_in};
+ghost use Rattle.requests.specs.Solver.{FitsBoard, IsUnsolved};
 ghost use Rattle.requests.specs.Writers.{AreKept, Lent};
 
 use crate::guessing::{dual_guess_of, guess_of};
@@ -78,9 +78,9 @@ pub fn find_alone<R: Source + Drop, S: Source + Drop, H: Threads + Sync>(
     ensures found { IfOk result AreFindings }
     ensures way { IfOk result (λ found. way_in found ≡ ByGame priorities None) }
     ensures spelled { (first second : List ℕ) → R.remaining aut ≡ Some first → S.remaining formula ≡ Some second
-        → IfOk result (λ found. AreSpelled first second (system_of found) (formula_of found)) }
+        → IfOk result (λ found. AreSpelled first second (system_of found) (formula_found found)) }
     ensures refusal { (first second : List ℕ) → R.remaining aut ≡ Some first → S.remaining formula ≡ Some second
-        → (writers : List Lent) → AreKept writers → IfErr result (HasRefused (ByGame priorities None) first second writers) }
+        → (writers : List Lent) → AreKept writers → IfErr result (RefusesCheck (ByGame priorities None) first second writers) }
     ensures cause { IfErr result (HaveCauses R.can_fail S.can_fail) }
 {
     match read_and_build(rt, alloc, aut, formula, priorities) {
@@ -110,9 +110,9 @@ pub fn find_with<
     ensures found { IfOk result AreFindings }
     ensures way { IfOk result (λ found. way_in found ≡ ByGame options.now.priorities (Some options.now.board)) }
     ensures spelled { (first second : List ℕ) → R.remaining aut ≡ Some first → S.remaining formula ≡ Some second
-        → IfOk result (λ found. AreSpelled first second (system_of found) (formula_of found)) }
+        → IfOk result (λ found. AreSpelled first second (system_of found) (formula_found found)) }
     ensures refusal { (first second : List ℕ) → R.remaining aut ≡ Some first → S.remaining formula ≡ Some second
-        → (writers : List Lent) → AreKept writers → IfErr result (HasRefused (ByGame options.now.priorities (Some options.now.board)) first second writers) }
+        → (writers : List Lent) → AreKept writers → IfErr result (RefusesCheck (ByGame options.now.priorities (Some options.now.board)) first second writers) }
     ensures cause { IfErr result (HaveCauses R.can_fail S.can_fail) }
 {
     match read_and_build(rt, alloc, aut, formula, options.priorities) {
@@ -189,7 +189,7 @@ fn read_and_build<R: Source + Drop, S: Source + Drop, H: Threads + Sync>(
     ensures spelled { (first second : List ℕ) → R.remaining aut ≡ Some first → S.remaining formula ≡ Some second
         → IfOk result (λ posed. AreSpelled first second posed.texts.value.system.system (closed_formula posed.texts.value.formula)) }
     ensures refusal { (first second : List ℕ) → R.remaining aut ≡ Some first → S.remaining formula ≡ Some second
-        → (board : Option BoardKind) (writers : List Lent) → AreKept writers → IfErr result (HasRefused (ByGame priorities board) first second writers) }
+        → (board : Option BoardKind) (writers : List Lent) → AreKept writers → IfErr result (RefusesCheck (ByGame priorities board) first second writers) }
     ensures cause { IfErr result (HaveCauses R.can_fail S.can_fail) }
 {
     match read_both(alloc, aut, formula) {
@@ -275,7 +275,7 @@ pub(crate) fn solve_by_workers<
     observer: &O,
 ) -> Result<Settled, MuError>
     ensures game { IfOk result (λ s. s.game ≡ arc_value posed.now.game) }
-    ensures board { IfOk result (λ _. IsFitting (Some options.now.board) (arc_value posed.now.game)) }
+    ensures board { IfOk result (λ _. FitsBoard (Some options.now.board) (arc_value posed.now.game)) }
     ensures refusal { IfErr result (IsUnsolved (Some options.now.board) (arc_value posed.now.game)) }
 {
     let is_helped = helped == Helped::EveryTeam || options.workers == 1;
@@ -326,7 +326,7 @@ pub(crate) fn find_solved(
     settled: Settled,
 ) -> Result<Findings, MuError>
     requires posed { ArePosed posed }
-    requires board { IsFitting board (arc_value posed.game) }
+    requires board { FitsBoard board (arc_value posed.game) }
     requires settled { settled.game ≡ arc_value posed.game }
     ensures found { IfOk result AreFindings }
     ensures way { IfOk result (λ found. way_in found ≡ ByGame posed.priorities board) }

@@ -8,7 +8,7 @@ ghost use Rattle.game.specs.Game.{Game};
 ghost use Rattle.game.specs.Wins.{Wins};
 ghost use Rattle.requests.specs.Check.{ByGame, AreMarks, IsArenaOf};
 ghost use Rattle.requests.specs.Roots.{HasRoots, WinsRoot};
-ghost use Rattle.requests.specs.Solver.{IsFitting};
+ghost use Rattle.requests.specs.Solver.{FitsBoard};
 ghost use Rattle.workers.specs.declared.team.BoardKind.{BoardKind};
 ghost use Rattle.verdicts.specs.Findings.{AreWinnersOf, IsSolutionOf};
 
@@ -89,7 +89,7 @@ pub fn state_marks(
 ) -> Result<Vec<bool>, MuError>
     requires arena { IsArenaOf priorities system.now.system (closed_formula formula.now) (arc_value game.now) }
     requires winners { AreWinnersOf (arc_value game.now) winners }
-    ensures marks { IfOk result (λ marks. (board : Option BoardKind) → IsFitting board (arc_value game.now)
+    ensures marks { IfOk result (λ marks. (board : Option BoardKind) → FitsBoard board (arc_value game.now)
         → AreMarks (ByGame priorities board) system.now.system (closed_formula formula.now) marks.items) }
     ensures refusal { IfErr result (λ e. e ≡ MuError.Memory) }
 {

@@ -4,7 +4,7 @@ ghost use Rattle.std.specs.Prelude.{◌≡◌, IfOk, IfErr, MatchResult, Some};
 ghost use Rattle.std.specs.Arc.{arc_value};
 ghost use Rattle.calculus.specs.Closed.{closed_formula};
 ghost use Rattle.requests.specs.Check.{AreMarks, BySets, ByGame, IsArenaOf, IsBeyond};
-ghost use Rattle.requests.specs.Solver.{IsFitting, IsUnsolved};
+ghost use Rattle.requests.specs.Solver.{FitsBoard, IsUnsolved};
 ghost use Rattle.verdicts.specs.Findings.{IsSolutionOf};
 
 use crate::guessing::guess_of;
@@ -135,7 +135,7 @@ fn solution_of<O: Observer + Sync, H: Threads + Wait + Clone + Copy + Drop + Sen
     observer: &O,
 ) -> Result<Solution, MuError>
     ensures solution { IfOk result (IsSolutionOf (arc_value game.now)) }
-    ensures board { IfOk result (λ _. IsFitting (Some options.now.board) (arc_value game.now)) }
+    ensures board { IfOk result (λ _. FitsBoard (Some options.now.board) (arc_value game.now)) }
     ensures refusal { IfErr result (IsUnsolved (Some options.now.board) (arc_value game.now)) }
 {
     require_board(game, options.board)?;
@@ -152,9 +152,9 @@ fn solution_by<O: Observer + Sync, H: Threads + Wait + Clone + Copy + Drop + Sen
     observer: &O,
     guess: &Option<Claims<'_>>,
 ) -> Result<Solution, MuError>
-    requires { IsFitting (Some options.now.board) (arc_value game.now) }
+    requires { FitsBoard (Some options.now.board) (arc_value game.now) }
     ensures solution { IfOk result (IsSolutionOf (arc_value game.now)) }
-    ensures board { IfOk result (λ _. IsFitting (Some options.now.board) (arc_value game.now)) }
+    ensures board { IfOk result (λ _. FitsBoard (Some options.now.board) (arc_value game.now)) }
     ensures refusal { IfErr result (IsUnsolved (Some options.now.board) (arc_value game.now)) }
 {
     if let Some(settled) = settled_by_guess(alloc, game, guess) {

@@ -6,7 +6,7 @@ use Rattle.std.proofs.lemmas.List.Elements.{All-from_recursion}
 use Rattle.systems.specs.Numbered.{IsTransitionOf, arrow_of}
 use Rattle.systems.specs.declared.system.Transition.{Transition}
 use Rattle.why.specs.Telling.{arrow_at}
-use Rattle.why.specs.Walk.{IsOrdered, told_of}
+use Rattle.why.specs.Walk.{IsInOrder, told_of}
 use Rattle.why.specs.declared.walk.Excerpt.{Excerpt}
 
 pub arrow_is : (excerpt : Excerpt) (n : ℕ) (d : Transition) → n < length excerpt.transitions.now
@@ -24,6 +24,6 @@ target_is excerpt n d lt = ap (λ (a : Arrow). a.target) (arrow_is excerpt n d l
 pub arrows_long : (excerpt : Excerpt) → length (told_of excerpt).arrows ≡ length excerpt.transitions.now
 arrows_long excerpt = length-map excerpt.transitions.now (arrow_of excerpt.system.now.labels)
 
-pub inside_at : (excerpt : Excerpt) (n : ℕ) (d : Transition) → IsOrdered excerpt → n < length excerpt.transitions.now
+pub inside_at : (excerpt : Excerpt) (n : ℕ) (d : Transition) → IsInOrder excerpt → n < length excerpt.transitions.now
     → IsTransitionOf excerpt.system.now (get_or excerpt.transitions.now n d)
 inside_at excerpt n d ordered lt = All-from_recursion (IsTransitionOf excerpt.system.now) excerpt.transitions.now ordered.inside n d lt

@@ -25,7 +25,7 @@ use Rattle.laws.proofs.Flags.{both, cases}
 use Rattle.laws.proofs.Lists.{any_gives, filter_gives, of_map, of_two, only_in, range_gives}
 use Rattle.laws.proofs.Vertices.{node_in, vertex_is}
 use Rattle.evidence.specs.Evidence.{Evidence, IsGood}
-use Rattle.evidence.specs.Witness.{Goes, HasArrows, IsReached, is_taken, is_taken_at, witness}
+use Rattle.evidence.specs.Witness.{Goes, HasArrows, AreReached, is_taken, is_taken_at, witness}
 use Rattle.evidence.specs.declared.verdict.Fault.TheVariants.{Move}
 use Rattle.evidence.proofs.Parts.{seat_of}
 use Rattle.evidence.proofs.Taken.{witness_has}
@@ -86,7 +86,7 @@ of_filter p (y ∷ xs) x c = elim (cases (p y)) [
 -- ------------------------------------------------------------------ the play
 
 module _ (l : System) (nodes : List Node) (e : Evidence) (set : ℕ → Bool) (form : IsForm nodes) (inside : l.initial < l.states)
-    (good : IsGood (arena l nodes) e) (reached : IsReached (arena l nodes) e (root_of l nodes) set) where
+    (good : IsGood (arena l nodes) e) (reached : AreReached (arena l nodes) e (root_of l nodes) set) where
   abbrev n : ℕ
   n = length nodes
 

@@ -9,7 +9,7 @@ use Rattle.text.specs.Wrote.{lines_from}
 use Rattle.laws.proofs.Flags.{cases}
 use Rattle.laws.proofs.Lists.{all_gives, gives_all, gives_range, range_gives}
 use Rattle.witness.proofs.Keeping.{none_pass, one_passes}
-use Rattle.why.specs.Mentions.{close, covers, has_like, is_begun, is_mentioned, joined, lead, mention, mentions}
+use Rattle.why.specs.Mentions.{close, covers, has_like, is_begun, is_mentioned, joined_numbers, lead, mention, mentions}
 
 module _ (front end : List ℕ) (p : ℕ → Bool) (name : ℕ → List ℕ) where
   abbrev before : ℕ → Bool
@@ -22,7 +22,7 @@ module _ (front end : List ℕ) (p : ℕ → Bool) (name : ℕ → List ℕ) whe
   others ks = flat_map (λ j. codes " or " ++ name j) ks
 
   abbrev whole : List ℕ → List ℕ
-  whole ks = joined front end name ks
+  whole ks = joined_numbers front end name ks
 
   text_there : (k : ℕ) (b : Bool) → p k ≡ true → before k ≡ b → text k ≡ lead front b ++ name k
   text_there k b e f = λ i. if e i then lead front (f i) ++ name k else []

@@ -8,11 +8,11 @@ use Rattle.systems.specs.System.{Arrow, IsArrow, IsSystem, System}
 use Rattle.systems.specs.Numbered.{Numbered, arrow_of, system_with}
 use Rattle.systems.specs.declared.system.Transition.{Transition}
 use Rattle.text.specs.Wrote.{lines_from}
-use Rattle.lts.specs.Canon.{line_end}
+use Rattle.text.specs.Pieces.{line_end}
 use Rattle.why.specs.Remarks.{Remarks}
-use Rattle.why.specs.Telling.{EachFollows, IsReached, arrow_at}
-use Rattle.why.specs.Story.{AreNumbered, IsNumbered, again_text, blanks_before, count_text, line_before, line_text, lines_text, step_of, step_text}
-use Rattle.why.specs.Story.{stop_text, telling_text, text_at, text_of}
+use Rattle.why.specs.Telling.{EachFollows, IsComeTo, arrow_at}
+use Rattle.why.specs.Story.{AreLinesOf, IsNumbered, again_text, blanks_before, count_text, line_before, line_text, lines_text, step_of, step_text}
+use Rattle.why.specs.Story.{stop_text, telling_text, text_at, story_text}
 use Rattle.why.specs.declared.line.Line.{Line}
 use Rattle.why.specs.declared.line.Line.TheVariants.{Step, Stop}
 
@@ -24,12 +24,12 @@ target_of n (a ∷ arrows) zero some each = each.0.target
 target_of n (a ∷ arrows) (suc i) some each = target_of n arrows i some each.1
 
 -- What lines have come to is a state.
-come_below : (l : System) (lines : List Line) (s : ℕ) → IsSystem l → IsReached l lines s → s < l.states
+come_below : (l : System) (lines : List Line) (s : ℕ) → IsSystem l → IsComeTo l lines s → s < l.states
 come_below l lines s system (inl e) = subst (λ z. z < l.states) (sym e) system.initial
 come_below l lines s system (inr h) =
     subst (λ z. z < l.states) h.2 (target_of l.states l.arrows h.0 (let some = system.some in omega (arith, some)) system.arrows)
 
-pub each_numbered : (l : System) (before lines : List Line) → IsSystem l → EachFollows l before lines → AreNumbered l.states (length l.arrows) lines
+pub each_numbered : (l : System) (before lines : List Line) → IsSystem l → EachFollows l before lines → AreLinesOf l.states (length l.arrows) lines
 each_numbered l before [] system h = tt
 each_numbered l before (Step number again blanks ∷ lines) system h =
     (h.0.within, each_numbered l (before ++ Step number again blanks ∷ []) lines system h.1)
@@ -46,7 +46,7 @@ lines_on r l all before i (line ∷ lines) back each =
     let one_more : (k : ℕ) → (i + 1) + k ≡ i + suc k = λ k. omega arith in
     let here : slice_get all i ≡ Some line = sym (ap (slice_get all) none_more) ∙ each 0 in
     let rest = lines_on r l all (Some line) (i + 1) lines (ap (line_before all) next ∙ here) (λ k. ap (slice_get all) (one_more k) ∙ each (suc k)) in
-    ap₂ (λ x y. x ++ y) (λ j. text_of r l (back j) (here j)) rest
+    ap₂ (λ x y. x ++ y) (λ j. story_text r l (back j) (here j)) rest
 
 -- the lines by number are all of them
 pub all_lines : (r : Remarks) (l : System) (lines : List Line) → lines_from (text_at r l lines) 0 (length lines) ≡ lines_text r l None lines

@@ -2,7 +2,7 @@
 use Rattle.std.proofs.Common.{◌≡◌, ℕ, ◌⊎◌, Bool, List, [], ◌∷◌, ◌++◌, refl, sym, ap, subst, inl, inr, Contains, append_assoc, append-nil}
 use Rattle.std.proofs.lemmas.List.Elements.{Contains-append_left, Contains-push, Contains-push_cases}
 use Rattle.systems.specs.System.{System}
-use Rattle.why.specs.Telling.{EachFollows, Follows, IsReached, arrow_at, steps, stops}
+use Rattle.why.specs.Telling.{EachFollows, Follows, IsComeTo, arrow_at, steps, stops}
 use Rattle.why.specs.declared.line.Line.{Line}
 use Rattle.why.specs.declared.line.Line.TheVariants.{Step, Stop}
 
@@ -42,14 +42,14 @@ module _ (l : System) (lines : List Line) (n : ℕ) (again : Bool) (blanks : ℕ
   pub told_before : (m : ℕ) → Contains (steps (lines ++ Step n again blanks ∷ [])) m → Contains (steps lines) m ⊎ (n ≡ m)
   told_before m c = Contains-push_cases (steps lines) n m (subst (λ ms. Contains ms m) (steps_of_step lines n again blanks) c)
 
-  pub reached_stays : (s : ℕ) → IsReached l lines s → IsReached l (lines ++ Step n again blanks ∷ []) s
+  pub reached_stays : (s : ℕ) → IsComeTo l lines s → IsComeTo l (lines ++ Step n again blanks ∷ []) s
   reached_stays s (inl e) = inl e
   reached_stays s (inr (m, c, e)) = inr (m, told_stays m c, e)
 
-  pub reached_now : IsReached l (lines ++ Step n again blanks ∷ []) (arrow_at l n).target
+  pub reached_now : IsComeTo l (lines ++ Step n again blanks ∷ []) (arrow_at l n).target
   reached_now = inr (n, told_now, refl)
 
-  pub reached_before : (s : ℕ) → IsReached l (lines ++ Step n again blanks ∷ []) s → IsReached l lines s ⊎ ((arrow_at l n).target ≡ s)
+  pub reached_before : (s : ℕ) → IsComeTo l (lines ++ Step n again blanks ∷ []) s → IsComeTo l lines s ⊎ ((arrow_at l n).target ≡ s)
   reached_before s (inl e) = inl (inl e)
   reached_before s (inr (m, c, e)) = elim (told_before m c) [
     | inl old ↦ inl (inr (m, old, e))
@@ -57,11 +57,11 @@ module _ (l : System) (lines : List Line) (n : ℕ) (again : Bool) (blanks : ℕ
   ]
 
 module _ (l : System) (lines : List Line) (s blanks : ℕ) where
-  pub still_reached : (t : ℕ) → IsReached l lines t → IsReached l (lines ++ Stop s blanks ∷ []) t
+  pub still_reached : (t : ℕ) → IsComeTo l lines t → IsComeTo l (lines ++ Stop s blanks ∷ []) t
   still_reached t (inl e) = inl e
   still_reached t (inr (m, c, e)) = inr (m, subst (λ ms. Contains ms m) (sym (steps_of_stop lines s blanks)) c, e)
 
-  pub was_reached : (t : ℕ) → IsReached l (lines ++ Stop s blanks ∷ []) t → IsReached l lines t
+  pub was_reached : (t : ℕ) → IsComeTo l (lines ++ Stop s blanks ∷ []) t → IsComeTo l lines t
   was_reached t (inl e) = inl e
   was_reached t (inr (m, c, e)) = inr (m, subst (λ ms. Contains ms m) (steps_of_stop lines s blanks) c, e)
 

@@ -5,7 +5,7 @@ use Rattle.std.specs.Prelude.{MatchOption}
 use Rattle.systems.specs.System.{System}
 use Rattle.systems.specs.declared.system.Transition.{Transition}
 use Rattle.why.specs.Telling.{HasNoStep, arrow_at, steps}
-use Rattle.why.specs.Walk.{HasLetBlockWait, HasLetWait, HasTold, HasToldMore, IsBlockOf, IsFull, IsWalk, told_of}
+use Rattle.why.specs.Walk.{HasLetBlockWait, HasLetWait, HasToldStep, HasToldMore, IsBlockOf, IsUsedUp, IsWalk, told_of}
 use Rattle.why.specs.declared.walk.Block.{Block}
 use Rattle.why.specs.declared.walk.Excerpt.{Excerpt}
 use Rattle.why.specs.declared.walk.Walk.{Walk}
@@ -59,15 +59,15 @@ walk_blocks excerpt old new s block is some same wait w =
 -- ------------------------------------------------------------------ a transition is told
 
 -- there is a walk
-pub told_walk : (l : System) (most n : ℕ) (old new : Walk) (fresh : Bool) (waiting : List Way) → HasTold l most n old new fresh
+pub told_walk : (l : System) (most n : ℕ) (old new : Walk) (fresh : Bool) (waiting : List Way) → HasToldStep l most n old new fresh
     → IsWalk l most old waiting None
     → (ws : List Way) × (o : Option ℕ) × IsWalk l most new ws o
 told_walk l most n old new true waiting told w = (waiting, Some (arrow_at l n).target, told.walk waiting None w refl)
 told_walk l most n old new false waiting told w = (waiting, None, told.walk waiting None w)
 
-module _ (l : System) (most : ℕ) (old mid new : Walk) (way : Way) (fresh : Bool) (told : HasTold l most way.number old mid fresh)
+module _ (l : System) (most : ℕ) (old mid new : Walk) (way : Way) (fresh : Bool) (told : HasToldStep l most way.number old mid fresh)
     (more : HasToldMore l most mid new) (w : IsWalk l most old (old.waiting.items ++ way ∷ []) None) where
-  done : Contains (steps new.lines.items) way.number ⊎ IsFull l most new.count
+  done : Contains (steps new.lines.items) way.number ⊎ IsUsedUp l most new.count
   done = inl (more.keeps way.number told.told)
 
   dropped : (o : Option ℕ) → IsWalk l most new (old.waiting.items ++ way ∷ []) o → IsWalk l most new new.waiting.items o
@@ -76,14 +76,14 @@ module _ (l : System) (most : ℕ) (old mid new : Walk) (way : Way) (fresh : Boo
   pub told_fresh : fresh ≡ true → (s : ℕ) → (arrow_at l way.number).target ≡ s → IsWalk l most new new.waiting.items (Some s)
   told_fresh is s at =
       let first : IsWalk l most mid (old.waiting.items ++ way ∷ []) (Some (arrow_at l way.number).target) =
-      (subst (λ b. HasTold l most way.number old mid b) is told).walk (old.waiting.items ++ way ∷ []) None w refl in
+      (subst (λ b. HasToldStep l most way.number old mid b) is told).walk (old.waiting.items ++ way ∷ []) None w refl in
       subst (λ t. IsWalk l most new new.waiting.items (Some t)) at
       (dropped (Some (arrow_at l way.number).target) (more.walk (old.waiting.items ++ way ∷ []) (Some (arrow_at l way.number).target) first))
 
   pub told_again : fresh ≡ false → IsWalk l most new new.waiting.items None
   told_again is =
       let first : IsWalk l most mid (old.waiting.items ++ way ∷ []) None =
-      (subst (λ b. HasTold l most way.number old mid b) is told).walk (old.waiting.items ++ way ∷ []) None w in
+      (subst (λ b. HasToldStep l most way.number old mid b) is told).walk (old.waiting.items ++ way ∷ []) None w in
       dropped None (more.walk (old.waiting.items ++ way ∷ []) None first)
 
 -- ------------------------------------------------------------------ what waits is taken

@@ -7,10 +7,10 @@ use Rattle.std.proofs.Math.ListN.{length-set}
 use Rattle.std.proofs.lemmas.List.{length-replicate}
 use Rattle.systems.specs.System.{System}
 use Rattle.systems.specs.Path.{IsPath}
-use Rattle.witness.specs.Walk.{is_marked, unmarked}
+use Rattle.witness.specs.Walk.{is_marked, unmarked_vertices}
 use Rattle.witness.proofs.Setting.{all_unmarked, no_mark, none_fewer, none_unmarked, one_fewer, set_adds, set_keeps, set_there}
-use Rattle.why.specs.Telling.{EachFollows, HasNoStep, IsConnected, IsReached, IsTelling, LeadsTo, arrow_at, steps, stops}
-use Rattle.why.specs.Walk.{HasLetBlockWait, HasLetWait, HasTold, HasToldMore, IsFull, IsWalk, Waits}
+use Rattle.why.specs.Telling.{EachFollows, HasNoStep, IsConnected, IsComeTo, IsTelling, LeadsTo, arrow_at, steps, stops}
+use Rattle.why.specs.Walk.{HasLetBlockWait, HasLetWait, HasToldStep, HasToldMore, IsUsedUp, IsWalk, Waits}
 use Rattle.why.specs.declared.line.Line.TheVariants.{Step, Stop}
 use Rattle.why.specs.declared.walk.Walk.{Walk}
 use Rattle.why.specs.declared.walk.Way.{Way}
@@ -74,7 +74,7 @@ block_more old ways new way end k h is number below = record {
 
 -- what waited last is told, or no more may be
 pub walk_drops : (l : System) (most : ℕ) (w : Walk) (waiting : List Way) (way : Way) (o : Option ℕ) → IsWalk l most w (waiting ++ way ∷ []) o
-    → Contains (steps w.lines.items) way.number ⊎ IsFull l most w.count
+    → Contains (steps w.lines.items) way.number ⊎ IsUsedUp l most w.count
     → IsWalk l most w waiting o
 walk_drops l most w waiting way o is done = record {
   states = is.states;
@@ -105,19 +105,19 @@ module _ (l : System) (most : ℕ) (old new : Walk) (n t blanks : ℕ) (again : 
     (reached_is : new.reached.items ≡ slice_set old.reached.items t true) (told_is : new.told.items ≡ slice_set old.told.items n true)
     (count_is : new.count ≡ old.count + 1) (lines_is : new.lines.items ≡ old.lines.items ++ Step n again blanks ∷ [])
     (waiting_is : new.waiting.items ≡ old.waiting.items) (was : again ≡ is_marked old.reached.items t) (within : n < length l.arrows)
-    (inside : t < l.states) (from : IsReached l old.lines.items (arrow_at l n).source) (unsaid : is_marked old.told.items n ≡ false)
-    (room : IsFull l most old.count → ⊥) where
-  on : (s : ℕ) → IsReached l old.lines.items s → IsReached l new.lines.items s
-  on s r = subst (λ ls. IsReached l ls s) (sym lines_is) (reached_stays l old.lines.items n again blanks s r)
+    (inside : t < l.states) (from : IsComeTo l old.lines.items (arrow_at l n).source) (unsaid : is_marked old.told.items n ≡ false)
+    (room : IsUsedUp l most old.count → ⊥) where
+  on : (s : ℕ) → IsComeTo l old.lines.items s → IsComeTo l new.lines.items s
+  on s r = subst (λ ls. IsComeTo l ls s) (sym lines_is) (reached_stays l old.lines.items n again blanks s r)
 
-  back : (s : ℕ) → IsReached l new.lines.items s → IsReached l old.lines.items s ⊎ (t ≡ s)
-  back s r = elim (reached_before l old.lines.items n again blanks s (subst (λ ls. IsReached l ls s) lines_is r)) [
+  back : (s : ℕ) → IsComeTo l new.lines.items s → IsComeTo l old.lines.items s ⊎ (t ≡ s)
+  back s r = elim (reached_before l old.lines.items n again blanks s (subst (λ ls. IsComeTo l ls s) lines_is r)) [
     | inl k ↦ inl k
     | inr e ↦ inr (sym target ∙ e)
   ]
 
-  there : IsReached l new.lines.items t
-  there = subst (λ s. IsReached l new.lines.items s) target (subst (λ ls. IsReached l ls (arrow_at l n).target) (sym lines_is)
+  there : IsComeTo l new.lines.items t
+  there = subst (λ s. IsComeTo l new.lines.items s) target (subst (λ ls. IsComeTo l ls (arrow_at l n).target) (sym lines_is)
       (reached_now l old.lines.items n again blanks))
 
   on_told : (m : ℕ) → Contains (steps old.lines.items) m → Contains (steps new.lines.items) m
@@ -134,16 +134,16 @@ module _ (l : System) (most : ℕ) (old new : Walk) (n t blanks : ℕ) (again : 
 
   module _ (waiting : List Way) (before after : Option ℕ) (w : IsWalk l most old waiting before) (kept : (s : ℕ) → before ≡ Some s → after ≡ Some s)
       (opens : again ≡ false → after ≡ Some t)
-      (opened_is : (s : ℕ) → after ≡ Some s → IsReached l new.lines.items s × (Contains (stops old.lines.items) s → ⊥)) where
-    known : again ≡ true → IsReached l old.lines.items t
+      (opened_is : (s : ℕ) → after ≡ Some s → IsComeTo l new.lines.items s × (Contains (stops old.lines.items) s → ⊥)) where
+    known : again ≡ true → IsComeTo l old.lines.items t
     known e = (w.reached t).0 (sym was ∙ e)
 
     -- a state that is reached now was reached, or is open
-    either : (s : ℕ) → IsReached l new.lines.items s → IsReached l old.lines.items s ⊎ (after ≡ Some s)
+    either : (s : ℕ) → IsComeTo l new.lines.items s → IsComeTo l old.lines.items s ⊎ (after ≡ Some s)
     either s r = elim (back s r) [
       | inl k ↦ inl k
       | inr e ↦ elim (yes_or_no again) [
-        | inl told ↦ inl (subst (λ z. IsReached l old.lines.items z) e (known told))
+        | inl told ↦ inl (subst (λ z. IsComeTo l old.lines.items z) e (known told))
         | inr fresh ↦ inr (opens fresh ∙ ap Some e)
       ]
     ]
@@ -157,14 +157,14 @@ module _ (l : System) (most : ℕ) (old new : Walk) (n t blanks : ℕ) (again : 
         new = λ c. true≢false (sym ((w.told n).1 c) ∙ unsaid);
         from = from;
         again = (
-          λ yes. subst (λ s. IsReached l old.lines.items s) (sym target) (known yes),
-          λ r. was ∙ (w.reached t).1 (subst (λ s. IsReached l old.lines.items s) target r),
+          λ yes. subst (λ s. IsComeTo l old.lines.items s) (sym target) (known yes),
+          λ r. was ∙ (w.reached t).1 (subst (λ s. IsComeTo l old.lines.items s) target r),
         );
       }));
       reached = λ s. (
         (λ m. elim (set_adds old.reached.items t s (subst (λ ms. IsTrue (is_marked ms s)) reached_is m)) [
           | inl k ↦ on s ((w.reached s).0 k)
-          | inr e ↦ subst (λ z. IsReached l new.lines.items z) e there
+          | inr e ↦ subst (λ z. IsComeTo l new.lines.items z) e there
         ]),
         (λ r. subst (λ ms. IsTrue (is_marked ms s)) (sym reached_is) (elim (back s r) [
           | inl k ↦ set_keeps old.reached.items t s ((w.reached s).1 k)
@@ -188,7 +188,7 @@ module _ (l : System) (most : ℕ) (old new : Walk) (n t blanks : ℕ) (again : 
           let before = w.count in
           omega (arith, one, all, before, count_is));
       rest = (let one = one_fewer old.told.items n (subst (λ z. n < z) (sym w.arrows) within) unsaid in
-          let all = ap unmarked told_is in
+          let all = ap unmarked_vertices told_is in
           let before = w.rest in
           omega (arith, one, all, before, count_is));
       few = λ many. (elim (cases_lt old.count most) [ inl less ↦ omega (arith, less, count_is) | inr full ↦ absurd (room (many, full)) ]);
@@ -218,26 +218,26 @@ module _ (l : System) (most : ℕ) (old new : Walk) (n t blanks : ℕ) (again : 
       (λ s is. none_some s (sym none ∙ is))
       (λ no. ap Some target)
       (λ s is. (
-        subst (λ z. IsReached l new.lines.items z) (sym target ∙ some_same (arrow_at l n).target s is) there,
-        λ c. true≢false (sym ((w.reached t).1 (subst (λ z. IsReached l old.lines.items z)
+        subst (λ z. IsComeTo l new.lines.items z) (sym target ∙ some_same (arrow_at l n).target s is) there,
+        λ c. true≢false (sym ((w.reached t).1 (subst (λ z. IsComeTo l old.lines.items z)
             (sym (some_same (arrow_at l n).target s is) ∙ target) (w.stopped s c)))
             ∙ (sym was ∙ e)),
       ))
 
   counted : (length old.reached.items ≡ l.states) → (b : Bool) → again ≡ b
-      → MatchBool (not b) (unmarked old.reached.items ≡ suc (unmarked new.reached.items)) (unmarked old.reached.items ≡ unmarked new.reached.items)
-  counted long true e = sym (ap unmarked reached_is ∙ none_fewer old.reached.items t (sym was ∙ e))
+      → MatchBool (not b) (unmarked_vertices old.reached.items ≡ suc (unmarked_vertices new.reached.items)) (unmarked_vertices old.reached.items ≡ unmarked_vertices new.reached.items)
+  counted long true e = sym (ap unmarked_vertices reached_is ∙ none_fewer old.reached.items t (sym was ∙ e))
   counted long false e =
       let one = one_fewer old.reached.items t (subst (λ z. t < z) (sym long) inside) (sym was ∙ e) in
-      let all = ap unmarked reached_is in
+      let all = ap unmarked_vertices reached_is in
       sym one ∙ ap suc (sym all)
 
-  pub has_told : (waiting : List Way) (o : Option ℕ) → IsWalk l most old waiting o → HasTold l most n old new (not again)
+  pub has_told : (waiting : List Way) (o : Option ℕ) → IsWalk l most old waiting o → HasToldStep l most n old new (not again)
   has_told waiting o w = record {
     walk = λ others p is. walk_by others p is again refl;
     told = now_told;
-    reached = subst (λ s. IsReached l new.lines.items s) (sym target) there;
-    again = λ r. ap not (was ∙ (w.reached t).1 (subst (λ s. IsReached l old.lines.items s) target r));
+    reached = subst (λ s. IsComeTo l new.lines.items s) (sym target) there;
+    again = λ r. ap not (was ∙ (w.reached t).1 (subst (λ s. IsComeTo l old.lines.items s) target r));
     stays = on;
     keeps = on_told;
     waiting = waiting_is;
@@ -255,8 +255,8 @@ none_told l most w = record {
   falls = refl;
 }
 
-pub one_told : (l : System) (most n : ℕ) (first second third : Walk) (fresh : Bool) → HasToldMore l most first second → HasTold l most n second third fresh
-    → IsReached l second.lines.items (arrow_at l n).target
+pub one_told : (l : System) (most n : ℕ) (first second third : Walk) (fresh : Bool) → HasToldMore l most first second → HasToldStep l most n second third fresh
+    → IsComeTo l second.lines.items (arrow_at l n).target
     → HasToldMore l most first third
 one_told l most n first second third fresh more told there =
     let old : fresh ≡ false = told.again there in
@@ -266,8 +266,8 @@ one_told l most n first second third fresh more told there =
       stays = λ s r. told.stays s (more.stays s r);
       keeps = λ m c. told.keeps m (more.keeps m c);
       waiting = told.waiting ∙ more.waiting;
-      falls = more.falls ∙ subst (λ b. MatchBool b (unmarked second.reached.items ≡ suc (unmarked third.reached.items))
-          (unmarked second.reached.items ≡ unmarked third.reached.items)) old told.falls;
+      falls = more.falls ∙ subst (λ b. MatchBool b (unmarked_vertices second.reached.items ≡ suc (unmarked_vertices third.reached.items))
+          (unmarked_vertices second.reached.items ≡ unmarked_vertices third.reached.items)) old told.falls;
     }
 
 pub more_told : (l : System) (most : ℕ) (first second third : Walk) → HasToldMore l most first second → HasToldMore l most second third
@@ -301,7 +301,7 @@ walk_stops l most old new waiting s blanks reached_is told_is count_is lines_is 
     (λ c. subst (λ ms. IsTrue (is_marked ms m)) (sym told_is) ((w.told m).1 (subst (λ ms. Contains ms m) same_steps c))),
   );
   count = count_is ∙ (w.count ∙ ap length (sym same_steps));
-  rest = (let all = ap unmarked told_is in let before = w.rest in omega (arith, all, before, count_is));
+  rest = (let all = ap unmarked_vertices told_is in let before = w.rest in omega (arith, all, before, count_is));
   few = λ many. (let before = w.few many in omega (arith, before, count_is));
   onward = λ m lt r. (elim (w.onward m lt (back (arrow_at l m).source r)) [
     | inl told ↦ inl (subst (λ ms. Contains ms m) (sym same_steps) told)
@@ -315,17 +315,17 @@ walk_stops l most old new waiting s blanks reached_is told_is count_is lines_is 
   ]));
   stopped = λ t c. (elim (stop_before l old.lines.items s blanks t (subst (λ ls. Contains (stops ls) t) lines_is c)) [
     | inl k ↦ on t (w.stopped t k)
-    | inr e ↦ subst (λ z. IsReached l new.lines.items z) e (on s (w.opened s refl).0)
+    | inr e ↦ subst (λ z. IsComeTo l new.lines.items z) e (on s (w.opened s refl).0)
   ]);
   opened = λ t is. none_some t is;
   waits = λ m h. ((w.waits m h).0, on (arrow_at l m).source (w.waits m h).1);
 }
   where
-    on : (t : ℕ) → IsReached l old.lines.items t → IsReached l new.lines.items t
-    on t r = subst (λ ls. IsReached l ls t) (sym lines_is) (still_reached l old.lines.items s blanks t r)
+    on : (t : ℕ) → IsComeTo l old.lines.items t → IsComeTo l new.lines.items t
+    on t r = subst (λ ls. IsComeTo l ls t) (sym lines_is) (still_reached l old.lines.items s blanks t r)
 
-    back : (t : ℕ) → IsReached l new.lines.items t → IsReached l old.lines.items t
-    back t r = was_reached l old.lines.items s blanks t (subst (λ ls. IsReached l ls t) lines_is r)
+    back : (t : ℕ) → IsComeTo l new.lines.items t → IsComeTo l old.lines.items t
+    back t r = was_reached l old.lines.items s blanks t (subst (λ ls. IsComeTo l ls t) lines_is r)
 
     same_steps : steps new.lines.items ≡ steps old.lines.items
     same_steps = ap steps lines_is ∙ steps_of_stop old.lines.items s blanks
@@ -351,7 +351,7 @@ walk_waits l most old new waiting now_waiting s first same lt begins stay wait b
     (λ c. subst (λ ms. IsTrue (is_marked ms m)) (sym same.told) ((w.told m).1 (subst (λ ls. Contains (steps ls) m) same.lines c))),
   );
   count = same.count ∙ (w.count ∙ ap (λ ls. length (steps ls)) (sym same.lines));
-  rest = (let all = ap unmarked same.told in let before = w.rest in let n = same.count in omega (arith, all, before, n));
+  rest = (let all = ap unmarked_vertices same.told in let before = w.rest in let n = same.count in omega (arith, all, before, n));
   few = λ many. (let before = w.few many in let n = same.count in omega (arith, before, n));
   onward = λ m below r. (elim (w.onward m below (off (arrow_at l m).source r)) [
     | inl told ↦ inl (subst (λ ls. Contains (steps ls) m) (sym same.lines) told)
@@ -367,15 +367,15 @@ walk_waits l most old new waiting now_waiting s first same lt begins stay wait b
   opened = λ t is. none_some t is;
   waits = λ m h. (elim (back m h) [
     | inl old_one ↦ ((w.waits m old_one).0, on (arrow_at l m).source (w.waits m old_one).1)
-    | inr is ↦ (is.0, subst (λ z. IsReached l new.lines.items z) (sym is.1) (on s (w.opened s refl).0))
+    | inr is ↦ (is.0, subst (λ z. IsComeTo l new.lines.items z) (sym is.1) (on s (w.opened s refl).0))
   ]);
 }
   where
-    on : (t : ℕ) → IsReached l old.lines.items t → IsReached l new.lines.items t
-    on t r = subst (λ ls. IsReached l ls t) (sym same.lines) r
+    on : (t : ℕ) → IsComeTo l old.lines.items t → IsComeTo l new.lines.items t
+    on t r = subst (λ ls. IsComeTo l ls t) (sym same.lines) r
 
-    off : (t : ℕ) → IsReached l new.lines.items t → IsReached l old.lines.items t
-    off t r = subst (λ ls. IsReached l ls t) same.lines r
+    off : (t : ℕ) → IsComeTo l new.lines.items t → IsComeTo l old.lines.items t
+    off t r = subst (λ ls. IsComeTo l ls t) same.lines r
 
 -- ------------------------------------------------------------------ from the first to the last
 
@@ -399,7 +399,7 @@ walk_begins l most w waiting none_waits reached_is told_is count_is lines_is ins
     (λ c. absurd (nothing n c)),
   );
   count = count_is ∙ ap (λ ls. length (steps ls)) (sym lines_is);
-  rest = (let all = ap unmarked told_is ∙ all_unmarked (length l.arrows) in omega (arith, all, count_is));
+  rest = (let all = ap unmarked_vertices told_is ∙ all_unmarked (length l.arrows) in omega (arith, all, count_is));
   few = λ many. omega (arith, count_is);
   onward = λ n lt r. inr (inr (inr (ap Some (sym (only (arrow_at l n).source r)))));
   ends = λ s r none. inr (ap Some (sym (only s r)));
@@ -420,7 +420,7 @@ walk_begins l most w waiting none_waits reached_is told_is count_is lines_is ins
     no_stops : (s : ℕ) → Contains (stops w.lines.items) s → ⊥
     no_stops s c = empty s (subst (λ ls. Contains (stops ls) s) lines_is c)
 
-    only : (s : ℕ) → IsReached l w.lines.items s → s ≡ l.initial
+    only : (s : ℕ) → IsComeTo l w.lines.items s → s ≡ l.initial
     only s (inl e) = e
     only s (inr (n, c, e)) = absurd (nothing n c)
 
@@ -440,7 +440,7 @@ walk_ends l most w waiting none connected is = record {
     no_wait [] n e h = h
     no_wait (way ∷ ways) n e h = omega (arith, e)
 
-    next : (n : ℕ) → n < length l.arrows → IsReached l w.lines.items (arrow_at l n).source → Contains (steps w.lines.items) n ⊎ IsFull l most w.count
+    next : (n : ℕ) → n < length l.arrows → IsComeTo l w.lines.items (arrow_at l n).source → Contains (steps w.lines.items) n ⊎ IsUsedUp l most w.count
     next n lt r = elim (is.onward n lt r) [
       | inl c ↦ inl c
       | inr (inl waits) ↦ absurd (no_wait waiting n none waits)
@@ -448,22 +448,22 @@ walk_ends l most w waiting none connected is = record {
       | inr (inr (inr e)) ↦ none_some (arrow_at l n).source e
     ]
 
-    along : (s : ℕ) (others : List ℕ) (t : ℕ) → IsReached l w.lines.items s → IsPath (LeadsTo l) s others t
-        → IsReached l w.lines.items t ⊎ IsFull l most w.count
-    along s [] t r p = inl (subst (λ z. IsReached l w.lines.items z) p r)
+    along : (s : ℕ) (others : List ℕ) (t : ℕ) → IsComeTo l w.lines.items s → IsPath (LeadsTo l) s others t
+        → IsComeTo l w.lines.items t ⊎ IsUsedUp l most w.count
+    along s [] t r p = inl (subst (λ z. IsComeTo l w.lines.items z) p r)
     along s (m ∷ others) t r ((n, lt, source, target), p) =
-        elim (next n lt (subst (λ z. IsReached l w.lines.items z) (sym source) r)) [
+        elim (next n lt (subst (λ z. IsComeTo l w.lines.items z) (sym source) r)) [
           | inl c ↦ along m others t (inr (n, c, target)) p
           | inr full ↦ inr full
         ]
 
-    told_or_full : (n : ℕ) → n < length l.arrows → Contains (steps w.lines.items) n ⊎ IsFull l most w.count
+    told_or_full : (n : ℕ) → n < length l.arrows → Contains (steps w.lines.items) n ⊎ IsUsedUp l most w.count
     told_or_full n lt = elim (along l.initial (connected n lt).0 (arrow_at l n).source (inl refl) (connected n lt).1) [
       | inl r ↦ next n lt r
       | inr full ↦ inr full
     ]
 
-    all_marked : w.count < most → unmarked w.told.items ≡ 0
+    all_marked : w.count < most → unmarked_vertices w.told.items ≡ 0
     all_marked less = none_unmarked w.told.items (λ n lt. elim (told_or_full n (subst (λ z. n < z) is.arrows lt)) [
       | inl c ↦ (is.told n).1 c
       | inr full ↦ absurd (let k = full.1 in omega (arith, k, less))

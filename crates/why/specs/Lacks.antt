@@ -34,23 +34,23 @@ is_barred l s (Some a) = is_none (targets l a s)
 abbrev pub is_lacking : System → List Node → (ℕ → Bool) → (state node : ℕ) → Bool
 is_lacking l nodes set s k = is_barred l s (action_at nodes k) && set (place (length nodes) s k)
 
-abbrev pub are_same : Option Action → Option Action → Bool
-are_same None other = false
-are_same (Some a) None = false
-are_same (Some a) (Some b) = is_same a b
+abbrev pub are_same_actions : Option Action → Option Action → Bool
+are_same_actions None other = false
+are_same_actions (Some a) None = false
+are_same_actions (Some a) (Some b) = is_same a b
 
 -- The nodes of these numbers are modalities of the same action formula.
-abbrev pub have_same : List Node → (node other : ℕ) → Bool
-have_same nodes j k = are_same (action_at nodes j) (action_at nodes k)
+abbrev pub have_same_action : List Node → (node other : ℕ) → Bool
+have_same_action nodes j k = are_same_actions (action_at nodes j) (action_at nodes k)
 
-abbrev pub name_of : Option Action → List ℕ
-name_of None = []
-name_of (Some a) = action_text a
+abbrev pub action_name : Option Action → List ℕ
+action_name None = []
+action_name (Some a) = action_text a
 
 -- the action of the node of this number, as it stands in the text of a formula
 abbrev pub name_at : List Node → ℕ → List ℕ
-name_at nodes k = name_of (action_at nodes k)
+name_at nodes k = action_name (action_at nodes k)
 
 -- `, no ACTION or ACTION .. here`, where there is one: each action once, in the order of the nodes
 abbrev pub lack_text : System → List Node → (ℕ → Bool) → (state : ℕ) → List ℕ
-lack_text l nodes set s = mentions (codes ", no ") (codes " here") (is_lacking l nodes set s) (have_same nodes) (name_at nodes) (length nodes)
+lack_text l nodes set s = mentions (codes ", no ") (codes " here") (is_lacking l nodes set s) (have_same_action nodes) (name_at nodes) (length nodes)

@@ -11,13 +11,13 @@ abbrev pub is_mentioned : (passes : ℕ → Bool) → (have_same : ℕ → ℕ �
 is_mentioned passes have_same k = passes k && not (has_like passes have_same k k)
 
 -- the text of the first number and of each further one, between a front and an end, where there is one
-abbrev pub joined : (front end : List ℕ) → (text : ℕ → List ℕ) → (numbers : List ℕ) → List ℕ
-joined front end text [] = []
-joined front end text (k ∷ ks) = front ++ (text k ++ (flat_map (λ j. codes " or " ++ text j) ks ++ end))
+abbrev pub joined_numbers : (front end : List ℕ) → (text : ℕ → List ℕ) → (numbers : List ℕ) → List ℕ
+joined_numbers front end text [] = []
+joined_numbers front end text (k ∷ ks) = front ++ (text k ++ (flat_map (λ j. codes " or " ++ text j) ks ++ end))
 
 -- each text of one that passes once, in the order of the numbers
 abbrev pub mentions : (front end : List ℕ) → (passes : ℕ → Bool) → (have_same : ℕ → ℕ → Bool) → (text : ℕ → List ℕ) → (count : ℕ) → List ℕ
-mentions front end passes have_same text n = joined front end text (filter (is_mentioned passes have_same) (range_with_len 0 n))
+mentions front end passes have_same text n = joined_numbers front end text (filter (is_mentioned passes have_same) (range_with_len 0 n))
 
 -- Each number that passes the one test passes the other, or has the text of one that does.
 abbrev pub covers : (one other : ℕ → Bool) → (have_same : ℕ → ℕ → Bool) → (count : ℕ) → Bool

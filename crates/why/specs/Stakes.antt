@@ -14,20 +14,20 @@ use Rattle.why.specs.Actions.{is_same}
 use Rattle.why.specs.Mentions.{covers, mentions}
 
 -- The play stands at the node at the step's source and reaches the child at its target, and the action formula holds of its label.
-abbrev pub is_taken : (nodes : ℕ) → (ℕ → Bool) → Arrow → (node : ℕ) → Action → (child : ℕ) → Bool
-is_taken n set step k a child = set (place n step.source k) && set (place n step.target child) && holds a step.label
+abbrev pub is_step_taken : (nodes : ℕ) → (ℕ → Bool) → Arrow → (node : ℕ) → Action → (child : ℕ) → Bool
+is_step_taken n set step k a child = set (place n step.source k) && set (place n step.target child) && holds a step.label
 
 abbrev pub is_taken_by : (nodes : ℕ) → (ℕ → Bool) → Arrow → (node : ℕ) → Shape → Bool
-is_taken_by n set step k (ModalityNode flag a child) = is_taken n set step k a child
+is_taken_by n set step k (ModalityNode flag a child) = is_step_taken n set step k a child
 is_taken_by n set step k _ = false
 
-abbrev pub is_taken_at : (nodes : ℕ) → (ℕ → Bool) → Arrow → (node : ℕ) → Option Node → Bool
-is_taken_at n set step k None = false
-is_taken_at n set step k (Some node) = is_taken_by n set step k node.shape
+abbrev pub is_step_taken_at : (nodes : ℕ) → (ℕ → Bool) → Arrow → (node : ℕ) → Option Node → Bool
+is_step_taken_at n set step k None = false
+is_step_taken_at n set step k (Some node) = is_taken_by n set step k node.shape
 
 -- The node of this number is a modality by which the step is taken.
 abbrev pub is_stake : List Node → (ℕ → Bool) → (step : Arrow) → (node : ℕ) → Bool
-is_stake nodes set step k = is_taken_at (length nodes) set step k (slice_get nodes k)
+is_stake nodes set step k = is_step_taken_at (length nodes) set step k (slice_get nodes k)
 
 -- two diamonds or two boxes of the same action formula
 abbrev pub are_alike : Shape → Shape → Bool
@@ -35,13 +35,13 @@ are_alike (ModalityNode true a child) (ModalityNode true b other) = is_same a b
 are_alike (ModalityNode false a child) (ModalityNode false b other) = is_same a b
 are_alike _ _ = false
 
-abbrev pub are_same : Option Node → Option Node → Bool
-are_same None other = false
-are_same (Some x) None = false
-are_same (Some x) (Some y) = are_alike x.shape y.shape
+abbrev pub are_same_nodes : Option Node → Option Node → Bool
+are_same_nodes None other = false
+are_same_nodes (Some x) None = false
+are_same_nodes (Some x) (Some y) = are_alike x.shape y.shape
 
-abbrev pub have_same : List Node → (node other : ℕ) → Bool
-have_same nodes j k = are_same (slice_get nodes j) (slice_get nodes k)
+abbrev pub have_same_modality : List Node → (node other : ℕ) → Bool
+have_same_modality nodes j k = are_same_nodes (slice_get nodes j) (slice_get nodes k)
 
 abbrev pub modality_text : Shape → List ℕ
 modality_text (ModalityNode true a child) = codes "<" ++ (action_text a ++ codes ">")
@@ -58,10 +58,10 @@ stake_at nodes k = text_in (slice_get nodes k)
 
 -- ` by [ACTION] or <ACTION> ..`: the modalities by which the step is taken, each text once, in the order of the nodes
 abbrev pub stakes_text : List Node → (ℕ → Bool) → (step : Arrow) → List ℕ
-stakes_text nodes set step = mentions (codes " by ") [] (is_stake nodes set step) (have_same nodes) (stake_at nodes) (length nodes)
+stakes_text nodes set step = mentions (codes " by ") [] (is_stake nodes set step) (have_same_modality nodes) (stake_at nodes) (length nodes)
 
 abbrev pub stakes_cover : List Node → (ℕ → Bool) → (one other : Arrow) → Bool
-stakes_cover nodes set one other = covers (is_stake nodes set one) (is_stake nodes set other) (have_same nodes) (length nodes)
+stakes_cover nodes set one other = covers (is_stake nodes set one) (is_stake nodes set other) (have_same_modality nodes) (length nodes)
 
 -- Two steps are taken by modalities of the same texts.
 abbrev pub is_as_before : List Node → (ℕ → Bool) → (before : Option Arrow) → (step : Arrow) → Bool

@@ -4,7 +4,7 @@ use Rattle.std.specs.Prelude.{if◌then◌else◌}
 use Rattle.std.specs.List.{AllByRecursion, AllByRecursion-prop}
 use Rattle.std.specs.Coded.{le_prop}
 use Rattle.systems.specs.System.{Arrow, System}
-use Rattle.lts.specs.Canon.{line_end}
+use Rattle.text.specs.Pieces.{line_end}
 use Rattle.why.specs.Remarks.{Remarks}
 use Rattle.why.specs.Telling.{arrow_at}
 use Rattle.why.specs.declared.line.Line.{Line}
@@ -56,24 +56,24 @@ abbrev pub line_before : List Line → ℕ → Option Line
 line_before lines zero = None
 line_before lines (suc n) = slice_get lines n
 
-abbrev pub text_of : Remarks → System → (before : Option Line) → Option Line → List ℕ
-text_of r l before None = []
-text_of r l before (Some line) = line_text r l before line
+abbrev pub story_text : Remarks → System → (before : Option Line) → Option Line → List ℕ
+story_text r l before None = []
+story_text r l before (Some line) = line_text r l before line
 
 -- the text of the line of this number
 abbrev pub text_at : Remarks → System → List Line → ℕ → List ℕ
-text_at r l lines n = text_of r l (line_before lines n) (slice_get lines n)
+text_at r l lines n = story_text r l (line_before lines n) (slice_get lines n)
 
 -- A step has the number of one of so many transitions, and a stop is at one of so many states.
 abbrev pub IsNumbered : (states transitions : ℕ) → Line → Type 0
 IsNumbered states transitions (Step number again blanks) = number < transitions
 IsNumbered states transitions (Stop state blanks) = state < states
 
-abbrev pub AreNumbered : (states transitions : ℕ) → List Line → Type 0
-AreNumbered states transitions lines = AllByRecursion (IsNumbered states transitions) lines
+abbrev pub AreLinesOf : (states transitions : ℕ) → List Line → Type 0
+AreLinesOf states transitions lines = AllByRecursion (IsNumbered states transitions) lines
 
-pub AreNumbered-prop : (states transitions : ℕ) (lines : List Line) → IsProp (AreNumbered states transitions lines)
-AreNumbered-prop states transitions lines = AllByRecursion-prop (IsNumbered states transitions) one lines
+pub AreLinesOf-prop : (states transitions : ℕ) (lines : List Line) → IsProp (AreLinesOf states transitions lines)
+AreLinesOf-prop states transitions lines = AllByRecursion-prop (IsNumbered states transitions) one lines
   where
     one : (line : Line) → IsProp (IsNumbered states transitions line)
     one (Step number again blanks) p q i = le_prop p q i

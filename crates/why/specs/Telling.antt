@@ -23,8 +23,8 @@ stops (Step number again blanks ∷ lines) = stops lines
 stops (Stop state blanks ∷ lines) = state ∷ stops lines
 
 -- The lines have come to the state: it is the initial one, or the target of a step that is told.
-abbrev pub IsReached : System → List Line → ℕ → Type 0
-IsReached l lines s = (s ≡ l.initial) ⊎ ((n : ℕ) × Contains (steps lines) n × ((arrow_at l n).target ≡ s))
+abbrev pub IsComeTo : System → List Line → ℕ → Type 0
+IsComeTo l lines s = (s ≡ l.initial) ⊎ ((n : ℕ) × Contains (steps lines) n × ((arrow_at l n).target ≡ s))
 
 -- No transition begins at the state.
 abbrev pub HasNoStep : System → ℕ → Type 0
@@ -34,13 +34,13 @@ HasNoStep l s = (n : ℕ) → n < length l.arrows → (arrow_at l n).source ≢ 
 pub record IsStep (l : System) (before : List Line) (n : ℕ) (flag : Bool) : Type 0 where
   pub within : n < length l.arrows
   pub new : Contains (steps before) n → ⊥
-  pub from : IsReached l before (arrow_at l n).source
-  pub again : IsTrue flag ↔ IsReached l before (arrow_at l n).target
+  pub from : IsComeTo l before (arrow_at l n).source
+  pub again : IsTrue flag ↔ IsComeTo l before (arrow_at l n).target
 
 -- It may be told that no step leads on: none does, the lines have come there, and it wasn't told.
 pub record IsStop (l : System) (before : List Line) (s : ℕ) : Type 0 where
   pub none : HasNoStep l s
-  pub reached : IsReached l before s
+  pub reached : IsComeTo l before s
   pub new : Contains (stops before) s → ⊥
 
 abbrev pub Follows : System → List Line → Line → Type 0
@@ -55,7 +55,7 @@ EachFollows l before (line ∷ lines) = Follows l before line × EachFollows l (
 -- The lines tell all transitions, or so many of them where there are more; and of each state that they have come to, whether a step leads on.
 pub record IsTelling (l : System) (limit : ℕ) (lines : List Line) : Type 0 where
   pub each : EachFollows l [] lines
-  pub stops : (s : ℕ) → IsReached l lines s → HasNoStep l s → Contains (stops lines) s
+  pub stops : (s : ℕ) → IsComeTo l lines s → HasNoStep l s → Contains (stops lines) s
   pub all : length l.arrows ≤ limit → (n : ℕ) → n < length l.arrows → Contains (steps lines) n
   pub most : limit < length l.arrows → length (steps lines) ≡ limit
 

@@ -6,7 +6,7 @@ ghost use Rattle.calculus.specs.View.{action_of};
 ghost use Rattle.normal.specs.Normal.{normal_nodes};
 ghost use Rattle.normal.specs.View.{shape_of};
 ghost use Rattle.game.specs.Game.{vertex};
-ghost use Rattle.why.specs.Lacks.{action_at as action_of_number, action_in, have_same as have_same_actions, is_lacking as is_lacking_at, name_at};
+ghost use Rattle.why.specs.Lacks.{action_at as action_of_number, action_in, have_same_action as have_same_actions, is_lacking as is_lacking_at, name_at};
 ghost use Rattle.why.specs.Naming.{is_stuck as is_stuck_in, nodes_in, remarks_in, set_in, system_in};
 
 use crate::actions::is_same;
@@ -46,14 +46,14 @@ struct Lacks<'a> {
 
 impl Mentions for Lacks<'_> {
     ghost use Rattle.std.specs.Prelude.{length};
-    ghost use Rattle.why.specs.Lacks.{have_same, is_lacking, name_at};
+    ghost use Rattle.why.specs.Lacks.{have_same_action, is_lacking, name_at};
     ghost use Rattle.why.specs.Naming.{nodes_in, set_in, system_in};
 
     ghost count = { λ lacks. length (nodes_in lacks.reached) };
 
     ghost passes = { λ lacks. is_lacking (system_in lacks.reached) (nodes_in lacks.reached) (set_in lacks.reached) lacks.state };
 
-    ghost have_same = { λ lacks. have_same (nodes_in lacks.reached) };
+    ghost have_same = { λ lacks. have_same_action (nodes_in lacks.reached) };
 
     ghost text = { λ lacks. name_at (nodes_in lacks.reached) };
 

@@ -7,7 +7,7 @@ ghost use Rattle.calculus.specs.Canon.{action_text};
 ghost use Rattle.calculus.specs.View.{action_of};
 ghost use Rattle.normal.specs.View.{shape_of};
 ghost use Rattle.why.specs.Naming.{nodes_in, remarks_in, set_in};
-ghost use Rattle.why.specs.Stakes.{IsTransitionOf-prop, are_alike as are_alike_shapes, is_as_before as is_as_before_in, is_taken as is_taken_in, modality_text};
+ghost use Rattle.why.specs.Stakes.{IsTransitionOf-prop, are_alike as are_alike_shapes, is_as_before as is_as_before_in, is_step_taken as is_taken_in, modality_text};
 
 use crate::actions::is_same;
 use crate::mentions::{Mentions, covers, put_mentions};
@@ -64,7 +64,7 @@ fn stakes_of<'a>(reached: &Reached<'a>, step: Transition) -> Stakes<'a>
 impl Mentions for Stakes<'_> {
     ghost use Rattle.std.specs.Prelude.{length};
     ghost use Rattle.systems.specs.Numbered.{arrow_of};
-    ghost use Rattle.why.specs.Stakes.{have_same, is_stake, stake_at};
+    ghost use Rattle.why.specs.Stakes.{have_same_modality, is_stake, stake_at};
     ghost use Rattle.why.specs.Naming.{nodes_in, set_in};
 
     ghost count = { λ stakes. length (nodes_in stakes.reached) };
@@ -72,7 +72,7 @@ impl Mentions for Stakes<'_> {
     ghost passes = { λ stakes.
         is_stake (nodes_in stakes.reached) (set_in stakes.reached) (arrow_of stakes.reached.system.now.labels stakes.step) };
 
-    ghost have_same = { λ stakes. have_same (nodes_in stakes.reached) };
+    ghost have_same = { λ stakes. have_same_modality (nodes_in stakes.reached) };
 
     ghost text = { λ stakes. stake_at (nodes_in stakes.reached) };
 

@@ -5,8 +5,8 @@ ghost use Rattle.std.specs.Prelude.{OnOk, IfOk, IsTrue, MatchBool, length, slice
 ghost use Rattle.std.specs.List.Sorted.{IsNonDecreasingBy};
 ghost use Rattle.systems.specs.declared.system.Transition.{Transition};
 ghost use Rattle.why.specs.declared.walk.Way.{Way};
-ghost use Rattle.why.specs.Telling.{IsConnected, IsReached, IsTelling, arrow_at, steps};
-ghost use Rattle.why.specs.Walk.{HasLetBlockWait, HasTold, HasToldMore, IsBlockOf, IsFull, IsOrdered, IsWalk, MayTell, left, told_of};
+ghost use Rattle.why.specs.Telling.{IsConnected, IsComeTo, IsTelling, arrow_at, steps};
+ghost use Rattle.why.specs.Walk.{HasLetBlockWait, HasToldStep, HasToldMore, IsBlockOf, IsUsedUp, IsInOrder, IsWalk, MayTell, steps_left, told_of};
 
 use crate::line::{Line, MOST_BLANKS};
 use lts::{Lts, Transition};
@@ -54,7 +54,7 @@ pub(crate) struct Walk {
 /// # Errors
 /// Want of memory.
 pub fn telling(alloc: Global, excerpt: &Excerpt<'_>) -> Result<Vec<Line>, Memory>
-    requires ordered { IsOrdered excerpt.now }
+    requires ordered { IsInOrder excerpt.now }
     requires connected { IsConnected (told_of excerpt.now) }
     ensures { IfOk result (λ lines. IsTelling (told_of excerpt.now) excerpt.now.most lines.items) }
 {
@@ -68,7 +68,7 @@ pub fn telling(alloc: Global, excerpt: &Excerpt<'_>) -> Result<Vec<Line>, Memory
 
 /// The walk stands at the initial state, and nothing is told.
 fn begin(alloc: Global, excerpt: &Excerpt<'_>) -> Result<Walk, Memory>
-    requires { IsOrdered excerpt.now }
+    requires { IsInOrder excerpt.now }
     ensures { let l = told_of excerpt.now in IfOk result (λ w. IsWalk l excerpt.now.most w w.waiting.items (Some l.initial)) }
 {
     let mut reached = vec![in alloc; false; excerpt.system.states() as usize]?;
@@ -85,11 +85,11 @@ fn begin(alloc: Global, excerpt: &Excerpt<'_>) -> Result<Walk, Memory>
 
 /// Tells a transition that waited, unless it is told or no more may be.
 fn go_on(excerpt: &Excerpt<'_>, way: Way, walk: &mut Walk) -> Result<(), Memory>
-    requires ordered { IsOrdered excerpt.now }
+    requires ordered { IsInOrder excerpt.now }
     requires walk { IsWalk (told_of excerpt.now) excerpt.now.most walk.old (walk.old.waiting.items ++ way ∷ []) None }
     ensures walk { OnOk result (IsWalk (told_of excerpt.now) excerpt.now.most walk.new walk.new.waiting.items None) }
     ensures falls { let n = length excerpt.now.transitions.now in
-        OnOk result (left walk.new walk.new.waiting.items n ≤ left walk.old walk.old.waiting.items n) }
+        OnOk result (steps_left walk.new walk.new.waiting.items n ≤ steps_left walk.old walk.old.waiting.items n) }
 {
     if may_tell(excerpt, way.number, walk) {
         tell_way(excerpt, way, walk)
@@ -100,14 +100,14 @@ fn go_on(excerpt: &Excerpt<'_>, way: Way, walk: &mut Walk) -> Result<(), Memory>
 
 /// Tells a transition, and those beside it. If its target is new, the transitions from there wait.
 fn tell_way(excerpt: &Excerpt<'_>, way: Way, walk: &mut Walk) -> Result<(), Memory>
-    requires ordered { IsOrdered excerpt.now }
+    requires ordered { IsInOrder excerpt.now }
     requires within { way.number < length excerpt.now.transitions.now }
     requires walk { IsWalk (told_of excerpt.now) excerpt.now.most walk.old (walk.old.waiting.items ++ way ∷ []) None }
-    requires from { IsReached (told_of excerpt.now) walk.old.lines.items (arrow_at (told_of excerpt.now) way.number).source }
+    requires from { IsComeTo (told_of excerpt.now) walk.old.lines.items (arrow_at (told_of excerpt.now) way.number).source }
     requires may { MayTell (told_of excerpt.now) excerpt.now.most walk.old way.number }
     ensures walk { OnOk result (IsWalk (told_of excerpt.now) excerpt.now.most walk.new walk.new.waiting.items None) }
     ensures falls { let n = length excerpt.now.transitions.now in
-        OnOk result (left walk.new walk.new.waiting.items n ≤ left walk.old walk.old.waiting.items n) }
+        OnOk result (steps_left walk.new walk.new.waiting.items n ≤ steps_left walk.old walk.old.waiting.items n) }
 {
     let target = excerpt.transitions[way.number].target;
     let new = tell(excerpt, way, walk)?;
@@ -124,26 +124,26 @@ fn may_tell(excerpt: &Excerpt<'_>, number: usize, walk: &Walk) -> bool
     requires within { number < length excerpt.now.transitions.now }
     requires walk { (waiting : List Way) × (open_state : Option ℕ) × IsWalk (told_of excerpt.now) excerpt.now.most walk.now waiting open_state }
     ensures { let l = told_of excerpt.now in MatchBool result (MayTell l excerpt.now.most walk.now number)
-        (Contains (steps walk.now.lines.items) number ⊎ IsFull l excerpt.now.most walk.now.count) }
+        (Contains (steps walk.now.lines.items) number ⊎ IsUsedUp l excerpt.now.most walk.now.count) }
 {
     !walk.told[number] && !is_full(excerpt, walk)
 }
 
 /// Whether no more may be told.
 fn is_full(excerpt: &Excerpt<'_>, walk: &Walk) -> bool
-    ensures { IsTrue result ↔ IsFull (told_of excerpt.now) excerpt.now.most walk.now.count }
+    ensures { IsTrue result ↔ IsUsedUp (told_of excerpt.now) excerpt.now.most walk.now.count }
 {
     excerpt.most < excerpt.transitions.len() && excerpt.most <= walk.count
 }
 
 /// Tells a transition, and answers whether its target is new.
 fn tell(excerpt: &Excerpt<'_>, way: Way, walk: &mut Walk) -> Result<bool, Memory>
-    requires ordered { IsOrdered excerpt.now }
+    requires ordered { IsInOrder excerpt.now }
     requires within { way.number < length excerpt.now.transitions.now }
     requires walk { (waiting : List Way) × (open_state : Option ℕ) × IsWalk (told_of excerpt.now) excerpt.now.most walk.old waiting open_state }
-    requires from { IsReached (told_of excerpt.now) walk.old.lines.items (arrow_at (told_of excerpt.now) way.number).source }
+    requires from { IsComeTo (told_of excerpt.now) walk.old.lines.items (arrow_at (told_of excerpt.now) way.number).source }
     requires may { MayTell (told_of excerpt.now) excerpt.now.most walk.old way.number }
-    ensures { IfOk result (HasTold (told_of excerpt.now) excerpt.now.most way.number walk.old walk.new) }
+    ensures { IfOk result (HasToldStep (told_of excerpt.now) excerpt.now.most way.number walk.old walk.new) }
 {
     let target = excerpt.transitions[way.number].target as usize;
     let again = walk.reached[target];
@@ -160,11 +160,11 @@ fn tell(excerpt: &Excerpt<'_>, way: Way, walk: &mut Walk) -> Result<bool, Memory
 
 /// Tells the other transitions with the source and the target of this one.
 fn tell_others(excerpt: &Excerpt<'_>, way: Way, walk: &mut Walk) -> Result<(), Memory>
-    requires ordered { IsOrdered excerpt.now }
+    requires ordered { IsInOrder excerpt.now }
     requires within { way.number < length excerpt.now.transitions.now }
     requires walk { (waiting : List Way) × (open_state : Option ℕ) × IsWalk (told_of excerpt.now) excerpt.now.most walk.old waiting open_state }
-    requires from { IsReached (told_of excerpt.now) walk.old.lines.items (arrow_at (told_of excerpt.now) way.number).source }
-    requires to { IsReached (told_of excerpt.now) walk.old.lines.items (arrow_at (told_of excerpt.now) way.number).target }
+    requires from { IsComeTo (told_of excerpt.now) walk.old.lines.items (arrow_at (told_of excerpt.now) way.number).source }
+    requires to { IsComeTo (told_of excerpt.now) walk.old.lines.items (arrow_at (told_of excerpt.now) way.number).target }
     ensures { OnOk result (HasToldMore (told_of excerpt.now) excerpt.now.most walk.old walk.new) }
 {
     let first = excerpt.transitions[way.number];
@@ -180,11 +180,11 @@ fn tell_others(excerpt: &Excerpt<'_>, way: Way, walk: &mut Walk) -> Result<(), M
 
 /// Tells a transition if it leads to this state, to which the walk has come, and may be told.
 fn tell_other(excerpt: &Excerpt<'_>, target: u32, way: Way, walk: &mut Walk) -> Result<(), Memory>
-    requires ordered { IsOrdered excerpt.now }
+    requires ordered { IsInOrder excerpt.now }
     requires within { way.number < length excerpt.now.transitions.now }
     requires walk { (waiting : List Way) × (open_state : Option ℕ) × IsWalk (told_of excerpt.now) excerpt.now.most walk.old waiting open_state }
-    requires from { IsReached (told_of excerpt.now) walk.old.lines.items (arrow_at (told_of excerpt.now) way.number).source }
-    requires to { IsReached (told_of excerpt.now) walk.old.lines.items target }
+    requires from { IsComeTo (told_of excerpt.now) walk.old.lines.items (arrow_at (told_of excerpt.now) way.number).source }
+    requires to { IsComeTo (told_of excerpt.now) walk.old.lines.items target }
     ensures { OnOk result (HasToldMore (told_of excerpt.now) excerpt.now.most walk.old walk.new) }
 {
     if excerpt.transitions[way.number].target == target && may_tell(excerpt, way.number, walk) {
@@ -195,7 +195,7 @@ fn tell_other(excerpt: &Excerpt<'_>, target: u32, way: Way, walk: &mut Walk) -> 
 
 /// Lets the transitions from a state that is new wait, or tells that there are none.
 fn visit(excerpt: &Excerpt<'_>, state: u32, blanks: usize, walk: &mut Walk) -> Result<(), Memory>
-    requires ordered { IsOrdered excerpt.now }
+    requires ordered { IsInOrder excerpt.now }
     requires walk { IsWalk (told_of excerpt.now) excerpt.now.most walk.old walk.old.waiting.items (Some state) }
     ensures walk { OnOk result (IsWalk (told_of excerpt.now) excerpt.now.most walk.new walk.new.waiting.items None) }
     ensures reached { OnOk result (walk.new.reached.items ≡ walk.old.reached.items) }

@@ -4,7 +4,7 @@ ghost use Rattle.std.specs.Prelude.{◌≡◌, ◌<◌, ◌++◌, IfSome, None, 
 ghost use Rattle.systems.specs.Numbered.{IsInside, IsInside-prop, IsTransitionOf, arrow_of, system_with};
 ghost use Rattle.text.specs.Wrote.{Wrote};
 ghost use Rattle.why.specs.Naming.{remarks_in, system_in};
-ghost use Rattle.why.specs.Story.{AreNumbered, AreNumbered-prop, IsNumbered, again_text, blanks_before, count_text, line_before, line_text, lines_text};
+ghost use Rattle.why.specs.Story.{AreLinesOf, AreLinesOf-prop, IsNumbered, again_text, blanks_before, count_text, line_before, line_text, lines_text};
 ghost use Rattle.why.specs.Story.{step_of, step_text, stop_text, telling_text};
 
 use crate::lacks::put_lacks;
@@ -32,7 +32,7 @@ pub fn write_telling<W: Sink>(
     out: &mut W,
 ) -> Result<(), WriteFault>
     requires inside { IsInside reached.now.system.now part.now }
-    requires numbered { AreNumbered (system_in reached.now).states (length part.now) lines.now }
+    requires numbered { AreLinesOf (system_in reached.now).states (length part.now) lines.now }
     ensures { let r = reached.now in Wrote (W.taken out.old) (W.taken out.new) result
         (telling_text (remarks_in r) (system_with r.system.now part.now) most lines.now) }
 {
@@ -67,7 +67,7 @@ struct Told<'a> {
     part: &'a [Transition],
     lines: &'a [Line],
     ghost inside: { IsInside reached.system.now part.now } by { IsInside-prop reached.system.now part.now },
-    ghost numbered: { AreNumbered (system_in reached).states (length part.now) lines.now } by { AreNumbered-prop _ _ lines.now },
+    ghost numbered: { AreLinesOf (system_in reached).states (length part.now) lines.now } by { AreLinesOf-prop _ _ lines.now },
 }
 
 impl Lines for Told<'_> {
@@ -98,7 +98,7 @@ fn put_told<W: Sink>(
     out: &mut W,
 ) -> Result<(), WriteFault>
     requires inside { IsInside reached.now.system.now part.now }
-    requires numbered { AreNumbered (system_in reached.now).states (length part.now) lines.now }
+    requires numbered { AreLinesOf (system_in reached.now).states (length part.now) lines.now }
     ensures { let r = reached.now in Wrote (W.taken out.old) (W.taken out.new) result
         (lines_text (remarks_in r) (system_with r.system.now part.now) None lines.now) }
 {

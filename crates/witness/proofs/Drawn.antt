@@ -9,12 +9,12 @@ use Rattle.systems.specs.Numbered.{Numbered, arrow_of, system_with}
 use Rattle.systems.specs.declared.system.Transition.{Transition}
 use Rattle.lts.proofs.Listed.{listed}
 use Rattle.text.specs.Wrote.{lines_from}
-use Rattle.witness.specs.Drawing.{drawing, drawing_end, edge_end, edge_front, edge_line, escape, escaped, head_text, line_at, line_of}
+use Rattle.witness.specs.Drawing.{drawing, drawing_end, edge_end, edge_front, edge_line, escape, escaped, head_text, edge_line_at, edge_line_of}
 
 -- the lines by number are all of them
-pub all_lines : (labels : List (List ℕ)) (ts : List Transition) → lines_from (line_at labels ts) 0 (length ts) ≡ flat_map edge_line (map (arrow_of labels) ts)
-all_lines labels ts = listed edge_line (arrow_of labels) (line_at labels ts) 0 ts
-    (λ i t h. (let same : 0 + i ≡ i = omega arith in ap (λ n. line_at labels ts n) same ∙ ap (line_of labels) h))
+pub all_lines : (labels : List (List ℕ)) (ts : List Transition) → lines_from (edge_line_at labels ts) 0 (length ts) ≡ flat_map edge_line (map (arrow_of labels) ts)
+all_lines labels ts = listed edge_line (arrow_of labels) (edge_line_at labels ts) 0 ts
+    (λ i t h. (let same : 0 + i ≡ i = omega arith in ap (λ n. edge_line_at labels ts n) same ∙ ap (edge_line_of labels) h))
 
 -- ------------------------------------------------------------------ the bytes of a label
 

@@ -12,7 +12,7 @@ use Rattle.game.specs.Arena.{arena}
 use Rattle.game.specs.Game.{Game}
 use Rattle.laws.specs.Admissible.{IsNodes}
 use Rattle.evidence.specs.Evidence.{Evidence, IsEvidence, IsGood, has}
-use Rattle.evidence.specs.Witness.{IsPart, IsReached, Keeps, KeepsStep, witness}
+use Rattle.evidence.specs.Witness.{IsPartOf, AreReached, Keeps, KeepsStep, witness}
 use Rattle.evidence.proofs.Cutting.{reached_closed}
 use Rattle.evidence.proofs.Kept.{parts_are_systems}
 use Rattle.evidence.proofs.Parts.{witness_means}
@@ -21,7 +21,7 @@ use Rattle.witness.specs.Taken.{is_taken_by_some}
 use Rattle.witness.specs.Witness.{HasTaken, IsPlay, IsShown, IsShownBy, IsWitness, root_of}
 
 -- a system is a part of itself, and keeps its steps
-itself : (l : System) → IsPart l l
+itself : (l : System) → IsPartOf l l
 itself l = record { states = refl; initial = refl; arrows = λ a c. c }
 
 keeps_step : (l : System) (n s : ℕ) (sh : Shape) (u : ℕ) → KeepsStep l l n s sh u
@@ -56,9 +56,9 @@ is_witness l f nodes e part system admitted forms evidence good root taken =
 
 pub is_play : (l : System) (nodes : List Node) (e : Evidence) (g : Game) (root : ℕ) (set : ℕ → Bool) (part : System) → g ≡ arena l nodes
     → root ≡ root_of l nodes
-    → IsReached g e root set → part ≡ witness l nodes e set → IsPlay l nodes e part set
+    → AreReached g e root set → part ≡ witness l nodes e set → IsPlay l nodes e part set
 is_play l nodes e g root set part same at reached is = record {
-  reached = subst (λ r. IsReached (arena l nodes) e r set) at (subst (λ h. IsReached h e root set) same reached);
+  reached = subst (λ r. AreReached (arena l nodes) e r set) at (subst (λ h. AreReached h e root set) same reached);
   taken = is;
 }
 

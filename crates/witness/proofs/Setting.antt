@@ -1,7 +1,7 @@
 -- One more is marked.
 use Rattle.std.proofs.Common.{◌≡◌, ℕ, zero, suc, ◌<◌, ◌⊎◌, Bool, true, false, List, [], ◌∷◌, length, replicate, refl, sym, ap, inl, inr, arith, IsTrue, true≢false}
 use Rattle.std.specs.Prelude.{slice_set}
-use Rattle.witness.specs.Walk.{is_marked, unmarked}
+use Rattle.witness.specs.Walk.{is_marked, unmarked_vertices}
 
 pub set_keeps : (marks : List Bool) (i u : ℕ) → IsTrue (is_marked marks u) → IsTrue (is_marked (slice_set marks i true) u)
 set_keeps [] i u h = h
@@ -22,7 +22,7 @@ set_adds (m ∷ marks) zero (suc u) h = inl h
 set_adds (m ∷ marks) (suc i) zero h = inl h
 set_adds (m ∷ marks) (suc i) (suc u) h = elim (set_adds marks i u h) [ inl k ↦ inl k | inr e ↦ inr (ap suc e) ]
 
-pub one_fewer : (marks : List Bool) (i : ℕ) → i < length marks → is_marked marks i ≡ false → suc (unmarked (slice_set marks i true)) ≡ unmarked marks
+pub one_fewer : (marks : List Bool) (i : ℕ) → i < length marks → is_marked marks i ≡ false → suc (unmarked_vertices (slice_set marks i true)) ≡ unmarked_vertices marks
 one_fewer [] i lt e = absurd (omega arith)
 one_fewer (true ∷ marks) zero lt e = cc
 one_fewer (false ∷ marks) zero lt e = refl
@@ -34,7 +34,7 @@ marked_within [] u h = absurd (true≢false (sym h))
 marked_within (m ∷ marks) zero h = omega arith
 marked_within (m ∷ marks) (suc u) h = let l = marked_within marks u h in omega (arith, l)
 
-pub none_fewer : (marks : List Bool) (i : ℕ) → is_marked marks i ≡ true → unmarked (slice_set marks i true) ≡ unmarked marks
+pub none_fewer : (marks : List Bool) (i : ℕ) → is_marked marks i ≡ true → unmarked_vertices (slice_set marks i true) ≡ unmarked_vertices marks
 none_fewer [] i e = refl
 none_fewer (true ∷ marks) zero e = refl
 none_fewer (false ∷ marks) zero e = cc
@@ -47,12 +47,12 @@ no_mark zero u h = true≢false (sym h)
 no_mark (suc n) zero h = true≢false (sym h)
 no_mark (suc n) (suc u) h = no_mark n u h
 
-pub all_unmarked : (n : ℕ) → unmarked (replicate n false) ≡ n
+pub all_unmarked : (n : ℕ) → unmarked_vertices (replicate n false) ≡ n
 all_unmarked zero = refl
 all_unmarked (suc n) = ap suc (all_unmarked n)
 
 -- where each is marked
-pub none_unmarked : (marks : List Bool) → ((u : ℕ) → u < length marks → IsTrue (is_marked marks u)) → unmarked marks ≡ 0
+pub none_unmarked : (marks : List Bool) → ((u : ℕ) → u < length marks → IsTrue (is_marked marks u)) → unmarked_vertices marks ≡ 0
 none_unmarked [] h = refl
 none_unmarked (true ∷ marks) h = none_unmarked marks (λ u lt. h (suc u) (omega arith))
 none_unmarked (false ∷ marks) h = absurd (true≢false (sym (h 0 (omega arith))))

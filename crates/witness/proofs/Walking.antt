@@ -13,9 +13,9 @@ use Rattle.progress.proofs.Lists.{contains_first, contains_none}
 use Rattle.progress.proofs.NotBoth.{path_on}
 use Rattle.laws.proofs.Lists.{only_in}
 use Rattle.evidence.specs.Evidence.{Entry, Evidence, IsGood, entry_at}
-use Rattle.evidence.specs.Witness.{Goes, IsReached}
+use Rattle.evidence.specs.Witness.{Goes, AreReached}
 use Rattle.evidence.specs.declared.verdict.Fault.TheVariants.{Move}
-use Rattle.witness.specs.Walk.{AreGoals, IsWalk, Visits, is_marked}
+use Rattle.witness.specs.Walk.{AreGoals, IsMarkedWalk, Visits, is_marked}
 use Rattle.witness.proofs.Setting.{no_mark, one_fewer, set_adds, set_keeps, set_there}
 
 -- ------------------------------------------------------------------ visits
@@ -148,7 +148,7 @@ no_more (Some x) P Q h none = absurd (none x refl)
 
 module _ (g : Game) (e : Evidence) (root : ℕ) where
   pub walk_begins : (n : ℕ) (marks : List Bool) (waiting : List ℕ) → n ≡ length g.vertices → Visits (replicate n false) [] (root ∷ []) marks waiting
-      → IsWalk g e root marks waiting
+      → IsMarkedWalk g e root marks waiting
   walk_begins n marks waiting long v = record {
     long = v.long ∙ (length-replicate n false ∙ long);
     begins = v.all root (contains_first root []);
@@ -158,9 +158,9 @@ module _ (g : Game) (e : Evidence) (root : ℕ) where
   }
 
   -- one vertex waits no more
-  pub walk_on : (u : ℕ) (marks new : List Bool) (before after now targets : List ℕ) → before ≡ after ++ u ∷ [] → IsWalk g e root marks before
+  pub walk_on : (u : ℕ) (marks new : List Bool) (before after now targets : List ℕ) → before ≡ after ++ u ∷ [] → IsMarkedWalk g e root marks before
       → AreGoals g e u targets → Visits marks after targets new now
-      → IsWalk g e root new now
+      → IsMarkedWalk g e root new now
   walk_on u marks new before after now targets is w goals v = record {
     long = v.long ∙ w.long;
     begins = v.kept root w.begins;
@@ -185,7 +185,7 @@ module _ (g : Game) (e : Evidence) (root : ℕ) where
   }
 
   -- nothing waits
-  pub walk_ends : (marks : List Bool) (waiting : List ℕ) → length waiting ≡ 0 → IsWalk g e root marks waiting → IsReached g e root (is_marked marks)
+  pub walk_ends : (marks : List Bool) (waiting : List ℕ) → length waiting ≡ 0 → IsMarkedWalk g e root marks waiting → AreReached g e root (is_marked marks)
   walk_ends marks waiting none w = λ t. ((λ m. w.reached t m), λ p. along root p.0 t w.begins p.1)
     where
       along : (s : ℕ) (others : List ℕ) (t : ℕ) → IsTrue (is_marked marks s) → IsPath (Goes g e) s others t → IsTrue (is_marked marks t)

@@ -2,7 +2,7 @@
 use Rattle.std.specs.Prelude.{ℕ, ◌||◌, ◌==◌, List, [], ◌∷◌, ◌++◌, Option, Some, None, codes, decimal, slice_get, if◌then◌else◌}
 use Rattle.std.specs.List.{flat_map}
 use Rattle.systems.specs.System.{Arrow, System}
-use Rattle.lts.specs.Canon.{line_end}
+use Rattle.text.specs.Pieces.{line_end}
 use Rattle.systems.specs.Numbered.{arrow_of}
 use Rattle.systems.specs.declared.system.Transition.{Transition}
 
@@ -39,10 +39,10 @@ abbrev pub drawing : System → List ℕ
 drawing l = head_text l.initial ++ (flat_map edge_line l.arrows ++ drawing_end)
 
 -- the line of a transition, if there is one
-abbrev pub line_of : List (List ℕ) → Option Transition → List ℕ
-line_of labels None = []
-line_of labels (Some t) = edge_line (arrow_of labels t)
+abbrev pub edge_line_of : List (List ℕ) → Option Transition → List ℕ
+edge_line_of labels None = []
+edge_line_of labels (Some t) = edge_line (arrow_of labels t)
 
 -- the line of the transition of this number
-abbrev pub line_at : List (List ℕ) → List Transition → ℕ → List ℕ
-line_at labels transitions i = line_of labels (slice_get transitions i)
+abbrev pub edge_line_at : List (List ℕ) → List Transition → ℕ → List ℕ
+edge_line_at labels transitions i = edge_line_of labels (slice_get transitions i)

@@ -9,7 +9,7 @@ use Rattle.evidence.specs.Evidence.{Evidence}
 use Rattle.evidence.specs.Witness.{is_taken_at}
 
 -- a transition between states of a game of states with so many nodes
-pub record IsWithin (g : Game) (nodes : ℕ) (t : Transition) : Type 0 where
+pub record IsBetweenStates (g : Game) (nodes : ℕ) (t : Transition) : Type 0 where
   pub states : ℕ
   pub named : g.named ≡ Some (states, nodes)
   pub source : t.source < states

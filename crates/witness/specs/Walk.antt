@@ -10,13 +10,13 @@ abbrev pub is_marked : List Bool → ℕ → Bool
 is_marked marks u = slice_index_or marks u false
 
 -- how many vertices are not marked
-abbrev pub unmarked : List Bool → ℕ
-unmarked [] = 0
-unmarked (m ∷ marks) = if m then unmarked marks else suc (unmarked marks)
+abbrev pub unmarked_vertices : List Bool → ℕ
+unmarked_vertices [] = 0
+unmarked_vertices (m ∷ marks) = if m then unmarked_vertices marks else suc (unmarked_vertices marks)
 
 -- how many vertices are not marked, or wait
-abbrev pub left : List Bool → List ℕ → ℕ
-left marks waiting = unmarked marks + length waiting
+abbrev pub vertices_left : List Bool → List ℕ → ℕ
+vertices_left marks waiting = unmarked_vertices marks + length waiting
 
 -- These vertices are marked, and those of them that were not marked before wait.
 pub record Visits (marks : List Bool) (waiting targets : List ℕ) (new_marks : List Bool) (new_waiting : List ℕ) : Type 0 where
@@ -26,14 +26,14 @@ pub record Visits (marks : List Bool) (waiting targets : List ℕ) (new_marks : 
   pub only : (u : ℕ) → IsTrue (is_marked new_marks u) → IsTrue (is_marked marks u) ⊎ (Contains targets u × Contains new_waiting u)
   pub waits : (u : ℕ) → Contains waiting u → Contains new_waiting u
   pub from : (u : ℕ) → Contains new_waiting u → Contains waiting u ⊎ Contains targets u
-  pub rest : left new_marks new_waiting ≡ left marks waiting
+  pub rest : vertices_left new_marks new_waiting ≡ vertices_left marks waiting
 
 -- the vertices to which the play may go from u
 abbrev pub AreGoals : Game → Evidence → ℕ → List ℕ → Type 0
 AreGoals g e u targets = (t : ℕ) → Goes g e u t ↔ Contains targets t
 
 -- What is marked is reached from the root, and where the play may go on from a marked vertex to one that is not marked, the first one waits.
-pub record IsWalk (g : Game) (e : Evidence) (root : ℕ) (marks : List Bool) (waiting : List ℕ) : Type 0 where
+pub record IsMarkedWalk (g : Game) (e : Evidence) (root : ℕ) (marks : List Bool) (waiting : List ℕ) : Type 0 where
   pub long : length marks ≡ length g.vertices
   pub begins : IsTrue (is_marked marks root)
   pub reached : (t : ℕ) → IsTrue (is_marked marks t) → (others : List ℕ) × IsPath (Goes g e) root others t

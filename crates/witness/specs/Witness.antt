@@ -8,12 +8,12 @@ use Rattle.game.specs.Arena.{arena, place}
 use Rattle.game.specs.Game.{Game}
 use Rattle.evidence.specs.Best.{IsEvenOf, IsOddOf}
 use Rattle.evidence.specs.Evidence.{Evidence, IsEvidence, IsGood, has}
-use Rattle.evidence.specs.Witness.{Goes, IsPart, IsReached, witness}
+use Rattle.evidence.specs.Witness.{Goes, IsPartOf, AreReached, witness}
 
 -- All states of the system and some of its arrows: where the formula holds at the initial state, these make it hold, and where it doesn't, these refute it.
 pub record IsWitness (l : System) (f : Formula) (part : System) : Type 0 where
   pub system : IsSystem part
-  pub some : IsPart l part
+  pub some : IsPartOf l part
   pub same : Satisfies part f part.initial ↔ Satisfies l f l.initial
 
 -- the vertex of the initial state with the root
@@ -22,11 +22,11 @@ root_of l nodes = place (length nodes) l.initial 0
 
 -- The part has the arrows that the play takes from the root, and no others.
 abbrev pub HasTaken : System → List Node → Evidence → System → Type 0
-HasTaken l nodes e part = (set : ℕ → Bool) × IsReached (arena l nodes) e (root_of l nodes) set × (part ≡ witness l nodes e set)
+HasTaken l nodes e part = (set : ℕ → Bool) × AreReached (arena l nodes) e (root_of l nodes) set × (part ≡ witness l nodes e set)
 
 -- The set has the vertices that the play reaches from the root, and the part has the arrows that it takes there, and no others.
 pub record IsPlay (l : System) (nodes : List Node) (e : Evidence) (part : System) (set : ℕ → Bool) : Type 0 where
-  pub reached : IsReached (arena l nodes) e (root_of l nodes) set
+  pub reached : AreReached (arena l nodes) e (root_of l nodes) set
   pub taken : part ≡ witness l nodes e set
 
 -- From the vertex the play goes one way at most.

@@ -52,11 +52,11 @@ struct EdgeLines<'a> {
 
 impl Lines for EdgeLines<'_> {
     ghost use Rattle.std.specs.Prelude.{length};
-    ghost use Rattle.witness.specs.Drawing.{line_at};
+    ghost use Rattle.witness.specs.Drawing.{edge_line_at};
 
     ghost count = { λ lines. length lines.part.now };
 
-    ghost line = { λ lines number. line_at lines.system.now.labels lines.part.now number };
+    ghost line = { λ lines number. edge_line_at lines.system.now.labels lines.part.now number };
 
     fn count(&self) -> usize {
         self.part.len()

@@ -11,9 +11,9 @@ ghost use Rattle.game.specs.Arena.{arena};
 ghost use Rattle.game.specs.Steps.{AreSets, IsSetFor};
 ghost use Rattle.laws.specs.Admissible.{IsNodes};
 ghost use Rattle.evidence.specs.Evidence.{IsGood, entry_at, has as has_entry};
-ghost use Rattle.evidence.specs.Witness.{is_same as is_same_player, is_taken as is_taken_from, moves_to as moves_to_target, witness as whole_witness};
+ghost use Rattle.evidence.specs.Witness.{is_one_player as is_same_player, is_taken as is_taken_from, moves_to as moves_to_target, witness as whole_witness};
 ghost use Rattle.witness.specs.Walk.{is_marked};
-ghost use Rattle.witness.specs.Taken.{IsWithin, is_taken_by_some};
+ghost use Rattle.witness.specs.Taken.{IsBetweenStates, is_taken_by_some};
 ghost use Rattle.witness.specs.Witness.{IsPlay, IsWitness, root_of};
 
 use crate::walk::reached;
@@ -74,7 +74,7 @@ fn is_taken(
 ) -> bool
     requires same { evidence.now.game ≡ game.now }
     requires node { k < length (normal_nodes normal.now) }
-    requires within { IsWithin game.now (length (normal_nodes normal.now)) transition }
+    requires within { IsBetweenStates game.now (length (normal_nodes normal.now)) transition }
     ensures { (labels : List (List ℕ)) (node : Node) → slice_get (normal_nodes normal.now) k ≡ Some node → IsSetFor labels node.shape set.now
         → transition.label < length labels
         → result ≡ is_taken_from (length (normal_nodes normal.now)) evidence.now.evidence (is_marked marks.now) (arrow_of labels transition) k node.shape }
@@ -104,7 +104,7 @@ fn is_kept(
 ) -> bool
     requires same { evidence.now.game ≡ game.now }
     requires count { length sets.now ≡ length (normal_nodes normal.now) }
-    requires within { IsWithin game.now (length (normal_nodes normal.now)) transition }
+    requires within { IsBetweenStates game.now (length (normal_nodes normal.now)) transition }
     ensures { (labels : List (List ℕ)) → AreSets labels (normal_nodes normal.now) (map (λ set. set.items) sets.now) → transition.label < length labels
         → result ≡ is_taken_by_some (normal_nodes normal.now) evidence.now.evidence (is_marked marks.now) (arrow_of labels transition) }
 {

@@ -3,7 +3,7 @@
 ghost use Rattle.std.specs.Prelude.{◌≡◌, ◌<◌, ◌∷◌, [], ℕ, List, IfOk, OnOk, length};
 ghost use Rattle.std.specs.List.{AllByRecursion};
 ghost use Rattle.evidence.specs.Evidence.{IsGood};
-ghost use Rattle.evidence.specs.Witness.{IsReached};
+ghost use Rattle.evidence.specs.Witness.{AreReached};
 ghost use Rattle.witness.specs.Walk.{AreGoals, Visits, is_marked};
 
 use evidence::evidence::Evidence;
@@ -70,7 +70,7 @@ pub(crate) fn reached(
     requires same { evidence.now.game ≡ game.now }
     requires good { IsGood game.now evidence.now.evidence }
     requires root { root < length game.now.vertices }
-    ensures { IfOk result (λ marks. IsReached game.now evidence.now.evidence root (is_marked marks.items)) }
+    ensures { IfOk result (λ marks. AreReached game.now evidence.now.evidence root (is_marked marks.items)) }
 {
     let mut marks = vec![in alloc; false; game.vertices() as usize]?;
     let mut waiting = Vec::new(alloc);

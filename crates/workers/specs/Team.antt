@@ -22,6 +22,6 @@ IsMemory (error.Solve solve.Memory) = Unit {0}
 IsMemory _ = ⊥
 
 -- Why there is no table: T1 exactly where the board can't be had, and else want of memory.
-abbrev pub IsRefusal : BoardKind → Game → TeamError → Type 0
-IsRefusal kind g (error.Board table.TooManyRanks) = IsTooGreat kind g
-IsRefusal kind g e = IsMemory e × (IsTooGreat kind g → ⊥)
+abbrev pub IsTeamRefusal : BoardKind → Game → TeamError → Type 0
+IsTeamRefusal kind g (error.Board table.TooManyRanks) = IsTooGreat kind g
+IsTeamRefusal kind g e = IsMemory e × (IsTooGreat kind g → ⊥)

@@ -5,7 +5,7 @@ ghost use Rattle.std.specs.Arc.{arc_value};
 ghost use Rattle.progress.specs.Lifting.{height};
 ghost use Rattle.progress.specs.Progress.{IsLeastTable};
 ghost use Rattle.progress.specs.declared.rank.TheConstants.{RANK_LIMIT};
-ghost use Rattle.workers.specs.Team.{IsMemory, IsRefusal, IsTooGreat};
+ghost use Rattle.workers.specs.Team.{IsMemory, IsTeamRefusal, IsTooGreat};
 
 use crate::error::{SolveError, TeamError};
 use crate::gate::Gate;
@@ -68,7 +68,7 @@ pub fn solve_by<
 ) -> Result<Settled, TeamError>
     ensures game { IfOk result (λ s. s.game ≡ arc_value game.now) }
     ensures least { IfOk result (λ s. IsLeastTable (arc_value game.now) s.values) }
-    ensures refused { MatchResult result (λ s. IsTooGreat team.now.board (arc_value game.now) → ⊥) (IsRefusal team.now.board (arc_value game.now)) }
+    ensures refused { MatchResult result (λ s. IsTooGreat team.now.board (arc_value game.now) → ⊥) (IsTeamRefusal team.now.board (arc_value game.now)) }
 {
     if team.workers == 1 {
         return solve_alone(alloc, game, team.board, observer, guess);
@@ -91,7 +91,7 @@ pub fn solve_by<
 pub fn fits_words(game: &Game, board: BoardKind) -> Result<bool, TeamError>
     ensures fits { IfOk result (λ fits. IsTrue fits → height game.now < RANK_LIMIT) }
     ensures board { IfOk result (λ fits. IsTooGreat board game.now → ⊥) }
-    ensures refused { IfErr result (IsRefusal board game.now) }
+    ensures refused { IfErr result (IsTeamRefusal board game.now) }
 {
     let fits = top_rank(game).is_some();
     if board == BoardKind::Packed && !fits {
@@ -110,7 +110,7 @@ fn solve_alone<O: Observer, U: Guess>(
 ) -> Result<Settled, TeamError>
     ensures game { IfOk result (λ s. s.game ≡ game.now) }
     ensures least { IfOk result (λ s. IsLeastTable game.now s.values) }
-    ensures refused { MatchResult result (λ s. IsTooGreat board game.now → ⊥) (IsRefusal board game.now) }
+    ensures refused { MatchResult result (λ s. IsTooGreat board game.now → ⊥) (IsTeamRefusal board game.now) }
 {
     match fits_words(game, board) {
         Ok(_) => match solve_one_by(alloc, game, guess, observer) {

@@ -3,14 +3,14 @@ use Rattle.std.specs.Arc.{arc_value}
 use Rattle.std.specs.Prelude.{Some, true}
 use Rattle.commands.specs.Solves.{solve_writers}
 use Rattle.commands.specs.Spelled.{IsGameOf}
-use Rattle.requests.specs.Solver.{IsFitting}
+use Rattle.requests.specs.Solver.{FitsBoard}
 use Rattle.commands.proofs.Solving.{kept_all, unproved_of}
 use Rattle.commands.proofs.solve_text.prove_and_write.Goals as goal
 
 pub returns-in-Ok-clause-answers : goal.returns-in-Ok-clause-answers
 returns-in-Ok-clause-answers g c = λ text is.
     let board = c.args.options.now.board in
-    let fits = subst (IsFitting (Some board)) (sym c.deref.ensures) c.in-Ok.ensures.board in
+    let fits = subst (FitsBoard (Some board)) (sym c.deref.ensures) c.in-Ok.ensures.board in
     c.write_all.ensures.answers board text (subst (IsGameOf text) (sym c.deref.ensures) is) fits
 
 pub returns-in-Err-clause-answers : goal.returns-in-Err-clause-answers

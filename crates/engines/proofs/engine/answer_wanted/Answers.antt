@@ -1,4 +1,4 @@
-use Rattle.verdicts.specs.Findings.{formula_of, system_of, way_in}
+use Rattle.verdicts.specs.Findings.{formula_found, system_of, way_in}
 use Rattle.engines.proofs.Checks.{answer_of, unprepared_all}
 use Rattle.engines.proofs.Putting.{as_asked}
 use Rattle.engines.proofs.Caused.{unprepared_caused, written_caused}
@@ -7,7 +7,7 @@ use Rattle.engines.proofs.engine.answer_wanted.Goals as goal
 pub returns-in-Ok-clause-answers : goal.returns-in-Ok-clause-answers
 returns-in-Ok-clause-answers g c = λ first second spelled.
     let x = c.args.found.now in
-    answer_of (way_in x) first second _ (system_of x) (formula_of x) x.marks.items c.put_wanted-wrote.result c.answer.result spelled c.requires.marks
+    answer_of (way_in x) first second _ (system_of x) (formula_found x) x.marks.items c.put_wanted-wrote.result c.answer.result spelled c.requires.marks
     (as_asked x c.in-Ok.prepared.wanted c.args.wanted _ _ _ _ _ _ _ _ _ _ c.put_wanted-wrote.result c.in-Ok.ensures.wanted c.put_wanted-wrote.ensures)
     c.answer.ensures
 

@@ -2,7 +2,7 @@ use Rattle.std.proofs.Common.{Some, subst, sym}
 use Rattle.calculus.specs.Closed.{closed_formula}
 use Rattle.requests.specs.declared.request.Wanted.{Wanted}
 use Rattle.requests.specs.declared.texts.Texts.{Texts}
-use Rattle.requests.specs.Check.{Answers, AreSpelled, ByGame}
+use Rattle.requests.specs.Check.{AnswersCheck, AreSpelled, ByGame}
 use Rattle.verdicts.specs.Findings.{way_in}
 use Rattle.requests.specs.Writers.{all_writers}
 use Rattle.engines.proofs.Checks.{alone_of, by_way, kept_writers}
@@ -38,7 +38,7 @@ returns-then-is_nothing-clause-answers g c = λ first second spelled.
     let witness = g.V.Sink.taken c.args.writers.now.witness in
     let old = g.W.Sink.taken c.args.writers.now.report in
     let new = g.W.Sink.taken c.report_by_game.new.out in
-    subst (λ (w : Wanted). Answers way first second (all_writers w game game even even odd odd witness witness old new) c.report_by_game.result)
+    subst (λ (w : Wanted). AnswersCheck way first second (all_writers w game game even even odd odd witness witness old new) c.report_by_game.result)
     (sym (c.is_nothing.ensures.0 c.if-is_nothing.true))
     (alone_of way first second c.args.wanted.report game even odd witness old new c.report_by_game.result (c.report_by_game.ensures.answers first second spelled))
 

@@ -7,12 +7,12 @@ use Rattle.text.proofs.Writing.{Wrote-after, Wrote-as, Wrote-err, WroteFront-aft
 use Rattle.systems.specs.Numbered.{IsInside, Numbered, arrow_of, system_with}
 use Rattle.normal.specs.Normal.{normal_nodes}
 use Rattle.calculus.specs.Closed.{closed_formula}
-use Rattle.why.specs.Story.{AreNumbered}
+use Rattle.why.specs.Story.{AreLinesOf}
 use Rattle.why.specs.declared.line.Line.{Line}
 use Rattle.why.proofs.Numbered.{each_numbered}
 use Rattle.requests.specs.Report.{formula_line, initial_line}
 use Rattle.requests.specs.declared.texts.Texts.{Texts}
-use Rattle.verdicts.specs.Findings.{formula_of, system_of}
+use Rattle.verdicts.specs.Findings.{formula_found, system_of}
 use Rattle.engines.proofs.Reasoning.{telling_same}
 use Rattle.engines.proofs.reasons.put_reasons.Goals as goal
 
@@ -30,16 +30,16 @@ write_telling-requires-clause-numbered g c =
     let l = system_with n part in
     let all = each_numbered l [] told.lines.items c.requires.told.shown.shown.witness.system c.requires.told.telling.each in
     let long = length-map part (arrow_of n.labels) ∙ ap length (sym c.deref-4.ensures.value) in
-    subst (λ (m : Numbered). AreNumbered m.system.states (length c.deref-4.result.now) c.deref-5.result.now) (sym c.reached_in-reached.ensures.system)
-    (subst (λ (lines : List Line). AreNumbered n.system.states (length c.deref-4.result.now) lines) (sym c.deref-5.ensures.value)
-    (subst (λ k. AreNumbered n.system.states k told.lines.items) long all))
+    subst (λ (m : Numbered). AreLinesOf m.system.states (length c.deref-4.result.now) c.deref-5.result.now) (sym c.reached_in-reached.ensures.system)
+    (subst (λ (lines : List Line). AreLinesOf n.system.states (length c.deref-4.result.now) lines) (sym c.deref-5.ensures.value)
+    (subst (λ k. AreLinesOf n.system.states k told.lines.items) long all))
 
 pub returns-in_err-write_formula_line : goal.returns-in_err-write_formula_line
 returns-in_err-write_formula_line g c =
     let x = c.args.found.now in
     let line = subst (λ (t : Texts). WroteFront (g.W.Sink.taken c.args.out.now) (g.W.Sink.taken c.write_formula_line.new.out)
     (formula_line (closed_formula t.formula))) c.deref-2.ensures c.in_err-write_formula_line.ensures in
-    Wrote-err _ _ _ _ c.from_residual.ensures.0 (WroteFront-more _ _ (formula_line (formula_of x)) _ line)
+    Wrote-err _ _ _ _ c.from_residual.ensures.0 (WroteFront-more _ _ (formula_line (formula_found x)) _ line)
 
 pub returns-in_err-write_initial_line : goal.returns-in_err-write_initial_line
 returns-in_err-write_initial_line g c =
@@ -51,7 +51,7 @@ returns-in_err-write_initial_line g c =
     let initial = subst (λ marks. WroteFront (g.W.Sink.taken c.write_formula_line.new.out) (g.W.Sink.taken c.write_initial_line.new.out)
     (initial_line (slice_index_or marks (system_of x).initial false))) c.deref-3.ensures.value by_texts in
     Wrote-err _ _ _ _ c.from_residual-in_err-write_initial_line.ensures.0
-    (WroteFront-after _ _ _ (formula_line (formula_of x)) _ line
+    (WroteFront-after _ _ _ (formula_line (formula_found x)) _ line
     (WroteFront-more _ _ (initial_line (slice_index_or x.marks.items (system_of x).initial false)) _ initial))
 
 pub returns : goal.returns
@@ -69,5 +69,5 @@ returns g c =
     c.reached_in-reached.result.marks.now told.play.marks.items c.deref-4.result.now told.play.transitions.items c.deref-5.result.now told.lines.items
     c.reached_in-reached.ensures.system c.reached_in-reached.ensures.normal c.reached_in-reached.ensures.marks c.deref-4.ensures.value c.deref-5.ensures.value)
     c.write_telling.ensures in
-    Wrote-after _ _ _ (formula_line (formula_of x)) _ _ line
+    Wrote-after _ _ _ (formula_line (formula_found x)) _ _ line
     (Wrote-after _ _ _ (initial_line (slice_index_or x.marks.items (system_of x).initial false)) _ _ initial telling)

@@ -1,6 +1,6 @@
 use Rattle.std.proofs.Common.{◌≡◌, ◌∙◌, ◌+◌, ◌-◌, ◌<◌, ap, arith, length, refl, sym}
 use Rattle.std.proofs.lemmas.List.{length-set}
-use Rattle.evidence.specs.Scan.{counts_of, end_of}
+use Rattle.evidence.specs.Scan.{counts_in, end_of}
 use Rattle.evidence.proofs.Scanning.{bracket_end, comma_end, read_more, read_stops}
 use Rattle.evidence.proofs.scan.read_ended.Goals as goal
 use Rattle.evidence.proofs.scan.read_ended.Goals.{then-k-counts, else-k-counts}
@@ -13,7 +13,7 @@ returns-in_default c =
       | then-k-counts w ↦ w.end-is ∙ comma_end c.loop-k.k (length counts) (omega arith)
       | else-k-counts w ↦ w.end-is ∙ bracket_end c.loop-k.k (length counts) inside (omega arith)
     ] in
-    ap (λ n. counts_of n c.args.bytes.now) (sym c.loop-k.auto.counts)
+    ap (λ n. counts_in n c.args.bytes.now) (sym c.loop-k.auto.counts)
     ∙ read_stops c.args.bytes.now counts c.loop-k.k _ c.loop-k.invariant inside c.if-k-counts.end end c.in_default.ensures
 
 pub loop-k-preserved : goal.loop-k-preserved

@@ -1,6 +1,6 @@
 use Rattle.std.proofs.Common.{◌++◌, append_assoc, ap, ◌∙◌, ap₂}
 use Rattle.text.proofs.Writing.{Wrote-after, Wrote-as, Wrote-err, WroteFront-more}
-use Rattle.lts.specs.Canon.{line_end}
+use Rattle.text.specs.Pieces.{line_end}
 use Rattle.evidence.specs.Canon.{entry_lines, header}
 use Rattle.evidence.proofs.writer.write_evidence.Goals as goal
 

@@ -1,12 +1,12 @@
 use Rattle.game.proofs.Common.{◌≡◌, ◌-◌, ap, ◌∙◌, arith, map, normal_nodes, range_with_len}
 use Rattle.rayon.specs.Numbers.{nat_range}
-use Rattle.game.specs.Parts.{part_of}
+use Rattle.game.specs.Parts.{vertices_of_range}
 use Rattle.game.proofs.Parts.{all_given, ok_from}
 use Rattle.game.proofs.build.parts.Goals as goal
 
 pub returns : goal.returns
 returns g c =
-    let part = part_of c.args.lts.now.system (normal_nodes c.args.form.now) c.args.size in
+    let part = vertices_of_range c.args.lts.now.system (normal_nodes c.args.form.now) c.args.size in
     let h = c.in_ok-collect.ensures in
     let ends = c.into_par_iter.ensures in
     let n = c.args.ranges in

@@ -1,7 +1,7 @@
 use Rattle.std.proofs.Common.{rules, arith, ◌≡◌, ◌+◌, ◌∙◌, ◌≤◌, length, max, subst, ap, refl, [], ◌∷◌}
 use Rattle.grammar.specs.Token.{NotSign, Open}
 use Rattle.grammar.specs.Syntax.{reg_tokens}
-use Rattle.grammar.specs.Written.{words, token_of, reg_syntax}
+use Rattle.grammar.specs.Written.{bare_tokens, token_of, reg_syntax}
 use Rattle.grammar.specs.Misread.{IsRegularMisread, ReadsRegular, RegularOf}
 use Rattle.grammar.proofs.Handed.{refused_on}
 use Rattle.grammar.proofs.Misreads.{built, below-room, misread-within as within}
@@ -92,7 +92,7 @@ pub joined-returns-in_err-right : goal.joined-returns-in_err-right
 joined-returns-in_err-right t c =
     let e = c.in_err-right.field-0.0 in
     let below = below-room (λ level depth inside. IsRegularMisread level depth inside
-    (words c.args.rest.now) e) c.args.room c.in_ok-below.below _ _ c.level.ensures c.in_ok-below.ensures.1 c.in_err-right.ensures in
+    (bare_tokens c.args.rest.now) e) c.args.room c.in_ok-below.below _ _ c.level.ensures c.in_ok-below.ensures.1 c.in_err-right.ensures in
     refused_on _ _ _ _ c.from_residual-in_err-right.ensures.1 (
     join-right c.args.sign c.args.level _ _ c.args.left _ e c.requires.left c.requires.onward c.requires.sign c.requires.first c.in_ok-below.ensures.0 below)
 
@@ -101,7 +101,7 @@ joined-returns t c =
     let left = c.args.left in
     let right = c.in_ok-right.right in
     let read = below-room (λ level depth inside. ReadsRegular level depth inside
-    (words c.args.rest.now) right) c.args.room c.in_ok-below.below _ _ c.level.ensures c.in_ok-below.ensures.1 c.in_ok-right.ensures in
+    (bare_tokens c.args.rest.now) right) c.args.room c.in_ok-below.below _ _ c.level.ensures c.in_ok-below.ensures.1 c.in_ok-right.ensures in
     let high : c.max-height.result + 1 ≡ max left.height right.height + 1 = omega (arith, c.max-height.ensures) in
     built _ _ _ c.built.result c.built.ensures tt (λ r b.
     joined-read c.args.sign c.args.level _ _ _ left right _ r c.requires.left

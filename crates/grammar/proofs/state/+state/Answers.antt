@@ -1,6 +1,6 @@
 use Rattle.std.proofs.Common.{◌≡◌, ◌≤◌, ◌+◌, [], ◌∷◌, ◌∙◌, max, sym, ap, refl, subst, arith}
 use Rattle.grammar.specs.Token.{Name, NotSign, Open}
-use Rattle.grammar.specs.Written.{words, token_of, opening, modal, reg_syntax, state_syntax}
+use Rattle.grammar.specs.Written.{bare_tokens, token_of, opening_bracket, written_modal, reg_syntax, state_syntax}
 use Rattle.grammar.specs.Misread.{IsStateMisread, ReadsState, StateOf}
 use Rattle.grammar.specs.declared.room.Room.{Room}
 use Rattle.grammar.proofs.Handed.{refused_on}
@@ -35,7 +35,7 @@ negated-returns t c =
 
 pub modal-returns-in_err-inside : goal.modal-returns-in_err-inside
 modal-returns-in_err-inside t c =
-    refused_on _ _ _ _ c.from_residual.ensures.1 (within _ _ _ _ _ _ _ _ (opening c.args.brackets ∷ []) _ _
+    refused_on _ _ _ _ c.from_residual.ensures.1 (within _ _ _ _ _ _ _ _ (opening_bracket c.args.brackets ∷ []) _ _
     (in-brackets c.args.brackets _ _) c.in_err-inside.ensures)
 
 pub modal-returns-in_err-tokens : goal.modal-returns-in_err-tokens
@@ -55,7 +55,7 @@ modal-returns t c =
     let high : c.max-height.result + 1 ≡ max inside.height inner.height + 1 = omega (arith, c.max-height.ensures) in
     built _ _ _ c.built.result c.built.ensures tt (λ s b.
     modal-read c.args.brackets _ _ _ inside _ inner _ s (record { is = b.is; high = b.high ∙ high; after = b.after })
-    (ap (λ r. modal c.args.brackets (reg_syntax r) (state_syntax inner.syntax.value)) c.into_inner-regular.ensures)
+    (ap (λ r. written_modal c.args.brackets (reg_syntax r) (state_syntax inner.syntax.value)) c.into_inner-regular.ensures)
     c.in_ok-inside.ensures c.in_ok-tokens.ensures c.in_ok-inner.ensures)
 
 pub bound-returns-in_err-name : goal.bound-returns-in_err-name
@@ -75,7 +75,7 @@ bound-returns-in_err-body t c =
 pub bound-returns : goal.bound-returns
 bound-returns t c =
     built _ _ _ c.built.result c.built.ensures tt (λ s b.
-    bound-read c.args.binder c.in_ok-name.name.now _ _ _ (words c.in_ok-tokens.tokens.now) c.in_ok-body.body _ s b refl
+    bound-read c.args.binder c.in_ok-name.name.now _ _ _ (bare_tokens c.in_ok-tokens.tokens.now) c.in_ok-body.body _ s b refl
     (c.in_ok-name.ensures ∙ ap (λ ts. Name c.in_ok-name.name.now ∷ ts) c.in_ok-tokens.ensures) c.in_ok-body.ensures)
 
 pub state-returns-in_err-unary : goal.state-returns-in_err-unary
@@ -91,7 +91,7 @@ pub joined-returns-in_err-right : goal.joined-returns-in_err-right
 joined-returns-in_err-right t c =
     let e = c.in_err-right.field-0.0 in
     let below = below-room (λ level depth inside. IsStateMisread level depth inside
-    (words c.args.rest.now) e) c.args.room c.in_ok-below.below _ _ c.level.ensures c.in_ok-below.ensures.1 c.in_err-right.ensures in
+    (bare_tokens c.args.rest.now) e) c.args.room c.in_ok-below.below _ _ c.level.ensures c.in_ok-below.ensures.1 c.in_err-right.ensures in
     refused_on _ _ _ _ c.from_residual-in_err-right.ensures.1 (
     within-sign c.args.sign c.args.level _ _ c.args.left _ e c.requires.left c.requires.first c.requires.sign c.in_ok-below.ensures.0 below)
 
@@ -100,7 +100,7 @@ joined-returns t c =
     let left = c.args.left in
     let right = c.in_ok-right.right in
     let read = below-room (λ level depth inside. ReadsState level depth inside
-    (words c.args.rest.now) right) c.args.room c.in_ok-below.below _ _ c.level.ensures c.in_ok-below.ensures.1 c.in_ok-right.ensures in
+    (bare_tokens c.args.rest.now) right) c.args.room c.in_ok-below.below _ _ c.level.ensures c.in_ok-below.ensures.1 c.in_ok-right.ensures in
     let high : c.max-height.result + 1 ≡ max left.height right.height + 1 = omega (arith, c.max-height.ensures) in
     built _ _ _ c.built.result c.built.ensures tt (λ s b.
     joined-read c.args.sign c.args.level _ _ _ left right _ s c.requires.left c.requires.first c.requires.sign c.in_ok-below.ensures.0 read
@@ -132,7 +132,7 @@ unary-returns-in-Some-prefix_of t c =
     let deep : c.in_ok-below.field-0.depth + 1 ≡ c.args.room.depth = omega
     (arith, ap (λ (r : Room). r.depth) c.in_ok-below.ensures.1, c.in_ok-below.ensures.0) in
     renamed _ _ _ _ _ _ c.prefixed.result deep (ap (λ (r : Room). r.parens) c.in_ok-below.ensures.1)
-    (sym (ap words c.in-Some.ensures.cases.0 ∙ ap (λ u. u ∷ words c.in-Some.rest.now) c.in-Some-prefix_of.ensures)) c.prefixed.ensures
+    (sym (ap bare_tokens c.in-Some.ensures.cases.0 ∙ ap (λ u. u ∷ bare_tokens c.in-Some.rest.now) c.in-Some-prefix_of.ensures)) c.prefixed.ensures
 
 pub unary-returns-in_err-inside : goal.unary-returns-in_err-inside
 unary-returns-in_err-inside t c =
@@ -145,7 +145,7 @@ unary-returns-in-Open t c =
     let wide : c.in_ok-inside.field-0.parens + 1 ≡ c.args.room.parens = omega
     (arith, ap (λ (r : Room). r.parens) c.in_ok-inside.ensures.1, c.in_ok-inside.ensures.0) in
     renamed _ _ _ _ _ _ c.group.result (ap (λ (r : Room). r.depth) c.in_ok-inside.ensures.1) wide
-    (sym (ap words c.in-Some.ensures.cases.0 ∙ ap (λ u. token_of u ∷ words c.in-Some.rest.now) c.in-Open.is)) c.group.ensures
+    (sym (ap bare_tokens c.in-Some.ensures.cases.0 ∙ ap (λ u. token_of u ∷ bare_tokens c.in-Some.rest.now) c.in-Open.is)) c.group.ensures
 
 pub unary-returns-in-None : goal.unary-returns-in-None
 unary-returns-in-None t c =
@@ -154,7 +154,7 @@ unary-returns-in-None t c =
 
 pub unary-returns-in-Some-word : goal.unary-returns-in-Some-word
 unary-returns-in-Some-word t c =
-    renamed _ _ _ _ _ _ c.built.result refl refl (sym (ap words c.in-Some.ensures.cases.0))
+    renamed _ _ _ _ _ _ c.built.result refl refl (sym (ap bare_tokens c.in-Some.ensures.cases.0))
     (built _ _ _ c.built.result c.built.ensures tt (λ s b. word-read _ _ _ _ c.in-Some.rest.now s b c.in-Some-word.ensures))
 
 pub state-returns : goal.state-returns

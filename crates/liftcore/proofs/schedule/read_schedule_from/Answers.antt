@@ -1,7 +1,7 @@
 use Rattle.std.proofs.Common.{subst, ℕ, List}
 use Rattle.std.specs.Prelude.{IfErr, IfOk, IfSome}
 use Rattle.liftcore.specs.Schedule.{IsSchedule, told}
-use Rattle.liftcore.specs.Taken.{HasTaken, TellsRead}
+use Rattle.liftcore.specs.Taken.{HasTakenLines, TellsRead}
 use Rattle.liftcore.proofs.Schedules.{promised}
 use Rattle.liftcore.proofs.Taking.{read_events, read_tells}
 use Rattle.liftcore.proofs.schedule.read_schedule_from.Goals as goal
@@ -13,6 +13,6 @@ returns-clause-reads g c =
     promised c.args.workers c.args.vertices told old c.read_text.result
     (read_events c.args.workers c.args.vertices old intake c.read_text.result c.new.ensures
     (subst (λ old. IfOk c.read_text.result (λ events. IfSome old (λ left. (workers vertices : ℕ) (text : List ℕ)
-    → HasTaken workers vertices text left intake → IsSchedule workers vertices text events.items))) c.in-Ok.ensures c.read_text.ensures.events))
+    → HasTakenLines workers vertices text left intake → IsSchedule workers vertices text events.items))) c.in-Ok.ensures c.read_text.ensures.events))
     (read_tells c.args.workers c.args.vertices old intake c.read_text.result c.new.ensures
     (subst (λ old. IfErr c.read_text.result (TellsRead old intake)) c.in-Ok.ensures c.read_text.ensures.fault))

@@ -1,12 +1,12 @@
 use Rattle.std.proofs.Common.{◌≡◌, ◌≤◌, ◌<◌, ◌++◌, ℕ, true, List, [], Option, Some, None, MatchOption, is_some, length, vec_len, subst, sym, ap, ◌∙◌, arith}
 use Rattle.calculus.specs.View.{formula_of}
 use Rattle.calculus.specs.Tree.{Formula}
-use Rattle.normal.specs.Tree.{count, norm, normal_form}
+use Rattle.normal.specs.Tree.{node_count, norm, normal_form}
 use Rattle.normal.specs.Nodes.{nodes_by, greatest_priority}
 use Rattle.normal.specs.Rules.{rule_of, nodes_with}
 use Rattle.normal.specs.Form.{IsForm}
 use Rattle.normal.specs.View.{nodes_of}
-use Rattle.normal.specs.Surveys.{noted}
+use Rattle.normal.specs.Surveys.{noted_rule}
 use Rattle.normal.specs.Writes.{Writes}
 use Rattle.normal.specs.declared.node as declared
 use Rattle.normal.specs.declared.write.Preorder.{Preorder}
@@ -23,7 +23,7 @@ few (Some n) k e h = omega (arith, h.0, h.1)
 pub part-summary-requires-clause-room : goal.part-summary-requires-clause-room
 part-summary-requires-clause-room c =
     let f = formula_of c.tree-tree.result.now in
-    omega (arith, norm_size true (λ _. 0) f 0, few c.count.result (count f) c.if-is_none.ensures c.count.ensures)
+    omega (arith, norm_size true (λ _. 0) f 0, few c.count.result (node_count f) c.if-is_none.ensures c.count.ensures)
 
 pub part-requires : goal.part-requires
 part-requires c =
@@ -32,7 +32,7 @@ part-requires c =
     omega (
       arith,
       norm_size true (λ _. 0) f (vec_len old),
-      few c.count.result (count f) c.if-is_none.ensures c.count.ensures,
+      few c.count.result (node_count f) c.if-is_none.ensures c.count.ensures,
       old.ok.0,
       ap length c.new-preorder.ensures.nodes,
     )
@@ -40,12 +40,12 @@ part-requires c =
 -- what is written after no nodes is the normal form's
 written : (rule priorities : Priorities) (f : Formula) (table : List ℕ) (old new : Preorder) → rule ≡ priorities → old.nodes.items ≡ []
     → old.priorities.now ≡ table → Writes old new (norm true (λ _. 0) f (vec_len old.nodes))
-    → nodes_by (noted table) 0 (normal_form f) ≡ nodes_by (rule_of rule) 0 (normal_form f) → nodes_of new.nodes.items ≡ nodes_with priorities f
+    → nodes_by (noted_rule table) 0 (normal_form f) ≡ nodes_by (rule_of rule) 0 (normal_form f) → nodes_of new.nodes.items ≡ nodes_with priorities f
 written rule priorities f table old new chosen none same w found =
     let first : vec_len old.nodes ≡ 0 = omega (arith, old.nodes.ok.0, ap length none) in
-    let at : nodes_of new.nodes.items ≡ nodes_of old.nodes.items ++ nodes_by (noted table) 0 (norm true (λ _. 0) f 0) = w.nodes
-    ∙ (λ j. nodes_of old.nodes.items ++ nodes_by (noted (same j)) (first j) (norm true (λ _. 0) f (first j))) in
-    at ∙ (ap (λ (xs : List declared.Node.Node). nodes_of xs ++ nodes_by (noted table) 0 (normal_form f)) none
+    let at : nodes_of new.nodes.items ≡ nodes_of old.nodes.items ++ nodes_by (noted_rule table) 0 (norm true (λ _. 0) f 0) = w.nodes
+    ∙ (λ j. nodes_of old.nodes.items ++ nodes_by (noted_rule (same j)) (first j) (norm true (λ _. 0) f (first j))) in
+    at ∙ (ap (λ (xs : List declared.Node.Node). nodes_of xs ++ nodes_by (noted_rule table) 0 (normal_form f)) none
     ∙ (found ∙ ap (λ r. nodes_by (rule_of r) 0 (normal_form f)) chosen))
 
 pub of-requires : goal.of-requires
@@ -55,5 +55,5 @@ of-requires c =
     c.new-survey.ensures c.new-preorder.ensures.nodes c.new-preorder.ensures.priorities c.in_ok-part.ensures c.part-summary.ensures.priorities in
     let greatest : c.part-summary.result.greatest ≡ greatest_priority (nodes_with c.args.priorities f) = c.part-summary.ensures.summary.greatest
     ∙ ap (λ r. greatest_priority (nodes_by (rule_of r) 0 (normal_form f))) c.new-survey.ensures in
-    subst IsForm (sym is) (is_form c.args.priorities f (few c.count.result (count f) c.if-is_none.ensures c.count.ensures)
+    subst IsForm (sym is) (is_form c.args.priorities f (few c.count.result (node_count f) c.if-is_none.ensures c.count.ensures)
     (omega (arith, greatest, c.if-summary-gt-GREATEST_PRIORITY.false)))

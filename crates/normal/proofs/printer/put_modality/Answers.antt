@@ -2,7 +2,7 @@ use Rattle.std.proofs.Common.{◌++◌, ◌∷◌, [], decimal, ap, ◌∙◌, a
 use Rattle.calculus.specs.View.{action_of}
 use Rattle.calculus.specs.Canon.{action_text}
 use Rattle.text.proofs.Writing.{Wrote-as, Wrote-err, Wrote-after, WroteFront-more, WroteFront-after}
-use Rattle.normal.specs.NormalText.{line_end}
+use Rattle.text.specs.Pieces.{line_end}
 use Rattle.normal.proofs.printer.put_modality.Goals as goal
 
 pub returns-in_err-put_pieces : goal.returns-in_err-put_pieces

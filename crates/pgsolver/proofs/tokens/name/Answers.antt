@@ -1,5 +1,5 @@
 use Rattle.std.proofs.Common.{[], ap, ◌∙◌}
-use Rattle.pgsolver.specs.Spelling.{is_name}
+use Rattle.pgsolver.specs.Spelling.{is_vertex_name}
 use Rattle.text.proofs.Streaming.{next_is, next_is_not}
 use Rattle.pgsolver.proofs.Passing.{no_name, open_name, quoted_name}
 use Rattle.pgsolver.proofs.tokens.name.Goals as goal
@@ -15,4 +15,4 @@ returns-then-not-branch g c =
 pub returns : goal.returns
 returns g c =
     quoted_name c.in_ok-next.field-0 c.quoted.new.kept.items c.is_name.result _ _ _ c.in_ok-next.ensures.next
-    (rw c.if-not-branch.false at c.in_ok-quoted.ensures) (c.is_name.ensures ∙ ap is_name c.deref.ensures.value)
+    (rw c.if-not-branch.false at c.in_ok-quoted.ensures) (c.is_name.ensures ∙ ap is_vertex_name c.deref.ensures.value)

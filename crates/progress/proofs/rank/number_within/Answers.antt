@@ -1,4 +1,4 @@
-use Rattle.progress.proofs.Common.{◌≡◌, ◌*◌, ◌+◌, ◌<◌, ap, arith, slice_index, sym, size, drop, suc, ◌∙◌, true≢false, add-one}
+use Rattle.progress.proofs.Common.{◌≡◌, ◌*◌, ◌+◌, ◌<◌, ap, arith, slice_index, sym, lists_up_to, drop, suc, ◌∙◌, true≢false, add-one}
 use Rattle.progress.proofs.Numbers.{size_great, size_next}
 use Rattle.progress.proofs.rank.number_within.Goals as goal
 
@@ -27,6 +27,6 @@ loop-bound-preserved c =
     let next = size_next bounds i c.loop-bound.number (omega arith) c.loop-bound.invariant.whole in
     let more : c.in-Some.more ≡ c.loop-bound.number * (slice_index bounds i + 1) = c.in-Some.ensures.1
     ∙ ap (λ b. c.loop-bound.number * (b + 1)) c.from.ensures in record {
-      whole = rw add-one (ap (λ n. n * size (λ b. b) (drop (suc i) bounds)) more ∙ next);
+      whole = rw add-one (ap (λ n. n * lists_up_to (λ b. b) (drop (suc i) bounds)) more ∙ next);
       low = omega arith;
     }

@@ -1,7 +1,7 @@
 use Rattle.std.proofs.Common.{◌≡◌, ◌∙◌, ℕ, List, [], length, map, ap, subst, sym, slice_index_or, Vec, Global}
 use Rattle.std.proofs.lemmas.Bool.{eqb-true}
 use Rattle.std.proofs.lemmas.List.{nil_from_length}
-use Rattle.rankings.specs.Columns.{counted_at, is_marked}
+use Rattle.rankings.specs.Columns.{counted_at, is_state_marked}
 use Rattle.rankings.specs.Slopes.{CanFollow}
 use Rattle.rankings.proofs.Units.{halves_go}
 use Rattle.rankings.proofs.counted.halves_follow.Goals as goal
@@ -19,7 +19,7 @@ returns c = λ yes s h i.
     ∙ nil_from_length c.list-else-not-is_empty.result.now
     (eqb-true (length c.list-else-not-is_empty.result.now) 0 (sym c.is_empty-else-not-is_empty.ensures ∙ c.if-not-is_empty-2.false))))
     c.if-own-next.false c.if-own-next-2.false
-    (subst (λ marks. is_marked marks c.args.own.marks s ≡ is_marked marks c.args.next.marks s) c.deref-4.ensures.value
+    (subst (λ marks. is_state_marked marks c.args.own.marks s ≡ is_state_marked marks c.args.next.marks s) c.deref-4.ensures.value
     (c.are_same_marks.ensures yes s h i))
     (subst (λ counts. CanFollow c.args.slopes (counted_at c.args.own.even.base c.args.own.even.unit counts s)
     (counted_at c.args.next.even.base c.args.next.even.unit counts s))

@@ -4,7 +4,7 @@ use Rattle.std.specs.Prelude.{IsTrue}
 use Rattle.systems.specs.declared.system.Transition.{Transition}
 use Rattle.game.specs.Steps.{is_in}
 use Rattle.rankings.specs.Columns.{number_at}
-use Rattle.rankings.specs.Ranking.{GoesOn, winner_of}
+use Rattle.rankings.specs.Ranking.{GoesOnWell, winner_of}
 use Rattle.rankings.specs.Slopes.{CanFollow}
 use Rattle.rankings.proofs.Rows.{at_contained, contained_at, more_at, stands}
 use Rattle.rankings.proofs.nodes.steps_lead.Goals.{then-has+else-let_follow-is_own, else-has}
@@ -25,7 +25,7 @@ loop-step-preserved c =
         followed = λ i t h e inside no.
             more_at (λ u. is_in c.args.set.now u ≡ true → CanFollow c.args.slopes c.args.own (number_at c.args.next u.target)) row n d
             c.loop-step-test.true (λ j u k f i. old.followed j u k f i no)
-            (λ i r p a. subst (λ z. GoesOn r (winner_of c.args.own) p c.args.own z) w.number.ensures
+            (λ i r p a. subst (λ z. GoesOnWell r (winner_of c.args.own) p c.args.own z) w.number.ensures
             ((w.let_follow.ensures r p a).0 (follows w.let_follow.result c.is_winner-is_own.result w.if-let_follow-is_own.false no))) i t h e inside;
         none = λ f. absurd (true≢false (sym w.some-is ∙ f));
         found = λ s. (n, slice_index_or row n d, stands row n d c.loop-step-test.true, sym c.has.ensures ∙ w.if-has.true);

@@ -1,7 +1,7 @@
 use Rattle.std.proofs.Common.{◌≡◌}
 use Rattle.text.proofs.PassedOn.{passed_on}
 use Rattle.lts.specs.Aut.{IsAut}
-use Rattle.requests.specs.Check.{HasRefused}
+use Rattle.requests.specs.Check.{RefusesCheck}
 use Rattle.requests.proofs.Readings.{at_known, spelled_of, unread_of, ok_before}
 use Rattle.requests.proofs.texts.read_all.Goals as goal
 
@@ -17,7 +17,7 @@ returns-in_err-spelled-clause-refusal g c =
     λ first second known also way writers kept.
     let l = c.in_ok-system.system.system in
     let told = ok_before c.read_aut.result c.in_ok-system.system _ c.in_ok-system.ensures.cases c.read_aut.ensures.reads.spelled in
-    passed_on c.from_residual-in_err-spelled.result c.in_err-spelled.field-0.0 (HasRefused way first second writers) c.from_residual-in_err-spelled.ensures.1
+    passed_on c.from_residual-in_err-spelled.result c.in_err-spelled.field-0.0 (RefusesCheck way first second writers) c.from_residual-in_err-spelled.ensures.1
     (unread_of way first second writers c.in_err-spelled.field-0.0 (l, at_known (λ text. IsAut text l) _ first known told)
     (c.in_err-spelled.ensures.refusal second also) kept)
 

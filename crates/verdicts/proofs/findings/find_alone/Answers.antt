@@ -1,7 +1,7 @@
 use Rattle.std.proofs.Common.{None, subst, sym}
 use Rattle.std.proofs.lemmas.Result.{IfErr-weaker}
 use Rattle.verdicts.specs.declared.findings.Findings.{Findings}
-use Rattle.requests.specs.Check.{ByGame, HasRefused}
+use Rattle.requests.specs.Check.{ByGame, RefusesCheck}
 use Rattle.verdicts.proofs.Beyond.{memory_caused, spelled_by}
 use Rattle.verdicts.proofs.findings.find_alone.Goals as goal
 
@@ -13,7 +13,7 @@ returns-in-Ok-clause-spelled g c = λ first second known also.
 pub returns-in-Ok-clause-refusal : goal.returns-in-Ok-clause-refusal
 returns-in-Ok-clause-refusal g c = λ first second known also writers kept.
     let spelled = c.in-Ok.ensures.spelled first second known also in
-    IfErr-weaker c.find_by_one.result _ _ (λ e h. subst (HasRefused (ByGame c.args.priorities None) first second writers) (sym h)
+    IfErr-weaker c.find_by_one.result _ _ (λ e h. subst (RefusesCheck (ByGame c.args.priorities None) first second writers) (sym h)
     ((_, spelled.system.spelled), kept)) c.find_by_one.ensures.refusal
 
 pub returns-in-Err-clause-refusal : goal.returns-in-Err-clause-refusal

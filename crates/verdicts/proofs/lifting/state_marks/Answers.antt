@@ -4,7 +4,7 @@ use Rattle.calculus.specs.Meaning.{Marks}
 use Rattle.normal.specs.Rules.{nodes_with}
 use Rattle.game.specs.Game.{Game}
 use Rattle.requests.specs.Roots.{WinsRoot}
-use Rattle.requests.specs.Solver.{IsFitting}
+use Rattle.requests.specs.Solver.{FitsBoard}
 use Rattle.verdicts.proofs.Limits.{nodes_some}
 use Rattle.verdicts.proofs.Roots.{arena_roots, roots_mean}
 use Rattle.verdicts.proofs.lifting.state_marks.Goals as goal
@@ -27,7 +27,7 @@ returns-in-Ok-clause-marks c = λ board fits.
     let admitted = c.args.formula.now.admitted in
     let known = c.states-states.ensures.known in
     record {
-      within = (c.requires.arena.within, subst (IsFitting board) c.requires.arena.same fits);
+      within = (c.requires.arena.within, subst (FitsBoard board) c.requires.arena.same fits);
       exact = roots_mean l f (nodes_with rule f) marks c.even_wins_where_meant.ensures.root known admitted (c.chosen_is_admissible.ensures rule f admitted) won;
       won = won;
     }

@@ -2,7 +2,7 @@ use Rattle.std.proofs.Common.{◌≡◌, List, Bool, subst, sym, ◌∙◌}
 use Rattle.systems.specs.Numbered.{system_with}
 use Rattle.normal.specs.Normal.{normal_nodes}
 use Rattle.evidence.specs.Evidence.{IsEvidence, IsGood}
-use Rattle.evidence.specs.Witness.{IsReached, witness as whole_witness}
+use Rattle.evidence.specs.Witness.{AreReached, witness as whole_witness}
 use Rattle.witness.specs.Walk.{is_marked}
 use Rattle.witness.proofs.Means.{is_play, is_witness, taken_of}
 use Rattle.witness.proofs.part.witness.Goals as goal

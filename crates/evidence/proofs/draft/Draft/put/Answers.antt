@@ -1,7 +1,7 @@
 use Rattle.std.proofs.Common.{◌≡◌, ◌<◌, ◌∙◌, ap, length, subst, sym}
 use Rattle.std.specs.Prelude.{IfSome}
 use Rattle.evidence.specs.Evidence.{IsEvidence, counted}
-use Rattle.evidence.specs.View.{Entries, Piece}
+use Rattle.evidence.specs.View.{Entries, NamedEvidence}
 use Rattle.evidence.proofs.Drafted.{put_is}
 use Rattle.evidence.proofs.draft.Draft.put.Goals as goal
 
@@ -10,9 +10,9 @@ invariant_of-self c =
     let inside = c.self.inside in
     let was = c.self.invariant in
     let view = sym c.self.view_is in
-    let vertex = subst (λ (p : Piece). c.args.v < length p.game.vertices) view c.requires.vertex in
-    let next = subst (λ (p : Piece). IfSome c.args.next (λ t. t < length p.game.vertices)) view c.requires.next in
-    let rank = subst (λ (p : Piece). length c.args.rank.now ≡ length (counted p.evidence.player p.game)) view c.requires.rank in
+    let vertex = subst (λ (p : NamedEvidence). c.args.v < length p.game.vertices) view c.requires.vertex in
+    let next = subst (λ (p : NamedEvidence). IfSome c.args.next (λ t. t < length p.game.vertices)) view c.requires.next in
+    let rank = subst (λ (p : NamedEvidence). length c.args.rank.now ≡ length (counted p.evidence.player p.game)) view c.requires.rank in
     let is = put_is inside.of.value inside.player inside.entries.entries c.args.v c.args.next c.args.rank.now was.0.evidence vertex next rank in (
       record {
         evidence = subst (λ (e : Entries). IsEvidence inside.of.value (record { player = inside.player; entries = e.entries })) (sym c.set.ensures) is;

@@ -1,12 +1,12 @@
 use Rattle.std.proofs.Common.{◌≡◌, ◌<◌, ℕ, List, arith, length, refl, subst, sym, true≢false}
 use Rattle.std.proofs.lemmas.Bool.{false_from_ne_true}
-use Rattle.liftcore.specs.Reading.{AreRead, successors_of}
+use Rattle.liftcore.specs.Reading.{AreRead, successors_read}
 use Rattle.liftcore.proofs.Seated.{coded, whole_raises, unread_waits}
 use Rattle.liftcore.proofs.seat.Seat.is_whole.Goals as goal
 
 pub returns-then-not-is_read : goal.returns-then-not-is_read
 returns-then-not-is_read c =
-    let same : successors_of c.args.self.now.turn ≡ c.successors-place-end.result.now =
+    let same : successors_read c.args.self.now.turn ≡ c.successors-place-end.result.now =
     coded c.args.game.now c.args.self.now c.requires.seat c.vertex.result c.successors-place-end.result.now c.vertex.ensures c.successors-place-end.ensures in (
       λ t. absurd (true≢false (sym t)),
       λ r. absurd (unread_waits c.args.game.now c.args.self.now c.requires.seat c.loop-place.place c.if-not-self.false
@@ -16,7 +16,7 @@ returns-then-not-is_read c =
 
 pub returns : goal.returns
 returns c =
-    let same : successors_of c.args.self.now.turn ≡ c.successors-place-end.result.now =
+    let same : successors_read c.args.self.now.turn ≡ c.successors-place-end.result.now =
     coded c.args.game.now c.args.self.now c.requires.seat c.vertex.result c.successors-place-end.result.now c.vertex.ensures c.successors-place-end.ensures in (
       λ t. whole_raises c.args.game.now c.args.self.now c.requires.seat c.if-not-self.false
           (subst (λ (ts : List ℕ). AreRead c.args.self.now.turn (length ts)) (sym same)

@@ -1,6 +1,6 @@
 use Rattle.std.proofs.Common.{ap, ap₂, ◌∙◌, List, Bool, ℕ, ◌≡◌, slice_set, true}
 use Rattle.liftcore.specs.Core.{Holding, Note}
-use Rattle.liftcore.specs.Reading.{Reading, successors_of}
+use Rattle.liftcore.specs.Reading.{Reading, successors_read}
 use Rattle.liftcore.specs.Seats.{notes_from, notes_of}
 use Rattle.liftcore.specs.declared.seat.Seat.{Seat}
 use Rattle.game.specs.Game.{Game, vertex}
@@ -14,10 +14,10 @@ returns-clause-notes c =
     let old : Reading = c.args.self.now.turn in
     let new : Reading = c.note.new.self in
     let seat : Seat = record { holding = c.args.self.now.holding; turn = new; owed = c.args.self.now.owed } in
-    let same : successors_of new ≡ successors_of old = ap₂ (λ (g : Game) (v : ℕ). successors_at (vertex g v)) c.note.ensures.game c.note.ensures.vertex in
-    let notes : notes_of new ≡ notes_from (successors_of old) (slice_set old.marks c.args.place true) (slice_set old.values c.args.place c.args.value) =
+    let same : successors_read new ≡ successors_read old = ap₂ (λ (g : Game) (v : ℕ). successors_at (vertex g v)) c.note.ensures.game c.note.ensures.vertex in
+    let notes : notes_of new ≡ notes_from (successors_read old) (slice_set old.marks c.args.place true) (slice_set old.values c.args.place c.args.value) =
     ap₂ (λ (ts : List ℕ) (bs : List Bool). notes_from ts bs new.values) same c.note.ensures.marks
-    ∙ ap (λ (ms : List Measure). notes_from (successors_of old) (slice_set old.marks c.args.place true) ms) c.note.ensures.values in
+    ∙ ap (λ (ms : List Measure). notes_from (successors_read old) (slice_set old.marks c.args.place true) ms) c.note.ensures.values in
     worker_holding seat c.requires.unread.holding
     ∙ ap₂ (λ (u : ℕ) (ns : List Note). Holding u ns) c.note.ensures.vertex
     (notes ∙ note_one c.args.game.now c.args.self.now c.requires.seat c.args.v c.args.place c.args.value c.requires.unread)

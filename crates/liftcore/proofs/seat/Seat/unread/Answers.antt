@@ -1,11 +1,11 @@
 use Rattle.std.proofs.Common.{length, List, ℕ, ◌<◌, ◌≡◌, ◌∙◌, ap, subst, sym, slice_index, refl}
-use Rattle.liftcore.specs.Reading.{successors_of}
+use Rattle.liftcore.specs.Reading.{successors_read}
 use Rattle.liftcore.proofs.Seated.{read_no_more, coded}
 use Rattle.liftcore.proofs.seat.Seat.unread.Goals as goal
 
 pub returns-then-is_read : goal.returns-then-is_read
 returns-then-is_read c =
-    let same : successors_of c.args.self.now.turn
+    let same : successors_read c.args.self.now.turn
     ≡ c.successors.result.now = coded c.args.game.now c.args.self.now c.requires.seat c.vertex.result c.successors.result.now c.vertex.ensures
     c.successors.ensures in
     read_no_more c.args.game.now c.args.self.now c.requires.seat c.args.v c.in_ok-place.place c.if-not-self.false

@@ -1,6 +1,6 @@
 use Rattle.std.proofs.Common.{Bool, [], ◌∷◌, refl, subst, sym, ◌∙◌}
 use Rattle.progress.proofs.Measures.{at_most_itself}
-use Rattle.tables.specs.Part.{value_in}
+use Rattle.tables.specs.Part.{value_of_part}
 use Rattle.tables.specs.Turns.{IsRaise}
 use Rattle.tables.specs.declared.access.Access.TheVariants.{Raise, Read}
 use Rattle.tables.proofs.locked.LockedBoardBoard.raise.Goals as goal
@@ -10,7 +10,7 @@ use Rattle.tables.proofs.locked.LockedBoardBoard.raise.Goals.{then-has_at, else-
 pub returns-clause-raised : goal.returns-clause-raised
 returns-clause-raised g c = elim c.if-has_at.branch [
   | then-has_at w ↦ (
-      let was = value_in w.deref_mut.result.now c.args.v in
+      let was = value_of_part w.deref_mut.result.now c.args.v in
       let accesses = Raise c.args.v was c.args.m.now ∷ [] in
       (accesses, tt, subst (λ (rose : Bool). IsRaise c.args.v c.args.m.now rose accesses) (sym w.result-is) (refl, refl, w.raise_at.ensures.rose)))
   | else-has_at w ↦ (
