@@ -4,7 +4,7 @@ use crate::arena::Arena;
 use crate::before::Before;
 use crate::crowd::Crowd;
 use crate::justify::Justification;
-use crate::meter::{Meter, first_looks, is_wide};
+use crate::meter::{Meter, first_looks, halves, is_wide};
 use crate::race::Race;
 use crate::recursion::Recursion;
 use crate::share::Crew;
@@ -84,7 +84,7 @@ fn find_near<'g, R: Threads + Sync>(
     gauge: Option<&'g Gauge>,
 ) -> Option<Winners> {
     let mut justification = Justification::new(crew.alloc, arena, Meter::first()).ok()?;
-    match justification.find_within(&first_looks(arena)) {
+    match justification.find_within(&halves(first_looks(arena))) {
         Some(winners) => Some(winners),
         None => {
             let race = Race::new();

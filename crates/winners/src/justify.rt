@@ -4,6 +4,10 @@
 // or that all successors are the other player's. The least priority of which a vertex isn't justified is looked at. Where the
 // successors say otherwise than the priority does, vertices turn, and all whose reasons rest on them lose these; where none turns, all
 // are justified.
+//
+// Before that a vertex turns whose owner leads it to one of the owner's of greater priority: it would at the first look at it, since that one
+// is looked at later, and what was looked at before would be looked at once more. The greatest priorities come first, so that what leads to
+// such a vertex is known by then.
 
 use crate::arena::{Arena, opponent, winner_by};
 use crate::cells::NONE;
@@ -52,7 +56,7 @@ impl<'g> Justification<'g> {
         let moves = Numbers::filled(alloc, arena.vertices() as usize, NONE);
         let times = Times::none(alloc, arena.game);
         let is_whole = moves.is_whole() && times.last.is_whole();
-        Ok(Justification {
+        let mut justification = Justification {
             alloc,
             arena,
             standings,
@@ -62,7 +66,44 @@ impl<'g> Justification<'g> {
             shaken: Vec::new(alloc),
             meter,
             is_whole,
-        })
+        };
+        justification.lead_all();
+        Ok(justification)
+    }
+
+    // Turns what its owner leads to a greater priority.
+    fn lead_all(&mut self) {
+        for priority in (0..self.arena.greatest()).rev() {
+            self.lead(priority);
+        }
+    }
+
+    // The same of one priority. Nothing rests on these yet.
+    fn lead(&mut self, priority: u8) {
+        let mut turned = mem::replace(&mut self.turned, Numbers::none(self.alloc));
+        turned.clear();
+        for v in self.standings.opened(priority) {
+            let next = way_up(self.arena, &self.standings, *v, priority);
+            if next != NONE {
+                self.moves.set(*v as usize, next);
+                turned.push(*v);
+            }
+        }
+        self.is_whole &= turned.is_whole();
+        if !turned.is_empty() {
+            self.settle_turned(priority, turned.as_slice());
+        }
+        self.turned = turned;
+    }
+
+    // These have the player that their priority doesn't favour, by the reasons that they have now.
+    fn settle_turned(&mut self, priority: u8, turned: &[u32]) {
+        let player = opponent(winner_by(priority));
+        let now = self.times.moments.pass(priority);
+        for v in turned {
+            self.times.last.set(*v as usize, now);
+            self.standings.justify(*v, player);
+        }
     }
 
     /// Decides who wins. `None` where the budget was spent, or for want of memory.
@@ -92,45 +133,49 @@ impl<'g> Justification<'g> {
 
     // Goes on until all are justified. Whenever some turn, looks were counted: so the budget bounds how often that is.
     fn justify_all(&mut self, more: &[u64]) -> bool {
-        let greatest = self.arena.greatest();
-        let (mut priority, mut reached) = (0_u8, 0_u8);
+        let (mut from, mut reached) = (0_u8, 0_u8);
         for _ in 0..u64::MAX {
             if self.meter.is_spent() || !self.are_whole() {
                 return false;
             }
-            if priority > greatest {
+            let Some(priority) = self.standings.busy(from) else {
                 break;
-            }
+            };
             if priority >= reached {
-                self.meter
-                    .allow(more.get(usize::from(priority)).copied().unwrap_or(0));
+                self.allow(more, reached, priority);
                 reached = priority.saturating_add(1);
             }
-            priority = self.justify_or_turn(priority);
+            from = self.justify_or_turn(priority);
         }
         self.are_whole()
+    }
+
+    // The budget grows as these priorities are come to.
+    fn allow(&mut self, more: &[u64], first: u8, last: u8) {
+        for priority in first..=last {
+            let looks = more.get(usize::from(priority)).copied().unwrap_or(0);
+            self.meter.allow(looks);
+        }
     }
 
     fn are_whole(&self) -> bool {
         self.is_whole && self.standings.are_whole
     }
 
-    // Justifies the vertices of a priority, or turns some. The answer is the least priority to be looked at.
+    // Justifies the vertices of a priority, or turns some. The answer is a priority below which none is to be looked at.
     fn justify_or_turn(&mut self, priority: u8) -> u8 {
-        if self.standings.is_idle(priority) {
-            return priority.saturating_add(1);
-        }
         let mut turned = mem::replace(&mut self.turned, Numbers::none(self.alloc));
         self.look(priority, &mut turned);
         self.is_whole &= turned.is_whole();
-        let least = if turned.is_empty() {
+        let from = if turned.is_empty() {
             self.justify(priority);
             priority.saturating_add(1)
         } else {
-            self.turn(priority, turned.as_slice())
+            self.turn(priority, turned.as_slice());
+            0
         };
         self.turned = turned;
-        least
+        from
     }
 
     // What each wins, if there is memory for it. A vertex has a move here only where it is the winner's own.
@@ -144,59 +189,60 @@ impl<'g> Justification<'g> {
     // Looks at open vertices of a priority, the last first, and lists which turn.
     fn look(&mut self, priority: u8, turned: &mut Numbers) {
         turned.clear();
+        let mut looks = 0_usize;
         for _ in 0..u64::MAX {
             if turned.len() >= TURNED_AT_ONCE {
                 break;
             }
             match self.standings.pop_open(priority) {
-                Some(v) => self.look_at(v, priority, turned),
+                Some(v) => looks = looks.saturating_add(self.look_at(v, priority, turned)),
                 None => break,
             }
         }
+        self.meter.count_all(looks);
     }
 
-    fn look_at(&mut self, v: u32, priority: u8, turned: &mut Numbers) {
+    // Looks at a vertex, if it is open. The answer is how many looks that took.
+    fn look_at(&mut self, v: u32, priority: u8, turned: &mut Numbers) -> usize {
         let standing = self.standings.get(v);
         if standing.state != State::Open {
-            return;
+            return 0;
         }
-        let next = self.next_of(v, standing.owner);
-        self.moves.set(v as usize, next.unwrap_or(NONE));
-        let player = match next {
-            Some(_) => standing.owner,
-            None => opponent(standing.owner),
-        };
+        let owner = standing.owner;
+        let (next, looks) = self.next_of(v, owner);
+        self.moves.set(v as usize, next);
+        let player = if next == NONE { opponent(owner) } else { owner };
         if player == winner_by(priority) {
             self.standings.calm(v, standing);
         } else {
             turned.push(v);
         }
+        looks
     }
 
-    // A successor of a player's.
-    fn next_of(&mut self, v: u32, player: Player) -> Option<u32> {
-        let successors = self.arena.successors(v);
-        let mut next = None;
-        let mut lost = 0_usize;
-        for t in successors {
+    // A successor of a player's, or `NONE`, and how many looks it took to find that out.
+    fn next_of(&self, v: u32, player: Player) -> (u32, usize) {
+        let mut looks = 1_usize;
+        for t in self.arena.successors(v) {
             if self.standings.player(*t) == player {
-                next = Some(*t);
-                break;
+                return (*t, looks);
             }
-            lost = lost.saturating_add(1);
+            looks = looks.saturating_add(1);
         }
-        self.meter.count(lost);
-        next
+        (NONE, looks)
     }
 
     fn justify(&mut self, priority: u8) {
         let now = self.times.moments.now();
+        let mut looks = 0_usize;
         for _ in 0..u32::MAX {
             match self.standings.pop_calm(priority) {
                 Some(v) => self.justify_at(v, now),
                 None => break,
             }
+            looks = looks.saturating_add(1);
         }
+        self.meter.count_all(looks);
     }
 
     // Justifies a vertex, if it is still calm.
@@ -205,48 +251,42 @@ impl<'g> Justification<'g> {
         if standing.state == State::Calm {
             self.standings.put(v, standing.at(State::Justified));
             self.times.last.set(v as usize, now);
-            self.meter.count_all(1);
         }
     }
 
-    // Turns these, and takes the reasons from all that rest on them. The answer is the least priority to be looked at.
-    fn turn(&mut self, priority: u8, turned: &[u32]) -> u8 {
+    // Turns these, and takes the reasons from all that rest on them.
+    fn turn(&mut self, priority: u8, turned: &[u32]) {
+        self.settle_turned(priority, turned);
         let mut list = mem::replace(&mut self.shaken, Vec::new(self.alloc));
         list.clear();
-        let player = opponent(winner_by(priority));
-        let now = self.times.moments.pass(priority);
+        let mut looks = 0_usize;
         for v in turned {
-            self.times.last.set(*v as usize, now);
-            let standing = self.standings.get(*v).at(State::Justified);
-            self.standings.put(*v, Standing { player, ..standing });
             let shaken = Shaken {
                 v: *v,
                 is_other: true,
             };
-            self.is_whole &= list.push(shaken).is_ok();
+            looks = looks.saturating_add(self.shake(shaken, &mut list));
         }
-        let least = self.shake_all(&mut list).min(priority);
+        self.shake_all(&mut list);
+        self.meter.count_all(looks);
         self.shaken = list;
-        least
     }
 
-    // Shakes all of a list, to which more is added: what was justified, and no longer is. The answer is the least priority of what was opened.
-    fn shake_all(&mut self, list: &mut Vec<Shaken>) -> u8 {
-        let mut least = u8::MAX;
+    // Shakes all of a list, to which more is added: what was justified, and no longer is.
+    fn shake_all(&mut self, list: &mut Vec<Shaken>) {
+        let mut looks = 0_usize;
         for place in 0..usize::MAX {
             match list.get(place).copied() {
-                Some(shaken) => least = self.shake(shaken, list).min(least),
+                Some(shaken) => looks = looks.saturating_add(self.shake(shaken, list)),
                 None => break,
             }
         }
-        least
+        self.meter.count_all(looks);
     }
 
-    // Opens what rested on a vertex, or was calm by it. The answer is the least priority of what was opened.
-    fn shake(&mut self, shaken: Shaken, list: &mut Vec<Shaken>) -> u8 {
-        let mut least = u8::MAX;
+    // Opens what rested on a vertex, or was calm by it. The answer is how many looks that took.
+    fn shake(&mut self, shaken: Shaken, list: &mut Vec<Shaken>) -> usize {
         let before = self.arena.predecessors(shaken.v);
-        self.meter.count(before.len());
         for u in before {
             let standing = self.standings.get(*u);
             let player = if standing.state == State::Justified
@@ -259,9 +299,8 @@ impl<'g> Justification<'g> {
                 continue;
             };
             self.standings.open(*u, Standing { player, ..standing });
-            least = standing.priority.min(least);
         }
-        least
+        before.len().saturating_add(1)
     }
 
     // Whether a justified vertex has its reason by this successor.
@@ -279,4 +318,20 @@ impl<'g> Justification<'g> {
         self.is_whole &= list.push(shaken).is_ok();
         favoured
     }
+}
+
+// Where the owner of a vertex leads it, if its priority doesn't favour the owner: to a vertex of the owner's that has a greater priority than this.
+// `NONE` where there is none.
+fn way_up(arena: Arena, standings: &Standings, v: u32, priority: u8) -> u32 {
+    let owner = standings.get(v).owner;
+    if owner == winner_by(priority) {
+        return NONE;
+    }
+    for t in arena.successors(v) {
+        let other = standings.get(*t);
+        if other.player == owner && other.priority > priority {
+            return *t;
+        }
+    }
+    NONE
 }

@@ -31,7 +31,7 @@ const FAR_TIMES: u64 = 4;
 const SHARED_TIMES: u64 = 30;
 
 // One of so many vertices is in a sample.
-const SAMPLED: u32 = 16;
+const SAMPLED: u32 = 64;
 
 // An odd number by which places are scattered.
 const SCATTER: u32 = 0x9E37_79B9;
@@ -196,6 +196,15 @@ pub(crate) fn first_looks(arena: Arena) -> [u64; PRIORITIES] {
 fn sampled(number: u32) -> u32 {
     let place = number.wrapping_mul(SCATTER).rotate_left(16) % SAMPLED;
     number.saturating_mul(SAMPLED).saturating_add(place)
+}
+
+/// Half of these looks, each.
+pub(crate) fn halves(looks: [u64; PRIORITIES]) -> [u64; PRIORITIES] {
+    let mut halves = looks;
+    for place in 0..PRIORITIES {
+        halves[place] /= 2;
+    }
+    halves
 }
 
 // How often a first try may look along an edge that leads nearby, where so many looks at all else fall to each priority.

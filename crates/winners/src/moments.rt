@@ -9,7 +9,8 @@
 // Why ranks fall: let an edge that the winner's moves leave lead from v to t, and q be a priority that is counted and not less than v's. If t has
 // a greater priority than q, its count is zero. Else, if t was settled no later than v, its count is no greater; and where v has priority q itself
 // its own moment counts, and t was settled before. If t was settled later, then no moment of q or more passed meanwhile: that would have
-// come when t was settled, and what unsettles t unsettles all that rests on it.
+// come when t was settled, and what unsettles t unsettles all that rests on it. What turns before anything else is settled goes on to a greater
+// priority, and those of greater priorities turned before: so up to where t is settled no moment of q passes that counts at t.
 
 use crate::arena::{PRIORITIES, greatest, priority};
 use crate::numbers::Numbers;

@@ -113,11 +113,32 @@ impl Standings {
         }
     }
 
-    /// Whether no vertex of this priority is open or calm.
-    pub(crate) fn is_idle(&self, priority: u8) -> bool {
+    /// A vertex has this player, and a reason.
+    pub(crate) fn justify(&mut self, v: u32, player: Player) {
+        let place = v as usize;
+        if place < self.list.len() {
+            self.list[place].player = player;
+            self.list[place].state = State::Justified;
+        }
+    }
+
+    /// The least priority from one on of which a vertex waits, open or calm.
+    pub(crate) fn busy(&self, from: u8) -> Option<u8> {
+        let mut priority = from;
+        for layer in self.layers.get(usize::from(from)..)? {
+            if !layer.open.is_empty() || !layer.calm.is_empty() {
+                return Some(priority);
+            }
+            priority = priority.saturating_add(1);
+        }
+        None
+    }
+
+    /// The vertices of this priority that were opened and not looked at yet.
+    pub(crate) fn opened(&self, priority: u8) -> &[u32] {
         match self.layers.get(usize::from(priority)) {
-            Some(layer) => layer.open.is_empty() && layer.calm.is_empty(),
-            None => true,
+            Some(layer) => layer.open.as_slice(),
+            None => &[],
         }
     }
 
