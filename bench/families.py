@@ -174,6 +174,6 @@ FAMILIES: dict[str, Systems | Games | Arenas | Shared] = {
         (2_000,),
         LETTERS,
         LARGE,
-        seconds=150,
+        seconds=240,
     ),
 }
