@@ -6,10 +6,28 @@ import os
 import subprocess
 from datetime import date
 from pathlib import Path
+from typing import NamedTuple
 
 ROOT = Path(__file__).resolve().parent.parent
 UNKNOWN = "unknown"
 GIBIBYTE_IN_KIB = 1024 * 1024
+
+
+class Processors(NamedTuple):
+    """How much time all processors have passed since the machine began, and how much of it its host gave to other machines."""
+
+    passed: int
+    taken: int
+
+    @classmethod
+    def now(cls) -> Processors:
+        # user, nice, system, idle, iowait, irq, softirq, steal
+        times = [int(word) for word in Path("/proc/stat").read_text().split("\n", 1)[0].split()[1:9]]
+        return cls(sum(times), times[-1])
+
+    def taken_since(self, before: Processors) -> float:
+        """The part that was taken meanwhile, in percent."""
+        return 100 * (self.taken - before.taken) / max(1, self.passed - before.passed)
 
 
 def value_of(file: str, key: str) -> str:
