@@ -2,6 +2,7 @@
 
 use crate::line::ProgressLine;
 use crate::refusal::Refusal;
+use gauge::Gauge;
 use invocation::inputs::is_standard_input;
 use std::fs::File;
 use std::io::{Read, Stdin};
@@ -64,29 +65,34 @@ impl Read for Input {
     }
 }
 
-/// A file of which a line tells how much is read.
+/// A file of which a gauge shows how much is read.
 #[derive(Drop)]
-pub struct CountedInput<'a, T> {
+pub struct CountedInput<'a> {
     input: Input,
-    line: &'a ProgressLine<'a, T>,
+    gauge: Option<&'a Gauge>,
     count: u64,
 }
 
-impl<'a, T> CountedInput<'a, T> {
-    pub fn new(input: Input, line: &'a ProgressLine<'a, T>) -> CountedInput<'a, T> {
+impl<'a> CountedInput<'a> {
+    /// The gauge is that of a line, if it is drawn.
+    pub fn new<T>(input: Input, line: &'a ProgressLine<'a, T>) -> CountedInput<'a> {
         CountedInput {
             input,
-            line,
+            gauge: line.gauge(),
             count: 0,
         }
     }
 }
 
-impl<T> Read for CountedInput<'_, T> {
+impl Read for CountedInput<'_> {
+    // Where a block is at hand none is read: that way is kept short.
+    #[inline(never)]
     fn read(&mut self, bytes: &mut [u8]) -> io::Result<usize> {
         let read = self.input.read(bytes)?;
         self.count = self.count.saturating_add(read as u64);
-        self.line.has_bytes(self.count, self.input.size);
+        if let (Some(gauge), Some(size)) = (self.gauge, self.input.size) {
+            gauge.show(self.count, size);
+        }
         Ok(read)
     }
 }

@@ -194,10 +194,11 @@ impl<'a, T: Threads + Wait + Clock + Clone + Copy + Drop + Send + Sync + 'static
 }
 
 impl<T> ProgressLine<'_, T> {
-    /// So many bytes of the text at hand are read, of so many where that is known.
-    pub fn has_bytes(&self, bytes: u64, size: Option<u64>) {
-        if let (Some(place), Some(size)) = (&self.place, size) {
-            place.gauge.show(bytes, size);
+    /// What shows how far the step at hand has come, where the line is drawn.
+    pub(crate) fn gauge(&self) -> Option<&Gauge> {
+        match &self.place {
+            Some(place) => Some(&place.gauge),
+            None => None,
         }
     }
 }
