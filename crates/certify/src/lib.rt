@@ -3,6 +3,7 @@
 
 pub mod decide;
 mod guessed;
+pub mod hands;
 pub mod pair;
 pub mod shared;
 mod small;

@@ -6,6 +6,7 @@ ghost use Rattle.game.specs.Wins.{Wins};
 
 use crate::decide::{certified_winners, set_marks};
 use crate::guessed::evidence_of;
+use crate::hands::hands;
 use evidence::evidence::Evidence;
 use evidence::spans::check_both_by;
 use evidence::verdict::Both;
@@ -61,8 +62,8 @@ fn checked_marks_by<R: Threads + Sync>(
     }
 }
 
-/// A mark for each vertex, true where Even wins it, as `certified_winners` finds it, by so many threads where the game is large.
-/// There is none where the checker refuses the evidence that is made of the guess, where the guess took too long, or for want of
+/// A mark for each vertex, true where Even wins it, as `certified_winners` finds it, by so many threads where the game is large, and no more than
+/// there are processors. There is none where the checker refuses the evidence that is made of the guess, where the guess took too long, or for want of
 /// memory. A gauge shows how far the guess has come.
 pub fn certified_winners_by<R: Threads + Sync>(
     rt: &R,
@@ -73,12 +74,13 @@ pub fn certified_winners_by<R: Threads + Sync>(
 ) -> Option<Vec<bool>>
     ensures { IfSome result (λ marks. Marks (length game.now.vertices) marks.items (Wins game.now)) }
 {
-    if workers < 2 {
+    let hands = hands(rt, workers);
+    if hands < 2 {
         return certified_winners(alloc, game, gauge);
     }
-    let guessed = guess_winners_by(rt, alloc, game, workers, gauge).ok()??;
+    let guessed = guess_winners_by(rt, alloc, game, hands, gauge).ok()??;
     let (even, odd) = both_evidence(rt, alloc, game, &guessed);
     let even = even.ok()?;
     let odd = odd.ok()?;
-    checked_marks_by(rt, alloc, game, &even, &odd, workers)
+    checked_marks_by(rt, alloc, game, &even, &odd, hands)
 }

@@ -10,6 +10,7 @@ ghost use Rattle.game.specs.Wins.{Wins};
 ghost use Rattle.requests.specs.Check.{AreMarks, ByGame};
 
 use calculus::closed::Closed;
+use certify::hands::hands;
 use guess::ranks::columns;
 use laws::{chosen_is_admissible, even_wins_where_meant};
 use lts::system::Lts;
@@ -61,7 +62,7 @@ fn is_packed(board: BoardKind) -> bool
 
 /// A mark for each state, true where it satisfies the formula: by a ranking of the game of both that is guessed and found good. There is none where it
 /// isn't good, where a limit is passed, or for want of memory; nor where the packed board is asked for, since what that can hold is known of a game
-/// that is stored. An observer is told that winners are searched for.
+/// that is stored. As many threads work as there are workers, and no more than there are processors. An observer is told that winners are searched for.
 pub(crate) fn ranked_marks<O: Observer, H: Threads + Sync>(
     rt: &H,
     alloc: Global,
@@ -83,7 +84,8 @@ pub(crate) fn ranked_marks<O: Observer, H: Threads + Sync>(
         Ok(form) => {
             let vertices = 2 + states * form.count();
             observer.sees(Stage::Searching { vertices });
-            guessed_winners(rt, alloc, system, &form, options.workers)
+            let hands = hands(rt, options.workers as usize);
+            guessed_winners(rt, alloc, system, &form, u32::try_from(hands).unwrap_or(1))
         }
         Err(_) => None,
     }
