@@ -1,6 +1,6 @@
 // Evidence that is made of a guess of winners, moves and ranks.
 
-ghost use Rattle.std.specs.Prelude.{◌≡◌, ◌<◌, IfOk, IfSome, length};
+ghost use Rattle.std.specs.Prelude.{◌≡◌, IfOk, IfSome, length};
 ghost use Rattle.certify.specs.Pair.{AreOf};
 ghost use Rattle.evidence.specs.Evidence.{counted};
 
@@ -13,19 +13,18 @@ use std::alloc::Global;
 use text::Memory;
 use winners::guess::Guessed;
 
-// Puts what is guessed of a vertex into the evidence of its winner. A move to no vertex of the game is left out.
-fn put_guessed(game: &Game, guessed: &Guessed, draft: &mut Draft, v: u32, rank: &mut [u32])
+// Puts what is guessed of a vertex into the evidence of its winner. What is no vertex of the game is left out, and so is a move to it.
+fn put_guessed(game: &Game, guessed: &Guessed, draft: &mut Draft, v: u32, rank: &[u32])
     requires same { draft.old.game ≡ game.now }
-    requires vertex { v < length game.now.vertices }
-    requires rank { length rank.old ≡ length (counted draft.old.evidence.player draft.old.game) }
+    requires rank { length rank.now ≡ length (counted draft.old.evidence.player draft.old.game) }
     ensures same { draft.new.game ≡ game.now }
     ensures player { draft.new.evidence.player ≡ draft.old.evidence.player }
-    ensures rank { length rank.new ≡ length rank.old }
 {
-    guessed.put_rank(v, rank);
     let vertices = game.vertices();
-    let next = guessed.next(v).filter(|next| *next < vertices);
-    draft.put(v, next, rank);
+    if v < vertices {
+        let next = guessed.next(v).filter(|next| *next < vertices);
+        draft.put(v, next, rank);
+    }
 }
 
 // Evidence of all that a player is guessed to win.
@@ -40,9 +39,11 @@ pub(crate) fn evidence_of(
 {
     let mut draft = Draft::new(alloc, game, player)?;
     let mut rank = vec![in alloc; 0; draft.width()]?;
-    for v in 0..game.vertices() {
-        if guessed.winner(v) == player {
-            put_guessed(game, guessed, &mut draft, v, rank.as_mut_slice());
+    let mut walk = guessed.walk(game, player);
+    for _ in 0..game.vertices() {
+        match walk.advance(rank.as_mut_slice()) {
+            Some(v) => put_guessed(game, guessed, &mut draft, v, rank.as_slice()),
+            None => break,
         }
     }
     Ok(draft.into_evidence())

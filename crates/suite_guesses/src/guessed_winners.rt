@@ -27,7 +27,43 @@ const GREATEST_COUNT: u32 = 16_777_216;
 struct Tested<'g> {
     game: &'g Game,
     guessed: &'g Guessed,
+    // For each vertex its rank, as walks tell it.
+    ranks: &'g [[u32; COUNTS]],
     greatest: u8,
+}
+
+// What stands in place of the rank of a vertex that no walk met.
+const UNMET: [u32; COUNTS] = [u32::MAX; COUNTS];
+
+// The ranks of all vertices. `None` where a walk meets what the player doesn't win, or meets it twice.
+fn walked(
+    rt: &(impl Abort + AllocGlobal),
+    game: &Game,
+    guessed: &Guessed,
+) -> Option<Vec<[u32; COUNTS]>> {
+    let mut ranks = vec![in rt.alloc(); UNMET; game.vertices() as usize].expect(rt, "memory");
+    for player in [Player::Even, Player::Odd] {
+        if !walk(game, guessed, player, &mut ranks) {
+            return None;
+        }
+    }
+    Some(ranks)
+}
+
+// Notes the ranks of what a player wins. The answer is whether each is met once, and is the player's.
+fn walk(game: &Game, guessed: &Guessed, player: Player, ranks: &mut Vec<[u32; COUNTS]>) -> bool {
+    let mut walk = guessed.walk(game, player);
+    for _ in 0..=game.vertices() {
+        let mut rank = [0_u32; COUNTS];
+        let Some(v) = walk.advance(&mut rank) else {
+            return true;
+        };
+        if ranks.get(v as usize) != Some(&UNMET) || guessed.winner(v) != player {
+            return false;
+        }
+        ranks[v as usize] = rank;
+    }
+    false
 }
 
 fn greatest(game: &Game) -> u8 {
@@ -59,6 +95,10 @@ impl Tested<'_> {
         count
     }
 
+    fn rank(&self, v: u32) -> [u32; COUNTS] {
+        self.ranks.get(v as usize).copied().unwrap_or(UNMET)
+    }
+
     // Whether the rank of a vertex descends to that of a successor, which the same player wins.
     fn descends(&self, v: u32, t: u32) -> bool
         requires { v < length self.now.game.now.vertices }
@@ -66,9 +106,7 @@ impl Tested<'_> {
         let player = self.guessed.winner(v);
         let priority = self.game.priority(v);
         let kept = self.kept(player, priority);
-        let (mut rank, mut next) = ([0_u32; COUNTS], [0_u32; COUNTS]);
-        self.guessed.put_rank(v, &mut rank);
-        self.guessed.put_rank(t, &mut next);
+        let (rank, next) = (self.rank(v), self.rank(t));
         if self.guessed.winner(t) != player || kept > COUNTS {
             return false;
         }
@@ -93,9 +131,7 @@ impl Tested<'_> {
 
     // Whether evidence may have the counts of a vertex.
     fn is_small_at(&self, v: u32) -> bool {
-        let mut rank = [0_u32; COUNTS];
-        self.guessed.put_rank(v, &mut rank);
-        for count in rank {
+        for count in self.rank(v) {
             if count > GREATEST_COUNT {
                 return false;
             }
@@ -125,8 +161,8 @@ fn evens(rt: &(impl Abort + AllocGlobal), game: &Game) -> Option<u32> {
     let soonest = guess_soonest(rt.alloc(), game, None)
         .expect(rt, "memory")
         .expect(rt, "a guess");
-    let count = evens_of(game, &guessed);
-    if evens_of(game, &soonest) == count {
+    let count = evens_of(rt, game, &guessed);
+    if evens_of(rt, game, &soonest) == count {
         count
     } else {
         None
@@ -138,13 +174,15 @@ fn evens_by_threads<R: Abort + AllocGlobal + Threads + Sync>(rt: &R, game: &Game
     let guessed = guess_winners_by(rt, rt.alloc(), game, 4, None)
         .expect(rt, "memory")
         .expect(rt, "a guess");
-    evens_of(game, &guessed)
+    evens_of(rt, game, &guessed)
 }
 
-fn evens_of(game: &Game, guessed: &Guessed) -> Option<u32> {
+fn evens_of(rt: &(impl Abort + AllocGlobal), game: &Game, guessed: &Guessed) -> Option<u32> {
+    let ranks = walked(rt, game, guessed)?;
     let tested = Tested {
         game,
         guessed,
+        ranks: &ranks,
         greatest: greatest(game),
     };
     let mut count = 0_u32;
@@ -330,7 +368,7 @@ fn evens_seen<R: Abort + AllocGlobal + Threads + Sync>(
         .expect(rt, "a guess");
     let reading = gauge.reading().expect(rt, "a long search");
     assert!(rt; 0 < reading.done);
-    evens_of(game, &guessed)
+    evens_of(rt, game, &guessed)
 }
 
 // A first try isn't shown. It doesn't suffice for this game.

@@ -14,8 +14,13 @@ use std::alloc::Global;
 // Sweeps end where one decides less than this part of the vertices.
 const PART: u32 = 16;
 
-// How often sweeps go to and fro.
-const MOST_ROUNDS: u32 = 4;
+// So many sweeps go to and fro at most.
+const MOST_SWEEPS: u32 = 8;
+
+// The first sweep ends with the first of so many parts of the vertices, if of that one less than another part is decided or copies.
+const FIRST_PARTS: u32 = 8;
+
+const FEW: u32 = 16;
 
 /// Who wins a vertex, as far as it is known.
 #[derive(Clone, Copy, PartialEq, Eq)]
@@ -108,33 +113,49 @@ impl<'g> Decided<'g> {
     }
 
     fn sweep_all(&mut self) {
-        for _ in 0..MOST_ROUNDS {
-            if !self.sweep_up() || !self.sweep_down() {
+        let vertices = self.game.vertices();
+        let first = vertices / FIRST_PARTS;
+        self.sweep_up(0, first);
+        if self.are_few_of(first) {
+            return;
+        }
+        self.sweep_up(first, vertices);
+        let mut before = 0_usize;
+        for number in 1..MOST_SWEEPS {
+            if !self.are_many_after(before) {
                 break;
+            }
+            before = self.won.len();
+            self.copies = 0;
+            if number % 2 == 1 {
+                self.sweep_down();
+            } else {
+                self.sweep_up(0, vertices);
             }
         }
     }
 
-    // Looks at all vertices. The answer is whether many were decided.
-    fn sweep_up(&mut self) -> bool {
-        let before = self.won.len();
-        self.copies = 0;
-        for v in 0..self.game.vertices() {
-            self.look_at(v);
-        }
-        self.are_many_after(before)
+    // Whether hardly any of so many vertices is decided, or a copy.
+    fn are_few_of(&self, vertices: u32) -> bool {
+        let count = self.won.len().saturating_add(self.copies);
+        count < (vertices / FEW) as usize
     }
 
-    // The same, the last first.
-    fn sweep_down(&mut self) -> bool {
-        let before = self.won.len();
-        self.copies = 0;
+    // Looks at the vertices from one on, up to another one.
+    fn sweep_up(&mut self, from: u32, to: u32) {
+        for v in from..to {
+            self.look_at(v);
+        }
+    }
+
+    // Looks at all, the last first.
+    fn sweep_down(&mut self) {
         for v in (0..self.game.vertices()).rev() {
             self.look_at(v);
         }
-        self.are_many_after(before)
     }
 
+    // Whether many were decided since there were so many.
     fn are_many_after(&self, before: usize) -> bool {
         let more = self.won.len().saturating_sub(before);
         more > 0 && more >= (self.game.vertices() / PART) as usize

@@ -1,12 +1,12 @@
 // Winners that were found, and the orders of what both win, by which ranks are counted: of a smaller game where that was searched, unless
 // counts would become too great so.
 
-use crate::guess::{Guessed, Ordered, Ranking};
+use crate::guess::{Guessed, Orders, Ranked, Ranking};
 use crate::moments::{Counts, Moments, Timed};
 use crate::numbers::Numbers;
 use crate::order::order_of;
 use crate::places::Places;
-use crate::ranks::{Counted, Listed, Ranks, Rows};
+use crate::ranks::{Counted, Ranks};
 use crate::smaller::Smaller;
 use crate::winning::Winners;
 use game::graph::Game;
@@ -24,30 +24,26 @@ pub(crate) struct Found<'g> {
     weight: u32,
 }
 
-// What each player wins, in an order by which its ranks are counted. `None` where its moves don't win, or for want of memory.
-#[derive(Drop)]
-struct Orders {
-    even: Option<Numbers>,
-    odd: Option<Numbers>,
-}
-
 impl Orders {
-    // One after the other.
-    fn of(alloc: Global, found: &Found) -> Self {
-        Orders {
-            even: found.order(alloc, Player::Even),
-            odd: found.order(alloc, Player::Odd),
-        }
+    // One after the other. `None` where the moves of one player don't win, or for want of memory.
+    fn found(alloc: Global, found: &Found) -> Option<Self> {
+        Some(Orders {
+            even: found.order(alloc, Player::Even)?,
+            odd: found.order(alloc, Player::Odd)?,
+        })
     }
 
-    // Side by side.
-    fn of_by<R: Threads + Sync>(rt: &R, alloc: Global, found: &Found) -> Self {
+    // The same side by side.
+    fn found_by<R: Threads + Sync>(rt: &R, alloc: Global, found: &Found) -> Option<Self> {
         let (even, odd) = join(
             rt,
             || found.order(alloc, Player::Even),
             || found.order(alloc, Player::Odd),
         );
-        Orders { even, odd }
+        Some(Orders {
+            even: even?,
+            odd: odd?,
+        })
     }
 }
 
@@ -95,36 +91,18 @@ impl<'g> Found<'g> {
         order_of(alloc, self.arena(), &self.winners, player)
     }
 
-    // What comes before all else that a player wins, with rows after so many others.
-    fn decided(&self, player: Player, after: usize) -> Listed<'_> {
+    // How many vertices of a counted priority were decided for a player before the search.
+    fn decided(&self, player: Player) -> u32 {
         match &self.smaller {
-            Some(smaller) => smaller.decided(player, after),
-            None => Listed {
-                game: self.game,
-                order: &[],
-                rows: Rows::Numbered,
-            },
+            Some(smaller) => smaller.decided(player),
+            None => 0,
         }
     }
 
-    // How many vertices were decided before the search.
-    fn decided_rows(&self) -> usize {
-        let even = self.decided(Player::Even, 0).order.len();
-        let odd = self.decided(Player::Odd, 0).order.len();
-        even.saturating_add(odd)
-    }
-
     // Adds the ranks of what a player wins.
-    fn rank(&self, ranks: &mut Ranks, player: Player, order: &Numbers) {
+    fn rank(&self, ranks: &mut Ranks, player: Player, order: &[u32]) {
         let counted = Counted::of(self.game, player, self.weight);
-        let arena = self.arena();
-        let first = self.decided(player, arena.vertices() as usize);
-        let other = Listed {
-            game: arena,
-            order: order.as_slice(),
-            rows: Rows::Numbered,
-        };
-        ranks.add(counted, first, other);
+        ranks.add(counted, self.decided(player), self.arena(), order);
     }
 
     /// Whether the search noted when it came to each vertex.
@@ -138,16 +116,14 @@ impl<'g> Found<'g> {
     /// What is guessed of the whole game, with ranks by the moments of the search. `None` for want of memory.
     pub(crate) fn timed(mut self, alloc: Global) -> Option<Guessed> {
         let times = self.winners.times.take()?;
-        let mut decided = Ranks::of(alloc, self.decided_rows(), self.game);
-        let even = self.counts(alloc, Player::Even, &mut decided, &times.moments);
-        let odd = self.counts(alloc, Player::Odd, &mut decided, &times.moments);
+        let even = self.counts(alloc, Player::Even, &times.moments);
+        let odd = self.counts(alloc, Player::Odd, &times.moments);
         let settled = times.settled(self.arena());
         let (winners, places) = self.into_whole(alloc)?;
         let timed = Timed {
             settled,
             even,
             odd,
-            decided,
             places,
         };
         let guessed = Guessed {
@@ -157,23 +133,15 @@ impl<'g> Found<'g> {
         guessed.whole()
     }
 
-    // The counts of a player at each moment, after the ranks of what was decided for it, which are added. Of a player that wins nothing
-    // of what was searched none is asked for.
-    fn counts(
-        &self,
-        alloc: Global,
-        player: Player,
-        ranks: &mut Ranks,
-        moments: &Moments,
-    ) -> Counts {
+    // The counts of a player at each moment. Of a player that wins nothing of what was searched none is asked for.
+    fn counts(&self, alloc: Global, player: Player, moments: &Moments) -> Counts {
         let counted = Counted::of(self.game, player, self.weight);
-        let decided = ranks.add_first(counted, self.decided(player, 0));
         let moments: &[u32] = if self.winners.wins_some(player) {
             moments.priorities()
         } else {
             &[]
         };
-        Counts::of(alloc, counted, decided, moments)
+        Counts::of(alloc, counted, self.decided(player), moments)
     }
 
     // Who wins each vertex of the whole game, and where its rank stands. `None` for want of memory.
@@ -194,28 +162,38 @@ impl<'g> Found<'g> {
 
     /// What is guessed of the whole game, with ranks by orders. `None` where the moves of one player don't win, or for want of memory.
     pub(crate) fn ordered(self, alloc: Global) -> Option<Guessed> {
-        let orders = Orders::of(alloc, &self);
+        let orders = Orders::found(alloc, &self)?;
         self.guessed(alloc, orders)
     }
 
     /// The same, where both orders are made side by side.
     pub(crate) fn ordered_by<R: Threads + Sync>(self, rt: &R, alloc: Global) -> Option<Guessed> {
-        let orders = Orders::of_by(rt, alloc, &self);
+        let orders = Orders::found_by(rt, alloc, &self)?;
         self.guessed(alloc, orders)
     }
 
+    // Where the whole game was searched the orders tell its ranks.
     fn guessed(self, alloc: Global, orders: Orders) -> Option<Guessed> {
-        let (even, odd) = (orders.even?, orders.odd?);
-        let rows = self
-            .decided_rows()
-            .saturating_add(self.arena().vertices() as usize);
-        let mut ranks = Ranks::of(alloc, rows, self.game);
-        self.rank(&mut ranks, Player::Even, &even);
-        self.rank(&mut ranks, Player::Odd, &odd);
+        if self.smaller.is_some() {
+            return self.ranked(alloc, orders);
+        }
+        let Found { winners, .. } = self;
+        let guessed = Guessed {
+            winners,
+            ranking: Ranking::Ordered(orders),
+        };
+        guessed.whole()
+    }
+
+    // Ranks of the whole game by orders of what was searched.
+    fn ranked(self, alloc: Global, orders: Orders) -> Option<Guessed> {
+        let mut ranks = Ranks::of(alloc, self.arena(), self.game);
+        self.rank(&mut ranks, Player::Even, orders.of(Player::Even));
+        self.rank(&mut ranks, Player::Odd, orders.of(Player::Odd));
         let (winners, places) = self.into_whole(alloc)?;
         let guessed = Guessed {
             winners,
-            ranking: Ranking::Ordered(Ordered { ranks, places }),
+            ranking: Ranking::Ranked(Ranked { ranks, places }),
         };
         guessed.whole()
     }

@@ -3,8 +3,9 @@
 use crate::finding::{LEAST_SHARED, find_in, find_in_by};
 use crate::found::Found;
 use crate::moments::Timed;
-use crate::places::Places;
-use crate::ranks::Ranks;
+use crate::numbers::Numbers;
+use crate::places::{Place, Places};
+use crate::ranks::{Ranks, put_decided};
 use crate::share::Crew;
 use crate::smaller::Smaller;
 use crate::winning::Winners;
@@ -25,29 +26,48 @@ pub struct Guessed {
 /// How ranks are counted.
 #[derive(Drop)]
 pub(crate) enum Ranking {
-    /// By an order of what each player wins.
-    Ordered(Ordered),
+    /// By orders, along which they are told.
+    Ordered(Orders),
+    /// By orders of what is left of a game without its copies.
+    Ranked(Ranked),
     /// By the moments of the search.
     Timed(Timed),
 }
 
-/// The ranks that come of orders.
+/// What each player wins, in an order by which its ranks are counted.
 #[derive(Drop)]
-pub(crate) struct Ordered {
+pub(crate) struct Orders {
+    pub(crate) even: Numbers,
+    pub(crate) odd: Numbers,
+}
+
+/// A table of ranks that come of orders.
+#[derive(Drop)]
+pub(crate) struct Ranked {
     pub(crate) ranks: Ranks,
     pub(crate) places: Places,
 }
 
-impl Ordered {
+impl Orders {
+    /// That of a player.
+    pub(crate) fn of(&self, player: Player) -> &[u32] {
+        match player {
+            Player::Even => self.even.as_slice(),
+            Player::Odd => self.odd.as_slice(),
+        }
+    }
+}
+
+impl Ranked {
     fn is_whole(&self) -> bool {
         self.ranks.is_whole() && self.places.is_whole()
     }
 
-    // Writes the rank of a vertex that the player wins.
-    fn put(&self, v: u32, player: Player, rank: &mut [u32]) {
-        self.ranks.put(self.places.row(v) as usize, rank);
-        if player == Player::Odd {
-            self.ranks.add_to_last(self.places.height(v), rank);
+    /// Writes the rank of a vertex, but for its height.
+    pub(crate) fn put(&self, v: u32, rank: &mut [u32]) {
+        match self.places.place(v) {
+            Place::Row(row) => self.ranks.put(row, rank),
+            Place::Decided(count) => put_decided(count, rank),
         }
     }
 }
@@ -55,7 +75,8 @@ impl Ordered {
 impl Ranking {
     fn is_whole(&self) -> bool {
         match self {
-            Ranking::Ordered(ordered) => ordered.is_whole(),
+            Ranking::Ordered(orders) => orders.even.is_whole() && orders.odd.is_whole(),
+            Ranking::Ranked(ranked) => ranked.is_whole(),
             Ranking::Timed(timed) => timed.is_whole(),
         }
     }
@@ -70,16 +91,6 @@ impl Guessed {
     /// Where the winner goes on from a vertex of its own.
     pub fn next(&self, v: u32) -> Option<u32> {
         self.winners.next(v)
-    }
-
-    /// Writes the rank of the vertex: one count for each priority of the other parity than the winner's, the greatest first.
-    /// Counts that find no place are left out, and places past the last count as they are.
-    pub fn put_rank(&self, v: u32, rank: &mut [u32]) {
-        let player = self.winner(v);
-        match &self.ranking {
-            Ranking::Ordered(ordered) => ordered.put(v, player, rank),
-            Ranking::Timed(timed) => timed.put(v, player, rank),
-        }
     }
 
     /// What is guessed, if there was memory for all.

@@ -30,6 +30,13 @@ struct Shaken {
     is_other: bool,
 }
 
+// Lists that are used again: which vertices turn, and which are shaken then.
+#[derive(Drop)]
+struct Lists {
+    turned: Numbers,
+    shaken: Vec<Shaken>,
+}
+
 /// The turns.
 #[derive(Drop)]
 pub(crate) struct Justification<'g> {
@@ -38,9 +45,6 @@ pub(crate) struct Justification<'g> {
     standings: Standings,
     moves: Numbers,
     times: Times,
-    // Lists that are used again: which vertices turn, and which are shaken then.
-    turned: Numbers,
-    shaken: Vec<Shaken>,
     meter: Meter<'g>,
     // Whether there was memory for all moves, and all that turned or was shaken.
     is_whole: bool,
@@ -62,8 +66,6 @@ impl<'g> Justification<'g> {
             standings,
             moves,
             times,
-            turned: Numbers::none(alloc),
-            shaken: Vec::new(alloc),
             meter,
             is_whole,
         };
@@ -73,14 +75,14 @@ impl<'g> Justification<'g> {
 
     // Turns what its owner leads to a greater priority.
     fn lead_all(&mut self) {
+        let mut turned = Numbers::none(self.alloc);
         for priority in (0..self.arena.greatest()).rev() {
-            self.lead(priority);
+            self.lead(priority, &mut turned);
         }
     }
 
     // The same of one priority. Nothing rests on these yet.
-    fn lead(&mut self, priority: u8) {
-        let mut turned = mem::replace(&mut self.turned, Numbers::none(self.alloc));
+    fn lead(&mut self, priority: u8, turned: &mut Numbers) {
         turned.clear();
         for v in self.standings.opened(priority) {
             let next = way_up(self.arena, &self.standings, *v, priority);
@@ -93,7 +95,6 @@ impl<'g> Justification<'g> {
         if !turned.is_empty() {
             self.settle_turned(priority, turned.as_slice());
         }
-        self.turned = turned;
     }
 
     // These have the player that their priority doesn't favour, by the reasons that they have now.
@@ -134,6 +135,10 @@ impl<'g> Justification<'g> {
     // Goes on until all are justified. Whenever some turn, looks were counted: so the budget bounds how often that is.
     fn justify_all(&mut self, more: &[u64]) -> bool {
         let (mut from, mut reached) = (0_u8, 0_u8);
+        let mut lists = Lists {
+            turned: Numbers::none(self.alloc),
+            shaken: Vec::new(self.alloc),
+        };
         for _ in 0..u64::MAX {
             if self.meter.is_spent() || !self.are_whole() {
                 return false;
@@ -145,7 +150,7 @@ impl<'g> Justification<'g> {
                 self.allow(more, reached, priority);
                 reached = priority.saturating_add(1);
             }
-            from = self.justify_or_turn(priority);
+            from = self.justify_or_turn(priority, &mut lists);
         }
         self.are_whole()
     }
@@ -163,19 +168,16 @@ impl<'g> Justification<'g> {
     }
 
     // Justifies the vertices of a priority, or turns some. The answer is a priority below which none is to be looked at.
-    fn justify_or_turn(&mut self, priority: u8) -> u8 {
-        let mut turned = mem::replace(&mut self.turned, Numbers::none(self.alloc));
-        self.look(priority, &mut turned);
-        self.is_whole &= turned.is_whole();
-        let from = if turned.is_empty() {
+    fn justify_or_turn(&mut self, priority: u8, lists: &mut Lists) -> u8 {
+        self.look(priority, &mut lists.turned);
+        self.is_whole &= lists.turned.is_whole();
+        if lists.turned.is_empty() {
             self.justify(priority);
             priority.saturating_add(1)
         } else {
-            self.turn(priority, turned.as_slice());
+            self.turn(priority, lists);
             0
-        };
-        self.turned = turned;
-        from
+        }
     }
 
     // What each wins, if there is memory for it. A vertex has a move here only where it is the winner's own.
@@ -255,24 +257,20 @@ impl<'g> Justification<'g> {
     }
 
     // Turns these, and takes the reasons from all that rest on them.
-    fn turn(&mut self, priority: u8, turned: &[u32]) {
-        self.settle_turned(priority, turned);
-        let mut list = mem::replace(&mut self.shaken, Vec::new(self.alloc));
-        list.clear();
-        let mut looks = 0_usize;
-        for v in turned {
+    fn turn(&mut self, priority: u8, lists: &mut Lists) {
+        self.settle_turned(priority, lists.turned.as_slice());
+        lists.shaken.clear();
+        for v in lists.turned.as_slice() {
             let shaken = Shaken {
                 v: *v,
                 is_other: true,
             };
-            looks = looks.saturating_add(self.shake(shaken, &mut list));
+            self.is_whole &= lists.shaken.push(shaken).is_ok();
         }
-        self.shake_all(&mut list);
-        self.meter.count_all(looks);
-        self.shaken = list;
+        self.shake_all(&mut lists.shaken);
     }
 
-    // Shakes all of a list, to which more is added: what was justified, and no longer is.
+    // Shakes all of a list, to which more is added: what turned, and what was justified and no longer is.
     fn shake_all(&mut self, list: &mut Vec<Shaken>) {
         let mut looks = 0_usize;
         for place in 0..usize::MAX {

@@ -30,4 +30,5 @@ mod shared;
 mod smaller;
 mod standings;
 pub mod strong;
+pub mod walk;
 mod winning;

@@ -14,8 +14,8 @@
 
 use crate::arena::{PRIORITIES, greatest, priority};
 use crate::numbers::Numbers;
-use crate::places::Places;
-use crate::ranks::{Counted, Ranks};
+use crate::places::{Place, Places};
+use crate::ranks::{Counted, after, put_decided};
 use crate::shared::MOST_MOMENTS;
 use game::graph::Game;
 use game::player::Player;
@@ -41,14 +41,13 @@ pub(crate) struct Times {
     pub(crate) last: Numbers,
 }
 
-/// The ranks that come of such times. What was decided before the search has ranks of its own.
+/// The ranks that come of such times.
 #[derive(Drop)]
 pub(crate) struct Timed {
     /// When each vertex that was searched was settled, as words.
     pub(crate) settled: Numbers,
     pub(crate) even: Counts,
     pub(crate) odd: Counts,
-    pub(crate) decided: Ranks,
     pub(crate) places: Places,
 }
 
@@ -56,6 +55,7 @@ pub(crate) struct Timed {
 #[derive(Drop)]
 pub(crate) struct Counts {
     counted: Counted,
+    width: usize,
     counts: Numbers,
 }
 
@@ -163,35 +163,32 @@ impl Times {
 }
 
 impl Counts {
-    /// Those of a player at each moment, where there are so many of what was decided before.
-    pub(crate) fn of(
-        alloc: Global,
-        counted: Counted,
-        decided: [u32; PRIORITIES],
-        moments: &[u32],
-    ) -> Self {
+    /// Those of a player at each moment, after so many that were decided before.
+    pub(crate) fn of(alloc: Global, counted: Counted, decided: u32, moments: &[u32]) -> Self {
         let width = counted.width().min(PRIORITIES);
-        let mut row = decided;
+        let mut row = after(decided);
         let mut counts = Numbers::copied(alloc, &row[..width]);
         counts.make_room(moments.len().saturating_mul(width));
         for priority in moments {
             counted.count_up(&mut row[..width], *priority);
-            counts.extend(&row[..width]);
+            for count in &row[..width] {
+                counts.push(*count);
+            }
         }
-        Counts { counted, counts }
+        Counts {
+            counted,
+            width,
+            counts,
+        }
     }
 
     // Writes the rank of a vertex. Of lesser priorities than its own the counts are those of what was decided before.
     fn put(&self, settled: Settled, rank: &mut [u32]) {
-        let width = self.counted.width();
-        let from = (settled.time as usize).saturating_mul(width);
-        let kept = self.counted.kept(settled.priority).min(rank.len());
-        for place in 0..kept {
-            rank[place] = self.counts.get(from.saturating_add(place));
-        }
-        for place in kept..rank.len().min(width) {
-            rank[place] = self.counts.get(place);
-        }
+        let width = self.width.min(rank.len());
+        let from = (settled.time as usize).wrapping_mul(self.width);
+        let kept = self.counted.kept(settled.priority).min(width);
+        self.counts.copy_to(&mut rank[..kept], from);
+        self.counts.copy_to(&mut rank[kept..width], kept);
     }
 }
 
@@ -199,22 +196,17 @@ impl Timed {
     /// Whether there was memory for all.
     pub(crate) fn is_whole(&self) -> bool {
         let counts_are_whole = self.even.counts.is_whole() && self.odd.counts.is_whole();
-        let rows_are_whole = self.settled.is_whole() && self.decided.is_whole();
-        counts_are_whole && rows_are_whole && self.places.is_whole()
+        counts_are_whole && self.settled.is_whole() && self.places.is_whole()
     }
 
-    /// Writes the rank of a vertex that the player wins.
+    /// Writes the rank of a vertex that the player wins, but for its height.
     pub(crate) fn put(&self, v: u32, player: Player, rank: &mut [u32]) {
-        let row = self.places.row(v) as usize;
-        if row < self.settled.len() {
-            let settled = Settled::of(self.settled.get(row));
-            self.counts(player).put(settled, rank);
-        } else {
-            self.decided
-                .put(row.saturating_sub(self.settled.len()), rank);
-        }
-        if player == Player::Odd {
-            self.decided.add_to_last(self.places.height(v), rank);
+        match self.places.place(v) {
+            Place::Row(row) => {
+                let settled = Settled::of(self.settled.get(row));
+                self.counts(player).put(settled, rank);
+            }
+            Place::Decided(count) => put_decided(count, rank),
         }
     }
 

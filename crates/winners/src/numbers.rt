@@ -107,11 +107,12 @@ impl Numbers {
         }
     }
 
-    /// Adds one to the number at this place, and tells what it was.
-    pub(crate) fn count(&mut self, place: usize) -> u32 {
-        let number = self.get(place);
-        self.set(place, number.wrapping_add(1));
-        number
+    /// Adds one to the number at this place, and tells what it was. `None` past the last place.
+    pub(crate) fn count(&mut self, place: usize) -> Option<u32> {
+        let number = self.items.get_mut(place)?;
+        let before = *number;
+        *number = before.wrapping_add(1);
+        Some(before)
     }
 
     /// Exchanges the numbers at two places.
@@ -166,6 +167,14 @@ impl Numbers {
     /// Makes room for so many more, where there is memory for it.
     pub(crate) fn make_room(&mut self, more: usize) {
         let _ = self.items.reserve(more);
+    }
+
+    /// Copies the numbers from a place on, as far as there are any and there is room.
+    pub(crate) fn copy_to(&self, list: &mut [u32], from: usize) {
+        let numbers = self.items.get(from..).unwrap_or(&[]);
+        for (place, number) in list.iter_mut().zip(numbers) {
+            *place = *number;
+        }
     }
 
     /// Writes these numbers from a place on.

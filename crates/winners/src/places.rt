@@ -3,24 +3,49 @@
 use crate::numbers::Numbers;
 use std::alloc::Global;
 
-/// For each vertex the row in which its rank stands, and how far it stands above that.
+/// Where a rank stands.
+#[derive(Clone, Copy)]
+pub(crate) enum Place {
+    /// In this row.
+    Row(usize),
+    /// The vertex was decided before the search, and up to there so many that are counted.
+    Decided(u32),
+}
+
+/// For each vertex where its rank stands, and how far above that.
 #[derive(Drop)]
 pub(crate) struct Places {
-    pub(crate) rows: Numbers,
-    pub(crate) heights: Numbers,
+    // Rows, and from their number on counts of what was decided.
+    numbers: Numbers,
+    rows: u32,
+    heights: Numbers,
 }
 
 impl Places {
     /// Each vertex has a row of its own, by its number.
     pub(crate) fn own(alloc: Global) -> Self {
         Places {
-            rows: Numbers::none(alloc),
+            numbers: Numbers::none(alloc),
+            rows: u32::MAX,
             heights: Numbers::none(alloc),
         }
     }
 
-    pub(crate) fn row(&self, v: u32) -> u32 {
-        self.rows.get_or(v as usize, v)
+    /// There are so many rows. The numbers are of these where they are less, and else, less that, counts of what was decided.
+    pub(crate) fn of(numbers: Numbers, rows: u32, heights: Numbers) -> Self {
+        Places {
+            numbers,
+            rows,
+            heights,
+        }
+    }
+
+    pub(crate) fn place(&self, v: u32) -> Place {
+        let number = self.numbers.get_or(v as usize, v);
+        match number.checked_sub(self.rows) {
+            Some(count) => Place::Decided(count),
+            None => Place::Row(number as usize),
+        }
     }
 
     /// How much is added to the last count of a vertex that Odd wins.
@@ -30,6 +55,6 @@ impl Places {
 
     /// Whether there was memory for all.
     pub(crate) fn is_whole(&self) -> bool {
-        self.rows.is_whole() && self.heights.is_whole()
+        self.numbers.is_whole() && self.heights.is_whole()
     }
 }

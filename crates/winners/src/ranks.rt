@@ -1,15 +1,18 @@
 // Ranks, by an order of what a player wins: of a priority that is counted the count at a vertex is how many vertices have it up to
-// this one, and zero where the vertex's own priority is greater. Before what is ordered so stand vertices that were decided by those before
-// them: to each of these the counts of all others are no less, since in place of zero they have what stands before.
+// this one, and zero where the vertex's own priority is greater.
 //
 // Why they fall: let an edge lead from v to t, and q be a priority that is counted and not less than v's. Take the least segment of
 // the order with both. If it was refined by less than q, or by nothing, no vertex of priority q is in it, so the counts of q are the
 // same, or that of t is zero. Else v was sorted. If t has a greater priority than what was sorted, its count is zero, and that of v
 // is not if v has priority q. Else t stands in a component before that of v: its count is no greater, and less if v has priority q.
 // In one component they would be v itself, with a loop, and then v doesn't have a priority that is counted.
+//
+// Before what is ordered so stand vertices that were decided by those before them. Of these the first count is how many of them have a priority
+// that is counted, up to this one, and all others are zero: so that one falls along their edges. What was searched begins with all of
+// them, even a vertex of a greater priority than is counted: a copy of it, of priority 0, may lead to what was decided.
 
 use crate::arena::{PRIORITIES, greatest, priority, winner_by};
-use crate::numbers::{Numbers, Span};
+use crate::numbers::Numbers;
 use game::graph::Game;
 use game::player::Player;
 use std::alloc::Global;
@@ -23,6 +26,28 @@ pub(crate) struct Counted {
     weight: u32,
 }
 
+/// The counts where so many were decided before, and nothing else is counted.
+pub(crate) fn after(decided: u32) -> [u32; PRIORITIES] {
+    let mut counts = [0; PRIORITIES];
+    counts[0] = decided;
+    counts
+}
+
+/// Writes the rank of what was decided before a search, of which so many are counted up to there.
+pub(crate) fn put_decided(count: u32, rank: &mut [u32]) {
+    rank.fill(0);
+    if let Some(first) = rank.get_mut(0) {
+        *first = count;
+    }
+}
+
+/// Adds to the last of so many counts: that of priority 0, which is counted of what Odd wins.
+pub(crate) fn add_to_last(width: usize, height: u32, rank: &mut [u32]) {
+    if let Some(last) = rank.get_mut(width.saturating_sub(1)) {
+        *last = last.saturating_add(height);
+    }
+}
+
 impl Counted {
     pub(crate) fn of(game: &Game, player: Player, weight: u32) -> Self {
         Counted {
@@ -30,6 +55,11 @@ impl Counted {
             greatest: greatest(game),
             weight,
         }
+    }
+
+    /// Whether this one is.
+    pub(crate) fn has(self, priority: u8) -> bool {
+        winner_by(priority) != self.player
     }
 
     // For how many a vertex counts.
@@ -76,44 +106,6 @@ impl Counted {
     }
 }
 
-/// Which rows the vertices of a list have.
-#[derive(Clone, Copy)]
-pub(crate) enum Rows {
-    /// Those of their numbers.
-    Numbered,
-    /// One after another, from this one on.
-    From(usize),
-}
-
-/// Vertices of a game, in an order.
-#[derive(Clone, Copy)]
-pub(crate) struct Listed<'g> {
-    pub(crate) game: &'g Game,
-    pub(crate) order: &'g [u32],
-    pub(crate) rows: Rows,
-}
-
-impl Listed<'_> {
-    /// How many have priority 0.
-    pub(crate) fn zeros(self) -> u64 {
-        let mut count = 0_u64;
-        for v in self.order {
-            if priority(self.game, *v) == 0 {
-                count = count.saturating_add(1);
-            }
-        }
-        count
-    }
-
-    // The row of the vertex at a place of the order.
-    fn row(self, place: usize, v: u32) -> usize {
-        match self.rows {
-            Rows::Numbered => v as usize,
-            Rows::From(first) => first.saturating_add(place),
-        }
-    }
-}
-
 /// A row of counts for each vertex: one for each priority that is counted of its winner, the greatest first.
 #[derive(Drop)]
 pub(crate) struct Ranks {
@@ -122,43 +114,30 @@ pub(crate) struct Ranks {
 }
 
 impl Ranks {
-    /// So many rows, for both players of a game.
-    pub(crate) fn of(alloc: Global, rows: usize, game: &Game) -> Self {
-        let width = Counted::of(game, Player::Odd, 1).width();
+    /// A row for each vertex of a game. Both players have as many counts as there are priorities up to the greatest of another one.
+    pub(crate) fn of(alloc: Global, searched: &Game, whole: &Game) -> Self {
+        let width = Counted::of(whole, Player::Odd, 1).width();
+        let rows = searched.vertices() as usize;
         Ranks {
             width,
             counts: Numbers::filled(alloc, rows.saturating_mul(width), 0),
         }
     }
 
-    /// Adds those of a player's vertices, which stand in two lists. Of a priority that is not less than the vertex's own the count is of
-    /// the vertices that have it, up to this one; of a lesser one it is zero, and in the other list that of all of the first.
-    pub(crate) fn add(&mut self, counted: Counted, first: Listed, other: Listed) {
-        let all = self.add_first(counted, first);
-        let mut counts = all;
-        self.add_all(counted, other, &all, &mut counts);
-    }
-
-    /// Adds those of the first list alone, and tells the counts at its end.
-    pub(crate) fn add_first(&mut self, counted: Counted, first: Listed) -> [u32; PRIORITIES] {
-        let mut counts = [0_u32; PRIORITIES];
-        let none = [0_u32; PRIORITIES];
-        self.add_all(counted, first, &none, &mut counts);
-        counts
-    }
-
-    /// Whether there was memory for all.
-    pub(crate) fn is_whole(&self) -> bool {
-        self.counts.is_whole()
-    }
-
-    // The ranks of a list, after so many of each priority. Of lesser priorities they have so many.
-    fn add_all(&mut self, counted: Counted, listed: Listed, least: &[u32], counts: &mut [u32]) {
-        let mut place = 0_usize;
-        for v in listed.order {
-            let row = listed.row(place, *v);
-            self.add_row(counted, row, priority(listed.game, *v), least, counts);
-            place = place.saturating_add(1);
+    /// Adds those of a player's vertices, in their order, after so many that were decided before. Of a priority that is not less than the
+    /// vertex's own the count is of the vertices that have it, up to this one; of a lesser one it is zero. The first one begins with
+    /// what was decided.
+    pub(crate) fn add(&mut self, counted: Counted, decided: u32, game: &Game, order: &[u32]) {
+        let least = after(decided);
+        let mut counts = least;
+        for v in order {
+            self.add_row(
+                counted,
+                *v as usize,
+                priority(game, *v),
+                &least,
+                &mut counts,
+            );
         }
     }
 
@@ -172,7 +151,7 @@ impl Ranks {
     ) {
         let kept = counted.kept(priority).min(counts.len());
         let own = kept.saturating_sub(1);
-        if winner_by(priority) != counted.player && own < counts.len() {
+        if counted.has(priority) && own < counts.len() {
             counts[own] = counts[own].saturating_add(counted.weight(priority));
         }
         let from = row.saturating_mul(self.width);
@@ -181,19 +160,15 @@ impl Ranks {
         self.counts.write(from.saturating_add(kept), lesser);
     }
 
-    /// Writes the counts of a row, as far as there are any and there is room.
-    pub(crate) fn put(&self, row: usize, rank: &mut [u32]) {
-        let from = row.saturating_mul(self.width);
-        for at in 0..rank.len().min(self.width) {
-            rank[at] = self.counts.get(from.saturating_add(at));
-        }
+    /// Whether there was memory for all.
+    pub(crate) fn is_whole(&self) -> bool {
+        self.counts.is_whole()
     }
 
-    /// Adds to the count of priority 0, which is counted of what Odd wins.
-    pub(crate) fn add_to_last(&self, height: u32, rank: &mut [u32]) {
-        let last = self.width.saturating_sub(1);
-        if last < rank.len() {
-            rank[last] = rank[last].saturating_add(height);
-        }
+    /// Writes the counts of a row, as far as there are any and there is room.
+    pub(crate) fn put(&self, row: usize, rank: &mut [u32]) {
+        let width = rank.len().min(self.width);
+        let from = row.saturating_mul(self.width);
+        self.counts.copy_to(&mut rank[..width], from);
     }
 }

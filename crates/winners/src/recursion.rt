@@ -41,7 +41,8 @@ impl Task {
 #[derive(Drop)]
 pub(crate) struct Recursion<'g> {
     field: Field<'g>,
-    strong: Strong,
+    // What finds components, once they are looked for.
+    strong: Option<Strong>,
     tasks: Vec<Task>,
     // Whether there was memory for all tasks.
     is_whole: bool,
@@ -55,7 +56,7 @@ impl<'g> Recursion<'g> {
     ) -> Result<Self, AllocError> {
         Ok(Recursion {
             field: Field::new(alloc, arena, meter)?,
-            strong: Strong::new(alloc, arena.vertices()),
+            strong: None,
             tasks: Vec::new(alloc),
             is_whole: true,
         })
@@ -121,8 +122,13 @@ impl<'g> Recursion<'g> {
         };
         self.field.meter.count_all(span.to);
         let (alloc, arena) = (self.field.alloc, self.field.arena);
-        let ends = self.strong.sort(alloc, &arena, &mut list, span);
-        self.is_whole &= self.strong.is_whole() && ends.is_whole();
+        let mut strong = match self.strong.take() {
+            Some(strong) => strong,
+            None => Strong::new(alloc, arena.vertices()),
+        };
+        let ends = strong.sort(alloc, &arena, &mut list, span);
+        self.is_whole &= strong.is_whole() && ends.is_whole();
+        self.strong = Some(strong);
         Parts::new(alloc, list, ends, won)
     }
 

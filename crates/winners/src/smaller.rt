@@ -1,15 +1,15 @@
 // A game without its copies and without what is decided before a search.
 //
-// What each player has won stands for one vertex that leads to itself. Ranks of what is decided are counted first, so those of all others are
-// no less. For Even a copy has the rank of its image, since its priority asks for no more. For Odd it stands above that by its height:
+// What each player has won stands for one vertex that leads to itself. What is decided is counted first, so the ranks of all others are no
+// less. For Even a copy has the rank of its image, since its priority asks for no more. For Odd it stands above that by its height:
 // where a vertex of priority 0 counts for more than the greatest height, there is room for it.
 
-use crate::arena::{opponent, owner, priority, successors};
+use crate::arena::{opponent, owner, priority, successors, winner_by};
 use crate::cells::NONE;
 use crate::copies::{EVEN_END, FIRST_KEPT, Images, ODD_END};
 use crate::decided::{Decided, Won};
+use crate::numbers::Numbers;
 use crate::places::Places;
-use crate::ranks::{Listed, Rows};
 use crate::winning::Winners;
 use game::graph::{Game, GameBuilder};
 use game::limits::MOST_VERTICES;
@@ -153,17 +153,15 @@ impl<'g> Smaller<'g> {
         NONE
     }
 
-    /// What is decided for a player, in an order. Its rows come after so many others, Even's first.
-    pub(crate) fn decided(&self, player: Player, after: usize) -> Listed<'_> {
-        let first = match player {
-            Player::Even => 0,
-            Player::Odd => self.won.list(Player::Even).len(),
-        };
-        Listed {
-            game: self.whole,
-            order: self.won.list(player),
-            rows: Rows::From(first.saturating_add(after)),
+    /// How many vertices are decided for a player that have a priority which is counted.
+    pub(crate) fn decided(&self, player: Player) -> u32 {
+        let mut count = 0_u32;
+        for v in self.won.list(player) {
+            if winner_by(priority(self.whole, *v)) != player {
+                count = count.saturating_add(1);
+            }
         }
+        count
     }
 
     /// For how many a vertex of priority 0 counts: one more than the greatest height. `None` where counts become too great so.
@@ -173,7 +171,10 @@ impl<'g> Smaller<'g> {
             .lost_zeros(found)
             .saturating_add(found.moments())
             .saturating_add(1);
-        if all.saturating_mul(u64::from(weight)) <= GREATEST_COUNT {
+        let all = all
+            .saturating_mul(u64::from(weight))
+            .saturating_add(u64::from(self.decided(Player::Odd)));
+        if all <= GREATEST_COUNT {
             Some(weight)
         } else {
             None
@@ -191,9 +192,9 @@ impl<'g> Smaller<'g> {
         greatest
     }
 
-    // How many vertices of priority 0 Odd wins that are no copies.
+    // How many vertices of priority 0 Odd wins that are kept.
     fn lost_zeros(&self, found: &Winners) -> u64 {
-        let mut count = self.decided(Player::Odd, 0).zeros();
+        let mut count = 0_u64;
         for v in FIRST_KEPT..self.game.vertices() {
             if found.player(v) == Player::Odd && priority(&self.game, v) == 0 {
                 count = count.saturating_add(1);
@@ -202,9 +203,10 @@ impl<'g> Smaller<'g> {
         count
     }
 
-    /// Where the ranks of the whole game's vertices stand: those of what is decided after those of this game.
+    /// Where the ranks of the whole game's vertices stand.
     pub(crate) fn places(self) -> Places {
         let Smaller {
+            whole,
             won,
             images,
             game,
@@ -215,16 +217,21 @@ impl<'g> Smaller<'g> {
             heights,
             ..
         } = images;
-        let mut row = game.vertices();
+        let rows = game.vertices();
         for player in [Player::Even, Player::Odd] {
-            for v in won.list(player) {
-                numbers.set(*v as usize, row);
-                row = row.saturating_add(1);
-            }
+            count_decided(whole, won.list(player), player, rows, &mut numbers);
         }
-        Places {
-            rows: numbers,
-            heights,
+        Places::of(numbers, rows, heights)
+    }
+}
+
+// Notes for each vertex of a list that is decided for a player how many are counted up to there, after so many rows.
+fn count_decided(game: &Game, list: &[u32], player: Player, rows: u32, numbers: &mut Numbers) {
+    let mut place = rows;
+    for v in list {
+        if winner_by(priority(game, *v)) != player {
+            place = place.saturating_add(1);
         }
+        numbers.set(*v as usize, place);
     }
 }
