@@ -49,10 +49,6 @@ number_read E G f id r reads none value = go (one_text f id) refl
 
 -- ------------------------------------------------------------------ the command
 
-fused : {A B C : Type 0} (f : A → B) (g : B → C) (o : Option A) → option_map g (option_map f o) ≡ option_map (λ x. g (f x)) o
-fused f g None = refl
-fused f g (Some x) = refl
-
 paired : {A X Y : Type 0} (f : A → X) (g : A → Y) (o : Option A) (p : Option (X × Y)) → option_map f o ≡ option_map (λ q. q.0) p
     → option_map g o ≡ option_map (λ q. q.1) p
     → p ≡ option_map (λ x. (f x, g x)) o

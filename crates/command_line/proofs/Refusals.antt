@@ -13,7 +13,6 @@ use Rattle.requests.specs.declared.request.ReportForm.{ReportForm}
 use Rattle.requests.specs.declared.request.ReportForm.TheVariants.{States}
 use Rattle.requests.specs.declared.request.Replay.{Replay as ReplayRequest}
 use Rattle.requests.specs.declared.request.Solve.{Solve as SolveRequest}
-use Rattle.requests.specs.declared.request.Table.{Table as TableRequest}
 use Rattle.requests.specs.declared.request.Verify.{Verify as VerifyRequest}
 use Rattle.requests.specs.declared.request.Why.{Why as WhyRequest}
 use Rattle.invocation.specs.declared.request.Command.{Command}
@@ -129,13 +128,6 @@ only_help rows none command is complete plain =
     let other : key (codes "help") ≡ key_of command = key_is (codes "help") rows command is in absurd (omega arith)
 
 -- ------------------------------------------------------------------ files
-
-none_named : (o : Option (Bor Text)) → option_map (λ f. f.now) o ≡ None → o ≡ None
-none_named None e = refl
-none_named (Some f) e = cc
-
-stays_none : (rows : List Row) (id : Text) (mine other : Option (Bor Text)) → IsFileIfAny rows id mine → IsFileIfAny rows id other → other ≡ None → mine ≡ None
-stays_none rows id mine other is that none = none_named mine (sym is ∙ (that ∙ ap (option_map (λ (f : Bor Text). f.now)) none))
 
 -- a name that stands there and is empty is none
 pub empty_if_any : (found : Option Text) (name : Text) → found ≡ Some name → name ≡ [] → (file : Option (Bor Text)) → found ≡ option_map (λ f. f.now) file

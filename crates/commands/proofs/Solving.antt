@@ -4,7 +4,7 @@ use Rattle.text.proofs.Writing.{Stays-refl}
 use Rattle.text.specs.Taken.{Taken, Adds}
 use Rattle.std.specs.Prelude.{◌↔◌, IsTrue, MatchResult}
 use Rattle.std.specs.Result.{IsErr}
-use Rattle.text.specs.Wrote.{Wrote, WroteFront}
+use Rattle.text.specs.Wrote.{WroteFront}
 use Rattle.text.specs.declared.write_loop.WriteFault.{WriteFault}
 use Rattle.certify.specs.Full.{IsFullText}
 use Rattle.certify.specs.Pair.{AreFull}
@@ -19,15 +19,15 @@ use Rattle.game.specs.Game.{Game, IsGame, greatest}
 use Rattle.game.specs.Wins.{OddWins, Wins}
 use Rattle.game.specs.declared.player.Player.TheVariants.{Even, Odd}
 use Rattle.workers.specs.declared.team.BoardKind.{BoardKind}
-use Rattle.requests.proofs.Orders.{one_text, stopped_at, unasked}
+use Rattle.requests.proofs.Orders.{stopped_at, unasked}
 use Rattle.requests.specs.declared.error.MuError.{MuError}
 use Rattle.requests.specs.declared.error.MuError.TheVariants as error
 use Rattle.requests.specs.declared.request.ReportForm.TheVariants.{Whole}
 use Rattle.requests.specs.Solver.{FitsBoard, IsUnsolved}
-use Rattle.requests.specs.Writers.{EvenText, ReportText, Lent, IsLentFor, AreKept, AreWritten, lent_for, report_writer}
+use Rattle.requests.specs.Writers.{EvenText, Lent, IsLentFor, AreKept, AreWritten, report_writer}
 use Rattle.commands.specs.Solves.{AnswersSolve, RefusesSolve, IsSolveText, IsUnproved, solve_writers}
 use Rattle.commands.specs.Spelled.{IsGameOf}
-use Rattle.commands.specs.Winners.{AreWinners, winners_text}
+use Rattle.commands.specs.Winners.{AreWinners}
 
 -- Nothing was written to any.
 pub kept_all : (evidence : Bool) (even odd out : Taken) → AreKept (solve_writers evidence even even odd odd out out)
@@ -111,11 +111,6 @@ solved_of board text g marks writers (Ok u) r is fits exact written e =
 solved_of board text g marks writers (Err fault) r is fits exact written e =
     subst (AnswersSolve board text writers) (sym e)
     (record { g = g; marks = marks; game = is; fits = fits; exact = exact; begun = written })
-
--- who wins is written alone
-pub winners_put : (g : Game) (marks : List Bool) (old new : Taken) (r : Result Unit WriteFault) → Wrote old new r (winners_text marks)
-    → AreWritten (IsSolveText g marks) (report_writer Whole old new) r
-winners_put g marks old new r wrote = one_text (IsSolveText g marks) (lent_for (ReportText Whole) old new) r (winners_text marks) refl wrote
 
 -- ------------------------------------------------------------------ with evidence
 

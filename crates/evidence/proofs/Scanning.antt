@@ -83,10 +83,6 @@ abbrev pub with_front : List ℕ → Option (List ℕ) → Option (List ℕ)
 with_front counts None = None
 with_front counts (Some more) = Some (counts ++ more)
 
-front_none : (o : Option (List ℕ)) → o ≡ with_front [] o
-front_none None = refl
-front_none (Some more) = refl
-
 -- after k counts the others are still to be read
 abbrev pub IsReadTo : List ℕ → List ℕ → ℕ → List ℕ → Type 0
 IsReadTo bytes counts k rest = counts_in (length counts) bytes ≡ with_front (take k counts) (counts_in (length counts - k) rest)

@@ -4,14 +4,13 @@ use Rattle.std.specs.Prelude.{Contains, IfErr, IfOk, IfSome}
 use Rattle.std.specs.List.{AllByRecursion, AllZip}
 use Rattle.text.specs.Lines.{IfKnown}
 use Rattle.text.specs.Reads.{Reads}
-use Rattle.text.specs.Text.{pieces_of}
 use Rattle.text.proofs.Promised.{AreLaws, keeps}
 use Rattle.game.specs.Game.{Game}
 use Rattle.game.specs.declared.player.Player.{Player}
 use Rattle.evidence.specs.Canon.{header}
 use Rattle.evidence.specs.Evidence.{Entry, IsEvidence, counted}
 use Rattle.evidence.specs.Fault.{HasFault, HasFaultAt, Refuses, named}
-use Rattle.evidence.specs.Reading.{AreEntriesRead, BeginsWith, HasNoHeader, HasRestFault}
+use Rattle.evidence.specs.Reading.{AreEntriesRead, BeginsWith, HasNoHeader}
 use Rattle.evidence.specs.Spelling.{IsEvidenceText, IsRowInside, IsShaped, Row}
 use Rattle.evidence.specs.View.{NamedEvidence}
 use Rattle.evidence.specs.declared.error.EvidenceError.{EvidenceError}
@@ -59,12 +58,6 @@ spelled g player entries (Some text) (Some left) begins read = record {
       ∙ ap (λ l. header player ∷ l) read.cut;
   lines = read.lines;
 }
-
-rest_decides : (g : Game) (player : Player) (text left : List ℕ) (fault : EvidenceFault) (place : ℕ) → BeginsWith player text left
-    → HasRestFault (length g.vertices) (length (counted player g)) left fault place → HasFault g text fault place
-rest_decides g player text left BadHeader place begins (good, faulty, at) = absurd faulty.wrong
-rest_decides g player text left BadLine place begins (good, faulty, at) = (player, pieces_of left, good, begins, faulty, at)
-rest_decides g player text left BadVertex place begins (good, faulty, at) = (player, pieces_of left, good, begins, faulty, at)
 
 headless : (g : Game) (text : List ℕ) (fault : EvidenceFault) (place : ℕ) → HasNoHeader text fault place → HasFault g text fault place
 headless g text BadHeader place h = (h.1, h.2)

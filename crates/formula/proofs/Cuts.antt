@@ -118,9 +118,6 @@ atom-front (x ∷ xs) n some quote run few many inside closed =
       some = omega arith;
     }
 
-pub gap-none : (text : List ℕ) → IsGap 0 text
-gap-none text = record { pieces = []; front = record { joined = refl; within = omega arith; cut = tt }; wordless = refl }
-
 gap-more : (n m : ℕ) (text : List ℕ) (p : Piece) → IsGap n text → IsFront (p ∷ []) m (drop n text) → tokens_of (p ∷ []) ≡ [] → IsGap (n + m) text
 gap-more n m text p g f e = record {
   pieces = g.pieces ++ p ∷ [];

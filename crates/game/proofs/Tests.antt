@@ -1,7 +1,7 @@
 -- What the test of a finished game says.
-use Rattle.game.proofs.Common.{◌≡◌, ◌==◌, ◌&&◌, ◌+◌, ◌≤◌, ◌<◌, ℕ, Bool, true, false, List, [], ◌∷◌, length, None, ap, sym, ◌∙◌, refl, arith, nat_le, nat_lt}
+use Rattle.game.proofs.Common.{◌≡◌, ◌==◌, ◌&&◌, ◌+◌, ◌≤◌, ◌<◌, ℕ, Bool, true, false, List, [], ◌∷◌, length, ap, sym, ◌∙◌, refl, arith, nat_le, nat_lt}
 use Rattle.game.proofs.Common.{not, AllByRecursion, list_all, ltb-true, leb-true, lt-ltb, le-leb, and_parts, and_from, ne_eqb, eqb-false, length-map, Vertex}
-use Rattle.game.proofs.Common.{IsVertex, IsGame, IsAscending, rises, vertex_of_row, vertices_of, Row}
+use Rattle.game.proofs.Common.{IsVertex, IsAscending, rises, vertex_of_row, vertices_of, Row}
 use Rattle.std.proofs.lemmas.List.Folds.{list_all-map}
 
 -- what the test of one vertex says
@@ -76,11 +76,6 @@ vertices_from n (v ∷ vs) h = let parts = and_parts (is_vertex n v) (list_all (
 pub vertices_to : (n : ℕ) (vs : List Vertex) → AllByRecursion (IsVertex n) vs → list_all (is_vertex n) vs ≡ true
 vertices_to n [] h = refl
 vertices_to n (v ∷ vs) h = and_from (is_vertex n v) (list_all (is_vertex n) vs) (vertex_to n v h.0) (vertices_to n vs h.1)
-
--- Some vertices that are not too many make a game where each is one of so many.
-pub game_from : (vs : List Vertex) → 1 ≤ length vs → length vs ≤ 16777216 → AllByRecursion (IsVertex (length vs)) vs
-    → IsGame (record { vertices = vs; named = None })
-game_from vs some few h = record { some = some; limit = few; vertices = h; named = λ n k e. cc }
 
 -- The test of the rows is that of their vertices.
 pub rows_test : (n : ℕ) (successors : List ℕ) (rows : List Row) → list_all (is_fit n successors) rows ≡ list_all (is_vertex n) (vertices_of rows successors)

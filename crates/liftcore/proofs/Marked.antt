@@ -1,5 +1,5 @@
 -- Marks, and the numbers that are marked.
-use Rattle.std.proofs.Common.{◌≡◌, ◌≢◌, ℕ, zero, suc, ◌+◌, ◌<◌, ◌≤◌, ◌==◌, ◌&&◌, ◌||◌, ◌⊎◌, Bool, true, false, cond, not, List, [], ◌∷◌, ◌++◌, length}
+use Rattle.std.proofs.Common.{◌≡◌, ◌≢◌, ℕ, zero, suc, ◌+◌, ◌<◌, ◌≤◌, ◌==◌, ◌&&◌, ◌||◌, ◌⊎◌, Bool, true, false, cond, not, List, [], ◌∷◌, length}
 use Rattle.std.proofs.Common.{filter, count_by, replicate, refl, sym, ◌∙◌, ap, subst, inl, inr, arith, true≢false, Contains, slice_index_or}
 use Rattle.std.proofs.Common.{slice_set}
 use Rattle.std.specs.Prelude.{nat_lt}
@@ -176,18 +176,6 @@ none_members n = no_members (replicate n false) (counted n)
 -- where there are no members nothing is marked
 pub unmarked : (marks : List Bool) (v : ℕ) → members marks ≡ [] → slice_index_or marks v false ≡ false
 unmarked marks v e = none_counted marks v (members_none marks e)
-
-any_last : (p : ℕ → Bool) (xs : List ℕ) (x : ℕ) → list_any p (xs ++ x ∷ []) ≡ (list_any p xs || p x)
-any_last p [] x = or_none (p x)
-  where
-    or_none : (b : Bool) → (b || false) ≡ (false || b)
-    or_none true = refl
-    or_none false = refl
-any_last p (y ∷ ys) x = or_more (p y) (any_last p ys x)
-  where
-    or_more : (b : Bool) → list_any p (ys ++ x ∷ []) ≡ (list_any p ys || p x) → (b || list_any p (ys ++ x ∷ [])) ≡ ((b || list_any p ys) || p x)
-    or_more true e = refl
-    or_more false e = e
 
 -- the marks of the predecessors are those of no other
 pub owed_members : (p : ℕ → Bool) (n : ℕ) (owed : List Bool) → length owed ≡ n → AreOwed (filter p (range_with_len 0 n)) owed

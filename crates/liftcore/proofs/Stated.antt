@@ -1,6 +1,6 @@
 -- The state after an event.
-use Rattle.std.proofs.Common.{◌≡◌, ℕ, zero, suc, ◌+◌, ◌<◌, Bool, true, false, ◌⊎◌, ◌&&◌, List, [], ◌∷◌, ◌++◌, length, map, replicate, take, refl, sym, ◌∙◌}
-use Rattle.std.proofs.Common.{ap, ap₂, subst, inl, inr, arith, true≢false, Some, option_map, slice_index_or, slice_set, get_or, if◌then◌else◌}
+use Rattle.std.proofs.Common.{◌≡◌, ℕ, zero, suc, ◌+◌, ◌<◌, Bool, true, false, ◌⊎◌, List, [], ◌∷◌, ◌++◌, length, map, replicate, refl, sym, ◌∙◌}
+use Rattle.std.proofs.Common.{ap, ap₂, subst, inl, inr, true≢false, Some, option_map, slice_index_or, slice_set, get_or, if◌then◌else◌}
 use Rattle.std.specs.Prelude.{◌==◌, slice_get, nat_lt}
 use Rattle.std.specs.List.{AllZip, list_all, list_any}
 use Rattle.std.specs.Ordering.{is_lt}
@@ -26,7 +26,7 @@ use Rattle.liftcore.specs.declared.state.State.{State}
 use Rattle.liftcore.proofs.Marked.{insert_members, marked_member, member_marked, owed_members, remove_members}
 use Rattle.liftcore.proofs.Notes.{all_idle, holds_same, owing_has, owing_holds}
 use Rattle.liftcore.proofs.Seated.{here, marked_owes, unread_reads, unread_waits, worker_free, worker_holding, zip_read}
-use Rattle.liftcore.proofs.Sets.{and_both, get_back}
+use Rattle.liftcore.proofs.Sets.{get_back}
 
 -- ---- the workers of seats
 
@@ -294,15 +294,6 @@ one_more_idle g n m seats items x are is idle e k = record {
 }
 
 -- ---- whether all is quiet
-
-pub all_idle_more : (seats : List Seat) (i : ℕ) (x : Seat) → i < length seats → slice_index_or seats i x ≡ x
-    → list_all is_idle (map worker_of (take i seats)) ≡ true → worker_of x ≡ Idle
-    → list_all is_idle (map worker_of (take (suc i) seats)) ≡ true
-all_idle_more [] i x h e all idle = absurd (omega arith)
-all_idle_more (y ∷ ys) zero x h e all idle = ap (λ (s : Seat). is_idle (worker_of s) && true) e ∙ ap (λ (k : Worker). is_idle k && true) idle
-all_idle_more (y ∷ ys) (suc i) x h e all idle =
-    let parts = and_both (is_idle (worker_of y)) (list_all is_idle (map worker_of (take i ys))) all in
-    ap (λ b. b && list_all is_idle (map worker_of (take (suc i) ys))) parts.0 ∙ all_idle_more ys i x (omega arith) e parts.1 idle
 
 pub one_busy : (seats : List Seat) (i : ℕ) (x : Seat) → i < length seats → slice_index_or seats i x ≡ x → (worker_of x ≡ Idle → ⊥)
     → list_all is_idle (map worker_of seats) ≡ true → ⊥

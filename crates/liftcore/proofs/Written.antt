@@ -42,9 +42,6 @@ before first = if first then [] else (44 ∷ [])
 range_next : (v n : ℕ) → v < n → range_with_len v (n - v) ≡ v ∷ range_with_len (v + 1) (n - (v + 1))
 range_next v n h = let e : n - v ≡ suc (n - (v + 1)) = omega arith in ap (range_with_len v) e
 
-range_none : (v n : ℕ) → n ≤ v → range_with_len v (n - v) ≡ []
-range_none v n h = let e : n - v ≡ 0 = omega arith in ap (range_with_len v) e
-
 pub next_marked : (marks : List Bool) (v : ℕ) (first : Bool) → v < length marks → slice_index_or marks v false ≡ true
     → left first (marked_from marks v) ≡ (before first ++ decimal v) ++ left false (marked_from marks (v + 1))
 next_marked marks v first h e = ap (left first) (is_next) ∙ by first

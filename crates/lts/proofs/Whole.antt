@@ -10,12 +10,9 @@ use Rattle.systems.specs.System.{Arrow, System, IsArrow, set_of}
 use Rattle.lts.specs.Aut.{IsAut, IsHeader, HasFault, HasFaultAt}
 use Rattle.text.specs.Lines.{IfKnown}
 use Rattle.lts.specs.Left.{IsWithinLimits, BeginsWith, AreTransitions, HasRestFault, Refuses, named}
-use Rattle.text.specs.declared.error.ReadFault.{ReadFault}
 use Rattle.text.specs.declared.error.ReadFault.TheVariants as reads
 use Rattle.text.specs.Reads.{Reads}
 use Rattle.text.proofs.Promised.{AreLaws, keeps}
-use Rattle.lts.specs.declared.error.AutFault.{AutFault}
-use Rattle.lts.specs.Unread.{unread}
 use Rattle.systems.specs.Numbered.{Numbered}
 use Rattle.lts.proofs.Faults.{no_fault, one_fault}
 use Rattle.lts.proofs.Unique as unique
@@ -73,12 +70,6 @@ read_fault (Some text) (Some left) h (errors.Fault fault line) admitted begins (
       body,
       place,
     )
-
--- a line that could not be read is no fault
-pub unread_refuses : (old : Option (List ℕ)) (P : List ℕ → AutFault → ℕ → Type 0) (fault : ReadFault) → Refuses old P (unread fault)
-unread_refuses None P fault = tt
-unread_refuses (Some text) P reads.Read = tt
-unread_refuses (Some text) P reads.Memory = tt
 
 pub laws : AreLaws IsAut IsAut IsAut HasFaultAt
 laws = record {

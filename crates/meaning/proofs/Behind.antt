@@ -40,9 +40,6 @@ one_some R s t h = (t, [], h, λ _. t)
 any_map : (R Q : ℕ → ℕ → Type 0) → ((s t : ℕ) → R s t → Q s t) → (s t : ℕ) → Any R s t → Any Q s t
 any_map R Q f s t (xs, p) = (xs, along R Q f s xs t p)
 
-some_map : (R Q : ℕ → ℕ → Type 0) → ((s t : ℕ) → R s t → Q s t) → (s t : ℕ) → Some R s t → Some Q s t
-some_map R Q f s t (m, xs, first, p) = (m, xs, f s m first, along R Q f m xs t p)
-
 any_any : (R : ℕ → ℕ → Type 0) (s t : ℕ) → Any (Any R) s t → Any R s t
 any_any R s t (xs, p) = flat R s xs t p
 

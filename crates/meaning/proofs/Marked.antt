@@ -1,7 +1,7 @@
 -- Marks of all states, of the others, of both and of either.
-use Rattle.std.proofs.Common.{◌≡◌, ℕ, ◌<◌, ◌⊎◌, ◌↔◌, Bool, true, false, not, ◌&&◌, ◌||◌, List, [], ◌∷◌, length, map, replicate, refl, subst, sym, ap, ◌∙◌}
+use Rattle.std.proofs.Common.{◌≡◌, ℕ, ◌<◌, ◌⊎◌, ◌↔◌, Bool, true, false, not, ◌&&◌, ◌||◌, List, [], ◌∷◌, length, map, refl, subst, sym, ap, ◌∙◌}
 use Rattle.std.proofs.Common.{inl, inr, arith}
-use Rattle.std.proofs.lemmas.List.{length-map, length-replicate, get_or-map, get_or-replicate}
+use Rattle.std.proofs.lemmas.List.{length-map, get_or-map}
 use Rattle.std.proofs.lemmas.Slice.Zip.{length-zip, get_or-zip}
 use Rattle.std.specs.Prelude.{zip, slice_index_or, IsTrue}
 use mathlib.Core.Bool.{beq}
@@ -18,12 +18,6 @@ at_zip f ms ns s h e = get_or-map f (zip ms ns) s (false, false) false (omega (a
 
 pub length_zip : (f : Bool × Bool → Bool) (ms ns : List Bool) → length ms ≡ length ns → length (map f (zip ms ns)) ≡ length ms
 length_zip f ms ns e = omega (arith, length-map (zip ms ns) f, length-zip ms ns)
-
-pub marks_all : (n : ℕ) → Marks n (replicate n true) (λ s. Unit {0})
-marks_all n = record { count = length-replicate n true; exact = λ s h. (λ _. tt, λ _. get_or-replicate n s true false h) }
-
-pub marks_none : (n : ℕ) → Marks n (replicate n false) (λ s. ⊥)
-marks_none n = record { count = length-replicate n false; exact = λ s h. (λ e. false_is_none (sym (get_or-replicate n s false false h) ∙ e), λ no. absurd no) }
 
 pub marks_not : (n : ℕ) (ms : List Bool) (P : ℕ → Type 0) → Marks n ms P → Marks n (map not ms) (λ s. P s → ⊥)
 marks_not n ms P m = record {

@@ -1,10 +1,8 @@
 -- What surveys of parts find together.
-use Rattle.std.proofs.Common.{◌≡◌, ◌≢◌, ℕ, ◌+◌, ◌<◌, ◌≤◌, max, Bool, true, false, ◌||◌, List, [], ◌∷◌, ◌++◌, length, refl, sym, ap, ◌∙◌, subst, inl, inr, arith}
+use Rattle.std.proofs.Common.{◌≡◌, ◌≢◌, ℕ, ◌+◌, ◌<◌, ◌≤◌, max, Bool, true, false, ◌||◌, List, [], ◌∷◌, ◌++◌, length, refl, sym, ap, ◌∙◌, subst, arith}
 use Rattle.std.specs.Prelude.{nat_lt, ◌==◌, if◌then◌else◌, slice_set, slice_index}
 use Rattle.std.proofs.lemmas.Bool.{lt-ltb, le-ltb}
-use Rattle.std.proofs.lemmas.Bool.Decides.{eqb_tells}
 use Rattle.std.proofs.lemmas.List.{get_or-set_same, get_or-set_other}
-use Rattle.calculus.specs.Tree.{Action}
 use Rattle.normal.specs.Tree.{Norm, Constant, Junction, Modality, Fixpoint, Variable, ConstantNode, JunctionNode, ModalityNode, FixpointNode, VariableNode}
 use Rattle.normal.specs.Tree.{size, chain, two}
 use Rattle.normal.specs.Nodes.{Node, Rule, nodes_by, greatest_nested, greatest_priority, parity_from}
@@ -151,10 +149,6 @@ junction_zero : (r : Priorities) (at : ℕ) (flag : Bool) (f g : Norm) → 0 ≡
 junction_zero Nested at flag f g = refl
 junction_zero Dependent at flag f g = refl
 
-modality_zero : (r : Priorities) (at : ℕ) (flag : Bool) (a : Action) (f : Norm) → 0 ≡ rule_of r at (Modality flag a f)
-modality_zero Nested at flag a f = refl
-modality_zero Dependent at flag a f = refl
-
 -- past a tree no variable was seen from its end on
 pub past_before : (old new : Survey) (place : Place) (f : Norm) (s : Summary) → Surveys old new place f s → AreBefore old.opens place.level place.at
     → AreBefore new.opens place.level s.next
@@ -227,32 +221,6 @@ junction_surveys old mid one new place f g first second s h w v' is flag =
       };
     }
 
-pub modality_surveys : (old mid new : Survey) (place : Place) (f : Norm) (s : Summary) → IsLeaf old mid place
-    → Surveys mid new (record { at = place.at + 1; level = place.level }) f s
-    → (flag : Bool) (a : Action) → Surveys old new place (Modality flag a f) s
-modality_surveys old mid new place f s h w flag a =
-    let at = place.at in
-    let own : slice_index new.priorities at ≡ rule_of old.rule at (Modality flag a f) = w.kept at (omega arith)
-    ∙ (leaf_noted old mid place h ∙ modality_zero old.rule at flag a f) in
-    let zero = modality_zero old.rule at flag a f in
-    let rest : nodes_by (noted_rule new.priorities) (at + 1) f ≡ nodes_by (rule_of old.rule) (at + 1) f = w.priorities
-    ∙ ap (λ r. nodes_by (rule_of r) (at + 1) f) h.rule in
-    record {
-      priorities = λ i. record { shape = ModalityNode flag a (at + 1); priority = own i } ∷ rest i;
-      kept = λ k below. w.kept k (omega arith) ∙ leaf_kept old mid place h k below;
-      opens = λ i below. w.opens i below ∙ ap (λ os. past (at + 1) f (open_at os i)) h.opens;
-      rule = w.rule ∙ h.rule;
-      summary = record {
-        next = let e : s.next ≡ at + 1 + size f = w.summary.next in omega arith;
-        nested = w.summary.nested;
-        greatest = w.summary.greatest ∙ (ap (λ r. greatest_priority (nodes_by (rule_of r) (at + 1) f)) h.rule
-            ∙ (none_first (greatest_priority (nodes_by (rule_of old.rule) (at + 1) f))
-            ∙ (λ j. max (zero j) (greatest_priority (nodes_by (rule_of old.rule) (at + 1) f)))));
-        from_least = w.summary.from_least;
-        from_greatest = w.summary.from_greatest;
-      };
-    }
-
 -- ---- fixpoints
 
 by_rule : (r : Priorities) (at : ℕ) (flag : Bool) (f : Norm) (inside over : ℕ) → inside ≡ greatest_nested f → over ≡ above at (at + 1) f
@@ -294,18 +262,6 @@ opened_own old new place h = ap (λ os. open_at os place.level) h.opens ∙ get_
 
 opened_others : (old new : Survey) (place : Place) → IsOpened old new place → (i : ℕ) → i < place.level → open_at new.opens i ≡ open_at old.opens i
 opened_others old new place h i below = ap (λ os. open_at os i) h.opens ∙ get_or-set_other old.opens place.level i (opened place.at) closed (λ e. omega arith)
-
-pub opened_before : (old new : Survey) (place : Place) → IsOpened old new place → AreBefore old.opens place.level place.at
-    → AreBefore new.opens (place.level + 1) (place.at + 1)
-opened_before old new place h before i below = elim (eqb_tells i place.level) [
-  | inl w ↦ let own : (open_at new.opens i).last ≡ place.at = ap (λ k. (open_at new.opens k).last) w.1
-      ∙ ap (λ (o : Open). o.last) (opened_own old new place h) in omega arith
-  | inr w ↦
-      let under : i < place.level = omega (arith, w.1) in
-      let same : (open_at new.opens i).last ≡ (open_at old.opens i).last = ap (λ (o : Open). o.last) (opened_others old new place h i under) in
-      let was = before i under in
-      omega arith
-]
 
 -- how much its operand has above the binder
 pub opened_above : (old mid end : Survey) (place : Place) (f : Norm) (inside : Summary) → IsOpened old mid place

@@ -81,11 +81,6 @@ ids = map (λ x. x.id)
 abbrev pub Differ : List Line → Type 0
 Differ spelled = AllPairs (λ x y. x.id ≢ y.id) spelled
 
-pub ids_has : (spelled : List Line) (x : Line) → Has spelled x → Has (ids spelled) x.id
-ids_has [] x h = absurd h
-ids_has (y ∷ spelled) x (inl e) = inl (ap (λ (l : Line). l.id) e)
-ids_has (y ∷ spelled) x (inr h) = inr (ids_has spelled x h)
-
 pub has_id : (spelled : List Line) (v : ℕ) → Has (ids spelled) v → (x : Line) × Has spelled x × (x.id ≡ v)
 has_id [] v h = absurd h
 has_id (y ∷ spelled) v (inl e) = (y, inl refl, e)
@@ -138,11 +133,6 @@ pub has_at : {X : Type 0} (xs : List X) (k : ℕ) (x : X) → slice_get xs k ≡
 has_at [] k x e = absurd cc
 has_at (y ∷ xs) zero x e = inl cc
 has_at (y ∷ xs) (suc k) x e = inr (has_at xs k x e)
-
-pub at_has : {X : Type 0} (xs : List X) (x : X) → Has xs x → (k : ℕ) × (slice_get xs k ≡ Some x)
-at_has [] x h = absurd h
-at_has (y ∷ xs) x (inl e) = (0, ap Some e)
-at_has (y ∷ xs) x (inr h) = let (k, is) = at_has xs x h in (suc k, is)
 
 pub has_left : {X : Type 0} (xs ys : List X) (x : X) → Has xs x → Has (xs ++ ys) x
 has_left [] ys x h = absurd h

@@ -115,10 +115,6 @@ decode_next bs done i rest number h e =
     let w = lists_up_to (λ b. b) (drop (suc i) bs) in
     append_assoc done ((rest / w) ∷ []) (decode (λ b. b) (drop (suc i) bs) (rest % w)) ∙ (ap (λ ds. done ++ ds) (sym (decode_at bs i rest h)) ∙ e)
 
-pub decode_long : (f : ℕ → ℕ) (ps : List ℕ) (n : ℕ) → length (decode f ps n) ≡ length ps
-decode_long f [] n = refl
-decode_long f (p ∷ ps) n = ap suc (decode_long f ps (n % lists_up_to f ps))
-
 -- ------------------------------------------------------------------ measures
 
 pub of_rank_counts : (g : Game) (n : ℕ) → n < height g → of_rank g n ≡ Counts (decode (count g) (components g) n)
