@@ -9,12 +9,23 @@ use crate::measure::Measure;
 use text::sink::Sink;
 use text::{WriteFault, put, put_number};
 
+// Writes a count after a comma. Most counts are zero, and that is one write.
+fn put_next<W: Sink>(writer: &mut W, count: u32) -> Result<(), WriteFault>
+    ensures wrote { Wrote (W.taken writer.old) (W.taken writer.new) result (44 ∷ decimal count) }
+{
+    if count == 0 {
+        put(writer, b",0")
+    } else {
+        put_number(writer, b",", count)
+    }
+}
+
 // Writes these counts, each after a comma.
 fn put_more<W: Sink>(writer: &mut W, counts: &[u32]) -> Result<(), WriteFault>
     ensures { Wrote (W.taken writer.old) (W.taken writer.new) result (flat_map (λ k. 44 ∷ decimal k) counts.now) }
 {
     for count in counts {
-        put_number(writer, b",", *count)?;
+        put_next(writer, *count)?;
     }
     Ok(())
 }
