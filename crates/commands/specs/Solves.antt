@@ -11,13 +11,13 @@ use Rattle.requests.specs.declared.error.MuError.{MuError}
 use Rattle.requests.specs.declared.error.MuError.TheVariants as error
 use Rattle.requests.specs.declared.request.ReportForm.TheVariants.{Whole}
 use Rattle.requests.specs.Solver.{FitsBoard, IsUnsolved}
-use Rattle.requests.specs.Writers.{Kind, GameText, EvenText, OddText, WitnessText, DrawingText, ReportText, Unasked, Lent, IsLentFor, AreKept, AreWhole}
+use Rattle.requests.specs.Writers.{TextKind, GameText, EvenText, OddText, WitnessText, DrawingText, ReportText, Unasked, Lent, IsLentFor, AreKept, AreWhole}
 use Rattle.requests.specs.Writers.{AreWrittenUpTo, kind_where, lent_for, report_writer}
 use Rattle.commands.specs.Spelled.{IsGameOf, IsGameTold}
 use Rattle.commands.specs.Winners.{AreWinners, winners_text}
 
 -- The texts that are written of a game: evidence of all that Even wins, and of all that Odd wins, and who wins each vertex where these are the marks.
-abbrev pub IsSolveText : Game → (marks : List Bool) → Kind → List ℕ → Type 0
+abbrev pub IsSolveText : Game → (marks : List Bool) → TextKind → List ℕ → Type 0
 IsSolveText g marks EvenText text = IsFullText Even g text
 IsSolveText g marks OddText text = IsFullText Odd g text
 IsSolveText g marks (ReportText form) text = text ≡ winners_text marks

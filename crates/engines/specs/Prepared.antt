@@ -21,11 +21,11 @@ use Rattle.engines.specs.declared.prepared.Shown.{Shown}
 use Rattle.verdicts.specs.declared.findings.Findings.{Findings}
 use Rattle.requests.specs.Check.{IsTextOf}
 use Rattle.requests.specs.Report.{report_in}
-use Rattle.requests.specs.Writers.{Kind}
+use Rattle.requests.specs.Writers.{TextKind}
 use Rattle.verdicts.specs.Findings.{IsPairOf, formula_found, system_of, way_in}
 
 -- the texts that are written of it
-abbrev pub IsTextFound : Findings → Kind → List ℕ → Type 0
+abbrev pub IsTextFound : Findings → TextKind → List ℕ → Type 0
 IsTextFound x = IsTextOf (way_in x) (system_of x) (formula_found x) x.marks.items
 
 -- good evidence that has the initial state's vertex with the root node: of a play that goes one way from each vertex, or of the least progress tables

@@ -13,7 +13,7 @@ use Rattle.game.specs.declared.player.Player.TheVariants.{Even, Odd}
 use Rattle.evidence.specs.Canon.{header}
 use Rattle.evidence.specs.Evidence.{Entry, Evidence, counted}
 use Rattle.evidence.specs.Fault.{HasFault, IsFaultyRest, IsMisplaced, LineFault}
-use Rattle.evidence.specs.Spelling.{AreGoodRows, AreLines, AreEntriesOf, IsEvidenceText, IsRowInside, IsShaped, Row}
+use Rattle.evidence.specs.Spelling.{AreGoodRows, AreLines, AreEntriesOf, IsEvidenceText, IsRowInside, IsShaped, EntryRow}
 use Rattle.evidence.specs.declared.error.EvidenceFault.{EvidenceFault}
 use Rattle.evidence.specs.declared.error.EvidenceFault.TheVariants.{BadHeader, BadLine, BadVertex}
 use Rattle.evidence.proofs.Scanned.{row_same}
@@ -31,7 +31,7 @@ header_alone Odd Odd e = refl
 cut_alone : (all rest rest' : List (List ℕ)) (p q : Player) → all ≡ header p ∷ rest → all ≡ header q ∷ rest' → (p ≡ q) × (rest ≡ rest')
 cut_alone all rest rest' p q a b = let t = tails (header p) (header q) rest rest' (sym a ∙ b) in (header_alone p q t.0, t.1)
 
-rows_same : (w : ℕ) (lines : List (List ℕ)) (xs ys : List Row) → AllZip (IsShaped w) lines xs → AllZip (IsShaped w) lines ys → xs ≡ ys
+rows_same : (w : ℕ) (lines : List (List ℕ)) (xs ys : List EntryRow) → AllZip (IsShaped w) lines xs → AllZip (IsShaped w) lines ys → xs ≡ ys
 rows_same w [] [] [] h k = refl
 rows_same w [] [] (y ∷ ys) h k = absurd k
 rows_same w [] (x ∷ xs) ys h k = absurd h
@@ -72,15 +72,15 @@ one_evidence g text e f a b =
 
 -- ---- a line among good ones has no fault
 
-record IsSplit (w : ℕ) (front : List (List ℕ)) (line : List ℕ) (rows : List Row) : Type 0 where
-  before : List Row
-  row : Row
-  after : List Row
+record IsSplit (w : ℕ) (front : List (List ℕ)) (line : List ℕ) (rows : List EntryRow) : Type 0 where
+  before : List EntryRow
+  row : EntryRow
+  after : List EntryRow
   is : rows ≡ before ++ row ∷ after
   each : AllZip (IsShaped w) front before
   shaped : IsShaped w line row
 
-split_of : (w : ℕ) (front : List (List ℕ)) (line : List ℕ) (back : List (List ℕ)) (rows : List Row) → AllZip (IsShaped w) (front ++ line ∷ back) rows
+split_of : (w : ℕ) (front : List (List ℕ)) (line : List ℕ) (back : List (List ℕ)) (rows : List EntryRow) → AllZip (IsShaped w) (front ++ line ∷ back) rows
     → IsSplit w front line rows
 split_of w [] line back [] h = absurd h
 split_of w [] line back (x ∷ rows) h = record { before = []; row = x; after = rows; is = refl; each = tt; shaped = h.0 }
@@ -89,22 +89,22 @@ split_of w (l ∷ front) line back (x ∷ rows) h =
     let s = split_of w front line back rows h.1 in
     record { before = x ∷ s.before; row = s.row; after = s.after; is = ap (λ l. x ∷ l) s.is; each = (h.0, s.each); shaped = s.shaped }
 
-middle : (P : Row → Type 0) (front : List Row) (x : Row) (back : List Row) → AllByRecursion P (front ++ x ∷ back) → P x
+middle : (P : EntryRow → Type 0) (front : List EntryRow) (x : EntryRow) (back : List EntryRow) → AllByRecursion P (front ++ x ∷ back) → P x
 middle P [] x back all = all.0
 middle P (y ∷ front) x back all = middle P front x back all.1
 
-seam : (front : List Row) (x : Row) (back : List Row) (d : Row) → slice_index_or (front ++ x ∷ back) (length front) d ≡ x
+seam : (front : List EntryRow) (x : EntryRow) (back : List EntryRow) (d : EntryRow) → slice_index_or (front ++ x ∷ back) (length front) d ≡ x
 seam [] x back d = refl
 seam (y ∷ front) x back d = seam front x back d
 
-apart : (front : List Row) (x y : Row) (back : List Row) → AllPairs (λ (a b : Row). a.vertex ≢ b.vertex) (front ++ x ∷ back) → Contains front y
+apart : (front : List EntryRow) (x y : EntryRow) (back : List EntryRow) → AllPairs (λ (a b : EntryRow). a.vertex ≢ b.vertex) (front ++ x ∷ back) → Contains front y
     → y.vertex ≢ x.vertex
 apart front x y back once (k, h, is) e =
     let long = length-append front (x ∷ back) in
     let at : slice_index_or (front ++ x ∷ back) k y ≡ y = get_or-append front (x ∷ back) y k h ∙ is in
-    once k (length front) y h (omega arith) (ap (λ (r : Row). r.vertex) at ∙ (e ∙ sym (ap (λ (r : Row). r.vertex) (seam front x back y))))
+    once k (length front) y h (omega arith) (ap (λ (r : EntryRow). r.vertex) at ∙ (e ∙ sym (ap (λ (r : EntryRow). r.vertex) (seam front x back y))))
 
-no_line : (n w : ℕ) (front : List (List ℕ)) (line : List ℕ) (back : List (List ℕ)) (rows before : List Row) (fault : EvidenceFault)
+no_line : (n w : ℕ) (front : List (List ℕ)) (line : List ℕ) (back : List (List ℕ)) (rows before : List EntryRow) (fault : EvidenceFault)
     → AreGoodRows n w (front ++ line ∷ back) rows → AreGoodRows n w front before → LineFault n w before line fault → ⊥
 no_line n w front line back rows before BadHeader all some wrong = wrong
 no_line n w front line back rows before BadLine all some wrong = let s = split_of w front line back rows all.each in wrong s.row s.shaped
@@ -127,8 +127,8 @@ no_line n w front line back rows before BadVertex all some (y, shaped, place) = 
     misplaced (inr (inr (other, stands, e))) =
         let s = split_of w front line back rows all.each in
         let front_same = rows_same w front before s.before some.each s.each in
-        apart s.before s.row other s.after (subst (AllPairs (λ (a b : Row). a.vertex ≢ b.vertex)) s.is all.once)
-        (subst (λ (l : List Row). Contains l other) front_same stands) (e ∙ ap (λ (r : Row). r.vertex) same)
+        apart s.before s.row other s.after (subst (AllPairs (λ (a b : EntryRow). a.vertex ≢ b.vertex)) s.is all.once)
+        (subst (λ (l : List EntryRow). Contains l other) front_same stands) (e ∙ ap (λ (r : EntryRow). r.vertex) same)
 
 -- ---- one fault
 
@@ -154,7 +154,7 @@ not_before n w rest f h i j p q less =
     let (mid, is) = longer p.front q.front p.back q.back p.line q.line (sym p.cut ∙ q.cut) (omega (arith, p.count, q.count, less)) in
     no_line n w p.front p.line mid q.before p.before f (subst (λ l. AreGoodRows n w l q.before) is q.fine) p.fine p.wrong
 
-one_line : (n w : ℕ) (before : List Row) (line : List ℕ) (f h : EvidenceFault) → LineFault n w before line f → LineFault n w before line h → f ≡ h
+one_line : (n w : ℕ) (before : List EntryRow) (line : List ℕ) (f h : EvidenceFault) → LineFault n w before line f → LineFault n w before line h → f ≡ h
 one_line n w before line BadHeader h p q = absurd p
 one_line n w before line BadLine BadHeader p q = absurd q
 one_line n w before line BadLine BadLine p q = refl

@@ -19,7 +19,7 @@ use Rattle.evidence.specs.Canon.{entry_line, entry_lines, evidence_text, header,
 use Rattle.evidence.specs.Evidence.{Entry, Evidence, IsEvidence, counted}
 use Rattle.evidence.specs.Best.{IsEvenOf}
 use Rattle.evidence.specs.Laws.{IsSmall, WrittenIsAccepted}
-use Rattle.evidence.specs.Spelling.{AreEntriesOf, IsEvidenceText, IsRowInside, IsMoveText, IsShaped, Row}
+use Rattle.evidence.specs.Spelling.{AreEntriesOf, IsEvidenceText, IsRowInside, IsMoveText, IsShaped, EntryRow}
 use Rattle.evidence.specs.declared.limits.TheConstants.{GREATEST_COUNT}
 use Rattle.game.specs.declared.limits.TheConstants.{MOST_VERTICES}
 use Rattle.game.specs.declared.player.Player.{Player}
@@ -100,12 +100,12 @@ module _ (n width : ℕ) (limit : n ≤ MOST_VERTICES) where
 -- ---- all lines
 
 -- a row for each entry, where the first one is of the vertex v
-abbrev rows_from : ℕ → List (Option Entry) → List Row
+abbrev rows_from : ℕ → List (Option Entry) → List EntryRow
 rows_from v [] = []
 rows_from v (None ∷ es) = rows_from (v + 1) es
 rows_from v (Some x ∷ es) = record { vertex = v; entry = x } ∷ rows_from (v + 1) es
 
-abbrev body_of : Row → List ℕ
+abbrev body_of : EntryRow → List ℕ
 body_of row = entry_body row.vertex row.entry
 
 abbrev AllFit : (n width : ℕ) → List (Option Entry) → Type 0
@@ -159,7 +159,7 @@ has_row v (suc k) x (Some y ∷ es) e =
     (suc there.0, omega (arith, there.1), there.2)
 
 -- each row has its entry
-has_entry : (v i : ℕ) (row : Row) (es : List (Option Entry)) → i < length (rows_from v es) → slice_index_or (rows_from v es) i row ≡ row
+has_entry : (v i : ℕ) (row : EntryRow) (es : List (Option Entry)) → i < length (rows_from v es) → slice_index_or (rows_from v es) i row ≡ row
     → (k : ℕ) × (v + k ≡ row.vertex) × (slice_index_or es k None ≡ Some row.entry)
 has_entry v i row [] inside e = absurd (omega (arith, inside))
 has_entry v i row (None ∷ es) inside e =
@@ -167,7 +167,7 @@ has_entry v i row (None ∷ es) inside e =
     (suc there.0, omega (arith, there.1), there.2)
 has_entry v zero row (Some x ∷ es) inside e =
     let same : v + 0 ≡ v = omega arith in
-    (0, same ∙ ap (λ (r : Row). r.vertex) e, ap (λ (r : Row). Some r.entry) e)
+    (0, same ∙ ap (λ (r : EntryRow). r.vertex) e, ap (λ (r : EntryRow). Some r.entry) e)
 has_entry v (suc i) row (Some x ∷ es) inside e =
     let there = has_entry (v + 1) i row es (omega (arith, inside)) e in
     (suc there.0, omega (arith, there.1), there.2)

@@ -14,7 +14,7 @@ use Rattle.game.specs.declared.player.Player.TheVariants.{Even, Odd}
 use Rattle.evidence.specs.Canon.{header}
 use Rattle.evidence.specs.Evidence.{Entry, Evidence, counted}
 use Rattle.evidence.specs.Fault.{HasFault, IsFaultyRest, LineFault}
-use Rattle.evidence.specs.Spelling.{AreGoodRows, AreLines, AreEntriesOf, IsEvidenceText, IsRowInside, IsShaped, Row}
+use Rattle.evidence.specs.Spelling.{AreGoodRows, AreLines, AreEntriesOf, IsEvidenceText, IsRowInside, IsShaped, EntryRow}
 use Rattle.evidence.specs.declared.error.EvidenceFault.{EvidenceFault}
 use Rattle.evidence.specs.declared.error.EvidenceFault.TheVariants.{BadHeader, BadLine, BadVertex}
 use Rattle.evidence.proofs.Gathered.{all_more, each_more, same_more}
@@ -23,14 +23,14 @@ use Rattle.evidence.proofs.Scanned.{row_found, row_gives, row_of}
 
 module _ (n width : ℕ) where
   -- lines that say these rows, which are these entries
-  record Fine (front : List (List ℕ)) (rows : List Row) (entries : List (Option Entry)) : Type 0 where
+  record Fine (front : List (List ℕ)) (rows : List EntryRow) (entries : List (Option Entry)) : Type 0 where
     good : AreGoodRows n width front rows
     long : length entries ≡ n
     same : AreEntriesOf rows entries
 
   -- a line behind them
-  data Judged (rows : List Row) (entries : List (Option Entry)) (line : List ℕ) : Type 0 where
-    fine : (row : Row) → IsShaped width line row → IsRowInside n row → slice_index_or entries row.vertex None ≡ None → Judged rows entries line
+  data Judged (rows : List EntryRow) (entries : List (Option Entry)) (line : List ℕ) : Type 0 where
+    fine : (row : EntryRow) → IsShaped width line row → IsRowInside n row → slice_index_or entries row.vertex None ≡ None → Judged rows entries line
     no_line : LineFault n width rows line BadLine → Judged rows entries line
     no_place : LineFault n width rows line BadVertex → Judged rows entries line
 
@@ -40,14 +40,14 @@ module _ (n width : ℕ) where
     bad_line : (good : ℕ) → IsFaultyRest n width rest BadLine good → Rest rest
     bad_vertex : (good : ℕ) → IsFaultyRest n width rest BadVertex good → Rest rest
 
-  module _ (rows : List Row) (entries : List (Option Entry)) (same : AreEntriesOf rows entries) (line : List ℕ) where
-    by_free : (row : Row) → IsShaped width line row → IsRowInside n row → (o : Option Entry) → slice_index_or entries row.vertex None ≡ o
+  module _ (rows : List EntryRow) (entries : List (Option Entry)) (same : AreEntriesOf rows entries) (line : List ℕ) where
+    by_free : (row : EntryRow) → IsShaped width line row → IsRowInside n row → (o : Option Entry) → slice_index_or entries row.vertex None ≡ o
         → Judged rows entries line
     by_free row shaped inside None free = fine row shaped inside free
     by_free row shaped inside (Some x) taken =
         no_place (row, shaped, inr (inr (record { vertex = row.vertex; entry = x }, (same row.vertex x).0 taken, refl)))
 
-    by_move : (row : Row) → IsShaped width line row → row.vertex < n → (o : Option ℕ) → row.entry.move ≡ o → Judged rows entries line
+    by_move : (row : EntryRow) → IsShaped width line row → row.vertex < n → (o : Option ℕ) → row.entry.move ≡ o → Judged rows entries line
     by_move row shaped vertex None none =
         let inside : IsRowInside n row = record { vertex = vertex; move = λ t e. (let q : None ≡ Some t = sym none ∙ e in cc) } in
         by_free row shaped inside (slice_index_or entries row.vertex None) refl
@@ -59,17 +59,17 @@ module _ (n width : ℕ) where
         within : (t u : ℕ) → t < n → Some t ≡ Some u → u < n
         within t u h e = let q : t ≡ u = cc in omega (arith, h, q)
 
-    by_vertex : (row : Row) → IsShaped width line row → Judged rows entries line
+    by_vertex : (row : EntryRow) → IsShaped width line row → Judged rows entries line
     by_vertex row shaped = elim (leb_tells n row.vertex) [
       | inl w ↦ no_place (row, shaped, inl w.1)
       | inr w ↦ by_move row shaped w.1 row.entry.move refl
     ]
 
-    by_scan : (o : Option Row) → row_of width line ≡ o → Judged rows entries line
+    by_scan : (o : Option EntryRow) → row_of width line ≡ o → Judged rows entries line
     by_scan None none = no_line (λ row shaped. (let q : None ≡ Some row = sym none ∙ row_found width line row shaped in absurd cc))
     by_scan (Some row) found = by_vertex row (row_gives width line row found)
 
-  longer : (front : List (List ℕ)) (rows : List Row) (entries : List (Option Entry)) (line : List ℕ) (row : Row) → Fine front rows entries
+  longer : (front : List (List ℕ)) (rows : List EntryRow) (entries : List (Option Entry)) (line : List ℕ) (row : EntryRow) → Fine front rows entries
       → IsShaped width line row → IsRowInside n row → slice_index_or entries row.vertex None ≡ None
       → Fine (front ++ line ∷ []) (rows ++ row ∷ []) (slice_set entries row.vertex (Some row.entry))
   longer front rows entries line row is shaped inside free =
@@ -77,22 +77,22 @@ module _ (n width : ℕ) where
         good = record {
           each = each_more width front rows line row is.good.each shaped;
           inside = all_more n rows row is.good.inside inside;
-          once = all_pairs_push (λ (a b : Row). a.vertex ≢ b.vertex) rows row is.good.once apart;
+          once = all_pairs_push (λ (a b : EntryRow). a.vertex ≢ b.vertex) rows row is.good.once apart;
         };
         long = length-set entries row.vertex (Some row.entry) ∙ is.long;
         same = same_more rows entries row is.same vertex free;
       }
     where
-      apart : (k : ℕ) (d : Row) → k < length rows → (get_or rows k d).vertex ≢ row.vertex
+      apart : (k : ℕ) (d : EntryRow) → k < length rows → (get_or rows k d).vertex ≢ row.vertex
       apart k d h e =
           let y = get_or rows k d in
           let at = (is.same y.vertex y.entry).1 (Contains-get_or rows k d h) in
           let q : None ≡ Some y.entry = sym (ap (λ v. slice_index_or entries v None) e ∙ free) ∙ at in cc
 
   -- a line behind lines that are fine
-  at_line : (rest front : List (List ℕ)) (line : List ℕ) (back : List (List ℕ)) (rows : List Row) (entries : List (Option Entry))
+  at_line : (rest front : List (List ℕ)) (line : List ℕ) (back : List (List ℕ)) (rows : List EntryRow) (entries : List (Option Entry))
       → rest ≡ front ++ line ∷ back → Fine front rows entries
-      → ((row : Row) → IsShaped width line row → IsRowInside n row → slice_index_or entries row.vertex None ≡ None → Rest rest)
+      → ((row : EntryRow) → IsShaped width line row → IsRowInside n row → slice_index_or entries row.vertex None ≡ None → Rest rest)
       → Judged rows entries line → Rest rest
   at_line rest front line back rows entries cut is go (fine row shaped inside free) = go row shaped inside free
   at_line rest front line back rows entries cut is go (no_line wrong) = bad_line (length front)
@@ -100,7 +100,7 @@ module _ (n width : ℕ) where
   at_line rest front line back rows entries cut is go (no_place wrong) = bad_vertex (length front)
       (record { front = front; line = line; back = back; before = rows; cut = cut; fine = is.good; count = refl; wrong = wrong })
 
-  behind : (rest front back : List (List ℕ)) (rows : List Row) (entries : List (Option Entry)) → rest ≡ front ++ back → Fine front rows entries → Rest rest
+  behind : (rest front back : List (List ℕ)) (rows : List EntryRow) (entries : List (Option Entry)) → rest ≡ front ++ back → Fine front rows entries → Rest rest
   behind rest front [] rows entries cut is =
       let whole : rest ≡ front = cut ∙ append-nil front in
       all entries (record { rows = rows; good = subst (λ ls. AreGoodRows n width ls rows) (sym whole) is.good; long = is.long; same = is.same })

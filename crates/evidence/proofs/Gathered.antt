@@ -13,8 +13,8 @@ use Rattle.text.specs.Lines.{IfKnown, TakesPiece}
 use Rattle.text.specs.Text.{pieces_of}
 use Rattle.evidence.specs.Evidence.{Entry}
 use Rattle.evidence.specs.Fault.{IsMisplaced, LineFault}
-use Rattle.evidence.specs.Reading.{AreEntriesRead, HasRestFault, IsAdded, IsCutOff, IsNoPlace, IsWrongLine, SoFar}
-use Rattle.evidence.specs.Spelling.{AreEntriesOf, IsRowInside, IsShaped, Row}
+use Rattle.evidence.specs.Reading.{AreEntriesRead, HasRestFault, IsAdded, IsCutOff, IsNoPlace, IsWrongLine, EntriesSoFar}
+use Rattle.evidence.specs.Spelling.{AreEntriesOf, IsRowInside, IsShaped, EntryRow}
 use Rattle.evidence.specs.View.{Entries}
 use Rattle.evidence.specs.declared.error.EvidenceFault.{EvidenceFault}
 use Rattle.evidence.specs.declared.error.EvidenceFault.TheVariants.{BadHeader, BadLine, BadVertex}
@@ -26,7 +26,7 @@ none_filled (suc n) = let rest = none_filled n in omega arith
 
 -- no line was read
 pub nothing_yet : (vertices : ℕ) (old : Option (List ℕ)) (entries : Entries) → vertices ≡ length entries.entries → entries.entries ≡ replicate vertices None
-    → SoFar vertices entries.width 0 old old entries
+    → EntriesSoFar vertices entries.width 0 old old entries
 nothing_yet vertices old entries all none = record {
   done = [];
   rows = [];
@@ -53,14 +53,14 @@ cut_more (Some text) None new done line cut taken = absurd cut
 cut_more (Some text) (Some left) None done line cut taken = absurd taken
 cut_more (Some text) (Some left) (Some rest) done line cut taken = cut ∙ ap (λ l. done ++ l) taken ∙ sym (append_assoc done (line ∷ []) (pieces_of rest))
 
-pub each_more : (w : ℕ) (done : List (List ℕ)) (rows : List Row) (line : List ℕ) (x : Row) → AllZip (IsShaped w) done rows → IsShaped w line x
+pub each_more : (w : ℕ) (done : List (List ℕ)) (rows : List EntryRow) (line : List ℕ) (x : EntryRow) → AllZip (IsShaped w) done rows → IsShaped w line x
     → AllZip (IsShaped w) (done ++ line ∷ []) (rows ++ x ∷ [])
 each_more w [] [] line x each one = (one, tt)
 each_more w [] (b ∷ rows) line x each one = absurd each
 each_more w (l ∷ done) [] line x each one = absurd each
 each_more w (l ∷ done) (b ∷ rows) line x each one = (each.0, each_more w done rows line x each.1 one)
 
-pub all_more : (n : ℕ) (rows : List Row) (x : Row) → AllByRecursion (IsRowInside n) rows → IsRowInside n x → AllByRecursion (IsRowInside n) (rows ++ x ∷ [])
+pub all_more : (n : ℕ) (rows : List EntryRow) (x : EntryRow) → AllByRecursion (IsRowInside n) rows → IsRowInside n x → AllByRecursion (IsRowInside n) (rows ++ x ∷ [])
 all_more n [] x all one = (one, tt)
 all_more n (y ∷ rows) x all one = (all.0, all_more n rows x all.1 one)
 
@@ -92,10 +92,10 @@ filled_few [] = omega arith
 filled_few (None ∷ entries) = omega (arith, filled_few entries, count_no is_some nothing entries refl)
 filled_few (Some y ∷ entries) = omega (arith, filled_few entries, count_yes is_some (Some y) entries refl)
 
-pub few_good : (vertices width good : ℕ) (old now : Option (List ℕ)) (entries : Entries) → SoFar vertices width good old now entries → good ≤ vertices
+pub few_good : (vertices width good : ℕ) (old now : Option (List ℕ)) (entries : Entries) → EntriesSoFar vertices width good old now entries → good ≤ vertices
 few_good vertices width good old now entries so = omega (arith, filled_few entries.entries, so.filled, so.long)
 
-pub same_more : (rows : List Row) (entries : List (Option Entry)) (x : Row) → AreEntriesOf rows entries → x.vertex < length entries
+pub same_more : (rows : List EntryRow) (entries : List (Option Entry)) (x : EntryRow) → AreEntriesOf rows entries → x.vertex < length entries
     → slice_index_or entries x.vertex None ≡ None → AreEntriesOf (rows ++ x ∷ []) (slice_set entries x.vertex (Some x.entry))
 same_more rows entries x same inside free v y = (to, from)
   where
@@ -119,15 +119,15 @@ same_more rows entries x same inside free v y = (to, from)
           let other : v ≢ x.vertex = λ e. (let q : None ≡ Some y = sym (ap (λ k. slice_index_or entries k None) e ∙ free) ∙ at in cc) in
           get_or-set_other entries x.vertex v (Some x.entry) None other ∙ at)
       | inr e ↦ (
-          let vertex : v ≡ x.vertex = sym (ap (λ (r : Row). r.vertex) e) in
+          let vertex : v ≡ x.vertex = sym (ap (λ (r : EntryRow). r.vertex) e) in
           ap (λ k. slice_index_or (slice_set entries x.vertex (Some x.entry)) k None) vertex
-          ∙ (get_or-set_same entries x.vertex (Some x.entry) None inside ∙ ap (λ (r : Row). Some r.entry) e))
+          ∙ (get_or-set_same entries x.vertex (Some x.entry) None inside ∙ ap (λ (r : EntryRow). Some r.entry) e))
     ]
 
 -- one more line
 pub line_more : (vertices width good : ℕ) (old mid new : Option (List ℕ)) (line : List ℕ) (entries after : Entries)
-    → SoFar vertices width good old mid entries → TakesPiece mid new true line → IsAdded line entries after
-    → SoFar vertices width (good + 1) old new after
+    → EntriesSoFar vertices width good old mid entries → TakesPiece mid new true line → IsAdded line entries after
+    → EntriesSoFar vertices width (good + 1) old new after
 line_more vertices width good old mid new line entries after so taken one =
     record {
       done = so.done ++ line ∷ [];
@@ -135,7 +135,7 @@ line_more vertices width good old mid new line entries after so taken one =
       fine = record {
         each = each_more width so.done so.rows line x so.fine.each (subst (λ w. IsShaped w line x) so.wide one.shaped);
         inside = all_more vertices so.rows x so.fine.inside (subst (λ n. IsRowInside n x) so.long one.inside);
-        once = all_pairs_push (λ (a b : Row). a.vertex ≢ b.vertex) so.rows x so.fine.once apart;
+        once = all_pairs_push (λ (a b : EntryRow). a.vertex ≢ b.vertex) so.rows x so.fine.once apart;
       };
       count = omega (arith, length-append so.done (line ∷ []), so.count);
       same = subst (λ (r : Entries). AreEntriesOf (so.rows ++ x ∷ []) r.entries) (sym one.added)
@@ -147,17 +147,17 @@ line_more vertices width good old mid new line entries after so taken one =
       cut = cut_more old mid new so.done line so.cut taken;
     }
   where
-    x : Row
+    x : EntryRow
     x = one.row
 
-    apart : (k : ℕ) (d : Row) → k < length so.rows → (get_or so.rows k d).vertex ≢ one.row.vertex
+    apart : (k : ℕ) (d : EntryRow) → k < length so.rows → (get_or so.rows k d).vertex ≢ one.row.vertex
     apart k d h e =
         let y = get_or so.rows k d in
         let at = (so.same y.vertex y.entry).1 (Contains-get_or so.rows k d h) in
         let q : None ≡ Some y.entry = sym (ap (λ v. slice_index_or entries.entries v None) e ∙ one.free) ∙ at in cc
 
 -- no line was left
-pub all_read : (vertices width good : ℕ) (old mid new : Option (List ℕ)) (line : List ℕ) (entries : Entries) → SoFar vertices width good old mid entries
+pub all_read : (vertices width good : ℕ) (old mid new : Option (List ℕ)) (line : List ℕ) (entries : Entries) → EntriesSoFar vertices width good old mid entries
     → TakesPiece mid new false line → AreEntriesRead vertices width old entries.entries
 all_read vertices width good old mid new line entries so taken = record {
   rest = so.done;
@@ -172,7 +172,7 @@ all_read vertices width good old mid new line entries so taken = record {
     whole (Some text) (Some left) (Some rest) cut taken = cut ∙ (ap (λ l. so.done ++ l) taken ∙ append-nil so.done)
 
 wrong_line : (vertices width good : ℕ) (old now : Option (List ℕ)) (entries : Entries) (line : List ℕ) (fault : EvidenceFault)
-    → (so : SoFar vertices width good old now entries) → IsWrongLine entries line fault
+    → (so : EntriesSoFar vertices width good old now entries) → IsWrongLine entries line fault
     → LineFault vertices width so.rows line fault
 wrong_line vertices width good old now entries line BadHeader so wrong = wrong
 wrong_line vertices width good old now entries line BadLine so wrong = λ x h. wrong x (subst (λ w. IsShaped w line x) (sym so.wide) h)
@@ -185,7 +185,7 @@ wrong_line vertices width good old now entries line BadVertex so (x, shaped, pla
 
 -- the line is faulty
 pub bad_line : (vertices width good p : ℕ) → p ≡ good → (old mid new : Option (List ℕ)) (line : List ℕ) (entries : Entries) (fault : EvidenceFault)
-    → SoFar vertices width good old mid entries → TakesPiece mid new true line
+    → EntriesSoFar vertices width good old mid entries → TakesPiece mid new true line
     → IsWrongLine entries line fault → IfSome old (λ text. HasRestFault vertices width text fault (p + 2))
 bad_line vertices width good p at None mid new line entries fault so taken wrong = tt
 bad_line vertices width good p at (Some text) None new line entries fault so taken wrong = absurd so.cut

@@ -6,31 +6,31 @@ use Rattle.game.specs.declared.limits.TheConstants.{MOST_VERTICES}
 use Rattle.evidence.specs.Evidence.{Entry}
 use Rattle.evidence.specs.Reading.{IsAdded, IsNoPlace, HasPlaceFor}
 use Rattle.evidence.specs.Scan.{fields_of, rank_of, read_move}
-use Rattle.evidence.specs.Spelling.{IsShaped, Row}
+use Rattle.evidence.specs.Spelling.{IsShaped, EntryRow}
 use Rattle.evidence.specs.View.{Entries}
 use Rattle.evidence.proofs.Scanned.{row_found, row_gives, row_of}
 
 abbrev entry : Option ℕ → List ℕ → Entry
 entry m ks = record { move = m; rank = ks }
 
-abbrev row : ℕ → Option ℕ → List ℕ → Row
+abbrev row : ℕ → Option ℕ → List ℕ → EntryRow
 row n m ks = record { vertex = n; entry = entry m ks }
 
-abbrev with_rank : ℕ → Option ℕ → Option (List ℕ) → Option Row
+abbrev with_rank : ℕ → Option ℕ → Option (List ℕ) → Option EntryRow
 with_rank n m o = o >>= λ ks. Some (row n m ks)
 
-abbrev with_fields : ℕ → Option (ℕ × Option ℕ × List ℕ) → Option Row
+abbrev with_fields : ℕ → Option (ℕ × Option ℕ × List ℕ) → Option EntryRow
 with_fields width o = o >>= λ f. with_rank f.0 f.1 (rank_of width f.2)
 
 module _ (width : ℕ) (line : List ℕ) where
-  none_shaped : row_of width line ≡ None → (x : Row) → IsShaped width line x → ⊥
+  none_shaped : row_of width line ≡ None → (x : EntryRow) → IsShaped width line x → ⊥
   none_shaped none x h = let found = row_found width line x h in cc
 
-  pub no_fields : fields_of line ≡ None → (x : Row) → IsShaped width line x → ⊥
+  pub no_fields : fields_of line ≡ None → (x : EntryRow) → IsShaped width line x → ⊥
   no_fields none = none_shaped (ap (with_fields width) none)
 
   module _ (n : ℕ) (m : Option ℕ) (r : List ℕ) (found : fields_of line ≡ Some (n, m, r)) where
-    pub no_rank : rank_of width r ≡ None → (x : Row) → IsShaped width line x → ⊥
+    pub no_rank : rank_of width r ≡ None → (x : EntryRow) → IsShaped width line x → ⊥
     no_rank none = none_shaped (ap (with_fields width) found ∙ ap (with_rank n m) none)
 
     pub shaped : (ks : List ℕ) → rank_of width r ≡ Some ks → IsShaped width line (row n m ks)

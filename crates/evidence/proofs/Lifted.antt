@@ -19,20 +19,20 @@ use Rattle.evidence.specs.Evidence.{Entry}
 use Rattle.evidence.specs.Reading.{IsAdded, IsNoPlace, IsWrongLine}
 use Rattle.evidence.specs.Scan.{IsNoHeader, fields_of, rank_of, read_move}
 use Rattle.evidence.specs.Short.{short}
-use Rattle.evidence.specs.Spelling.{IsMoveText, IsShaped, Row}
+use Rattle.evidence.specs.Spelling.{IsMoveText, IsShaped, EntryRow}
 use Rattle.evidence.specs.View.{Entries}
 use Rattle.evidence.proofs.Judged.{no_place}
 use Rattle.evidence.proofs.Scanned.{row_found, row_gives, row_of}
 use Rattle.evidence.proofs.Shortened.{SameFields, fields_short, rank_short, number_front_is, few_digits, word_short, short_append, short_shorter}
 
-abbrev row : ℕ → Option ℕ → List ℕ → Row
+abbrev row : ℕ → Option ℕ → List ℕ → EntryRow
 row n m ks = record { vertex = n; entry = record { move = m; rank = ks } }
 
-abbrev with_rank : ℕ → Option ℕ → Option (List ℕ) → Option Row
+abbrev with_rank : ℕ → Option ℕ → Option (List ℕ) → Option EntryRow
 with_rank n m o = o >>= λ ks. Some (row n m ks)
 
 -- what the shortened line says, by what the line says
-abbrev SameRow : Option Row → Option Row → Type 0
+abbrev SameRow : Option EntryRow → Option EntryRow → Type 0
 SameRow None o = o ≡ None
 SameRow (Some x) o =
     (v : ℕ) × (m : Option ℕ) × (o ≡ Some (row v m x.entry.rank)) × (capped v ≡ capped x.vertex) × (read_move m ≡ read_move x.entry.move)
@@ -52,21 +52,21 @@ row_short width line = same (fields_of line) (fields_of (short line)) (fields_sh
         subst (λ p. SameRow (with_rank f.0 f.1 (rank_of width f.2)) (p >>= λ f. with_rank f.0 f.1 (rank_of width f.2))) (sym is)
         (ranked f v m c e (rank_of width f.2) (rank_of width (short f.2)) (rank_short width f.2))
 
-some_row : (x y : Row) → Some x ≡ Some y → x ≡ y
+some_row : (x y : EntryRow) → Some x ≡ Some y → x ≡ y
 some_row x y e = cc
 
 -- what the line says, by what the shortened line says
-record Said (width : ℕ) (line : List ℕ) (x : Row) : Type 0 where
+record Said (width : ℕ) (line : List ℕ) (x : EntryRow) : Type 0 where
   vertex : ℕ
   move : Option ℕ
   shaped : IsShaped width line (row vertex move x.entry.rank)
   number : capped x.vertex ≡ capped vertex
   read : read_move x.entry.move ≡ read_move move
 
-said : (width : ℕ) (line : List ℕ) (x : Row) → IsShaped width (short line) x → Said width line x
+said : (width : ℕ) (line : List ℕ) (x : EntryRow) → IsShaped width (short line) x → Said width line x
 said width line x h = by_row (row_of width line) refl (row_short width line)
   where
-    by_row : (o : Option Row) → row_of width line ≡ o → SameRow o (row_of width (short line)) → Said width line x
+    by_row : (o : Option EntryRow) → row_of width line ≡ o → SameRow o (row_of width (short line)) → Said width line x
     by_row None e none = let some = row_found width (short line) x h in absurd (let wrong : None ≡ Some x = sym none ∙ some in cc)
     by_row (Some y) e (v, m, is, c, same) =
         let one : row v m y.entry.rank ≡ x = some_row (row v m y.entry.rank) x (sym is ∙ row_found width (short line) x h) in
@@ -74,16 +74,16 @@ said width line x h = by_row (row_of width line) refl (row_short width line)
           vertex = y.vertex;
           move = y.entry.move;
           shaped = row_gives width line (row y.vertex y.entry.move x.entry.rank)
-              (e ∙ ap (λ ks. Some (row y.vertex y.entry.move ks)) (ap (λ (r : Row). r.entry.rank) one));
-          number = ap (λ (r : Row). capped r.vertex) (sym one) ∙ c;
-          read = ap (λ (r : Row). read_move r.entry.move) (sym one) ∙ same;
+              (e ∙ ap (λ ks. Some (row y.vertex y.entry.move ks)) (ap (λ (r : EntryRow). r.entry.rank) one));
+          number = ap (λ (r : EntryRow). capped r.vertex) (sym one) ∙ c;
+          read = ap (λ (r : EntryRow). read_move r.entry.move) (sym one) ∙ same;
         }
 
 -- no line is shaped where the shortened one isn't
-unsaid : (width : ℕ) (line : List ℕ) → ((x : Row) → IsShaped width (short line) x → ⊥) → (x : Row) → IsShaped width line x → ⊥
+unsaid : (width : ℕ) (line : List ℕ) → ((x : EntryRow) → IsShaped width (short line) x → ⊥) → (x : EntryRow) → IsShaped width line x → ⊥
 unsaid width line none x h = by_row (row_of width line) (row_found width line x h) (row_short width line)
   where
-    by_row : (o : Option Row) → o ≡ Some x → SameRow o (row_of width (short line)) → ⊥
+    by_row : (o : Option EntryRow) → o ≡ Some x → SameRow o (row_of width (short line)) → ⊥
     by_row None e same = cc
     by_row (Some y) e (v, m, is, c, same) = none (row v m y.entry.rank) (row_gives width (short line) (row v m y.entry.rank) is)
 
@@ -163,7 +163,7 @@ joined_few (x ∷ y ∷ xs) (k ∷ ks) each small =
     omega (arith, one, more, length-append x (44 ∷ join_with_byte 44 (y ∷ xs)))
 
 -- a line with the shape of one is no longer than is kept of it
-pub short_enough : (width : ℕ) (line : List ℕ) (x : Row) → width ≤ MOST_COUNTS → IsShaped width line x → length (short line) < LONGEST_LINE
+pub short_enough : (width : ℕ) (line : List ℕ) (x : EntryRow) → width ≤ MOST_COUNTS → IsShaped width line x → length (short line) < LONGEST_LINE
 short_enough width line x narrow h =
     let s = h.spelled in
     let (numerals, each, is) = s.rank in

@@ -13,7 +13,7 @@ use Rattle.text.proofs.Spaced.{numeral_digits}
 use Rattle.progress.specs.MeasureText.{AreCounts}
 use Rattle.evidence.specs.declared.limits.TheConstants.{GREATEST_COUNT}
 use Rattle.evidence.specs.Scan.{count_before, counts_in, end_of, fields_of, move_of, number_of, rank_of}
-use Rattle.evidence.specs.Spelling.{IsMoveText, IsShaped, Row}
+use Rattle.evidence.specs.Spelling.{IsMoveText, IsShaped, EntryRow}
 
 some_is : {A : Type 0} (x y : A) → Some x ≡ Some y → x ≡ y
 some_is x y e = cc
@@ -239,10 +239,10 @@ rank_found bytes (k ∷ ks) (x ∷ xs, each, is) small =
 -- ---- the line
 
 -- what a line says, if it has the shape of one with so many counts
-abbrev pub row_of : ℕ → List ℕ → Option Row
+abbrev pub row_of : ℕ → List ℕ → Option EntryRow
 row_of width line = fields_of line >>= λ f. rank_of width f.2 >>= λ rank. Some (record { vertex = f.0; entry = record { move = f.1; rank = rank } })
 
-pub row_gives : (width : ℕ) (line : List ℕ) (row : Row) → row_of width line ≡ Some row → IsShaped width line row
+pub row_gives : (width : ℕ) (line : List ℕ) (row : EntryRow) → row_of width line ≡ Some row → IsShaped width line row
 row_gives width line row e =
     let (f, found, after) = bind_some (fields_of line) (λ f. rank_of width f.2 >>= λ rank. Some
     (record { vertex = f.0; entry = record { move = f.1; rank = rank } })) row e in
@@ -252,7 +252,7 @@ row_gives width line row e =
     subst (IsShaped width line) (some_is (record { vertex = f.0; entry = record { move = f.1; rank = rank } }) row said)
     (record { spelled = record { v = x; m = y; r = f.2; vertex = vertex; move = move; rank = r.counts; joined = cut }; count = r.long; small = r.small })
 
-pub row_found : (width : ℕ) (line : List ℕ) (row : Row) → IsShaped width line row → row_of width line ≡ Some row
+pub row_found : (width : ℕ) (line : List ℕ) (row : EntryRow) → IsShaped width line row → row_of width line ≡ Some row
 row_found width line row h =
     let s = h.spelled in
     let fields : fields_of line ≡ Some (row.vertex, row.entry.move, s.r) = ap fields_of s.joined
@@ -261,5 +261,5 @@ row_found width line row h =
     rw (fields, rank) refl
 
 -- A line says one thing at most.
-pub row_same : (width : ℕ) (line : List ℕ) (a b : Row) → IsShaped width line a → IsShaped width line b → a ≡ b
+pub row_same : (width : ℕ) (line : List ℕ) (a b : EntryRow) → IsShaped width line a → IsShaped width line b → a ≡ b
 row_same width line a b h k = some_is a b (sym (row_found width line a h) ∙ row_found width line b k)

@@ -20,7 +20,7 @@ use Rattle.evidence.specs.declared.error.EvidenceFault.{EvidenceFault}
 use Rattle.evidence.specs.declared.error.EvidenceFault.TheVariants.{BadHeader}
 use Rattle.evidence.specs.declared.limits.TheConstants.{LONGEST_LINE}
 use Rattle.evidence.specs.Canon.{header}
-use Rattle.evidence.specs.Reading.{AddsNext, BeginsWith, HasNoHeader, HasRestFault, IsAdded, IsWrongLine, ReadsNext, RefusesNext, SoFar, TakesFirst}
+use Rattle.evidence.specs.Reading.{AddsNext, BeginsWith, HasNoHeader, HasRestFault, IsAdded, IsWrongLine, ReadsNext, RefusesNext, EntriesSoFar, TakesFirst}
 use Rattle.evidence.specs.Scan.{IsNoHeader}
 use Rattle.evidence.specs.Short.{TakesShort, short}
 use Rattle.evidence.specs.View.{Entries}
@@ -63,14 +63,14 @@ none_taken (Some (b ∷ text)) (Some left) line (same, none) =
     absurd (let wrong : stream.line_of (b ∷ text) ∷ lines (below (b ∷ text)) ≡ [] = sym (lines_cons b text) ∙ none in cc)
 
 -- one more line
-pub next_more : (vertices width good : ℕ) (old a mid new : Option (List ℕ)) (before after : Entries) → SoFar vertices width good old a before
-    → HasLine a mid true → AddsNext mid new before after → SoFar vertices width (good + 1) old new after
+pub next_more : (vertices width good : ℕ) (old a mid new : Option (List ℕ)) (before after : Entries) → EntriesSoFar vertices width good old a before
+    → HasLine a mid true → AddsNext mid new before after → EntriesSoFar vertices width (good + 1) old new after
 next_more vertices width good old a mid new before after so has (line, one, taken) =
     line_more vertices width good old a new line before after so (next_taken a mid new line has taken) one
 
 -- the line is faulty
 pub next_bad : (vertices width good p : ℕ) → p ≡ good → (old a mid new : Option (List ℕ)) (before : Entries) (fault : EvidenceFault)
-    → SoFar vertices width good old a before → HasLine a mid true → RefusesNext mid new before fault
+    → EntriesSoFar vertices width good old a before → HasLine a mid true → RefusesNext mid new before fault
     → IfSome old (λ text. HasRestFault vertices width text fault (p + 2))
 next_bad vertices width good p at None a mid new before fault so has wrong = tt
 next_bad vertices width good p at (Some text) None mid new before fault so has wrong = absurd so.cut

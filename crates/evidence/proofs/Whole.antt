@@ -11,7 +11,7 @@ use Rattle.evidence.specs.Canon.{header}
 use Rattle.evidence.specs.Evidence.{Entry, IsEvidence, counted}
 use Rattle.evidence.specs.Fault.{HasFault, HasFaultAt, Refuses, named}
 use Rattle.evidence.specs.Reading.{AreEntriesRead, BeginsWith, HasNoHeader}
-use Rattle.evidence.specs.Spelling.{IsEvidenceText, IsRowInside, IsShaped, Row}
+use Rattle.evidence.specs.Spelling.{IsEvidenceText, IsRowInside, IsShaped, EntryRow}
 use Rattle.evidence.specs.View.{NamedEvidence}
 use Rattle.evidence.specs.declared.error.EvidenceError.{EvidenceError}
 use Rattle.evidence.specs.declared.error.EvidenceError.TheVariants as errors
@@ -19,12 +19,12 @@ use Rattle.evidence.specs.declared.error.EvidenceFault.{EvidenceFault}
 use Rattle.evidence.specs.declared.error.EvidenceFault.TheVariants.{BadHeader, BadLine, BadVertex}
 use Rattle.evidence.proofs.Alone.{no_fault, one_evidence, one_fault}
 
-each_of : (P : Row → Type 0) (rows : List Row) (x : Row) → AllByRecursion P rows → Contains rows x → P x
+each_of : (P : EntryRow → Type 0) (rows : List EntryRow) (x : EntryRow) → AllByRecursion P rows → Contains rows x → P x
 each_of P [] x all (k, h, is) = absurd (omega (arith, h))
 each_of P (y ∷ rows) x all (zero, h, is) = subst P is all.0
 each_of P (y ∷ rows) x all (suc k, h, is) = each_of P rows x all.1 (k, omega (arith, h), is)
 
-counts_long : (w : ℕ) (lines : List (List ℕ)) (rows : List Row) → AllZip (IsShaped w) lines rows → AllByRecursion (λ x. length x.entry.rank ≡ w) rows
+counts_long : (w : ℕ) (lines : List (List ℕ)) (rows : List EntryRow) → AllZip (IsShaped w) lines rows → AllByRecursion (λ x. length x.entry.rank ≡ w) rows
 counts_long w [] [] h = tt
 counts_long w [] (x ∷ rows) h = absurd h
 counts_long w (l ∷ lines) [] h = absurd h

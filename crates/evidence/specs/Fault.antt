@@ -5,7 +5,7 @@ use Rattle.game.specs.declared.player.Player.{Player}
 use Rattle.game.specs.Game.{Game}
 use Rattle.evidence.specs.Canon.{header}
 use Rattle.evidence.specs.Evidence.{counted}
-use Rattle.evidence.specs.Spelling.{AreGoodRows, IsShaped, Row}
+use Rattle.evidence.specs.Spelling.{AreGoodRows, IsShaped, EntryRow}
 use Rattle.evidence.specs.declared.error.EvidenceFault.{EvidenceFault}
 use Rattle.evidence.specs.declared.error.EvidenceFault.TheVariants.{BadHeader, BadLine, BadVertex}
 use Rattle.evidence.specs.declared.error.EvidenceError.{EvidenceError}
@@ -16,14 +16,14 @@ abbrev pub IsHeadless : List (List ℕ) → Type 0
 IsHeadless all = (player : Player) (rest : List (List ℕ)) → all ≡ header player ∷ rest → ⊥
 
 -- The vertex is none of so many, or the move is none, or the vertex stands before.
-abbrev pub IsMisplaced : ℕ → List Row → Row → Type 0
+abbrev pub IsMisplaced : ℕ → List EntryRow → EntryRow → Type 0
 IsMisplaced vertices before row =
-    (vertices ≤ row.vertex) ⊎ ((t : ℕ) × (row.entry.move ≡ Some t) × (vertices ≤ t)) ⊎ ((other : Row) × Contains before other × (other.vertex ≡ row.vertex))
+    (vertices ≤ row.vertex) ⊎ ((t : ℕ) × (row.entry.move ≡ Some t) × (vertices ≤ t)) ⊎ ((other : EntryRow) × Contains before other × (other.vertex ≡ row.vertex))
 
 -- what is wrong with a line, behind lines that say these
-abbrev pub LineFault : (vertices width : ℕ) → List Row → List ℕ → EvidenceFault → Type 0
-LineFault vertices width before line BadLine = (row : Row) → IsShaped width line row → ⊥
-LineFault vertices width before line BadVertex = (row : Row) × IsShaped width line row × IsMisplaced vertices before row
+abbrev pub LineFault : (vertices width : ℕ) → List EntryRow → List ℕ → EvidenceFault → Type 0
+LineFault vertices width before line BadLine = (row : EntryRow) → IsShaped width line row → ⊥
+LineFault vertices width before line BadVertex = (row : EntryRow) × IsShaped width line row × IsMisplaced vertices before row
 LineFault vertices width before line BadHeader = ⊥
 
 -- The first faulty line of those below a header: its fault, and how many good ones stand before it.
@@ -31,7 +31,7 @@ pub record IsFaultyRest (vertices width : ℕ) (rest : List (List ℕ)) (fault :
   pub front : List (List ℕ)
   pub line : List ℕ
   pub back : List (List ℕ)
-  pub before : List Row
+  pub before : List EntryRow
   pub cut : rest ≡ front ++ line ∷ back
   pub fine : AreGoodRows vertices width front before
   pub count : length front ≡ good

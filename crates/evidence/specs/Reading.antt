@@ -8,7 +8,7 @@ use Rattle.game.specs.declared.player.Player.{Player}
 use Rattle.evidence.specs.Canon.{header}
 use Rattle.evidence.specs.Evidence.{Entry}
 use Rattle.evidence.specs.Fault.{IsFaultyRest, IsHeadless}
-use Rattle.evidence.specs.Spelling.{AreGoodRows, AreLines, AreEntriesOf, IsRowInside, IsShaped, Row}
+use Rattle.evidence.specs.Spelling.{AreGoodRows, AreLines, AreEntriesOf, IsRowInside, IsShaped, EntryRow}
 use Rattle.evidence.specs.View.{Entries}
 use Rattle.evidence.specs.declared.error.EvidenceFault.{EvidenceFault}
 use Rattle.evidence.specs.declared.error.EvidenceFault.TheVariants.{BadHeader, BadLine, BadVertex}
@@ -32,7 +32,7 @@ IsNoPlace entries v next = (length entries ≤ v) ⊎ ((t : ℕ) × (next ≡ So
 
 -- the line gave its vertex an entry that it didn't have
 pub record IsAdded (line : List ℕ) (old new : Entries) : Type 0 where
-  pub row : Row
+  pub row : EntryRow
   pub shaped : IsShaped old.width line row
   pub inside : IsRowInside (length old.entries) row
   pub free : slice_index_or old.entries row.vertex None ≡ None
@@ -40,9 +40,9 @@ pub record IsAdded (line : List ℕ) (old new : Entries) : Type 0 where
 
 -- what is wrong with a line where these entries were read
 abbrev pub IsWrongLine : Entries → List ℕ → EvidenceFault → Type 0
-IsWrongLine old line BadLine = (row : Row) → IsShaped old.width line row → ⊥
+IsWrongLine old line BadLine = (row : EntryRow) → IsShaped old.width line row → ⊥
 IsWrongLine old line BadVertex =
-    (row : Row) × IsShaped old.width line row
+    (row : EntryRow) × IsShaped old.width line row
     × IsNoPlace old.entries row.vertex row.entry.move
 IsWrongLine old line BadHeader = ⊥
 
@@ -72,9 +72,9 @@ abbrev pub IsCutOff : List (List ℕ) → List ℕ → List ℕ → Type 0
 IsCutOff done text left = pieces_of text ≡ done ++ pieces_of left
 
 -- the lines that were read so far, so many and all of them good, and the entries that they gave
-pub record SoFar (vertices width good : ℕ) (old now : Option (List ℕ)) (entries : Entries) : Type 0 where
+pub record EntriesSoFar (vertices width good : ℕ) (old now : Option (List ℕ)) (entries : Entries) : Type 0 where
   pub done : List (List ℕ)
-  pub rows : List Row
+  pub rows : List EntryRow
   pub fine : AreGoodRows vertices width done rows
   pub count : length done ≡ good
   pub same : AreEntriesOf rows entries.entries

@@ -9,7 +9,7 @@ use Rattle.evidence.specs.Evidence.{Entry, Evidence, counted}
 use Rattle.evidence.specs.declared.limits.TheConstants.{GREATEST_COUNT}
 
 -- what a line says
-pub record Row : Type 0 where
+pub record EntryRow : Type 0 where
   pub vertex : ℕ
   pub entry : Entry
 
@@ -18,7 +18,7 @@ IsMoveText bytes None = bytes ≡ codes "-"
 IsMoveText bytes (Some t) = IsNumeral bytes t
 
 -- `vertex move rank`, with one space between two and no other blanks
-pub record IsEntryLine (line : List ℕ) (row : Row) : Type 0 where
+pub record IsEntryLine (line : List ℕ) (row : EntryRow) : Type 0 where
   pub v : List ℕ
   pub m : List ℕ
   pub r : List ℕ
@@ -28,29 +28,29 @@ pub record IsEntryLine (line : List ℕ) (row : Row) : Type 0 where
   pub joined : line ≡ v ++ (codes " " ++ (m ++ (codes " " ++ r)))
 
 -- a line of evidence whose ranks have so many counts, none of them above the limit
-pub record IsShaped (width : ℕ) (line : List ℕ) (row : Row) : Type 0 where
+pub record IsShaped (width : ℕ) (line : List ℕ) (row : EntryRow) : Type 0 where
   pub spelled : IsEntryLine line row
   pub count : length row.entry.rank ≡ width
   pub small : AllByRecursion (λ k. k ≤ GREATEST_COUNT) row.entry.rank
 
 -- Its vertex is one of so many, and its move too.
-pub record IsRowInside (vertices : ℕ) (row : Row) : Type 0 where
+pub record IsRowInside (vertices : ℕ) (row : EntryRow) : Type 0 where
   pub vertex : row.vertex < vertices
   pub move : (t : ℕ) → row.entry.move ≡ Some t → t < vertices
 
 -- The lines say these, which are of a game with so many vertices, and no vertex stands twice.
-pub record AreGoodRows (vertices width : ℕ) (rest : List (List ℕ)) (rows : List Row) : Type 0 where
+pub record AreGoodRows (vertices width : ℕ) (rest : List (List ℕ)) (rows : List EntryRow) : Type 0 where
   pub each : AllZip (IsShaped width) rest rows
   pub inside : AllByRecursion (IsRowInside vertices) rows
   pub once : AllPairs (λ x y. x.vertex ≢ y.vertex) rows
 
 -- These are the entries of the rows.
-abbrev pub AreEntriesOf : List Row → List (Option Entry) → Type 0
+abbrev pub AreEntriesOf : List EntryRow → List (Option Entry) → Type 0
 AreEntriesOf rows entries = (v : ℕ) (x : Entry) → slice_index_or entries v None ≡ Some x ↔ Contains rows (record { vertex = v; entry = x })
 
 -- The lines, in any order, say these entries of a game with so many vertices.
 pub record AreLines (vertices width : ℕ) (rest : List (List ℕ)) (entries : List (Option Entry)) : Type 0 where
-  pub rows : List Row
+  pub rows : List EntryRow
   pub good : AreGoodRows vertices width rest rows
   pub long : length entries ≡ vertices
   pub same : AreEntriesOf rows entries

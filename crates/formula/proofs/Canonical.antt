@@ -9,17 +9,17 @@ use Rattle.calculus.specs.Tree.{Action, Anything, Nothing, Names, Quoted, NotAct
 use Rattle.calculus.specs.Tree.{True, False, Var, Not, And, Or, Implies, Dia, Box, Mu, Nu}
 use Rattle.calculus.specs.Canon.{infix_text, binder_text, action_text, regular_text, canon}
 use Rattle.grammar.specs.Token.{Token, Name, Atom, TrueWord, FalseWord, MuWord, NuWord, TauWord, ImpliesSign, OrSign, AndSign, Bar, NotSign, Less, Greater}
-use Rattle.grammar.specs.Token.{OpenBox, CloseBox, Open, Close, Dot, ChoiceSign, PlusSign, StarSign, spelling, is_free_name, IsToken, Piece, Blank, Word}
+use Rattle.grammar.specs.Token.{OpenBox, CloseBox, Open, Close, Dot, ChoiceSign, PlusSign, StarSign, spelling, is_free_name, IsToken, Segment, Blank, Word}
 use Rattle.grammar.specs.Token.{begins, token_ends, text_of, Cuts, tokens_of, words, reserved_words}
 use Rattle.grammar.specs.Syntax.{RegSyntax, Anything', Nothing', Tau', Names', Quoted', Parens', Not', And', Or', Implies', Star', Plus', Then', Either'}
 use Rattle.grammar.specs.Syntax.{reg_tokens, more_names, Syntax, True', False', Var', Group', Neg', Both', OneOf', If', Dia', Box', Mu', Nu', tokens}
 
 -- Pieces that a text is made of, whatever pieces follow, if no byte of a name comes next.
 pub record Writes (text : List ℕ) (ts : List Token) : Type 0 where
-  pub pieces : List Piece → List Piece
-  pub joined : (ps : List Piece) → text_of (pieces ps) ≡ text ++ text_of ps
-  pub spelled : (ps : List Piece) → tokens_of (pieces ps) ≡ ts ++ tokens_of ps
-  pub cut : (ps : List Piece) (m : List ℕ) → Cuts ps m → begins is_name_byte (text_of ps ++ m) ≡ false → Cuts (pieces ps) m
+  pub pieces : List Segment → List Segment
+  pub joined : (ps : List Segment) → text_of (pieces ps) ≡ text ++ text_of ps
+  pub spelled : (ps : List Segment) → tokens_of (pieces ps) ≡ ts ++ tokens_of ps
+  pub cut : (ps : List Segment) (m : List ℕ) → Cuts ps m → begins is_name_byte (text_of ps ++ m) ≡ false → Cuts (pieces ps) m
 
 -- a token that stands before anything but a byte of a name
 abbrev IsWord : Token → Type 0

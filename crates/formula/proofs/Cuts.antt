@@ -10,22 +10,22 @@ use Rattle.std.proofs.lemmas.List.Sums.{take_while-cons}
 use Rattle.text.specs.Text.{is_name_byte, is_letter}
 use Rattle.systems.specs.declared.limits.TheConstants.{LONGEST_LABEL}
 use Rattle.systems.specs.Label.{is_label_byte}
-use Rattle.grammar.specs.Token.{Token, Atom, spelling, reserved_words, IsToken, Piece, Blank, Comment, Word, written_piece, piece_ends, begins, token_ends}
+use Rattle.grammar.specs.Token.{Token, Atom, spelling, reserved_words, IsToken, Segment, Blank, Comment, Word, written_piece, piece_ends, begins, token_ends}
 use Rattle.grammar.specs.Token.{text_of, Cuts, tokens_of, offsets_from}
 use Rattle.formula.specs.Cutting.{IsFront, IsFirst, IsNameToken, IsGap}
 use Rattle.grammar.proofs.Regulars.{all_true, le_true}
 
-pub text_of-append : (ps qs : List Piece) → text_of (ps ++ qs) ≡ text_of ps ++ text_of qs
+pub text_of-append : (ps qs : List Segment) → text_of (ps ++ qs) ≡ text_of ps ++ text_of qs
 text_of-append [] qs = refl
 text_of-append (p ∷ ps) qs = ap (λ t. written_piece p ++ t) (text_of-append ps qs) ∙ sym (append_assoc (written_piece p) (text_of ps) (text_of qs))
 
-pub tokens_of-append : (ps qs : List Piece) → tokens_of (ps ++ qs) ≡ tokens_of ps ++ tokens_of qs
+pub tokens_of-append : (ps qs : List Segment) → tokens_of (ps ++ qs) ≡ tokens_of ps ++ tokens_of qs
 tokens_of-append [] qs = refl
 tokens_of-append (Blank b ∷ ps) qs = tokens_of-append ps qs
 tokens_of-append (Comment bs ∷ ps) qs = tokens_of-append ps qs
 tokens_of-append (Word t ∷ ps) qs = ap (λ ts. t ∷ ts) (tokens_of-append ps qs)
 
-pub offsets-append : (at : ℕ) (ps qs : List Piece) → offsets_from at (ps ++ qs) ≡ offsets_from at ps ++ offsets_from (at + length (text_of ps)) qs
+pub offsets-append : (at : ℕ) (ps qs : List Segment) → offsets_from at (ps ++ qs) ≡ offsets_from at ps ++ offsets_from (at + length (text_of ps)) qs
 offsets-append at [] qs = ap (λ k. offsets_from k qs) (sym (add-zero at))
 offsets-append at (Blank b ∷ ps) qs =
     let k : at + 1 + length (text_of ps) ≡ at + length (b ∷ text_of ps) = omega arith in
@@ -39,20 +39,20 @@ offsets-append at (Word t ∷ ps) qs =
     let k : at + length (spelling t) + length (text_of ps) ≡ at + length (spelling t ++ text_of ps) = omega arith in
     ap (λ os. at ∷ os) (offsets-append (at + length (spelling t)) ps qs ∙ ap (λ k. offsets_from (at + length (spelling t)) ps ++ offsets_from k qs) k)
 
-pub offsets-none : (at : ℕ) (ps : List Piece) → tokens_of ps ≡ [] → offsets_from at ps ≡ []
+pub offsets-none : (at : ℕ) (ps : List Segment) → tokens_of ps ≡ [] → offsets_from at ps ≡ []
 offsets-none at [] e = refl
 offsets-none at (Blank b ∷ ps) e = offsets-none (at + 1) ps e
 offsets-none at (Comment bs ∷ ps) e = offsets-none (at + (1 + length bs)) ps e
 offsets-none at (Word t ∷ ps) e = cc
 
-pub cuts-append : (ps qs : List Piece) (rest : List ℕ) → Cuts ps (text_of qs ++ rest) → Cuts qs rest → Cuts (ps ++ qs) rest
+pub cuts-append : (ps qs : List Segment) (rest : List ℕ) → Cuts ps (text_of qs ++ rest) → Cuts qs rest → Cuts (ps ++ qs) rest
 cuts-append [] qs rest c d = d
 cuts-append (p ∷ ps) qs rest c d =
     let e : text_of ps ++ (text_of qs ++ rest) ≡ text_of (ps ++ qs)
     ++ rest = sym (ap (λ t. t ++ rest) (text_of-append ps qs) ∙ append_assoc (text_of ps) (text_of qs) rest) in
     (c.0, subst (λ (t : List ℕ). IsTrue (piece_ends p t)) e c.1, cuts-append ps qs rest c.2 d)
 
-pub front-append : (ps qs : List Piece) (n m : ℕ) (text : List ℕ) → IsFront ps n text → IsFront qs m (drop n text) → IsFront (ps ++ qs) (n + m) text
+pub front-append : (ps qs : List Segment) (n m : ℕ) (text : List ℕ) → IsFront ps n text → IsFront qs m (drop n text) → IsFront (ps ++ qs) (n + m) text
 front-append ps qs n m text a b =
     let l = length-drop n text in
     let inside : m ≤ length (drop n text) = b.within in
@@ -118,7 +118,7 @@ atom-front (x ∷ xs) n some quote run few many inside closed =
       some = omega arith;
     }
 
-gap-more : (n m : ℕ) (text : List ℕ) (p : Piece) → IsGap n text → IsFront (p ∷ []) m (drop n text) → tokens_of (p ∷ []) ≡ [] → IsGap (n + m) text
+gap-more : (n m : ℕ) (text : List ℕ) (p : Segment) → IsGap n text → IsFront (p ∷ []) m (drop n text) → tokens_of (p ∷ []) ≡ [] → IsGap (n + m) text
 gap-more n m text p g f e = record {
   pieces = g.pieces ++ p ∷ [];
   front = front-append g.pieces (p ∷ []) n m text g.front f;

@@ -6,7 +6,7 @@ use Rattle.std.proofs.lemmas.List.{append-nil, map-append, drop_all, drop-drop, 
 use Rattle.std.proofs.lemmas.Bool.{and_parts}
 use Rattle.std.proofs.lemmas.Bool.Decides.{nat_tests}
 use Rattle.text.specs.Text.{is_letter}
-use Rattle.grammar.specs.Token.{Token, Name, Reserved, ChoiceSign, PlusSign, spelling, IsToken, is_free_name, Piece, Word, text_of, Cuts, tokens_of}
+use Rattle.grammar.specs.Token.{Token, Name, Reserved, ChoiceSign, PlusSign, spelling, IsToken, is_free_name, Segment, Word, text_of, Cuts, tokens_of}
 use Rattle.grammar.specs.Token.{offsets_from, is_decided, is_after_postfix, sign_is_decided, is_reserved, begins, token_ends}
 use Rattle.grammar.specs.Written.{token_of, bare_tokens}
 use Rattle.formula.specs.Cutting.{IsFront, IsGap, IsFirst, IsDecidedBy, is_postfix_before, begins_gap, Heads, IsCut, IsLexed}
@@ -82,7 +82,7 @@ get-drop zero xs = refl
 get-drop (suc n) [] = refl
 get-drop (suc n) (x ∷ xs) = get-drop n xs
 
-pub front-length : (ps : List Piece) (n : ℕ) (text : List ℕ) → IsFront ps n text → length (text_of ps) ≡ n
+pub front-length : (ps : List Segment) (n : ℕ) (text : List ℕ) → IsFront ps n text → length (text_of ps) ≡ n
 front-length ps n text f = ap length (sym f.joined) ∙ length-take-le n text f.within
 
 -- the first byte of what a text begins with

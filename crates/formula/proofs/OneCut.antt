@@ -3,7 +3,7 @@ use Rattle.std.specs.Prelude.{◌≡◌, ◌≢◌, ◌⊎◌, ℕ, ◌+◌, Boo
 use Rattle.std.specs.List.{list_any}
 use Rattle.std.proofs.Common.{sym, ◌∙◌, ap, subst, append_assoc, append-nil, true≢false, inl, inr}
 use Rattle.std.proofs.lemmas.List.{length-append}
-use Rattle.grammar.specs.Token.{Reserved, PlusSign, spelling, Piece, Blank, Comment, Word, written_piece, IsPiece, piece_ends, text_of, Cuts, tokens_of}
+use Rattle.grammar.specs.Token.{Reserved, PlusSign, spelling, Segment, Blank, Comment, Word, written_piece, IsPiece, piece_ends, text_of, Cuts, tokens_of}
 use Rattle.grammar.specs.Token.{offsets_from, is_reserved}
 use Rattle.formula.specs.Fault.{NothingBegins, TokenFault, IsTokens}
 use Rattle.formula.specs.declared.error.FormulaFault.{FormulaFault}
@@ -11,12 +11,12 @@ use Rattle.formula.specs.declared.error.FormulaFault.TheVariants as fault
 use Rattle.formula.proofs.Pieces.{plain, one_piece, some_bytes, same_pieces}
 
 -- the piece is a reserved word
-abbrev Reserves : Piece → Type 0
+abbrev Reserves : Segment → Type 0
 Reserves p = list_any is_reserved (tokens_of (p ∷ [])) ≡ true
 
 -- no piece stands at the front, apart from a reserved word
 abbrev Blocks : List ℕ → Type 0
-Blocks text = (p : Piece) (rest : List ℕ) → IsPiece p → IsTrue (piece_ends p rest) → text ≡ written_piece p ++ rest → Reserves p
+Blocks text = (p : Segment) (rest : List ℕ) → IsPiece p → IsTrue (piece_ends p rest) → text ≡ written_piece p ++ rest → Reserves p
 
 or_none : (b : Bool) → (b || false) ≡ b
 or_none true = refl
@@ -26,30 +26,30 @@ right_false : (a b : Bool) → IsFalse (a || b) → IsFalse b
 right_false true b h = absurd (true≢false h)
 right_false false b h = h
 
-not_first : (p : Piece) (ps : List Piece) → IsFalse (list_any is_reserved (tokens_of (p ∷ ps))) → Reserves p → ⊥
+not_first : (p : Segment) (ps : List Segment) → IsFalse (list_any is_reserved (tokens_of (p ∷ ps))) → Reserves p → ⊥
 not_first (Blank byte) ps free h = true≢false (sym h)
 not_first (Comment bytes) ps free h = true≢false (sym h)
 not_first (Word t) ps free h =
     let reserved : is_reserved t ≡ true = sym (or_none (is_reserved t)) ∙ h in
     true≢false (sym (ap (λ b. b || list_any is_reserved (tokens_of ps)) reserved) ∙ free)
 
-not_others : (p : Piece) (ps : List Piece) → IsFalse (list_any is_reserved (tokens_of (p ∷ ps))) → IsFalse (list_any is_reserved (tokens_of ps))
+not_others : (p : Segment) (ps : List Segment) → IsFalse (list_any is_reserved (tokens_of (p ∷ ps))) → IsFalse (list_any is_reserved (tokens_of ps))
 not_others (Blank byte) ps free = free
 not_others (Comment bytes) ps free = free
 not_others (Word t) ps free = right_false (is_reserved t) _ free
 
-plain_text : (p : Piece) → written_piece (plain p) ≡ written_piece p
+plain_text : (p : Segment) → written_piece (plain p) ≡ written_piece p
 plain_text (Word PlusSign) = refl
 plain_text (Word t) = refl
 plain_text _ = refl
 
-plain_reserves : (p : Piece) → Reserves (plain p) → Reserves p
+plain_reserves : (p : Segment) → Reserves (plain p) → Reserves p
 plain_reserves (Word PlusSign) h = h
 plain_reserves (Word t) h = h
 plain_reserves _ h = h
 
 -- Two fronts of pieces, none reserved, each before a text where no more stand, are of one length.
-same_front : (ps qs : List Piece) (m n : List ℕ) → Cuts ps m → Cuts qs n → IsFalse (list_any is_reserved (tokens_of ps))
+same_front : (ps qs : List Segment) (m n : List ℕ) → Cuts ps m → Cuts qs n → IsFalse (list_any is_reserved (tokens_of ps))
     → IsFalse (list_any is_reserved (tokens_of qs)) → Blocks m → Blocks n
     → text_of ps ++ m ≡ text_of qs ++ n → (length (text_of ps) ≡ length (text_of qs)) × (m ≡ n)
 same_front [] [] m n cp cq fp fq bm bn e = (refl, e)
@@ -83,7 +83,7 @@ Stops rest f =
 
 -- the text is cut up to here, where the tokens stop
 record Stop (text : List ℕ) (f : FormulaFault) (place : ℕ) : Type 0 where
-  pieces : List Piece
+  pieces : List Segment
   rest : List ℕ
   joined : text ≡ text_of pieces ++ rest
   cut : Cuts pieces rest
@@ -136,14 +136,14 @@ ends_stop rest f e (inl a) = a.1 e
 ends_stop rest f e (inr a) = some_bytes (Word (Reserved a.1)) a.2 a.3 (sym a.5 ∙ e)
 
 -- A text that is all tokens, none reserved, has no token fault.
-pub no_token_fault : (text : List ℕ) (pieces : List Piece) (f : FormulaFault) (place : ℕ) → IsTokens text pieces → TokenFault text f place → ⊥
+pub no_token_fault : (text : List ℕ) (pieces : List Segment) (f : FormulaFault) (place : ℕ) → IsTokens text pieces → TokenFault text f place → ⊥
 no_token_fault text pieces f place t h =
     let x = stop text f place h in
     let same = same_front x.pieces pieces x.rest [] x.cut t.cut x.free t.free x.blocked end_blocks
     (sym x.joined ∙ t.joined ∙ sym (append-nil (text_of pieces))) in
     ends_stop x.rest f same.1 x.why
 
-plain_offsets : (ps : List Piece) (at : ℕ) → offsets_from at (map plain ps) ≡ offsets_from at ps
+plain_offsets : (ps : List Segment) (at : ℕ) → offsets_from at (map plain ps) ≡ offsets_from at ps
 plain_offsets [] at = refl
 plain_offsets (Blank byte ∷ ps) at = plain_offsets ps (at + 1)
 plain_offsets (Comment bytes ∷ ps) at = plain_offsets ps (at + (1 + length bytes))
@@ -151,5 +151,5 @@ plain_offsets (Word t ∷ ps) at =
     (λ i. at ∷ offsets_from (at + length (plain_text (Word t) i)) (map plain ps)) ∙ ap (λ os. at ∷ os) (plain_offsets ps (at + length (spelling t)))
 
 -- A text has the places of its tokens in one way.
-pub same_offsets : (ps qs : List Piece) → Cuts ps [] → Cuts qs [] → text_of ps ≡ text_of qs → offsets_from 0 ps ≡ offsets_from 0 qs
+pub same_offsets : (ps qs : List Segment) → Cuts ps [] → Cuts qs [] → text_of ps ≡ text_of qs → offsets_from 0 ps ≡ offsets_from 0 qs
 same_offsets ps qs cp cq e = sym (plain_offsets ps 0) ∙ ap (offsets_from 0) (same_pieces ps qs cp cq e) ∙ plain_offsets qs 0

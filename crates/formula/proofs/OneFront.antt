@@ -1,7 +1,7 @@
 -- The longest front of tokens that formulas within the limits begin with is one.
 use Rattle.std.specs.Prelude.{◌≡◌, ◌⊎◌, ℕ, List, [], ◌∷◌, ◌++◌, length, IsTrue, Some, slice_get, refl}
 use Rattle.std.proofs.Common.{sym, ◌∙◌, ap, subst, append_assoc, append-nil, inl, inr}
-use Rattle.grammar.specs.Token.{Token, Piece, tokens_of, offsets_from}
+use Rattle.grammar.specs.Token.{Token, Segment, tokens_of, offsets_from}
 use Rattle.grammar.specs.Syntax.{Syntax, tokens, fits, is_within_limits}
 use Rattle.formula.specs.Fault.{BeginsFormula, BeginsWithin, IsTokens, GrammarFault}
 use Rattle.formula.specs.Spells.{IsWritten}
@@ -50,7 +50,7 @@ Reason text offsets front back f place =
 
 -- the tokens are those of a formula up to here and no further
 record Stop (text : List ℕ) (f : FormulaFault) (place : ℕ) : Type 0 where
-  pieces : List Piece
+  pieces : List Segment
   front : List Token
   back : List Token
   whole : IsTokens text pieces
@@ -143,12 +143,12 @@ goes_on text offsets front back f place s (inr a) fit small e =
     a.3 (s, a.1, fit, small, e ∙ ap (λ ts. front ++ ts) a.2 ∙ sym (append_assoc front (a.0 ∷ []) a.1))
 
 -- A text that is written as a formula within the limits has no fault of the grammar.
-pub no_grammar_fault : (text : List ℕ) (pieces : List Piece) (s : Syntax) (f : FormulaFault) (place : ℕ) → IsWritten text pieces s
+pub no_grammar_fault : (text : List ℕ) (pieces : List Segment) (s : Syntax) (f : FormulaFault) (place : ℕ) → IsWritten text pieces s
     → IsTrue (is_within_limits s) → GrammarFault text f place → ⊥
 no_grammar_fault text pieces s f place w small h =
     let x = stop text f place h in
     let words = same_tokens pieces x.pieces w.cut x.whole.cut w.decided x.whole.decided (sym w.joined ∙ x.whole.joined) in
     goes_on text (offsets_from 0 x.pieces) x.front x.back f place s x.why w.grammatical small (sym w.spelled ∙ words ∙ x.split)
 
-pub grammar_tokens : (text : List ℕ) (f : FormulaFault) (place : ℕ) → GrammarFault text f place → (pieces : List Piece) × IsTokens text pieces
+pub grammar_tokens : (text : List ℕ) (f : FormulaFault) (place : ℕ) → GrammarFault text f place → (pieces : List Segment) × IsTokens text pieces
 grammar_tokens text f place h = let x = stop text f place h in (x.pieces, x.whole)

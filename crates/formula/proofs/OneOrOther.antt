@@ -7,7 +7,7 @@ use Rattle.std.proofs.lemmas.List.{length-append}
 use Rattle.std.proofs.lemmas.List.Folds.{list_any-append}
 use Rattle.grammar.specs.declared.limits.TheConstants.{LONGEST_TEXT}
 use Rattle.calculus.specs.Tree.{Formula}
-use Rattle.grammar.specs.Token.{Token, Reserved, TrueWord, Piece, Word, IsPiece, written_piece, piece_ends, Cuts, text_of, tokens_of, offsets_from, is_reserved}
+use Rattle.grammar.specs.Token.{Token, Reserved, TrueWord, Segment, Word, IsPiece, written_piece, piece_ends, Cuts, text_of, tokens_of, offsets_from, is_reserved}
 use Rattle.grammar.specs.Syntax.{Syntax, True', fits, tokens, meant, is_within_limits}
 use Rattle.formula.specs.Spells.{IsWritten, SpellsWithin}
 use Rattle.calculus.specs.Admitted.{IsAdmitted}
@@ -25,16 +25,16 @@ use Rattle.formula.proofs.Placing.{token_place, operands_below, variables_below}
 -- ---- pieces
 
 -- the piece is a reserved word, or is free to be one of more
-data Kind (p : Piece) : Type 0 where
+data Kind (p : Segment) : Type 0 where
   word : (bytes : List ℕ) → p ≡ Word (Reserved bytes) → Kind p
   free : IsFalse (list_any is_reserved (tokens_of (p ∷ []))) → Kind p
 
-kind : (p : Piece) → Kind p
+kind : (p : Segment) → Kind p
 kind (Word (Reserved bytes)) = word bytes refl
 kind _ = free refl
 
 -- a piece is not empty
-fewer : (p : Piece) (more : List ℕ) → IsPiece p → length more < length (written_piece p ++ more)
+fewer : (p : Segment) (more : List ℕ) → IsPiece p → length more < length (written_piece p ++ more)
 fewer p more valid = some (written_piece p) (λ e. some_bytes p [] valid (ap (λ text. text ++ []) e))
   where
     some : (bytes : List ℕ) → (bytes ≡ [] → ⊥) → length more < length (bytes ++ more)
@@ -42,22 +42,22 @@ fewer p more valid = some (written_piece p) (λ e. some_bytes p [] valid (ap (λ
     some (b ∷ bytes) none = omega (arith, length-append bytes more)
 
 -- one more piece
-grown_text : (ps : List Piece) (p : Piece) → text_of (ps ++ p ∷ []) ≡ text_of ps ++ written_piece p
+grown_text : (ps : List Segment) (p : Segment) → text_of (ps ++ p ∷ []) ≡ text_of ps ++ written_piece p
 grown_text ps p = text_of-append ps (p ∷ []) ∙ ap (λ text. text_of ps ++ text) (append-nil (written_piece p))
 
-grown_cut : (ps : List Piece) (p : Piece) (more : List ℕ) → Cuts ps (written_piece p ++ more) → IsPiece p → IsTrue (piece_ends p more) → Cuts (ps ++ p ∷ []) more
+grown_cut : (ps : List Segment) (p : Segment) (more : List ℕ) → Cuts ps (written_piece p ++ more) → IsPiece p → IsTrue (piece_ends p more) → Cuts (ps ++ p ∷ []) more
 grown_cut ps p more cut valid ends = cuts-append ps (p ∷ []) more (subst (λ (text : List ℕ). Cuts ps (text ++ more)) (sym (append-nil (written_piece p))) cut)
     (valid, ends, tt)
 
-grown_free : (ps : List Piece) (p : Piece) → IsFalse (list_any is_reserved (tokens_of ps)) → IsFalse (list_any is_reserved (tokens_of (p ∷ [])))
+grown_free : (ps : List Segment) (p : Segment) → IsFalse (list_any is_reserved (tokens_of ps)) → IsFalse (list_any is_reserved (tokens_of (p ∷ [])))
     → IsFalse (list_any is_reserved (tokens_of (ps ++ p ∷ [])))
 grown_free ps p h k = ap (list_any is_reserved) (tokens_of-append ps (p ∷ []))
     ∙ (list_any-append is_reserved (tokens_of ps) (tokens_of (p ∷ [])) ∙ (λ i. h i || k i))
 
 -- No text is without both: a token fault, and pieces that are all tokens, none reserved.
-module _ (text : List ℕ) (faultless : (f : FormulaFault) (place : ℕ) → TokenFault text f place → ⊥) (untold : (ps : List Piece) → IsTokens text ps → ⊥) where
+module _ (text : List ℕ) (faultless : (f : FormulaFault) (place : ℕ) → TokenFault text f place → ⊥) (untold : (ps : List Segment) → IsTokens text ps → ⊥) where
   -- with this piece next, where the text after it cannot be cut on
-  cut_one : (ps : List Piece) (rest : List ℕ) (p : Piece) (more : List ℕ) → text ≡ text_of ps ++ rest → Cuts ps rest
+  cut_one : (ps : List Segment) (rest : List ℕ) (p : Segment) (more : List ℕ) → text ≡ text_of ps ++ rest → Cuts ps rest
       → IsFalse (list_any is_reserved (tokens_of ps)) → IsPiece p → IsTrue (piece_ends p more) → rest ≡ written_piece p ++ more → Kind p
       → (text ≡ text_of (ps ++ p ∷ []) ++ more → Cuts (ps ++ p ∷ []) more → IsFalse (list_any is_reserved (tokens_of (ps ++ p ∷ []))) → ⊥) → ⊥
   cut_one ps rest p more e cut none valid ends is (word bytes same) on =
@@ -79,7 +79,7 @@ module _ (text : List ℕ) (faultless : (f : FormulaFault) (place : ℕ) → Tok
       on (e ∙ (ap (λ us. text_of ps ++ us) is ∙ (sym (append_assoc (text_of ps) (written_piece p) more) ∙ ap (λ us. us ++ more) (sym (grown_text ps p)))))
       (grown_cut ps p more (subst (λ (us : List ℕ). Cuts ps us) is cut) valid ends) (grown_free ps p none also)
 
-  cut_on : (n : ℕ) (ps : List Piece) (rest : List ℕ) → length rest ≤ n → text ≡ text_of ps ++ rest → Cuts ps rest
+  cut_on : (n : ℕ) (ps : List Segment) (rest : List ℕ) → length rest ≤ n → text ≡ text_of ps ++ rest → Cuts ps rest
       → IsFalse (list_any is_reserved (tokens_of ps)) → ⊥
   cut_on n ps [] few e cut none = untold _ (settled_tokens text ps (e ∙ append-nil (text_of ps)) cut none)
   cut_on zero ps (b ∷ rest) few e cut none = absurd (omega arith)
@@ -97,7 +97,7 @@ inside : (ts front back : List Token) (t : Token) → ts ≡ front ++ t ∷ back
 inside ts front back t e = omega (arith, ap length e, length-append front (t ∷ back))
 
 -- No tokens are without both: a fault of the grammar, and a formula within the limits.
-module _ (text : List ℕ) (ps : List Piece) (all : IsTokens text ps) (faultless : (f : FormulaFault) (place : ℕ) → GrammarFault text f place → ⊥)
+module _ (text : List ℕ) (ps : List Segment) (all : IsTokens text ps) (faultless : (f : FormulaFault) (place : ℕ) → GrammarFault text f place → ⊥)
     (unread : (s : Syntax) → IsTrue (fits s) → tokens_of ps ≡ tokens s → IsTrue (is_within_limits s) → ⊥) where
   read_on : (back front : List Token) → tokens_of ps ≡ front ++ back → BeginsWithin front → ⊥
   read_on [] front e b =
@@ -129,7 +129,7 @@ module _ (text : List ℕ) (ps : List Piece) (all : IsTokens text ps) (faultless
 
 -- ---- the written formula
 
-variable_fault_at : (text : List ℕ) (f : FormulaFault) (place : ℕ) (ps : List Piece) (s : Syntax) (first : ℕ) (others : List (ℕ × FormulaFault))
+variable_fault_at : (text : List ℕ) (f : FormulaFault) (place : ℕ) (ps : List Segment) (s : Syntax) (first : ℕ) (others : List (ℕ × FormulaFault))
     → IsTrue (is_variable_fault f) → IsWritten text ps s → IsTrue (is_within_limits s)
     → operand_faults 0 s ≡ [] → variable_faults [] 0 s ≡ (first, f) ∷ others → slice_get (offsets_from 0 ps) first ≡ Some place → TreeFault text f place
 variable_fault_at text fault.Unbound place ps s first others kind w small none e there = (ps, s, first, others, w, small, none, e, there)
@@ -141,7 +141,7 @@ some_of (Some a) h = (a, refl)
 some_of None h = absurd (true≢false (sym h))
 
 -- No written formula within the limits is without both: a fault of an operand or a variable, and an admitted meaning.
-module _ (text : List ℕ) (ps : List Piece) (s : Syntax) (w : IsWritten text ps s) (small : IsTrue (is_within_limits s))
+module _ (text : List ℕ) (ps : List Segment) (s : Syntax) (w : IsWritten text ps s) (small : IsTrue (is_within_limits s))
     (faultless : (f : FormulaFault) (place : ℕ) → TreeFault text f place → ⊥)
     (unmeant : (f : Formula) → meant s ≡ Some f → IsAdmitted f → ⊥) where
   place_of : (n : ℕ) → n < 0 + length (tokens s) → (place : ℕ) × (slice_get (offsets_from 0 ps) n ≡ Some place)

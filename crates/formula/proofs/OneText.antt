@@ -2,7 +2,7 @@
 use Rattle.std.specs.Prelude.{◌⊎◌, [], ◌∷◌, ◌++◌, map, IsTrue, Some, slice_get, IsSome, refl}
 use Rattle.std.proofs.Common.{◌≡◌, ℕ, List, sym, ap, ◌∙◌, arith, inl, inr, subst}
 use Rattle.calculus.specs.Tree.{Formula}
-use Rattle.grammar.specs.Token.{Piece, offsets_from}
+use Rattle.grammar.specs.Token.{Segment, offsets_from}
 use Rattle.grammar.specs.Syntax.{Syntax, meant, is_within_limits}
 use Rattle.formula.specs.Spells.{IsWritten, Spells, SpellsWithin}
 use Rattle.formula.specs.Fault.{TokenFault, GrammarFault, operand_faults, variable_faults, TreeFault, HasFault}
@@ -18,7 +18,7 @@ use Rattle.formula.proofs.Unreserved.{written_tokens}
 use Rattle.formula.proofs.Sense.{meant_fine, admitted_fine}
 
 -- A text is written as one tree.
-pub one_writing : (text : List ℕ) (ps qs : List Piece) (s t : Syntax) → IsWritten text ps s → IsWritten text qs t → s ≡ t
+pub one_writing : (text : List ℕ) (ps qs : List Segment) (s t : Syntax) → IsWritten text ps s → IsWritten text qs t → s ≡ t
 one_writing text ps qs s t a b =
     let same = same_tokens ps qs a.cut b.cut a.decided b.decided (sym a.joined ∙ b.joined) in
     one_syntax s t a.grammatical b.grammatical (sym a.spelled ∙ (same ∙ b.spelled))
@@ -33,7 +33,7 @@ faults s = map (λ place. (place, fault.NotAnAction)) (operand_faults 0 s) ++ va
 
 -- the text is a formula of the grammar within the limits, whose first fault is this one
 pub record First (text : List ℕ) (f : FormulaFault) (place : ℕ) : Type 0 where
-  pub pieces : List Piece
+  pub pieces : List Segment
   pub syntax : Syntax
   pub number : ℕ
   pub others : List (ℕ × FormulaFault)

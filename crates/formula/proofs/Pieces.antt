@@ -11,7 +11,7 @@ use Rattle.systems.specs.declared.limits.TheConstants.{LONGEST_LABEL}
 use Rattle.systems.specs.Label.{is_label_byte}
 use Rattle.grammar.specs.Token.{Token, Name, Reserved, Atom, TrueWord, FalseWord, MuWord, NuWord, TauWord, ImpliesSign, OrSign, AndSign, Bar, NotSign, Less}
 use Rattle.grammar.specs.Token.{Greater, OpenBox, CloseBox, Open, Close, Dot, ChoiceSign, PlusSign, StarSign, spelling, words, reserved_words, is_free_name}
-use Rattle.grammar.specs.Token.{IsToken, Piece, Blank, Comment, Word, written_piece, IsPiece, begins, token_ends, piece_ends, text_of, Cuts, tokens_of}
+use Rattle.grammar.specs.Token.{IsToken, Segment, Blank, Comment, Word, written_piece, IsPiece, begins, token_ends, piece_ends, text_of, Cuts, tokens_of}
 use Rattle.grammar.specs.Token.{is_after_postfix, sign_is_decided, is_decided}
 
 -- the longest front whose bytes pass, and the rest
@@ -72,7 +72,7 @@ unquoted b = not (b == 34)
 abbrev on_line : ℕ → Bool
 on_line b = not (b == 10)
 
-abbrev sign_cut : ℕ → List ℕ → Piece × List ℕ
+abbrev sign_cut : ℕ → List ℕ → Segment × List ℕ
 sign_cut b text =
     if b == 124 then (if begins (λ b. b == 124) text then (Word OrSign, after_one text) else (Word Bar, text))
     else if b == 61 then (Word ImpliesSign, after_one text)
@@ -80,7 +80,7 @@ sign_cut b text =
     else (Word (sign_of b), text)
 
 -- the first piece of a text, where each `+` is a sign of choice, and what follows it
-abbrev cut_at : List ℕ → Piece × List ℕ
+abbrev cut_at : List ℕ → Segment × List ℕ
 cut_at [] = (Blank 0, [])
 cut_at (b ∷ text) =
     if is_letter b then (Word (word_of (front is_name_byte (b ∷ text))), rest is_name_byte (b ∷ text))
@@ -94,7 +94,7 @@ abbrev pub plain_token : Token → Token
 plain_token PlusSign = ChoiceSign
 plain_token t = t
 
-abbrev pub plain : Piece → Piece
+abbrev pub plain : Segment → Segment
 plain (Word t) = Word (plain_token t)
 plain p = p
 
@@ -176,7 +176,7 @@ token_found Bar m h k = ap (λ b. if b then (Word OrSign, after_one m) else (Wor
 token_found _ m h k = refl
 
 -- The first piece and what follows it are found again.
-cut_found : (p : Piece) (m : List ℕ) → IsPiece p → piece_ends p m ≡ true → cut_at (written_piece p ++ m) ≡ (plain p, m)
+cut_found : (p : Segment) (m : List ℕ) → IsPiece p → piece_ends p m ≡ true → cut_at (written_piece p ++ m) ≡ (plain p, m)
 cut_found (Blank byte) m h k =
     let P : Type 0 = cut_at (byte ∷ m) ≡ (Blank byte, m) in
     let at : (b : ℕ) → cut_at (b ∷ m) ≡ (Blank b, m) → (byte == b) ≡ true
@@ -190,14 +190,14 @@ cut_found (Comment bytes) m h k =
 cut_found (Word t) m h k = token_found t m h k
 
 -- The pieces at the front of one text are one, apart from the kind of a `+`, and the same follows.
-pub one_piece : (p q : Piece) (m n : List ℕ) → IsPiece p → IsPiece q → piece_ends p m ≡ true → piece_ends q n ≡ true → written_piece p ++ m ≡ written_piece q ++ n
+pub one_piece : (p q : Segment) (m n : List ℕ) → IsPiece p → IsPiece q → piece_ends p m ≡ true → piece_ends q n ≡ true → written_piece p ++ m ≡ written_piece q ++ n
     → (plain p ≡ plain q) × (m ≡ n)
 one_piece p q m n hp hq ep eq e =
     let both = sym (cut_found p m hp ep) ∙ (ap cut_at e ∙ cut_found q n hq eq) in
-    (ap (λ (c : Piece × List ℕ). c.0) both, ap (λ (c : Piece × List ℕ). c.1) both)
+    (ap (λ (c : Segment × List ℕ). c.0) both, ap (λ (c : Segment × List ℕ). c.1) both)
 
 -- a piece has some bytes
-pub some_bytes : (p : Piece) (m : List ℕ) → IsPiece p → written_piece p ++ m ≡ [] → ⊥
+pub some_bytes : (p : Segment) (m : List ℕ) → IsPiece p → written_piece p ++ m ≡ [] → ⊥
 some_bytes (Word (Name [])) m h e = cc
 some_bytes (Word (Name (b ∷ bytes))) m h e = cc
 some_bytes (Word (Reserved [])) m h e = cc
@@ -206,17 +206,17 @@ some_bytes (Word t) m h e = cc
 some_bytes _ m h e = cc
 
 -- A text is cut into pieces in one way, apart from the kind of each `+`.
-pub same_pieces : (ps qs : List Piece) → Cuts ps [] → Cuts qs [] → text_of ps ≡ text_of qs → map plain ps ≡ map plain qs
+pub same_pieces : (ps qs : List Segment) → Cuts ps [] → Cuts qs [] → text_of ps ≡ text_of qs → map plain ps ≡ map plain qs
 same_pieces [] [] cp cq e = refl
 same_pieces [] (q ∷ qs) cp cq e = absurd (some_bytes q (text_of qs) cq.0 (sym e))
 same_pieces (p ∷ ps) [] cp cq e = absurd (some_bytes p (text_of ps) cp.0 e)
 same_pieces (p ∷ ps) (q ∷ qs) cp cq e =
-    let ends : (r : Piece) (rs : List Piece) → piece_ends r (text_of rs ++ []) ≡ true
+    let ends : (r : Segment) (rs : List Segment) → piece_ends r (text_of rs ++ []) ≡ true
     → piece_ends r (text_of rs) ≡ true = λ r rs h. ap (piece_ends r) (sym (append-nil (text_of rs))) ∙ h in
     let first = one_piece p q (text_of ps) (text_of qs) cp.0 cq.0 (ends p ps cp.1) (ends q qs cq.1) e in
     λ i. first.0 i ∷ same_pieces ps qs cp.2 cq.2 first.1 i
 
-plain_tokens : (ps : List Piece) → map plain_token (tokens_of ps) ≡ tokens_of (map plain ps)
+plain_tokens : (ps : List Segment) → map plain_token (tokens_of ps) ≡ tokens_of (map plain ps)
 plain_tokens [] = refl
 plain_tokens (Blank byte ∷ ps) = plain_tokens ps
 plain_tokens (Comment bytes ∷ ps) = plain_tokens ps
@@ -249,7 +249,7 @@ same_signs (t ∷ ts) (u ∷ us) h k e =
     λ i. head i ∷ tail i
 
 -- A text has its tokens in one way.
-pub same_tokens : (ps qs : List Piece) → Cuts ps [] → Cuts qs [] → is_decided (tokens_of ps) ≡ true → is_decided (tokens_of qs) ≡ true
+pub same_tokens : (ps qs : List Segment) → Cuts ps [] → Cuts qs [] → is_decided (tokens_of ps) ≡ true → is_decided (tokens_of qs) ≡ true
     → text_of ps ≡ text_of qs → tokens_of ps ≡ tokens_of qs
 same_tokens ps qs cp cq dp dq e = same_signs (tokens_of ps) (tokens_of qs) dp dq
     (plain_tokens ps ∙ (ap tokens_of (same_pieces ps qs cp cq e) ∙ sym (plain_tokens qs)))

@@ -6,7 +6,7 @@ use Rattle.std.proofs.Common.{arith, get_or}
 use Rattle.std.proofs.lemmas.List.{length-append}
 use Rattle.std.proofs.lemmas.Option.{slice_get-get_or}
 use Rattle.lts.proofs.Gathering.{all_append}
-use Rattle.grammar.specs.Token.{Token, Close, Greater, CloseBox, AndSign, OrSign, ImpliesSign, StarSign, PlusSign, Dot, ChoiceSign, spelling, Piece, Blank}
+use Rattle.grammar.specs.Token.{Token, Close, Greater, CloseBox, AndSign, OrSign, ImpliesSign, StarSign, PlusSign, Dot, ChoiceSign, spelling, Segment, Blank}
 use Rattle.grammar.specs.Token.{Comment, Word, tokens_of, offsets_from}
 use Rattle.grammar.specs.Syntax.{RegSyntax, Parens', Not', And', Or', Implies', Star', Plus', Then', Either', reg_tokens, counts_as_action, Syntax, Var'}
 use Rattle.grammar.specs.Syntax.{Group', Neg', Both', OneOf', If', Dia', Box', Mu', Nu', tokens}
@@ -17,14 +17,14 @@ use Rattle.formula.specs.declared.error.FormulaFault.{FormulaFault}
 use Rattle.formula.specs.declared.error.FormulaFault.TheVariants.{OddNegations}
 use Rattle.formula.proofs.Faults.{reg-some}
 
-places_of : (ps : List Piece) (at : ℕ) → length (offsets_from at ps) ≡ length (tokens_of ps)
+places_of : (ps : List Segment) (at : ℕ) → length (offsets_from at ps) ≡ length (tokens_of ps)
 places_of [] at = refl
 places_of (Blank byte ∷ ps) at = places_of ps (at + 1)
 places_of (Comment bytes ∷ ps) at = places_of ps (at + (1 + length bytes))
 places_of (Word t ∷ ps) at = let e = places_of ps (at + length (spelling t)) in omega arith
 
 -- Each token has a place.
-pub token_place : (ps : List Piece) (n : ℕ) → n < length (tokens_of ps) → (place : ℕ) × (slice_get (offsets_from 0 ps) n ≡ Some place)
+pub token_place : (ps : List Segment) (n : ℕ) → n < length (tokens_of ps) → (place : ℕ) × (slice_get (offsets_from 0 ps) n ≡ Some place)
 token_place ps n lt = (get_or (offsets_from 0 ps) n 0, slice_get-get_or (offsets_from 0 ps) n 0 (omega (arith, places_of ps 0)))
 
 -- these places are all below the number

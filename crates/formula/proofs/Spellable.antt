@@ -9,7 +9,7 @@ use Rattle.calculus.specs.Tree.{Action, Anything, Nothing, Names, Quoted, NotAct
 use Rattle.calculus.specs.Tree.{True, False, Var, Not, And, Or, Implies, Dia, Box, Mu, Nu}
 use Rattle.calculus.specs.Canon.{canon}
 use Rattle.grammar.specs.Token.{Token, Name, ImpliesSign, OrSign, AndSign, Greater, CloseBox, Close, Dot, ChoiceSign, PlusSign, StarSign, is_free_name}
-use Rattle.grammar.specs.Token.{IsToken, Piece, Blank, Comment, Word, Cuts, tokens_of}
+use Rattle.grammar.specs.Token.{IsToken, Segment, Blank, Comment, Word, Cuts, tokens_of}
 use Rattle.grammar.specs.Syntax.{RegSyntax, Anything', Nothing', Tau', Names', Quoted', Parens', Not', And', Or', Implies', Star', Plus', Then', Either'}
 use Rattle.grammar.specs.Syntax.{reg_tokens, more_names, option_two, action_meant, regular_meant, reg_nesting, reg_parens, Syntax, True', False', Var'}
 use Rattle.grammar.specs.Syntax.{Group', Neg', Both', OneOf', If', Dia', Box', Mu', Nu', tokens, meant, nesting, parens}
@@ -23,7 +23,7 @@ use Rattle.formula.proofs.CanonicalText.{formula_again, canon_is_written, canon_
 abbrev AreTokens : List Token → Type 0
 AreTokens ts = AllByRecursion IsToken ts
 
-cut_tokens : (ps : List Piece) (m : List ℕ) → Cuts ps m → AreTokens (tokens_of ps)
+cut_tokens : (ps : List Segment) (m : List ℕ) → Cuts ps m → AreTokens (tokens_of ps)
 cut_tokens [] m c = tt
 cut_tokens (Blank byte ∷ ps) m c = cut_tokens ps m c.2
 cut_tokens (Comment bytes ∷ ps) m c = cut_tokens ps m c.2

@@ -3,7 +3,7 @@ use Rattle.std.specs.Prelude.{ℕ, ◌||◌, List, [], ◌∷◌, ◌++◌, IsFa
 use Rattle.std.specs.List.{list_any}
 use Rattle.std.proofs.Common.{◌∙◌, ap}
 use Rattle.std.proofs.lemmas.List.Folds.{list_any-append}
-use Rattle.grammar.specs.Token.{Token, Close, AndSign, OrSign, ImpliesSign, StarSign, PlusSign, Dot, ChoiceSign, Greater, CloseBox, Piece, is_reserved}
+use Rattle.grammar.specs.Token.{Token, Close, AndSign, OrSign, ImpliesSign, StarSign, PlusSign, Dot, ChoiceSign, Greater, CloseBox, Segment, is_reserved}
 use Rattle.grammar.specs.Syntax.{RegSyntax, Names', Parens', Not', And', Or', Implies', Star', Plus', Then', Either', more_names, reg_tokens, Syntax, Group'}
 use Rattle.grammar.specs.Syntax.{Neg', Both', OneOf', If', Dia', Box', Mu', Nu', tokens}
 use Rattle.formula.specs.Fault.{IsTokens}
@@ -42,5 +42,5 @@ free (Nu' name f) = free f
 free _ = refl
 
 -- A text that is written as a formula is all tokens, none reserved.
-pub written_tokens : (text : List ℕ) (pieces : List Piece) (s : Syntax) → IsWritten text pieces s → IsTokens text pieces
+pub written_tokens : (text : List ℕ) (pieces : List Segment) (s : Syntax) → IsWritten text pieces s → IsTokens text pieces
 written_tokens text pieces s w = record { joined = w.joined; cut = w.cut; decided = w.decided; free = ap (list_any is_reserved) w.spelled ∙ free s }

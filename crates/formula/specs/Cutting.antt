@@ -4,7 +4,7 @@ use Rattle.std.specs.Prelude.{slice_get, ◌==◌, ◌&&◌, ◌||◌, if◌then
 use Rattle.std.specs.List.{list_any}
 use Rattle.std.specs.Str.{bytes_eq}
 use Rattle.text.specs.Text.{is_name, is_name_byte}
-use Rattle.grammar.specs.Token.{Token, Reserved, Atom, ChoiceSign, PlusSign, spelling, reserved_words, IsToken, Piece, Word, begins, token_ends, text_of}
+use Rattle.grammar.specs.Token.{Token, Reserved, Atom, ChoiceSign, PlusSign, spelling, reserved_words, IsToken, Segment, Word, begins, token_ends, text_of}
 use Rattle.grammar.specs.Token.{Cuts, tokens_of, offsets_from, is_decided, is_reserved}
 use Rattle.grammar.specs.Written.{bare_tokens}
 use Rattle.formula.specs.Fault.{TokenFault}
@@ -15,14 +15,14 @@ use Rattle.formula.specs.declared.error.FormulaError.{FormulaError}
 use Rattle.formula.specs.declared.error.FormulaError.TheVariants as refused
 
 -- the first n bytes of the text are these pieces
-pub record IsFront (pieces : List Piece) (n : ℕ) (text : List ℕ) : Type 0 where
+pub record IsFront (pieces : List Segment) (n : ℕ) (text : List ℕ) : Type 0 where
   pub joined : take n text ≡ text_of pieces
   pub within : n ≤ length text
   pub cut : Cuts pieces (drop n text)
 
 -- the first n bytes of the text are blanks and comments
 pub record IsGap (n : ℕ) (text : List ℕ) : Type 0 where
-  pub pieces : List Piece
+  pub pieces : List Segment
   pub front : IsFront pieces n text
   pub wordless : tokens_of pieces ≡ []
 
@@ -102,7 +102,7 @@ Heads (token ∷ tokens) text = (b : ℕ) × (bytes more : List ℕ) × (text �
 
 -- the text up to here is these tokens, whatever decided tokens follow; no blank and no comment stands here
 pub record IsCut (text : List ℕ) (n : ℕ) (placed : List Placed) : Type 0 where
-  pub pieces : List Piece
+  pub pieces : List Segment
   pub front : IsFront pieces n text
   pub over : IsFalse (begins begins_gap (drop n text))
   pub spelled : tokens_of pieces ≡ bare_tokens placed
@@ -111,7 +111,7 @@ pub record IsCut (text : List ℕ) (n : ℕ) (placed : List Placed) : Type 0 whe
 
 -- the text is these tokens, each at its place
 pub record IsLexed (text : List ℕ) (placed : List Placed) : Type 0 where
-  pub pieces : List Piece
+  pub pieces : List Segment
   pub joined : text ≡ text_of pieces
   pub cut : Cuts pieces []
   pub decided : IsTrue (is_decided (tokens_of pieces))

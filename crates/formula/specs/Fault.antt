@@ -3,7 +3,7 @@ use Rattle.std.specs.Prelude.{◌≡◌, ◌≢◌, ◌⊎◌, ℕ, ◌+◌, ◌
 use Rattle.std.specs.List.{list_any}
 use Rattle.std.specs.Str.{bytes_eq}
 use Rattle.grammar.specs.declared.limits.TheConstants.{LONGEST_TEXT}
-use Rattle.grammar.specs.Token.{Token, Reserved, Piece, Word, IsPiece, written_piece, piece_ends, Cuts, text_of, tokens_of, offsets_from, is_decided, is_reserved}
+use Rattle.grammar.specs.Token.{Token, Reserved, Segment, Word, IsPiece, written_piece, piece_ends, Cuts, text_of, tokens_of, offsets_from, is_decided, is_reserved}
 use Rattle.calculus.specs.Admitted.{Scope, negated}
 use Rattle.grammar.specs.Syntax.{RegSyntax, Parens', Not', And', Or', Implies', Star', Plus', Then', Either', reg_tokens, counts_as_action, Syntax, Var'}
 use Rattle.grammar.specs.Syntax.{Group', Neg', Both', OneOf', If', Dia', Box', Mu', Nu', fits, tokens, is_within_limits}
@@ -13,15 +13,15 @@ use Rattle.formula.specs.declared.error.FormulaFault.TheVariants.{NoToken, Unexp
 
 -- no token, blank or comment stands at the front of the text
 abbrev pub NothingBegins : List ℕ → Type 0
-NothingBegins text = (piece : Piece) (rest : List ℕ) → IsPiece piece → IsTrue (piece_ends piece rest) → text ≡ written_piece piece ++ rest → ⊥
+NothingBegins text = (piece : Segment) (rest : List ℕ) → IsPiece piece → IsTrue (piece_ends piece rest) → text ≡ written_piece piece ++ rest → ⊥
 
 -- A byte where no token begins, before any reserved word; or the first reserved word.
 abbrev pub TokenFault : List ℕ → FormulaFault → ℕ → Type 0
 TokenFault text NoToken place =
-    (pieces : List Piece) × (rest : List ℕ) × (text ≡ text_of pieces ++ rest) × Cuts pieces rest × IsFalse (list_any is_reserved (tokens_of pieces))
+    (pieces : List Segment) × (rest : List ℕ) × (text ≡ text_of pieces ++ rest) × Cuts pieces rest × IsFalse (list_any is_reserved (tokens_of pieces))
     × (rest ≢ []) × NothingBegins rest × (place ≡ length (text_of pieces))
 TokenFault text ReservedWord place =
-    (pieces : List Piece) × (word rest : List ℕ) × (text ≡ text_of pieces ++ (word ++ rest)) × Cuts pieces (word ++ rest)
+    (pieces : List Segment) × (word rest : List ℕ) × (text ≡ text_of pieces ++ (word ++ rest)) × Cuts pieces (word ++ rest)
     × IsFalse (list_any is_reserved (tokens_of pieces))
     × IsPiece (Word (Reserved word)) × IsTrue (piece_ends (Word (Reserved word)) rest) × (place ≡ length (text_of pieces))
 TokenFault text _ place = ⊥
@@ -34,7 +34,7 @@ abbrev pub BeginsWithin : List Token → Type 0
 BeginsWithin front = (s : Syntax) × (more : List Token) × IsTrue (fits s) × IsTrue (is_within_limits s) × (tokens s ≡ front ++ more)
 
 -- The text is all tokens, none reserved.
-pub record IsTokens (text : List ℕ) (pieces : List Piece) : Type 0 where
+pub record IsTokens (text : List ℕ) (pieces : List Segment) : Type 0 where
   pub joined : text ≡ text_of pieces
   pub cut : Cuts pieces []
   pub decided : IsTrue (is_decided (tokens_of pieces))
@@ -43,14 +43,14 @@ pub record IsTokens (text : List ℕ) (pieces : List Piece) : Type 0 where
 -- The first token up to which no formula begins, or none within the limits; or the tokens' end, where they could still go on.
 abbrev pub GrammarFault : List ℕ → FormulaFault → ℕ → Type 0
 GrammarFault text Unexpected place =
-    (pieces : List Piece) × (front back : List Token) × (token : Token) × IsTokens text pieces × (tokens_of pieces ≡ front ++ token ∷ back)
+    (pieces : List Segment) × (front back : List Token) × (token : Token) × IsTokens text pieces × (tokens_of pieces ≡ front ++ token ∷ back)
     × BeginsWithin front × (BeginsFormula (front ++ token ∷ []) → ⊥) × (slice_get (offsets_from 0 pieces) (length front) ≡ Some place)
 GrammarFault text TooLarge place =
-    (pieces : List Piece) × (front back : List Token) × (token : Token) × IsTokens text pieces × (tokens_of pieces ≡ front ++ token ∷ back)
+    (pieces : List Segment) × (front back : List Token) × (token : Token) × IsTokens text pieces × (tokens_of pieces ≡ front ++ token ∷ back)
     × BeginsWithin front × BeginsFormula (front ++ token ∷ []) × (BeginsWithin (front ++ token ∷ []) → ⊥)
     × (slice_get (offsets_from 0 pieces) (length front) ≡ Some place)
 GrammarFault text Unfinished place =
-    (pieces : List Piece) × IsTokens text pieces × BeginsWithin (tokens_of pieces)
+    (pieces : List Segment) × IsTokens text pieces × BeginsWithin (tokens_of pieces)
     × ((s : Syntax) → IsTrue (fits s) → tokens s ≡ tokens_of pieces → ⊥) × (place ≡ length text)
 GrammarFault text _ place = ⊥
 
@@ -106,10 +106,10 @@ variable_faults scope at _ = []
 -- an operand or a variable, in a text of the grammar within the limits
 abbrev pub TreeFault : List ℕ → FormulaFault → ℕ → Type 0
 TreeFault text NotAnAction place =
-    (pieces : List Piece) × (s : Syntax) × (first : ℕ) × (others : List ℕ) × IsWritten text pieces s × IsTrue (is_within_limits s)
+    (pieces : List Segment) × (s : Syntax) × (first : ℕ) × (others : List ℕ) × IsWritten text pieces s × IsTrue (is_within_limits s)
     × (operand_faults 0 s ≡ first ∷ others) × (slice_get (offsets_from 0 pieces) first ≡ Some place)
 TreeFault text fault place =
-    (pieces : List Piece) × (s : Syntax) × (first : ℕ) × (others : List (ℕ × FormulaFault)) × IsWritten text pieces s × IsTrue (is_within_limits s)
+    (pieces : List Segment) × (s : Syntax) × (first : ℕ) × (others : List (ℕ × FormulaFault)) × IsWritten text pieces s × IsTrue (is_within_limits s)
     × (operand_faults 0 s ≡ []) × (variable_faults [] 0 s ≡ (first, fault) ∷ others) × (slice_get (offsets_from 0 pieces) first ≡ Some place)
 
 -- The first of these decides: the text is too long; no token, or a reserved word; the grammar and its limits; an operand; a variable.

@@ -11,7 +11,7 @@ use Rattle.systems.specs.Label.{reading, texts}
 use Rattle.systems.specs.Numbered.{label_at}
 use Rattle.hints.specs.declared.strange.Word.{Word}
 use Rattle.hints.specs.declared.strange.TheConstants.{MOST_NOTES}
-use Rattle.hints.specs.Strange.{Term, Name, has_term, is_among, same_term, term_of}
+use Rattle.hints.specs.Strange.{NameOrAtom, Name, has_term, is_among, same_term, term_of}
 use Rattle.hints.specs.Noted.{is_known, with_term}
 
 -- ------------------------------------------------------------------ lists
@@ -36,11 +36,11 @@ or_false false = refl
 -- ------------------------------------------------------------------ one word
 
 -- a word is to be noted
-abbrev pub is_noted : (Term → Bool) → List Word → Word → Bool
+abbrev pub is_noted : (NameOrAtom → Bool) → List Word → Word → Bool
 is_noted known found word = nat_lt (length found) MOST_NOTES && not (list_any (λ other. same_term (term_of word) (term_of other)) found)
     && not (known (term_of word))
 
-with_word : (known : Term → Bool) (found : List Word) (word : Word)
+with_word : (known : NameOrAtom → Bool) (found : List Word) (word : Word)
     → with_term known (map term_of found) (term_of word) ≡ cond (is_noted known found word) (map term_of found ++ term_of word ∷ []) (map term_of found)
 with_word known found word =
     let t = term_of word in
@@ -48,14 +48,14 @@ with_word known found word =
     rw (length-map found term_of, any_map term_of (same_term t) found) refl in
     ap (λ b. cond b (map term_of found ++ t ∷ []) (map term_of found)) e
 
-pub word_noted : (known : Term → Bool) (found new : List Word) (word : Word) (b : Bool) → b ≡ is_noted known found word → b ≡ true → new ≡ found ++ word ∷ []
+pub word_noted : (known : NameOrAtom → Bool) (found new : List Word) (word : Word) (b : Bool) → b ≡ is_noted known found word → b ≡ true → new ≡ found ++ word ∷ []
     → map term_of new ≡ with_term known (map term_of found) (term_of word)
 word_noted known found new word b is holds pushed =
     let e : is_noted known found word ≡ true = sym is ∙ holds in
     ap (map term_of) pushed ∙ map-append term_of found (word ∷ [])
     ∙ sym (with_word known found word ∙ ap (λ b. cond b (map term_of found ++ term_of word ∷ []) (map term_of found)) e)
 
-pub word_left : (known : Term → Bool) (found : List Word) (word : Word) (b : Bool) → b ≡ is_noted known found word → b ≡ false
+pub word_left : (known : NameOrAtom → Bool) (found : List Word) (word : Word) (b : Bool) → b ≡ is_noted known found word → b ≡ false
     → map term_of found ≡ with_term known (map term_of found) (term_of word)
 word_left known found word b is fails =
     let e : is_noted known found word ≡ false = sym is ∙ fails in
@@ -63,7 +63,7 @@ word_left known found word b is fails =
 
 -- ------------------------------------------------------------------ names one by one
 
-pub names_more : (known : Term → Bool) (first old new : List Term) (names : List (Vec ℕ Global)) (i : ℕ) (name : Vec ℕ Global) (bytes : List ℕ)
+pub names_more : (known : NameOrAtom → Bool) (first old new : List NameOrAtom) (names : List (Vec ℕ Global)) (i : ℕ) (name : Vec ℕ Global) (bytes : List ℕ)
     → i < length names → name ≡ get_or names i name → bytes ≡ name.items
     → old ≡ fold (with_term known) first (map Name (texts (take i names))) → new ≡ with_term known old (Name bytes)
     → new ≡ fold (with_term known) first (map Name (texts (take (i + 1) names)))
@@ -113,7 +113,7 @@ pub no_names_read : (old : Bool) (bytes label : List ℕ) (names : Option (Bor (
 no_names_read old bytes label names read none =
     sym (or_false old) ∙ ap (λ o. old || is_among bytes o) (sym (ap (option_map (λ (n : Bor (List (Vec ℕ Global))). texts n.now)) none) ∙ read)
 
-pub known_more : (labels : List (List ℕ)) (i : ℕ) (t : Term) (old new : Bool) (label : List ℕ) → i < length labels → label ≡ label_at labels i
+pub known_more : (labels : List (List ℕ)) (i : ℕ) (t : NameOrAtom) (old new : Bool) (label : List ℕ) → i < length labels → label ≡ label_at labels i
     → old ≡ is_known (take i labels) t
     → new ≡ (old || has_term t label) → new ≡ is_known (take (i + 1) labels) t
 known_more labels i t old new label below at so one =

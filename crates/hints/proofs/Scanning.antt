@@ -10,13 +10,13 @@ use Rattle.systems.specs.declared.system.Transition.{Transition}
 use Rattle.formula.specs.Cutting.{IsLexed}
 use Rattle.grammar.specs.Written.{bare_tokens}
 use Rattle.grammar.specs.declared.token.Placed.{Placed}
-use Rattle.hints.specs.Strange.{Term, has_term}
+use Rattle.hints.specs.Strange.{NameOrAtom, has_term}
 use Rattle.hints.specs.Noted.{is_known}
 use Rattle.hints.specs.Absent.{IsFirstAbsent, first_unknown, is_on_transition}
 use Rattle.hints.proofs.Noting.{any_map}
 
 -- of these tokens, each with its place
-abbrev pub scan : (Term → Bool) → Bool → List Placed → Option ℕ
+abbrev pub scan : (NameOrAtom → Bool) → Bool → List Placed → Option ℕ
 scan known inside placed = first_unknown known inside (bare_tokens placed) (map (λ p. p.offset) placed)
 
 -- One more element passes, or it is left to the others.
@@ -50,15 +50,15 @@ both_ways false true f g = g refl
 both_ways false false f g = refl
 
 -- What a label has, a transition has, and the other way round.
-known_on : (l : Numbered) (ts : List Transition) (t : Term) → AreUsed l → map (arrow_of l.labels) ts ≡ l.system.arrows → IsInside l ts
+known_on : (l : Numbered) (ts : List Transition) (t : NameOrAtom) → AreUsed l → map (arrow_of l.labels) ts ≡ l.system.arrows → IsInside l ts
     → is_known l.labels t ≡ is_on_transition l.system t
 known_on l ts t used are inside =
     both_ways (is_known l.labels t) (is_on_transition l.system t) (used_any (has_term t) l.system.arrows l.labels used)
     (λ h. arrow_any (has_term t) l ts inside (ap (list_any (λ (a : Arrow). has_term t a.label)) are ∙ h))
 
 -- What is found by what is known of the labels is what is asked for.
-pub found_absent : (l : Numbered) (ts : List Transition) (known : Term → Bool) (text : List ℕ) (placed : List Placed) (found : Option ℕ) → IsLexed text placed
-    → ((t : Term) → known t ≡ is_known l.labels t) → AreUsed l → map (arrow_of l.labels) ts ≡ l.system.arrows → IsInside l ts
+pub found_absent : (l : Numbered) (ts : List Transition) (known : NameOrAtom → Bool) (text : List ℕ) (placed : List Placed) (found : Option ℕ) → IsLexed text placed
+    → ((t : NameOrAtom) → known t ≡ is_known l.labels t) → AreUsed l → map (arrow_of l.labels) ts ≡ l.system.arrows → IsInside l ts
     → found ≡ scan known false placed → IsFirstAbsent l.system text found
 found_absent l ts known text placed found lexed as_labels used are inside e =
     let same : known ≡ is_on_transition l.system = fun_ext (λ t. as_labels t ∙ known_on l ts t used are inside) in

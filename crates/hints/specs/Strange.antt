@@ -11,16 +11,16 @@ use Rattle.hints.specs.declared.strange.Word.TheVariants as word
 use Rattle.hints.specs.declared.strange.TheConstants.{MOST_NOTES}
 
 -- a name of a multi-action, or a quoted atom
-pub data Term : Type 0 where
-  Name : (bytes : List ℕ) → Term
-  Atom : (bytes : List ℕ) → Term
+pub data NameOrAtom : Type 0 where
+  Name : (bytes : List ℕ) → NameOrAtom
+  Atom : (bytes : List ℕ) → NameOrAtom
 
-abbrev pub term_of : Word → Term
+abbrev pub term_of : Word → NameOrAtom
 term_of (word.Name bytes) = Name bytes.now
 term_of (word.Atom bytes) = Atom bytes.now
 
 -- those of a formula, in order
-abbrev pub action_terms : Action → List Term
+abbrev pub action_terms : Action → List NameOrAtom
 action_terms Anything = []
 action_terms Nothing = []
 action_terms (Names names) = map Name names
@@ -30,14 +30,14 @@ action_terms (AndAct a b) = action_terms a ++ action_terms b
 action_terms (OrAct a b) = action_terms a ++ action_terms b
 action_terms (ImpliesAct a b) = action_terms a ++ action_terms b
 
-abbrev pub regular_terms : Regular → List Term
+abbrev pub regular_terms : Regular → List NameOrAtom
 regular_terms (Step a) = action_terms a
 regular_terms (Then r s) = regular_terms r ++ regular_terms s
 regular_terms (Either r s) = regular_terms r ++ regular_terms s
 regular_terms (Star r) = regular_terms r
 regular_terms (Plus r) = regular_terms r
 
-abbrev pub formula_terms : Formula → List Term
+abbrev pub formula_terms : Formula → List NameOrAtom
 formula_terms True = []
 formula_terms False = []
 formula_terms (Var name) = []
@@ -56,24 +56,24 @@ is_among bytes None = false
 is_among bytes (Some names) = list_any (λ name. bytes_eq name bytes) names
 
 -- the label has the name, or it is the quoted one
-abbrev pub has_term : Term → List ℕ → Bool
+abbrev pub has_term : NameOrAtom → List ℕ → Bool
 has_term (Name bytes) label = is_among bytes (reading label)
 has_term (Atom bytes) label = bytes_eq label bytes
 
 -- no label has it
-abbrev pub is_strange : List (List ℕ) → Term → Bool
+abbrev pub is_strange : List (List ℕ) → NameOrAtom → Bool
 is_strange labels t = not (list_any (has_term t) labels)
 
-abbrev pub same_term : Term → Term → Bool
+abbrev pub same_term : NameOrAtom → NameOrAtom → Bool
 same_term (Name a) (Name b) = bytes_eq a b
 same_term (Atom a) (Atom b) = bytes_eq a b
 same_term _ _ = false
 
 -- each once, where it stands first
-abbrev pub distinct : List Term → List Term
+abbrev pub distinct : List NameOrAtom → List NameOrAtom
 distinct [] = []
 distinct (t ∷ ts) = t ∷ filter (λ other. not (same_term other t)) (distinct ts)
 
 -- the first ten of a formula's terms, each once, that no label has
-abbrev pub strange_terms : Numbered → Formula → List Term
+abbrev pub strange_terms : Numbered → Formula → List NameOrAtom
 strange_terms l f = take MOST_NOTES (distinct (filter (is_strange l.labels) (formula_terms f)))

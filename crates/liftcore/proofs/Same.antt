@@ -7,7 +7,7 @@ use Rattle.progress.specs.Measure.{Measure}
 use Rattle.progress.specs.Progress.{IsLift}
 use Rattle.game.specs.NumberSet.{with_number}
 use Rattle.liftcore.specs.Core.{with_note, without, Core, Note, Holding, Owing, noted, owing}
-use Rattle.liftcore.specs.Step.{Does, Raises, Step, after_raise, value_in, with_pending, with_worker}
+use Rattle.liftcore.specs.Step.{Does, LiftsHeld, Step, after_raise, value_in, with_pending, with_worker}
 use Rattle.liftcore.specs.declared.event.Event.{Event}
 use Rattle.liftcore.specs.declared.event.Event.TheVariants.{Take, Read, Raise, Push}
 use Rattle.liftcore.proofs.Notes.{holds_same, noted_or, owes_same, zip_noted}
@@ -36,7 +36,7 @@ one_lifted old u notes x y values others r s at is read more lift lifts =
     lift_same old.table.game x (value_in old u) r s (noted_or notes (value_in old)) values
     (zip_noted notes (value_in old) x.successors values read) lift lifts''
 
-raises_same : (old new other : Core) (w : ℕ) → Raises old w new → Raises old w other → new ≡ other
+raises_same : (old new other : Core) (w : ℕ) → LiftsHeld old w new → LiftsHeld old w other → new ≡ other
 raises_same old new other w d e =
     let same = holds_same e.u d.u e.notes d.notes (same_Some (Holding e.u e.notes) (Holding d.u d.notes) (sym e.holds ∙ d.holds)) in
     let at = subst (λ (k : ℕ). vertex old.table.game k ≡ Some e.x) same.0 e.held in

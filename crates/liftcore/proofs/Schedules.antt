@@ -9,7 +9,7 @@ use Rattle.text.specs.Reads.{Reads}
 use Rattle.text.specs.Text.{pieces_of}
 use Rattle.text.proofs.Promised.{AreLaws, keeps}
 use Rattle.liftcore.specs.Schedule.{HasFault, HasFaultAt, IsEventLine, IsGoodLine, IsSchedule, IsOfSoMany, LineFault, vertex_of_event, worker_of_event}
-use Rattle.liftcore.specs.Taken.{SoFar}
+use Rattle.liftcore.specs.Taken.{EventsSoFar}
 use Rattle.liftcore.specs.declared.event.Event.{Event}
 use Rattle.liftcore.specs.declared.error.ScheduleFault.{ScheduleFault}
 use Rattle.liftcore.specs.declared.error.ScheduleFault.TheVariants.{BadLine, NoSuchVertex, NoSuchWorker}
@@ -116,7 +116,7 @@ module _ (workers vertices : ℕ) where
     one_fault = λ bytes f h p q. (let e = one_fault bytes f.0 h.0 f.1 h.1 p q in λ i. (e.0 i, e.1 i));
   }
 
-  pub nothing_yet : (text : List ℕ) → SoFar workers vertices text text []
+  pub nothing_yet : (text : List ℕ) → EventsSoFar workers vertices text text []
   nothing_yet text = record { done = []; each = tt; cut = refl }
 
   pub each_more : (done : List (List ℕ)) (events : List Event) (line : List ℕ) (event : Event) → AllZip (IsGoodLine workers vertices) done events
@@ -127,22 +127,22 @@ module _ (workers vertices : ℕ) where
   each_more (l ∷ done) [] line event each one = absurd each
   each_more (l ∷ done) (x ∷ events) line event each one = (each.0, each_more done events line event each.1 one)
 
-  pub one_more : (text left line rest : List ℕ) (events : List Event) (event : Event) → SoFar workers vertices text left events
+  pub one_more : (text left line rest : List ℕ) (events : List Event) (event : Event) → EventsSoFar workers vertices text left events
       → pieces_of left ≡ line ∷ pieces_of rest
       → IsEventLine line event → IsOfSoMany workers vertices event
-      → SoFar workers vertices text rest (events ++ event ∷ [])
+      → EventsSoFar workers vertices text rest (events ++ event ∷ [])
   one_more text left line rest events event so next is within = record {
     done = so.done ++ line ∷ [];
     each = each_more so.done events line event so.each (record { spelled = is; within = within });
     cut = so.cut ∙ (ap (λ l. so.done ++ l) next ∙ sym (append_assoc so.done (line ∷ []) (pieces_of rest)));
   }
 
-  pub whole : (text left : List ℕ) (events : List Event) → SoFar workers vertices text left events → pieces_of left ≡ []
+  pub whole : (text left : List ℕ) (events : List Event) → EventsSoFar workers vertices text left events → pieces_of left ≡ []
       → IsSchedule workers vertices text events
   whole text left events so none = subst (λ l. AllZip (IsGoodLine workers vertices) l events)
       (sym (so.cut ∙ (ap (λ l. so.done ++ l) none ∙ append-nil so.done))) so.each
 
-  pub faulty : (text left line rest : List ℕ) (events : List Event) (fault : ScheduleFault) (place : ℕ) → SoFar workers vertices text left events
+  pub faulty : (text left line rest : List ℕ) (events : List Event) (fault : ScheduleFault) (place : ℕ) → EventsSoFar workers vertices text left events
       → pieces_of left ≡ line ∷ pieces_of rest → LineFault workers vertices line fault
       → place ≡ length events + 1 → HasFault workers vertices text fault place
   faulty text left line rest events fault place so next wrong at = record {

@@ -11,7 +11,7 @@ use Rattle.progress.proofs.Measures.{at_most_itself, at_most_trans, below_at_mos
 use Rattle.progress.proofs.Plain.{opening_plain, plain_settled, set_plain}
 use Rattle.liftcore.specs.Core.{with_note, without, Core, Note, Idle, Holding, Owing, noted, owing, start}
 use Rattle.game.specs.Predecessors.{predecessors}
-use Rattle.liftcore.specs.Step.{Does, Raises, Step, Steps, after_raise, value_in, with_value, with_worker}
+use Rattle.liftcore.specs.Step.{Does, LiftsHeld, Step, Steps, after_raise, value_in, with_value, with_worker}
 use Rattle.liftcore.specs.declared.event.Event.{Event}
 use Rattle.liftcore.specs.declared.event.Event.TheVariants.{Take, Read, Raise, Push}
 use Rattle.liftcore.proofs.Sets.{get_back}
@@ -81,7 +81,7 @@ noted_low c notes low t = by (noted notes t) (low t)
     by (Some m) h = h m refl
 
 -- the lifted measure lies below
-lifted_below : (old new : Core) (w : ℕ) → Sound old → (d : Raises old w new) → LiesBelow old.table.game d.u d.lifted
+lifted_below : (old new : Core) (w : ℕ) → Sound old → (d : LiftsHeld old w new) → LiesBelow old.table.game d.u d.lifted
 lifted_below old new w s d =
     noted_below old.table.game old.table.values s.plain d.u d.x (noted_or d.notes (value_in old)) d.values d.lifted d.held
     (noted_low old d.notes (s.low w d.u d.notes d.holds))

@@ -12,14 +12,14 @@ use Rattle.game.specs.Predecessors.{predecessors, successors_at}
 use Rattle.progress.specs.Measure.{Measure, measure_cmp}
 use Rattle.progress.specs.Progress.{IsLift, greater_of, value_at}
 use Rattle.progress.specs.Progs.{IsDemandOf}
-use Rattle.progress.specs.Tables.{Table}
+use Rattle.progress.specs.Tables.{GameTable}
 use Rattle.progress.proofs.Measures.{at_most_itself, not_below}
 use Rattle.liftcore.specs.Core.{Core, Holding, Idle, Note, Owing, Worker, is_idle, noted, owing, with_note, without}
 use Rattle.liftcore.specs.Marks.{IsMarked, members}
 use Rattle.liftcore.specs.Reading.{AreRead, successors_read, values_of}
 use Rattle.liftcore.specs.Seats.{AreIdle, HasSeat, IsSeat, core_of, notes_of, worker_of}
 use Rattle.liftcore.specs.declared.event.Event.TheVariants.{Push, Raise, Read, Take}
-use Rattle.liftcore.specs.Step.{Pushes, Raises, ReadsVertex, Skips, TakesVertex, after_raise, value_in, with_value, with_worker}
+use Rattle.liftcore.specs.Step.{Pushes, LiftsHeld, ReadsVertex, Skips, TakesVertex, after_raise, value_in, with_value, with_worker}
 use Rattle.liftcore.specs.Work.{AreOwed, CanRaise, CanRead, IsUnread, Owes}
 use Rattle.liftcore.specs.declared.seat.Seat.{Seat}
 use Rattle.liftcore.specs.declared.state.State.{State}
@@ -76,10 +76,10 @@ rise_is : (c : Core) (w u : ℕ) (m : Measure) → is_lt (measure_cmp (value_in 
     → after_raise c w u m ≡ with_worker (with_value c u m) w (owing (predecessors c.table.game u))
 rise_is c w u m e = ap (λ b. if b then with_worker (with_value c u m) w (owing (predecessors c.table.game u)) else with_worker c w Idle) e
 
-abbrev pub table : Game → List Measure → Table
+abbrev pub table : Game → List Measure → GameTable
 table g vs = record { game = g; values = vs }
 
-abbrev pub core : Table → List ℕ → List Worker → Core
+abbrev pub core : GameTable → List ℕ → List Worker → Core
 core t ps ws = record { table = t; pending = ps; workers = ws }
 
 module _ (s : State) (w : ℕ) (x new : Seat) (items : List Seat) (there : slice_get s.seats.items w ≡ Some x) (are : items ≡ slice_set s.seats.items w new) where
@@ -129,7 +129,7 @@ module _ (s : State) (w : ℕ) (x new : Seat) (items : List Seat) (there : slice
 
   module _ (g : Game) (is : IsSeat g x) (same : s.table.game ≡ g) (d : Measure) (can : CanRaise g (worker_of x))
       (demand : IsDemandOf g x.turn.vertex (values_of x.turn) d) where
-    raises_by : (c : Core) → c ≡ after_raise (core_of s) w x.turn.vertex (greater_of (value_at s.table.values x.turn.vertex) d) → Raises (core_of s) w c
+    raises_by : (c : Core) → c ≡ after_raise (core_of s) w x.turn.vertex (greater_of (value_at s.table.values x.turn.vertex) d) → LiftsHeld (core_of s) w c
     raises_by c e =
         let whole = raises_whole g x is can in
         record {
@@ -149,18 +149,18 @@ module _ (s : State) (w : ℕ) (x new : Seat) (items : List Seat) (there : slice
         }
 
     pub stay_step : is_lt (measure_cmp (value_at s.table.values x.turn.vertex) d) ≡ false → worker_of new ≡ Idle
-        → Raises (core_of s) w (core s.table (members s.pending) (map worker_of items))
+        → LiftsHeld (core_of s) w (core s.table (members s.pending) (map worker_of items))
     stay_step low now = raises_by (core s.table (members s.pending) (map worker_of items))
         (ap (core s.table (members s.pending)) (workers_are Idle now)
         ∙ sym (stay_is (core_of s) w x.turn.vertex (greater_of (value_at s.table.values x.turn.vertex) d)
         (greater_same (value_at s.table.values x.turn.vertex) d false low)))
 
-    pub rise_step : (t : Table) → is_lt (measure_cmp (value_at s.table.values x.turn.vertex) d) ≡ true → t.game ≡ s.table.game
+    pub rise_step : (t : GameTable) → is_lt (measure_cmp (value_at s.table.values x.turn.vertex) d) ≡ true → t.game ≡ s.table.game
         → t.values ≡ slice_set s.table.values x.turn.vertex (greater_of (value_at s.table.values x.turn.vertex) d)
         → worker_of new ≡ owing (predecessors g x.turn.vertex)
-        → Raises (core_of s) w (core t (members s.pending) (map worker_of items))
+        → LiftsHeld (core_of s) w (core t (members s.pending) (map worker_of items))
     rise_step t high kept raised now = raises_by (core t (members s.pending) (map worker_of items))
-        (ap₂ (λ (t : Table) (ws : List Worker). core t (members s.pending) ws) (ap₂ (λ (g : Game) (vs : List Measure). table g vs) kept raised)
+        (ap₂ (λ (t : GameTable) (ws : List Worker). core t (members s.pending) ws) (ap₂ (λ (g : Game) (vs : List Measure). table g vs) kept raised)
         (workers_are (owing (predecessors s.table.game x.turn.vertex)) (now ∙ ap (λ (g : Game). owing (predecessors g x.turn.vertex)) (sym same)))
         ∙ sym (rise_is (core_of s) w x.turn.vertex (greater_of (value_at s.table.values x.turn.vertex) d)
         (greater_same (value_at s.table.values x.turn.vertex) d true high)))

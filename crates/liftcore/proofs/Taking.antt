@@ -13,7 +13,7 @@ use Rattle.text.specs.Text.{pieces_of}
 use Rattle.text.proofs.Streaming.{known_then}
 use Rattle.liftcore.specs.Begun.{IsBegunLine}
 use Rattle.liftcore.specs.Schedule.{HasFaultAt, IsSchedule, named, told}
-use Rattle.liftcore.specs.Taken.{HasTakenLines, SoFar, TakesBytes, TakesBlock, Tells, TellsRead}
+use Rattle.liftcore.specs.Taken.{HasTakenLines, EventsSoFar, TakesBytes, TakesBlock, Tells, TellsRead}
 use Rattle.liftcore.specs.declared.error.ScheduleError.{ScheduleError}
 use Rattle.liftcore.specs.declared.error.ReadError.{ReadError}
 use Rattle.liftcore.specs.declared.error.ReadError.TheVariants as read
@@ -25,12 +25,12 @@ use Rattle.liftcore.proofs.Schedules.{nothing_yet, whole}
 -- the line that ends makes a good one, or it is told what is wrong
 abbrev pub Ends : Intake → Intake → Type 0
 Ends old new = (line text left rest : List ℕ) → IsBegunLine line old.line.word.items old.line.part
-    → SoFar old.workers old.vertices text left old.events.items → pieces_of left ≡ line ∷ pieces_of rest
-    → SoFar old.workers old.vertices text rest new.events.items
+    → EventsSoFar old.workers old.vertices text left old.events.items → pieces_of left ≡ line ∷ pieces_of rest
+    → EventsSoFar old.workers old.vertices text rest new.events.items
 
 abbrev pub Fails : Intake → ScheduleError → Type 0
 Fails old error = (line text left rest : List ℕ) → IsBegunLine line old.line.word.items old.line.part
-    → SoFar old.workers old.vertices text left old.events.items → pieces_of left ≡ line ∷ pieces_of rest
+    → EventsSoFar old.workers old.vertices text left old.events.items → pieces_of left ≡ line ∷ pieces_of rest
     → IfSome (named error) (HasFaultAt old.workers old.vertices text)
 
 pub both_ok : {T E : Type 0} {P Q R : Type 0} (r : Result T E) → OnOk r P → OnOk r Q → (P → Q → R) → OnOk r R
@@ -42,9 +42,9 @@ moved : (A : ℕ → ℕ → Type 0) (a b m n : ℕ) → a ≡ m → b ≡ n →
 moved A a b m n e f h = subst (λ k. A m k) f (subst (λ k. A k b) e h)
 
 so_far_of : (workers vertices : ℕ) (text left : List ℕ) (intake : Intake) (h : HasTakenLines workers vertices text left intake)
-    → SoFar intake.workers intake.vertices text (h.begun ++ left) intake.events.items
+    → EventsSoFar intake.workers intake.vertices text (h.begun ++ left) intake.events.items
 so_far_of workers vertices text left intake h =
-    moved (λ m n. SoFar m n text (h.begun ++ left) intake.events.items) workers vertices intake.workers intake.vertices (sym h.few) (sym h.small) h.so_far
+    moved (λ m n. EventsSoFar m n text (h.begun ++ left) intake.events.items) workers vertices intake.workers intake.vertices (sym h.few) (sym h.small) h.so_far
 
 pub end_taken : (old new : Intake) → (new.workers ≡ old.workers) × (new.vertices ≡ old.vertices) → IsBegunLine [] new.line.word.items new.line.part → Ends old new
     → TakesBytes (10 ∷ []) old new
@@ -54,7 +54,7 @@ end_taken old new (few, small) fresh ends = λ workers vertices text left h.
       begun = [];
       inside = refl;
       line = fresh;
-      so_far = moved (λ m n. SoFar m n text left new.events.items) old.workers old.vertices workers vertices h.few h.small
+      so_far = moved (λ m n. EventsSoFar m n text left new.events.items) old.workers old.vertices workers vertices h.few h.small
           (ends h.begun text (h.begun ++ 10 ∷ left) left h.line (so_far_of workers vertices text (10 ∷ left) old h) next);
       few = few ∙ h.few;
       small = small ∙ h.small;
@@ -79,8 +79,8 @@ byte_taken old new b other (few, small) same more = λ workers vertices text lef
   begun = h.begun ++ b ∷ [];
   inside = inside_more h.begun b h.inside other;
   line = more h.begun h.line;
-  so_far = subst (λ es. SoFar workers vertices text ((h.begun ++ b ∷ []) ++ left) es) (sym same)
-      (subst (λ l. SoFar workers vertices text l old.events.items) (sym (append_assoc h.begun (b ∷ []) left)) h.so_far);
+  so_far = subst (λ es. EventsSoFar workers vertices text ((h.begun ++ b ∷ []) ++ left) es) (sym same)
+      (subst (λ l. EventsSoFar workers vertices text l old.events.items) (sym (append_assoc h.begun (b ∷ []) left)) h.so_far);
   few = few ∙ h.few;
   small = small ∙ h.small;
 }
@@ -91,7 +91,7 @@ begins workers vertices intake fresh none few small = λ text. record {
   begun = [];
   inside = refl;
   line = fresh;
-  so_far = subst (λ es. SoFar workers vertices text text es) (sym none) (nothing_yet workers vertices text);
+  so_far = subst (λ es. EventsSoFar workers vertices text text es) (sym none) (nothing_yet workers vertices text);
   few = few;
   small = small;
 }
@@ -151,7 +151,7 @@ pub last_finished : (workers vertices : ℕ) (text : List ℕ) (old new : Intake
     → IsSchedule workers vertices text new.events.items
 last_finished workers vertices text old new some ends h =
     whole workers vertices text [] new.events.items
-    (moved (λ m n. SoFar m n text [] new.events.items) old.workers old.vertices workers vertices h.few h.small
+    (moved (λ m n. EventsSoFar m n text [] new.events.items) old.workers old.vertices workers vertices h.few h.small
     (ends h.begun text (h.begun ++ []) [] h.line (so_far_of workers vertices text [] old h) (last_is h.begun h.inside (some h.begun h.line)))) refl
 
 pub last_tells : (old : Intake) (error : ScheduleError) → ((line : List ℕ) → IsBegunLine line old.line.word.items old.line.part → line ≢ []) → Fails old error

@@ -4,7 +4,7 @@ use Rattle.std.specs.List.{list_all, range_with_len}
 use Rattle.game.specs.Game.{Game}
 use Rattle.progress.specs.Measure.{Measure}
 use Rattle.progress.specs.Progress.{opening}
-use Rattle.progress.specs.Tables.{Table}
+use Rattle.progress.specs.Tables.{GameTable}
 
 -- the value that a worker read at a vertex
 pub record Note : Type 0 where
@@ -19,7 +19,7 @@ pub data Worker : Type 0 where
 
 -- the table of a game, the set of the pending vertices, ascending, and the workers by number
 pub record Core : Type 0 where
-  pub table : Table
+  pub table : GameTable
   pub pending : List ℕ
   pub workers : List Worker
 

@@ -4,7 +4,7 @@ use Rattle.game.specs.Game.{Game}
 use Rattle.progress.specs.Measure.{Measure}
 use Rattle.liftcore.specs.Core.{Core, Holding, Idle, Note, Worker, owing}
 use Rattle.liftcore.specs.Marks.{members}
-use Rattle.liftcore.specs.Reading.{IsReading, Reading, successors_read}
+use Rattle.liftcore.specs.Reading.{IsReading, SuccessorReading, successors_read}
 use Rattle.liftcore.specs.declared.seat.Seat.{Seat}
 use Rattle.liftcore.specs.declared.state.State.{State}
 
@@ -13,7 +13,7 @@ abbrev pub notes_from : List ℕ → List Bool → List Measure → List Note
 notes_from (t ∷ ts) (read ∷ marks) (m ∷ values) = if read then record { vertex = t; value = m } ∷ notes_from ts marks values else notes_from ts marks values
 notes_from _ _ _ = []
 
-abbrev pub notes_of : Reading → List Note
+abbrev pub notes_of : SuccessorReading → List Note
 notes_of r = notes_from (successors_read r) r.marks r.values
 
 -- the worker holds the vertex of its turn, or owes what is marked

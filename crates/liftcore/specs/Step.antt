@@ -46,7 +46,7 @@ after_raise c w u m =
     if is_lt (measure_cmp (value_in c u) m) then with_worker (with_value c u m) w (owing (predecessors c.table.game u)) else with_worker c w Idle
 
 -- The worker has read all successors of the vertex that it holds. It lifts the vertex from what it noted.
-pub record Raises (old : Core) (w : ℕ) (new : Core) : Type 0 where
+pub record LiftsHeld (old : Core) (w : ℕ) (new : Core) : Type 0 where
   pub u : ℕ
   pub notes : List Note
   pub x : Vertex
@@ -69,7 +69,7 @@ pub record Pushes (old : Core) (w v : ℕ) (new : Core) : Type 0 where
 abbrev pub Does : Core → Event → Core → Type 0
 Does old (Take w v) new = TakesVertex old w v new
 Does old (Read w v) new = ReadsVertex old w v new
-Does old (Raise w) new = Raises old w new
+Does old (Raise w) new = LiftsHeld old w new
 Does old (Push w v) new = Pushes old w v new
 
 -- The event can't be done, and the state stays.

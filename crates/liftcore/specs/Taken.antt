@@ -10,7 +10,7 @@ use Rattle.liftcore.specs.declared.error.ReadError.{ReadError}
 use Rattle.liftcore.specs.declared.schedule.Intake.{Intake}
 
 -- the first lines of a text, which spell these events, where this is left
-pub record SoFar (workers vertices : ℕ) (text left : List ℕ) (events : List Event) : Type 0 where
+pub record EventsSoFar (workers vertices : ℕ) (text left : List ℕ) (events : List Event) : Type 0 where
   pub done : List (List ℕ)
   pub each : AllZip (IsGoodLine workers vertices) done events
   pub cut : pieces_of text ≡ done ++ pieces_of left
@@ -20,7 +20,7 @@ pub record HasTakenLines (workers vertices : ℕ) (text left : List ℕ) (intake
   pub begun : List ℕ
   pub inside : list_any (λ b. b == 10) begun ≡ false
   pub line : IsBegunLine begun intake.line.word.items intake.line.part
-  pub so_far : SoFar workers vertices text (begun ++ left) intake.events.items
+  pub so_far : EventsSoFar workers vertices text (begun ++ left) intake.events.items
   pub few : intake.workers ≡ workers
   pub small : intake.vertices ≡ vertices
 

@@ -9,7 +9,7 @@ ghost use Rattle.text.specs.Tokens as token;
 ghost use Rattle.liftcore.specs.Begun.{IsBegunLine};
 ghost use Rattle.liftcore.specs.Scan as at;
 ghost use Rattle.liftcore.specs.Schedule.{HasFaultAt, IsEventLine, IsSchedule, IsOfSoMany, LineFault, named, told, vertex_of_event, worker_of_event, failed};
-ghost use Rattle.liftcore.specs.Taken.{HasTakenLines, SoFar, TakesBytes, TakesBlock, Tells, TellsRead};
+ghost use Rattle.liftcore.specs.Taken.{HasTakenLines, EventsSoFar, TakesBytes, TakesBlock, Tells, TellsRead};
 
 use crate::error::{ReadError, ScheduleError, ScheduleFault};
 use crate::event::Event;
@@ -86,10 +86,10 @@ impl Intake {
         ensures bounds { (self.new.workers ≡ self.old.workers) × (self.new.vertices ≡ self.old.vertices) }
         ensures fresh { OnOk result (IsBegunLine [] self.new.line.word.items self.new.line.part) }
         ensures event { OnOk result ((line text left rest : List ℕ) → IsBegunLine line self.old.line.word.items self.old.line.part
-            → SoFar self.old.workers self.old.vertices text left self.old.events.items → pieces_of left ≡ line ∷ pieces_of rest
-            → SoFar self.old.workers self.old.vertices text rest self.new.events.items) }
+            → EventsSoFar self.old.workers self.old.vertices text left self.old.events.items → pieces_of left ≡ line ∷ pieces_of rest
+            → EventsSoFar self.old.workers self.old.vertices text rest self.new.events.items) }
         ensures fault { IfErr result (λ e. (line text left rest : List ℕ) → IsBegunLine line self.old.line.word.items self.old.line.part
-            → SoFar self.old.workers self.old.vertices text left self.old.events.items → pieces_of left ≡ line ∷ pieces_of rest
+            → EventsSoFar self.old.workers self.old.vertices text left self.old.events.items → pieces_of left ≡ line ∷ pieces_of rest
             → IfSome (named e) (HasFaultAt self.old.workers self.old.vertices text)) }
     {
         match judged(self.line.event(), self.workers, self.vertices) {

@@ -25,9 +25,9 @@ pub struct Turn {
 }
 
 impl Model for Turn {
-    ghost use Rattle.liftcore.specs.Reading.{IsReading, Reading};
+    ghost use Rattle.liftcore.specs.Reading.{IsReading, SuccessorReading};
 
-    ghost Value = { Reading };
+    ghost Value = { SuccessorReading };
 
     ghost view = { λ t. record { game = t.of.value; vertex = t.vertex; marks = t.marks.items; values = t.values.items } };
 

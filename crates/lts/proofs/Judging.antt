@@ -19,7 +19,7 @@ use Rattle.lts.specs.declared.scan.Ends.{Ends}
 use Rattle.text.specs.Lines.{IfKnown}
 use Rattle.text.specs.Stream.{line_of, below, HasLine, PassesLine}
 use Rattle.text.proofs.Streaming.{lines_cons}
-use Rattle.lts.specs.Left.{IsWithinLimits, BeginsWith, IsAnnouncedFault, IsRowFault, HasNoLine}
+use Rattle.lts.specs.Left.{IsWithinLimits, BeginsSystem, IsAnnouncedFault, IsRowFault, HasNoLine}
 use Rattle.lts.proofs.Unique.{lines_same}
 use Rattle.lts.proofs.Scanning.{header_gives, header_finds, transition_gives, transition_finds}
 
@@ -198,7 +198,7 @@ over_first (Some text) (Some left) h BadStates (found, after) (few, small, past)
 over_first (Some text) (Some left) h _ found wrong = absurd wrong
 
 -- the header announces what a system may have
-pub right_first : (old new : Option (List ℕ)) (h : Announced) → IfKnown old new (PassesLine header_at (Some h)) → IsWithinLimits h → IfKnown old new (BeginsWith h)
+pub right_first : (old new : Option (List ℕ)) (h : Announced) → IfKnown old new (PassesLine header_at (Some h)) → IsWithinLimits h → IfKnown old new (BeginsSystem h)
 right_first None new h found admitted = tt
 right_first (Some text) None h found admitted = absurd found
 right_first (Some text) (Some left) h (found, after) admitted =

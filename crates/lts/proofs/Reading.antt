@@ -15,12 +15,12 @@ use Rattle.systems.specs.Numbered.{arrow_of}
 use Rattle.lts.specs.Gathered.{Gathers}
 use Rattle.text.specs.Lines.{IfKnown}
 use Rattle.text.proofs.Streaming.{known_then}
-use Rattle.lts.specs.Left.{HasRestFault, AreTransitions, SoFar, BeginsWithRows, HasNoLine}
+use Rattle.lts.specs.Left.{HasRestFault, AreTransitions, ArrowsSoFar, BeginsWithRows, HasNoLine}
 use Rattle.lts.proofs.Gathering.{all_append}
 use Rattle.lts.proofs.Judging.{GoodRow, BadRow}
 
 pub nothing_yet : (n : ℕ) (old : Option (List ℕ)) (labels : List (List ℕ)) (transitions : List Transition) → Gathers labels transitions []
-    → SoFar n 0 old old labels transitions
+    → ArrowsSoFar n 0 old old labels transitions
 nothing_yet n old labels transitions none = record { arrows = []; within = tt; gathered = none; count = refl; cut = start old }
   where
     start : (old : Option (List ℕ)) → IfKnown old old (BeginsWithRows [])
@@ -45,8 +45,8 @@ rows_more n arrows a text mid left (done, cut, each) row = (
 
 -- one more line
 pub line_more : (n good : ℕ) (old mid new : Option (List ℕ)) (labels labels' : List (List ℕ)) (ts ts' : List Transition) (a : Arrow)
-    → SoFar n good old mid labels ts → IfKnown mid new (GoodRow n a) → IsArrow n a
-    → ((arrows : List Arrow) → Gathers labels ts arrows → Gathers labels' ts' (arrows ++ a ∷ [])) → SoFar n (good + 1) old new labels' ts'
+    → ArrowsSoFar n good old mid labels ts → IfKnown mid new (GoodRow n a) → IsArrow n a
+    → ((arrows : List Arrow) → Gathers labels ts arrows → Gathers labels' ts' (arrows ++ a ∷ [])) → ArrowsSoFar n (good + 1) old new labels' ts'
 line_more n good old mid new labels labels' ts ts' a so row inside add = record {
   arrows = so.arrows ++ a ∷ [];
   within = all_append (IsArrow n) so.arrows (a ∷ []) so.within (inside, tt);
@@ -78,7 +78,7 @@ record Front (h : Announced) (good : ℕ) (text left : List ℕ) : Type 0 where
   count : length done ≡ good
 
 front_of : (h : Announced) (good : ℕ) (text left : List ℕ) (labels : List (List ℕ)) (ts : List Transition)
-    → SoFar h.states good (Some text) (Some left) labels ts → Front h good text left
+    → ArrowsSoFar h.states good (Some text) (Some left) labels ts → Front h good text left
 front_of h good text left labels ts so =
     let (done, cut, each) = so.cut in record {
       done = done;
@@ -89,7 +89,7 @@ front_of h good text left labels ts so =
 
 -- the lines end too soon
 pub too_few : (h : Announced) (good p : ℕ) → p ≡ good → (old mid new : Option (List ℕ)) (labels : List (List ℕ)) (ts : List Transition)
-    → SoFar h.states good old mid labels ts → IfKnown mid new HasNoLine → good < h.transitions
+    → ArrowsSoFar h.states good old mid labels ts → IfKnown mid new HasNoLine → good < h.transitions
     → IfSome old (λ text. HasRestFault h text WrongCount (p + 2))
 too_few h good p at None mid new labels ts so none few = tt
 too_few h good p at (Some text) None new labels ts so none few = absurd so.cut
@@ -103,7 +103,7 @@ too_few h good p at (Some text) (Some left) (Some rest) labels ts so none few =
 
 -- a line is left over
 pub too_many : (h : Announced) (good p : ℕ) → p ≡ h.transitions → good ≡ h.transitions
-    → (old mid : Option (List ℕ)) (labels : List (List ℕ)) (ts : List Transition) → SoFar h.states good old mid labels ts
+    → (old mid : Option (List ℕ)) (labels : List (List ℕ)) (ts : List Transition) → ArrowsSoFar h.states good old mid labels ts
     → IfSome mid (λ text. (line : List ℕ) × (rest : List (List ℕ)) × (lines text ≡ line ∷ rest)) → IfSome old (λ text. HasRestFault h text WrongCount (p + 2))
 too_many h good p at all None mid labels ts so more = tt
 too_many h good p at all (Some text) None labels ts so more = absurd so.cut
@@ -116,7 +116,7 @@ too_many h good p at all (Some text) (Some left) labels ts so (line, rest, more)
 
 -- the line is faulty
 pub bad_row : (h : Announced) (good p : ℕ) → p ≡ good → (old mid : Option (List ℕ)) (labels : List (List ℕ)) (ts : List Transition) (fault : AutFault)
-    → SoFar h.states good old mid labels ts → IfSome mid (BadRow h.states fault)
+    → ArrowsSoFar h.states good old mid labels ts → IfSome mid (BadRow h.states fault)
     → good < h.transitions → IfSome old (λ text. HasRestFault h text fault (p + 2))
 bad_row h good p at None mid labels ts fault so row few = tt
 bad_row h good p at (Some text) None labels ts fault so row few = absurd so.cut
@@ -127,7 +127,7 @@ bad_row h good p at (Some text) (Some left) labels ts _ so row few =
 
 -- all lines were read
 pub all_rows : (h : Announced) (good : ℕ) → good ≡ h.transitions
-    → (old mid new : Option (List ℕ)) (labels : List (List ℕ)) (ts : List Transition) (so : SoFar h.states good old mid labels ts) → IfKnown mid new HasNoLine
+    → (old mid new : Option (List ℕ)) (labels : List (List ℕ)) (ts : List Transition) (so : ArrowsSoFar h.states good old mid labels ts) → IfKnown mid new HasNoLine
     → IfKnown old new (AreTransitions h so.arrows)
 all_rows h good all None mid new labels ts so none = tt
 all_rows h good all (Some text) None new labels ts so none = absurd so.cut
@@ -137,5 +137,5 @@ all_rows h good all (Some text) (Some left) (Some rest) labels ts so none =
     let whole : lines text ≡ done = cut ∙ ap (λ l. done ++ l) none ∙ append-nil done in
     record { each = subst (λ l. AllZip IsTransition l so.arrows) (sym whole) each; count = ap length whole ∙ zip_length done so.arrows each ∙ so.count ∙ all }
 
-pub row_count : (n good : ℕ) (old now : Option (List ℕ)) (labels : List (List ℕ)) (ts : List Transition) → SoFar n good old now labels ts → length ts ≡ good
+pub row_count : (n good : ℕ) (old now : Option (List ℕ)) (labels : List (List ℕ)) (ts : List Transition) → ArrowsSoFar n good old now labels ts → length ts ≡ good
 row_count n good old now labels ts so = sym (length-map ts (arrow_of labels)) ∙ ap length so.gathered.spelled ∙ so.count

@@ -9,7 +9,7 @@ use Rattle.text.specs.Text.{lines}
 use Rattle.systems.specs.System.{Arrow, System, IsArrow, set_of}
 use Rattle.lts.specs.Aut.{IsAut, IsHeader, HasFault, HasFaultAt}
 use Rattle.text.specs.Lines.{IfKnown}
-use Rattle.lts.specs.Left.{IsWithinLimits, BeginsWith, AreTransitions, HasRestFault, Refuses, named}
+use Rattle.lts.specs.Left.{IsWithinLimits, BeginsSystem, AreTransitions, HasRestFault, Refuses, named}
 use Rattle.text.specs.declared.error.ReadFault.TheVariants as reads
 use Rattle.text.specs.Reads.{Reads}
 use Rattle.text.proofs.Promised.{AreLaws, keeps}
@@ -17,7 +17,7 @@ use Rattle.systems.specs.Numbered.{Numbered}
 use Rattle.lts.proofs.Faults.{no_fault, one_fault}
 use Rattle.lts.proofs.Unique as unique
 
-whole : (h : Announced) (text left rest : List ℕ) (arrows : List Arrow) (l : System) → IsWithinLimits h → BeginsWith h text left
+whole : (h : Announced) (text left rest : List ℕ) (arrows : List Arrow) (l : System) → IsWithinLimits h → BeginsSystem h text left
     → AreTransitions h arrows left rest → AllByRecursion (IsArrow h.states) arrows
     → l.states ≡ h.states → l.initial ≡ h.initial → l.arrows ≡ set_of arrows → IsAut text l
 whole h text left rest arrows l admitted begins are within states initial set = record {
@@ -38,7 +38,7 @@ whole h text left rest arrows l admitted begins are within states initial set = 
 }
 
 -- what was read is spelled
-pub read_whole : (old mid new : Option (List ℕ)) (h : Announced) (arrows : List Arrow) (l : System) → IsWithinLimits h → IfKnown old mid (BeginsWith h)
+pub read_whole : (old mid new : Option (List ℕ)) (h : Announced) (arrows : List Arrow) (l : System) → IsWithinLimits h → IfKnown old mid (BeginsSystem h)
     → IfKnown mid new (AreTransitions h arrows) → AllByRecursion (IsArrow h.states) arrows
     → l.states ≡ h.states → l.initial ≡ h.initial → l.arrows ≡ set_of arrows → IfSome old (λ text. IsAut text l)
 read_whole None mid new h arrows l admitted begins are within states initial set = tt
@@ -48,7 +48,7 @@ read_whole (Some text) (Some left)
     (Some rest) h arrows l admitted begins are within states initial set = whole h text left rest arrows l admitted begins are within states initial set
 
 -- a fault below the header decides
-pub read_fault : (old mid : Option (List ℕ)) (h : Announced) (e : AutError) → IsWithinLimits h → IfKnown old mid (BeginsWith h) → Refuses mid (HasRestFault h) e
+pub read_fault : (old mid : Option (List ℕ)) (h : Announced) (e : AutError) → IsWithinLimits h → IfKnown old mid (BeginsSystem h) → Refuses mid (HasRestFault h) e
     → Refuses old HasFault e
 read_fault None mid h e admitted begins wrong = tt
 read_fault (Some text) None h e admitted begins wrong = absurd begins

@@ -32,7 +32,7 @@ pub record IsWithinLimits (h : Announced) : Type 0 where
   pub initial : h.initial < h.states
 
 -- the first line is this header, and the others are left
-pub record BeginsWith (h : Announced) (text left : List ℕ) : Type 0 where
+pub record BeginsSystem (h : Announced) (text left : List ℕ) : Type 0 where
   pub first : List ℕ
   pub cut : lines text ≡ first ∷ lines left
   pub header : IsHeader first h.initial h.transitions h.states
@@ -63,7 +63,7 @@ abbrev pub BeginsWithRows : List Arrow → List ℕ → List ℕ → Type 0
 BeginsWithRows arrows text left = (done : List (List ℕ)) × (lines text ≡ done ++ lines left) × AllZip IsTransition done arrows
 
 -- the transitions that were read so far, so many and all of them good, and how they are stored
-pub record SoFar (n good : ℕ) (old now : Option (List ℕ)) (labels : List (List ℕ)) (transitions : List Transition) : Type 0 where
+pub record ArrowsSoFar (n good : ℕ) (old now : Option (List ℕ)) (labels : List (List ℕ)) (transitions : List Transition) : Type 0 where
   pub arrows : List Arrow
   pub within : AllByRecursion (IsArrow n) arrows
   pub gathered : Gathers labels transitions arrows

@@ -12,7 +12,7 @@ ghost use Rattle.lts.specs.declared.error.AutError.TheVariants as errors;
 ghost use Rattle.lts.specs.Scan.{said};
 ghost use Rattle.systems.specs.Label.{texts};
 ghost use Rattle.lts.specs.Gathered.{Gathers};
-ghost use Rattle.lts.specs.Left.{Refuses, IsWithinLimits, BeginsWith, SoFar, HasNoLine, AreTransitions, HasRestFault, IsAnnouncedFault, IsRowFault, named};
+ghost use Rattle.lts.specs.Left.{Refuses, IsWithinLimits, BeginsSystem, ArrowsSoFar, HasNoLine, AreTransitions, HasRestFault, IsAnnouncedFault, IsRowFault, named};
 
 use crate::assemble::assemble;
 use crate::error::{AutError, AutFault};
@@ -41,7 +41,7 @@ fn first_fault(found: Announced) -> Option<AutFault>
 
 // Reads the header.
 fn read_first<B: Blocks>(reader: &mut B, digits: &mut Vec<u8>) -> Result<Announced, AutError>
-    ensures first { IfOk result (λ found. IfKnown (B.remaining reader.old) (B.remaining reader.new) (BeginsWith found)) }
+    ensures first { IfOk result (λ found. IfKnown (B.remaining reader.old) (B.remaining reader.new) (BeginsSystem found)) }
     ensures within { IfOk result IsWithinLimits }
     ensures fault { IfErr result (Refuses (B.remaining reader.old) HasFault) }
     ensures cause { IfErr result (HasCause B.can_fail errors.Read) }
@@ -96,12 +96,12 @@ fn read_row<B: Blocks>(
     requires due { good < found.transitions }
     requires admitted { IsWithinLimits found }
     requires labels { length rows.old.labels.items ≤ good }
-    ensures row { OnOk result ((old : Option (List ℕ)) → SoFar found.states good old (B.remaining reader.old)
+    ensures row { OnOk result ((old : Option (List ℕ)) → ArrowsSoFar found.states good old (B.remaining reader.old)
         (texts rows.old.labels.items) rows.old.transitions.items
-        → SoFar found.states (good + 1) old (B.remaining reader.new) (texts rows.new.labels.items) rows.new.transitions.items) }
+        → ArrowsSoFar found.states (good + 1) old (B.remaining reader.new) (texts rows.new.labels.items) rows.new.transitions.items) }
     ensures labels { OnOk result (length rows.new.labels.items ≤ good + 1) }
     ensures fault { IfErr result (λ e. (old : Option (List ℕ))
-        → SoFar found.states good old (B.remaining reader.old) (texts rows.old.labels.items) rows.old.transitions.items
+        → ArrowsSoFar found.states good old (B.remaining reader.old) (texts rows.old.labels.items) rows.old.transitions.items
         → Refuses old (HasRestFault found) e) }
     ensures cause { IfErr result (HasCause B.can_fail errors.Read) }
 {
@@ -129,7 +129,7 @@ fn read_row<B: Blocks>(
 fn read_end<B: Blocks>(reader: &mut B, found: Announced) -> Result<(), AutError>
     ensures end { OnOk result (IfKnown (B.remaining reader.old) (B.remaining reader.new) HasNoLine) }
     ensures fault { IfErr result (λ e. (old : Option (List ℕ)) (labels : List (List ℕ)) (transitions : List Transition)
-        → SoFar found.states found.transitions old (B.remaining reader.old) labels transitions → Refuses old (HasRestFault found) e) }
+        → ArrowsSoFar found.states found.transitions old (B.remaining reader.old) labels transitions → Refuses old (HasRestFault found) e) }
     ensures cause { IfErr result (HasCause B.can_fail errors.Read) }
 {
     if has_line(reader)? {

@@ -19,7 +19,7 @@ use Rattle.game.specs.declared.limits.TheConstants.{MOST_VERTICES}
 use Rattle.game.specs.Game.{Vertex, Game, IsGame, IsVertex, IsAscending, greatest, greatest_of}
 use Rattle.game.specs.NumberSet.{number_set}
 use Rattle.pgsolver.specs.Canon.{game_header_line, owner_digit, front_text, successors_text, vertex_name, name_text, vertex_lines, game_text}
-use Rattle.pgsolver.specs.Spelling.{Line, IsHeader, IsLine, IsLineWithin, IsName, is_vertex_name, name_tokens, with_commas, IsGameText, vertex_said}
+use Rattle.pgsolver.specs.Spelling.{VertexLine, IsHeader, IsLine, IsLineWithin, IsName, is_vertex_name, name_tokens, with_commas, IsGameText, vertex_said}
 use Rattle.pgsolver.proofs.Sets.{up_set, up_ascending}
 
 abbrev Tokens : Type 0
@@ -128,7 +128,7 @@ digit_plain : (o : Player) → list_all plain (owner_digit o) ≡ true
 digit_plain Even = refl
 digit_plain Odd = refl
 
-abbrev line_of_vertex : ℕ → Vertex → Line
+abbrev line_of_vertex : ℕ → Vertex → VertexLine
 line_of_vertex v x = record { id = v; priority = x.priority; owner = x.owner; successors = x.successors }
 
 module _ (n : ℕ) (small : n ≤ MOST_VERTICES) (named : Option (ℕ × ℕ)) (v : ℕ) (inside : v < n) (o : Player) (p : ℕ) (low : p ≤ 32) where
@@ -178,7 +178,7 @@ abbrev bodies : Option (ℕ × ℕ) → ℕ → List Vertex → List (List ℕ)
 bodies named v [] = []
 bodies named v (x ∷ vs) = line_body named v x ∷ bodies named (v + 1) vs
 
-abbrev lines_for : ℕ → List Vertex → List Line
+abbrev lines_for : ℕ → List Vertex → List VertexLine
 lines_for v [] = []
 lines_for v (x ∷ vs) = line_of_vertex v x ∷ lines_for (v + 1) vs
 
@@ -220,7 +220,7 @@ body_count : (named : Option (ℕ × ℕ)) (v : ℕ) (vs : List Vertex) → leng
 body_count named v [] = refl
 body_count named v (x ∷ vs) = omega (arith, body_count named (v + 1) vs)
 
-line_id : (v : ℕ) (vs : List Vertex) (k : ℕ) (d : Line) → k < length (lines_for v vs) → (get_or (lines_for v vs) k d).id ≡ v + k
+line_id : (v : ℕ) (vs : List Vertex) (k : ℕ) (d : VertexLine) → k < length (lines_for v vs) → (get_or (lines_for v vs) k d).id ≡ v + k
 line_id v [] k d below = absurd (omega arith)
 line_id v (x ∷ vs) zero d below = omega arith
 line_id v (x ∷ vs) (suc k) d below = omega (arith, line_id (v + 1) vs k d (omega arith))
@@ -235,7 +235,7 @@ own_set x v some up = λ i. record { owner = x.owner; priority = x.priority; suc
     own [] some up = refl
     own (t ∷ ts) some up = up_set t (t ∷ ts) (up_ascending t ts up)
 
-line_vertex : (n v : ℕ) (vs : List Vertex) (k : ℕ) (d : Line) → AllByRecursion (IsVertex n) vs → k < length (lines_for v vs)
+line_vertex : (n v : ℕ) (vs : List Vertex) (k : ℕ) (d : VertexLine) → AllByRecursion (IsVertex n) vs → k < length (lines_for v vs)
     → slice_get vs k ≡ Some (vertex_said (get_or (lines_for v vs) k d))
 line_vertex n v [] k d h below = absurd (omega arith)
 line_vertex n v (x ∷ vs) zero d h below = ap Some (sym (own_set x v h.0.some h.0.ascending))
@@ -267,7 +267,7 @@ canon_spells g known some low =
       size = size;
       placed = λ x there.
           let (k, below, at) = there in
-          let id : x.id ≡ k = sym (ap (λ (l : Line). l.id) at) ∙ line_id 0 g.vertices k x below ∙ omega arith in
+          let id : x.id ≡ k = sym (ap (λ (l : VertexLine). l.id) at) ∙ line_id 0 g.vertices k x below ∙ omega arith in
           ap (slice_get g.vertices) id ∙ line_vertex (n + 1) 0 g.vertices k x all below ∙ ap (λ l. Some (vertex_said l)) at;
       unnamed = refl;
     }

@@ -16,7 +16,7 @@ use Rattle.game.specs.declared.player.Player.TheVariants.{Even}
 use Rattle.text.specs.Tokens.{capped}
 use Rattle.pgsolver.specs.Fault.{BodyFault, HasBadSuccessor, HasFault, IsBadId, LineFault}
 use Rattle.pgsolver.specs.Scan.{header_at, line_at}
-use Rattle.pgsolver.specs.Spelling.{AreGoodLines, IsGameText, IsHeader, IsLine, IsLineWithin, Line, vertex_said}
+use Rattle.pgsolver.specs.Spelling.{AreGoodLines, IsGameText, IsHeader, IsLine, IsLineWithin, VertexLine, vertex_said}
 use Rattle.pgsolver.specs.declared.error.PgFault.{PgFault}
 use Rattle.pgsolver.specs.declared.error.PgFault.TheVariants.{BadHeader, BadIdentifier, BadLine, BadSuccessor, PriorityTooGreat, TooManyVertices}
 use Rattle.pgsolver.proofs.Judging.{bad_line}
@@ -27,13 +27,13 @@ use Rattle.pgsolver.proofs.Scanning.{header_finds, header_gives, line_gives}
 -- ---- a line
 
 -- an identifier stands on some line, or on none
-stands : (v : ℕ) (before : List Line) → ((y : Line) × Has before y × (y.id ≡ v)) ⊎ ((y : Line) → Has before y → y.id ≡ v → ⊥)
+stands : (v : ℕ) (before : List VertexLine) → ((y : VertexLine) × Has before y × (y.id ≡ v)) ⊎ ((y : VertexLine) → Has before y → y.id ≡ v → ⊥)
 stands v [] = inr (λ y h e. h)
 stands v (x ∷ before) = elim (eqb_tells x.id v) [
   | inl w ↦ inl (x, inl refl, w.1)
   | inr w ↦ elim (stands v before) [
     | inl s ↦ inl (s.0, inr s.1, s.2)
-    | inr none ↦ inr (λ y h e. elim h [ inl q ↦ w.1 (ap (λ (l : Line). l.id) q ∙ e) | inr k ↦ none y k e ])
+    | inr none ↦ inr (λ y h e. elim h [ inl q ↦ w.1 (ap (λ (l : VertexLine). l.id) q ∙ e) | inr k ↦ none y k e ])
   ]
 ]
 
@@ -50,8 +50,8 @@ far_or_near n (t ∷ ts) = elim (leb_tells t n) [
 
 module _ (n : ℕ) where
   -- a line behind others
-  data Judged (before : List Line) (line : List ℕ) : Type 0 where
-    fine : (x : Line) → IsLine line x → IsLineWithin n x → ((y : Line) → Contains before y → y.id ≡ x.id → ⊥) → Judged before line
+  data Judged (before : List VertexLine) (line : List ℕ) : Type 0 where
+    fine : (x : VertexLine) → IsLine line x → IsLineWithin n x → ((y : VertexLine) → Contains before y → y.id ≡ x.id → ⊥) → Judged before line
     no_line : LineFault n before line BadLine → Judged before line
     no_id : LineFault n before line BadIdentifier → Judged before line
     no_successor : LineFault n before line BadSuccessor → Judged before line
@@ -59,11 +59,11 @@ module _ (n : ℕ) where
 
   -- all lines say what they should, as many as there should be, or a fault decides
   data Rest (rest : List (List ℕ)) : Type 0 where
-    all : (spelled : List Line) → AreGoodLines n rest spelled → length rest ≡ n + 1 → Rest rest
+    all : (spelled : List VertexLine) → AreGoodLines n rest spelled → length rest ≡ n + 1 → Rest rest
     wrong : (fault : PgFault) (good : ℕ) → BodyFault n rest fault good → Rest rest
 
-  module _ (before : List Line) (line : List ℕ) where
-    module _ (x : Line) (is : IsLine line x) (low : x.id ≤ n) (free : (y : Line) → Contains before y → y.id ≡ x.id → ⊥) where
+  module _ (before : List VertexLine) (line : List ℕ) where
+    module _ (x : VertexLine) (is : IsLine line x) (low : x.id ≤ n) (free : (y : VertexLine) → Contains before y → y.id ≡ x.id → ⊥) where
       right_id : IsBadId n before x → ⊥
       right_id (inl far) = absurd (omega (arith, low, far))
       right_id (inr (y, there, same)) = free y there same
@@ -87,7 +87,7 @@ module _ (n : ℕ) where
         | inr near ↦ by_priority (λ none. (let q : [] ≡ t ∷ ts = sym none ∙ some in cc)) near
       ]
 
-    by_id : (x : Line) → IsLine line x → Judged before line
+    by_id : (x : VertexLine) → IsLine line x → Judged before line
     by_id x is = elim (leb_tells x.id n) [
       | inr w ↦ no_id (x, is, inl w.1)
       | inl w ↦ elim (stands x.id before) [
@@ -96,42 +96,42 @@ module _ (n : ℕ) where
       ]
     ]
 
-    by_scan : (o : Option Line) → line_at line ≡ o → Judged before line
+    by_scan : (o : Option VertexLine) → line_at line ≡ o → Judged before line
     by_scan None none = no_line (bad_line line none)
     by_scan (Some a) found = let (x, is, same) = line_gives line a found in by_id x is
 
   -- ---- the lines below a header
 
-  each_more : (done : List (List ℕ)) (spelled : List Line) (line : List ℕ) (x : Line) → AllZip IsLine done spelled → IsLine line x
+  each_more : (done : List (List ℕ)) (spelled : List VertexLine) (line : List ℕ) (x : VertexLine) → AllZip IsLine done spelled → IsLine line x
       → AllZip IsLine (done ++ line ∷ []) (spelled ++ x ∷ [])
   each_more [] [] line x each one = (one, tt)
   each_more [] (y ∷ spelled) line x each one = absurd each
   each_more (l ∷ done) [] line x each one = absurd each
   each_more (l ∷ done) (y ∷ spelled) line x each one = (each.0, each_more done spelled line x each.1 one)
 
-  all_more : (spelled : List Line) (x : Line) → AllByRecursion (IsLineWithin n) spelled → IsLineWithin n x → AllByRecursion (IsLineWithin n) (spelled ++ x ∷ [])
+  all_more : (spelled : List VertexLine) (x : VertexLine) → AllByRecursion (IsLineWithin n) spelled → IsLineWithin n x → AllByRecursion (IsLineWithin n) (spelled ++ x ∷ [])
   all_more [] x every one = (one, tt)
   all_more (y ∷ spelled) x every one = (every.0, all_more spelled x every.1 one)
 
-  longer : (front : List (List ℕ)) (spelled : List Line) (line : List ℕ) (x : Line) → AreGoodLines n front spelled → IsLine line x → IsLineWithin n x
-      → ((y : Line) → Contains spelled y → y.id ≡ x.id → ⊥) → AreGoodLines n (front ++ line ∷ []) (spelled ++ x ∷ [])
+  longer : (front : List (List ℕ)) (spelled : List VertexLine) (line : List ℕ) (x : VertexLine) → AreGoodLines n front spelled → IsLine line x → IsLineWithin n x
+      → ((y : VertexLine) → Contains spelled y → y.id ≡ x.id → ⊥) → AreGoodLines n (front ++ line ∷ []) (spelled ++ x ∷ [])
   longer front spelled line x good is within free = record {
     each = each_more front spelled line x good.each is;
     within = all_more spelled x good.within within;
-    once = all_pairs_push (λ (a b : Line). a.id ≢ b.id) spelled x good.once
+    once = all_pairs_push (λ (a b : VertexLine). a.id ≢ b.id) spelled x good.once
         (λ k d inside same. free (get_or spelled k d) (Contains-get_or spelled k d inside) same);
   }
 
   -- no more lines than identifiers
-  at_most : (front : List (List ℕ)) (spelled : List Line) → AreGoodLines n front spelled → length front ≤ n + 1
+  at_most : (front : List (List ℕ)) (spelled : List VertexLine) → AreGoodLines n front spelled → length front ≤ n + 1
   at_most front spelled good = omega (
     arith,
     zip_length front spelled good.each,
     few_lines n spelled good.once (λ x there. (all_has (IsLineWithin n) spelled x good.within there).id),
   )
 
-  at_line : (rest front : List (List ℕ)) (line : List ℕ) (back : List (List ℕ)) (spelled : List Line) → rest ≡ front ++ line ∷ back → AreGoodLines n front spelled
-      → ((x : Line) → IsLine line x → IsLineWithin n x → ((y : Line) → Contains spelled y → y.id ≡ x.id → ⊥) → Rest rest) → Judged spelled line → Rest rest
+  at_line : (rest front : List (List ℕ)) (line : List ℕ) (back : List (List ℕ)) (spelled : List VertexLine) → rest ≡ front ++ line ∷ back → AreGoodLines n front spelled
+      → ((x : VertexLine) → IsLine line x → IsLineWithin n x → ((y : VertexLine) → Contains spelled y → y.id ≡ x.id → ⊥) → Rest rest) → Judged spelled line → Rest rest
   at_line rest front line back spelled cut good go (fine x is within free) = go x is within free
   at_line rest front line back spelled cut good go (no_line bad) = wrong BadLine (length front)
       (record { front = front; line = line; back = back; before = spelled; cut = cut; good_lines = good; count = refl; wrong = bad })
@@ -142,13 +142,13 @@ module _ (n : ℕ) where
   at_line rest front line back spelled cut good go (no_priority bad) = wrong PriorityTooGreat (length front)
       (record { front = front; line = line; back = back; before = spelled; cut = cut; good_lines = good; count = refl; wrong = bad })
 
-  at_end : (rest : List (List ℕ)) (spelled : List Line) → AreGoodLines n rest spelled → Rest rest
+  at_end : (rest : List (List ℕ)) (spelled : List VertexLine) → AreGoodLines n rest spelled → Rest rest
   at_end rest spelled good = elim (leb_tells (n + 1) (length rest)) [
     | inl w ↦ all spelled good (omega (arith, w.1, at_most rest spelled good))
     | inr w ↦ wrong BadIdentifier (length rest) (inr (record { spelled = spelled; good_lines = good; few = w.1; count = refl }))
   ]
 
-  behind : (rest front back : List (List ℕ)) (spelled : List Line) → rest ≡ front ++ back → AreGoodLines n front spelled → Rest rest
+  behind : (rest front back : List (List ℕ)) (spelled : List VertexLine) → rest ≡ front ++ back → AreGoodLines n front spelled → Rest rest
   behind rest front [] spelled cut good =
       let whole : rest ≡ front = cut ∙ append-nil front in
       at_end rest spelled (subst (λ ls. AreGoodLines n ls spelled) (sym whole) good)
@@ -164,18 +164,18 @@ module _ (n : ℕ) where
 -- ---- the game that good lines spell
 
 -- the vertex of the line that has this identifier
-pick : List Line → ℕ → Vertex
+pick : List VertexLine → ℕ → Vertex
 pick [] v = record { owner = Even; priority = 0; successors = [] }
 pick (x ∷ spelled) v = cond (x.id == v) (vertex_said x) (pick spelled v)
 
-pick_is : (spelled : List Line) (x : Line) → Differ spelled → Has spelled x → pick spelled x.id ≡ vertex_said x
+pick_is : (spelled : List VertexLine) (x : VertexLine) → Differ spelled → Has spelled x → pick spelled x.id ≡ vertex_said x
 unfolding pick
 pick_is [] x apart there = absurd there
 pick_is (y ∷ spelled) x apart there =
     elim (y.id == x.id) as (λ b. (y.id == x.id) ≡ b → cond b (vertex_said y) (pick spelled x.id) ≡ vertex_said x) [
       | true ↦ λ q. ap vertex_said (one_line (y ∷ spelled) y x apart (inl refl) there (eqb-true y.id x.id q))
       | false ↦ λ q. elim there [
-        | inl e ↦ absurd (eqb-false y.id x.id q (ap (λ (l : Line). l.id) e))
+        | inl e ↦ absurd (eqb-false y.id x.id q (ap (λ (l : VertexLine). l.id) e))
         | inr k ↦ pick_is spelled x (differ_rest y spelled apart) k
       ]
     ] refl
@@ -198,7 +198,7 @@ values_at f v (suc count) (suc k) inside =
     let same : v + 1 + k ≡ v + suc k = omega arith in
     values_at f (v + 1) count k (omega (arith, inside)) ∙ ap (λ u. Some (f u)) same
 
-spelled_by : (text first : List ℕ) (rest : List (List ℕ)) (n : ℕ) (spelled : List Line) → lines text ≡ first ∷ rest → IsHeader first n → n < MOST_VERTICES
+spelled_by : (text first : List ℕ) (rest : List (List ℕ)) (n : ℕ) (spelled : List VertexLine) → lines text ≡ first ∷ rest → IsHeader first n → n < MOST_VERTICES
     → AreGoodLines n rest spelled → length rest ≡ n + 1
     → IsGameText text (record { vertices = values (pick spelled) 0 (n + 1); named = None })
 spelled_by text first rest n spelled cut header limit good complete = record {

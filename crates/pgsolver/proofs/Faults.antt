@@ -13,7 +13,7 @@ use Rattle.game.specs.declared.limits.TheConstants.{MOST_VERTICES}
 use Rattle.game.specs.Game.{Game}
 use Rattle.pgsolver.specs.declared.error.PgFault.{PgFault}
 use Rattle.pgsolver.specs.declared.error.PgFault.TheVariants.{BadHeader, BadLine, BadIdentifier, BadSuccessor, PriorityTooGreat, TooManyVertices}
-use Rattle.pgsolver.specs.Spelling.{Line, IsHeader, IsLine, IsLineWithin, AreGoodLines, IsGameText}
+use Rattle.pgsolver.specs.Spelling.{VertexLine, IsHeader, IsLine, IsLineWithin, AreGoodLines, IsGameText}
 use Rattle.pgsolver.specs.Fault.{IsBadId, HasBadSuccessor, LineFault, HeaderFault, FaultyLine, BodyFault, HasFault}
 use Rattle.pgsolver.specs.Left.{has_far}
 use Rattle.pgsolver.proofs.Judging.{far_one}
@@ -22,17 +22,17 @@ use Rattle.pgsolver.proofs.Unique.{header_same, read_alike, line_same, lines_are
 
 -- ---- a line among good ones
 
-record IsAmong (n : ℕ) (front : List (List ℕ)) (line : List ℕ) (spelled : List Line) : Type 0 where
-  before : List Line
-  x : Line
+record IsAmong (n : ℕ) (front : List (List ℕ)) (line : List ℕ) (spelled : List VertexLine) : Type 0 where
+  before : List VertexLine
+  x : VertexLine
   each : AllZip IsLine front before
   within_before : AllByRecursion (IsLineWithin n) before
   is : IsLine line x
   within : IsLineWithin n x
   there : Has spelled x
-  apart : (y : Line) → Has before y → y.id ≡ x.id → ⊥
+  apart : (y : VertexLine) → Has before y → y.id ≡ x.id → ⊥
 
-among : (n : ℕ) (front : List (List ℕ)) (line : List ℕ) (back : List (List ℕ)) (spelled : List Line) → AllZip IsLine (front ++ line ∷ back) spelled
+among : (n : ℕ) (front : List (List ℕ)) (line : List ℕ) (back : List (List ℕ)) (spelled : List VertexLine) → AllZip IsLine (front ++ line ∷ back) spelled
     → AllByRecursion (IsLineWithin n) spelled → Differ spelled → IsAmong n front line spelled
 among n [] line back [] each within once = absurd each
 among n [] line back (x ∷ spelled) each within once =
@@ -48,34 +48,34 @@ among n (l ∷ front) line back (z ∷ spelled) each within once =
       is = h.is;
       within = h.within;
       there = inr h.there;
-      apart = λ y k e. elim k [ inl same ↦ differ_first z h.x spelled once h.there (ap (λ (l : Line). l.id) same ∙ e) | inr m ↦ h.apart y m e ];
+      apart = λ y k e. elim k [ inl same ↦ differ_first z h.x spelled once h.there (ap (λ (l : VertexLine). l.id) same ∙ e) | inr m ↦ h.apart y m e ];
     }
 
 -- ---- a good line has no fault
 
-no_far : (n : ℕ) (x : Line) → IsLineWithin n x → HasBadSuccessor n x → ⊥
+no_far : (n : ℕ) (x : VertexLine) → IsLineWithin n x → HasBadSuccessor n x → ⊥
 no_far n x h (inl e) = h.some e
 no_far n x h (inr (t, there, far)) = let low = all_has (λ t. t ≤ n) x.successors t h.successors (Has-from_Contains x.successors t there)
     in omega (arith, low, far)
 
-no_bad_id : (n : ℕ) (before : List Line) (x : Line) → IsLineWithin n x → ((y : Line) → Has before y → y.id ≡ x.id → ⊥) → IsBadId n before x → ⊥
+no_bad_id : (n : ℕ) (before : List VertexLine) (x : VertexLine) → IsLineWithin n x → ((y : VertexLine) → Has before y → y.id ≡ x.id → ⊥) → IsBadId n before x → ⊥
 no_bad_id n before x h apart (inl high) = omega (arith, h.id, high)
 no_bad_id n before x h apart (inr (y, there, e)) = apart y (Has-from_Contains before y there) e
 
-no_line : (n : ℕ) (before : List Line) (line : List ℕ) (x : Line) (fault : PgFault) → n < MOST_VERTICES → IsLine line x → IsLineWithin n x
-    → ((y : Line) → Has before y → y.id ≡ x.id → ⊥) → LineFault n before line fault → ⊥
+no_line : (n : ℕ) (before : List VertexLine) (line : List ℕ) (x : VertexLine) (fault : PgFault) → n < MOST_VERTICES → IsLine line x → IsLineWithin n x
+    → ((y : VertexLine) → Has before y → y.id ≡ x.id → ⊥) → LineFault n before line fault → ⊥
 no_line n before line x BadLine small is within apart wrong = wrong x is
 no_line n before line x BadIdentifier small is within apart (y, same, bad) = no_bad_id n before x within apart
     (subst (IsBadId n before) (line_same n line x y small within is same) bad)
 no_line n before line x BadSuccessor small is within apart (y, same, right, bad) = no_far n x within
     (subst (HasBadSuccessor n) (line_same n line x y small within is same) bad)
-no_line n before line x PriorityTooGreat small is within apart (y, same, right, near, high) = let e = ap (λ (l : Line). l.priority)
+no_line n before line x PriorityTooGreat small is within apart (y, same, right, near, high) = let e = ap (λ (l : VertexLine). l.priority)
     (line_same n line x y small within is same) in omega (arith, within.priority, e, high)
 no_line n before line x BadHeader small is within apart wrong = wrong
 no_line n before line x TooManyVertices small is within apart wrong = wrong
 
 -- a faulty line is not among good ones
-no_among : (n : ℕ) (front : List (List ℕ)) (line : List ℕ) (back : List (List ℕ)) (spelled before : List Line) (fault : PgFault) → n < MOST_VERTICES
+no_among : (n : ℕ) (front : List (List ℕ)) (line : List ℕ) (back : List (List ℕ)) (spelled before : List VertexLine) (fault : PgFault) → n < MOST_VERTICES
     → AreGoodLines n (front ++ line ∷ back) spelled → AreGoodLines n front before → LineFault n before line fault → ⊥
 no_among n front line back spelled before fault small good goods wrong =
     let h = among n front line back spelled good.each good.within good.once in
@@ -88,7 +88,7 @@ no_among n front line back spelled before fault small good goods wrong =
 record IsStop (n : ℕ) (rest : List (List ℕ)) (fault : PgFault) (good : ℕ) : Type 0 where
   front : List (List ℕ)
   back : List (List ℕ)
-  before : List Line
+  before : List VertexLine
   split : rest ≡ front ++ back
   goods : AreGoodLines n front before
   long : length front ≡ good
@@ -120,7 +120,7 @@ stop_of n rest BadIdentifier good (inr h) =
     }
 stop_of n rest _ good h = stop_line n rest _ good h
 
-no_body : (n : ℕ) (rest : List (List ℕ)) (spelled : List Line) (fault : PgFault) (good : ℕ) → n < MOST_VERTICES → AreGoodLines n rest spelled
+no_body : (n : ℕ) (rest : List (List ℕ)) (spelled : List VertexLine) (fault : PgFault) (good : ℕ) → n < MOST_VERTICES → AreGoodLines n rest spelled
     → length rest ≡ n + 1 → IsStop n rest fault good → ⊥
 no_body n rest spelled fault good small all count stop =
     let sum : length rest ≡ length stop.front + length stop.back = ap length stop.split ∙ length-append stop.front stop.back in
@@ -166,23 +166,23 @@ none_mapped [] (w ∷ ws) e none = absurd cc
 none_mapped (v ∷ vs) (w ∷ ws) e none = absurd cc
 
 -- what is wrong with one reading is wrong with another
-far_alike : (n : ℕ) (line : List ℕ) (x y : Line) → n < MOST_VERTICES → IsLine line x → IsLine line y → HasBadSuccessor n x → HasBadSuccessor n y
-far_alike n line x y small h k (inl none) = inl (none_mapped x.successors y.successors (ap (λ (l : Line). l.successors) (read_alike line x y h k)) none)
+far_alike : (n : ℕ) (line : List ℕ) (x y : VertexLine) → n < MOST_VERTICES → IsLine line x → IsLine line y → HasBadSuccessor n x → HasBadSuccessor n y
+far_alike n line x y small h k (inl none) = inl (none_mapped x.successors y.successors (ap (λ (l : VertexLine). l.successors) (read_alike line x y h k)) none)
 far_alike n line x y small h k (inr (t, there, far)) =
-    let same = ap (λ (l : Line). l.successors) (read_alike line x y h k) in
+    let same = ap (λ (l : VertexLine). l.successors) (read_alike line x y h k) in
     let (u, there', far') = far_one n y.successors small (ap (has_far n) (sym same)
     ∙ far_from n x.successors t small (Has-from_Contains x.successors t there) far) in
     inr (u, Contains-from_Has y.successors u there', far')
 
-bad_alike : (n : ℕ) (before : List Line) (line : List ℕ) (x y : Line) → n < MOST_VERTICES → AllByRecursion (IsLineWithin n) before → IsLine line x
+bad_alike : (n : ℕ) (before : List VertexLine) (line : List ℕ) (x y : VertexLine) → n < MOST_VERTICES → AllByRecursion (IsLineWithin n) before → IsLine line x
     → IsLine line y → IsBadId n before x → IsBadId n before y
-bad_alike n before line x y small within h k (inl high) = let e = ap (λ (l : Line). l.id) (read_alike line x y h k) in inl (omega (arith, e, high))
+bad_alike n before line x y small within h k (inl high) = let e = ap (λ (l : VertexLine). l.id) (read_alike line x y h k) in inl (omega (arith, e, high))
 bad_alike n before line x y small within h k (inr (z, there, same)) =
-    let e = ap (λ (l : Line). l.id) (read_alike line x y h k) in
+    let e = ap (λ (l : VertexLine). l.id) (read_alike line x y h k) in
     let low = (all_has (IsLineWithin n) before z within (Has-from_Contains before z there)).id in
     inr (z, there, omega (arith, e, low, same))
 
-module _ (n : ℕ) (before : List Line) (line : List ℕ) (small : n < MOST_VERTICES) (within : AllByRecursion (IsLineWithin n) before) where
+module _ (n : ℕ) (before : List VertexLine) (line : List ℕ) (small : n < MOST_VERTICES) (within : AllByRecursion (IsLineWithin n) before) where
   one_line : (f g : PgFault) → LineFault n before line f → LineFault n before line g → f ≡ g
   one_line BadLine BadLine p q = refl
   one_line BadLine BadIdentifier p (y, is, more) = absurd (p y is)

@@ -17,12 +17,12 @@ use Rattle.game.specs.NumberSet.{number_set}
 use Rattle.pgsolver.specs.declared.error.PgFault.{PgFault}
 use Rattle.pgsolver.specs.declared.error.PgFault.TheVariants.{BadHeader, BadLine, BadIdentifier, BadSuccessor, PriorityTooGreat, TooManyVertices}
 use Rattle.pgsolver.specs.declared.scan.Head.{Head}
-use Rattle.pgsolver.specs.Spelling.{Line, IsHeader, IsLine, IsLineWithin}
+use Rattle.pgsolver.specs.Spelling.{VertexLine, IsHeader, IsLine, IsLineWithin}
 use Rattle.pgsolver.specs.Passes.{PassesVertex}
 use Rattle.pgsolver.proofs.Same.{set_none, far_set}
 use Rattle.pgsolver.specs.Fault.{IsBadId, HasBadSuccessor, LineFault, HasFault}
 use Rattle.pgsolver.specs.Scan.{capped_line, line_said, header_at, line_at}
-use Rattle.pgsolver.specs.Left.{BeginsWith, IsPlace, ArePlaces, Says, IsSound, IsFaultOfLine, has_far}
+use Rattle.pgsolver.specs.Left.{BeginsGame, IsPlace, ArePlaces, Says, IsSound, IsFaultOfLine, has_far}
 use Rattle.pgsolver.proofs.Scanning.{header_gives, header_finds, line_gives, line_finds}
 use Rattle.pgsolver.proofs.Placing.{has_at}
 
@@ -61,7 +61,7 @@ over_first (Some text) (Some left) v (found, after) over =
     inl ((stream.line_of text, lines (below text), n, first_line text v found, header, omega arith), refl)
 
 -- the header announces what a game may have
-pub right_first : (old new : Option (List ℕ)) (v : ℕ) → IfKnown old new (PassesLine header_at (Some v)) → v < MOST_VERTICES → IfKnown old new (BeginsWith v)
+pub right_first : (old new : Option (List ℕ)) (v : ℕ) → IfKnown old new (PassesLine header_at (Some v)) → v < MOST_VERTICES → IfKnown old new (BeginsGame v)
 right_first None new v found within = tt
 right_first (Some text) None v found within = absurd found
 right_first (Some text) (Some left) v (found, after) within =
@@ -76,11 +76,11 @@ right_first (Some text) (Some left) v (found, after) within =
 -- ---- a vertex line
 
 -- no vertex line was found
-pub bad_line : (line : List ℕ) → line_at line ≡ None → (x : Line) → IsLine line x → ⊥
+pub bad_line : (line : List ℕ) → line_at line ≡ None → (x : VertexLine) → IsLine line x → ⊥
 bad_line line none x h = let some = line_finds line x h in cc
 
 -- the line that was next has no such shape
-pub no_shape : (n : ℕ) (before : List Line) (targets : List ℕ) (old new : Option (List ℕ)) → IfKnown old new (PassesVertex targets None)
+pub no_shape : (n : ℕ) (before : List VertexLine) (targets : List ℕ) (old new : Option (List ℕ)) → IfKnown old new (PassesVertex targets None)
     → IfSome old (λ text. LineFault n before (stream.line_of text) BadLine)
 no_shape n before targets None new none = tt
 no_shape n before targets (Some text) None none = absurd none
@@ -114,10 +114,10 @@ far_one n (v ∷ vs) small h =
       | false ↦ λ _ h. let (t, there, far) = far_one n vs small h in (t, inr there, far)
     ] refl h
 
-module _ (n : ℕ) (small : n < MOST_VERTICES) (before : List Line) (places : List (Option ℕ)) (are : ArePlaces n before places) (line : List ℕ) (x : Line)
-    (is : IsLine line x) (a : Line) (same : a ≡ capped_line x) where
+module _ (n : ℕ) (small : n < MOST_VERTICES) (before : List VertexLine) (places : List (Option ℕ)) (are : ArePlaces n before places) (line : List ℕ) (x : VertexLine)
+    (is : IsLine line x) (a : VertexLine) (same : a ≡ capped_line x) where
   id_is : a.id ≡ capped x.id
-  id_is = ap (λ (l : Line). l.id) same
+  id_is = ap (λ (l : VertexLine). l.id) same
 
   new_id : a.id ≤ n → slice_index_or places a.id None ≡ None → IsBadId n before x → ⊥
   new_id low none (inl high) = omega (arith, id_is)
@@ -135,7 +135,7 @@ module _ (n : ℕ) (small : n < MOST_VERTICES) (before : List Line) (places : Li
       ] (are.each a.id low) some
 
   successors_are : a.successors ≡ map capped x.successors
-  successors_are = ap (λ (l : Line). l.successors) same
+  successors_are = ap (λ (l : VertexLine). l.successors) same
 
   some_successor : (a.successors ≡ [] → ⊥) → x.successors ≡ [] → ⊥
   some_successor some e = some (successors_are ∙ ap (map capped) e)
@@ -159,7 +159,7 @@ module _ (n : ℕ) (small : n < MOST_VERTICES) (before : List Line) (places : Li
       let (t, there, high) = far_one n x.successors small (ap (has_far n) (sym successors_are) ∙ far) in
       (x, is, new_id low none, inr (t, Contains-from_Has x.successors t there, high))
   fault_of PriorityTooGreat (low, none, some, near, high) =
-      (x, is, new_id low none, near_successors some near, omega (arith, ap (λ (l : Line). l.priority) same))
+      (x, is, new_id low none, near_successors some near, omega (arith, ap (λ (l : VertexLine). l.priority) same))
   fault_of BadHeader h = absurd h
   fault_of BadLine h = absurd h
   fault_of TooManyVertices h = absurd h
@@ -177,7 +177,7 @@ fault_set n places head numbers set made BadLine h = absurd h
 fault_set n places head numbers set made TooManyVertices h = absurd h
 
 -- what the line says is wrong
-pub faulty : (n : ℕ) (before : List Line) (places : List (Option ℕ)) (head : Head) (targets set : List ℕ) (fault : PgFault) (old new : Option (List ℕ))
+pub faulty : (n : ℕ) (before : List VertexLine) (places : List (Option ℕ)) (head : Head) (targets set : List ℕ) (fault : PgFault) (old new : Option (List ℕ))
     → n < MOST_VERTICES → ArePlaces n before places → IfKnown old new (PassesVertex targets (Some head)) → set ≡ number_set targets
     → IsFaultOfLine n places (line_said head set) fault → IfSome old (λ text. LineFault n before (stream.line_of text) fault)
 faulty n before places head targets set fault None new small are found made wrong = tt
@@ -206,13 +206,13 @@ uncapped : (n : ℕ) (line : List ℕ) (head : Head) (numbers : List ℕ) → n 
     → IsLineWithin n (line_said head numbers) → has_far n numbers ≡ false → IsLine line (line_said head numbers)
 uncapped n line head numbers small found within near =
     let (x, is, e) = line_gives line (line_said head numbers) found in
-    let id : head.id ≡ capped x.id = ap (λ (l : Line). l.id) e in
-    let priority : head.priority ≡ capped x.priority = ap (λ (l : Line). l.priority) e in
-    let successors : numbers ≡ map capped x.successors = ap (λ (l : Line). l.successors) e in
+    let id : head.id ≡ capped x.id = ap (λ (l : VertexLine). l.id) e in
+    let priority : head.priority ≡ capped x.priority = ap (λ (l : VertexLine). l.priority) e in
+    let successors : numbers ≡ map capped x.successors = ap (λ (l : VertexLine). l.successors) e in
     let all = near_same n x.successors small (ap (has_far n) (sym successors) ∙ near) in
     let id_same : x.id ≡ head.id = omega (arith, within.id) in
     let priority_same : x.priority ≡ head.priority = omega (arith, within.priority) in
-    let owner_same : x.owner ≡ head.owner = ap (λ (l : Line). l.owner) (sym e) in
+    let owner_same : x.owner ≡ head.owner = ap (λ (l : VertexLine). l.owner) (sym e) in
     let successors_same : x.successors ≡ numbers = sym all.0 ∙ sym successors in
     let same : x ≡ line_said head numbers = λ i. record { id = id_same i; priority = priority_same i; owner = owner_same i; successors = successors_same i } in
     subst (IsLine line) same is

@@ -5,7 +5,7 @@ use Rattle.std.specs.Prelude.{slice_get, AllPairs}
 use Rattle.std.proofs.lemmas.Bool.{eqb-true, eqb-false}
 use Rattle.std.proofs.lemmas.List.{length-map}
 use Rattle.systems.proofs.Ordered.{Has, Contains-from_Has}
-use Rattle.pgsolver.specs.Spelling.{Line}
+use Rattle.pgsolver.specs.Spelling.{VertexLine}
 
 -- ---- numbers that are all different are no more than there are below a bound
 
@@ -75,26 +75,26 @@ all_there m v xs h below count inside =
 
 -- ---- the identifiers of lines
 
-abbrev pub ids : List Line → List ℕ
+abbrev pub ids : List VertexLine → List ℕ
 ids = map (λ x. x.id)
 
-abbrev pub Differ : List Line → Type 0
+abbrev pub Differ : List VertexLine → Type 0
 Differ spelled = AllPairs (λ x y. x.id ≢ y.id) spelled
 
-pub has_id : (spelled : List Line) (v : ℕ) → Has (ids spelled) v → (x : Line) × Has spelled x × (x.id ≡ v)
+pub has_id : (spelled : List VertexLine) (v : ℕ) → Has (ids spelled) v → (x : VertexLine) × Has spelled x × (x.id ≡ v)
 has_id [] v h = absurd h
 has_id (y ∷ spelled) v (inl e) = (y, inl refl, e)
 has_id (y ∷ spelled) v (inr h) = let (x, k, e) = has_id spelled v h in (x, inr k, e)
 
-pub differ_rest : (x : Line) (spelled : List Line) → Differ (x ∷ spelled) → Differ spelled
+pub differ_rest : (x : VertexLine) (spelled : List VertexLine) → Differ (x ∷ spelled) → Differ spelled
 differ_rest x spelled h = λ i j d less below. h (suc i) (suc j) d (omega arith) (omega arith)
 
-pub differ_first : (x y : Line) (spelled : List Line) → Differ (x ∷ spelled) → Has spelled y → x.id ≡ y.id → ⊥
+pub differ_first : (x y : VertexLine) (spelled : List VertexLine) → Differ (x ∷ spelled) → Has spelled y → x.id ≡ y.id → ⊥
 differ_first x y spelled h there same =
     let (k, below, at) = Contains-from_Has spelled y there in
-    h 0 (suc k) y (omega arith) (omega arith) (same ∙ ap (λ (l : Line). l.id) (sym at))
+    h 0 (suc k) y (omega arith) (omega arith) (same ∙ ap (λ (l : VertexLine). l.id) (sym at))
 
-apart_ids : (spelled : List Line) → Differ spelled → AreApart (ids spelled)
+apart_ids : (spelled : List VertexLine) → Differ spelled → AreApart (ids spelled)
 apart_ids [] h = tt
 apart_ids (x ∷ spelled) h = (
   λ k. let (y, there, same) = has_id spelled x.id k in differ_first x y spelled h there (sym same),
@@ -102,29 +102,29 @@ apart_ids (x ∷ spelled) h = (
 )
 
 -- one line for each identifier
-pub one_line : (spelled : List Line) (x y : Line) → Differ spelled → Has spelled x → Has spelled y → x.id ≡ y.id → x ≡ y
+pub one_line : (spelled : List VertexLine) (x y : VertexLine) → Differ spelled → Has spelled x → Has spelled y → x.id ≡ y.id → x ≡ y
 one_line [] x y h p q same = absurd p
 one_line (z ∷ spelled) x y h (inl e) (inl f) same = sym e ∙ f
-one_line (z ∷ spelled) x y h (inl e) (inr q) same = absurd (differ_first z y spelled h q (ap (λ (l : Line). l.id) e ∙ same))
-one_line (z ∷ spelled) x y h (inr p) (inl f) same = absurd (differ_first z x spelled h p (ap (λ (l : Line). l.id) f ∙ sym same))
+one_line (z ∷ spelled) x y h (inl e) (inr q) same = absurd (differ_first z y spelled h q (ap (λ (l : VertexLine). l.id) e ∙ same))
+one_line (z ∷ spelled) x y h (inr p) (inl f) same = absurd (differ_first z x spelled h p (ap (λ (l : VertexLine). l.id) f ∙ sym same))
 one_line (z ∷ spelled) x y h (inr p) (inr q) same = one_line spelled x y (differ_rest z spelled h) p q same
 
-below_from : (n : ℕ) (spelled : List Line) → ((x : Line) → Has spelled x → x.id ≤ n) → (z : ℕ) → Has (ids spelled) z → z < n + 1
+below_from : (n : ℕ) (spelled : List VertexLine) → ((x : VertexLine) → Has spelled x → x.id ≤ n) → (z : ℕ) → Has (ids spelled) z → z < n + 1
 below_from n spelled within z h = let (x, there, is) = has_id spelled z h in omega (arith, within x there, is)
 
 -- lines with different identifiers up to n are no more than n + 1
-pub few_lines : (n : ℕ) (spelled : List Line) → Differ spelled → ((x : Line) → Has spelled x → x.id ≤ n) → length spelled ≤ n + 1
+pub few_lines : (n : ℕ) (spelled : List VertexLine) → Differ spelled → ((x : VertexLine) → Has spelled x → x.id ≤ n) → length spelled ≤ n + 1
 few_lines n spelled h within = omega (
   arith,
-  length-map spelled (λ (x : Line). x.id),
+  length-map spelled (λ (x : VertexLine). x.id),
   few_apart (n + 1) (ids spelled) (apart_ids spelled h) (below_from n spelled within),
 )
 
 -- where there are so many, each identifier has a line
-pub each_there : (n v : ℕ) (spelled : List Line) → Differ spelled → ((x : Line) → Has spelled x → x.id ≤ n) → length spelled ≡ n + 1 → v ≤ n → (x : Line)
+pub each_there : (n v : ℕ) (spelled : List VertexLine) → Differ spelled → ((x : VertexLine) → Has spelled x → x.id ≤ n) → length spelled ≡ n + 1 → v ≤ n → (x : VertexLine)
     × Has spelled x × (x.id ≡ v)
 each_there n v spelled h within count inside =
-    has_id spelled v (all_there (n + 1) v (ids spelled) (apart_ids spelled h) (below_from n spelled within) (length-map spelled (λ (x : Line). x.id) ∙ count)
+    has_id spelled v (all_there (n + 1) v (ids spelled) (apart_ids spelled h) (below_from n spelled within) (length-map spelled (λ (x : VertexLine). x.id) ∙ count)
     (omega arith))
 
 -- ---- an element by its place

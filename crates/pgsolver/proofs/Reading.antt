@@ -22,31 +22,31 @@ use Rattle.pgsolver.specs.declared.error.PgFault.TheVariants.{BadLine, BadIdenti
 use Rattle.pgsolver.specs.declared.error.PgError.{PgError}
 use Rattle.pgsolver.specs.declared.error.PgError.TheVariants.{Fault, Read, Memory}
 use Rattle.pgsolver.specs.declared.scan.Head.{Head}
-use Rattle.pgsolver.specs.Spelling.{Line, IsLine, IsLineWithin, AreGoodLines, vertex_said}
+use Rattle.pgsolver.specs.Spelling.{VertexLine, IsLine, IsLineWithin, AreGoodLines, vertex_said}
 use Rattle.pgsolver.specs.Fault.{LineFault}
 use Rattle.pgsolver.specs.Scan.{line_said}
 use Rattle.pgsolver.specs.Passes.{PassesVertex}
-use Rattle.pgsolver.specs.Left.{HasRestFault, BeginsWithLines, TakesRow, IsPlace, ArePlaces, SoFar, AreAll, AreFilled, Says, TellsFault, Refuses}
+use Rattle.pgsolver.specs.Left.{HasRestFault, BeginsWithLines, TakesRow, IsPlace, ArePlaces, LinesSoFar, AreAll, AreFilled, Says, TellsFault, Refuses}
 use Rattle.pgsolver.proofs.Scanning.{line_gives}
 use Rattle.pgsolver.proofs.Judging.{no_shape}
 use Rattle.pgsolver.proofs.Placing.{has_at, has_end, at_left, at_end, each_there}
 use Rattle.pgsolver.proofs.Sets.{set_up, set_all, set_some, up_few, ascending_up}
 
-zip_more : (done : List (List ℕ)) (spelled : List Line) (line : List ℕ) (x : Line) → AllZip IsLine done spelled → IsLine line x
+zip_more : (done : List (List ℕ)) (spelled : List VertexLine) (line : List ℕ) (x : VertexLine) → AllZip IsLine done spelled → IsLine line x
     → AllZip IsLine (done ++ line ∷ []) (spelled ++ x ∷ [])
 zip_more [] [] line x each one = (one, tt)
 zip_more [] (y ∷ spelled) line x each one = absurd each
 zip_more (l ∷ done) [] line x each one = absurd each
 zip_more (l ∷ done) (y ∷ spelled) line x each one = (each.0, zip_more done spelled line x each.1 one)
 
-pub zip_length : (done : List (List ℕ)) (spelled : List Line) → AllZip IsLine done spelled → length spelled ≡ length done
+pub zip_length : (done : List (List ℕ)) (spelled : List VertexLine) → AllZip IsLine done spelled → length spelled ≡ length done
 zip_length [] [] each = refl
 zip_length [] (y ∷ spelled) each = absurd each
 zip_length (l ∷ done) [] each = absurd each
 zip_length (l ∷ done) (y ∷ spelled) each = omega (arith, zip_length done spelled each.1)
 
 -- the lines of a text begin with the one that is next
-cut_more : (old a mid new : Option (List ℕ)) (spelled : List Line) (x : Line) → IfKnown old a (BeginsWithLines spelled) → HasLine a mid true
+cut_more : (old a mid new : Option (List ℕ)) (spelled : List VertexLine) (x : VertexLine) → IfKnown old a (BeginsWithLines spelled) → HasLine a mid true
     → IfKnown mid new (TakesRow x) → IfKnown old new (BeginsWithLines (spelled ++ x ∷ []))
 cut_more None a mid new spelled x cut has taken = tt
 cut_more (Some text) None mid new spelled x cut has taken = absurd cut
@@ -62,7 +62,7 @@ cut_more (Some text) (Some left) (Some same) (Some rest) spelled x (done, cut, e
 -- ---- no line yet
 
 pub nothing_yet : (n : ℕ) (old : Option (List ℕ)) (vertices : List Vertex) (places : List (Option ℕ)) → vertices ≡ [] → length places ≡ n + 1
-    → ((v : ℕ) → slice_index_or places v None ≡ None) → SoFar n 0 old old vertices places
+    → ((v : ℕ) → slice_index_or places v None ≡ None) → LinesSoFar n 0 old old vertices places
 nothing_yet n old vertices places none count empty = record {
   spelled = [];
   within = tt;
@@ -79,21 +79,21 @@ nothing_yet n old vertices places none count empty = record {
 
 -- ---- one more line
 
-place_more : (spelled : List Line) (x : Line) (v : ℕ) (o : Option ℕ) → IsPlace spelled v o → (x.id ≡ v → ⊥) → IsPlace (spelled ++ x ∷ []) v o
+place_more : (spelled : List VertexLine) (x : VertexLine) (v : ℕ) (o : Option ℕ) → IsPlace spelled v o → (x.id ≡ v → ⊥) → IsPlace (spelled ++ x ∷ []) v o
 place_more spelled x v None none other = λ y there same.
     elim (has_end spelled x y (Has-from_Contains (spelled ++ x ∷ []) y there))
-    [ inl h ↦ none y (Contains-from_Has spelled y h) same | inr e ↦ other (ap (λ (l : Line). l.id) e ∙ same) ]
+    [ inl h ↦ none y (Contains-from_Has spelled y h) same | inr e ↦ other (ap (λ (l : VertexLine). l.id) e ∙ same) ]
 place_more spelled x v (Some k) (y, at, same) other = (y, at_left spelled x y k at, same)
 
 -- the identifier is that of no line before
-no_line_before : (spelled : List Line) (x : Line) (o : Option ℕ) → o ≡ None → IsPlace spelled x.id o → (k : ℕ) (d : Line) → k < length spelled
+no_line_before : (spelled : List VertexLine) (x : VertexLine) (o : Option ℕ) → o ≡ None → IsPlace spelled x.id o → (k : ℕ) (d : VertexLine) → k < length spelled
     → (get_or spelled k d).id ≢ x.id
 no_line_before spelled x o none at k d below same =
     let empty : IsPlace spelled x.id None = subst (IsPlace spelled x.id) none at in
     empty (get_or spelled k d) (Contains-from_Has spelled (get_or spelled k d)
     (has_at spelled k (get_or spelled k d) (slice_get-get_or spelled k d below))) same
 
-places_more : (n good : ℕ) (spelled : List Line) (places new : List (Option ℕ)) (x : Line) (id : ℕ) → ArePlaces n spelled places → length spelled ≡ good
+places_more : (n good : ℕ) (spelled : List VertexLine) (places new : List (Option ℕ)) (x : VertexLine) (id : ℕ) → ArePlaces n spelled places → length spelled ≡ good
     → id ≡ x.id → x.id ≤ n → new ≡ slice_set places id (Some good) → ArePlaces n (spelled ++ x ∷ []) new
 places_more n good spelled places new x id are count same low made = record {
   count = ap length made ∙ length-set places id (Some good) ∙ are.count;
@@ -116,9 +116,9 @@ places_more n good spelled places new x id are count same low made = record {
 }
 
 pub row_more : (n good : ℕ) (old a mid new : Option (List ℕ)) (vertices vertices' : List Vertex) (places places' : List (Option ℕ))
-    (head : Head) (targets : List ℕ) → SoFar n good old a vertices places → HasLine a mid true
+    (head : Head) (targets : List ℕ) → LinesSoFar n good old a vertices places → HasLine a mid true
     → Says n places mid new head targets → vertices' ≡ vertices ++ record { owner = head.owner; priority = head.priority; successors = targets } ∷ []
-    → places' ≡ slice_set places head.id (Some good) → SoFar n (good + 1) old new vertices' places'
+    → places' ≡ slice_set places head.id (Some good) → LinesSoFar n (good + 1) old new vertices' places'
 row_more n good old a mid new vertices vertices' places places' head targets so has says added put =
     let x = line_said head says.successors in
     let made : record { owner = head.owner; priority = head.priority; successors = targets }
@@ -148,13 +148,13 @@ few_targets n places old new head targets small says =
 -- ---- a fault
 
 -- the good lines so far, and those that follow
-record Front (n good : ℕ) (text left : List ℕ) (spelled : List Line) : Type 0 where
+record Front (n good : ℕ) (text left : List ℕ) (spelled : List VertexLine) : Type 0 where
   done : List (List ℕ)
   cut : lines text ≡ done ++ lines left
   goods : AreGoodLines n done spelled
   count : length done ≡ good
 
-front_of : (n good : ℕ) (text left : List ℕ) (vertices : List Vertex) (places : List (Option ℕ)) (so : SoFar n good (Some text) (Some left) vertices places)
+front_of : (n good : ℕ) (text left : List ℕ) (vertices : List Vertex) (places : List (Option ℕ)) (so : LinesSoFar n good (Some text) (Some left) vertices places)
     → Front n good text left so.spelled
 front_of n good text left vertices places so =
     let (done, cut, each) = so.cut in
@@ -162,7 +162,7 @@ front_of n good text left vertices places so =
 
 -- the lines end too soon
 pub too_few : (n good p : ℕ) → p ≡ good → (old mid new : Option (List ℕ)) (vertices : List Vertex) (places : List (Option ℕ))
-    → SoFar n good old mid vertices places → HasLine mid new false → good ≤ n → IfSome old (λ text. HasRestFault n text BadIdentifier (p + 2))
+    → LinesSoFar n good old mid vertices places → HasLine mid new false → good ≤ n → IfSome old (λ text. HasRestFault n text BadIdentifier (p + 2))
 too_few n good p at None mid new vertices places so none few = tt
 too_few n good p at (Some text) None new vertices places so none few = absurd so.cut
 too_few n good p at (Some text) (Some left) None vertices places so none few = absurd none
@@ -181,7 +181,7 @@ too_few n good p at (Some text) (Some left) (Some rest) vertices places so none 
       ap (λ k. k + 2) at,
     )
 
-bad_text : (n good p : ℕ) → p ≡ good + 2 → (text left line : List ℕ) (rest : List (List ℕ)) (spelled : List Line) (fault : PgFault)
+bad_text : (n good p : ℕ) → p ≡ good + 2 → (text left line : List ℕ) (rest : List (List ℕ)) (spelled : List VertexLine) (fault : PgFault)
     → Front n good text left spelled → lines left ≡ line ∷ rest → LineFault n spelled line fault → HasRestFault n text fault p
 bad_text n good p at text left line rest spelled BadIdentifier front more wrong = (
   good,
@@ -214,8 +214,8 @@ bad_text n good p at text left line rest spelled _ front more wrong = (
 
 -- the line is faulty
 pub bad_row : (n good p : ℕ) → p ≡ good + 2 → (old a mid : Option (List ℕ)) (vertices : List Vertex) (places : List (Option ℕ))
-    (e : PgError) → SoFar n good old a vertices places → HasLine a mid true
-    → ((before : List Line) → ArePlaces n before places → TellsFault n before mid p e) → Refuses old (HasRestFault n) e
+    (e : PgError) → LinesSoFar n good old a vertices places → HasLine a mid true
+    → ((before : List VertexLine) → ArePlaces n before places → TellsFault n before mid p e) → Refuses old (HasRestFault n) e
 bad_row n good p at None a mid vertices places e so more tells = tt
 bad_row n good p at (Some text) None mid vertices places e so more tells = absurd so.cut
 bad_row n good p at (Some text) (Some left) None vertices places e so more tells = absurd more
@@ -226,12 +226,12 @@ bad_row n good p at (Some text) (Some left) (Some same) vertices places (Fault f
     bad_text n good l (here ∙ at) text left (stream.line_of left) (lines (below left)) so.spelled fault (front_of n good text left vertices places so) more
     (subst (λ t. LineFault n so.spelled (stream.line_of t) fault) kept wrong)
 
-within_id : (n : ℕ) (spelled : List Line) → AllByRecursion (IsLineWithin n) spelled → (x : Line) → Has spelled x → x.id ≤ n
+within_id : (n : ℕ) (spelled : List VertexLine) → AllByRecursion (IsLineWithin n) spelled → (x : VertexLine) → Has spelled x → x.id ≤ n
 within_id n spelled within x there = (all_has (IsLineWithin n) spelled x within there).id
 
 -- a line after as many as were announced
-past_shape : (n : ℕ) (old now : Option (List ℕ)) (vertices : List Vertex) (places : List (Option ℕ)) (line : List ℕ) (x : Line)
-    → (so : SoFar n (n + 1) old now vertices places) → IsLine line x → LineFault n so.spelled line BadIdentifier
+past_shape : (n : ℕ) (old now : Option (List ℕ)) (vertices : List Vertex) (places : List (Option ℕ)) (line : List ℕ) (x : VertexLine)
+    → (so : LinesSoFar n (n + 1) old now vertices places) → IsLine line x → LineFault n so.spelled line BadIdentifier
 past_shape n old now vertices places line x so is =
     elim (cases_lt n x.id) [
       | inl high ↦ (x, is, inl high)
@@ -241,8 +241,8 @@ past_shape n old now vertices places line x so is =
     ]
 
 past_end : (n p : ℕ) → p ≡ n + 3 → (old a mid : Option (List ℕ)) (vertices : List Vertex) (places : List (Option ℕ)) (fault : PgFault)
-    → SoFar n (n + 1) old a vertices places → HasLine a mid true
-    → ((so : SoFar n (n + 1) old a vertices places) → IfSome mid (λ text. LineFault n so.spelled (stream.line_of text) fault))
+    → LinesSoFar n (n + 1) old a vertices places → HasLine a mid true
+    → ((so : LinesSoFar n (n + 1) old a vertices places) → IfSome mid (λ text. LineFault n so.spelled (stream.line_of text) fault))
     → IfSome old (λ text. HasRestFault n text fault p)
 past_end n p at None a mid vertices places fault so more wrong = tt
 past_end n p at (Some text) None mid vertices places fault so more wrong = absurd so.cut
@@ -252,14 +252,14 @@ past_end n p at (Some text) (Some left) (Some same) vertices places fault so (ke
     (subst (λ t. LineFault n so.spelled (stream.line_of t) fault) kept (wrong so))
 
 pub past_bad : (n p : ℕ) → p ≡ n + 3 → (old a mid new : Option (List ℕ)) (vertices : List Vertex) (places : List (Option ℕ)) (targets : List ℕ)
-    → SoFar n (n + 1) old a vertices places → HasLine a mid true → IfKnown mid new (PassesVertex targets None)
+    → LinesSoFar n (n + 1) old a vertices places → HasLine a mid true → IfKnown mid new (PassesVertex targets None)
     → IfSome old (λ text. HasRestFault n text BadLine p)
 past_bad n p at old a mid new vertices places targets so more none =
     past_end n p at old a mid vertices places BadLine so more (λ so. no_shape n so.spelled targets mid new none)
 
 -- a vertex line is one too many
 one_more : (n : ℕ) (old a : Option (List ℕ)) (vertices : List Vertex) (places : List (Option ℕ)) (head : Head) (targets : List ℕ) (mid new : Option (List ℕ))
-    → IfKnown mid new (PassesVertex targets (Some head)) → (so : SoFar n (n + 1) old a vertices places)
+    → IfKnown mid new (PassesVertex targets (Some head)) → (so : LinesSoFar n (n + 1) old a vertices places)
     → IfSome mid (λ text. LineFault n so.spelled (stream.line_of text) BadIdentifier)
 one_more n old a vertices places head targets None new found so = tt
 one_more n old a vertices places head targets (Some text) None found so = absurd found
@@ -268,7 +268,7 @@ one_more n old a vertices places head targets (Some text) (Some left) (numbers, 
     past_shape n old a vertices places (stream.line_of text) x so is
 
 pub past_all : (n p : ℕ) → p ≡ n + 3 → (old a mid new : Option (List ℕ)) (vertices : List Vertex) (places : List (Option ℕ)) (head : Head)
-    (targets : List ℕ) → SoFar n (n + 1) old a vertices places → HasLine a mid true → IfKnown mid new (PassesVertex targets (Some head))
+    (targets : List ℕ) → LinesSoFar n (n + 1) old a vertices places → HasLine a mid true → IfKnown mid new (PassesVertex targets (Some head))
     → IfSome old (λ text. HasRestFault n text BadIdentifier p)
 past_all n p at old a mid new vertices places head targets so more found =
     past_end n p at old a mid vertices places BadIdentifier so more (one_more n old a vertices places head targets mid new found)
@@ -276,7 +276,7 @@ past_all n p at old a mid new vertices places head targets so more found =
 -- ---- all lines
 
 pub all_rows : (n good : ℕ) → good ≡ n + 1 → (old mid new : Option (List ℕ)) (vertices : List Vertex) (places : List (Option ℕ))
-    → SoFar n good old mid vertices places → IfKnown mid new HasNoLine → IfKnown old new (AreAll n vertices places)
+    → LinesSoFar n good old mid vertices places → IfKnown mid new HasNoLine → IfKnown old new (AreAll n vertices places)
 all_rows n good all None mid new vertices places so none = tt
 all_rows n good all (Some text) None new vertices places so none = absurd so.cut
 all_rows n good all (Some text) (Some left) None vertices places so none = absurd none
@@ -291,11 +291,11 @@ all_rows n good all (Some text) (Some left) (Some rest) vertices places so none 
       placed = so.placed;
     }
 
-pub row_count : (n good : ℕ) (old now : Option (List ℕ)) (vertices : List Vertex) (places : List (Option ℕ)) → SoFar n good old now vertices places
+pub row_count : (n good : ℕ) (old now : Option (List ℕ)) (vertices : List Vertex) (places : List (Option ℕ)) → LinesSoFar n good old now vertices places
     → length vertices ≡ good
 row_count n good old now vertices places so = ap length so.kept ∙ length-map so.spelled vertex_said ∙ so.count
 
-fit : (n m : ℕ) (x : Line) → m ≡ n + 1 → IsLineWithin n x → IsVertex m (vertex_said x)
+fit : (n m : ℕ) (x : VertexLine) → m ≡ n + 1 → IsLineWithin n x → IsVertex m (vertex_said x)
 fit n m x is h = record {
   priority = omega (arith, h.priority);
   some = some x.successors h.some;
@@ -311,13 +311,13 @@ fit n m x is h = record {
     all_less [] h = tt
     all_less (t ∷ ts) h = (omega (arith, h.0, is), all_less ts h.1)
 
-fits : (n m : ℕ) (spelled : List Line) → m ≡ n + 1 → AllByRecursion (IsLineWithin n) spelled → AllByRecursion (IsVertex m) (map vertex_said spelled)
+fits : (n m : ℕ) (spelled : List VertexLine) → m ≡ n + 1 → AllByRecursion (IsLineWithin n) spelled → AllByRecursion (IsVertex m) (map vertex_said spelled)
 fits n m [] is h = tt
 fits n m (x ∷ spelled) is h = (fit n m x is h.0, fits n m spelled is h.1)
 
 -- the vertices make a game, in whatever order they stand
 pub read_game_is : (n good : ℕ) → good ≡ n + 1 → n < MOST_VERTICES → (old now : Option (List ℕ)) (vertices : List Vertex) (places : List (Option ℕ))
-    → SoFar n good old now vertices places → IsGame (record { vertices = vertices; named = None })
+    → LinesSoFar n good old now vertices places → IsGame (record { vertices = vertices; named = None })
 read_game_is n good all small old now vertices places so =
     let count = row_count n good old now vertices places so in
     record {
@@ -329,7 +329,7 @@ read_game_is n good all small old now vertices places so =
 
 -- each identifier has its line
 pub all_filled : (n good : ℕ) → good ≡ n + 1 → (old now : Option (List ℕ)) (vertices : List Vertex) (places : List (Option ℕ))
-    → SoFar n good old now vertices places → AreFilled (length vertices) places
+    → LinesSoFar n good old now vertices places → AreFilled (length vertices) places
 all_filled n good all old now vertices places so v below =
     let count : length so.spelled ≡ n + 1 = so.count ∙ all in
     let low : v ≤ n = omega (arith, so.placed.count) in

@@ -17,7 +17,7 @@ use Rattle.game.specs.declared.player.Player.{Player}
 use Rattle.game.specs.declared.player.Player.TheVariants.{Even, Odd}
 use Rattle.pgsolver.specs.declared.scan.Head.{Head}
 use Rattle.pgsolver.specs.Canon.{owner_digit}
-use Rattle.pgsolver.specs.Spelling.{Line, IsHeader, IsOneBlank, IsLine, IsName, is_vertex_name, name_tokens, successor_tokens, with_commas}
+use Rattle.pgsolver.specs.Spelling.{VertexLine, IsHeader, IsOneBlank, IsLine, IsName, is_vertex_name, name_tokens, successor_tokens, with_commas}
 use Rattle.pgsolver.specs.Scan.{capped_line, line_said, header_at, gap_at, number_gap, owner_at, head_at, first_at, more_at, more_behind, targets_at}
 use Rattle.pgsolver.specs.Scan.{targets_behind, name_at, name_behind, tail_at, line_at}
 
@@ -429,7 +429,7 @@ tail_finds name line is spaced =
 -- ---- the line
 
 -- what is found is a vertex line
-pub line_gives : (line : List ℕ) (a : Line) → line_at line ≡ Some a → (x : Line) × IsLine line x × (a ≡ capped_line x)
+pub line_gives : (line : List ℕ) (a : VertexLine) → line_at line ≡ Some a → (x : VertexLine) × IsLine line x × (a ≡ capped_line x)
 unfolding line_at
 line_gives line a e =
     let (head, s1, e1) = bind_some (head_at line) (λ head. targets_at head.1 >>= λ targets. tail_at targets.1 >>= λ end. Some (line_said head.0 targets.0)) a e in
@@ -465,7 +465,7 @@ after_owner gap [] tail parts h = (h.c, h.cs, h.ts, h.no_digit, h.is)
 after_owner gap (x ∷ xs) tail (b, blank, is) h = (b, [], x ∷ with_commas xs ++ tail, blank_no_digit b blank, ap (λ g. g ∷ x ∷ with_commas xs ++ tail) is)
 
 -- a vertex line is found
-pub line_finds : (line : List ℕ) (x : Line) → IsLine line x → line_at line ≡ Some (capped_line x)
+pub line_finds : (line : List ℕ) (x : VertexLine) → IsLine line x → line_at line ≡ Some (capped_line x)
 unfolding line_at
 line_finds line x h =
     let tail = tail_tokens h.name in

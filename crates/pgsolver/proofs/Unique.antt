@@ -11,7 +11,7 @@ use Rattle.systems.proofs.Ordered.{Has, Contains-from_Has, all_has}
 use Rattle.game.specs.declared.player.Player.TheVariants.{Even}
 use Rattle.game.specs.declared.limits.TheConstants.{MOST_VERTICES}
 use Rattle.game.specs.Game.{Vertex, Game}
-use Rattle.pgsolver.specs.Spelling.{Line, IsHeader, IsLine, IsLineWithin, IsGameText, vertex_said}
+use Rattle.pgsolver.specs.Spelling.{VertexLine, IsHeader, IsLine, IsLineWithin, IsGameText, vertex_said}
 use Rattle.pgsolver.specs.Scan.{capped_line}
 use Rattle.pgsolver.proofs.Scanning.{header_finds, line_finds}
 use Rattle.pgsolver.proofs.Placing.{each_there}
@@ -25,7 +25,7 @@ pub header_same : (line : List ℕ) (m n : ℕ) → IsHeader line m → IsHeader
 header_same line m n h k = some_line (capped m) (capped n) (sym (header_finds line m h) ∙ header_finds line n k)
 
 -- and two readings of one line
-pub read_alike : (line : List ℕ) (x y : Line) → IsLine line x → IsLine line y → capped_line x ≡ capped_line y
+pub read_alike : (line : List ℕ) (x y : VertexLine) → IsLine line x → IsLine line y → capped_line x ≡ capped_line y
 read_alike line x y h k = some_line (capped_line x) (capped_line y) (sym (line_finds line x h) ∙ line_finds line y k)
 
 small_numbers : (n : ℕ) (xs ys : List ℕ) → n < MOST_VERTICES → AllByRecursion (λ t. t ≤ n) xs → map capped xs ≡ map capped ys → ys ≡ xs
@@ -40,18 +40,18 @@ small_numbers n (x ∷ xs) (y ∷ ys) small all e =
     λ i. same i ∷ more i
 
 -- a line within the limits is read in one way
-pub line_same : (n : ℕ) (line : List ℕ) (x y : Line) → n < MOST_VERTICES → IsLineWithin n x → IsLine line x → IsLine line y → y ≡ x
+pub line_same : (n : ℕ) (line : List ℕ) (x y : VertexLine) → n < MOST_VERTICES → IsLineWithin n x → IsLine line x → IsLine line y → y ≡ x
 line_same n line x y small within h k =
     let e = read_alike line x y h k in
-    let id : capped x.id ≡ capped y.id = ap (λ (l : Line). l.id) e in
-    let priority : capped x.priority ≡ capped y.priority = ap (λ (l : Line). l.priority) e in
-    let owner : x.owner ≡ y.owner = ap (λ (l : Line). l.owner) e in
+    let id : capped x.id ≡ capped y.id = ap (λ (l : VertexLine). l.id) e in
+    let priority : capped x.priority ≡ capped y.priority = ap (λ (l : VertexLine). l.priority) e in
+    let owner : x.owner ≡ y.owner = ap (λ (l : VertexLine). l.owner) e in
     let same_id : y.id ≡ x.id = omega (arith, within.id) in
     let same_priority : y.priority ≡ x.priority = omega (arith, within.priority) in
-    let same_successors : y.successors ≡ x.successors = small_numbers n x.successors y.successors small within.successors (ap (λ (l : Line). l.successors) e) in
+    let same_successors : y.successors ≡ x.successors = small_numbers n x.successors y.successors small within.successors (ap (λ (l : VertexLine). l.successors) e) in
     λ i. record { id = same_id i; priority = same_priority i; owner = sym owner i; successors = same_successors i }
 
-pub lines_are : (n : ℕ) (rest : List (List ℕ)) (xs ys : List Line) → n < MOST_VERTICES → AllByRecursion (IsLineWithin n) xs → AllZip IsLine rest xs
+pub lines_are : (n : ℕ) (rest : List (List ℕ)) (xs ys : List VertexLine) → n < MOST_VERTICES → AllByRecursion (IsLineWithin n) xs → AllZip IsLine rest xs
     → AllZip IsLine rest ys → ys ≡ xs
 lines_are n [] [] [] small within h k = refl
 lines_are n [] [] (y ∷ ys) small within h k = absurd k

@@ -19,7 +19,7 @@ use Rattle.game.specs.declared.player.Player.TheVariants.{Even, Odd}
 use Rattle.pgsolver.specs.declared.limits.TheConstants.{LONGEST_NAME}
 use Rattle.pgsolver.specs.declared.scan.Head.{Head}
 use Rattle.pgsolver.specs.Canon.{owner_digit}
-use Rattle.pgsolver.specs.Spelling.{Line, IsName, name_tokens, with_commas}
+use Rattle.pgsolver.specs.Spelling.{VertexLine, IsName, name_tokens, with_commas}
 use Rattle.pgsolver.specs.Scan.{line_said}
 use Rattle.pgsolver.specs.Plain.{IsNumeralOf, IsHeadThen, AddsCommas, IsTailThen, IsLineThen, commas, name_then}
 use Rattle.pgsolver.proofs.Scanning.{line_finds}
@@ -156,7 +156,7 @@ line_is head t all block r1 r2 r3 left h first more end =
     let whole : Here (h.i ∷ blank ∷ h.p ∷ blank ∷ ts) block left = subst (λ l. Here (h.i ∷ blank ∷ h.p ∷ blank ∷ ts) l left) (sym h.cut) named in
     let (line, spaced, inside, cut) = whole in
     let are = numerals_are (first.digits ∷ more.digits) (t ∷ more.numbers) ((first.numeral, first.is), more.are) in
-    let says : Line = record { id = value_of h.i; priority = value_of h.p; owner = head.owner; successors = map value_of (first.digits ∷ more.digits) } in
+    let says : VertexLine = record { id = value_of h.i; priority = value_of h.p; owner = head.owner; successors = map value_of (first.digits ∷ more.digits) } in
     let found = line_finds line says (record {
       i = h.i;
       p = h.p;

@@ -11,16 +11,16 @@ use Rattle.game.specs.declared.limits.TheConstants.{MOST_VERTICES}
 use Rattle.game.specs.Game.{Vertex, Game}
 use Rattle.pgsolver.specs.declared.error.PgError.{PgError}
 use Rattle.pgsolver.specs.declared.error.PgError.TheVariants as errors
-use Rattle.pgsolver.specs.Spelling.{Line, IsLineWithin, IsGameText, vertex_said}
+use Rattle.pgsolver.specs.Spelling.{VertexLine, IsLineWithin, IsGameText, vertex_said}
 use Rattle.pgsolver.specs.Fault.{HasFault, HasFaultAt}
-use Rattle.pgsolver.specs.Left.{BeginsWith, IsPlace, AreAll, ArePutByIds, HasRestFault, Refuses, named}
+use Rattle.pgsolver.specs.Left.{BeginsGame, IsPlace, AreAll, ArePutByIds, HasRestFault, Refuses, named}
 use Rattle.pgsolver.proofs.Placing.{has_at, one_line}
 use Rattle.pgsolver.proofs.Unique as unique
 use Rattle.pgsolver.proofs.Faults.{no_fault, one_fault}
 
 -- the line's vertex was put at its identifier
 placed : (n : ℕ) (vertices put : List Vertex) (places : List (Option ℕ)) (text left : List ℕ) → (all : AreAll n vertices places text left)
-    → ArePutByIds places vertices put → (x : Line) → Contains all.spelled x → slice_get put x.id ≡ Some (vertex_said x)
+    → ArePutByIds places vertices put → (x : VertexLine) → Contains all.spelled x → slice_get put x.id ≡ Some (vertex_said x)
 placed n vertices put places text left all are x there =
     let here = Has-from_Contains all.spelled x there in
     let low = (all_has (IsLineWithin n) all.spelled x all.good_lines.within here).id in
@@ -36,7 +36,7 @@ placed n vertices put places text left all are x there =
 
 -- what was read is spelled
 pub read_whole : (old mid new : Option (List ℕ)) (n : ℕ) (vertices : List Vertex) (places : List (Option ℕ)) (g : Game) → n < MOST_VERTICES
-    → IfKnown old mid (BeginsWith n) → IfKnown mid new (AreAll n vertices places) → length vertices ≡ length places
+    → IfKnown old mid (BeginsGame n) → IfKnown mid new (AreAll n vertices places) → length vertices ≡ length places
     → length g.vertices ≡ length vertices → ArePutByIds places vertices g.vertices → g.named ≡ None → IfSome old (λ text. IsGameText text g)
 read_whole None mid new n vertices places g small begins all many size put unnamed = tt
 read_whole (Some text) None new n vertices places g small begins all many size put unnamed = absurd begins
@@ -57,7 +57,7 @@ read_whole (Some text) (Some left) (Some rest) n vertices places g small begins 
 }
 
 -- a fault below the header decides
-pub read_fault : (old mid : Option (List ℕ)) (n : ℕ) (e : PgError) → n < MOST_VERTICES → IfKnown old mid (BeginsWith n) → Refuses mid (HasRestFault n) e
+pub read_fault : (old mid : Option (List ℕ)) (n : ℕ) (e : PgError) → n < MOST_VERTICES → IfKnown old mid (BeginsGame n) → Refuses mid (HasRestFault n) e
     → Refuses old HasFault e
 read_fault None mid n e small begins wrong = tt
 read_fault (Some text) None n e small begins wrong = absurd begins

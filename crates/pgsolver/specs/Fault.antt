@@ -3,7 +3,7 @@ use Rattle.std.specs.Prelude.{◌≡◌, ℕ, ◌+◌, ◌<◌, ◌≤◌, ◌�
 use Rattle.text.specs.Text.{lines}
 use Rattle.normal.specs.declared.limits.TheConstants.{GREATEST_PRIORITY}
 use Rattle.game.specs.declared.limits.TheConstants.{MOST_VERTICES}
-use Rattle.pgsolver.specs.Spelling.{Line, IsHeader, IsLine, AreGoodLines}
+use Rattle.pgsolver.specs.Spelling.{VertexLine, IsHeader, IsLine, AreGoodLines}
 use Rattle.pgsolver.specs.declared.error.PgFault.{PgFault}
 use Rattle.pgsolver.specs.declared.error.PgFault.TheVariants.{BadHeader, BadLine, BadIdentifier, BadSuccessor, PriorityTooGreat, TooManyVertices}
 
@@ -14,19 +14,19 @@ HeaderFault all TooManyVertices = (first : List ℕ) × (rest : List (List ℕ))
 HeaderFault all _ = ⊥
 
 -- the identifier is above the greatest, or stands on a line before
-abbrev pub IsBadId : ℕ → List Line → Line → Type 0
-IsBadId n before x = (n < x.id) ⊎ ((y : Line) × Contains before y × (y.id ≡ x.id))
+abbrev pub IsBadId : ℕ → List VertexLine → VertexLine → Type 0
+IsBadId n before x = (n < x.id) ⊎ ((y : VertexLine) × Contains before y × (y.id ≡ x.id))
 
 -- there is no successor, or one is above the greatest identifier
-abbrev pub HasBadSuccessor : ℕ → Line → Type 0
+abbrev pub HasBadSuccessor : ℕ → VertexLine → Type 0
 HasBadSuccessor n x = (x.successors ≡ []) ⊎ ((t : ℕ) × Contains x.successors t × (n < t))
 
 -- What is wrong with a line, after lines that say these. Shape decides first, then the identifier, then the successors, then the priority.
-abbrev pub LineFault : ℕ → List Line → List ℕ → PgFault → Type 0
-LineFault n before line BadLine = (x : Line) → IsLine line x → ⊥
-LineFault n before line BadIdentifier = (x : Line) × IsLine line x × IsBadId n before x
-LineFault n before line BadSuccessor = (x : Line) × IsLine line x × (IsBadId n before x → ⊥) × HasBadSuccessor n x
-LineFault n before line PriorityTooGreat = (x : Line) × IsLine line x × (IsBadId n before x → ⊥) × (HasBadSuccessor n x → ⊥) × (GREATEST_PRIORITY < x.priority)
+abbrev pub LineFault : ℕ → List VertexLine → List ℕ → PgFault → Type 0
+LineFault n before line BadLine = (x : VertexLine) → IsLine line x → ⊥
+LineFault n before line BadIdentifier = (x : VertexLine) × IsLine line x × IsBadId n before x
+LineFault n before line BadSuccessor = (x : VertexLine) × IsLine line x × (IsBadId n before x → ⊥) × HasBadSuccessor n x
+LineFault n before line PriorityTooGreat = (x : VertexLine) × IsLine line x × (IsBadId n before x → ⊥) × (HasBadSuccessor n x → ⊥) × (GREATEST_PRIORITY < x.priority)
 LineFault n before line _ = ⊥
 
 -- the first faulty line of those below a right header, and how many good ones stand before it
@@ -34,7 +34,7 @@ pub record FaultyLine (n : ℕ) (rest : List (List ℕ)) (fault : PgFault) (good
   pub front : List (List ℕ)
   pub line : List ℕ
   pub back : List (List ℕ)
-  pub before : List Line
+  pub before : List VertexLine
   pub cut : rest ≡ front ++ line ∷ back
   pub good_lines : AreGoodLines n front before
   pub count : length front ≡ good
@@ -42,7 +42,7 @@ pub record FaultyLine (n : ℕ) (rest : List (List ℕ)) (fault : PgFault) (good
 
 -- All lines are good, but the text ends before each identifier stood.
 pub record EndsTooSoon (n : ℕ) (rest : List (List ℕ)) (good : ℕ) : Type 0 where
-  pub spelled : List Line
+  pub spelled : List VertexLine
   pub good_lines : AreGoodLines n rest spelled
   pub few : length rest < n + 1
   pub count : length rest ≡ good

@@ -15,7 +15,7 @@ use Rattle.pgsolver.specs.declared.error.PgError.TheVariants.{Fault, Read, Memor
 use Rattle.text.specs.Stream as stream
 use Rattle.text.specs.Stream.{below}
 use Rattle.pgsolver.specs.Scan.{line_said}
-use Rattle.pgsolver.specs.Spelling.{Line, IsHeader, IsLine, IsLineWithin, AreGoodLines, vertex_said}
+use Rattle.pgsolver.specs.Spelling.{VertexLine, IsHeader, IsLine, IsLineWithin, AreGoodLines, vertex_said}
 use Rattle.pgsolver.specs.declared.scan.Head.{Head}
 use Rattle.game.specs.NumberSet.{number_set}
 use Rattle.pgsolver.specs.Fault.{BodyFault, LineFault}
@@ -36,7 +36,7 @@ abbrev pub Refuses : Option (List ℕ) → (List ℕ → PgFault → ℕ → Typ
 Refuses old P e = IfSome old (λ text. IfSome (named e) (λ told. P text told.0 told.1))
 
 -- the first line is a header with this greatest identifier, and the others are left
-pub record BeginsWith (n : ℕ) (text left : List ℕ) : Type 0 where
+pub record BeginsGame (n : ℕ) (text left : List ℕ) : Type 0 where
   pub first : List ℕ
   pub cut : lines text ≡ first ∷ lines left
   pub header : IsHeader first n
@@ -46,22 +46,22 @@ abbrev pub HasRestFault : ℕ → List ℕ → PgFault → ℕ → Type 0
 HasRestFault n text fault place = (good : ℕ) × BodyFault n (lines text) fault good × (place ≡ good + 2)
 
 -- the line with this identifier, if there is one
-abbrev pub IsPlace : List Line → ℕ → Option ℕ → Type 0
-IsPlace spelled v None = (x : Line) → Contains spelled x → x.id ≡ v → ⊥
-IsPlace spelled v (Some k) = (x : Line) × (slice_get spelled k ≡ Some x) × (x.id ≡ v)
+abbrev pub IsPlace : List VertexLine → ℕ → Option ℕ → Type 0
+IsPlace spelled v None = (x : VertexLine) → Contains spelled x → x.id ≡ v → ⊥
+IsPlace spelled v (Some k) = (x : VertexLine) × (slice_get spelled k ≡ Some x) × (x.id ≡ v)
 
 -- for each identifier the line on which it stands, if there is one
-pub record ArePlaces (n : ℕ) (spelled : List Line) (places : List (Option ℕ)) : Type 0 where
+pub record ArePlaces (n : ℕ) (spelled : List VertexLine) (places : List (Option ℕ)) : Type 0 where
   pub count : length places ≡ n + 1
   pub each : (v : ℕ) → v ≤ n → IsPlace spelled v (slice_index_or places v None)
 
 -- the first lines say these, and the others are left
-abbrev pub BeginsWithLines : List Line → List ℕ → List ℕ → Type 0
+abbrev pub BeginsWithLines : List VertexLine → List ℕ → List ℕ → Type 0
 BeginsWithLines spelled text left = (done : List (List ℕ)) × (lines text ≡ done ++ lines left) × AllZip IsLine done spelled
 
 -- what the vertex lines that were read so far say: so many and all of them good
-pub record SoFar (n good : ℕ) (old now : Option (List ℕ)) (vertices : List Vertex) (places : List (Option ℕ)) : Type 0 where
-  pub spelled : List Line
+pub record LinesSoFar (n good : ℕ) (old now : Option (List ℕ)) (vertices : List Vertex) (places : List (Option ℕ)) : Type 0 where
+  pub spelled : List VertexLine
   pub within : AllByRecursion (IsLineWithin n) spelled
   pub once : AllPairs (λ x y. x.id ≢ y.id) spelled
   pub count : length spelled ≡ good
@@ -74,7 +74,7 @@ abbrev pub has_far : ℕ → List ℕ → Bool
 has_far n = list_any (nat_lt n)
 
 -- what a line says may stand in a game with the greatest identifier n, where these identifiers have a line
-pub record IsSound (n : ℕ) (places : List (Option ℕ)) (x : Line) : Type 0 where
+pub record IsSound (n : ℕ) (places : List (Option ℕ)) (x : VertexLine) : Type 0 where
   pub id : x.id ≤ n
   pub new : slice_index_or places x.id None ≡ None
   pub some : x.successors ≢ []
@@ -82,7 +82,7 @@ pub record IsSound (n : ℕ) (places : List (Option ℕ)) (x : Line) : Type 0 wh
   pub priority : x.priority ≤ GREATEST_PRIORITY
 
 -- what is wrong with what a line says
-abbrev pub IsFaultOfLine : ℕ → List (Option ℕ) → Line → PgFault → Type 0
+abbrev pub IsFaultOfLine : ℕ → List (Option ℕ) → VertexLine → PgFault → Type 0
 IsFaultOfLine n places x BadIdentifier = (n < x.id) ⊎ ((x.id ≤ n) × (is_some (slice_index_or places x.id None) ≡ true))
 IsFaultOfLine n places x BadSuccessor = (x.id ≤ n) × (slice_index_or places x.id None ≡ None) × ((x.successors ≡ []) ⊎ (has_far n x.successors ≡ true))
 IsFaultOfLine n places x PriorityTooGreat = (x.id ≤ n) × (slice_index_or places x.id None ≡ None) × (x.successors ≢ []) × (has_far n x.successors ≡ false)
@@ -90,11 +90,11 @@ IsFaultOfLine n places x PriorityTooGreat = (x.id ≤ n) × (slice_index_or plac
 IsFaultOfLine n places x _ = ⊥
 
 -- the fault of the line that was next, which stands after these, and its place
-abbrev pub TellsFault : ℕ → List Line → Option (List ℕ) → ℕ → PgError → Type 0
+abbrev pub TellsFault : ℕ → List VertexLine → Option (List ℕ) → ℕ → PgError → Type 0
 TellsFault n before old place e = IfSome old (λ text. IfSome (named e) (λ told. LineFault n before (stream.line_of text) told.0 × (told.1 ≡ place)))
 
 -- the line that was next says this, and is taken
-abbrev pub TakesRow : Line → List ℕ → List ℕ → Type 0
+abbrev pub TakesRow : VertexLine → List ℕ → List ℕ → Type 0
 TakesRow x text left = IsLine (stream.line_of text) x × (left ≡ below text)
 
 -- The line that was next says this within a game with the greatest identifier n, with an identifier that has no line yet.
@@ -107,7 +107,7 @@ pub record Says (n : ℕ) (places : List (Option ℕ)) (old new : Option (List �
 
 -- The lines are all that were announced.
 pub record AreAll (n : ℕ) (vertices : List Vertex) (places : List (Option ℕ)) (text left : List ℕ) : Type 0 where
-  pub spelled : List Line
+  pub spelled : List VertexLine
   pub good_lines : AreGoodLines n (lines text) spelled
   pub count : length (lines text) ≡ n + 1
   pub kept : vertices ≡ map vertex_said spelled

@@ -6,7 +6,7 @@ use Rattle.text.specs.Tokens.{capped}
 use Rattle.text.specs.Stream.{is_inside}
 use Rattle.pgsolver.specs.declared.scan.Head.{Head}
 use Rattle.pgsolver.specs.Canon.{owner_digit}
-use Rattle.pgsolver.specs.Spelling.{Line, IsName}
+use Rattle.pgsolver.specs.Spelling.{VertexLine, IsName}
 use Rattle.pgsolver.specs.Scan.{line_at}
 use Rattle.pgsolver.specs.Passes.{PassesVertex}
 
@@ -47,7 +47,7 @@ pub record IsTailThen (text left : List ℕ) : Type 0 where
   pub cut : text ≡ name_then name (59 ∷ 10 ∷ left)
 
 -- the line in front says this, and what follows its LF
-pub record IsLineThen (says : Line) (text left : List ℕ) : Type 0 where
+pub record IsLineThen (says : VertexLine) (text left : List ℕ) : Type 0 where
   pub line : List ℕ
   pub inside : IsTrue (list_all is_inside line)
   pub cut : text ≡ line ++ 10 ∷ left

@@ -5,14 +5,14 @@ use Rattle.text.specs.Tokens.{capped, sign_at, number_at, number_before, quoted_
 use Rattle.game.specs.declared.player.Player.{Player}
 use Rattle.game.specs.declared.player.Player.TheVariants.{Even, Odd}
 use Rattle.pgsolver.specs.declared.scan.Head.{Head}
-use Rattle.pgsolver.specs.Spelling.{Line, is_vertex_name}
+use Rattle.pgsolver.specs.Spelling.{VertexLine, is_vertex_name}
 
 -- what a line says, with numbers that are too great for their type read as the greatest one
-abbrev pub capped_line : Line → Line
+abbrev pub capped_line : VertexLine → VertexLine
 capped_line x = record { id = capped x.id; priority = capped x.priority; owner = x.owner; successors = map capped x.successors }
 
 -- what a line with this head and these successors says
-abbrev pub line_said : Head → List ℕ → Line
+abbrev pub line_said : Head → List ℕ → VertexLine
 line_said head successors = record { id = head.id; priority = head.priority; owner = head.owner; successors = successors }
 
 unfoldable pub header_at : List ℕ → Option ℕ
@@ -90,7 +90,7 @@ tail_at line = do
   rest ← sign_at (codes ";") rest
   end_at tt rest
 
-unfoldable pub line_at : List ℕ → Option Line
+unfoldable pub line_at : List ℕ → Option VertexLine
 line_at line = do
   head ← head_at line
   targets ← targets_at head.1

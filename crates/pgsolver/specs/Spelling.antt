@@ -13,7 +13,7 @@ use Rattle.pgsolver.specs.declared.limits.TheConstants.{LONGEST_NAME}
 use Rattle.pgsolver.specs.Canon.{owner_digit}
 
 -- what a vertex line says, its successors as they stand
-pub record Line : Type 0 where
+pub record VertexLine : Type 0 where
   pub id : ℕ
   pub priority : ℕ
   pub owner : Player
@@ -50,7 +50,7 @@ name_tokens None = []
 name_tokens (Some bytes) = (34 ∷ bytes ++ 34 ∷ []) ∷ []
 
 -- `id priority owner s1,s2,.. "name";`, where the name may be absent. A line that lacks all successors and nothing else has this shape too.
-pub record IsLine (line : List ℕ) (x : Line) : Type 0 where
+pub record IsLine (line : List ℕ) (x : VertexLine) : Type 0 where
   pub i : List ℕ
   pub p : List ℕ
   pub first_gap : List ℕ
@@ -66,19 +66,19 @@ pub record IsLine (line : List ℕ) (x : Line) : Type 0 where
   pub spaced : IsSpaced (i ∷ first_gap ∷ p ∷ second_gap ∷ owner_digit x.owner ∷ successor_tokens third_gap targets ++ (name_tokens name ++ codes ";" ∷ [])) line
 
 -- in a game with the greatest identifier n
-pub record IsLineWithin (n : ℕ) (x : Line) : Type 0 where
+pub record IsLineWithin (n : ℕ) (x : VertexLine) : Type 0 where
   pub id : x.id ≤ n
   pub some : x.successors ≢ []
   pub successors : AllByRecursion (λ t. t ≤ n) x.successors
   pub priority : x.priority ≤ GREATEST_PRIORITY
 
 -- The lines say these, each within the limits, and no identifier twice.
-pub record AreGoodLines (n : ℕ) (rest : List (List ℕ)) (spelled : List Line) : Type 0 where
+pub record AreGoodLines (n : ℕ) (rest : List (List ℕ)) (spelled : List VertexLine) : Type 0 where
   pub each : AllZip IsLine rest spelled
   pub within : AllByRecursion (IsLineWithin n) spelled
   pub once : AllPairs (λ x y. x.id ≢ y.id) spelled
 
-abbrev pub vertex_said : Line → Vertex
+abbrev pub vertex_said : VertexLine → Vertex
 vertex_said x = record { owner = x.owner; priority = x.priority; successors = number_set x.successors }
 
 -- The text spells the game: a header, and then a line for each vertex, in any order. A successor may stand twice. The names are not kept.
@@ -86,12 +86,12 @@ pub record IsGameText (text : List ℕ) (g : Game) : Type 0 where
   pub n : ℕ
   pub first : List ℕ
   pub rest : List (List ℕ)
-  pub spelled : List Line
+  pub spelled : List VertexLine
   pub cut : lines text ≡ first ∷ rest
   pub header : IsHeader first n
   pub limit : n < MOST_VERTICES
   pub good : AreGoodLines n rest spelled
   pub complete : length rest ≡ n + 1
   pub size : length g.vertices ≡ n + 1
-  pub placed : (x : Line) → Contains spelled x → vertex g x.id ≡ Some (vertex_said x)
+  pub placed : (x : VertexLine) → Contains spelled x → vertex g x.id ≡ Some (vertex_said x)
   pub unnamed : g.named ≡ None

@@ -7,12 +7,12 @@ ghost use Rattle.text.specs.Lines.{IfKnown};
 ghost use Rattle.pgsolver.specs.declared.error.PgError.TheVariants as errors;
 ghost use Rattle.text.specs.Reads.{Reads};
 ghost use Rattle.pgsolver.specs.Scan.{line_said};
-ghost use Rattle.pgsolver.specs.Spelling.{Line, IsGameText};
+ghost use Rattle.pgsolver.specs.Spelling.{VertexLine, IsGameText};
 ghost use Rattle.pgsolver.specs.Fault.{HasFault, HasFaultAt};
 ghost use Rattle.pgsolver.specs.Left as left;
 ghost use Rattle.game.specs.Game.{Vertex};
 ghost use Rattle.lts.specs.Left.{HasNoLine};
-ghost use Rattle.pgsolver.specs.Left.{AreFilled, Refuses, BeginsWith, ArePlaces, SoFar, AreAll, Says, IsSound, IsFaultOfLine, TellsFault, HasRestFault, named};
+ghost use Rattle.pgsolver.specs.Left.{AreFilled, Refuses, BeginsGame, ArePlaces, LinesSoFar, AreAll, Says, IsSound, IsFaultOfLine, TellsFault, HasRestFault, named};
 
 use crate::error::{PgError, PgFault};
 use crate::intake::vertex;
@@ -28,7 +28,7 @@ use text::stream::has_line;
 
 // Reads the header, and answers the greatest identifier.
 fn read_first<B: Blocks>(reader: &mut B, kept: &mut Vec<u8>) -> Result<u32, PgError>
-    ensures first { IfOk result (λ n. IfKnown (B.remaining reader.old) (B.remaining reader.new) (BeginsWith n)) }
+    ensures first { IfOk result (λ n. IfKnown (B.remaining reader.old) (B.remaining reader.new) (BeginsGame n)) }
     ensures within { IfOk result (λ n. n < MOST_VERTICES) }
     ensures fault { IfErr result (Refuses (B.remaining reader.old) HasFault) }
     ensures cause { IfErr result (HasCause B.can_fail errors.Read) }
@@ -81,7 +81,7 @@ fn good_line<B: Blocks>(
     requires places { length places.now ≡ last + 1 }
     ensures good { IfOk result (λ head. Says last places.now (B.remaining reader.old) (B.remaining reader.new) head targets.new.items) }
     ensures few { OnOk result (vec_len targets.new ≤ MOST_VERTICES) }
-    ensures fault { IfErr result (λ e. (before : List Line) → ArePlaces last before places.now
+    ensures fault { IfErr result (λ e. (before : List VertexLine) → ArePlaces last before places.now
         → TellsFault last before (B.remaining reader.old) place e) }
     ensures cause { IfErr result (HasCause B.can_fail errors.Read) }
 {
@@ -108,11 +108,11 @@ fn read_row<B: Blocks>(
     requires due { good ≤ last }
     requires count { length rows.old.vertices ≡ good }
     requires places { vec_len rows.old.places ≡ last + 1 }
-    ensures row { OnOk result ((old : Option (List ℕ)) → SoFar last good old (B.remaining reader.old) rows.old.vertices rows.old.places.items
-        → SoFar last (good + 1) old (B.remaining reader.new) rows.new.vertices rows.new.places.items) }
+    ensures row { OnOk result ((old : Option (List ℕ)) → LinesSoFar last good old (B.remaining reader.old) rows.old.vertices rows.old.places.items
+        → LinesSoFar last (good + 1) old (B.remaining reader.new) rows.new.vertices rows.new.places.items) }
     ensures count { OnOk result (length rows.new.vertices ≡ good + 1) }
     ensures places { OnOk result (vec_len rows.new.places ≡ last + 1) }
-    ensures fault { IfErr result (λ e. (old : Option (List ℕ)) → SoFar last good old (B.remaining reader.old) rows.old.vertices rows.old.places.items
+    ensures fault { IfErr result (λ e. (old : Option (List ℕ)) → LinesSoFar last good old (B.remaining reader.old) rows.old.vertices rows.old.places.items
         → Refuses old (HasRestFault last) e) }
     ensures cause { IfErr result (HasCause B.can_fail errors.Read) }
 {
@@ -134,7 +134,7 @@ fn read_end<B: Blocks>(
 ) -> Result<(), PgError>
     ensures end { OnOk result (IfKnown (B.remaining reader.old) (B.remaining reader.new) HasNoLine) }
     ensures fault { IfErr result (λ e. (old : Option (List ℕ)) (vertices : List Vertex) (places : List (Option ℕ))
-        → SoFar last (last + 1) old (B.remaining reader.old) vertices places → Refuses old (HasRestFault last) e) }
+        → LinesSoFar last (last + 1) old (B.remaining reader.old) vertices places → Refuses old (HasRestFault last) e) }
     ensures cause { IfErr result (HasCause B.can_fail errors.Read) }
 {
     if !has_line(reader)? {

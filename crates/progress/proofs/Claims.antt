@@ -1,7 +1,7 @@
 -- Good claims lie below.
 use Rattle.progress.proofs.Common.{◌≡◌, ℕ, ◌+◌, ◌%◌, ◌<◌, true, List, length, refl, sym, ap, subst, ◌∙◌, inl, inr, arith, true≢false, Contains, Option, Some}
 use Rattle.progress.proofs.Common.{None, slice_get_within, Player, Even, Odd, Vertex, Game, vertex, IsVertex, dual, priority_at, greatest_met, Measure, Top}
-use Rattle.progress.proofs.Common.{Counts, IsAtMost, IsBelow, IsMeasure, Reaches, is_odd, IsProgress, value_at, IsPlain, LiesBelow, Table, Claimed, GoesOn}
+use Rattle.progress.proofs.Common.{Counts, IsAtMost, IsBelow, IsMeasure, Reaches, is_odd, IsProgress, value_at, IsPlain, LiesBelow, GameTable, Claimed, GoesOn}
 use Rattle.progress.proofs.Common.{IsGoodClaim, IsGoodEntry, claimed_at, claimed_entry, value_or}
 use Rattle.progress.proofs.Lists.{all_contained, all_got}
 use Rattle.progress.proofs.Measures.{at_most_or_below, at_most_trans, not_below, prog, prog_more}
@@ -25,7 +25,7 @@ abbrev rank_of : Option Claimed → Measure
 rank_of None = Top
 rank_of (Some x) = Counts x.rank
 
-module _ (t : Table) (claim : List (Option Claimed)) (plain : IsPlain t) (good : IsGoodClaim t.game t.values claim) (other : List Measure)
+module _ (t : GameTable) (claim : List (Option Claimed)) (plain : IsPlain t) (good : IsGoodClaim t.game t.values claim) (other : List Measure)
     (is : IsProgress t.game other) where
   abbrev g : Game
   g = t.game
@@ -132,7 +132,7 @@ module _ (t : Table) (claim : List (Option Claimed)) (plain : IsPlain t) (good :
     | inr low ↦ low
   ]
 
-pub claims_lie_below : (t : Table) (claim : List (Option Claimed)) → IsPlain t → IsGoodClaim t.game t.values claim → (v : ℕ) (x : Claimed)
+pub claims_lie_below : (t : GameTable) (claim : List (Option Claimed)) → IsPlain t → IsGoodClaim t.game t.values claim → (v : ℕ) (x : Claimed)
     → claimed_entry claim v ≡ Some x → LiesBelow t.game v x.value
 claims_lie_below t claim plain good v x e = record {
   measure = (good v x e).2.measure;

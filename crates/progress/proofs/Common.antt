@@ -19,7 +19,7 @@ pub use Rattle.game.specs.declared.player.Player.{Player}
 pub use Rattle.progress.specs.View.{ArePut, HasWidth, ReachesAt, Rows, counts_of, is_top_of, measure_of, rows_of}
 pub use Rattle.std.proofs.lemmas.Option.{get_or_from_slice_get, slice_get-get_or, slice_get-map, slice_get_cases, slice_get_within}
 pub use Rattle.game.specs.Wins.{Edge, IsOf, IsStrategy, OddWins, Wins, WinsBy, greatest_met, priority_at}
-pub use Rattle.progress.specs.Tables.{IsOpening, IsPlain, IsSettled, IsTableStored, LiesBelow, Table}
+pub use Rattle.progress.specs.Tables.{IsOpening, IsPlain, IsSettled, IsTableStored, LiesBelow, GameTable}
 pub use Rattle.progress.specs.Lifting.{AreLifts, AreRises, IsLifted, code, decode, height, rank, lists_up_to, sum_of, total}
 pub use Rattle.progress.specs.Claim.{AreEntered, AreRaised, Claim, DescendsAlong, Claimed, GoesOn, IsGoodAt, IsGoodClaim, IsGoodEntry, IsGoodFrom, claimed_at}
 pub use Rattle.progress.specs.Claim.{claimed_entry, raised_by, value_or}

@@ -2,7 +2,7 @@
 use Rattle.progress.proofs.Common.{◌≡◌, ◌≢◌, ℕ, zero, suc, ◌<◌, ◌≤◌, List, [], ◌∷◌, length, map, sym, ap, subst, ◌∙◌, inl, inr, arith, Contains, Some, AllZip}
 use Rattle.progress.proofs.Common.{slice_index, slice_set, slice_get_within, get_or_default, length-set, eqb_tells, leb_tells, Even, Vertex, Game, vertex}
 use Rattle.progress.proofs.Common.{IsGame, IsVertex, Measure, Top, IsMeasure, IsAtMost, IsBelow, IsProg, Reaches, IsBestFor, IsLeastTable, IsLiftAt, IsTable}
-use Rattle.progress.proofs.Common.{IsLeastSuccessor, IsSettled, Table, AllByRecursion, option_map, value_at}
+use Rattle.progress.proofs.Common.{IsLeastSuccessor, IsSettled, GameTable, AllByRecursion, option_map, value_at}
 use Rattle.game.specs.Game.{IsAscending}
 use Rattle.progress.proofs.Bests.{its_successors, vertex_tells}
 use Rattle.progress.proofs.Lifts.{even_reaches, settled, value_measure}
@@ -146,7 +146,7 @@ module _ (g : Game) (game : IsGame g) (table : List Measure) (least : IsLeastTab
 
 -- ------------------------------------------------------------------ by what the game tells of a vertex
 
-module _ (now : Table) (is : IsSettled now) (g : Game) (same : now.game ≡ g) (v : ℕ) (h : v < length g.vertices) (p : ℕ) (ts : List ℕ)
+module _ (now : GameTable) (is : IsSettled now) (g : Game) (same : now.game ≡ g) (v : ℕ) (h : v < length g.vertices) (p : ℕ) (ts : List ℕ)
     (owner : option_map (λ x. x.owner) (vertex g v) ≡ Some Even) (priority : option_map (λ x. x.priority) (vertex g v) ≡ Some p)
     (successors : option_map (λ x. x.successors) (vertex g v) ≡ Some ts) where
   abbrev At : ℕ → ℕ → Type 0

@@ -3,7 +3,7 @@ use Rattle.progress.proofs.Common.{AllByRecursion, Some, option_map, ◌≡◌, 
 use Rattle.progress.proofs.Common.{refl, sym, ap, subst, ◌∙◌, inl, inr, arith, if◌then◌else◌, slice_set, eqb_tells, ext_get_or, get_or-set_other}
 use Rattle.progress.proofs.Common.{get_or-set_same, get_or-replicate, length-map, length-replicate, length-set, AllZip-long, Game, IsGame, count, greatest}
 use Rattle.progress.proofs.Common.{vertex, Measure, Top, Counts, components, IsMeasure, IsProgress, opening, opening_value, value_at, zeros, bounds}
-use Rattle.progress.proofs.Common.{IsOpening, IsPlain, IsSettled, IsTableStored, LiesBelow, Table, HasWidth, Rows}
+use Rattle.progress.proofs.Common.{IsOpening, IsPlain, IsSettled, IsTableStored, LiesBelow, GameTable, HasWidth, Rows}
 use Rattle.progress.proofs.Bests.{its_successors}
 use Rattle.progress.proofs.Carry.{none_is}
 use Rattle.progress.proofs.Components.{odd_down_long}
@@ -61,7 +61,7 @@ value_set_same values v m h = get_or-set_same values v m Top h
 pub value_set_other : (values : List Measure) (v u : ℕ) (m : Measure) → u ≢ v → value_at (slice_set values v m) u ≡ value_at values u
 value_set_other values v u m n = get_or-set_other values v u m Top n
 
-pub set_plain : (t : Table) (v : ℕ) (m : Measure) → IsPlain t → v < length t.game.vertices → LiesBelow t.game v m
+pub set_plain : (t : GameTable) (v : ℕ) (m : Measure) → IsPlain t → v < length t.game.vertices → LiesBelow t.game v m
     → IsPlain (record { game = t.game; values = slice_set t.values v m })
 set_plain t v m is h below = record {
   game = is.game;
@@ -76,7 +76,7 @@ set_plain t v m is h below = record {
       | inr w ↦ subst (LiesBelow t.game u) (sym (value_set_other t.values v u m w.1)) (is.below u l)
     ]
 
-pub plain_settled : (t : Table) → IsPlain t → IsProgress t.game t.values → IsSettled t
+pub plain_settled : (t : GameTable) → IsPlain t → IsProgress t.game t.values → IsSettled t
 plain_settled t is progress = record { game = is.game; least = record { progress = progress; under = λ v h. (is.below v h).under } }
 
 -- ------------------------------------------------------------------ making the opening table

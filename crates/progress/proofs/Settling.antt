@@ -3,7 +3,7 @@ use Rattle.progress.proofs.Common.{◌≡◌, ◌≢◌, ◌↔◌, ℕ, ◌+◌
 use Rattle.progress.proofs.Common.{Some, option_map, slice_set, IsTrue, not, MatchBool, true≢false, eqb_tells, leb_tells, get_or_past, length-set}
 use Rattle.progress.proofs.Common.{slice_get_within, Player, Vertex, Game, IsGame, vertex, IsLifted, height, rank, sum_of, Measure, Top, IsAtMost, IsBelow}
 use Rattle.progress.proofs.Common.{IsMeasure, IsProg, Reaches, IsBestFor, IsLeastTable, IsLiftAt, IsProgress, IsTable, greater_of, value_at, IsStill, Sweeps}
-use Rattle.progress.proofs.Common.{IsPlain, LiesBelow, Table}
+use Rattle.progress.proofs.Common.{IsPlain, LiesBelow, GameTable}
 use Rattle.progress.proofs.Bests.{best_prog, vertex_here, vertex_tells}
 use Rattle.progress.proofs.Lifting.{sum_rises}
 use Rattle.progress.proofs.Lifts.{value_measure}
@@ -144,7 +144,7 @@ progress_still g values game is v h =
     let r = lift_at g game values is.0 v x.0 x.1 in
     subst (IsLiftAt g values v) (is.1 v r.0 r.1) r.1
 
-pub move_plain : (g : Game) (t : Table) → IsPlain t → t.game ≡ g → IsPlain (record { game = g; values = t.values })
+pub move_plain : (g : Game) (t : GameTable) → IsPlain t → t.game ≡ g → IsPlain (record { game = g; values = t.values })
 move_plain g t plain e = subst (λ (h : Game). IsPlain (record { game = h; values = t.values })) e plain
 
 not_true : (b : Bool) → b ≡ false → IsTrue b → ⊥

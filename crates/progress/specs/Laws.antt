@@ -8,7 +8,7 @@ use Rattle.progress.specs.Measure.{IsAtMost, IsMeasure, IsProg, IsRank, Measure,
 use Rattle.progress.specs.Progress.{IsLeastTable, IsProgress, opening, value_at}
 use Rattle.progress.specs.Claim.{Claimed, IsGoodClaim, claimed_entry}
 use Rattle.progress.specs.Lifting.{AreLifts, AreRises, height, rank}
-use Rattle.progress.specs.Tables.{IsPlain, LiesBelow, Table}
+use Rattle.progress.specs.Tables.{IsPlain, LiesBelow, GameTable}
 
 -- For each priority and measure there is a least measure that reaches it.
 abbrev pub ProgExists : Type 0
@@ -82,5 +82,5 @@ RankIsCode = (g : Game) (m : Measure) → IsMeasure g m → IsRank g m (rank g m
 -- What a good claim says over a table that lies below lies below too.
 abbrev pub ClaimsLieBelow : Type 0
 ClaimsLieBelow =
-    (t : Table) (entries : List (Option Claimed)) → IsPlain t → IsGoodClaim t.game t.values entries → (v : ℕ) (x : Claimed) → claimed_entry entries v ≡ Some x
+    (t : GameTable) (entries : List (Option Claimed)) → IsPlain t → IsGoodClaim t.game t.values entries → (v : ℕ) (x : Claimed) → claimed_entry entries v ≡ Some x
     → LiesBelow t.game v x.value

@@ -6,7 +6,7 @@ use Rattle.progress.specs.Progress.{IsLeastTable, IsUnder, opening_value, value_
 use Rattle.progress.specs.Progs.{bounds}
 
 -- a table names its game
-pub record Table : Type 0 where
+pub record GameTable : Type 0 where
   pub game : Game
   pub values : List Measure
 
@@ -16,25 +16,25 @@ pub record LiesBelow (g : Game) (v : ℕ) (m : Measure) : Type 0 where
   pub under : IsUnder g v m
 
 -- a value for each vertex, and all of them below
-pub record IsPlain (t : Table) : Type 0 where
+pub record IsPlain (t : GameTable) : Type 0 where
   pub game : IsGame t.game
   pub long : length t.values ≡ length t.game.vertices
   pub below : (v : ℕ) → v < length t.game.vertices → LiesBelow t.game v (value_at t.values v)
 
 -- a table that is stored with the bounds of its game's counts, in rows of so many counts, and with its game's predecessors
-pub record IsTableStored (t : Table) (limits : List ℕ) (width : ℕ) (edges : Game) : Type 0 where
+pub record IsTableStored (t : GameTable) (limits : List ℕ) (width : ℕ) (edges : Game) : Type 0 where
   pub plain : IsPlain t
   pub bounded : limits ≡ bounds t.game
   pub wide : width ≡ length limits
   pub edges_are : edges ≡ t.game
 
 -- the least progress table of its game
-pub record IsSettled (t : Table) : Type 0 where
+pub record IsSettled (t : GameTable) : Type 0 where
   pub game : IsGame t.game
   pub least : IsLeastTable t.game t.values
 
 -- a least progress table that is stored in rows of so many counts
-pub record IsStoredSettled (t : Table) (width : ℕ) : Type 0 where
+pub record IsStoredSettled (t : GameTable) (width : ℕ) : Type 0 where
   pub settled : IsSettled t
   pub wide : width ≡ length (bounds t.game)
 

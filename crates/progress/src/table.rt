@@ -35,9 +35,9 @@ pub struct PlainTable {
 }
 
 impl Model for PlainTable {
-    ghost use Rattle.progress.specs.Tables.{IsTableStored, Table};
+    ghost use Rattle.progress.specs.Tables.{IsTableStored, GameTable};
 
-    ghost Value = { Table };
+    ghost Value = { GameTable };
 
     ghost view = { λ t. record { game = t.of.value; values = t.rows.values } };
 
@@ -320,9 +320,9 @@ pub struct Settled {
 }
 
 impl Model for Settled {
-    ghost use Rattle.progress.specs.Tables.{IsStoredSettled, Table};
+    ghost use Rattle.progress.specs.Tables.{IsStoredSettled, GameTable};
 
-    ghost Value = { Table };
+    ghost Value = { GameTable };
 
     ghost view = { λ s. record { game = s.of.value; values = s.values.values } };
 

@@ -33,7 +33,7 @@ use Rattle.workers.specs.declared.team.BoardKind.{BoardKind}
 use Rattle.requests.specs.Report.{report_in}
 use Rattle.requests.specs.Roots.{WinsRoot}
 use Rattle.requests.specs.Solver.{FitsBoard, IsUnsolved}
-use Rattle.requests.specs.Writers.{Kind, GameText, EvenText, OddText, WitnessText, DrawingText, ReportText, Unasked, Lent, NeedsEvidence, AreWhole, AreKept}
+use Rattle.requests.specs.Writers.{TextKind, GameText, EvenText, OddText, WitnessText, DrawingText, ReportText, Unasked, Lent, NeedsEvidence, AreWhole, AreKept}
 use Rattle.requests.specs.Writers.{AreWrittenUpTo}
 
 -- how the states are found: by sets of states, or by the game with the priorities of a rule, solved over the board that is asked for, if one is
@@ -94,7 +94,7 @@ pub record AreMarks (way : Way) (l : System) (f : Formula) (marks : List Bool) :
   pub won : AreWon way l f marks
 
 -- The texts that are written where these are the marks. Without a game there is the report alone. Where nothing is asked for, nothing is written.
-abbrev pub IsTextOf : Way → System → Formula → List Bool → Kind → List ℕ → Type 0
+abbrev pub IsTextOf : Way → System → Formula → List Bool → TextKind → List ℕ → Type 0
 IsTextOf BySets l f marks GameText text = ⊥
 IsTextOf BySets l f marks EvenText text = ⊥
 IsTextOf BySets l f marks OddText text = ⊥

@@ -13,26 +13,26 @@ use Rattle.requests.specs.declared.writers.EvidenceWriters.TheVariants.{Neither,
 use Rattle.requests.specs.declared.writers.Writers.{Writers}
 
 -- the texts that a check writes; `Unasked` is that of a writer from which none is asked for
-pub data Kind : Type 0 where
-  GameText : Kind
-  EvenText : Kind
-  OddText : Kind
-  WitnessText : Kind
-  DrawingText : Kind
-  ReportText : ReportForm → Kind
-  Unasked : Kind
+pub data TextKind : Type 0 where
+  GameText : TextKind
+  EvenText : TextKind
+  OddText : TextKind
+  WitnessText : TextKind
+  DrawingText : TextKind
+  ReportText : ReportForm → TextKind
+  Unasked : TextKind
 
 -- a writer that is lent for a text, and what is known of what it has taken, before and after
 pub record Lent : Type 0 where
-  pub kind : Kind
+  pub kind : TextKind
   pub old : Taken
   pub new : Taken
 
-abbrev pub lent_for : Kind → (old new : Taken) → Lent
+abbrev pub lent_for : TextKind → (old new : Taken) → Lent
 lent_for kind old new = record { kind = kind; old = old; new = new }
 
 -- A writer was lent for this text.
-abbrev pub IsLentFor : Kind → List Lent → Type 0
+abbrev pub IsLentFor : TextKind → List Lent → Type 0
 IsLentFor kind [] = ⊥
 IsLentFor kind (w ∷ ws) = (w.kind ≡ kind) ⊎ IsLentFor kind ws
 
@@ -41,15 +41,15 @@ abbrev pub NeedsEvidence : List Lent → Type 0
 NeedsEvidence ws = IsLentFor EvenText ws ⊎ (IsLentFor WitnessText ws ⊎ IsLentFor DrawingText ws)
 
 -- Its whole text was written.
-abbrev pub IsWhole : (Kind → List ℕ → Type 0) → Lent → Type 0
+abbrev pub IsWhole : (TextKind → List ℕ → Type 0) → Lent → Type 0
 IsWhole IsText w = (text : List ℕ) × IsText w.kind text × Adds w.old w.new text
 
 -- A beginning of its text was written, and some of it was not.
-abbrev pub IsBegun : (Kind → List ℕ → Type 0) → Lent → Type 0
+abbrev pub IsBegun : (TextKind → List ℕ → Type 0) → Lent → Type 0
 IsBegun IsText w = (text : List ℕ) × IsText w.kind text × WroteFront w.old w.new text
 
 -- Each writer has its whole text.
-abbrev pub AreWhole : (Kind → List ℕ → Type 0) → List Lent → Type 0
+abbrev pub AreWhole : (TextKind → List ℕ → Type 0) → List Lent → Type 0
 AreWhole IsText [] = Unit {0}
 AreWhole IsText (w ∷ ws) = IsWhole IsText w × AreWhole IsText ws
 
@@ -59,12 +59,12 @@ AreKept [] = Unit {0}
 AreKept (w ∷ ws) = Stays w.old w.new × AreKept ws
 
 -- One has a beginning of its text, those before it have their whole texts, and nothing was written to those after it.
-abbrev pub AreWrittenUpTo : (Kind → List ℕ → Type 0) → List Lent → Type 0
+abbrev pub AreWrittenUpTo : (TextKind → List ℕ → Type 0) → List Lent → Type 0
 AreWrittenUpTo IsText [] = ⊥
 AreWrittenUpTo IsText (w ∷ ws) = (IsBegun IsText w × AreKept ws) ⊎ (IsWhole IsText w × AreWrittenUpTo IsText ws)
 
 -- all on Ok, and up to one on Err
-abbrev pub AreWritten : {T E : Type 0} → (Kind → List ℕ → Type 0) → List Lent → Result T E → Type 0
+abbrev pub AreWritten : {T E : Type 0} → (TextKind → List ℕ → Type 0) → List Lent → Result T E → Type 0
 AreWritten IsText ws r = MatchResult r (λ _. AreWhole IsText ws) (λ _. AreWrittenUpTo IsText ws)
 
 -- what an option of a writer is left as, and a pair of writers
@@ -98,10 +98,10 @@ abbrev pub report_writer : ReportForm → (old new : Taken) → List Lent
 report_writer form old new = lent_for (ReportText form) old new ∷ []
 
 -- the kinds of text that are wanted
-abbrev pub kind_where : Bool → Kind → Kind
+abbrev pub kind_where : Bool → TextKind → TextKind
 kind_where wanted kind = if wanted then kind else Unasked
 
-abbrev pub witness_kind : Option WitnessForm → Kind
+abbrev pub witness_kind : Option WitnessForm → TextKind
 witness_kind None = Unasked
 witness_kind (Some System) = WitnessText
 witness_kind (Some Drawing) = DrawingText

@@ -28,9 +28,9 @@ pub struct Shard<K: GameName> {
 }
 
 impl<K: GameName> Model for Shard<K> {
-    ghost use Rattle.tables.specs.Part.{Part, IsStoredPart};
+    ghost use Rattle.tables.specs.Part.{ShardPart, IsStoredPart};
 
-    ghost Value = { Part };
+    ghost Value = { ShardPart };
 
     ghost view = { λ s. record { index = s.index; shards = s.shards; values = s.rows.values } };
 

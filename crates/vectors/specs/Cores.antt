@@ -17,7 +17,7 @@ use Rattle.progress.proofs.Measures.{at_most_itself, at_most_top, top_prog}
 use Rattle.progress.proofs.Monotone.{lift_one}
 use Rattle.liftcore.specs.Core.{Core, Note, Worker, Idle, Holding, Owing, is_quiet, start}
 use Rattle.game.specs.Predecessors.{predecessors}
-use Rattle.liftcore.specs.Step.{TakesVertex, ReadsVertex, Raises, Pushes, Skips, Step, Steps}
+use Rattle.liftcore.specs.Step.{TakesVertex, ReadsVertex, LiftsHeld, Pushes, Skips, Step, Steps}
 use Rattle.liftcore.specs.declared.event.Event.{Event}
 use Rattle.liftcore.specs.declared.event.Event.TheVariants.{Take, Read, Raise, Push}
 use Rattle.vectors.specs.Systems.{two_states}
@@ -112,7 +112,7 @@ first_step_2 = record {
 abbrev first_3 : Core
 first_3 = core_with one (number 0 ∷ Top ∷ number 0 ∷ number 0 ∷ Top ∷ number 0 ∷ []) (0 ∷ 1 ∷ 2 ∷ 3 ∷ 5 ∷ []) (Idle ∷ Idle ∷ [])
 
-first_step_3 : Raises first_2 0 first_3
+first_step_3 : LiftsHeld first_2 0 first_3
 unfolding predecessors
 first_step_3 = record {
   u = 4;
@@ -190,7 +190,7 @@ abbrev late_5 : Core
 late_5 = core_with two_steps (number 0 ∷ Top ∷ number 0 ∷ number 0 ∷ number 0 ∷ number 0 ∷ Top ∷ number 0 ∷ []) (0 ∷ 1 ∷ 3 ∷ 4 ∷ 5 ∷ 7 ∷ [])
     (Holding 2 (note 6 (number 0) ∷ []) ∷ Owing (2 ∷ []) ∷ [])
 
-late_step_5 : Raises late_4 1 late_5
+late_step_5 : LiftsHeld late_4 1 late_5
 unfolding predecessors
 late_step_5 = record {
   u = 6;
@@ -209,7 +209,7 @@ abbrev late_6 : Core
 late_6 = core_with two_steps (number 0 ∷ Top ∷ number 0 ∷ number 0 ∷ number 0 ∷ number 0 ∷ Top ∷ number 0 ∷ []) (0 ∷ 1 ∷ 3 ∷ 4 ∷ 5 ∷ 7 ∷ [])
     (Idle ∷ Owing (2 ∷ []) ∷ [])
 
-late_step_6 : Raises late_5 0 late_6
+late_step_6 : LiftsHeld late_5 0 late_6
 unfolding predecessors
 late_step_6 = record {
   u = 2;
@@ -256,7 +256,7 @@ late_step_9 = record {
 abbrev late_10 : Core
 late_10 = core_with two_steps (number 0 ∷ Top ∷ Top ∷ number 0 ∷ number 0 ∷ number 0 ∷ Top ∷ number 0 ∷ []) (0 ∷ 1 ∷ 3 ∷ 4 ∷ 5 ∷ 7 ∷ []) (Idle ∷ Idle ∷ [])
 
-late_step_10 : Raises late_9 0 late_10
+late_step_10 : LiftsHeld late_9 0 late_10
 unfolding predecessors
 late_step_10 = record {
   u = 2;
@@ -296,7 +296,7 @@ late_step_12 = record {
 abbrev late_13 : Core
 late_13 = core_with two_steps (number 0 ∷ Top ∷ Top ∷ number 0 ∷ number 0 ∷ Top ∷ Top ∷ number 0 ∷ []) (0 ∷ 1 ∷ 3 ∷ 4 ∷ 7 ∷ []) (Idle ∷ Idle ∷ [])
 
-late_step_13 : Raises late_12 1 late_13
+late_step_13 : LiftsHeld late_12 1 late_13
 unfolding predecessors
 late_step_13 = record {
   u = 5;
@@ -384,7 +384,7 @@ each_step_2 = record {
 abbrev each_3 : Core
 each_3 = core_with one (number 0 ∷ Top ∷ number 0 ∷ number 0 ∷ number 0 ∷ number 0 ∷ []) (1 ∷ 2 ∷ 3 ∷ 4 ∷ 5 ∷ []) (Idle ∷ Idle ∷ [])
 
-each_step_3 : Raises each_2 0 each_3
+each_step_3 : LiftsHeld each_2 0 each_3
 unfolding predecessors
 each_step_3 = record {
   u = 0;
@@ -423,7 +423,7 @@ each_step_5 = record {
 abbrev each_6 : Core
 each_6 = core_with one (number 0 ∷ Top ∷ number 0 ∷ number 0 ∷ number 0 ∷ number 0 ∷ []) (2 ∷ 3 ∷ 4 ∷ 5 ∷ []) (Idle ∷ Idle ∷ [])
 
-each_step_6 : Raises each_5 0 each_6
+each_step_6 : LiftsHeld each_5 0 each_6
 unfolding predecessors
 each_step_6 = record {
   u = 1;
@@ -462,7 +462,7 @@ each_step_8 = record {
 abbrev each_9 : Core
 each_9 = core_with one (number 0 ∷ Top ∷ number 0 ∷ number 0 ∷ number 0 ∷ number 0 ∷ []) (3 ∷ 4 ∷ 5 ∷ []) (Idle ∷ Idle ∷ [])
 
-each_step_9 : Raises each_8 0 each_9
+each_step_9 : LiftsHeld each_8 0 each_9
 unfolding predecessors
 each_step_9 = record {
   u = 2;
@@ -501,7 +501,7 @@ each_step_11 = record {
 abbrev each_12 : Core
 each_12 = core_with one (number 0 ∷ Top ∷ number 0 ∷ number 0 ∷ number 0 ∷ number 0 ∷ []) (4 ∷ 5 ∷ []) (Idle ∷ Idle ∷ [])
 
-each_step_12 : Raises each_11 0 each_12
+each_step_12 : LiftsHeld each_11 0 each_12
 unfolding predecessors
 each_step_12 = record {
   u = 3;
@@ -540,7 +540,7 @@ each_step_14 = record {
 abbrev each_15 : Core
 each_15 = core_with one (number 0 ∷ Top ∷ number 0 ∷ number 0 ∷ Top ∷ number 0 ∷ []) (5 ∷ []) (Idle ∷ Idle ∷ [])
 
-each_step_15 : Raises each_14 0 each_15
+each_step_15 : LiftsHeld each_14 0 each_15
 unfolding predecessors
 each_step_15 = record {
   u = 4;
@@ -579,7 +579,7 @@ each_step_17 = record {
 abbrev each_18 : Core
 each_18 = core_with one (number 0 ∷ Top ∷ number 0 ∷ number 0 ∷ Top ∷ number 0 ∷ []) ([]) (Idle ∷ Idle ∷ [])
 
-each_step_18 : Raises each_17 0 each_18
+each_step_18 : LiftsHeld each_17 0 each_18
 unfolding predecessors
 each_step_18 = record {
   u = 5;

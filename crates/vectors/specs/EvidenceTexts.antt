@@ -9,7 +9,7 @@ use Rattle.evidence.specs.Canon.{evidence_text}
 use Rattle.evidence.specs.Evidence.{Entry, Evidence}
 use Rattle.evidence.specs.Fault.{HasFault, LineFault}
 use Rattle.evidence.specs.Scan.{count_before, fields_of, move_of, number_of}
-use Rattle.evidence.specs.Spelling.{AreGoodRows, IsEvidenceText, IsShaped, Row}
+use Rattle.evidence.specs.Spelling.{AreGoodRows, IsEvidenceText, IsShaped, EntryRow}
 use Rattle.evidence.specs.Verdict.{both_text, verdict_text}
 use Rattle.evidence.specs.declared.error.EvidenceFault.TheVariants.{BadHeader, BadLine, BadVertex}
 use Rattle.evidence.specs.declared.verdict.Fault.TheVariants.{Leaves, Rank}
@@ -62,7 +62,7 @@ left_out_line = refl
 
 -- ---- what is read
 
-abbrev spelled_row : ℕ → Option ℕ → List ℕ → Row
+abbrev spelled_row : ℕ → Option ℕ → List ℕ → EntryRow
 spelled_row v move rank = record { vertex = v; entry = record { move = move; rank = rank } }
 
 -- two vertices that go to themselves, of the priorities 0 and 1
@@ -108,12 +108,12 @@ spelled_odd = record {
 
     from : (v : ℕ) (x : Entry) → Contains (spelled_row 1 None (0 ∷ []) ∷ []) (record { vertex = v; entry = x })
         → slice_index_or of_second.entries v None ≡ Some x
-    from v x (zero, h, is) = subst (λ (r : Row). slice_index_or of_second.entries r.vertex None ≡ Some r.entry) is refl
+    from v x (zero, h, is) = subst (λ (r : EntryRow). slice_index_or of_second.entries r.vertex None ≡ Some r.entry) is refl
     from v x (suc k, h, is) = absurd (omega (arith, h))
 
 -- ---- what is refused
 
-refused : (width : ℕ) (line : List ℕ) → row_of width line ≡ None → (x : Row) → IsShaped width line x → ⊥
+refused : (width : ℕ) (line : List ℕ) → row_of width line ≡ None → (x : EntryRow) → IsShaped width line x → ⊥
 refused width line none x h = let found = row_found width line x h in cc
 
 -- two counts where there is one component; a count above the limit; none; a second space; a CR before the end

@@ -5,7 +5,7 @@ use Rattle.std.specs.Str.{bytes_eq}
 use Rattle.std.proofs.Common.{arith, inl, inr, sym, ap, subst, ◌∙◌, append_assoc, true≢false}
 use Rattle.std.proofs.lemmas.Bool.Decides.{nat_tests}
 use Rattle.grammar.specs.Token.{Token, Name, Reserved, Atom, Dot, Less, Greater, OpenBox, CloseBox, Open, Close, Bar, AndSign, OrSign, ImpliesSign}
-use Rattle.grammar.specs.Token.{ChoiceSign, PlusSign, StarSign, NotSign, TrueWord, FalseWord, MuWord, NuWord, TauWord, Piece, Blank, Comment, Word, IsPiece}
+use Rattle.grammar.specs.Token.{ChoiceSign, PlusSign, StarSign, NotSign, TrueWord, FalseWord, MuWord, NuWord, TauWord, Segment, Blank, Comment, Word, IsPiece}
 use Rattle.grammar.specs.Token.{Cuts, is_free_name, reserved_words}
 use Rattle.grammar.specs.Syntax.{Syntax, RegSyntax, Anything', Nothing', Tau', Names', Quoted', Parens', Not', And', Or', Implies', Star', Plus', Then'}
 use Rattle.grammar.specs.Syntax.{Either', reg_tokens, Dia', True', Var', Mu', Neg', False', Group', Both', OneOf', If', Box', Nu', tokens, nesting}
@@ -196,7 +196,7 @@ abbrev nots : ℕ → List Token → List Token
 nots zero ts = ts
 nots (suc n) ts = NotSign ∷ nots n ts
 
-abbrev not_pieces : ℕ → List Piece → List Piece
+abbrev not_pieces : ℕ → List Segment → List Segment
 not_pieces zero ps = ps
 not_pieces (suc n) ps = Word NotSign ∷ not_pieces n ps
 

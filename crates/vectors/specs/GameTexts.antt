@@ -3,7 +3,7 @@ use Rattle.std.specs.Prelude.{ℕ, [], ◌∷◌, ◌++◌, None, codes, refl}
 use Rattle.std.proofs.Common.{arith, inl, inr}
 use Rattle.game.specs.declared.player.Player.TheVariants.{Even}
 use Rattle.pgsolver.specs.Fault.{HasFault}
-use Rattle.pgsolver.specs.Spelling.{AreGoodLines, IsHeader, IsLine, Line}
+use Rattle.pgsolver.specs.Spelling.{AreGoodLines, IsHeader, IsLine, VertexLine}
 use Rattle.pgsolver.specs.declared.error.PgFault.TheVariants.{BadHeader, BadIdentifier}
 
 -- the empty text has no header
@@ -19,7 +19,7 @@ header_of_one = (
 )
 
 -- a vertex of Even with priority 0 that leads to vertex 0
-abbrev line_of : ℕ → Line
+abbrev line_of : ℕ → VertexLine
 line_of v = record { id = v; priority = 0; owner = Even; successors = 0 ∷ [] }
 
 -- 1 0 0 0;

@@ -1,6 +1,6 @@
 use Rattle.std.proofs.Common.{ap, ap₂, ◌∙◌, List, Bool, ℕ, ◌≡◌, slice_set, true}
 use Rattle.liftcore.specs.Core.{Holding, Note}
-use Rattle.liftcore.specs.Reading.{Reading, successors_read}
+use Rattle.liftcore.specs.Reading.{SuccessorReading, successors_read}
 use Rattle.liftcore.specs.Seats.{notes_from, notes_of}
 use Rattle.liftcore.specs.declared.seat.Seat.{Seat}
 use Rattle.game.specs.Game.{Game, vertex}
@@ -11,8 +11,8 @@ use Rattle.liftcore.proofs.seat.Seat.note.Goals as goal
 
 pub returns-clause-notes : goal.returns-clause-notes
 returns-clause-notes c =
-    let old : Reading = c.args.self.now.turn in
-    let new : Reading = c.note.new.self in
+    let old : SuccessorReading = c.args.self.now.turn in
+    let new : SuccessorReading = c.note.new.self in
     let seat : Seat = record { holding = c.args.self.now.holding; turn = new; owed = c.args.self.now.owed } in
     let same : successors_read new ≡ successors_read old = ap₂ (λ (g : Game) (v : ℕ). successors_at (vertex g v)) c.note.ensures.game c.note.ensures.vertex in
     let notes : notes_of new ≡ notes_from (successors_read old) (slice_set old.marks c.args.place true) (slice_set old.values c.args.place c.args.value) =

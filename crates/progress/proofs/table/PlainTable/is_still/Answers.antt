@@ -1,4 +1,4 @@
-use Rattle.progress.proofs.Common.{◌∙◌, ap, Table}
+use Rattle.progress.proofs.Common.{◌∙◌, ap, GameTable}
 use Rattle.progress.proofs.Plain.{stored_as}
 use Rattle.progress.proofs.Settling.{plain_table}
 use Rattle.progress.proofs.table.PlainTable.is_still.Goals as goal
@@ -8,5 +8,5 @@ is_still-requires-clause-table c =
     let g = c.args.game.now in
     let i = c.self.inside in
     let (plain, wide) = stored_as i.of.value g i.pending i.bounds.items i.rows.width i.rows.values
-    (ap (λ (t : Table). t.game) c.self.view_is ∙ c.requires.same) c.self.invariant in
+    (ap (λ (t : GameTable). t.game) c.self.view_is ∙ c.requires.same) c.self.invariant in
     plain_table g i.rows.values plain

@@ -1,5 +1,5 @@
 use Rattle.progress.proofs.Common.{◌≡◌, ◌∙◌, ◌<◌, ap, length, refl, subst, sym, true≢false, Game, sum_of, IsProg, Reaches, value_at, IsStill, LiesBelow}
-use Rattle.progress.proofs.Common.{Table, Rows}
+use Rattle.progress.proofs.Common.{GameTable, Rows}
 use Rattle.progress.proofs.Plain.{measure_width, set_stored, stored_as, stored_width, value_here, values_there}
 use Rattle.progress.proofs.Monotone.{LiesUnder, lift_rises}
 use Rattle.progress.proofs.Reaching.{not_reached}
@@ -12,11 +12,11 @@ returns-then-reaches-clause-lifts c =
     let g = c.args.game.now in
     let i = c.self.inside in
     let values = i.rows.values in
-    let same : i.of.value ≡ g = ap (λ (t : Table). t.game) c.self.view_is ∙ c.requires.same in
+    let same : i.of.value ≡ g = ap (λ (t : GameTable). t.game) c.self.view_is ∙ c.requires.same in
     let (plain, wide) = stored_as i.of.value g i.pending i.bounds.items i.rows.width values same c.self.invariant in
     let reaches = c.reaches.ensures g wide in (
       refl,
-      subst (λ (t : Table). IsStill g t.values c.args.v) c.self.view_is
+      subst (λ (t : GameTable). IsStill g t.values c.args.v) c.self.view_is
           (still_from g values (plain_table g values plain) c.args.v c.requires.vertex c.owner.result c.priority-priority.result c.successors.result.now
           c.best-best.result c.owner.ensures c.priority-priority.ensures c.successors.ensures c.best-best.ensures.best (reaches.0 c.if-reaches.true)),
     )
@@ -24,7 +24,7 @@ returns-then-reaches-clause-lifts c =
 pub set-requires-clause-width : goal.set-requires-clause-width
 set-requires-clause-width c =
     let i = c.self.inside in
-    let is = subst (λ (t : Table). IsProg t.game c.priority-priority.result (value_at t.values c.best-best.result) c.prog_of-risen.result)
+    let is = subst (λ (t : GameTable). IsProg t.game c.priority-priority.result (value_at t.values c.best-best.result) c.prog_of-risen.result)
     (sym c.self.view_is) c.prog_of-risen.ensures in
     measure_width i.of.value i.rows.width c.prog_of-risen.result
     (stored_width i.of.value i.pending i.bounds.items i.rows.width i.rows.values c.self.invariant) is.measure
@@ -34,11 +34,11 @@ invariant_of-self c =
     let g = c.args.game.now in
     let i = c.self.inside in
     let values = i.rows.values in
-    let same : i.of.value ≡ g = ap (λ (t : Table). t.game) c.self.view_is ∙ c.requires.same in
+    let same : i.of.value ≡ g = ap (λ (t : GameTable). t.game) c.self.view_is ∙ c.requires.same in
     let (plain, wide) = stored_as i.of.value g i.pending i.bounds.items i.rows.width values same c.self.invariant in
     let reaches = c.reaches.ensures g wide in
     let is = subst (λ (h : Game). IsProg h c.priority-priority.result (value_at values c.best-best.result) c.prog_of-risen.result) same
-    (subst (λ (t : Table). IsProg t.game c.priority-priority.result (value_at t.values c.best-best.result) c.prog_of-risen.result)
+    (subst (λ (t : GameTable). IsProg t.game c.priority-priority.result (value_at t.values c.best-best.result) c.prog_of-risen.result)
     (sym c.self.view_is) c.prog_of-risen.ensures) in
     let lift = risen_lift g values (plain_table g values plain) c.args.v c.requires.vertex c.owner.result c.priority-priority.result c.successors.result.now
     c.best-best.result c.owner.ensures c.priority-priority.ensures c.successors.ensures
@@ -53,18 +53,18 @@ returns-clause-lifts c =
     let g = c.args.game.now in
     let i = c.self.inside in
     let values = i.rows.values in
-    let same : i.of.value ≡ g = ap (λ (t : Table). t.game) c.self.view_is ∙ c.requires.same in
+    let same : i.of.value ≡ g = ap (λ (t : GameTable). t.game) c.self.view_is ∙ c.requires.same in
     let (plain, wide) = stored_as i.of.value g i.pending i.bounds.items i.rows.width values same c.self.invariant in
     let reaches = c.reaches.ensures g wide in
     let never = λ (r : Reaches g c.priority-priority.result (value_at values c.best-best.result) (value_at values c.args.v)). true≢false
     (sym (reaches.1 r) ∙ c.if-reaches.false) in
     let is = subst (λ (h : Game). IsProg h c.priority-priority.result (value_at values c.best-best.result) c.prog_of-risen.result) same
-    (subst (λ (t : Table). IsProg t.game c.priority-priority.result (value_at t.values c.best-best.result) c.prog_of-risen.result)
+    (subst (λ (t : GameTable). IsProg t.game c.priority-priority.result (value_at t.values c.best-best.result) c.prog_of-risen.result)
     (sym c.self.view_is) c.prog_of-risen.ensures) in
     let lift = risen_lift g values (plain_table g values plain) c.args.v c.requires.vertex c.owner.result c.priority-priority.result c.successors.result.now
     c.best-best.result c.owner.ensures c.priority-priority.ensures c.successors.ensures
     c.best-best.ensures.best c.prog_of-risen.result is never in
-    subst (λ (t : Table). sum_of g t.values < sum_of g c.set.new.self.values) c.self.view_is
+    subst (λ (t : GameTable). sum_of g t.values < sum_of g c.set.new.self.values) c.self.view_is
     (sum_raised g values plain c.args.v c.prog_of-risen.result c.set.new.self.values c.requires.vertex lift
     (not_reached g c.priority-priority.result (value_at values c.best-best.result) (value_at values c.args.v) c.prog_of-risen.result is never)
     (ap (λ (r : Rows). r.values) c.set.ensures))
@@ -73,38 +73,38 @@ pub best-best-requires-clause-inside : goal.best-best-requires-clause-inside
 best-best-requires-clause-inside c =
     let i = c.self.inside in
     (values_there i.of.value c.args.game.now i.rows.values c.self.invariant.plain
-    (ap (λ (t : Table). t.game) c.self.view_is ∙ c.requires.same) c.args.v c.requires.vertex c.successors.result.now c.successors.ensures).0
+    (ap (λ (t : GameTable). t.game) c.self.view_is ∙ c.requires.same) c.args.v c.requires.vertex c.successors.result.now c.successors.ensures).0
 
 pub best-best-requires-clause-some : goal.best-best-requires-clause-some
 best-best-requires-clause-some c =
     let i = c.self.inside in
     (values_there i.of.value c.args.game.now i.rows.values c.self.invariant.plain
-    (ap (λ (t : Table). t.game) c.self.view_is ∙ c.requires.same) c.args.v c.requires.vertex c.successors.result.now c.successors.ensures).1
+    (ap (λ (t : GameTable). t.game) c.self.view_is ∙ c.requires.same) c.args.v c.requires.vertex c.successors.result.now c.successors.ensures).1
 
 pub set-requires-clause-vertex : goal.set-requires-clause-vertex
 set-requires-clause-vertex c =
     let i = c.self.inside in
     value_here i.of.value c.args.game.now i.rows.values c.self.invariant.plain
-    (ap (λ (t : Table). t.game) c.self.view_is ∙ c.requires.same) c.args.v c.requires.vertex
+    (ap (λ (t : GameTable). t.game) c.self.view_is ∙ c.requires.same) c.args.v c.requires.vertex
 
 pub prog_of-risen-requires : goal.prog_of-risen-requires
-prog_of-risen-requires c = subst (λ (t : Table). c.best-best.result < length t.values) c.self.view_is c.best-best.ensures.inside
+prog_of-risen-requires c = subst (λ (t : GameTable). c.best-best.result < length t.values) c.self.view_is c.best-best.ensures.inside
 
 pub returns-clause-kept : goal.returns-clause-kept
 returns-clause-kept c =
     let g = c.args.game.now in
     let i = c.self.inside in
     let values = i.rows.values in
-    let same : i.of.value ≡ g = ap (λ (t : Table). t.game) c.self.view_is ∙ c.requires.same in
+    let same : i.of.value ≡ g = ap (λ (t : GameTable). t.game) c.self.view_is ∙ c.requires.same in
     let (plain, wide) = stored_as i.of.value g i.pending i.bounds.items i.rows.width values same c.self.invariant in
     let reaches = c.reaches.ensures g wide in
     let is = subst (λ (h : Game). IsProg h c.priority-priority.result (value_at values c.best-best.result) c.prog_of-risen.result) same
-    (subst (λ (t : Table). IsProg t.game c.priority-priority.result (value_at t.values c.best-best.result) c.prog_of-risen.result)
+    (subst (λ (t : GameTable). IsProg t.game c.priority-priority.result (value_at t.values c.best-best.result) c.prog_of-risen.result)
     (sym c.self.view_is) c.prog_of-risen.ensures) in
     let lift = risen_lift g values (plain_table g values plain) c.args.v c.requires.vertex c.owner.result c.priority-priority.result c.successors.result.now
     c.best-best.result c.owner.ensures c.priority-priority.ensures c.successors.ensures
     c.best-best.ensures.best c.prog_of-risen.result is (λ r. true≢false (sym (reaches.1 r) ∙ c.if-reaches.false)) in
     let vertex = value_here i.of.value g values c.self.invariant.plain same c.args.v c.requires.vertex in
-    subst (λ (t : Table). LiesUnder t.values c.set.new.self.values) c.self.view_is
+    subst (λ (t : GameTable). LiesUnder t.values c.set.new.self.values) c.self.view_is
     (subst (LiesUnder values) (sym (ap (λ (r : Rows). r.values) c.set.ensures))
     (set_under values c.args.v c.prog_of-risen.result vertex (lift_rises g values c.args.v c.prog_of-risen.result lift)))
