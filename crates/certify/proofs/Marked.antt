@@ -4,7 +4,7 @@ use Rattle.std.specs.Prelude.{IsTrue, ◌↔◌}
 use Rattle.std.proofs.Math.ListN.{get_or-append}
 use Rattle.std.proofs.Math.Seq.{get_or-append_seam}
 use Rattle.std.proofs.lemmas.Bool.{cases_order}
-use Rattle.calculus.specs.Meaning.{marked, Marks}
+use Rattle.calculus.specs.Meaning.{marked, MarksOf}
 use Rattle.game.specs.Game.{Game}
 use Rattle.game.specs.Wins.{Wins, WinsBy}
 use Rattle.game.specs.declared.player.Player.TheVariants.{Even}
@@ -12,7 +12,7 @@ use Rattle.evidence.specs.Checking.{Decides}
 use Rattle.evidence.specs.Evidence.{Evidence, has}
 
 -- the marks of one more
-pub marks_more : (n : ℕ) (marks : List Bool) (mark : Bool) (P : ℕ → Type 0) → Marks n marks P → IsTrue mark ↔ P n → Marks (n + 1) (marks ++ mark ∷ []) P
+pub marks_more : (n : ℕ) (marks : List Bool) (mark : Bool) (P : ℕ → Type 0) → MarksOf n marks P → IsTrue mark ↔ P n → MarksOf (n + 1) (marks ++ mark ∷ []) P
 marks_more n marks mark P m here = record { count = omega (arith, m.count, length-append marks (mark ∷ [])); exact = at }
   where
     at : (s : ℕ) → s < n + 1 → marked (marks ++ mark ∷ []) s ↔ P s
@@ -28,7 +28,7 @@ marks_more n marks mark P m here = record { count = omega (arith, m.count, lengt
 
 -- Where the evidence decides, its player being Even, its vertices are those that Even wins.
 pub decided_marks : (g : Game) (e f : Evidence) (marks : List Bool) → Decides g e f → e.player ≡ Even
-    → Marks (length g.vertices) marks (λ v. IsTrue (has e v)) → Marks (length g.vertices) marks (Wins g)
+    → MarksOf (length g.vertices) marks (λ v. IsTrue (has e v)) → MarksOf (length g.vertices) marks (Wins g)
 decided_marks g e f marks decides is m = record { count = m.count; exact = exact }
   where
     exact : (v : ℕ) → v < length g.vertices → marked marks v ↔ Wins g v

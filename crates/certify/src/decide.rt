@@ -1,7 +1,7 @@
 // Who wins each vertex of a game, and evidence of it, by a guess of which a checker accepts evidence of both players.
 
 ghost use Rattle.std.specs.Prelude.{◌≡◌, ◌<◌, ◌≤◌, IfOk, IfSome, IsTrue, length};
-ghost use Rattle.calculus.specs.Meaning.{Marks};
+ghost use Rattle.calculus.specs.Meaning.{MarksOf};
 ghost use Rattle.certify.specs.Full.{IsFull};
 ghost use Rattle.certify.specs.Pair.{AreFull, AreOf};
 ghost use Rattle.game.specs.Wins.{Wins};
@@ -26,7 +26,7 @@ use winners::guess::{guess_soonest, guess_winners};
 /// Want of memory.
 pub fn set_marks(alloc: Global, game: &Game, even: &Evidence) -> Result<Vec<bool>, AllocError>
     requires same { even.now.game ≡ game.now }
-    ensures { IfOk result (λ marks. Marks (length game.now.vertices) marks.items (λ v. IsTrue (has even.now.evidence v))) }
+    ensures { IfOk result (λ marks. MarksOf (length game.now.vertices) marks.items (λ v. IsTrue (has even.now.evidence v))) }
 {
     let vertices = game.vertices();
     let mut marks = Vec::with_capacity(alloc, vertices as usize)?;
@@ -39,7 +39,7 @@ pub fn set_marks(alloc: Global, game: &Game, even: &Evidence) -> Result<Vec<bool
 // The marks of the vertices that Even's evidence has, where the checker accepts it beside Odd's, and no vertex is left out.
 fn checked_marks(alloc: Global, game: &Game, pair: &EvidencePair) -> Option<Vec<bool>>
     requires { AreOf game.now pair.now }
-    ensures { IfSome result (λ marks. Marks (length game.now.vertices) marks.items (Wins game.now)) }
+    ensures { IfSome result (λ marks. MarksOf (length game.now.vertices) marks.items (Wins game.now)) }
 {
     match check_both(game, &pair.even, &pair.odd) {
         Both::Yes => match set_marks(alloc, game, &pair.even) {
@@ -53,7 +53,7 @@ fn checked_marks(alloc: Global, game: &Game, pair: &EvidencePair) -> Option<Vec<
 /// A mark for each vertex, true where Even wins it, by a guess of winners, moves and ranks. There is none where the checker
 /// refuses the evidence that is made of the guess, where the guess took too long, or for want of memory. A gauge shows how far the guess has come.
 pub fn certified_winners(alloc: Global, game: &Game, gauge: Option<&Gauge>) -> Option<Vec<bool>>
-    ensures { IfSome result (λ marks. Marks (length game.now.vertices) marks.items (Wins game.now)) }
+    ensures { IfSome result (λ marks. MarksOf (length game.now.vertices) marks.items (Wins game.now)) }
 {
     let guessed = guess_soonest(alloc, game, gauge).ok()??;
     let pair = pair_of(alloc, game, &guessed)?;

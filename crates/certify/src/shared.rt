@@ -1,7 +1,7 @@
 // Who wins each vertex of a game, as `decide` tells it, by several threads.
 
 ghost use Rattle.std.specs.Prelude.{◌≡◌, ◌<◌, IfOk, IfSome, length};
-ghost use Rattle.calculus.specs.Meaning.{Marks};
+ghost use Rattle.calculus.specs.Meaning.{MarksOf};
 ghost use Rattle.game.specs.Wins.{Wins};
 
 use crate::decide::{certified_winners, set_marks};
@@ -51,7 +51,7 @@ fn checked_marks_by<R: Threads + Sync>(
     requires same { even.now.game ≡ game.now }
     requires other { odd.now.game ≡ game.now }
     requires player { even.now.evidence.player ≡ Player.Even }
-    ensures { IfSome result (λ marks. Marks (length game.now.vertices) marks.items (Wins game.now)) }
+    ensures { IfSome result (λ marks. MarksOf (length game.now.vertices) marks.items (Wins game.now)) }
 {
     match check_both_by(rt, alloc, game, even, odd, workers) {
         Both::Yes => match set_marks(alloc, game, even) {
@@ -72,7 +72,7 @@ pub fn certified_winners_by<R: Threads + Sync>(
     workers: usize,
     gauge: Option<&Gauge>,
 ) -> Option<Vec<bool>>
-    ensures { IfSome result (λ marks. Marks (length game.now.vertices) marks.items (Wins game.now)) }
+    ensures { IfSome result (λ marks. MarksOf (length game.now.vertices) marks.items (Wins game.now)) }
 {
     let hands = hands(rt, workers);
     if hands < 2 {

@@ -2,7 +2,7 @@
 
 ghost use Rattle.std.specs.Prelude.{◌≡◌, ◌++◌, length, count_by, decimal, IfErr, IfOk, IfSome};
 ghost use Rattle.text.specs.Wrote.{Wrote};
-ghost use Rattle.calculus.specs.Meaning.{Marks};
+ghost use Rattle.calculus.specs.Meaning.{MarksOf};
 ghost use Rattle.certify.specs.Full.{IsFull};
 ghost use Rattle.game.specs.Wins.{Wins};
 ghost use Rattle.commands.specs.Winners.{AreWinners, even_or_odd, sizes_text, winner_lines, winners_text as text_of};
@@ -80,7 +80,7 @@ pub(crate) fn even_marks(alloc: Global, game: &Game, even: &Evidence) -> Result<
 /// A mark for each vertex, true where Even wins it.
 fn marks_of(alloc: Global, game: &Game, settled: &Settled) -> Result<Vec<bool>, AllocError>
     requires { settled.now.game ≡ game.now }
-    ensures { IfOk result (λ marks. Marks (length game.now.vertices) marks.items (Wins game.now)) }
+    ensures { IfOk result (λ marks. MarksOf (length game.now.vertices) marks.items (Wins game.now)) }
 {
     let vertices = game.vertices();
     let mut marks = Vec::with_capacity(alloc, vertices as usize)?;

@@ -5,7 +5,7 @@ use Rattle.std.specs.Arc.{arc_value}
 use Rattle.systems.specs.Numbered.{IsInside, system_with}
 use Rattle.calculus.specs.Admitted.{IsAdmitted}
 use Rattle.calculus.specs.Closed.{closed_formula}
-use Rattle.calculus.specs.Meaning.{Marks}
+use Rattle.calculus.specs.Meaning.{MarksOf}
 use Rattle.calculus.specs.Tree.{Formula}
 use Rattle.normal.specs.Nodes.{Node}
 use Rattle.normal.specs.Rules.{nodes_with}
@@ -41,8 +41,8 @@ mark_in x = slice_index_or x.marks.items (system_of x).initial false
 some_same : (a b : ℕ) → Some a ≡ Some b → a ≡ b
 some_same a b e = cc
 
-won_in : (x : Findings) → AreFindings x → Marks (system_of x).states x.marks.items (WinsRoot (game_in x))
-won_in x found = subst (λ (g : Game). Marks (system_of x).states x.marks.items (WinsRoot g)) (sym found.solution.game.same) found.marks.won
+won_in : (x : Findings) → AreFindings x → MarksOf (system_of x).states x.marks.items (WinsRoot (game_in x))
+won_in x found = subst (λ (g : Game). MarksOf (system_of x).states x.marks.items (WinsRoot g)) (sym found.solution.game.same) found.marks.won
 
 even_there : (x : Findings) → AreFindings x → (system_of x).initial < (system_of x).states → mark_in x ≡ true → (v : ℕ)
     → place_in (game_in x) (system_of x).initial 0 ≡ Some v

@@ -6,7 +6,7 @@ use Rattle.std.specs.Str.{bytes_eq}
 use Rattle.std.proofs.lemmas.Bool.{and_parts}
 use Rattle.systems.specs.System.{System, IsSystem}
 use Rattle.calculus.specs.Tree.{Formula, True, False, Var, Not, And, Or, Implies, Dia, Box, Mu, Nu}
-use Rattle.calculus.specs.Meaning.{Env, no_sets, with_set, mean, Marks}
+use Rattle.calculus.specs.Meaning.{Env, no_sets, with_set, mean, MarksOf}
 use Rattle.calculus.proofs.Inside.{leads_inside}
 use Rattle.calculus.proofs.Same.{Same, iterate_same}
 use Rattle.meaning.specs.Free.{are_among}
@@ -57,6 +57,6 @@ module _ (l : System) (ok : IsSystem l) where
       (λ U V uv. alike f (name ∷ names) (with_set e name U) (with_set d name V) among (below l.states names e d name U V each uv)) s h
 
   -- the states of a closed formula, in any environment
-  pub marks_anywhere : (f : Formula) (e : Env) (marks : List Bool) → are_among [] f ≡ true → Marks l.states marks (mean l f no_sets)
-      → Marks l.states marks (mean l f e)
+  pub marks_anywhere : (f : Formula) (e : Env) (marks : List Bool) → are_among [] f ≡ true → MarksOf l.states marks (mean l f no_sets)
+      → MarksOf l.states marks (mean l f e)
   marks_anywhere f e marks closed made = marks_same l.states marks _ _ made (alike f [] no_sets e closed (λ name none. absurd cc))

@@ -6,7 +6,7 @@ use Rattle.std.specs.List.{list_all}
 use Rattle.systems.specs.Path.{IsPath}
 use Rattle.systems.specs.System.{System, IsSystem}
 use Rattle.calculus.specs.Tree.{Regular, Star, Plus}
-use Rattle.calculus.specs.Meaning.{Leads, marked, Marks}
+use Rattle.calculus.specs.Meaning.{Leads, marked, MarksOf}
 use Rattle.calculus.proofs.Inside.{leads_inside}
 use Rattle.meaning.proofs.Marked.{at, at_zip}
 use Rattle.meaning.specs.Arrivals.{unmarked}
@@ -52,7 +52,7 @@ true_of_or true c e = inl refl
 true_of_or false c e = inr e
 
 module _ (l : System) (ok : IsSystem l) (r : Regular) (marks found more : List Bool) (count : length found ≡ l.states)
-    (m : Marks l.states more (Into l r found)) where
+    (m : MarksOf l.states more (Into l r found)) where
   one_step : (s : ℕ) → s < l.states → ((s : ℕ) → s < l.states → marked found s → Into l (Star r) marks s) → Into l r found s → Into l (Star r) marks s
   one_step s h sound (x, go, k) = let w = sound x (leads_inside l ok r s x h go) k in (w.0, (x ∷ w.1.0, (go, w.1.1)), w.2)
 
@@ -75,9 +75,9 @@ module _ (l : System) (ok : IsSystem l) (r : Regular) (marks found more : List B
       ((m.exact s h).1 (x, p.0, along base same x states t (leads_inside l ok r s x h p.0) p.1 k))
 
   pub reached_all : ((s : ℕ) → s < l.states → marked found s → Into l (Star r) marks s) → ((s : ℕ) → s < l.states → marked marks s → marked found s)
-      → is_within more found ≡ true → Marks l.states found (Into l (Star r) marks)
+      → is_within more found ≡ true → MarksOf l.states found (Into l (Star r) marks)
   reached_all sound base same = record { count = count; exact = λ s h. (sound s h, λ w. along base same s w.1.0 w.0 h w.1.1 w.2) }
 
   -- and the last step is that of at least one
-  pub reached_some : Marks l.states found (Into l (Star r) marks) → Marks l.states more (Into l (Plus r) marks)
+  pub reached_some : MarksOf l.states found (Into l (Star r) marks) → MarksOf l.states more (Into l (Plus r) marks)
   reached_some star = into_plus l ok r marks found more star m

@@ -3,14 +3,14 @@ use Rattle.std.proofs.Common.{◌≡◌, ℕ, ◌<◌, ◌⊎◌, ◌↔◌, Boo
 use Rattle.std.proofs.lemmas.List.{get_or-map}
 use Rattle.systems.specs.System.{System, IsSystem}
 use Rattle.calculus.specs.Tree.{Regular, Then, Either, Star, Plus}
-use Rattle.calculus.specs.Meaning.{Leads, Marks}
+use Rattle.calculus.specs.Meaning.{Leads, MarksOf}
 use Rattle.meaning.specs.Into.{Into}
 use Rattle.calculus.proofs.Inside.{leads_inside}
 use Rattle.calculus.proofs.Telling.{false_is_none}
 use Rattle.meaning.proofs.Marked.{at, marks_same, marks_not}
 
-pub into_then : (l : System) → IsSystem l → (r q : Regular) (marks middle found : List Bool) → Marks l.states middle (Into l q marks)
-    → Marks l.states found (Into l r middle) → Marks l.states found (Into l (Then r q) marks)
+pub into_then : (l : System) → IsSystem l → (r q : Regular) (marks middle found : List Bool) → MarksOf l.states middle (Into l q marks)
+    → MarksOf l.states found (Into l r middle) → MarksOf l.states found (Into l (Then r q) marks)
 into_then l ok r q marks middle found m f = marks_same l.states found (Into l r middle) (Into l (Then r q) marks) f (λ s h. (there s h, back s h))
   where
     there : (s : ℕ) → s < l.states → Into l r middle s → Into l (Then r q) marks s
@@ -31,8 +31,8 @@ into_either l r q marks s = (there, back)
     back (t, inr one, k) = inr (t, one, k)
 
 -- the other states than those that lead into the others
-pub into_box : (l : System) → IsSystem l → (r : Regular) (marks found : List Bool) (P : ℕ → Type 0) → Marks l.states marks P
-    → Marks l.states found (Into l r (map not marks)) → Marks l.states (map not found) (λ s. (t : ℕ) → Leads l r s t → P t)
+pub into_box : (l : System) → IsSystem l → (r : Regular) (marks found : List Bool) (P : ℕ → Type 0) → MarksOf l.states marks P
+    → MarksOf l.states found (Into l r (map not marks)) → MarksOf l.states (map not found) (λ s. (t : ℕ) → Leads l r s t → P t)
 into_box l ok r marks found P m f = marks_same l.states (map not found) _ _ (marks_not l.states found (Into l r (map not marks)) f)
     (λ s h. (there s h, back s h))
   where
@@ -49,14 +49,14 @@ into_box l ok r marks found P m f = marks_same l.states (map not found) _ _ (mar
         let w = leads_inside l ok r s t h go in
         false_is_none (ap not (sym ((m.exact t w).1 (all t go))) ∙ (sym (get_or-map not marks t false false (omega (arith, w, m.count))) ∙ k))
 
-pub into_dia : (l : System) → IsSystem l → (r : Regular) (marks found : List Bool) (P : ℕ → Type 0) → Marks l.states marks P
-    → Marks l.states found (Into l r marks) → Marks l.states found (λ s. (t : ℕ) × Leads l r s t × P t)
+pub into_dia : (l : System) → IsSystem l → (r : Regular) (marks found : List Bool) (P : ℕ → Type 0) → MarksOf l.states marks P
+    → MarksOf l.states found (Into l r marks) → MarksOf l.states found (λ s. (t : ℕ) × Leads l r s t × P t)
 into_dia l ok r marks found P m f = marks_same l.states found _ _ f
     (λ s h. (λ w. (w.0, w.1, (m.exact w.0 (leads_inside l ok r s w.0 h w.1)).0 w.2), λ w. (w.0, w.1, (m.exact w.0 (leads_inside l ok r s w.0 h w.1)).1 w.2)))
 
 -- one step, and then any number
-pub into_plus : (l : System) → IsSystem l → (r : Regular) (marks rest found : List Bool) → Marks l.states rest (Into l (Star r) marks)
-    → Marks l.states found (Into l r rest) → Marks l.states found (Into l (Plus r) marks)
+pub into_plus : (l : System) → IsSystem l → (r : Regular) (marks rest found : List Bool) → MarksOf l.states rest (Into l (Star r) marks)
+    → MarksOf l.states found (Into l r rest) → MarksOf l.states found (Into l (Plus r) marks)
 into_plus l ok r marks rest found m f = marks_same l.states found (Into l r rest) (Into l (Plus r) marks) f (λ s h. (there s h, back s h))
   where
     there : (s : ℕ) → s < l.states → Into l r rest s → Into l (Plus r) marks s

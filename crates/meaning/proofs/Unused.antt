@@ -6,7 +6,7 @@ use Rattle.std.proofs.lemmas.Bool.{or_parts}
 use Rattle.std.proofs.lemmas.Slice.Eq.{bytes_eq-Decides}
 use Rattle.systems.specs.System.{System, IsSystem}
 use Rattle.calculus.specs.Tree.{Formula, True, False, Var, Not, And, Or, Implies, Dia, Box, Mu, Nu}
-use Rattle.calculus.specs.Meaning.{Env, with_set, iterate, mean, Marks}
+use Rattle.calculus.specs.Meaning.{Env, with_set, iterate, mean, MarksOf}
 use Rattle.calculus.proofs.Inside.{leads_inside}
 use Rattle.calculus.proofs.Same.{Same, SameSets, mean_same, iterate_same}
 use Rattle.meaning.specs.Free.{is_free_in}
@@ -79,13 +79,13 @@ module _ (l : System) (ok : IsSystem l) (x : List ℕ) where
 -- for a binder's formula in which its variable isn't free, one turn from any set gives every later iterate
 pub one_turn : (l : System) → IsSystem l → (name : List ℕ) (f : Formula) (e : Env) (U P : ℕ → Type 0) (marks : List Bool) → is_free_in name f ≡ false
     → 0 < l.states
-    → Marks l.states marks (mean l f (with_set e name U)) → Marks l.states marks (iterate l.states (λ set. mean l f (with_set e name set)) P)
+    → MarksOf l.states marks (mean l f (with_set e name U)) → MarksOf l.states marks (iterate l.states (λ set. mean l f (with_set e name set)) P)
 one_turn l ok name f e U P marks absent some made = at l.states some made
   where
     but : (V : ℕ → Type 0) → SameBut l.states name (with_set e name U) (with_set e name V)
     but V other apart s h = rw apart ((λ y. y, λ y. y))
 
-    at : (n : ℕ) → 0 < n → Marks l.states marks (mean l f (with_set e name U)) → Marks l.states marks (iterate n (λ set. mean l f (with_set e name set)) P)
+    at : (n : ℕ) → 0 < n → MarksOf l.states marks (mean l f (with_set e name U)) → MarksOf l.states marks (iterate n (λ set. mean l f (with_set e name set)) P)
     at zero none m = absurd (omega (arith, none))
     at (suc n) _ m =
         let last = iterate n (λ set. mean l f (with_set e name set)) P in

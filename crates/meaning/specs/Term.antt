@@ -3,7 +3,7 @@ use Rattle.std.specs.Prelude.{◌≡◌, [], IsTrue}
 use Rattle.systems.specs.System.{System}
 use Rattle.calculus.specs.Tree.{Formula, True, False, Var, Not, And, Or, Implies, Dia, Box, Mu, Nu}
 use Rattle.calculus.specs.View.{formula_of, regular_of}
-use Rattle.calculus.specs.Meaning.{Marks, Satisfies}
+use Rattle.calculus.specs.Meaning.{MarksOf, Satisfies}
 use Rattle.meaning.specs.Free.{is_free_in, are_among}
 use Rattle.meaning.specs.declared.term.Term.{Term}
 use Rattle.meaning.specs.declared.term.Term.TheVariants as term
@@ -24,7 +24,7 @@ formula_in (term.Nu' name used p f) = Nu name.now.items (formula_in f)
 
 -- A part that is known is closed, with its states; and each binder says whether its variable is free in its formula.
 abbrev pub IsRight : System → Term → Type 0
-IsRight l (term.Known f marks) = IsTrue (are_among [] (formula_of f.now)) × Marks l.states marks.items (Satisfies l (formula_of f.now))
+IsRight l (term.Known f marks) = IsTrue (are_among [] (formula_of f.now)) × MarksOf l.states marks.items (Satisfies l (formula_of f.now))
 IsRight l term.True = Unit {0}
 IsRight l term.False = Unit {0}
 IsRight l (term.Var name) = Unit {0}

@@ -5,7 +5,7 @@ ghost use Rattle.systems.specs.Numbered.{label_at};
 ghost use Rattle.calculus.specs.Tree.{Step};
 ghost use Rattle.calculus.specs.View.{action_of};
 ghost use Rattle.calculus.specs.Holds.{holds as holds_of};
-ghost use Rattle.calculus.specs.Meaning.{Marks};
+ghost use Rattle.calculus.specs.Meaning.{MarksOf};
 ghost use Rattle.meaning.specs.Into.{Into};
 
 use crate::sets::all;
@@ -49,7 +49,7 @@ pub fn before(
     marks: &[bool],
 ) -> Result<Vec<bool>, AllocError>
     requires { length marks.now ≡ lts.now.system.states }
-    ensures { IfOk result (λ found. Marks lts.now.system.states found.items (Into lts.now.system (Step (action_of action.now)) marks.now)) }
+    ensures { IfOk result (λ found. MarksOf lts.now.system.states found.items (Into lts.now.system (Step (action_of action.now)) marks.now)) }
 {
     let chosen = chosen_labels(alloc, lts, action)?;
     let mut found = all(alloc, lts.states() as usize, false)?;

@@ -4,7 +4,7 @@ ghost use Rattle.std.specs.Prelude.{◌≡◌, ℕ, List, IfOk, IsTrue};
 ghost use Rattle.systems.specs.System.{IsSystem};
 ghost use Rattle.calculus.specs.Tree.{Formula, Mu, Nu};
 ghost use Rattle.calculus.specs.Closed.{closed_formula};
-ghost use Rattle.calculus.specs.Meaning.{Satisfies, mean, Marks, iterate, with_set};
+ghost use Rattle.calculus.specs.Meaning.{Satisfies, mean, MarksOf, iterate, with_set};
 ghost use Rattle.meaning.specs.Extreme.{IsLeast, IsGreatest};
 ghost use Rattle.meaning.specs.Free.{is_free_in};
 ghost use Rattle.meaning.specs.Environment.{sets_of, FitsEnvironment};
@@ -27,7 +27,7 @@ fn set_of(
     count: usize,
 ) -> Result<Vec<bool>, AllocError>
     requires { FitsEnvironment count environment.now }
-    ensures { IfOk result (λ marks. Marks count marks.items (sets_of environment.now name.now.items)) }
+    ensures { IfOk result (λ marks. MarksOf count marks.items (sets_of environment.now name.now.items)) }
 {
     match environment {
         Environment::Empty => all(alloc, count, false),
@@ -56,7 +56,7 @@ fn iterated<'x, 'a>(
     requires environment { FitsEnvironment lts.now.system.states environment.now }
     requires right { IsRight lts.now.system body.now }
     requires used { used ≡ is_free_in name.now.items (formula_in body.now) }
-    ensures { IfOk result (λ marks. Marks lts.now.system.states marks.items
+    ensures { IfOk result (λ marks. MarksOf lts.now.system.states marks.items
         (iterate lts.now.system.states (λ set. mean lts.now.system (formula_in body.now) (with_set (sets_of environment.now) name.now.items set))
         (λ s. IsTrue from))) }
 {
@@ -95,7 +95,7 @@ pub(crate) fn marks_of<'x, 'a>(
 ) -> Result<Vec<bool>, AllocError>
     requires environment { FitsEnvironment lts.now.system.states environment.now }
     requires right { IsRight lts.now.system term.now }
-    ensures marks { IfOk result (λ marks. Marks lts.now.system.states marks.items (mean lts.now.system (formula_in term.now) (sets_of environment.now))) }
+    ensures marks { IfOk result (λ marks. MarksOf lts.now.system.states marks.items (mean lts.now.system (formula_in term.now) (sets_of environment.now))) }
     ensures known { IsSystem lts.now.system }
 {
     let count = lts.states() as usize;
@@ -146,8 +146,8 @@ fn marks_of_both<'x, 'a>(
     requires environment { FitsEnvironment lts.now.system.states environment.now }
     requires left { IsRight lts.now.system left.now }
     requires right { IsRight lts.now.system right.now }
-    ensures one { IfOk result (λ found. Marks lts.now.system.states found.0.items (mean lts.now.system (formula_in left.now) (sets_of environment.now))) }
-    ensures other { IfOk result (λ found. Marks lts.now.system.states found.1.items (mean lts.now.system (formula_in right.now) (sets_of environment.now))) }
+    ensures one { IfOk result (λ found. MarksOf lts.now.system.states found.0.items (mean lts.now.system (formula_in left.now) (sets_of environment.now))) }
+    ensures other { IfOk result (λ found. MarksOf lts.now.system.states found.1.items (mean lts.now.system (formula_in right.now) (sets_of environment.now))) }
 {
     let one = marks_of(alloc, lts, left, environment)?;
     let other = marks_of(alloc, lts, right, environment)?;
@@ -159,7 +159,7 @@ fn marks_of_both<'x, 'a>(
 /// # Errors
 /// Want of memory, and nothing else.
 pub fn plain_states(alloc: Global, lts: &Lts, formula: &Closed) -> Result<Vec<bool>, Memory>
-    ensures meaning { IfOk result (λ marks. Marks lts.now.system.states marks.items (Satisfies lts.now.system (closed_formula formula.now))) }
+    ensures meaning { IfOk result (λ marks. MarksOf lts.now.system.states marks.items (Satisfies lts.now.system (closed_formula formula.now))) }
     ensures least { IfOk result (λ marks. (name : List ℕ) (f : Formula) → closed_formula formula.now ≡ Mu name f → IsLeast lts.now.system name f marks.items) }
     ensures greatest { IfOk result (λ marks. (name : List ℕ) (f : Formula) → closed_formula formula.now ≡ Nu name f
         → IsGreatest lts.now.system name f marks.items) }

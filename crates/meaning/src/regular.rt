@@ -4,7 +4,7 @@ ghost use Rattle.std.specs.Prelude.{◌≡◌, length, IfOk};
 ghost use Rattle.systems.specs.System.{IsSystem};
 ghost use Rattle.calculus.specs.Tree.{Star, Plus};
 ghost use Rattle.calculus.specs.View.{regular_of};
-ghost use Rattle.calculus.specs.Meaning.{Marks};
+ghost use Rattle.calculus.specs.Meaning.{MarksOf};
 ghost use Rattle.meaning.specs.Into.{Into};
 
 use crate::actions::before;
@@ -27,8 +27,8 @@ struct Reach {
 fn reaching(alloc: Global, lts: &Lts, step: &Reg, marks: &[bool]) -> Result<Reach, AllocError>
     requires system { IsSystem lts.now.system }
     requires count { length marks.now ≡ lts.now.system.states }
-    ensures any { IfOk result (λ reach. Marks lts.now.system.states reach.any.items (Into lts.now.system (Star (regular_of step.now)) marks.now)) }
-    ensures some { IfOk result (λ reach. Marks lts.now.system.states reach.some.items (Into lts.now.system (Plus (regular_of step.now)) marks.now)) }
+    ensures any { IfOk result (λ reach. MarksOf lts.now.system.states reach.any.items (Into lts.now.system (Star (regular_of step.now)) marks.now)) }
+    ensures some { IfOk result (λ reach. MarksOf lts.now.system.states reach.some.items (Into lts.now.system (Plus (regular_of step.now)) marks.now)) }
 {
     let mut any = marks.to_vec(alloc)?;
     loop {
@@ -45,7 +45,7 @@ fn reaching(alloc: Global, lts: &Lts, step: &Reg, marks: &[bool]) -> Result<Reac
 fn any_number(alloc: Global, lts: &Lts, step: &Reg, marks: &[bool]) -> Result<Vec<bool>, AllocError>
     requires system { IsSystem lts.now.system }
     requires count { length marks.now ≡ lts.now.system.states }
-    ensures { IfOk result (λ found. Marks lts.now.system.states found.items (Into lts.now.system (Star (regular_of step.now)) marks.now)) }
+    ensures { IfOk result (λ found. MarksOf lts.now.system.states found.items (Into lts.now.system (Star (regular_of step.now)) marks.now)) }
 {
     if let Reg::Act(action) = step {
         return reaching_by(alloc, lts, action, marks);
@@ -64,7 +64,7 @@ fn at_least_one(
 ) -> Result<Vec<bool>, AllocError>
     requires system { IsSystem lts.now.system }
     requires count { length marks.now ≡ lts.now.system.states }
-    ensures { IfOk result (λ found. Marks lts.now.system.states found.items (Into lts.now.system (Plus (regular_of step.now)) marks.now)) }
+    ensures { IfOk result (λ found. MarksOf lts.now.system.states found.items (Into lts.now.system (Plus (regular_of step.now)) marks.now)) }
 {
     if let Reg::Act(action) = step {
         let any = reaching_by(alloc, lts, action, marks)?;
@@ -84,7 +84,7 @@ pub fn leading(
 ) -> Result<Vec<bool>, AllocError>
     requires system { IsSystem lts.now.system }
     requires count { length marks.now ≡ lts.now.system.states }
-    ensures { IfOk result (λ found. Marks lts.now.system.states found.items (Into lts.now.system (regular_of regular.now) marks.now)) }
+    ensures { IfOk result (λ found. MarksOf lts.now.system.states found.items (Into lts.now.system (regular_of regular.now) marks.now)) }
 {
     match regular {
         Reg::Act(action) => before(alloc, lts, action, marks),

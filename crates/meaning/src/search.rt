@@ -4,7 +4,7 @@ ghost use Rattle.std.specs.Prelude.{◌≡◌, ℕ, ◌+◌, ◌*◌, ◌<◌, �
 ghost use Rattle.systems.specs.System.{IsSystem};
 ghost use Rattle.calculus.specs.Tree.{Step, Star};
 ghost use Rattle.calculus.specs.View.{action_of};
-ghost use Rattle.calculus.specs.Meaning.{Marks, marked};
+ghost use Rattle.calculus.specs.Meaning.{MarksOf, marked};
 ghost use Rattle.meaning.specs.Into.{Into};
 ghost use Rattle.meaning.specs.Arrivals.{IsSource, HasRoom, IsIndex, unmarked};
 
@@ -95,7 +95,7 @@ pub fn reaching_by(
 ) -> Result<Vec<bool>, AllocError>
     requires system { IsSystem lts.now.system }
     requires count { length marks.now ≡ lts.now.system.states }
-    ensures { IfOk result (λ found. Marks lts.now.system.states found.items (Into lts.now.system (Star (Step (action_of action.now))) marks.now)) }
+    ensures { IfOk result (λ found. MarksOf lts.now.system.states found.items (Into lts.now.system (Star (Step (action_of action.now))) marks.now)) }
 {
     let arrivals = index_of(alloc, lts, action)?;
     let mut found = marks.to_vec(alloc)?;

@@ -2,7 +2,7 @@
 use Rattle.std.proofs.Common.{◌≡◌, ℕ, ◌+◌, ◌*◌, ◌<◌, ◌≤◌, Bool, List, [], ◌∷◌, length, refl, sym, ap, subst, ◌∙◌, arith}
 use Rattle.std.specs.Prelude.{Some, slice_get, ◌↔◌}
 use Rattle.systems.specs.System.{System}
-use Rattle.calculus.specs.Meaning.{Marks, marked}
+use Rattle.calculus.specs.Meaning.{MarksOf, marked}
 use Rattle.normal.specs.Form.{IsForm}
 use Rattle.normal.specs.Nodes.{Node}
 use Rattle.game.specs.declared.player.Player.TheVariants.{Even}
@@ -30,8 +30,8 @@ good_from c l nodes e rising ranked = record {
 }
 
 pub marks_win : (c : Cells) (l : System) (nodes : List Node) (marks : List Bool) → RankingDecides → IsForm nodes → 2 + l.states * length nodes ≤ 16777216
-    → length c.nodes ≡ length nodes → IsGoodRanking (arena l nodes) (ranking_of c) → Marks l.states marks (λ s. winner_of (cell c 0 s) ≡ Even)
-    → Marks l.states marks (λ s. Wins (arena l nodes) (place (length nodes) s 0))
+    → length c.nodes ≡ length nodes → IsGoodRanking (arena l nodes) (ranking_of c) → MarksOf l.states marks (λ s. winner_of (cell c 0 s) ≡ Even)
+    → MarksOf l.states marks (λ s. Wins (arena l nodes) (place (length nodes) s 0))
 marks_win c l nodes marks decides form few e good m = record { count = m.count; exact = exact }
   where
     some : 0 < length nodes

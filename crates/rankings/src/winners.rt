@@ -2,7 +2,7 @@
 
 ghost use Rattle.std.specs.Prelude.{◌≡◌, ◌+◌, ◌*◌, ◌<◌, ◌≤◌, IfOk, IfSome, IsTrue, length, map};
 ghost use Rattle.std.specs.Thread.{IsSync};
-ghost use Rattle.calculus.specs.Meaning.{Marks};
+ghost use Rattle.calculus.specs.Meaning.{MarksOf};
 ghost use Rattle.normal.specs.Normal.{normal_nodes};
 ghost use Rattle.game.specs.declared.limits.TheConstants.{MOST_VERTICES};
 ghost use Rattle.game.specs.Arena.{arena, place};
@@ -139,7 +139,7 @@ fn is_good<R: Threads + Sync>(
 
 // A mark for each state, true where the sheet says that Even wins its vertex with the root node.
 fn marks_of(alloc: Global, sheet: &Sheet, states: u32) -> Result<Vec<bool>, AllocError>
-    ensures { IfOk result (λ marks. Marks states marks.items (λ s. winner_of (cell sheet.now 0 s) ≡ Player.Even)) }
+    ensures { IfOk result (λ marks. MarksOf states marks.items (λ s. winner_of (cell sheet.now 0 s) ≡ Player.Even)) }
 {
     let column = sheet.column(0);
     let mut marks = Vec::with_capacity(alloc, states as usize)?;
@@ -162,7 +162,7 @@ fn checked_marks<R: Threads + Sync>(
     requires sets { AreSets lts.now.labels (normal_nodes form.now) (map (λ set. set.items) sets.now) }
     requires count { length sets.now ≡ length (normal_nodes form.now) }
     requires few { 2 + lts.now.system.states * length (normal_nodes form.now) ≤ MOST_VERTICES }
-    ensures { IfSome result (λ marks. Marks lts.now.system.states marks.items
+    ensures { IfSome result (λ marks. MarksOf lts.now.system.states marks.items
         (λ s. Wins (arena lts.now.system (normal_nodes form.now)) (place (length (normal_nodes form.now)) s 0))) }
 {
     form.known();
@@ -189,7 +189,7 @@ pub fn root_winners<R: Threads + Sync>(
     threads: u32,
 ) -> Option<Vec<bool>>
     ensures few { IfSome result (λ _. 2 + lts.now.system.states * length (normal_nodes form.now) ≤ MOST_VERTICES) }
-    ensures wins { IfSome result (λ marks. Marks lts.now.system.states marks.items
+    ensures wins { IfSome result (λ marks. MarksOf lts.now.system.states marks.items
         (λ s. Wins (arena lts.now.system (normal_nodes form.now)) (place (length (normal_nodes form.now)) s 0))) }
 {
     form.known();

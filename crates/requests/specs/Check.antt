@@ -6,7 +6,7 @@ use Rattle.lts.specs.Aut.{IsAut, HasFault}
 use Rattle.lts.specs.Canon.{aut_text}
 use Rattle.lts.specs.Left.{Refuses}
 use Rattle.calculus.specs.Tree.{Formula}
-use Rattle.calculus.specs.Meaning.{Marks, Satisfies}
+use Rattle.calculus.specs.Meaning.{MarksOf, Satisfies}
 use Rattle.formula.specs.Checked.{IsTold}
 use Rattle.normal.specs.declared.limits.TheConstants.{MOST_NODES, GREATEST_PRIORITY}
 use Rattle.normal.specs.declared.priorities.Priorities.{Priorities}
@@ -85,12 +85,12 @@ IsBeyond (ByGame rule board) l f e = ⊥
 -- Where a game is made, Even wins the vertex of a state with the root exactly where the state's mark is true.
 abbrev pub AreWon : Way → System → Formula → List Bool → Type 0
 AreWon BySets l f marks = Unit {0}
-AreWon (ByGame rule board) l f marks = Marks l.states marks (WinsRoot (game_by_rule rule l f))
+AreWon (ByGame rule board) l f marks = MarksOf l.states marks (WinsRoot (game_by_rule rule l f))
 
 -- the marks of the states in the formula's meaning, found this way
 pub record AreMarks (way : Way) (l : System) (f : Formula) (marks : List Bool) : Type 0 where
   pub within : CanBeFound way l f
-  pub exact : Marks l.states marks (Satisfies l f)
+  pub exact : MarksOf l.states marks (Satisfies l f)
   pub won : AreWon way l f marks
 
 -- The texts that are written where these are the marks. Without a game there is the report alone. Where nothing is asked for, nothing is written.

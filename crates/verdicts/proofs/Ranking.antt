@@ -2,7 +2,7 @@
 use Rattle.std.proofs.Common.{◌≡◌, ◌≢◌, ◌+◌, ◌*◌, ◌≤◌, ℕ, Bool, List, length, None, Option, Some, Vec, Global, refl, sym, subst}
 use Rattle.std.specs.Prelude.{IfSome}
 use Rattle.calculus.specs.Admitted.{IsAdmitted}
-use Rattle.calculus.specs.Meaning.{Marks}
+use Rattle.calculus.specs.Meaning.{MarksOf}
 use Rattle.calculus.specs.Tree.{Formula}
 use Rattle.systems.specs.System.{IsSystem, System}
 use Rattle.normal.specs.declared.limits.TheConstants.{GREATEST_PRIORITY, MOST_NODES}
@@ -30,8 +30,8 @@ fits Auto rule l f n = λ h. h
 fits Locked rule l f n = λ h. h
 fits Packed rule l f n = absurd (n refl)
 
-won : (l : System) (ns : List Node) (marks : List Bool) → Marks l.states marks (λ s. Wins (arena l ns) (place (length ns) s 0))
-    → Marks l.states marks (WinsRoot (arena l ns))
+won : (l : System) (ns : List Node) (marks : List Bool) → MarksOf l.states marks (λ s. Wins (arena l ns) (place (length ns) s 0))
+    → MarksOf l.states marks (WinsRoot (arena l ns))
 won l ns marks m = record {
   count = m.count;
   exact = λ s h. (
@@ -43,7 +43,7 @@ won l ns marks m = record {
 ranked : (rule : Priorities) (board : BoardKind) (l : System) (f : Formula) (marks : List Bool) → ChosenIsAdmissible → EvenWinsFormula
     → IsSystem l → IsAdmitted f → board ≢ Packed → node_count f ≤ MOST_NODES → greatest_priority (nodes_with rule f) ≤ GREATEST_PRIORITY
     → 2 + l.states * length (nodes_with rule f) ≤ MOST_VERTICES
-    → Marks l.states marks (λ s. Wins (arena l (nodes_with rule f)) (place (length (nodes_with rule f)) s 0))
+    → MarksOf l.states marks (λ s. Wins (arena l (nodes_with rule f)) (place (length (nodes_with rule f)) s 0))
     → AreMarks (ByGame rule (Some board)) l f marks
 ranked rule board l f marks chosen wins is admitted n few low vertices m =
     let w = won l (nodes_with rule f) marks m in
@@ -57,10 +57,10 @@ ranked rule board l f marks chosen wins is admitted n few low vertices m =
 pub ranked_by : (rule : Priorities) (board : BoardKind) (l : System) (f : Formula) (ns : List Node) (marks : Option (Vec Bool Global)) → ChosenIsAdmissible
     → EvenWinsFormula → IsSystem l → IsAdmitted f → (board ≡ Packed → ⊥) → node_count f ≤ MOST_NODES → greatest_priority (nodes_with rule f) ≤ GREATEST_PRIORITY
     → ns ≡ nodes_with rule f → IfSome marks (λ m. 2 + l.states * length ns ≤ MOST_VERTICES)
-    → IfSome marks (λ m. Marks l.states m.items (λ s. Wins (arena l ns) (place (length ns) s 0)))
+    → IfSome marks (λ m. MarksOf l.states m.items (λ s. Wins (arena l ns) (place (length ns) s 0)))
     → IfSome marks (λ m. AreMarks (ByGame rule (Some board)) l f m.items)
 ranked_by rule board l f ns None chosen wins is admitted n few low same vertices m = tt
 ranked_by rule board l f ns (Some marks) chosen wins is admitted n few low same vertices m =
     ranked rule board l f marks.items chosen wins is admitted n few low
     (subst (λ xs. 2 + l.states * length xs ≤ MOST_VERTICES) same vertices)
-    (subst (λ xs. Marks l.states marks.items (λ s. Wins (arena l xs) (place (length xs) s 0))) same m)
+    (subst (λ xs. MarksOf l.states marks.items (λ s. Wins (arena l xs) (place (length xs) s 0))) same m)

@@ -9,7 +9,7 @@ use Rattle.game.specs.Wins.{Wins}
 use Rattle.std.proofs.Math.ListN.{get_or-append}
 use Rattle.std.proofs.Math.Seq.{get_or-append_seam}
 use Rattle.std.proofs.lemmas.Bool.{cases_order}
-use Rattle.calculus.specs.Meaning.{marked, Marks, Satisfies}
+use Rattle.calculus.specs.Meaning.{marked, MarksOf, Satisfies}
 use Rattle.calculus.specs.Tree.{Formula}
 use Rattle.calculus.specs.Admitted.{IsAdmitted}
 use Rattle.systems.specs.System.{System, IsSystem}
@@ -34,7 +34,7 @@ root_below states s v g is (nodes, some, named) h at =
     omega (arith, e, size, room)
 
 -- the marks of one state more
-pub marks_more : (n : ℕ) (marks : List Bool) (mark : Bool) (P : ℕ → Type 0) → Marks n marks P → IsTrue mark ↔ P n → Marks (n + 1) (marks ++ mark ∷ []) P
+pub marks_more : (n : ℕ) (marks : List Bool) (mark : Bool) (P : ℕ → Type 0) → MarksOf n marks P → IsTrue mark ↔ P n → MarksOf (n + 1) (marks ++ mark ∷ []) P
 marks_more n marks mark P m here = record { count = omega (arith, m.count, length-append marks (mark ∷ [])); exact = at }
   where
     at : (s : ℕ) → s < n + 1 → marked (marks ++ mark ∷ []) s ↔ P s
@@ -58,7 +58,7 @@ arena_roots l ns g n e h some = (length ns, some, ap (λ (x : Game). x.named) e 
 
 -- The marks of the states whose root vertex Even wins are those of the formula's states.
 pub roots_mean : (l : System) (f : Formula) (ns : List Node) (marks : List Bool) → EvenWinsFormula → IsSystem l → IsAdmitted f → IsNodes (normal_form f) ns
-    → Marks l.states marks (WinsRoot (arena l ns)) → Marks l.states marks (Satisfies l f)
+    → MarksOf l.states marks (WinsRoot (arena l ns)) → MarksOf l.states marks (Satisfies l f)
 roots_mean l f ns marks wins is admitted nodes m = record { count = m.count; exact = exact }
   where
     exact : (s : ℕ) → s < l.states → marked marks s ↔ Satisfies l f s

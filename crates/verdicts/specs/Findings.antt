@@ -4,7 +4,7 @@ use Rattle.std.specs.Arc.{arc_value}
 use Rattle.systems.specs.System.{System}
 use Rattle.calculus.specs.Tree.{Formula}
 use Rattle.calculus.specs.Closed.{closed_formula}
-use Rattle.calculus.specs.Meaning.{Marks}
+use Rattle.calculus.specs.Meaning.{MarksOf}
 use Rattle.game.specs.Game.{Game}
 use Rattle.game.specs.Wins.{OddWins, Wins}
 use Rattle.evidence.specs.Best.{IsEvenOf, IsOddOf}
@@ -14,9 +14,9 @@ use Rattle.evidence.specs.declared.error.EvidenceError.{EvidenceError}
 use Rattle.evidence.specs.declared.error.EvidenceError.TheVariants as evidence
 use Rattle.verdicts.specs.declared.lifting.SolvedGame.{SolvedGame}
 use Rattle.verdicts.specs.declared.lifting.Winners.{Winners}
-use Rattle.verdicts.specs.declared.lifting.Winners.TheVariants.{Table, Marks as ByMarks}
+use Rattle.verdicts.specs.declared.lifting.Winners.TheVariants.{Table, MarksOf as ByMarks}
 use Rattle.verdicts.specs.declared.lifting.Solution.{Solution}
-use Rattle.verdicts.specs.declared.lifting.Solution.TheVariants.{Table as HasTable, Marks as HasMarks}
+use Rattle.verdicts.specs.declared.lifting.Solution.TheVariants.{Table as HasTable, MarksOf as HasMarks}
 use Rattle.verdicts.specs.declared.beside.FoundBeside.{FoundBeside}
 use Rattle.verdicts.specs.declared.findings.Findings.{Findings}
 use Rattle.verdicts.specs.declared.findings.Posed.{Posed}
@@ -33,12 +33,12 @@ pub record IsSolvedGame (l : System) (f : Formula) (s : SolvedGame) : Type 0 whe
 -- They are the winners of the game.
 abbrev pub AreWinnersOf : Game → Winners → Type 0
 AreWinnersOf g (Table settled) = settled.now.game ≡ g
-AreWinnersOf g (ByMarks marks) = Marks (length g.vertices) marks.now (Wins g)
+AreWinnersOf g (ByMarks marks) = MarksOf (length g.vertices) marks.now (Wins g)
 
 -- The same of what says so.
 abbrev pub IsSolutionOf : Game → Solution → Type 0
 IsSolutionOf g (HasTable settled) = settled.game ≡ g
-IsSolutionOf g (HasMarks marks) = Marks (length g.vertices) marks.items (Wins g)
+IsSolutionOf g (HasMarks marks) = MarksOf (length g.vertices) marks.items (Wins g)
 
 -- The game that is to be solved is that of the texts.
 abbrev pub ArePosed : Posed → Type 0

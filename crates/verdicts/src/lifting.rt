@@ -3,7 +3,7 @@
 ghost use Rattle.std.specs.Prelude.{◌≡◌, ◌≤◌, ◌<◌, ◌↔◌, IfOk, IfErr, IsTrue, Option, length};
 ghost use Rattle.std.specs.Arc.{arc_value};
 ghost use Rattle.calculus.specs.Closed.{closed_formula};
-ghost use Rattle.calculus.specs.Meaning.{Marks};
+ghost use Rattle.calculus.specs.Meaning.{MarksOf};
 ghost use Rattle.game.specs.Game.{Game};
 ghost use Rattle.game.specs.Wins.{Wins};
 ghost use Rattle.requests.specs.Check.{ByGame, AreMarks, IsArenaOf};
@@ -39,7 +39,7 @@ pub enum Winners<'a> {
     /// By its least progress table.
     Table(&'a Settled),
     /// By a mark for each vertex, true where Even wins it.
-    Marks(&'a [bool]),
+    MarksOf(&'a [bool]),
 }
 
 /// Who wins a game, as it was found out.
@@ -48,7 +48,7 @@ pub enum Solution {
     /// Its least progress table.
     Table(Settled),
     /// A mark for each vertex, true where Even wins it.
-    Marks(Vec<bool>),
+    MarksOf(Vec<bool>),
 }
 
 impl Solution {
@@ -58,7 +58,7 @@ impl Solution {
     {
         match self {
             Solution::Table(settled) => Winners::Table(settled),
-            Solution::Marks(marks) => Winners::Marks(marks),
+            Solution::MarksOf(marks) => Winners::MarksOf(marks),
         }
     }
 }
@@ -71,7 +71,7 @@ fn even_wins_by(winners: Winners<'_>, game: &Game, v: u32) -> bool
 {
     match winners {
         Winners::Table(settled) => even_wins(settled, v),
-        Winners::Marks(marks) => marks[v as usize],
+        Winners::MarksOf(marks) => marks[v as usize],
     }
 }
 
@@ -112,7 +112,7 @@ fn root_marks(
 ) -> Result<Vec<bool>, AllocError>
     requires winners { AreWinnersOf game.now winners }
     requires named { HasRoots states game.now }
-    ensures { IfOk result (λ marks. Marks states marks.items (WinsRoot game.now)) }
+    ensures { IfOk result (λ marks. MarksOf states marks.items (WinsRoot game.now)) }
 {
     game.known();
     let mut marks = Vec::with_capacity(alloc, states as usize)?;

@@ -2,7 +2,7 @@
 
 ghost use Rattle.std.specs.Prelude.{◌≡◌, ◌+◌, ◌*◌, ◌≤◌, ◌↔◌, IfSome, IsTrue, Some, length};
 ghost use Rattle.calculus.specs.Closed.{closed_formula};
-ghost use Rattle.calculus.specs.Meaning.{Marks};
+ghost use Rattle.calculus.specs.Meaning.{MarksOf};
 ghost use Rattle.normal.specs.Normal.{normal_nodes};
 ghost use Rattle.game.specs.declared.limits.TheConstants.{MOST_VERTICES};
 ghost use Rattle.game.specs.Arena.{arena, place};
@@ -45,7 +45,7 @@ fn guessed_winners<H: Threads + Sync>(
     workers: u32,
 ) -> Option<Vec<bool>>
     ensures few { IfSome result (λ _. 2 + system.now.system.states * length (normal_nodes form.now) ≤ MOST_VERTICES) }
-    ensures wins { IfSome result (λ marks. Marks system.now.system.states marks.items
+    ensures wins { IfSome result (λ marks. MarksOf system.now.system.states marks.items
         (λ s. Wins (arena system.now.system (normal_nodes form.now)) (place (length (normal_nodes form.now)) s 0))) }
 {
     match guessed_sheet(rt, alloc, system, form, workers) {

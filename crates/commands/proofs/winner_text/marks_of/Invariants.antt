@@ -1,6 +1,6 @@
-use Rattle.calculus.specs.Meaning.{Marks}
+use Rattle.calculus.specs.Meaning.{MarksOf}
 use Rattle.game.specs.Wins.{Wins}
 use Rattle.commands.proofs.winner_text.marks_of.Given as goal
 
 abbrev pub invariant-loop-v : goal.invariant-loop-v
-invariant-loop-v l = Marks l.v l.marks.items (Wins l.game)
+invariant-loop-v l = MarksOf l.v l.marks.items (Wins l.game)

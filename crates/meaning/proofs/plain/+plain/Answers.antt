@@ -4,7 +4,7 @@ use Rattle.systems.specs.System.{System}
 use Rattle.calculus.specs.View.{formula_of, regular_of}
 use Rattle.meaning.specs.Term.{formula_in, IsRight}
 use Rattle.calculus.specs.Tree.{Formula, And, Or, Implies, Dia, Box, Mu, Nu}
-use Rattle.calculus.specs.Meaning.{Env, Marks, mean, iterate, with_set}
+use Rattle.calculus.specs.Meaning.{Env, MarksOf, mean, iterate, with_set}
 use Rattle.meaning.specs.Into.{Into}
 use Rattle.meaning.specs.Environment.{sets_of}
 use Rattle.meaning.proofs.Marked.{marks_and, marks_or, marks_implies, equal_marks}
@@ -16,16 +16,16 @@ use Rattle.meaning.proofs.Iterated.{turn_marks, repeats_marks, least_marks, grea
 use Rattle.meaning.proofs.plain.+plain.Goals as goal
 
 -- what was made are the marks of the formula that these stand for
-made_of : (l : System) (e : Env) (x y : Formula) (made items : List Bool) → x ≡ y → made ≡ items → Marks l.states items (mean l y e)
-    → Marks l.states made (mean l x e)
-made_of l e x y made items is same m = subst (λ (z : Formula). Marks l.states made (mean l z e)) (sym is)
-    (subst (λ ms. Marks l.states ms (mean l y e)) (sym same) m)
+made_of : (l : System) (e : Env) (x y : Formula) (made items : List Bool) → x ≡ y → made ≡ items → MarksOf l.states items (mean l y e)
+    → MarksOf l.states made (mean l x e)
+made_of l e x y made items is same m = subst (λ (z : Formula). MarksOf l.states made (mean l z e)) (sym is)
+    (subst (λ ms. MarksOf l.states ms (mean l y e)) (sym same) m)
 
 -- the same of a call's result
 result_of : {E : Type 0} (l : System) (e : Env) (x y : Formula) (r : Result (Vec Bool Global) E) (P : List Bool → Type 0) → x ≡ y
-    → ((ms : List Bool) → P ms → Marks l.states ms (mean l y e)) → IfOk r (λ marks. P marks.items)
-    → IfOk r (λ marks. Marks l.states marks.items (mean l x e))
-result_of l e x y r P is f h = subst (λ (z : Formula). IfOk r (λ marks. Marks l.states marks.items (mean l z e))) (sym is)
+    → ((ms : List Bool) → P ms → MarksOf l.states ms (mean l y e)) → IfOk r (λ marks. P marks.items)
+    → IfOk r (λ marks. MarksOf l.states marks.items (mean l x e))
+result_of l e x y r P is f h = subst (λ (z : Formula). IfOk r (λ marks. MarksOf l.states marks.items (mean l z e))) (sym is)
     (IfOk-weaker r (λ marks. P marks.items) _ (λ marks. f marks.items) h)
 
 pub marks_of-returns-in-Known-clause-marks : goal.marks_of-returns-in-Known-clause-marks
@@ -34,7 +34,7 @@ marks_of-returns-in-Known-clause-marks t c =
     let f = formula_of c.in-Known.field-0.now in
     let right = subst (IsRight l) c.in-Known.is c.requires.right in
     result_of l (sets_of c.args.environment.now) _ f c.copied.result (λ ms. ms ≡ c.deref.result.now) (ap formula_in c.in-Known.is)
-    (λ ms same. subst (λ ns. Marks l.states ns (mean l f (sets_of c.args.environment.now))) (sym (same ∙ c.deref.ensures.value))
+    (λ ms same. subst (λ ns. MarksOf l.states ns (mean l f (sets_of c.args.environment.now))) (sym (same ∙ c.deref.ensures.value))
     (marks_anywhere l c.states-count.ensures.known f (sets_of c.args.environment.now) c.in-Known.marks.items right.0 right.1))
     c.copied.ensures
 
@@ -82,10 +82,10 @@ marks_of-returns-in_ok-marks-in-Dia-clause-marks t c =
     let r = regular_of c.in-Dia.regular.now in
     let e = sets_of c.args.environment.now in
     let f = formula_in c.deref-in-Dia.result.now in
-    result_of l e _ (Dia r f) c.leading.result (λ ms. Marks l.states ms (Into l r c.deref-in-Dia-2.result.now))
+    result_of l e _ (Dia r f) c.leading.result (λ ms. MarksOf l.states ms (Into l r c.deref-in-Dia-2.result.now))
     (ap formula_in c.in-Dia.is ∙ sym (ap (λ a. Dia r (formula_in a)) c.deref-in-Dia.ensures))
     (λ ms q. into_dia l c.states-count.ensures.known r c.in_ok-marks-in-Dia.marks.items ms (mean l f e) c.in_ok-marks-in-Dia.ensures.marks
-    (subst (λ xs. Marks l.states ms (Into l r xs)) c.deref-in-Dia-2.ensures.value q))
+    (subst (λ xs. MarksOf l.states ms (Into l r xs)) c.deref-in-Dia-2.ensures.value q))
     c.leading.ensures
 
 pub marks_of-returns-in_ok-found-in-Box-clause-marks : goal.marks_of-returns-in_ok-found-in-Box-clause-marks
@@ -100,7 +100,7 @@ marks_of-returns-in_ok-found-in-Box-clause-marks t c =
     (ap formula_in c.in-Box.is ∙ sym (ap (λ a. Box r (formula_in a)) c.deref-in-Box.ensures))
     c.complement-in-Box-2.ensures
     (into_box l c.states-count.ensures.known r c.in_ok-marks-in-Box.marks.items found (mean l f e) c.in_ok-marks-in-Box.ensures.marks
-    (subst (λ ms. Marks l.states found (Into l r ms)) turned c.in_ok-found-in-Box.ensures))
+    (subst (λ ms. MarksOf l.states found (Into l r ms)) turned c.in_ok-found-in-Box.ensures))
 
 pub marks_of-returns-in-Mu-clause-marks : goal.marks_of-returns-in-Mu-clause-marks
 marks_of-returns-in-Mu-clause-marks t c =
@@ -108,7 +108,7 @@ marks_of-returns-in-Mu-clause-marks t c =
     let e = sets_of c.args.environment.now in
     let f = formula_in c.deref-in-Mu.result.now in
     let name = c.in-Mu.name.now.items in
-    result_of l e _ (Mu name f) c.iterated.result (λ ms. Marks l.states ms (iterate l.states (λ set. mean l f (with_set e name set)) (λ s. IsTrue false)))
+    result_of l e _ (Mu name f) c.iterated.result (λ ms. MarksOf l.states ms (iterate l.states (λ set. mean l f (with_set e name set)) (λ s. IsTrue false)))
     (ap formula_in c.in-Mu.is ∙ sym (ap (λ a. Mu name (formula_in a)) c.deref-in-Mu.ensures))
     (λ ms q. least_marks l c.states-count.ensures.known name f e ms q) c.iterated.ensures
 
@@ -118,7 +118,7 @@ marks_of-returns-in-Nu-clause-marks t c =
     let e = sets_of c.args.environment.now in
     let f = formula_in c.deref-in-Nu.result.now in
     let name = c.in-Nu.name.now.items in
-    result_of l e _ (Nu name f) c.iterated-in-Nu.result (λ ms. Marks l.states ms (iterate l.states (λ set. mean l f (with_set e name set)) (λ s. IsTrue true)))
+    result_of l e _ (Nu name f) c.iterated-in-Nu.result (λ ms. MarksOf l.states ms (iterate l.states (λ set. mean l f (with_set e name set)) (λ s. IsTrue true)))
     (ap formula_in c.in-Nu.is ∙ sym (ap (λ a. Nu name (formula_in a)) c.deref-in-Nu.ensures))
     (λ ms q. greatest_marks l c.states-count.ensures.known name f e ms q) c.iterated-in-Nu.ensures
 
@@ -150,6 +150,6 @@ pub iterated-returns : goal.iterated-returns
 iterated-returns t c =
     let l = c.args.lts.now.system in
     let done : c.loop-turn.turn ≡ l.states = omega (arith, c.loop-turn-test.false, c.loop-turn.auto.turn-end, c.states-count.ensures.count) in
-    subst (λ k. Marks l.states c.loop-turn.set.items (iterate k
+    subst (λ k. MarksOf l.states c.loop-turn.set.items (iterate k
     (λ set. mean l (formula_in c.args.body.now) (with_set (sets_of c.args.environment.now) c.args.name.now.items set))
     (λ s. IsTrue c.args.from))) done c.loop-turn.invariant

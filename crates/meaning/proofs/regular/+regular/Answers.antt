@@ -3,7 +3,7 @@ use Rattle.std.proofs.lemmas.Result.{IfOk-weaker}
 use Rattle.systems.specs.System.{System}
 use Rattle.calculus.specs.View.{action_of, regular_of}
 use Rattle.calculus.specs.Tree.{Regular, Step, Then, Either, Star, Plus}
-use Rattle.calculus.specs.Meaning.{Marks, marked}
+use Rattle.calculus.specs.Meaning.{MarksOf, marked}
 use Rattle.meaning.specs.Arrivals.{unmarked}
 use Rattle.meaning.specs.Into.{Into}
 use Rattle.meaning.specs.Signs.{without_signs, has_star}
@@ -18,11 +18,11 @@ leading-returns-in_ok-middle-in-Seq t c =
     let l = c.args.lts.now.system in
     let is : regular_of c.args.regular.now ≡ Then (regular_of c.deref-in-Seq.result.now) (regular_of c.deref.result.now) =
     ap regular_of c.in-Seq.is ∙ sym (ap₂ (λ a b. Then (regular_of a) (regular_of b)) c.deref-in-Seq.ensures c.deref.ensures) in
-    subst (λ (r : Regular). IfOk c.leading-in-Seq.result (λ found. Marks l.states found.items (Into l r c.args.marks.now))) (sym is)
+    subst (λ (r : Regular). IfOk c.leading-in-Seq.result (λ found. MarksOf l.states found.items (Into l r c.args.marks.now))) (sym is)
     (IfOk-weaker c.leading-in-Seq.result _ _
     (λ found f. into_then l c.requires.system (regular_of c.deref-in-Seq.result.now)
     (regular_of c.deref.result.now) c.args.marks.now c.in_ok-middle-in-Seq.middle.items found.items
-    c.in_ok-middle-in-Seq.ensures (subst (λ ms. Marks l.states found.items
+    c.in_ok-middle-in-Seq.ensures (subst (λ ms. MarksOf l.states found.items
     (Into l (regular_of c.deref-in-Seq.result.now) ms)) c.deref-in-Seq-2.ensures.value f))
     c.leading-in-Seq.ensures)
 
@@ -36,8 +36,8 @@ leading-returns-in_ok-other-in-Choice t c =
     let is : regular_of c.args.regular.now ≡ Either r q =
     ap regular_of c.in-Choice.is ∙ sym (ap₂ (λ a b. Either (regular_of a) (regular_of b)) c.deref-in-Choice.ensures c.deref-in-Choice-2.ensures) in
     let joins : c.union.result.items ≡ joined one c.in_ok-other-in-Choice.other.items = c.union.ensures ∙ ap (joined one) c.deref-in-Choice-3.ensures.value in
-    subst (λ (x : Regular). Marks l.states c.union.result.items (Into l x ms)) (sym is)
-    (subst (λ items. Marks l.states items (Into l (Either r q) ms)) (sym joins)
+    subst (λ (x : Regular). MarksOf l.states c.union.result.items (Into l x ms)) (sym is)
+    (subst (λ items. MarksOf l.states items (Into l (Either r q) ms)) (sym joins)
     (marks_same l.states _ _ _
     (marks_or l.states one c.in_ok-other-in-Choice.other.items (Into l r ms) (Into l q ms) c.in_ok-one-in-Choice.ensures c.in_ok-other-in-Choice.ensures)
     (λ s h. into_either l r q ms s)))
@@ -48,7 +48,7 @@ reaching-returns-then-is_within-clause-any t c =
     let r = regular_of c.args.step.now in
     let found = c.loop-any.any.items in
     let more = c.in_ok-some.some.items in
-    let m : Marks l.states more (Into l r found) = subst (λ x. Marks l.states more (Into l r x)) c.deref.ensures.value c.in_ok-some.ensures in
+    let m : MarksOf l.states more (Into l r found) = subst (λ x. MarksOf l.states more (Into l r x)) c.deref.ensures.value c.in_ok-some.ensures in
     let within : c.is_within.result ≡ is_within more found = c.is_within.ensures
     ∙ ap₂ (λ a b. is_within a b) c.deref-in-loop-any.ensures.value c.deref-in-loop-any-2.ensures.value in
     reached_all l c.requires.system r c.args.marks.now found more c.loop-any.invariant.count m c.loop-any.invariant.sound c.loop-any.invariant.base
@@ -60,7 +60,7 @@ reaching-returns-then-is_within-clause-some t c =
     let r = regular_of c.args.step.now in
     let found = c.loop-any.any.items in
     let more = c.in_ok-some.some.items in
-    let m : Marks l.states more (Into l r found) = subst (λ x. Marks l.states more (Into l r x)) c.deref.ensures.value c.in_ok-some.ensures in
+    let m : MarksOf l.states more (Into l r found) = subst (λ x. MarksOf l.states more (Into l r x)) c.deref.ensures.value c.in_ok-some.ensures in
     let within : c.is_within.result ≡ is_within more found = c.is_within.ensures
     ∙ ap₂ (λ a b. is_within a b) c.deref-in-loop-any.ensures.value c.deref-in-loop-any-2.ensures.value in
     reached_some l c.requires.system r c.args.marks.now found more c.loop-any.invariant.count m
@@ -83,7 +83,7 @@ reaching-loop-any-preserved t c =
     let r = regular_of c.args.step.now in
     let found = c.loop-any.any.items in
     let more = c.in_ok-some.some.items in
-    let m : Marks l.states more (Into l r found) = subst (λ x. Marks l.states more (Into l r x)) c.deref.ensures.value c.in_ok-some.ensures in
+    let m : MarksOf l.states more (Into l r found) = subst (λ x. MarksOf l.states more (Into l r x)) c.deref.ensures.value c.in_ok-some.ensures in
     let joins : c.union-any.result.items ≡ joined found more = c.union-any.ensures ∙ ap (joined found) c.deref-in-loop-any-3.ensures.value in
     record {
       count = ap length joins ∙ (length_zip (λ p. p.0 || p.1) found more (omega (arith, c.loop-any.invariant.count, c.in_ok-some.ensures.count))
@@ -101,10 +101,10 @@ at_least_one-returns-in-Act t c =
     let ms = c.args.marks.now in
     let any = c.in_ok-any.any.items in
     let is : regular_of c.args.step.now ≡ r = ap regular_of c.in-Act.is in
-    subst (λ (x : Regular). IfOk c.before-in-Act.result (λ found. Marks l.states found.items (Into l (Plus x) ms))) (sym is)
-    (IfOk-weaker c.before-in-Act.result (λ found. Marks l.states found.items (Into l r c.deref.result.now)) _
+    subst (λ (x : Regular). IfOk c.before-in-Act.result (λ found. MarksOf l.states found.items (Into l (Plus x) ms))) (sym is)
+    (IfOk-weaker c.before-in-Act.result (λ found. MarksOf l.states found.items (Into l r c.deref.result.now)) _
     (λ found f. into_plus l c.requires.system r ms any found.items c.in_ok-any.ensures
-    (subst (λ x. Marks l.states found.items (Into l r x)) c.deref.ensures.value f))
+    (subst (λ x. MarksOf l.states found.items (Into l r x)) c.deref.ensures.value f))
     c.before-in-Act.ensures)
 
 -- what stands before the signs behind a formula is no higher
@@ -155,10 +155,10 @@ leading-at_least_one-requires t c =
 
 -- a call's marks are those of a formula that leads to the set from the same states
 led_by : {E : Type 0} (l : System) (x y z : Regular) (ms : List Bool) (r : Result (Vec Bool Global) E) → x ≡ y → ((s : ℕ) → Into l z ms s ↔ Into l y ms s)
-    → IfOk r (λ found. Marks l.states found.items (Into l z ms)) → IfOk r (λ found. Marks l.states found.items (Into l x ms))
+    → IfOk r (λ found. MarksOf l.states found.items (Into l z ms)) → IfOk r (λ found. MarksOf l.states found.items (Into l x ms))
 led_by l x y z ms r is same h =
-    subst (λ (q : Regular). IfOk r (λ found. Marks l.states found.items (Into l q ms))) (sym is)
-    (IfOk-weaker r (λ found. Marks l.states found.items (Into l z ms)) _
+    subst (λ (q : Regular). IfOk r (λ found. MarksOf l.states found.items (Into l q ms))) (sym is)
+    (IfOk-weaker r (λ found. MarksOf l.states found.items (Into l z ms)) _
     (λ found f. marks_same l.states found.items (Into l z ms) (Into l y ms) f (λ s h. same s)) h)
 
 pub leading-returns-in-Star : goal.leading-returns-in-Star

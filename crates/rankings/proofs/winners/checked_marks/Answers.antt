@@ -1,5 +1,5 @@
 use Rattle.std.proofs.Common.{◌≡◌, subst}
-use Rattle.calculus.specs.Meaning.{Marks}
+use Rattle.calculus.specs.Meaning.{MarksOf}
 use Rattle.game.specs.declared.player.Player.TheVariants.{Even}
 use Rattle.normal.specs.Normal.{normal_nodes}
 use Rattle.rankings.specs.Cells.{cell}
@@ -11,4 +11,4 @@ pub returns-in-Ok : goal.returns-in-Ok
 returns-in-Ok g c =
     marks_win c.args.sheet.now c.args.lts.now.system (normal_nodes c.args.form.now) c.in-Ok.marks.items c.ranking_decides.ensures c.known.ensures
     c.requires.few (c.is_good.ensures.size c.if-not-is_good.false) (c.is_good.ensures.good c.if-not-is_good.false)
-    (subst (λ n. Marks n c.in-Ok.marks.items (λ s. winner_of (cell c.args.sheet.now 0 s) ≡ Even)) c.states-states.ensures.count c.in-Ok.ensures)
+    (subst (λ n. MarksOf n c.in-Ok.marks.items (λ s. winner_of (cell c.args.sheet.now 0 s) ≡ Even)) c.states-states.ensures.count c.in-Ok.ensures)

@@ -1,5 +1,5 @@
 use Rattle.std.proofs.Common.{◌+◌, List, Bool, sym, subst}
-use Rattle.calculus.specs.Meaning.{Marks}
+use Rattle.calculus.specs.Meaning.{MarksOf}
 use Rattle.requests.specs.Roots.{WinsRoot}
 use Rattle.verdicts.proofs.Roots.{root_below, marks_more, wins_root}
 use Rattle.verdicts.proofs.lifting.root_marks.Goals as goal
@@ -12,5 +12,5 @@ pub loop-state-preserved : goal.loop-state-preserved
 loop-state-preserved c =
     let state = c.loop-state.state in
     let root = wins_root state c.vertex_of.result c.args.game.now c.even_wins_by.result c.vertex_of.ensures c.even_wins_by.ensures in
-    subst (λ (ms : List Bool). Marks (state + 1) ms (WinsRoot c.args.game.now)) (sym {A = List Bool} c.in_ok-push.ensures.items)
+    subst (λ (ms : List Bool). MarksOf (state + 1) ms (WinsRoot c.args.game.now)) (sym {A = List Bool} c.in_ok-push.ensures.items)
     (marks_more state c.loop-state.marks.items c.even_wins_by.result (WinsRoot c.args.game.now) c.loop-state.invariant root)

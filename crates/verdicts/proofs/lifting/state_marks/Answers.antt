@@ -1,6 +1,6 @@
 use Rattle.std.proofs.Common.{subst, ◌∙◌}
 use Rattle.calculus.specs.Closed.{closed_formula}
-use Rattle.calculus.specs.Meaning.{Marks}
+use Rattle.calculus.specs.Meaning.{MarksOf}
 use Rattle.normal.specs.Rules.{nodes_with}
 use Rattle.game.specs.Game.{Game}
 use Rattle.requests.specs.Roots.{WinsRoot}
@@ -22,8 +22,8 @@ returns-in-Ok-clause-marks c = λ board fits.
     let f = closed_formula c.args.formula.now in
     let rule = c.args.priorities in
     let marks = c.in-Ok.marks.items in
-    let counted = subst (λ n. Marks n marks (WinsRoot c.deref.result.now)) c.states-states.ensures.count c.in-Ok.ensures in
-    let won = subst (λ (g : Game). Marks l.states marks (WinsRoot g)) (c.deref.ensures ∙ c.requires.arena.same) counted in
+    let counted = subst (λ n. MarksOf n marks (WinsRoot c.deref.result.now)) c.states-states.ensures.count c.in-Ok.ensures in
+    let won = subst (λ (g : Game). MarksOf l.states marks (WinsRoot g)) (c.deref.ensures ∙ c.requires.arena.same) counted in
     let admitted = c.args.formula.now.admitted in
     let known = c.states-states.ensures.known in
     record {
