@@ -14,9 +14,9 @@ use Rattle.evidence.specs.declared.error.EvidenceError.{EvidenceError}
 use Rattle.evidence.specs.declared.error.EvidenceError.TheVariants as evidence
 use Rattle.verdicts.specs.declared.lifting.SolvedGame.{SolvedGame}
 use Rattle.verdicts.specs.declared.lifting.Winners.{Winners}
-use Rattle.verdicts.specs.declared.lifting.Winners.TheVariants.{Table, MarksOf as ByMarks}
+use Rattle.verdicts.specs.declared.lifting.Winners.TheVariants.{Table, Marks as ByMarks}
 use Rattle.verdicts.specs.declared.lifting.Solution.{Solution}
-use Rattle.verdicts.specs.declared.lifting.Solution.TheVariants.{Table as HasTable, MarksOf as HasMarks}
+use Rattle.verdicts.specs.declared.lifting.Solution.TheVariants.{Table as HasTable, Marks as HasMarks}
 use Rattle.verdicts.specs.declared.beside.FoundBeside.{FoundBeside}
 use Rattle.verdicts.specs.declared.findings.Findings.{Findings}
 use Rattle.verdicts.specs.declared.findings.Posed.{Posed}

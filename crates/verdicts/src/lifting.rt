@@ -39,7 +39,7 @@ pub enum Winners<'a> {
     /// By its least progress table.
     Table(&'a Settled),
     /// By a mark for each vertex, true where Even wins it.
-    MarksOf(&'a [bool]),
+    Marks(&'a [bool]),
 }
 
 /// Who wins a game, as it was found out.
@@ -48,7 +48,7 @@ pub enum Solution {
     /// Its least progress table.
     Table(Settled),
     /// A mark for each vertex, true where Even wins it.
-    MarksOf(Vec<bool>),
+    Marks(Vec<bool>),
 }
 
 impl Solution {
@@ -58,7 +58,7 @@ impl Solution {
     {
         match self {
             Solution::Table(settled) => Winners::Table(settled),
-            Solution::MarksOf(marks) => Winners::MarksOf(marks),
+            Solution::Marks(marks) => Winners::Marks(marks),
         }
     }
 }
@@ -71,7 +71,7 @@ fn even_wins_by(winners: Winners<'_>, game: &Game, v: u32) -> bool
 {
     match winners {
         Winners::Table(settled) => even_wins(settled, v),
-        Winners::MarksOf(marks) => marks[v as usize],
+        Winners::Marks(marks) => marks[v as usize],
     }
 }
 

@@ -167,7 +167,7 @@ fn solution_by<O: Observer + Sync, H: Threads + Wait + Clone + Copy + Drop + Sen
         options.workers as usize,
         observer.gauge(),
     ) {
-        return Ok(Solution::MarksOf(marks));
+        return Ok(Solution::Marks(marks));
     }
     match solve_seen(rt, alloc, game, options, &NoGate, observer, guess) {
         Ok(settled) => Ok(Solution::Table(settled)),
